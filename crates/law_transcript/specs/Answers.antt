@@ -1,7 +1,7 @@
 -- How lines are answered: each order by its number or its refusal, each other line by a refusal where one is due (this
 -- project's own rule). What the keeper and the queue of requests decide is left open here.
 use Rattle.std.specs.Prelude.{◌≡◌, ◌⊎◌, ℕ, ◌+◌, ◌-◌, ◌==◌, ◌||◌, ◌&&◌, not, Bool, true, false, if◌then◌else◌, List, [], ◌∷◌, ◌++◌, length, take, Option, Some, None, ⊤}
-use Rattle.std.specs.List.{flat_map, list_any}
+use Rattle.std.specs.List.{AllByRecursion, flat_map, list_any}
 use Rattle.std.specs.Set.{distinct_count}
 use Rattle.zw_base.specs.PropertyOrder.{same_property}
 use Rattle.zw_base.specs.declared.property.Property.{Property}
@@ -202,6 +202,14 @@ pub record AnswersAfter (before : List Entry) (whole : Bool) (listing : ℕ → 
 -- every line of a run has it
 abbrev pub AnswersLines : Bool → List State → List Entry → Type 0
 AnswersLines whole devices transcript = AnswersAfter [] whole (listing_of devices) (refusals_to devices) transcript
+
+-- no restart meets an invalid record: so it is where the keeper gives back what it was given
+abbrev pub IsNoBadRecord : Entry → Type 0
+IsNoBadRecord (Refused (refusals.BadRecord place)) = ⊥
+IsNoBadRecord _ = ⊤
+
+abbrev pub ReadsItsRecords : List Entry → Type 0
+ReadsItsRecords transcript = AllByRecursion IsNoBadRecord transcript
 
 -- a command is taken back only where a line asks for it and it waits
 abbrev pub MayCancel : List Entry → Entry → Type 0

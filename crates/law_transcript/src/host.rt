@@ -6,7 +6,7 @@ ghost use Rattle.zw_text.specs.declared.entry.Ended.TheVariants as endings;
 ghost use Rattle.zw_text.specs.declared.entry.Refusal.TheVariants as refusals;
 ghost use Rattle.zw_text.specs.declared.entry.Entry.TheVariants.{Accepted, Refused, Begin};
 ghost use Rattle.law_transcript.specs.Nodes.{listing_of};
-ghost use Rattle.law_transcript.specs.Answers.{AnswersLines, CancelsWhenAsked, answer_to, properties_with};
+ghost use Rattle.law_transcript.specs.Answers.{AnswersLines, CancelsWhenAsked, ReadsItsRecords, answer_to, properties_with};
 ghost use Rattle.law_transcript.specs.Stores.{StoresConfirmed, heard_value};
 ghost use Rattle.law_transcript.specs.Worked.{
   plain_exchange,
@@ -89,6 +89,7 @@ pub fn worked_choices()
     ensures join_unkept { AnswersLines true (the_switch ∷ []) (refused_so (codes "join 5") refusals.KeeperFault) }
     ensures restart_unkept { AnswersLines true (the_switch ∷ []) (refused_so (codes "restart") refusals.KeeperFault) }
     ensures bad { AnswersLines true (the_switch ∷ []) (refused_so (codes "restart") (refusals.BadRecord 3)) }
+    ensures reads { ReadsItsRecords (refused_so (codes "restart") refusals.KeeperFault) }
     ensures send { AnswersLines true (the_switch ∷ []) (refused_so (codes "send 2 on") (refusals.QueueFull 64)) }
     ensures get { AnswersLines true (the_switch ∷ []) (refused_so (codes "get 2") (refusals.QueueFull 64)) }
     ensures interview { AnswersLines true (the_switch ∷ []) (refused_so (codes "interview 2") (refusals.QueueFull 64)) }
@@ -247,4 +248,5 @@ pub fn rejected_lines()
     ensures queue_unasked { AnswersLines true (the_switch ∷ []) (refused_so (codes "tick 1") (refusals.QueueFull 64)) → ⊥ }
     ensures keeper { AnswersLines true (the_switch ∷ []) (refused_so (codes "get 2") refusals.KeeperFault) → ⊥ }
     ensures bad { AnswersLines true (the_switch ∷ []) (refused_so (codes "join 5") (refusals.BadRecord 1)) → ⊥ }
+    ensures bad_restart { ReadsItsRecords (refused_so (codes "restart") (refusals.BadRecord 3)) → ⊥ }
 {}

@@ -1,6 +1,6 @@
--- A frame that is fresh by the history that a transcript shows is fresh by the transcript.
+-- A frame is fresh, or refused for the same reason, by the transcript as by the history that it shows.
 use Rattle.std.proofs.Common.{◌≡◌, ◌≢◌, ◌≤◌, ◌<◌, ℕ, zero, suc, ◌+◌, ◌-◌, ◌==◌, ◌&&◌, Bool, true, false, if◌then◌else◌, List, [], ◌∷◌, ◌++◌, length, refl, sym, ap, ap₂, subst, ◌∙◌, append_assoc, nat_lt, inl, inr, ◌⊎◌, arith}
-use Rattle.std.proofs.lemmas.Bool.{eqb-true, eqb-false, ltb-false, lt-ltb, le-ltb, cases_lt}
+use Rattle.std.proofs.lemmas.Bool.{eqb-true, eqb-false, ltb-true, ltb-false, lt-ltb, le-ltb, cases_lt}
 use Rattle.std.specs.Prelude.{Option, Some, None, slice_get}
 use Rattle.std.specs.Option.{option_map}
 use Rattle.std.specs.List.{flat_map, AllByRecursion}
@@ -84,42 +84,36 @@ sent_within log at one is = by (cases_lt at (goes_in log))
     by (inl within) = within
     by (inr out) = let none : None ≡ Some one = sym (never_sent log at out) ∙ is in absurd cc
 
--- ---- no refusal
+-- ---- why a frame is refused
 
-module _ (past : List Entry) (airs : EachAfter MayAir [] past) (begins : EachAfter MayBegin [] past) (at : ℕ) where
-  -- the frame is not forgotten, and not stale
-  not_old : (frame : AirFrame) → slice_get (frames past) at ≡ Some frame → departure_at (log_of past) at ≡ Some (departure frame) → AllByRecursion IsApart (log_of past)
-      → nat_lt (at + 4097) (goes_in (log_of past)) ≡ false
-      → stale_by frame.payload (Later (log_of past) (departure frame).node at) (NewNonces (log_of past) (departure frame).node at) ≡ None → too_old past frame ≡ None
-  not_old frame is sent apart recent fresh =
+module _ (past : List Entry) (airs : EachAfter MayAir [] past) (begins : EachAfter MayBegin [] past) (at : ℕ) (apart : AllByRecursion IsApart (log_of past)) where
+  -- a frame is too old by the transcript as it is by the history
+  same_age : (frame : AirFrame) → slice_get (frames past) at ≡ Some frame → departure_at (log_of past) at ≡ Some (departure frame) → too_old past frame ≡ stale_in (log_of past) at (Some (departure frame))
+  same_age frame is sent =
       let aired = frame_is_aired past at frame airs is in
       let within : at < goes_in (log_of past) = sent_within (log_of past) at (departure frame) sent in
       let other : (departure frame).node ≢ controller = apart_at (log_of past) at (departure frame) apart sent in
       let node : (departure frame).node ≡ node_of frame = node_same frame aired.1 other in
       let number : frame.number ≡ at + 1 = aired.0 in
-      let few : goes_in (log_of past) ≤ at + 4097 = ltb-false (at + 4097) (goes_in (log_of past)) recent in
       let count = frames_sent past in
-      let near : length (frames past) - frame.number ≤ 4096 = omega (arith, few, count, number) in
-      let kept : nat_lt 4096 (length (frames past) - frame.number) ≡ false = le-ltb 4096 (length (frames past) - frame.number) near in
       let sessions : later_sessions past frame ≡ Later (log_of past) (departure frame).node at =
       ap₂ (λ (n k : ℕ). length (session_numbers n past) - length (session_numbers n (up_to_frame k past))) (sym node) number ∙ sessions_later past airs begins at within (departure frame).node in
       let nonces : later_nonces past frame ≡ NewNonces (log_of past) (departure frame).node at =
       ap₂ (λ (n k : ℕ). new_nonces n past - new_nonces n (up_to_frame k past)) (sym node) number ∙ nonces_later past airs begins at within (departure frame).node other in
-      ap (λ (b : Bool). if b then Some Forgotten else stale_by frame.payload (later_sessions past frame) (later_nonces past frame)) kept
-      ∙ (ap₂ (λ (later news : ℕ). stale_by frame.payload later news) sessions nonces ∙ fresh)
-
-  not_refused : (found : Option AirFrame) → slice_get (frames past) at ≡ found → AllByRecursion IsApart (log_of past) → stale_in (log_of past) at (option_map departure found) ≡ None
-      → refused_repeat past found ≡ None
-  not_refused None is apart fresh = absurd (let none : Some NeverSent ≡ None = fresh in cc)
-  not_refused (Some frame) is apart fresh = by (nat_lt (at + 4097) (goes_in (log_of past))) refl fresh
+      ap (λ (b : Bool). if b then Some Forgotten else stale_by frame.payload (later_sessions past frame) (later_nonces past frame)) (same_test frame number count within)
+      ∙ ap₂ (λ (later news : ℕ). if nat_lt (at + 4097) (goes_in (log_of past)) then Some Forgotten else stale_by frame.payload later news) sessions nonces
     where
-      sent : departure_at (log_of past) at ≡ Some (departure frame)
-      sent = frame_sent past at ∙ ap (option_map departure) is
+      same_test : (frame : AirFrame) → frame.number ≡ at + 1 → goes_in (log_of past) ≡ length (frames past) → at < goes_in (log_of past)
+          → nat_lt 4096 (length (frames past) - frame.number) ≡ nat_lt (at + 4097) (goes_in (log_of past))
+      same_test frame number count within = by (nat_lt (at + 4097) (goes_in (log_of past))) refl
+        where
+          by : (b : Bool) → nat_lt (at + 4097) (goes_in (log_of past)) ≡ b → nat_lt 4096 (length (frames past) - frame.number) ≡ b
+          by true many = let more = ltb-true (at + 4097) (goes_in (log_of past)) many in let far : 4096 < length (frames past) - frame.number = omega (arith, more, count, number) in lt-ltb 4096 _ far
+          by false few = let less = ltb-false (at + 4097) (goes_in (log_of past)) few in let near : length (frames past) - frame.number ≤ 4096 = omega (arith, less, count, number) in le-ltb 4096 _ near
 
-      by : (b : Bool) → nat_lt (at + 4097) (goes_in (log_of past)) ≡ b
-          → (if b then Some Forgotten else stale_by frame.payload (Later (log_of past) (departure frame).node at) (NewNonces (log_of past) (departure frame).node at)) ≡ None → too_old past frame ≡ None
-      by true old fresh = absurd (let none : Some Forgotten ≡ None = fresh in cc)
-      by false recent fresh = not_old frame is sent apart recent fresh
+  same_found : (found : Option AirFrame) → slice_get (frames past) at ≡ found → refused_repeat past found ≡ stale_in (log_of past) at (option_map departure found)
+  same_found None is = refl
+  same_found (Some frame) is = same_age frame is (frame_sent past at ∙ ap (option_map departure) is)
 
   at_its_place : frame_of past (suc at) ≡ slice_get (frames past) at
   at_its_place =
@@ -127,17 +121,20 @@ module _ (past : List Entry) (airs : EachAfter MayAir [] past) (begins : EachAft
       let place : suc at - 1 ≡ at = omega arith in
       ap (λ (b : Bool). if b then slice_get (frames past) (suc at - 1) else None) (lt-ltb 0 (suc at) some) ∙ ap (slice_get (frames past)) place
 
-  at_number : IsFresh past (suc at) → refusal_to_repeat past (suc at) ≡ []
-  at_number is =
-      let fresh : stale_in (log_of past) at (option_map departure (slice_get (frames past) at)) ≡ None =
-      subst (λ (found : Option Departure). stale_in (log_of past) at found ≡ None) (frame_sent past at) is.fresh in
-      ap (λ (refused : Option Refusal). flat_map repeat_entry (listed refused))
-      (ap (refused_repeat past) at_its_place ∙ not_refused (slice_get (frames past) at) refl is.apart fresh)
+  at_number : refused_repeat past (frame_of past (suc at)) ≡ refusal_in (log_of past) (suc at)
+  at_number =
+      ap (refused_repeat past) at_its_place
+      ∙ (same_found (slice_get (frames past) at) refl ∙ ap (λ (found : Option Departure). stale_in (log_of past) at found) (sym (frame_sent past at)))
 
 -- where sessions and frames are numbered in order
+pub same_reason : (past : List Entry) (number : ℕ) → EachAfter MayAir [] past → EachAfter MayBegin [] past → AllByRecursion IsApart (log_of past)
+    → refused_repeat past (frame_of past number) ≡ refusal_in (log_of past) number
+same_reason past zero airs begins apart = refl
+same_reason past (suc at) airs begins apart = at_number past airs begins at apart
+
 pub fresh_stands : (past : List Entry) (number : ℕ) → EachAfter MayAir [] past → EachAfter MayBegin [] past → IsFresh past number → refusal_to_repeat past number ≡ []
-fresh_stands past zero airs begins is = absurd (let none : Some NeverSent ≡ None = is.fresh in cc)
-fresh_stands past (suc at) airs begins is = at_number past airs begins at is
+fresh_stands past number airs begins is =
+    ap (λ (refused : Option Refusal). flat_map repeat_entry (listed refused)) (same_reason past number airs begins is.apart ∙ is.fresh)
 
 may_repeat : (past : List Entry) (e : Entry) → EachAfter MayAir [] past → EachAfter MayBegin [] past → MayHear past e → MayRepeat past e
 may_repeat past (entry.Heard frame) airs begins hears = λ number is. fresh_stands past number airs begins (hears number is)

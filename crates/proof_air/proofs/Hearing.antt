@@ -35,7 +35,7 @@ use Rattle.proof_walk.proofs.ByLine.{effect_covered, common_covered, walk_of}
 use Rattle.proof_walk.proofs.Machines.{machine_keeps}
 use Rattle.proof_air.specs.Logs.{mark_step, log_of, plain_log, IsApart, Tie}
 use Rattle.proof_air.specs.Hearing.{IsFresh, MayHear, FreshHere, Knows, JoinsNode, Settled, Said_so, AwaitsRepeat, AwaitsJoin, Left, KnowAir}
-use Rattle.proof_air.proofs.Logs.{plain_refusal}
+use Rattle.proof_air.proofs.Logs.{plain_apart, plain_refusal}
 use Rattle.proof_air.proofs.Silent.{IsSilent, AreSilent, fresh_one, fresh_said, words_last, number_stands}
 use Rattle.proof_air.proofs.Airing.{silent}
 use Rattle.proof_air.proofs.Judging.{StartsSo}
@@ -148,23 +148,18 @@ refusal_told past w NeverSent tie = one_told past w refusal.NeverSent tie
 refusal_told past w Forgotten tie = one_told past w refusal.Forgotten tie
 refusal_told past w (Stale later) tie = one_told past w (refusal.Stale later) tie
 
+-- what the air refuses, the transcript refuses
+pub same_refusal : (past : List Entry) (m : Machine) (number : ℕ) → Tie nothing past m.outside → refusal_of m.outside.outer.air.frames number ≡ refusal_in (log_of past) number
+same_refusal past m number tie =
+    refusal_is tie.log m.outside.outer.air.frames number tie.kept
+    ∙ (sym (plain_refusal tie.log number) ∙ ap (λ (l : List Mark). refusal_in l number) (tie.shown ∙ append-nil (log_of past)))
+
 module _ (rules : StartsSo) where
   kept : (past : List Entry) (m : Machine) (event : Event) → CoversOuter JoinsNode event → May m event → Settled past m
       → EachAfter MayHear past (entries m event) × Settled (past ++ entries m event) (happens m event)
   kept past m event covers may known = machine_keeps MayHear Knows JoinsNode (air_law rules) hosts m event covers may past known
 
   -- ---- a frame is repeated
-
-  -- what the air refuses, the transcript refuses
-  same_refusal : (past : List Entry) (m : Machine) (number : ℕ) → Tie nothing past m.outside → refusal_of m.outside.outer.air.frames number ≡ refusal_in (log_of past) number
-  same_refusal past m number tie =
-      refusal_is tie.log m.outside.outer.air.frames number tie.kept
-      ∙ (sym (plain_refusal tie.log number) ∙ ap (λ (l : List Mark). refusal_in l number) (tie.shown ∙ append-nil (log_of past)))
-
-  plain_apart : (log : List Mark) → AllByRecursion IsApart log → AllByRecursion IsApart (plain_log log)
-  plain_apart [] apart = tt
-  plain_apart (Goes departure ∷ log) apart = (apart.0, plain_apart log apart.1)
-  plain_apart (Begins node ∷ log) apart = (tt, plain_apart log apart.1)
 
   is_fresh : (past : List Entry) (m : Machine) (number : ℕ) → Tie nothing past m.outside → refusal_of m.outside.outer.air.frames number ≡ None → IsFresh past number
   is_fresh past m number tie none = record {
@@ -243,12 +238,14 @@ module _ (rules : StartsSo) where
   by_lines : ByLine MayHear Said_so Said_so Left Settled
   by_lines = record {
     said = said;
-    begins = begins;
-    effect = effect;
-    does = does;
-    done = done;
-    ticks = λ count past m known. settled (lines.Tick count) past m (λ number same. cc) known;
-    common = λ past m event common may known. kept past m event (common_covered JoinsNode of_tick event common) may known;
+    in_line = record {
+      begins = begins;
+      effect = effect;
+      does = does;
+      done = done;
+      ticks = λ count past m known. settled (lines.Tick count) past m (λ number same. cc) known;
+      common = λ past m event common may known. kept past m event (common_covered JoinsNode of_tick event common) may known;
+    };
   }
 
   pub air_walk : Walk MayHear KnowAir

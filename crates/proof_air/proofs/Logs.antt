@@ -13,7 +13,7 @@ use Rattle.air_frames.specs.History.{Mark, Goes, Begins, goes_in, begins_in, las
 use Rattle.zw_text.specs.declared.entry.Entry.{Entry}
 use Rattle.zw_text.specs.Transcript.{folded}
 use Rattle.zw_text.proofs.Views.{folded-append}
-use Rattle.proof_air.specs.Logs.{mark_step, log_of, plain, plain_mark, plain_log}
+use Rattle.proof_air.specs.Logs.{mark_step, log_of, plain, plain_mark, plain_log, IsApart}
 
 -- ---- a transcript
 
@@ -94,3 +94,9 @@ plain_stale log number (Some departure) =
 pub plain_refusal : (log : List Mark) (number : ℕ) → refusal_in (plain_log log) number ≡ refusal_in log number
 plain_refusal log zero = refl
 plain_refusal log (suc number) = ap (λ (found : Option Departure). stale_in (plain_log log) number found) (plain_at log number) ∙ plain_stale log number (departure_at log number)
+
+-- each of its frames has a node that is none of the controller's own still
+pub plain_apart : (log : List Mark) → AllByRecursion IsApart log → AllByRecursion IsApart (plain_log log)
+plain_apart [] apart = tt
+plain_apart (Goes departure ∷ log) apart = (apart.0, plain_apart log apart.1)
+plain_apart (Begins node ∷ log) apart = (tt, plain_apart log apart.1)

@@ -1,6 +1,7 @@
 -- That a line repeats only a frame that is fresh by the history that the transcript shows (this project's own rule), and what is known of it at each phase of a line.
 use Rattle.std.specs.Prelude.{◌≡◌, ◌≢◌, ◌⊎◌, ℕ, Bool, Option, None, List, [], ◌∷◌, ⊤}
 use Rattle.std.specs.List.{AllByRecursion}
+use Rattle.air_frames.specs.Ages.{refusal_of}
 use Rattle.air_frames.specs.History.{refusal_in}
 use Rattle.route_table.specs.declared.route.Route.{Route}
 use Rattle.zw_text.specs.declared.line.Line.{Line}
@@ -10,7 +11,7 @@ use Rattle.zw_text.specs.declared.entry.Entry.TheVariants.{Heard}
 use Rattle.zw_text.specs.Transcript.{line_last}
 use Rattle.law_transcript.specs.Lists.{EachAfter}
 use Rattle.law_transcript.specs.Nodes.{controller}
-use Rattle.law_transcript.specs.Repeats.{refusal_to_repeat}
+use Rattle.law_transcript.specs.Repeats.{frame_of, refusal_to_repeat, refused_repeat}
 use Rattle.host_model.specs.Events.{Joins as joins_host}
 use Rattle.outside_model.specs.State.{Outside}
 use Rattle.outside_model.specs.Events.{OuterEvent, Joins, Repeats}
@@ -40,6 +41,10 @@ MayRepeat past _ = ⊤
 
 abbrev pub RepeatsFresh : List Entry → Type 0
 RepeatsFresh transcript = EachAfter MayRepeat [] transcript
+
+-- a frame is refused by the transcript as the air refuses it
+abbrev pub RefusesAlike : List Entry → Machine → Type 0
+RefusesAlike past m = (number : ℕ) → refused_repeat past (frame_of past number) ≡ refusal_of m.outside.outer.air.frames number
 
 -- ---- what is known
 

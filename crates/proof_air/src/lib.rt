@@ -2,7 +2,8 @@
 //!
 //! Each is the contract of a function with an empty body, over lines that are said one after another (`world_lines`) and the events of the machine that each
 //! line is, and is proved on the walk of `proof_walk`. `history_goes_on` ties the history of
-//! the air to the transcript, at each phase of a line. Of repeats: `lines_repeat_what_is_fresh`.
+//! the air to the transcript, at each phase of a line. Of repeats: `lines_repeat_what_is_fresh`, and
+//! `lines_refuse_what_is_old` after whole lines.
 //! The definitions are in `specs/`: `Logs` (the history of the air that a transcript shows, and its tie to the history that the air keeps) and `Hearing` (what
 //! is known of it at each phase of a line).
 #![tactic(auto)]
@@ -11,4 +12,4 @@ mod history;
 mod repeats;
 
 pub use history::history_goes_on;
-pub use repeats::lines_repeat_what_is_fresh;
+pub use repeats::{lines_refuse_what_is_old, lines_repeat_what_is_fresh};

@@ -6,9 +6,10 @@ ghost use Rattle.device_sim.specs.State.{State};
 ghost use Rattle.law_transcript.specs.Fates.{NumbersFrames};
 ghost use Rattle.law_transcript.specs.Sessions.{KeepsSessions};
 ghost use Rattle.world_model.specs.State.{first_machine};
-ghost use Rattle.world_lines.specs.Spoken.{Spoken, transcript_of};
+ghost use Rattle.world_lines.specs.Spoken.{Spoken, after_all, transcript_of};
 ghost use Rattle.world_lines.specs.Done.{AreDone};
-ghost use Rattle.proof_air.specs.Hearing.{RepeatsFresh};
+ghost use Rattle.world_lines.specs.Whole.{AreWhole};
+ghost use Rattle.proof_air.specs.Hearing.{RefusesAlike, RepeatsFresh};
 
 use crate::history_goes_on;
 
@@ -20,6 +21,19 @@ pub fn lines_repeat_what_is_fresh()
         NumbersFrames (transcript_of (first_machine keys records devices) lines) →
         KeepsSessions (transcript_of (first_machine keys records devices) lines) →
         RepeatsFresh (transcript_of (first_machine keys records devices) lines) }
+{
+    history_goes_on();
+}
+
+/// After lines that were all run whole, a frame is refused for the same reason by the transcript and by the air, where frames and sessions are numbered in
+/// order.
+pub fn lines_refuse_what_is_old()
+    ensures { (keys : Keys) (records : Option (List (List ℕ))) (devices : List State) (lines : List Spoken) →
+        AreDone (first_machine keys records devices) lines →
+        AreWhole (first_machine keys records devices) lines →
+        NumbersFrames (transcript_of (first_machine keys records devices) lines) →
+        KeepsSessions (transcript_of (first_machine keys records devices) lines) →
+        RefusesAlike (transcript_of (first_machine keys records devices) lines) (after_all (first_machine keys records devices) lines) }
 {
     history_goes_on();
 }

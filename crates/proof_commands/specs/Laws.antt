@@ -21,7 +21,7 @@ use Rattle.proof_host.specs.Stores.{StoresLaw}
 use Rattle.device_sim.specs.State.{State}
 use Rattle.proof_device.specs.GoingOn.{AreInOrder, AreSame, TakeOnce}
 use Rattle.proof_device.specs.Showing.{AreApart, IsShown}
-use Rattle.law_transcript.specs.Answers.{CancelsWhenAsked}
+use Rattle.law_transcript.specs.Answers.{AnswersLines, CancelsWhenAsked, ReadsItsRecords}
 use Rattle.law_transcript.specs.Fates.{FaresInTurn, LosesMarked, NumbersFrames}
 use Rattle.law_transcript.specs.Headline.{Headline, HeadlineOf, IsAsMade}
 use Rattle.law_transcript.specs.Nodes.{device_of, first_node, is_supervised, listing_of}
@@ -171,6 +171,16 @@ StoresValues key old new = AlwaysOf key old new (λ story. TellsAtRestarts old s
 abbrev pub WritesSessions : List ℕ → Around → Around → Type 0
 WritesSessions key old new = AlwaysOf key old new (λ story. KeepsRecords key old story → BeginsWithUnit (transcript key old story))
 
+-- Over a keeper that tells its records and had none at first, each line has the one answer that the transcript before it demands, and no answer stands
+-- elsewhere; the last line too, where it was run whole.
+abbrev pub AnswersAsDue : List ℕ → Around → Around → Type 0
+AnswersAsDue key old new = AlwaysOf key old new
+    (λ story. old.records ≡ Some [] → (whole : Bool) → (whole ≡ true → AreSchedules (first key old) story) → AnswersLines whole old.devices (transcript key old story))
+
+-- and no restart meets an invalid record
+abbrev pub ReadsWhatItKept : List ℕ → Around → Around → Type 0
+ReadsWhatItKept key old new = AlwaysOf key old new (λ story. old.records ≡ Some [] → ReadsItsRecords (transcript key old story))
+
 -- Where every line was run whole and all that was done is entered, over a keeper that tells its records and had none at first: the records at exit are legal, and
 -- give exactly what the transcript shows.
 abbrev pub KeepsWhatIsShown : List ℕ → Around → Around → Type 0
@@ -261,6 +271,8 @@ pub record StoriesKeepLaws (key : List ℕ) (old new : Around) : Type 0 where
   pub orders : KeepsOrders key old new
   pub tables : ShowsTables key old new
   pub values : ConfirmsValues key old new
+  pub answers : AnswersAsDue key old new
+  pub reads : ReadsWhatItKept key old new
   pub taken_back : TakesBackWhenAsked key old new
   pub stores : StoresValues key old new
   pub written : WritesSessions key old new

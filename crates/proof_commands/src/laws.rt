@@ -3,6 +3,7 @@
 ghost use Rattle.std.specs.Prelude.{ℕ, List};
 ghost use Rattle.proof_commands.specs.Around.{Around};
 ghost use Rattle.proof_commands.specs.Laws.{
+  AnswersAsDue,
   AppliesOnce,
   CollidesAsAsked,
   ConfirmsValues,
@@ -17,6 +18,7 @@ ghost use Rattle.proof_commands.specs.Laws.{
   LosesFrames,
   MarksAsAsked,
   NumbersAir,
+  ReadsWhatItKept,
   ReportsAfterChange,
   ShowsChanges,
   ShowsTables,
@@ -34,9 +36,9 @@ use proof_headline::{
 use proof_host::{asides_keep_facts, laws_follow};
 use proof_line::{lines_collide_when_asked, lines_mark_units};
 use proof_transcript::{
-    commands_are_taken_back_when_asked, lines_lose_marked_frames, lines_number_frames,
-    records_are_what_is_shown, sessions_begin_with_their_unit, ticks_decide_each_frame,
-    values_are_stored_as_asked,
+    commands_are_taken_back_when_asked, lines_are_answered, lines_lose_marked_frames,
+    lines_number_frames, records_are_what_is_shown, sessions_begin_with_their_unit,
+    ticks_decide_each_frame, values_are_stored_as_asked,
 };
 use proof_world::{
     lines_keep_and_ask_well, restarts_go_on, runs_take_once, the_machine_keeps_facts,
@@ -48,6 +50,7 @@ pub fn every_story_keeps_laws()
 {
     stories_keep_records();
     stories_keep_laws();
+    stories_answer_lines();
     stories_tell_of_commands();
     stories_leave_records();
     stories_take_once();
@@ -87,6 +90,15 @@ fn stories_tell_of_commands()
     commands_are_taken_back_when_asked();
     values_are_stored_as_asked();
     sessions_begin_with_their_unit();
+}
+
+/// Each line of a story has its answer.
+fn stories_answer_lines()
+    ensures due { (key : List ℕ) (old new : Around) → AnswersAsDue key old new }
+    ensures reads { (key : List ℕ) (old new : Around) → ReadsWhatItKept key old new }
+{
+    lines_are_read_as_said();
+    lines_are_answered();
 }
 
 /// The records at exit give what the transcript of a story shows.

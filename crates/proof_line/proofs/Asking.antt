@@ -137,12 +137,14 @@ of_tick event tick = tt
 by_lines : ByLine MayCollide Asked Asked Left Counted
 by_lines = record {
   said = said;
-  begins = λ line past m known. begins (asked_by line) past m known;
-  effect = doing;
-  does = does;
-  done = done;
-  ticks = λ count past m known. known;
-  common = λ past m event common may known. kept past m event (common_covered IsNoCollision of_tick event common) may known;
+  in_line = record {
+    begins = λ line past m known. begins (asked_by line) past m known;
+    effect = doing;
+    does = does;
+    done = done;
+    ticks = λ count past m known. known;
+    common = λ past m event common may known. kept past m event (common_covered IsNoCollision of_tick event common) may known;
+  };
 }
 
 none_yet : (n : ℕ) → n ≡ 0 → 0 + (n + 0) ≡ 0

@@ -456,12 +456,14 @@ done line past m known = known.1
 by_lines : ByLine MayMark Setting Setting LeftMarks Marked
 by_lines = record {
   said = said;
-  begins = begins;
-  effect = effect;
-  does = does_next;
-  done = done;
-  ticks = λ count past m known. settled (lines.Tick count) past m tt known;
-  common = λ past m event common may known. kept past m event (common_covered SetsNoMark of_tick event common) may known;
+  in_line = record {
+    begins = begins;
+    effect = effect;
+    does = does_next;
+    done = done;
+    ticks = λ count past m known. settled (lines.Tick count) past m tt known;
+    common = λ past m event common may known. kept past m event (common_covered SetsNoMark of_tick event common) may known;
+  };
 }
 
 pub mark_walk : Walk MayMark KnowMarks

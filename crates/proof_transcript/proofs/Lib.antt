@@ -42,3 +42,8 @@ mod RecordsWalking
 mod OrderRecords
 mod EndedRecords
 pub mod RecordsShown
+mod Answering
+mod StoredPlaces
+mod KeptProperties
+mod PlacesKept
+mod AnswerFacts

@@ -120,7 +120,7 @@ nodes_are f past h joins within =
 
 -- ---- devices
 
-device_is : (node : ℕ) (devices : List State) → device_at devices (place_of node devices) ≡ device_of node devices
+pub device_is : (node : ℕ) (devices : List State) → device_at devices (place_of node devices) ≡ device_of node devices
 device_is node [] = refl
 device_is node (device ∷ devices) = by (device.node == node) (place_of node devices) (device_is node devices)
   where

@@ -33,7 +33,7 @@ number_here n number (Accepted command node) has =
     subst (λ (l : List ℕ). Has l number) (sym (ap (λ (b : Bool). if b then command ∷ [] else []) (eq-eqb node n of))) (inl same)
 number_here n number entry has = absurd has
 
-number_among : (T : List Entry) (n number : ℕ) → Has (accepted_for number T) n → Has (numbers_for n T) number
+pub number_among : (T : List Entry) (n number : ℕ) → Has (accepted_for number T) n → Has (numbers_for n T) number
 number_among T n number has =
     let one = shown_has (node_at number) T n has in has_shown (number_for n) T one.by number one.among (number_here n number one.by one.shows)
 

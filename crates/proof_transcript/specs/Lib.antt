@@ -2,3 +2,4 @@ pub mod Told
 pub mod Lines
 pub mod Fares
 pub mod Records
+pub mod Answering

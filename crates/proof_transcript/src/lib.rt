@@ -1,8 +1,9 @@
-//! What every run's transcript shows of the frames on the air, of commands, of the table at the end, and of the records.
+//! What every run's transcript shows of the answers to lines, of frames, of commands, of the table at the end, and of the records.
 //!
 //! This holds whatever is lost, delayed or repeated, whatever the host does, and whatever becomes of the devices. Each
 //! law is the contract of a function with an empty body, over lines that are said one after another (`proof_spoken`)
-//! and the events of the machine that each line is; the laws themselves are those of `law_transcript`. Of frames:
+//! and the events of the machine that each line is; the laws themselves are those of `law_transcript`. Of answers:
+//! `lines_are_answered` (`specs/Answering`). Of frames:
 //! `lines_number_frames`, `ticks_decide_each_frame`, `lines_lose_marked_frames`. Of commands:
 //! `commands_are_taken_back_when_asked`, `values_are_stored_as_asked`, `sessions_begin_with_their_unit`. Of the table:
 //! `what_is_told` covers the clock, the joined nodes and the heard values (`specs/Told`), line by line, and
@@ -10,11 +11,13 @@
 //! records at exit: `records_are_what_is_shown`, over `specs/Records`, where all lines were run whole too.
 #![tactic(auto)]
 
+mod answers;
 mod commands;
 mod frames;
 mod records;
 mod table;
 
+pub use answers::lines_are_answered;
 pub use commands::{
     commands_are_taken_back_when_asked, sessions_begin_with_their_unit, values_are_stored_as_asked,
 };

@@ -1,5 +1,5 @@
 -- A law that tells apart what a line has done, and nothing else in a line, is a walk; and which events the effect of a line has.
-use Rattle.std.proofs.Common.{◌≡◌, ℕ, zero, suc, ◌+◌, true, false, inl, inr, List, [], ◌∷◌, ◌++◌, length, map, refl, sym, ap, ◌∙◌, subst}
+use Rattle.std.proofs.Common.{◌≡◌, ℕ, zero, suc, ◌+◌, Bool, true, false, if◌then◌else◌, inl, inr, List, [], ◌∷◌, ◌++◌, length, map, refl, sym, ap, ◌∙◌, subst}
 use Rattle.std.specs.Prelude.{Option, Some, None}
 use Rattle.std.specs.List.{AllByRecursion}
 use Rattle.zw_text.specs.declared.line.Line.{Line}
@@ -9,9 +9,17 @@ use Rattle.law_transcript.specs.Lists.{EachAfter}
 use Rattle.host_orders.specs.declared.refused.Refused.{Refused}
 use Rattle.host_orders.specs.Refusals.{classes_of}
 use Rattle.host_orders.specs.Errands.{send_refusal, send_text, get_refusal, get_text}
+use Rattle.host_requests.specs.declared.task.Task.{Task}
 use Rattle.host_requests.specs.declared.task.Task.TheVariants as task
-use Rattle.host_model.specs.State.{node_of}
-use Rattle.host_model.specs.Events.{HostEvent, Accepts, Cancels, Joins as joins_host, Queues, Queues_interview, Queues_probe}
+use Rattle.host_node.specs.declared.series.Series.{Series}
+use Rattle.host_node.specs.declared.series.Series.TheVariants.{Idle, Due, Running}
+use Rattle.host_node.specs.Search.{next_of}
+use Rattle.host_model.specs.State.{HostState, node_of}
+use Rattle.host_model.specs.Events.{HostEvent, Accepts, Cancels, Joins as joins_host, Queues, Queues_interview, Queues_probe, Queues_no_more, Drops_no_more}
+use Rattle.host_model.specs.After.{is_full}
+use Rattle.host_model.specs.Pumping.{no_more_event, GivesNext, IsServedBy, IsNextOfNodes, IsNextOf}
+use Rattle.host_model.specs.Outs.{answers}
+use Rattle.host_model.proofs.Silence.{Silent, tick_silent}
 use Rattle.host_model.specs.May.{known_of}
 use Rattle.host_model.specs.Asking.{carriage_for, places_refusal, interview_refusal}
 use Rattle.host_model.specs.Ticking.{tick_events}
@@ -20,9 +28,9 @@ use Rattle.world_model.specs.State.{Machine}
 use Rattle.world_model.specs.Events.{Event, Outside_does, Host_does, Host_takes, Decoder_ticks, happens, entries, May}
 use Rattle.world_model.specs.Lines.{IsRefusal, IsDone, Asks as asks_line, IsEffect}
 use Rattle.proof_walk.specs.Phases.{Phase, Between, Said_line, Begun, Doing, To_tick, Ticked, Arriving, Giving, Ticking_devices, Ticking_chip, Ticking_decoder, Ticking_host, Sleeping, Submitting, Moving, Moved, Turns, Goes, passes_after}
-use Rattle.proof_walk.specs.Walk.{Walk}
+use Rattle.proof_walk.specs.Walk.{Walk, TiedWalk}
 use Rattle.proof_walk.specs.Outside.{CoversOuter}
-use Rattle.proof_walk.specs.ByLine.{KnownOf, by_line, IsOfTick, IsCommon, CoversLine, ByLine}
+use Rattle.proof_walk.specs.ByLine.{KnownOf, by_line, IsOfTick, IsCommon, CoversLine, InLine, ByLine, TiedByLine}
 
 -- ---- which events the effect of a line has
 
@@ -91,7 +99,37 @@ module _ (Covers : OuterEvent → Type 0) where
 
 -- ---- the walk
 
-module _ (Asks : List Entry → Entry → Type 0) (Words Opened : Line → KnownOf) (Left : Line → List Event → KnownOf) (Else : KnownOf) (law : ByLine Asks Words Opened Left Else) where
+-- what a host does in a pump answers no line
+no_more_silent : (h : HostState) (n : ℕ) → Silent (no_more_event h n ∷ [])
+no_more_silent h n = (λ g. by g (is_full h), tt)
+  where
+    by : (g : HostState) (full : Bool) → answers g (if full then Drops_no_more n else Queues_no_more n) ≡ []
+    by g true = refl
+    by g false = refl
+
+as_silent : (event is : HostEvent) → event ≡ is → Silent (is ∷ []) → Silent (event ∷ [])
+as_silent event is same silent = subst (λ (e : HostEvent). Silent (e ∷ [])) (sym same) silent
+
+gives_silent : (h : HostState) (n : ℕ) (text : Option (List ℕ)) (event : HostEvent) → GivesNext h n text event → Silent (event ∷ [])
+gives_silent h n (Some text) event is = as_silent event _ is (λ g. refl, tt)
+gives_silent h n None event (payload, there, is) = as_silent event _ is (λ g. refl, tt)
+
+served_silent : (h : HostState) (n : ℕ) (series : Series) (event : HostEvent) → IsServedBy h n series event → Silent (event ∷ [])
+served_silent h n Running event is = gives_silent h n (node_of h n).text event is
+served_silent h n Due event (plan, more, payload, start, is) = as_silent event _ is (λ g. refl, tt)
+served_silent h n Idle event (inl is) = as_silent event _ is (λ g. refl, tt)
+served_silent h n Idle event (inr is) = as_silent event _ is (λ g. refl, tt)
+
+nodes_silent : (h : HostState) (next : Option ℕ) (event : HostEvent) → IsNextOfNodes h next event → Silent (event ∷ [])
+nodes_silent h None event is = absurd is
+nodes_silent h (Some n) event is = served_silent h n (node_of h n).series event is
+
+next_silent : (h : HostState) (owes : Bool) (queue : List Task) (event : HostEvent) → IsNextOf h owes queue event → Silent (event ∷ [])
+next_silent h true queue event is = as_silent event _ is (λ g. refl, tt)
+next_silent h false (one ∷ more) event is = as_silent event _ is (λ g. refl, tt)
+next_silent h false [] event is = nodes_silent h (next_of h.nodes h.served) event is
+
+module _ (Asks : List Entry → Entry → Type 0) (Words Opened : Line → KnownOf) (Left : Line → List Event → KnownOf) (Else : KnownOf) (law : InLine Asks Words Opened Left Else) where
   abbrev Know : Phase → KnownOf
   Know = by_line Words Opened Left Else
 
@@ -125,13 +163,13 @@ module _ (Asks : List Entry → Entry → Type 0) (Words Opened : Line → Known
       common next (Ticking_devices (place + 1) count ticks) event _ past m event_is next_is tt may known (λ p n k. k)
   event_keeps (Ticking_chip ticks) next past m event (event_is, next_is) may known = common next (Ticking_decoder ticks) event _ past m event_is next_is tt may known (λ p n k. k)
   event_keeps (Ticking_decoder ticks) next past m event (event_is, next_is) may known =
-      common next (Ticking_host (tick_events m.host.state) ticks) event _ past m event_is next_is tt may known (λ p n k. k)
+      common next (Ticking_host (tick_events m.host.state) ticks) event _ past m event_is next_is tt may known (λ p n k. (tick_silent m.host.state, k))
   event_keeps (Ticking_host (first ∷ events) ticks) next past m event (event_is, next_is) may known =
-      common next (Ticking_host events ticks) event _ past m event_is next_is tt may known (λ p n k. k)
+      common next (Ticking_host events ticks) event _ past m event_is next_is (known.0.0, tt) may known.1 (λ p n k. (known.0.1, k))
   event_keeps (Sleeping passes ticks) next past m event (node, wants, event_is, next_is) may known =
-      common next (Sleeping passes ticks) event _ past m event_is next_is tt may known (λ p n k. k)
+      common next (Sleeping passes ticks) event _ past m event_is next_is (no_more_silent m.host.state node) may known (λ p n k. k)
   event_keeps (Submitting passes ticks) next past m event (asked, is, event_is, next_is) may known =
-      common next (Submitting passes ticks) event _ past m event_is next_is tt may known (λ p n k. k)
+      common next (Submitting passes ticks) event _ past m event_is next_is (next_silent m.host.state m.host.state.requests.owes m.host.state.requests.queue asked is.1) may known (λ p n k. k)
   event_keeps (Moving passes ticks) next past m event (rest, ways, event_is, next_is) may known =
       common next (Moved true passes ticks) event _ past m event_is next_is tt may known (λ p n k. k)
   event_keeps (Moved has_moved passes ticks) next past m event (rest, items, done, event_is, next_is) may known =
@@ -152,7 +190,7 @@ module _ (Asks : List Entry → Entry → Type 0) (Words Opened : Line → Known
   turn_keeps (Arriving zero ticks) next past m next_is known = to next _ past m next_is known
   turn_keeps (Giving zero ticks) next past m next_is known = to next _ past m next_is known
   turn_keeps (Ticking_devices place zero ticks) next past m next_is known = to next _ past m next_is known
-  turn_keeps (Ticking_host [] ticks) next past m next_is known = to next (Sleeping 64 ticks) past m next_is known
+  turn_keeps (Ticking_host [] ticks) next past m next_is known = to next (Sleeping 64 ticks) past m next_is known.1
   turn_keeps (Sleeping passes ticks) next past m (wants, next_is) known = to next (Submitting passes ticks) past m next_is known
   turn_keeps (Submitting zero ticks) next past m (pumped, next_is) known = to next (To_tick ticks) past m next_is known
   turn_keeps (Submitting (suc passes) ticks) next past m (pumped, next_is) known = to next (Moving passes ticks) past m next_is known
@@ -160,5 +198,9 @@ module _ (Asks : List Entry → Entry → Type 0) (Words Opened : Line → Known
   turn_keeps (Moved has_moved passes ticks) next past m (still, next_is) known = to next (Sleeping (passes_after has_moved passes) ticks) past m next_is known
   turn_keeps here next past m turns known = absurd turns
 
-  pub walk_of : Walk Asks (by_line Words Opened Left Else)
-  walk_of = record { said = law.said; event = event_keeps; turn = turn_keeps }
+module _ (Asks : List Entry → Entry → Type 0) (Words Opened : Line → KnownOf) (Left : Line → List Event → KnownOf) (Else : KnownOf) where
+  pub walk_of : ByLine Asks Words Opened Left Else → Walk Asks (by_line Words Opened Left Else)
+  walk_of law = record { said = law.said; event = event_keeps Asks Words Opened Left Else law.in_line; turn = turn_keeps Asks Words Opened Left Else law.in_line }
+
+  pub tied_walk_of : (Tied : KnownOf) → TiedByLine Tied Asks Words Opened Left Else → TiedWalk Tied Asks (by_line Words Opened Left Else)
+  tied_walk_of Tied law = record { said = law.said; event = event_keeps Asks Words Opened Left Else law.in_line; turn = turn_keeps Asks Words Opened Left Else law.in_line }

@@ -9,7 +9,7 @@ use Rattle.world_model.specs.Did.{happens_all, entries_all, MayAll, Schedule, Th
 use Rattle.proof_walk.specs.Phases.{Phase, Turns, Goes}
 use Rattle.proof_walk.specs.Paths.{Path, Leads, GoesOn, Begins}
 use Rattle.proof_walk.specs.Paths.Path.{Ends, Turned, Stepped}
-use Rattle.proof_walk.specs.Walk.{Walk}
+use Rattle.proof_walk.specs.Walk.{OwesEvents, OwesTurns}
 
 -- ---- paths
 
@@ -65,13 +65,13 @@ then_some here middle FirstPrefix First SecondPrefix begun one two m events (inr
 
 -- ---- a walk along a path
 
-module _ (Asks : List Entry → Entry → Type 0) (Know : Phase → List Entry → Machine → Type 0) (walk : Walk Asks Know) where
+module _ (Asks : List Entry → Entry → Type 0) (Know : Phase → List Entry → Machine → Type 0) (event_goes : OwesEvents Asks Know) (turn_goes : OwesTurns Know) where
   pub along : {last here : Phase} {m : Machine} {events : List Event} → Path last here m events → MayAll m events → (past : List Entry) → Know here past m
       → EachAfter Asks past (entries_all m events) × Know last (past ++ entries_all m events) (happens_all m events)
   along {last} {m = m} Ends may past knows = (tt, subst (λ (l : List Entry). Know last l m) (sym (append-nil past)) knows)
-  along {here = here} {m = m} (Turned {next = next} turns path) may past knows = along path may past (walk.turn here next past m turns knows)
+  along {here = here} {m = m} (Turned {next = next} turns path) may past knows = along path may past (turn_goes here next past m turns knows)
   along {last} {here} {m = m} (Stepped {next = next} {event = event} {events = events} goes path) may past knows =
-      let got = walk.event here next past m event goes may.0 knows in
+      let got = event_goes here next past m event goes may.0 knows in
       let more = along path may.1 (past ++ entries m event) got.1 in (
         each-append Asks past (entries m event) (entries_all (happens m event) events) got.0 more.0,
         subst (λ (l : List Entry). Know last l (happens_all (happens m event) events)) (append_assoc past (entries m event) (entries_all (happens m event) events)) more.1,

@@ -9,5 +9,6 @@ pub mod HostNotes
 pub mod Stamping
 pub mod Machines
 pub mod ByLine
+pub mod Alone
 pub mod Clock
 pub mod Over

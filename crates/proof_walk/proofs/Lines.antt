@@ -15,12 +15,12 @@ use Rattle.world_model.specs.Settling.{Settles}
 use Rattle.world_model.specs.Lines.{IsEffect, IsLineBegin, IsLineRest, IsLine, restart_events}
 use Rattle.world_model.specs.Prefixes.{SettlesPrefix, EffectPrefix, LineRestPrefix, LinePart}
 use Rattle.world_lines.specs.Spoken.{Spoken, after, after_all, entries_of, transcript_of}
-use Rattle.world_lines.specs.Done.{AreDone}
+use Rattle.world_lines.specs.Done.{IsDone, AreDone}
 use Rattle.world_lines.specs.Whole.{AreWhole}
 use Rattle.proof_walk.specs.Phases.{Phase, Between, Said_line, Begun, Doing, To_tick, Sleeping}
 use Rattle.proof_walk.specs.Paths.{Path, Leads, Begins}
 use Rattle.proof_walk.specs.Paths.Path.{Ends, Turned, Stepped}
-use Rattle.proof_walk.specs.Walk.{Walk}
+use Rattle.proof_walk.specs.Walk.{Walk, TiedWalk, AllTied}
 use Rattle.proof_walk.proofs.Joining.{same, cut, then, then_turn, nothing, some, then_some, along}
 use Rattle.proof_walk.proofs.Settling.{settling, settling_begins}
 use Rattle.proof_walk.proofs.Ticking.{all_ticks, ticks_begin}
@@ -75,37 +75,80 @@ line_part line m events (inl whole) = (Between, whole_line line m events whole)
 line_part line m events (inr prefix) =
     then_some (Said_line line) (Begun line) Nothing IsLineBegin (LineRestPrefix line) (nothing (Said_line line)) (line_begins line) (rest_begins line) m events prefix
 
--- ---- lines that are said
+-- ---- lines that are said, where more is known at the beginning of each
 
-module _ (Asks : List Entry → Entry → Type 0) (Know : Phase → List Entry → Machine → Type 0) (walk : Walk Asks Know) where
+module _ (Tied : List Entry → Machine → Type 0) (Asks : List Entry → Entry → Type 0) (Know : Phase → List Entry → Machine → Type 0) (walk : TiedWalk Tied Asks Know) where
   -- the words of a line and the entries of its events, after which more is known
-  whole_said : (past : List Entry) (m : Machine) (line : Spoken) (more : List Spoken) → AreDone m (line ∷ more) → IsLine line.line m line.events → Know Between past m
+  whole_said : (past : List Entry) (m : Machine) (line : Spoken) (more : List Spoken) → AreDone m (line ∷ more) → IsLine line.line m line.events → Tied past m → Know Between past m
       → EachAfter Asks past (entries_of m line) × Know Between (past ++ entries_of m line) (after m line)
-  whole_said past m line more are whole knows =
-      let said = walk.said past m line.words line.line are.0.read knows in
-      let got = along Asks Know walk (whole_line line.line m line.events whole) are.0.may (past ++ Said line.words ∷ []) said.1 in
+  whole_said past m line more are whole tied knows =
+      let said = walk.said past m line.words line.line are.0.read tied knows in
+      let got = along Asks Know walk.event walk.turn (whole_line line.line m line.events whole) are.0.may (past ++ Said line.words ∷ []) said.1 in
       ((said.0, got.0), subst (λ (l : List Entry). Know Between l (after m line)) (append_assoc past (Said line.words ∷ []) (entries_all m line.events)) got.1)
 
   -- every entry keeps the law
-  pub lines_stand : (past : List Entry) (m : Machine) (lines : List Spoken) → AreDone m lines → Know Between past m → EachAfter Asks past (transcript_of m lines)
-  lines_stand past m [] are knows = tt
-  lines_stand past m (line ∷ []) are knows =
-      let said = walk.said past m line.words line.line are.0.read knows in
+  pub tied_stand : (past : List Entry) (m : Machine) (lines : List Spoken) → AreDone m lines → AllTied Tied past m lines → Know Between past m → EachAfter Asks past (transcript_of m lines)
+  tied_stand past m [] are tied knows = tt
+  tied_stand past m (line ∷ []) are tied knows =
+      let said = walk.said past m line.words line.line are.0.read tied.0 knows in
       let part = line_part line.line m line.events are.0.is_line in
       subst (EachAfter Asks past) (sym (append-nil (entries_of m line)))
-      (said.0, (along Asks Know walk part.1 are.0.may (past ++ Said line.words ∷ []) said.1).0)
-  lines_stand past m (line ∷ (next ∷ more)) are knows =
-      let got = whole_said past m line (next ∷ more) are are.0.is_line knows in
+      (said.0, (along Asks Know walk.event walk.turn part.1 are.0.may (past ++ Said line.words ∷ []) said.1).0)
+  tied_stand past m (line ∷ (next ∷ more)) are tied knows =
+      let got = whole_said past m line (next ∷ more) are are.0.is_line tied.0 knows in
       each-append Asks past (entries_of m line) (transcript_of (after m line) (next ∷ more)) got.0
-      (lines_stand (past ++ entries_of m line) (after m line) (next ∷ more) are.1 got.1)
+      (tied_stand (past ++ entries_of m line) (after m line) (next ∷ more) are.1 tied.1 got.1)
 
   -- and where all lines were run whole, what is known is known in the end
-  pub lines_lead : (past : List Entry) (m : Machine) (lines : List Spoken) → AreDone m lines → AreWhole m lines → Know Between past m
+  pub tied_lead : (past : List Entry) (m : Machine) (lines : List Spoken) → AreDone m lines → AreWhole m lines → AllTied Tied past m lines → Know Between past m
       → EachAfter Asks past (transcript_of m lines) × Know Between (past ++ transcript_of m lines) (after_all m lines)
-  lines_lead past m [] are whole knows = (tt, subst (λ (l : List Entry). Know Between l m) (sym (append-nil past)) knows)
-  lines_lead past m (line ∷ more) are whole knows =
-      let got = whole_said past m line more are whole.0 knows in
-      let rest = lines_lead (past ++ entries_of m line) (after m line) more are.1 whole.1 got.1 in (
+  tied_lead past m [] are whole tied knows = (tt, subst (λ (l : List Entry). Know Between l m) (sym (append-nil past)) knows)
+  tied_lead past m (line ∷ more) are whole tied knows =
+      let got = whole_said past m line more are whole.0 tied.0 knows in
+      let rest = tied_lead (past ++ entries_of m line) (after m line) more are.1 whole.1 tied.1 got.1 in (
         each-append Asks past (entries_of m line) (transcript_of (after m line) more) got.0 rest.0,
         subst (λ (l : List Entry). Know Between l (after_all (after m line) more)) (append_assoc past (entries_of m line) (transcript_of (after m line) more)) rest.1,
       )
+
+-- ---- where nothing more is
+
+abbrev Loose : List Entry → Machine → Type 0
+Loose past m = Unit {0}
+
+all_loose : (past : List Entry) (m : Machine) (lines : List Spoken) → AllTied Loose past m lines
+all_loose past m [] = tt
+all_loose past m (line ∷ more) = (tt, all_loose (past ++ entries_of m line) (after m line) more)
+
+module _ (Asks : List Entry → Entry → Type 0) (Know : Phase → List Entry → Machine → Type 0) (walk : Walk Asks Know) where
+  loose : TiedWalk Loose Asks Know
+  loose = record { said = λ past m words line read tied knows. walk.said past m words line read knows; event = walk.event; turn = walk.turn }
+
+  pub lines_stand : (past : List Entry) (m : Machine) (lines : List Spoken) → AreDone m lines → Know Between past m → EachAfter Asks past (transcript_of m lines)
+  lines_stand past m lines are knows = tied_stand Loose Asks Know loose past m lines are (all_loose past m lines) knows
+
+  pub lines_lead : (past : List Entry) (m : Machine) (lines : List Spoken) → AreDone m lines → AreWhole m lines → Know Between past m
+      → EachAfter Asks past (transcript_of m lines) × Know Between (past ++ transcript_of m lines) (after_all m lines)
+  lines_lead past m lines are whole knows = tied_lead Loose Asks Know loose past m lines are whole (all_loose past m lines) knows
+
+-- ---- what holds after whole lines holds where each line begins
+
+-- a line before another was run whole
+whole_before : (line next : Spoken) (more : List Spoken) (m : Machine) → IsDone (next ∷ more) m line → IsLine line.line m line.events
+whole_before line next more m done = done.is_line
+
+-- it is done, whatever comes after it
+done_before : (line next : Spoken) (more front : List Spoken) (m : Machine) → IsDone (next ∷ more) m line → IsDone front m line
+done_before line next more [] m done = record { read = done.read; is_line = inl done.is_line; may = done.may }
+done_before line next more (first ∷ front) m done = record { read = done.read; is_line = done.is_line; may = done.may }
+
+pub all_tied : (Tied : List Entry → Machine → Type 0) (past : List Entry) (m : Machine) (lines : List Spoken) → AreDone m lines
+    → ((front : List Spoken) → AreDone m front → AreWhole m front → Tied (past ++ transcript_of m front) (after_all m front)) → AllTied Tied past m lines
+all_tied Tied past m [] are ties = tt
+all_tied Tied past m (line ∷ []) are ties = (subst (λ (l : List Entry). Tied l m) (append-nil past) (ties [] tt tt), tt)
+all_tied Tied past m (line ∷ (next ∷ more)) are ties = (
+  subst (λ (l : List Entry). Tied l m) (append-nil past) (ties [] tt tt),
+  all_tied Tied (past ++ entries_of m line) (after m line) (next ∷ more) are.1
+      (λ front done whole.
+      subst (λ (l : List Entry). Tied l (after_all (after m line) front)) (sym (append_assoc past (entries_of m line) (transcript_of (after m line) front)))
+      (ties (line ∷ front) (done_before line next more front m are.0, done) (whole_before line next more m are.0, whole))),
+)

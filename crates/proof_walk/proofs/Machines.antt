@@ -20,36 +20,54 @@ use Rattle.outside_model.specs.Did.{happens_all as happens_all_outside, entries_
 use Rattle.outside_model.proofs.EventLists.{happens_all-append, entries_all-append}
 use Rattle.world_model.specs.State.{Machine, begun_in, noted_by, routed, host_does}
 use Rattle.world_model.specs.Events.{Event, Outside_does, Host_does, Host_takes, Decoder_ticks, Refuses, Shows_values, Restarts, notes, shown_values, happens, entries, May}
-use Rattle.proof_walk.specs.Outside.{Pending, Knowing, Outer, Known, CoversOuter, IsSimple, IsNote}
-use Rattle.proof_walk.proofs.HostNotes.{NoteOuts, all_outs_note}
+use Rattle.proof_walk.specs.Outside.{Pending, Knowing, Outer, Known, CoversOuter, CoversHost, CoversRefusal, CoversAnswer, IsNote}
+use Rattle.proof_walk.proofs.HostNotes.{NoteOuts, all_outs_note, is_note}
 use Rattle.proof_walk.proofs.Stamping.{Fits, outer_keeps, session_keeps}
 
 not_own : false ≡ true → ⊥
 not_own is = cc
 
-own_fits : (Covers : OuterEvent → Type 0) (event : OuterEvent) → is_own event ≡ true → Covers event → Fits Covers event
-own_fits Covers (Host_writes unit) own covers = absurd (not_own own)
-own_fits Covers (host_takes count) own covers = absurd (not_own own)
-own_fits Covers (Host_notes note) own covers = absurd (not_own own)
-own_fits Covers (Host_begins node sessions) own covers = absurd (not_own own)
-own_fits Covers Begins_line own covers = covers
-own_fits Covers Begins_tick own covers = covers
-own_fits Covers (Chip_takes count rest ways) own covers = tt
-own_fits Covers (Arrives drawn route) own covers = tt
-own_fits Covers (Gives route) own covers = tt
-own_fits Covers (Device_ticks place drawn route) own covers = tt
-own_fits Covers Chip_ticks own covers = tt
-own_fits Covers (Repeats number drawn route) own covers = tt
-own_fits Covers (Wakes_device node route) own covers = tt
-own_fits Covers (Sets_device node value route) own covers = tt
-own_fits Covers event own covers = (tt, covers)
+own_fits : (Covers : OuterEvent → Type 0) (event : OuterEvent) → is_own event ≡ true → Covers event → CoversRefusal Covers event → Fits Covers event
+own_fits Covers (Host_writes unit) own covers refuses = absurd (not_own own)
+own_fits Covers (host_takes count) own covers refuses = absurd (not_own own)
+own_fits Covers (Host_notes note) own covers refuses = absurd (not_own own)
+own_fits Covers (Host_begins node sessions) own covers refuses = absurd (not_own own)
+own_fits Covers Begins_line own covers refuses = covers
+own_fits Covers Begins_tick own covers refuses = covers
+own_fits Covers (Chip_takes count rest ways) own covers refuses = tt
+own_fits Covers (Arrives drawn route) own covers refuses = tt
+own_fits Covers (Gives route) own covers refuses = tt
+own_fits Covers (Device_ticks place drawn route) own covers refuses = tt
+own_fits Covers Chip_ticks own covers refuses = tt
+own_fits Covers (Repeats number drawn route) own covers refuses = refuses
+own_fits Covers (Wakes_device node route) own covers refuses = refuses
+own_fits Covers (Sets_device node value route) own covers refuses = refuses
+own_fits Covers event own covers refuses = (tt, covers)
 
--- what the host does at the line
-abbrev IsOfHost : OuterEvent → Type 0
-IsOfHost event = IsSimple event × (is_own event ≡ false)
+-- ---- what covers each event of the host covers these
 
-module _ (Asks : List Entry → Entry → Type 0) (Knows : Pending → Knowing) (Covers : OuterEvent → Type 0) (law : Outer Asks Knows Covers)
-    (hosts : (event : OuterEvent) → is_own event ≡ false → Covers event) where
+pub covers_host : (Covers : OuterEvent → Type 0) → ((event : OuterEvent) → is_own event ≡ false → Covers event) → CoversHost Covers
+covers_host Covers hosts = record { writes = λ unit. hosts (Host_writes unit) refl; takes = λ count. hosts (host_takes count) refl; notes = λ note is. hosts (Host_notes note) refl }
+
+covers_notes : (Covers : OuterEvent → Type 0) → ((event : OuterEvent) → is_own event ≡ false → Covers event) → (told : List Entry)
+    → AllByRecursion (λ note. Covers (Host_notes note)) told
+covers_notes Covers hosts [] = tt
+covers_notes Covers hosts (note ∷ told) = (hosts (Host_notes note) refl, covers_notes Covers hosts told)
+
+covers_refusal : (Covers : OuterEvent → Type 0) → ((event : OuterEvent) → is_own event ≡ false → Covers event) → (event : OuterEvent) → CoversRefusal Covers event
+covers_refusal Covers hosts (Repeats number drawn route) = λ refused. hosts (Host_notes (entry.Refused refused)) refl
+covers_refusal Covers hosts (Wakes_device node route) = λ refused. hosts (Host_notes (entry.Refused refused)) refl
+covers_refusal Covers hosts (Sets_device node value route) = λ refused. hosts (Host_notes (entry.Refused refused)) refl
+covers_refusal Covers hosts event = tt
+
+covers_answer : (Covers : OuterEvent → Type 0) → ((event : OuterEvent) → is_own event ≡ false → Covers event) → (event : Event) → CoversAnswer Covers event
+covers_answer Covers hosts (Outside_does event) = covers_refusal Covers hosts event
+covers_answer Covers hosts (Host_does event) = λ h. covers_notes Covers hosts (answers h event)
+covers_answer Covers hosts (Refuses line refused) = hosts (Host_notes (entry.Refused refused)) refl
+covers_answer Covers hosts (Shows_values node) = λ text. hosts (Host_notes (entry.Json text)) refl
+covers_answer Covers hosts event = tt
+
+module _ (Asks : List Entry → Entry → Type 0) (Knows : Pending → Knowing) (Covers : OuterEvent → Type 0) (law : Outer Asks Knows Covers) where
   abbrev pub Keeps_known : Outside → List Entry → Outside → Type 0
   Keeps_known w told later = (past : List Entry) → Known Asks Knows past w → EachAfter Asks past told × Known Asks Knows (past ++ told) later
 
@@ -63,26 +81,20 @@ module _ (Asks : List Entry → Entry → Type 0) (Knows : Pending → Knowing) 
       (each-append Asks past xs ys one.0 two.0, subst (λ (l : List Entry). Known Asks Knows l v) (append_assoc past xs ys) two.1)
 
   outer : (w : Outside) (event : OuterEvent) → Fits Covers event → MayOutside w event → Keeps_known w (entries_outside w event) (happens_outside w event)
-  outer w event fits may = outer_keeps Asks Knows Covers law (λ refused. hosts (Host_notes (entry.Refused refused)) refl) w event fits may
+  outer w event fits may = outer_keeps Asks Knows Covers law w event fits may
 
   -- ---- what the host puts out
 
-  host_event : (w : Outside) (event : OuterEvent) → IsOfHost event → MayOutside w event → Keeps_known w (entries_outside w event) (happens_outside w event)
-  host_event w (Host_writes unit) of_host may = outer w (Host_writes unit) (tt, hosts (Host_writes unit) refl) may
-  host_event w (host_takes count) of_host may = outer w (host_takes count) (tt, hosts (host_takes count) refl) may
-  host_event w (Host_notes note) of_host may = outer w (Host_notes note) (of_host.0, hosts (Host_notes note) refl) may
-  host_event w (Host_begins node sessions) of_host may = absurd of_host.0
-  host_event w event of_host may = let none : true ≡ false = of_host.1 in absurd cc
-
   -- it writes
-  writes_keep : (w : Outside) (unit : LineUnit) → Keeps_known w (entries_outside w (Host_writes unit)) (happens_outside w (Host_writes unit))
+  writes_keep : (w : Outside) (unit : LineUnit) → Covers (Host_writes unit) → Keeps_known w (entries_outside w (Host_writes unit)) (happens_outside w (Host_writes unit))
   unfolding MayOutside
-  writes_keep w unit = host_event w (Host_writes unit) (tt, refl) tt
+  writes_keep w unit covers = outer w (Host_writes unit) (tt, covers) tt
 
   -- it notes that no session has begun
-  note_keeps : (w : Outside) (note : Entry) → IsNote note → begun_in note ≡ None → Keeps_known w (entries_outside w (Host_notes note)) (happens_outside w (Host_notes note))
+  note_keeps : (w : Outside) (note : Entry) → IsNote note → begun_in note ≡ None → Covers (Host_notes note)
+      → Keeps_known w (entries_outside w (Host_notes note)) (happens_outside w (Host_notes note))
   unfolding MayOutside
-  note_keeps w note is none = host_event w (Host_notes note) ((is, none), refl) tt
+  note_keeps w note is none covers = outer w (Host_notes note) ((is, none), covers) tt
 
   -- what becomes of one event, and then of others
   then_keep : (w : Outside) (first later : List OuterEvent) → Keeps_known w (entries_all_outside w first) (happens_all_outside w first)
@@ -105,48 +117,62 @@ module _ (Asks : List Entry → Entry → Type 0) (Knows : Pending → Knowing) 
       let later : Outside = happens_outside w (Host_begins node session) in
       subst (λ (l : List Entry). Keeps_known w (entries_outside w (Host_begins node session) ++ l) (happens_outside later (Host_notes (entry.Begin node session command))))
       (sym (append-nil (entries_outside later (Host_notes (entry.Begin node session command)))))
-      (session_keeps Asks Knows Covers law (λ refused. hosts (Host_notes (entry.Refused refused)) refl) w node session command)
+      (session_keeps Asks Knows Covers law w node session command)
 
-  noted_keeps : (w : Outside) (note : Entry) → IsNote note → Keeps_known w (entries_all_outside w (noted_by (begun_in note) note)) (happens_all_outside w (noted_by (begun_in note) note))
-  noted_keeps w (entry.Begin node session command) is = begun_keeps w node session command
-  noted_keeps w note is = one_keeps w (Host_notes note) (note_keeps w note is refl)
+  noted_keeps : (w : Outside) (note : Entry) → IsNote note → Covers (Host_notes note)
+      → Keeps_known w (entries_all_outside w (noted_by (begun_in note) note)) (happens_all_outside w (noted_by (begun_in note) note))
+  noted_keeps w (entry.Begin node session command) is covers = begun_keeps w node session command
+  noted_keeps w note is covers = one_keeps w (Host_notes note) (note_keeps w note is refl covers)
 
-  puts_keep : (w : Outside) (outs : List HostOut) → NoteOuts outs → Keeps_known w (entries_all_outside w (routed outs)) (happens_all_outside w (routed outs))
-  puts_keep w [] are = keeps_none w
-  puts_keep w (Write unit ∷ outs) are =
-      then_keep w (Host_writes unit ∷ []) (routed outs) (one_keeps w (Host_writes unit) (writes_keep w unit)) (puts_keep (happens_outside w (Host_writes unit)) outs are.1)
-  puts_keep w (Note note ∷ outs) are =
-      then_keep w (noted_by (begun_in note) note) (routed outs) (noted_keeps w note are.0) (puts_keep (happens_all_outside w (noted_by (begun_in note) note)) outs are.1)
+  module _ (host : CoversHost Covers) where
+    puts_keep : (w : Outside) (outs : List HostOut) → NoteOuts outs → Keeps_known w (entries_all_outside w (routed outs)) (happens_all_outside w (routed outs))
+    puts_keep w [] are = keeps_none w
+    puts_keep w (Write unit ∷ outs) are =
+        then_keep w (Host_writes unit ∷ []) (routed outs) (one_keeps w (Host_writes unit) (writes_keep w unit (host.writes unit))) (puts_keep (happens_outside w (Host_writes unit)) outs are.1)
+    puts_keep w (Note note ∷ outs) are =
+        then_keep w (noted_by (begun_in note) note) (routed outs) (noted_keeps w note (is_note note are.0) (host.notes note are.0))
+        (puts_keep (happens_all_outside w (noted_by (begun_in note) note)) outs are.1)
 
-  outs_keep : (w : Outside) (h : HostState) (events : List HostEvent) → Keeps_known w (entries_all_outside w (routed (outs_all h events))) (happens_all_outside w (routed (outs_all h events)))
-  outs_keep w h events = puts_keep w (outs_all h events) (all_outs_note h events)
+    outs_keep : (w : Outside) (h : HostState) (events : List HostEvent) → Keeps_known w (entries_all_outside w (routed (outs_all h events))) (happens_all_outside w (routed (outs_all h events)))
+    outs_keep w h events = puts_keep w (outs_all h events) (all_outs_note h events)
 
-  answers_keep : (w : Outside) (h : HostState) (event : HostEvent) → Keeps_known w (entries_all_outside w (notes (answers h event))) (happens_all_outside w (notes (answers h event)))
-  answers_keep w h (Accepts order carriage) =
-      one_keeps w (Host_notes (entry.Accepted (length h.commands + 1) order.node)) (note_keeps w (entry.Accepted (length h.commands + 1) order.node) tt refl)
-  answers_keep w h (Cancels command) = one_keeps w (Host_notes (entry.Out command Cancelled)) (note_keeps w (entry.Out command Cancelled) tt refl)
-  answers_keep w h event = keeps_none w
+    answers_keep : (w : Outside) (h : HostState) (event : HostEvent) → AllByRecursion (λ note. Covers (Host_notes note)) (answers h event)
+        → Keeps_known w (entries_all_outside w (notes (answers h event))) (happens_all_outside w (notes (answers h event)))
+    answers_keep w h (Accepts order carriage) covers =
+        one_keeps w (Host_notes (entry.Accepted (length h.commands + 1) order.node)) (note_keeps w (entry.Accepted (length h.commands + 1) order.node) tt refl covers.0)
+    answers_keep w h (Cancels command) covers = one_keeps w (Host_notes (entry.Out command Cancelled)) (note_keeps w (entry.Out command Cancelled) tt refl covers.0)
+    answers_keep w h event covers = keeps_none w
 
-  -- the host takes bytes
-  takes_keep : (w : Outside) (count : ℕ) → is_stalled w.outer ≡ false → Keeps_known w [] (happens_outside w (host_takes count))
-  unfolding outcome MayOutside
-  takes_keep w count moves = host_event w (host_takes count) (tt, refl) moves
+    -- the host takes bytes
+    takes_keep : (w : Outside) (count : ℕ) → is_stalled w.outer ≡ false → Keeps_known w [] (happens_outside w (host_takes count))
+    unfolding outcome MayOutside
+    takes_keep w count moves = outer w (host_takes count) (tt, host.takes count) moves
 
-  -- ---- an event of the machine
+    -- the values of a node are shown
+    shows_keep : (w : Outside) (h : HostState) (node : ℕ) → ((text : List ℕ) → Covers (Host_notes (entry.Json text)))
+        → Keeps_known w (entries_outside w (Host_notes (shown_values h node))) (happens_outside w (Host_notes (shown_values h node)))
+    shows_keep w h node covers = note_keeps w (shown_values h node) tt refl (covers _)
 
-  pub machine_keeps : (m : Machine) (event : Event) → CoversOuter Covers event → May m event → Keeps_known m.outside (entries m event) (happens m event).outside
-  unfolding happens entries May
-  machine_keeps m (Outside_does event) covers may = outer m.outside event (own_fits Covers event may.0 covers) may.1
-  machine_keeps m (Host_does event) covers may =
-      let later : Outside = (host_does m (event ∷ [])).outside in
-      keeps_both m.outside later (happens_all_outside later (notes (answers m.host.state event)))
-      (entries_all_outside m.outside (routed (outs_all m.host.state (event ∷ [])))) (entries_all_outside later (notes (answers m.host.state event)))
-      (outs_keep m.outside m.host.state (event ∷ [])) (answers_keep later m.host.state event)
-  machine_keeps m (Host_takes count rest items events) covers may =
-      let later : Outside = happens_outside m.outside (host_takes count) in
-      keeps_both m.outside later (happens_all_outside later (routed (outs_all m.host.state events))) [] (entries_all_outside later (routed (outs_all m.host.state events)))
-      (takes_keep m.outside count may.moves) (outs_keep later m.host.state events)
-  machine_keeps m Decoder_ticks covers may = keeps_none m.outside
-  machine_keeps m (Refuses line refusal) covers may = note_keeps m.outside (entry.Refused refusal) tt refl
-  machine_keeps m (Shows_values node) covers may = note_keeps m.outside (shown_values m.host.state node) tt refl
-  machine_keeps m (Restarts state) covers may = keeps_none m.outside
+    -- ---- an event of the machine
+
+    pub event_keeps : (m : Machine) (event : Event) → CoversOuter Covers event → CoversAnswer Covers event → May m event → Keeps_known m.outside (entries m event) (happens m event).outside
+    unfolding happens entries May
+    event_keeps m (Outside_does event) covers answers_it may = outer m.outside event (own_fits Covers event may.0 covers answers_it) may.1
+    event_keeps m (Host_does event) covers answers_it may =
+        let later : Outside = (host_does m (event ∷ [])).outside in
+        keeps_both m.outside later (happens_all_outside later (notes (answers m.host.state event)))
+        (entries_all_outside m.outside (routed (outs_all m.host.state (event ∷ [])))) (entries_all_outside later (notes (answers m.host.state event)))
+        (outs_keep m.outside m.host.state (event ∷ [])) (answers_keep later m.host.state event (answers_it m.host.state))
+    event_keeps m (Host_takes count rest items events) covers answers_it may =
+        let later : Outside = happens_outside m.outside (host_takes count) in
+        keeps_both m.outside later (happens_all_outside later (routed (outs_all m.host.state events))) [] (entries_all_outside later (routed (outs_all m.host.state events)))
+        (takes_keep m.outside count may.moves) (outs_keep later m.host.state events)
+    event_keeps m Decoder_ticks covers answers_it may = keeps_none m.outside
+    event_keeps m (Refuses line refusal) covers answers_it may = note_keeps m.outside (entry.Refused refusal) tt refl answers_it
+    event_keeps m (Shows_values node) covers answers_it may = shows_keep m.outside m.host.state node answers_it
+    event_keeps m (Restarts state) covers answers_it may = keeps_none m.outside
+
+  -- the same where each event of the host is covered
+  pub machine_keeps : ((event : OuterEvent) → is_own event ≡ false → Covers event) → (m : Machine) (event : Event) → CoversOuter Covers event → May m event
+      → Keeps_known m.outside (entries m event) (happens m event).outside
+  machine_keeps hosts m event covers may = event_keeps (covers_host Covers hosts) m event covers (covers_answer Covers hosts event) may

@@ -28,11 +28,11 @@ use Rattle.outside_model.specs.Chip.{chip_does}
 use Rattle.outside_model.specs.Air.{deals}
 use Rattle.outside_model.specs.Devices.{acts_at, acts_by_hand, device_set, set_by_hand, MayAct, MayActByHand}
 use Rattle.outside_model.specs.Events.{OuterEvent, Begins_line, Begins_tick, Host_writes, Host_takes, Host_notes, Host_begins, Chip_takes, Arrives, Gives, Device_ticks, Chip_ticks, Repeats, Wakes_device, Sets_device, Shows, Joins, Discovers, Links, Loses, Loses_acks, Marks_loss, Marks_change, Clears_pipe, Collides_next, Stalls, Cuts, mesh_of, outcome, devices_after, May, steps, repeats, devices_repeated, MayRepeat, refusal_entries, ticked_entry, stamp, has_entered, happens, entries}
-use Rattle.proof_walk.specs.Outside.{Pending, Judging, Dealing, nothing, Knowing, Moves, Comes, Outer, IsSimple, IsHearing, session_begins, Known, awaits_number}
+use Rattle.proof_walk.specs.Outside.{Pending, Judging, Dealing, nothing, Knowing, Moves, Comes, Outer, IsSimple, IsHearing, session_begins, Known, awaits_number, CoversRefusal}
 use Rattle.proof_walk.proofs.Moving.{moves_silent, moves_none, moves_both, moves_then}
 use Rattle.proof_walk.proofs.Times.{time_of, IsSameTime, IsWithin, does_chip, outcome_time}
 
--- a simple event is to be covered
+-- a simple event is to be covered, and that one is refused
 abbrev pub Fits : (OuterEvent → Type 0) → OuterEvent → Type 0
 Fits Covers Begins_line = Covers Begins_line
 Fits Covers Begins_tick = Covers Begins_tick
@@ -41,9 +41,9 @@ Fits Covers (Arrives drawn route) = Unit {0}
 Fits Covers (Gives route) = Unit {0}
 Fits Covers (Device_ticks place drawn route) = Unit {0}
 Fits Covers Chip_ticks = Unit {0}
-Fits Covers (Repeats number drawn route) = Unit {0}
-Fits Covers (Wakes_device node route) = Unit {0}
-Fits Covers (Sets_device node value route) = Unit {0}
+Fits Covers (Repeats number drawn route) = CoversRefusal Covers (Repeats number drawn route)
+Fits Covers (Wakes_device node route) = CoversRefusal Covers (Wakes_device node route)
+Fits Covers (Sets_device node value route) = CoversRefusal Covers (Sets_device node value route)
 Fits Covers event = IsSimple event × Covers event
 
 -- the number, by whether it is still to be entered
@@ -114,96 +114,99 @@ module _ (Asks : List Entry → Entry → Type 0) (Knows : Pending → Knowing) 
       moves_both Asks (Knows (Dealing (event ∷ events))) (Knows (Dealing events)) Base (outside o devices) (outside one.outer devices) (outside (each (deals devices) one.outer events).outer devices)
       one.entries (each (deals devices) one.outer events).entries (law.deals (outside o devices) event events) (deals_all devices events one.outer)
 
-  steps_come : (w : Outside) (step : AirStep) → IsHearing step → MayHappen (mesh_of w) step → Comes Asks Base w (steps w step) (mesh_after (mesh_of w) step).devices Base
+  pub steps_come : (w : Outside) (step : AirStep) → IsHearing step → MayHappen (mesh_of w) step → Comes Asks Base w (steps w step) (mesh_after (mesh_of w) step).devices Base
   steps_come w step hearing may =
       let o : OuterState = record w.outer { air = (mesh_after (mesh_of w) step).air } in
       let devices : List State = (mesh_after (mesh_of w) step).devices in
       moves_both Asks Base (Knows (Dealing (mesh_outs (mesh_of w) step))) Base w (outside o devices) (outside (steps w step).outer devices) [] (steps w step).entries
       (law.steps w step hearing may) (deals_all devices (mesh_outs (mesh_of w) step) o)
 
-  module _ (notes : (refused : Refusal) → Covers (Host_notes (entry.Refused refused))) where
-    -- a line was refused outside
-    refused_comes : (w : Outside) (refused : Refusal) → Comes Asks Base w (tells w.outer (entry.Refused refused ∷ [])) w.devices Base
-    unfolding outcome
-    refused_comes w refused = law.simple w (Host_notes (entry.Refused refused)) (tt, refl) (notes refused)
+  -- ---- events that may be refused
 
-    repeats_come : (w : Outside) (refused : Option RepeatRefusal) (step : AirStep) → IsHearing step → MayRepeat w refused step → Comes Asks Base w (repeats w refused step) (devices_repeated w refused step) Base
-    repeats_come w None step hearing may = steps_come w step hearing may
-    repeats_come w (Some NeverSent) step hearing may = refused_comes w refusal.NeverSent
-    repeats_come w (Some Forgotten) step hearing may = refused_comes w refusal.Forgotten
-    repeats_come w (Some (Stale later)) step hearing may = refused_comes w (refusal.Stale later)
+  abbrev Refusing : Type 0
+  Refusing = (refused : Refusal) → Covers (Host_notes (entry.Refused refused))
 
-    at_comes : (w : Outside) (place : ℕ) (found : Option State) (event : DeviceEvent) (route : Option Route) → slice_get w.devices place ≡ found → MayAct w.outer found event route
-        → Comes Asks Base w (acts_at w.outer found event route) (device_set w.devices place found event) Base
-    at_comes w place None event route is may = absurd may
-    at_comes w place (Some device) event route is may = law.acts w place device event route is may
+  refused_comes : Refusing → (w : Outside) (refused : Refusal) → Comes Asks Base w (tells w.outer (entry.Refused refused ∷ [])) w.devices Base
+  unfolding outcome
+  refused_comes notes w refused = law.simple w (Host_notes (entry.Refused refused)) (tt, refl) (notes refused)
 
-    hand_comes : (w : Outside) (place : Option ℕ) (event : DeviceEvent) (route : Option Route) → MayActByHand w.outer w.devices place event route
-        → Comes Asks Base w (acts_by_hand w.outer w.devices place event route) (set_by_hand w.devices place event) Base
-    hand_comes w None event route may = refused_comes w refusal.NoDevice
-    hand_comes w (Some place) event route may = at_comes w place (slice_get w.devices place) event route refl may
+  repeats_come : Refusing → (w : Outside) (refused : Option RepeatRefusal) (step : AirStep) → IsHearing step → MayRepeat w refused step → Comes Asks Base w (repeats w refused step) (devices_repeated w refused step) Base
+  repeats_come notes w None step hearing may = steps_come w step hearing may
+  repeats_come notes w (Some NeverSent) step hearing may = refused_comes notes w refusal.NeverSent
+  repeats_come notes w (Some Forgotten) step hearing may = refused_comes notes w refusal.Forgotten
+  repeats_come notes w (Some (Stale later)) step hearing may = refused_comes notes w (refusal.Stale later)
 
-    -- ---- any event within a line or a tick
+  at_comes : (w : Outside) (place : ℕ) (found : Option State) (event : DeviceEvent) (route : Option Route) → slice_get w.devices place ≡ found → MayAct w.outer found event route
+      → Comes Asks Base w (acts_at w.outer found event route) (device_set w.devices place found event) Base
+  at_comes w place None event route is may = absurd may
+  at_comes w place (Some device) event route is may = law.acts w place device event route is may
 
-    outcome_comes : (w : Outside) (event : OuterEvent) → IsWithin event → Fits Covers event → May w event → Comes Asks Base w (outcome w event) (devices_after w event) Base
-    unfolding outcome devices_after May
-    outcome_comes w Begins_line within fits may = absurd within
-    outcome_comes w Begins_tick within fits may = absurd within
-    outcome_comes w (Chip_takes count rest ways) within fits may =
-        let o : OuterState = record w.outer { to_chip = way.after w.outer.to_chip (Takes count); chip = record { decoder = rest; state = w.outer.chip.state } } in
-        let x : Outcome = each chip_does o (judged_all ways) in
-        moves_then Asks Base (Knows (Judging [])) Base w (outside x.outer w.devices) (outside x.outer w.devices) x.entries
-        (moves_both Asks Base (Knows (Judging ways)) (Knows (Judging [])) w (outside o w.devices) (outside x.outer w.devices) [] x.entries (law.takes w count rest ways may) (judges_all w.devices ways o may.judges))
-        (λ awaits past knows. law.judged awaits past (outside x.outer w.devices) knows)
-    outcome_comes w (Arrives drawn route) within fits may = steps_come w (mesh.Arrives drawn route) tt may
-    outcome_comes w (Gives route) within fits may = law.gives w route may
-    outcome_comes w (Device_ticks place drawn route) within fits may = at_comes w place (slice_get w.devices place) (Ticks drawn) route refl may
-    outcome_comes w Chip_ticks within fits may = law.ticks w
-    outcome_comes w (Repeats number drawn route) within fits may = repeats_come w (refusal_of w.outer.air.frames number) (mesh.Repeats number drawn route) tt may
-    outcome_comes w (Wakes_device node route) within fits may = hand_comes w (place_of node w.devices) Wakes route may
-    outcome_comes w (Sets_device node value route) within fits may = hand_comes w (place_of node w.devices) (Sets value) route may
-    outcome_comes w (Host_writes unit) within fits may = law.simple w (Host_writes unit) fits.0 fits.1
-    outcome_comes w (Host_takes count) within fits may = law.simple w (Host_takes count) fits.0 fits.1
-    outcome_comes w (Host_notes note) within fits may = law.simple w (Host_notes note) fits.0 fits.1
-    outcome_comes w (Host_begins node sessions) within fits may = absurd fits.0
-    outcome_comes w (Shows node) within fits may = law.simple w (Shows node) fits.0 fits.1
-    outcome_comes w (Joins node) within fits may = law.simple w (Joins node) fits.0 fits.1
-    outcome_comes w Discovers within fits may = law.simple w Discovers fits.0 fits.1
-    outcome_comes w (Links a b live) within fits may = law.simple w (Links a b live) fits.0 fits.1
-    outcome_comes w (Loses count) within fits may = law.simple w (Loses count) fits.0 fits.1
-    outcome_comes w (Loses_acks count) within fits may = law.simple w (Loses_acks count) fits.0 fits.1
-    outcome_comes w (Marks_loss side) within fits may = law.simple w (Marks_loss side) fits.0 fits.1
-    outcome_comes w (Marks_change side garble) within fits may = law.simple w (Marks_change side garble) fits.0 fits.1
-    outcome_comes w (Clears_pipe side) within fits may = law.simple w (Clears_pipe side) fits.0 fits.1
-    outcome_comes w Collides_next within fits may = law.simple w Collides_next fits.0 fits.1
-    outcome_comes w (Stalls ticks) within fits may = law.simple w (Stalls ticks) fits.0 fits.1
-    outcome_comes w (Cuts size) within fits may = law.simple w (Cuts size) fits.0 fits.1
+  hand_comes : Refusing → (w : Outside) (place : Option ℕ) (event : DeviceEvent) (route : Option Route) → MayActByHand w.outer w.devices place event route
+      → Comes Asks Base w (acts_by_hand w.outer w.devices place event route) (set_by_hand w.devices place event) Base
+  hand_comes notes w None event route may = refused_comes notes w refusal.NoDevice
+  hand_comes notes w (Some place) event route may = at_comes w place (slice_get w.devices place) event route refl may
 
-    -- ---- any event
+  -- ---- any event within a line or a tick
 
-    -- what is known before the event is enough for its entries, and is known after it
-    abbrev pub Keeps : Outside → List Entry → Outside → Type 0
-    Keeps w told later = (past : List Entry) → Known Asks Knows past w → EachAfter Asks past told × Known Asks Knows (past ++ told) later
+  outcome_comes : (w : Outside) (event : OuterEvent) → IsWithin event → Fits Covers event → May w event → Comes Asks Base w (outcome w event) (devices_after w event) Base
+  unfolding outcome devices_after May
+  outcome_comes w Begins_line within fits may = absurd within
+  outcome_comes w Begins_tick within fits may = absurd within
+  outcome_comes w (Chip_takes count rest ways) within fits may =
+      let o : OuterState = record w.outer { to_chip = way.after w.outer.to_chip (Takes count); chip = record { decoder = rest; state = w.outer.chip.state } } in
+      let x : Outcome = each chip_does o (judged_all ways) in
+      moves_then Asks Base (Knows (Judging [])) Base w (outside x.outer w.devices) (outside x.outer w.devices) x.entries
+      (moves_both Asks Base (Knows (Judging ways)) (Knows (Judging [])) w (outside o w.devices) (outside x.outer w.devices) [] x.entries (law.takes w count rest ways may) (judges_all w.devices ways o may.judges))
+      (λ awaits past knows. law.judged awaits past (outside x.outer w.devices) knows)
+  outcome_comes w (Arrives drawn route) within fits may = steps_come w (mesh.Arrives drawn route) tt may
+  outcome_comes w (Gives route) within fits may = law.gives w route may
+  outcome_comes w (Device_ticks place drawn route) within fits may = at_comes w place (slice_get w.devices place) (Ticks drawn) route refl may
+  outcome_comes w Chip_ticks within fits may = law.ticks w
+  outcome_comes w (Repeats number drawn route) within fits may = repeats_come fits w (refusal_of w.outer.air.frames number) (mesh.Repeats number drawn route) tt may
+  outcome_comes w (Wakes_device node route) within fits may = hand_comes fits w (place_of node w.devices) Wakes route may
+  outcome_comes w (Sets_device node value route) within fits may = hand_comes fits w (place_of node w.devices) (Sets value) route may
+  outcome_comes w (Host_writes unit) within fits may = law.simple w (Host_writes unit) fits.0 fits.1
+  outcome_comes w (Host_takes count) within fits may = law.simple w (Host_takes count) fits.0 fits.1
+  outcome_comes w (Host_notes note) within fits may = law.simple w (Host_notes note) fits.0 fits.1
+  outcome_comes w (Host_begins node sessions) within fits may = absurd fits.0
+  outcome_comes w (Shows node) within fits may = law.simple w (Shows node) fits.0 fits.1
+  outcome_comes w (Joins node) within fits may = law.simple w (Joins node) fits.0 fits.1
+  outcome_comes w Discovers within fits may = law.simple w Discovers fits.0 fits.1
+  outcome_comes w (Links a b live) within fits may = law.simple w (Links a b live) fits.0 fits.1
+  outcome_comes w (Loses count) within fits may = law.simple w (Loses count) fits.0 fits.1
+  outcome_comes w (Loses_acks count) within fits may = law.simple w (Loses_acks count) fits.0 fits.1
+  outcome_comes w (Marks_loss side) within fits may = law.simple w (Marks_loss side) fits.0 fits.1
+  outcome_comes w (Marks_change side garble) within fits may = law.simple w (Marks_change side garble) fits.0 fits.1
+  outcome_comes w (Clears_pipe side) within fits may = law.simple w (Clears_pipe side) fits.0 fits.1
+  outcome_comes w Collides_next within fits may = law.simple w Collides_next fits.0 fits.1
+  outcome_comes w (Stalls ticks) within fits may = law.simple w (Stalls ticks) fits.0 fits.1
+  outcome_comes w (Cuts size) within fits may = law.simple w (Cuts size) fits.0 fits.1
 
-    within_keeps : (w : Outside) (event : OuterEvent) → IsWithin event → Fits Covers event → May w event → Keeps w (entries w event) (happens w event)
-    within_keeps w event within fits may past known =
-        stamped w (outcome w event) (devices_after w event) (outcome_time w event within) (outcome_comes w event within fits may) past known
+  -- ---- any event
 
-    pub outer_keeps : (w : Outside) (event : OuterEvent) → Fits Covers event → May w event → Keeps w (entries w event) (happens w event)
-    unfolding outcome devices_after
-    outer_keeps w Begins_line fits may past known =
-        (tt, subst (λ (l : List Entry). Known Asks Knows l (happens w Begins_line)) (sym (append-nil past)) (law.line fits (awaits_number w.outer) past w known.0, tt))
-    outer_keeps w Begins_tick fits may past known =
-        let got = law.tick fits (awaits_number w.outer) past w known.0 in
-        (tt, subst (λ (l : List Entry). Known Asks Knows l (happens w Begins_tick)) (sym (append-nil past)) (got.1, (got.0, tt)))
-    outer_keeps w event fits may past known = within_keeps w event tt fits may past known
+  -- what is known before the event is enough for its entries, and is known after it
+  abbrev pub Keeps : Outside → List Entry → Outside → Type 0
+  Keeps w told later = (past : List Entry) → Known Asks Knows past w → EachAfter Asks past told × Known Asks Knows (past ++ told) later
 
-    -- ---- a session begins
+  within_keeps : (w : Outside) (event : OuterEvent) → IsWithin event → Fits Covers event → May w event → Keeps w (entries w event) (happens w event)
+  within_keeps w event within fits may past known =
+      stamped w (outcome w event) (devices_after w event) (outcome_time w event within) (outcome_comes w event within fits may) past known
 
-    -- the air learns of it, and then it is noted
-    pub session_keeps : (w : Outside) (node session command : ℕ) → Keeps w (entries w (Host_begins node session) ++ entries (happens w (Host_begins node session)) (Host_notes (entry.Begin node session command)))
-        (happens (happens w (Host_begins node session)) (Host_notes (entry.Begin node session command)))
-    unfolding outcome devices_after
-    session_keeps w node session command past known =
-        let x : Outcome = session_begins w.outer node session command in
-        stamped w x w.devices refl (law.session w node session command) past known
+  pub outer_keeps : (w : Outside) (event : OuterEvent) → Fits Covers event → May w event → Keeps w (entries w event) (happens w event)
+  unfolding outcome devices_after
+  outer_keeps w Begins_line fits may past known =
+      (tt, subst (λ (l : List Entry). Known Asks Knows l (happens w Begins_line)) (sym (append-nil past)) (law.line fits (awaits_number w.outer) past w known.0, tt))
+  outer_keeps w Begins_tick fits may past known =
+      let got = law.tick fits (awaits_number w.outer) past w known.0 in
+      (tt, subst (λ (l : List Entry). Known Asks Knows l (happens w Begins_tick)) (sym (append-nil past)) (got.1, (got.0, tt)))
+  outer_keeps w event fits may past known = within_keeps w event tt fits may past known
+
+  -- ---- a session begins
+
+  -- the air learns of it, and then it is noted
+  pub session_keeps : (w : Outside) (node session command : ℕ) → Keeps w (entries w (Host_begins node session) ++ entries (happens w (Host_begins node session)) (Host_notes (entry.Begin node session command)))
+      (happens (happens w (Host_begins node session)) (Host_notes (entry.Begin node session command)))
+  unfolding outcome devices_after
+  session_keeps w node session command past known =
+      let x : Outcome = session_begins w.outer node session command in
+      stamped w x w.devices refl (law.session w node session command) past known

@@ -8,11 +8,13 @@ use Rattle.zw_text.specs.declared.entry.Entry.{Entry}
 use Rattle.zw_text.specs.declared.entry.Entry.TheVariants.{Said}
 use Rattle.zw_text.specs.Transcript.{line_of}
 use Rattle.law_transcript.specs.Lists.{EachAfter}
+use Rattle.host_model.specs.Events.{HostEvent}
+use Rattle.host_model.proofs.Silence.{Silent}
 use Rattle.outside_model.specs.Events.{OuterEvent, Begins_line, Begins_tick, Chip_takes, Arrives, Gives, Device_ticks, Chip_ticks, Repeats, Wakes_device, Sets_device, Shows, Joins, Discovers, Links, Loses, Loses_acks, Marks_loss, Marks_change, Clears_pipe, Collides_next, Stalls, Cuts}
 use Rattle.world_model.specs.State.{Machine}
 use Rattle.world_model.specs.Events.{Event, Outside_does, Host_does, Host_takes, Decoder_ticks, happens, entries, May}
 use Rattle.world_model.specs.Lines.{IsEffect}
-use Rattle.proof_walk.specs.Phases.{Phase, Said_line, Begun, Doing}
+use Rattle.proof_walk.specs.Phases.{Phase, Said_line, Begun, Doing, Ticking_host}
 
 -- ---- what is known
 
@@ -20,11 +22,16 @@ use Rattle.proof_walk.specs.Phases.{Phase, Said_line, Begun, Doing}
 abbrev pub KnownOf : Type 1
 KnownOf = List Entry → Machine → Type 0
 
+-- and that these events of the host answer no line
+abbrev pub silently : List HostEvent → KnownOf → KnownOf
+silently events Else past m = Silent events × Else past m
+
 -- after the words of a line; once it has begun; with these events of its effect to come; and at all other phases
 abbrev pub by_line : (Words Opened : Line → KnownOf) (Left : Line → List Event → KnownOf) (Else : KnownOf) → Phase → KnownOf
 by_line Words Opened Left Else (Said_line line) = Words line
 by_line Words Opened Left Else (Begun line) = Opened line
 by_line Words Opened Left Else (Doing line left) = Left line left
+by_line Words Opened Left Else (Ticking_host events ticks) = silently events Else
 by_line Words Opened Left Else phase = Else
 
 -- ---- events
@@ -39,10 +46,10 @@ IsOfTick (Device_ticks place drawn route) = Unit {0}
 IsOfTick Chip_ticks = Unit {0}
 IsOfTick _ = ⊥
 
--- so of the machine
+-- so of the machine; what the host does then answers no line
 abbrev pub IsCommon : Event → Type 0
 IsCommon (Outside_does event) = IsOfTick event
-IsCommon (Host_does event) = Unit {0}
+IsCommon (Host_does event) = Silent (event ∷ [])
 IsCommon (Host_takes count rest items events) = Unit {0}
 IsCommon Decoder_ticks = Unit {0}
 IsCommon _ = ⊥
@@ -69,10 +76,8 @@ CoversLine Covers line = Unit {0}
 
 -- ---- what a law owes
 
--- of the words of a line, its beginning, its effect, and of events that are no line's own
-pub record ByLine (Asks : List Entry → Entry → Type 0) (Words Opened : Line → KnownOf) (Left : Line → List Event → KnownOf) (Else : KnownOf) : Type 0 where
-  pub said : (past : List Entry) (m : Machine) (words : List ℕ) (line : Line) → line_of (Said words) ≡ line ∷ [] → Else past m →
-      Asks past (Said words) × Words line (past ++ Said words ∷ []) m
+-- of the beginning of a line, its effect, and of events that are no line's own
+pub record InLine (Asks : List Entry → Entry → Type 0) (Words Opened : Line → KnownOf) (Left : Line → List Event → KnownOf) (Else : KnownOf) : Type 0 where
   pub begins : (line : Line) (past : List Entry) (m : Machine) → Words line past m →
       EachAfter Asks past (entries m (Outside_does Begins_line)) × Opened line (past ++ entries m (Outside_does Begins_line)) (happens m (Outside_does Begins_line))
   pub effect : (line : Line) (past : List Entry) (m : Machine) (events : List Event) → IsEffect line m events → Opened line past m → Left line events past m
@@ -82,3 +87,15 @@ pub record ByLine (Asks : List Entry → Entry → Type 0) (Words Opened : Line 
   pub ticks : (count : ℕ) (past : List Entry) (m : Machine) → Opened (lines.Tick count) past m → Else past m
   pub common : (past : List Entry) (m : Machine) (event : Event) → IsCommon event → May m event → Else past m →
       EachAfter Asks past (entries m event) × Else (past ++ entries m event) (happens m event)
+
+-- and of its words
+pub record ByLine (Asks : List Entry → Entry → Type 0) (Words Opened : Line → KnownOf) (Left : Line → List Event → KnownOf) (Else : KnownOf) : Type 0 where
+  pub said : (past : List Entry) (m : Machine) (words : List ℕ) (line : Line) → line_of (Said words) ≡ line ∷ [] → Else past m →
+      Asks past (Said words) × Words line (past ++ Said words ∷ []) m
+  pub in_line : InLine Asks Words Opened Left Else
+
+-- where more is known as it begins
+pub record TiedByLine (Tied : KnownOf) (Asks : List Entry → Entry → Type 0) (Words Opened : Line → KnownOf) (Left : Line → List Event → KnownOf) (Else : KnownOf) : Type 0 where
+  pub said : (past : List Entry) (m : Machine) (words : List ℕ) (line : Line) → line_of (Said words) ≡ line ∷ [] → Tied past m → Else past m →
+      Asks past (Said words) × Words line (past ++ Said words ∷ []) m
+  pub in_line : InLine Asks Words Opened Left Else

@@ -1,8 +1,10 @@
 -- What a law owes of what happens outside the host (this project's own rule): something for each thing that an event there does, with the number of the running tick dealt
 -- with once, here.
 use Rattle.std.specs.Prelude.{◌≡◌, ℕ, ◌+◌, ◌&&◌, not, Bool, true, false, Option, Some, None, List, [], ◌∷◌, ◌++◌, slice_get, slice_set}
+use Rattle.std.specs.List.{AllByRecursion}
 use Rattle.serial_frame.specs.Stream.{Rest}
 use Rattle.serial_frame.specs.declared.item.Item.{Item}
+use Rattle.serial_frame.specs.declared.unit.Unit.{Unit as LineUnit}
 use Rattle.route_table.specs.declared.route.Route.{Route}
 use Rattle.device_sim.specs.State.{State}
 use Rattle.device_sim.specs.Event.{DeviceEvent, device_after}
@@ -12,17 +14,21 @@ use Rattle.mesh_sim.specs.Steps.{AirStep, mesh_after, mesh_outs, MayHappen}
 use Rattle.mesh_sim.specs.Steps as mesh
 use Rattle.serial_pipes.specs.Events.{Takes}
 use Rattle.serial_pipes.specs.Events as way
+use Rattle.zw_text.specs.declared.entry.Ended.TheVariants.{Cancelled}
+use Rattle.zw_text.specs.declared.entry.Refusal.{Refusal}
 use Rattle.zw_text.specs.declared.entry.Entry.{Entry}
 use Rattle.zw_text.specs.declared.entry.Entry.TheVariants as entry
 use Rattle.law_transcript.specs.Lists.{EachAfter}
+use Rattle.host_model.specs.State.{HostState}
+use Rattle.host_model.specs.Outs.{answers}
 use Rattle.outside_model.specs.State.{OuterState, Outside, outside, Outcome}
 use Rattle.outside_model.specs.Chip.{chip_does, chip_ticks, MayTake}
 use Rattle.outside_model.specs.Results.{gives, MayGive}
 use Rattle.outside_model.specs.Air.{deals}
 use Rattle.outside_model.specs.Devices.{acts, MayAct}
-use Rattle.outside_model.specs.Events.{OuterEvent, Begins_line, Begins_tick, Host_notes, Host_begins, Chip_takes, Arrives, Gives, Device_ticks, Chip_ticks, Repeats, Wakes_device, Sets_device, begins, mesh_of, outcome, ticked_entry}
+use Rattle.outside_model.specs.Events.{OuterEvent, Begins_line, Begins_tick, Host_writes, Host_takes as host_takes, Host_notes, Host_begins, Chip_takes, Arrives, Gives, Device_ticks, Chip_ticks, Repeats, Wakes_device, Sets_device, begins, mesh_of, outcome, ticked_entry}
 use Rattle.world_model.specs.State.{begun_in}
-use Rattle.world_model.specs.Events.{Event, Outside_does}
+use Rattle.world_model.specs.Events.{Event, Outside_does, Host_does, Refuses, Shows_values}
 
 -- ---- what is known
 
@@ -72,6 +78,14 @@ IsNote (entry.TableNode node sessions) = ⊥
 IsNote (entry.TableValue node property confirmed heard) = ⊥
 IsNote (entry.BadLine line fault) = ⊥
 IsNote _ = Unit {0}
+
+-- an entry that a host notes of itself, which answers no line
+abbrev pub IsHostNote : Entry → Type 0
+IsHostNote (entry.Accepted command node) = ⊥
+IsHostNote (entry.Refused refusal) = ⊥
+IsHostNote (entry.Json text) = ⊥
+IsHostNote (entry.Out command Cancelled) = ⊥
+IsHostNote note = IsNote note
 
 -- ---- what a law owes
 
@@ -132,6 +146,27 @@ pub record Outer (Asks : List Entry → Entry → Type 0) (Knows : Pending → K
   pub acts : (w : Outside) (place : ℕ) (device : State) (event : DeviceEvent) (route : Option Route) → slice_get w.devices place ≡ Some device
       → MayAct w.outer (Some device) event route
       → Comes Asks (Knows nothing) w (acts w.outer device event route) (slice_set w.devices place (device_after device event)) (Knows nothing)
+
+-- what a host does outside of itself is covered: it writes, takes bytes, and notes
+pub record CoversHost (Covers : OuterEvent → Type 0) : Type 0 where
+  pub writes : (unit : LineUnit) → Covers (Host_writes unit)
+  pub takes : (count : ℕ) → Covers (host_takes count)
+  pub notes : (note : Entry) → IsHostNote note → Covers (Host_notes note)
+
+-- and so is the answer to a line that an event may be: that something outside is refused; that an order was accepted or a command taken back; that a
+-- line is refused; the values of a node
+abbrev pub CoversRefusal : (OuterEvent → Type 0) → OuterEvent → Type 0
+CoversRefusal Covers (Repeats number drawn route) = (refused : Refusal) → Covers (Host_notes (entry.Refused refused))
+CoversRefusal Covers (Wakes_device node route) = (refused : Refusal) → Covers (Host_notes (entry.Refused refused))
+CoversRefusal Covers (Sets_device node value route) = (refused : Refusal) → Covers (Host_notes (entry.Refused refused))
+CoversRefusal Covers event = Unit {0}
+
+abbrev pub CoversAnswer : (OuterEvent → Type 0) → Event → Type 0
+CoversAnswer Covers (Outside_does event) = CoversRefusal Covers event
+CoversAnswer Covers (Host_does event) = (h : HostState) → AllByRecursion (λ note. Covers (Host_notes note)) (answers h event)
+CoversAnswer Covers (Refuses line refused) = Covers (Host_notes (entry.Refused refused))
+CoversAnswer Covers (Shows_values node) = (text : List ℕ) → Covers (Host_notes (entry.Json text))
+CoversAnswer Covers event = Unit {0}
 
 -- an event of the machine that happens outside the host is covered
 abbrev pub CoversOuter : (OuterEvent → Type 0) → Event → Type 0

@@ -1,0 +1,285 @@
+-- How many properties of a node a host would keep with those of an order is what the transcript shows.
+use Rattle.std.proofs.Common.{◌≡◌, ◌⊎◌, ◌≤◌, ℕ, zero, suc, ◌==◌, ◌&&◌, ◌||◌, Bool, true, false, cond, eqb, if◌then◌else◌, is_some, unwrap_or, inl, inr, List, [], ◌∷◌, ◌++◌, map, length, All, Option, Some, None, refl, sym, ap, subst, ◌∙◌, arith}
+use Rattle.std.specs.Prelude.{IsTrue, slice_get}
+use Rattle.std.specs.List.{AllByRecursion, IsDistinct, cons_option, filter_map, flat_map}
+use Rattle.std.specs.Set.{distinct_count, is_member, unique_keys}
+use Rattle.std.specs.FinMap as finmap
+use Rattle.std.specs.FinMap.{find, get-entries}
+use Rattle.std.proofs.lemmas.Bool.{eqb-true}
+use Rattle.std.proofs.lemmas.Map.Made.{length-le_from_is_member}
+use Rattle.std.proofs.lemmas.List.Folds.{list_any-append}
+use Rattle.std.proofs.lemmas.List.Elements.{All-head, All-tail}
+use Rattle.zw_base.specs.PropertyOrder.{same_property}
+use Rattle.zw_base.specs.declared.order.Order.{Order}
+use Rattle.zw_base.specs.declared.property.Property.{Property}
+use Rattle.zw_base.specs.declared.property.Setting.{Setting}
+use Rattle.zw_text.specs.declared.entry.Entry.{Entry}
+use Rattle.zw_text.specs.Transcript.{accepted, reported}
+use Rattle.law_transcript.specs.Answers.{properties_kept}
+use Rattle.law_transcript.specs.Commands.{numbers_of, settings_for}
+use Rattle.law_transcript.specs.Lists.{Has}
+use Rattle.law_transcript.specs.Restarts.{since_restart}
+use Rattle.law_transcript.specs.Stores.{heard_value, last_value}
+use Rattle.value_store.specs.declared.stored.Stored.{Stored}
+use Rattle.value_store.specs.Values.{Key, Values, IsReserved, count_with, is_among, key_cmp, no_value, properties_of as stored_properties, property_at, stored_of}
+use Rattle.value_store.proofs.Keys.{same_property_laws}
+use Rattle.host_keep.specs.Kept.{Taken, properties_for}
+use Rattle.host_orders.specs.Settings.{properties_of, settings}
+use Rattle.host_model.specs.State.{HostState, Command, command_at}
+use Rattle.host_model.specs.Facts.{HostFacts, IsSound}
+use Rattle.host_model.proofs.Values.{one_property, same_key}
+use Rattle.proof_host.specs.Facts.{Facts}
+use Rattle.proof_host.specs.Laws.{accepted_for, numbers_for}
+use Rattle.proof_host.specs.Tables.{nodes_by, taken_at, taken_by}
+use Rattle.proof_once.specs.ByTable.{IsTable}
+use Rattle.proof_once.specs.Tied.{settings_taken}
+use Rattle.proof_transcript.proofs.StoredPlaces.{IsSet, KeepsNoMore, at_place}
+
+-- ---- counting
+
+abbrev once : List Property → List Property
+once l = unique_keys same_property l
+
+among_once : (l : List Property) (q : Property) → is_member same_property (once l) q ≡ is_member same_property l q
+among_once [] q = refl
+among_once (p ∷ l) q = by (is_member same_property l p) (same_property q p) refl refl (among_once l q)
+  where
+    by : (known same : Bool) → is_member same_property l p ≡ known → same_property q p ≡ same → is_member same_property (once l) q ≡ is_member same_property l q
+        → is_member same_property (cond known (once l) (p ∷ once l)) q ≡ (same || is_member same_property l q)
+    by true true e f rest = rest ∙ ap (λ (x : Property). is_member same_property l x) (one_property q p f) ∙ e
+    by true false e f rest = rest
+    by false true e f rest = ap (λ (b : Bool). b || is_member same_property (once l) q) f
+    by false false e f rest = ap (λ (b : Bool). b || is_member same_property (once l) q) f ∙ rest
+
+none_is : (p : Property) (l : List Property) → is_member same_property l p ≡ false → AllByRecursion (λ y. same_property p y ≡ false) l
+none_is p [] e = tt
+none_is p (x ∷ l) e = by (same_property p x) refl e (none_is p l)
+  where
+    by : (b : Bool) → same_property p x ≡ b → (b || is_member same_property l p) ≡ false → (is_member same_property l p ≡ false → AllByRecursion (λ y. same_property p y ≡ false) l)
+        → AllByRecursion (λ y. same_property p y ≡ false) (x ∷ l)
+    by true same e rest = absurd (let none : true ≡ false = e in cc)
+    by false same e rest = (same, rest e)
+
+distinct_once : (l : List Property) → IsDistinct same_property (once l)
+unfolding IsDistinct
+distinct_once [] = tt
+distinct_once (p ∷ l) = by (is_member same_property l p) refl (distinct_once l)
+  where
+    by : (known : Bool) → is_member same_property l p ≡ known → IsDistinct same_property (once l) → IsDistinct same_property (cond known (once l) (p ∷ once l))
+    by true e rest = rest
+    by false e rest = (none_is p (once l) (among_once l p ∙ e), rest)
+
+fewer : (xs ys : List Property) → ((q : Property) → is_member same_property xs q ≡ true → is_member same_property ys q ≡ true) → distinct_count same_property xs ≤ distinct_count same_property ys
+fewer xs ys all = length-le_from_is_member same_property_laws (once xs) (once ys) (distinct_once xs) (λ q there. among_once ys q ∙ all q (sym (among_once xs q) ∙ there))
+
+more_or : (a b c : Bool) → (b ≡ true → c ≡ true) → (a || b) ≡ true → (a || c) ≡ true
+more_or true b c goes is = refl
+more_or false b c goes is = goes is
+
+beside : (more xs ys : List Property) → ((q : Property) → is_member same_property xs q ≡ true → is_member same_property ys q ≡ true) → (q : Property)
+    → is_member same_property (more ++ xs) q ≡ true → is_member same_property (more ++ ys) q ≡ true
+beside more xs ys all q there =
+    list_any-append (same_property q) more ys
+    ∙ more_or (is_member same_property more q) (is_member same_property xs q) (is_member same_property ys q) (all q) (sym (list_any-append (same_property q) more xs) ∙ there)
+
+alike : (more xs ys : List Property) → ((q : Property) → is_member same_property xs q ≡ true → is_member same_property ys q ≡ true)
+    → ((q : Property) → is_member same_property ys q ≡ true → is_member same_property xs q ≡ true) → distinct_count same_property (more ++ xs) ≡ distinct_count same_property (more ++ ys)
+alike more xs ys one other =
+    let a = fewer (more ++ xs) (more ++ ys) (beside more xs ys one) in
+    let b = fewer (more ++ ys) (more ++ xs) (beside more ys xs other) in
+    omega (arith, a, b)
+
+-- ---- the store
+
+among_entries : (es : List (Key × Stored)) (n : ℕ) (q : Property) → is_member same_property (filter_map (property_at n) es) q ≡ is_some (find key_cmp (n, q) es)
+among_entries [] n q = refl
+among_entries (e ∷ es) n q =
+    by (eqb n e.0.0) (same_property q e.0.1) refl (among_entries es n q)
+    ∙ ap (λ b. is_some (cond b (Some e.1) (find key_cmp (n, q) es))) (sym (same_key n e.0.0 q e.0.1))
+  where
+    by : (b s : Bool) → same_property q e.0.1 ≡ s → is_member same_property (filter_map (property_at n) es) q ≡ is_some (find key_cmp (n, q) es)
+        → is_member same_property (cons_option (cond b (Some e.0.1) None) (filter_map (property_at n) es)) q ≡ is_some (cond (b && s) (Some e.1) (find key_cmp (n, q) es))
+    by true true so h = ap (λ t. t || is_member same_property (filter_map (property_at n) es) q) so
+    by true false so h = ap (λ t. t || is_member same_property (filter_map (property_at n) es) q) so ∙ h
+    by false s so h = h
+
+among_stored : (store : Values) (n : ℕ) (q : Property) → is_member same_property (stored_properties store n) q ≡ is_some (finmap.get store (n, q))
+among_stored store n q = among_entries (finmap.entries store) n q ∙ ap (λ (o : Option Stored). is_some o) (sym (get-entries store (n, q)))
+
+-- a value that was heard has a place
+heard_reserved : (o : Option Stored) → is_some (unwrap_or o no_value).heard ≡ true → is_some o ≡ true
+heard_reserved None is = absurd (let none : false ≡ true = is in cc)
+heard_reserved (Some stored) is = refl
+
+-- ---- what was reported
+
+value_there : (before : Option ℕ) (l : List Setting) (p : Property) → is_some (last_value before l p) ≡ (is_some before || is_among (properties_of l) p)
+value_there None [] p = refl
+value_there (Some value) [] p = refl
+value_there before (s ∷ l) p = by (same_property s.property p) (same_property p s.property) refl refl
+  where
+    turned : same_property s.property p ≡ same_property p s.property
+    turned = same_property_laws.symm s.property p
+
+    plus : (a b c : Bool) → (a || (b || c)) ≡ ((a || b) || c)
+    plus true b c = refl
+    plus false b c = refl
+
+    by : (b c : Bool) → same_property s.property p ≡ b → same_property p s.property ≡ c
+        → is_some (last_value (if b then Some s.value else before) l p) ≡ (is_some before || (c || is_among (properties_of l) p))
+    by true true e f = value_there (Some s.value) l p ∙ or_true (is_some before)
+      where
+        or_true : (a : Bool) → true ≡ (a || true)
+        or_true true = refl
+        or_true false = refl
+    by false false e f = value_there before l p
+    by true false e f = absurd (let differ : true ≡ false = sym e ∙ (turned ∙ f) in cc)
+    by false true e f = absurd (let differ : false ≡ true = sym e ∙ (turned ∙ f) in cc)
+
+-- ---- both sides of the tie
+
+among_append : (a b : List Property) (p : Property) → is_among (a ++ b) p ≡ (is_among a p || is_among b p)
+among_append a b p = list_any-append (same_property p) a b
+
+or_sooner : (a b : Bool) → a ≡ true → (a || b) ≡ true
+or_sooner true b is = refl
+or_sooner false b is = absurd (let none : false ≡ true = is in cc)
+
+or_then : (a b : Bool) → b ≡ true → (a || b) ≡ true
+or_then true b is = refl
+or_then false b is = is
+
+one_or : (a b : Bool) → (a || b) ≡ true → (a ≡ true) ⊎ (b ≡ true)
+one_or true b is = inl refl
+one_or false b is = inr is
+
+-- what is among the properties of one of these numbers is among those of all
+among_each : (of : ℕ → List Property) (numbers : List ℕ) (number : ℕ) (p : Property) → Has numbers number → is_among (of number) p ≡ true → is_among (flat_map of numbers) p ≡ true
+among_each of [] number p has among = absurd has
+among_each of (first ∷ numbers) number p (inl same) among =
+    among_append (of first) (flat_map of numbers) p ∙ or_sooner (is_among (of first) p) _ (ap (λ (n : ℕ). is_among (of n) p) same ∙ among)
+among_each of (first ∷ numbers) number p (inr has) among =
+    among_append (of first) (flat_map of numbers) p ∙ or_then (is_among (of first) p) _ (among_each of numbers number p has among)
+
+-- and the other way round
+among_one : (of : ℕ → List Property) (P : ℕ → Type 0) (numbers : List ℕ) (p : Property) → AllByRecursion P numbers → is_among (flat_map of numbers) p ≡ true
+    → (number : ℕ) × P number × (is_among (of number) p ≡ true)
+among_one of P [] p all among = absurd (let none : false ≡ true = among in cc)
+among_one of P (first ∷ numbers) p all among =
+    by (one_or (is_among (of first) p) (is_among (flat_map of numbers) p) (sym (among_append (of first) (flat_map of numbers) p) ∙ among)) (among_one of P numbers p all.1)
+  where
+    by : (is_among (of first) p ≡ true) ⊎ (is_among (flat_map of numbers) p ≡ true) → (is_among (flat_map of numbers) p ≡ true → (number : ℕ) × P number × (is_among (of number) p ≡ true))
+        → (number : ℕ) × P number × (is_among (of number) p ≡ true)
+    by (inl here) rest = (first, all.0, here)
+    by (inr there) rest = rest there
+
+-- one of these is it
+all_among : (P : Property → Type 0) (l : List Property) (p : Property) → All P l → is_among l p ≡ true → P p
+all_among P [] p all among = absurd (let none : false ≡ true = among in cc)
+all_among P (first ∷ l) p all among = by (one_or (same_property p first) (is_among l p) among) (all_among P l p (All-tail P first l all))
+  where
+    by : (same_property p first ≡ true) ⊎ (is_among l p ≡ true) → (is_among l p ≡ true → P p) → P p
+    by (inl same) rest = subst P (sym (one_property p first same)) (All-head P first l all)
+    by (inr there) rest = rest there
+
+-- settings that were taken, of a command that is there
+taken_sets : (commands : List Command) (number : ℕ) (store : Values) (p : Property) → All (IsSound store) commands → is_among (properties_of (settings_taken (taken_at commands number))) p ≡ true
+    → (command : Command) × (command_at commands number ≡ Some command) × IsReserved store command.order.node p
+taken_sets commands number store p all among = by (command_at commands number) refl
+  where
+    place : (number : ℕ) (command : Command) → command_at commands number ≡ Some command → IsSound store command
+    place zero command is = absurd (let none : None ≡ Some command = is in cc)
+    place (suc k) command is = at_place (IsSound store) commands k command all is
+
+    by : (o : Option Command) → command_at commands number ≡ o → (command : Command) × (command_at commands number ≡ Some command) × IsReserved store command.order.node p
+    by None is = absurd (let none : false ≡ true = sym (ap (λ (c : Option Command). is_among (properties_of (settings_taken (taken_by c))) p) is) ∙ among in cc)
+    by (Some command) is = (command, is, all_among (IsReserved store command.order.node) (properties_of (settings command.carriage.actuator command.order)) p (place number command is).kept
+        (sym (ap (λ (c : Option Command). is_among (properties_of (settings_taken (taken_by c))) p) is) ∙ among))
+
+-- a command that was taken for a node was accepted for it
+taken_node : (commands : List Command) (number node : ℕ) (taken : Taken) → taken_at commands number ≡ Some taken → taken.order.node ≡ node → nodes_by (command_at commands number) ≡ node ∷ []
+taken_node commands number node taken at same = by (command_at commands number) at
+  where
+    by : (o : Option Command) → taken_by o ≡ Some taken → nodes_by o ≡ node ∷ []
+    by None is = absurd (let none : None ≡ Some taken = is in cc)
+    by (Some command) is = let order : command.order ≡ taken.order = cc in ap (λ (n : ℕ). n ∷ []) (ap (λ (o : Order). o.node) order ∙ same)
+
+-- the node of properties that an order sets
+own_node : (n : ℕ) (taken : Taken) (p : Property) → is_among (properties_for n taken) p ≡ true → (taken.order.node ≡ n) × (is_among (properties_of (settings taken.carriage.actuator taken.order)) p ≡ true)
+own_node n taken p among = by (taken.order.node == n) refl among
+  where
+    by : (b : Bool) → (taken.order.node == n) ≡ b → is_among (if b then properties_of (settings taken.carriage.actuator taken.order) else []) p ≡ true
+        → (taken.order.node ≡ n) × (is_among (properties_of (settings taken.carriage.actuator taken.order)) p ≡ true)
+    by true same among = (eqb-true taken.order.node n same, among)
+    by false other among = absurd (let none : false ≡ true = among in cc)
+
+-- what holds of some holds of one that is there
+of_one : (P : ℕ → Type 0) (numbers : List ℕ) (number : ℕ) → AllByRecursion P numbers → Has numbers number → P number
+of_one P [] number all has = absurd has
+of_one P (first ∷ numbers) number all (inl same) = subst P same all.0
+of_one P (first ∷ numbers) number all (inr has) = of_one P numbers number all.1 has
+
+module _ (listing : ℕ → List ℕ) (past : List Entry) (h : HostState) (facts : Facts past h) (table : (node : ℕ) → IsTable listing h.commands node past)
+    (heard : (node : ℕ) (p : Property) → (stored_of h.store node p).heard ≡ heard_value past node p) (no_more : KeepsNoMore h)
+    (numbered : (number node : ℕ) → accepted_for number past ≡ node ∷ [] → Has (numbers_for node past) number)
+    (of_node : (node : ℕ) → AllByRecursion (λ number. nodes_by (command_at h.commands number) ≡ node ∷ []) (numbers_for node past)) where
+  module _ (node : ℕ) where
+    abbrev set_by : ℕ → List Property
+    set_by number = properties_of (settings_for listing past node number)
+
+    abbrev ordered : List Property
+    ordered = flat_map set_by (numbers_of (accepted node past))
+
+    abbrev told : List Property
+    told = properties_of (reported node (since_restart past))
+
+    kept_is : (p : Property) → is_among (properties_kept listing past node) p ≡ (is_among ordered p || is_among told p)
+    kept_is p = among_append ordered told p
+
+    -- a place is of what the transcript shows
+    shown : (p : Property) → IsReserved h.store node p → is_among (properties_kept listing past node) p ≡ true
+    shown p there = kept_is p ∙ by (no_more node p there)
+      where
+        from_set : IsSet h.commands node p → is_among ordered p ≡ true
+        from_set set =
+            let own = own_node node set.taken p set.sets in
+            let has : Has (numbers_for node past) set.number = numbered set.number node (facts.accepted.nodes set.number ∙ taken_node h.commands set.number node set.taken set.at own.0) in
+            let same = of_one (λ number. settings_for listing past node number ≡ settings_taken (taken_at h.commands number)) (numbers_for node past) set.number (table node).settings has in
+            let among : is_among (set_by set.number) p ≡ true =
+            ap (λ (l : List Setting). is_among (properties_of l) p) (same ∙ ap settings_taken set.at) ∙ own.1 in
+            among_each set_by (numbers_of (accepted node past)) set.number p (subst (λ (l : List ℕ). Has l set.number) (sym (table node).numbers) has) among
+
+        by : IsSet h.commands node p ⊎ IsTrue (is_some (stored_of h.store node p).heard) → (is_among ordered p || is_among told p) ≡ true
+        by (inl set) = or_sooner (is_among ordered p) (is_among told p) (from_set set)
+        by (inr is) = or_then (is_among ordered p) (is_among told p)
+            (sym (value_there None (reported node (since_restart past)) p) ∙ (ap (λ (o : Option ℕ). is_some o) (sym (heard node p)) ∙ is))
+
+    -- and what it shows has a place
+    stored : (p : Property) → is_among (properties_kept listing past node) p ≡ true → IsReserved h.store node p
+    stored p among = by (one_or (is_among ordered p) (is_among told p) (sym (kept_is p) ∙ among))
+      where
+        abbrev So : ℕ → Type 0
+        So number = (settings_for listing past node number ≡ settings_taken (taken_at h.commands number)) × (nodes_by (command_at h.commands number) ≡ node ∷ [])
+
+        from_order : is_among ordered p ≡ true → IsReserved h.store node p
+        from_order is =
+            let all : AllByRecursion So (numbers_of (accepted node past)) = subst (AllByRecursion So) (sym (table node).numbers) (both_hold (numbers_for node past) (table node).settings (of_node node)) in
+            let one = among_one set_by So (numbers_of (accepted node past)) p all is in
+            let set = taken_sets h.commands one.0 h.store p facts.host.commands (ap (λ (l : List Setting). is_among (properties_of l) p) (sym one.1.0) ∙ one.2) in
+            let found : nodes_by (command_at h.commands one.0) ≡ set.0.order.node ∷ [] = ap nodes_by set.1 in
+            let same : set.0.order.node ∷ [] ≡ node ∷ [] = sym found ∙ one.1.1 in
+            let is_node : set.0.order.node ≡ node = cc in
+            subst (λ (n : ℕ). IsReserved h.store n p) is_node set.2
+          where
+            both_hold : (l : List ℕ) → AllByRecursion (λ number. settings_for listing past node number ≡ settings_taken (taken_at h.commands number)) l
+                → AllByRecursion (λ number. nodes_by (command_at h.commands number) ≡ node ∷ []) l → AllByRecursion So l
+            both_hold [] first second = tt
+            both_hold (number ∷ l) first second = ((first.0, second.0), both_hold l first.1 second.1)
+
+        by : (is_among ordered p ≡ true) ⊎ (is_among told p ≡ true) → IsReserved h.store node p
+        by (inl is) = from_order is
+        by (inr is) = heard_reserved (finmap.get h.store (node, p)) (ap (λ (o : Option ℕ). is_some o) (heard node p) ∙ (value_there None (reported node (since_restart past)) p ∙ is))
+
+    pub same_count : (more : List Property) → count_with h.store node more ≡ distinct_count same_property (more ++ properties_kept listing past node)
+    same_count more =
+        alike more (stored_properties h.store node) (properties_kept listing past node) (λ q there. shown q (sym (among_stored h.store node q) ∙ there)) (λ q there. among_stored h.store node q ∙ stored q there)

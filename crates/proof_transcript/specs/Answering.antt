@@ -1,0 +1,113 @@
+-- How lines are answered (this project's own): what is tied to the transcript where a line begins, and what is known at each phase of it.
+use Rattle.std.specs.Prelude.{◌≡◌, ◌≢◌, ◌⊎◌, ℕ, ◌==◌, ◌&&◌, Bool, true, false, List, [], ◌∷◌, ◌++◌, length, Option, None, Contains}
+use Rattle.std.specs.List.{AllByRecursion, list_any}
+use Rattle.zw_base.specs.declared.order.Order.{Order}
+use Rattle.air_frames.specs.Ages.{refusal_of as repeat_refusal}
+use Rattle.device_sim.specs.State.{State}
+use Rattle.mesh_sim.specs.Fates.{place_of}
+use Rattle.host_orders.specs.Refusals.{refusal_of}
+use Rattle.zw_text.specs.declared.line.Line.{Line}
+use Rattle.zw_text.specs.declared.line.Line.TheVariants as lines
+use Rattle.zw_text.specs.declared.entry.Entry.{Entry}
+use Rattle.zw_text.specs.declared.entry.Entry.TheVariants.{Said, Accepted, Refused}
+use Rattle.zw_text.specs.Transcript.{accepted_numbers, line_of, line_last, outcome}
+use Rattle.law_transcript.specs.Answers.{IsNoBadRecord, MayAnswer, before_last, known_of, properties_with, refused_without, refusals_to}
+use Rattle.law_transcript.specs.Commands.{is_waiting}
+use Rattle.law_transcript.specs.Nodes.{device_of, listing_of}
+use Rattle.law_transcript.specs.Repeats.{frame_of, refused_repeat}
+use Rattle.host_model.specs.State.{HostState, node_of}
+use Rattle.host_model.specs.After.{node_for}
+use Rattle.host_requests.specs.declared.task.Task.TheVariants as task
+use Rattle.host_model.specs.Events.{Queues}
+use Rattle.host_model.specs.May.{known_of as known_of_host}
+use Rattle.host_model.specs.Asking.{places_refusal, refusal_for, Waits}
+use Rattle.outside_model.specs.Events.{Begins_line, Discovers}
+use Rattle.outside_model.specs.Results.{device_at}
+use Rattle.world_model.specs.State.{Machine}
+use Rattle.world_model.specs.Events.{Event, Outside_does, happens, entries}
+use Rattle.world_model.specs.Refusals.{HasBad}
+use Rattle.world_model.specs.Lines.{Asks, IsEffect}
+use Rattle.proof_walk.specs.ByLine.{KnownOf, by_line}
+use Rattle.proof_walk.specs.Phases.{Phase}
+
+-- ---- entries
+
+-- an entry that is neither a line nor an answer
+abbrev pub IsFree : Entry → Type 0
+IsFree (Said words) = ⊥
+IsFree (Accepted command node) = ⊥
+IsFree (Refused refusal) = ⊥
+IsFree _ = Unit {0}
+
+abbrev pub AreFree : List Entry → Type 0
+AreFree told = AllByRecursion IsFree told
+
+-- an event that enters only such
+abbrev pub IsFreeEvent : Event → Type 0
+IsFreeEvent event = (m : Machine) → AreFree (entries m event)
+
+-- ---- what is tied to the transcript
+
+-- a command was accepted, and waits
+abbrev pub may_be_taken_back : List Entry → ℕ → Bool
+may_be_taken_back past command = list_any (λ number. number == command) (accepted_numbers past) && is_waiting (outcome command past)
+
+-- What decides the answer to a line, as the transcript so far shows it: the rule that refuses an order, and what the host knows of its node; the next number;
+-- the commands that wait; why a frame is not repeated; which nodes have a device; and that no record is invalid.
+pub record AnswerTies (devices : List State) (past : List Entry) (m : Machine) : Type 0 where
+  pub order : (order : Order) → refusal_of (known_of (listing_of devices) past order.node) (properties_with (listing_of devices) past order) order ≡ refusal_for m.host.state order
+  pub known : (node : ℕ) → known_of (listing_of devices) past node ≡ known_of_host (node_of m.host.state node)
+  pub count : length (accepted_numbers past) ≡ length m.host.state.commands
+  pub waits : (command : ℕ) → Contains (node_of m.host.state (node_for m.host.state command)).waiting command → may_be_taken_back past command ≡ true
+  pub waits_not : (command : ℕ) → (Waits m.host.state command → ⊥) → may_be_taken_back past command ≡ false
+  pub repeats : (number : ℕ) → refused_repeat past (frame_of past number) ≡ repeat_refusal m.outside.outer.air.frames number
+  pub sound : (at : ℕ) → HasBad m.records at → ⊥
+  pub devices : (node : ℕ) → refused_without (device_of node devices) ≡ refused_without (device_at m.outside.devices (place_of node m.outside.devices))
+
+-- ---- what is known in a line
+
+-- a line after which this stands has its answer, or needs none
+abbrev pub IsAnswered : (List Entry → Line → List Entry) → List Entry → List Line → Type 0
+IsAnswered refusals before [] = Unit {0}
+IsAnswered refusals before (lines.Command order ∷ more) = ⊥
+IsAnswered refusals before (lines.Cancel command ∷ more) = ⊥
+IsAnswered refusals before (line ∷ more) = refusals before line ≡ []
+
+abbrev pub Answered : List State → KnownOf
+Answered devices past m = IsAnswered (refusals_to devices) (before_last past) (line_last past)
+
+-- the words of a line are the last entry, and what stands before them is tied to the machine
+pub record Asked (devices : List State) (line : Line) (past : List Entry) (m : Machine) : Type 0 where
+  pub before : List Entry
+  pub words : List ℕ
+  pub is : past ≡ before ++ Said words ∷ []
+  pub read : line_of (Said words) ≡ line ∷ []
+  pub ties : AnswerTies devices before m
+
+-- the line has begun
+abbrev pub begun : Machine → Machine
+begun m = happens m (Outside_does Begins_line)
+
+abbrev pub Opened : List State → Line → KnownOf
+Opened devices line past m = (first : Machine) × Asked devices line past first × (m ≡ begun first)
+
+-- the chip's table was made anew, and the members are still to be asked for
+pub record AwaitsMembers (devices : List State) (line : Line) (left : List Event) (past : List Entry) (m : Machine) : Type 0 where
+  pub first : Machine
+  pub asked : Asked devices line past first
+  pub line_is : line ≡ lines.Discover
+  pub is : m ≡ happens (begun first) (Outside_does Discovers)
+  pub asks : Asks (places_refusal first.host.state 1) lines.Discover (Queues task.Members) left
+
+-- its effect is to come; or it was answered, and what is left of it answers nothing
+abbrev pub AwaitsAnswer : List State → Line → List Event → KnownOf
+AwaitsAnswer devices line left past m =
+    (Opened devices line past m × IsEffect line m left) ⊎ (AwaitsMembers devices line left past m ⊎ (Answered devices past m × AllByRecursion IsFreeEvent left))
+
+-- at each phase of a line
+abbrev pub KnowsAnswers : List State → Phase → List Entry → Machine → Type 0
+KnowsAnswers devices here past m = by_line (Asked devices) (Opened devices) (AwaitsAnswer devices) (Answered devices) here past m
+
+-- each entry is an answer exactly where it must be one, and refuses no restart for an invalid record
+abbrev pub IsAnswerOf : List State → List Entry → Entry → Type 0
+IsAnswerOf devices past entry = MayAnswer (listing_of devices) (refusals_to devices) past entry × IsNoBadRecord entry
