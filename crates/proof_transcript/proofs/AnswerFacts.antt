@@ -236,5 +236,5 @@ module _ (devices : List State) (past : List Entry) (m : Machine) (facts : Facts
     waits_not = waits_not;
     repeats = alike;
     sound = sound;
-    devices = λ node. absent_alike devices m.outside.devices node same ∙ ap refused_without (sym (device_is node m.outside.devices));
+    absent = λ node. absent_alike devices m.outside.devices node same ∙ ap refused_without (sym (device_is node m.outside.devices));
   }

@@ -1,6 +1,6 @@
 -- Each line has the answer that the transcript before it demands, at the first event of its effect, and none comes later.
 use Rattle.std.proofs.Common.{◌≡◌, ◌≢◌, ◌⊎◌, ◌≤◌, ℕ, ◌+◌, ◌-◌, ◌==◌, ◌||◌, ◌&&◌, not, nat_le, nat_lt, Bool, true, false, if◌then◌else◌, inl, inr, List, [], ◌∷◌, ◌++◌, map, length, take, refl, sym, ap, subst, ◌∙◌, append-nil, append_assoc, arith}
-use Rattle.std.specs.Prelude.{Contains, Option, Some, None}
+use Rattle.std.specs.Prelude.{Contains, Option, Some, None, slice_get}
 use Rattle.std.specs.List.{AllByRecursion, flat_map}
 use Rattle.std.proofs.lemmas.Bool.{ne_eqb, le-ltb}
 use Rattle.std.proofs.lemmas.Grind.{length_at_push}
@@ -49,7 +49,7 @@ use Rattle.host_requests.specs.declared.task.Task.TheVariants as task
 use Rattle.outside_model.specs.State.{OuterState, Outside, Outcome}
 use Rattle.outside_model.specs.Devices.{MayAct, MayActByHand, acts, acts_at, acts_by_hand, device_entries, shown_entries}
 use Rattle.outside_model.specs.Results.{device_at}
-use Rattle.outside_model.specs.Events.{OuterEvent, Begins_line, Repeats, Wakes_device, Sets_device, Shows, Joins, Discovers, Links, Loses, Loses_acks, Marks_loss, Marks_change, Clears_pipe, Collides_next, Stalls, Cuts, MayRepeat, refusal_entries, repeats, stamp, outcome, devices_after, May as MayOutside}
+use Rattle.outside_model.specs.Events.{OuterEvent, Begins_line, Repeats, Wakes_device, Sets_device, Shows, Joins, Discovers, Links, Loses, Loses_acks, Marks_loss, Marks_change, Clears_pipe, Collides_next, Stalls, Cuts, MayRepeat, cleared_entries, refusal_entries, repeats, stamp, way_of, outcome, devices_after, May as MayOutside}
 use Rattle.proof_device.proofs.Entered.{IsMark, IsCleared, all_cleared}
 use Rattle.world_model.specs.State.{Machine}
 use Rattle.world_model.specs.Events.{Event, Outside_does, Host_does, Refuses, Shows_values, Restarts, shown_values, happens, entries, May}
@@ -131,6 +131,7 @@ entry_by None = []
 entry_by (Some refusal) = entry.Refused refusal ∷ []
 
 entry_shown : (refused : HostRefusal) → refusal_entry refused ≡ entry_by (shown refused)
+entry_shown host.NoMemory = refl
 entry_shown _ = refl
 
 shown_entry : (refused : HostRefusal) (refusal : Refusal) → shown refused ≡ Some refusal → refusal_entry refused ≡ entry.Refused refusal ∷ []
@@ -142,6 +143,7 @@ Sound_by None = Unit {0}
 Sound_by (Some refusal) = IsNoBadRecord (entry.Refused refusal)
 
 rules_sound : (refused : HostRefusal) → Sound_by (shown refused)
+rules_sound host.NoMemory = tt
 rules_sound _ = tt
 
 shown_sound : (refused : HostRefusal) (refusal : Refusal) → shown refused ≡ Some refusal → IsNoBadRecord (entry.Refused refusal)
@@ -541,7 +543,9 @@ module _ (devices : List State) where
 
   clears_free : (side : Side) → IsFreeEvent (Outside_does (Clears_pipe side))
   unfolding entries outcome
-  clears_free side m = stamped_are IsFree kinds_free _ _ (all-weaker IsCleared IsFree cleared_free _ (all_cleared side _))
+  clears_free side m =
+      let told : List Entry = cleared_entries side (length (way_of m.outside.outer side).bytes) in
+      stamped_are IsFree kinds_free (outcome m.outside (Clears_pipe side)).outer told (all-weaker IsCleared IsFree cleared_free told (all_cleared side (length (way_of m.outside.outer side).bytes)))
 
   may_refuse_restart : (first : Machine) (refusal : Refusal) → May (begun first) (Refuses lines.Restart refusal) → IsUnopened first.records refusal
   unfolding happens May
@@ -684,7 +688,7 @@ module _ (devices : List State) where
       (to_follows : (e : Entry) → IsRefusal line (refusals_to devices asked.before line) e → Follows (listing_of devices) (refusals_to devices) asked.before (line ∷ []) e)
       (to_answered : refusals_to devices asked.before line ≡ [] → IsAnswered (refusals_to devices) asked.before (line ∷ [])) where
     due_at : (found : Option State) → device_at first.outside.devices (place_of node first.outside.devices) ≡ found → refusals_to devices asked.before line ≡ refused_without found
-    due_at found is = due ∙ (asked.ties.devices node ∙ ap refused_without is)
+    due_at found is = due ∙ (asked.ties.absent node ∙ ap refused_without is)
 
     without : (event : Event) → device_at first.outside.devices (place_of node first.outside.devices) ≡ None → entries (begun first) event ≡ entry.Refused refusals.NoDevice ∷ []
         → Goal line past (begun first) event []
@@ -745,6 +749,25 @@ module _ (devices : List State) where
   unfolding happens May MayOutside outcome devices_after
   may_set first node value route may = may.1
 
+  -- ---- an interview
+
+  abbrev two_full : Machine → Bool
+  two_full first = nat_lt 64 (length first.host.state.requests.queue + 2)
+
+  abbrev interview_rule : Machine → Bool → Option HostRefusal
+  interview_rule first joined = if joined then places_refusal first.host.state 2 else Some host.NotJoined
+
+  abbrev free_rule : Bool → Option HostRefusal
+  free_rule joined = if joined then None else Some host.NotJoined
+
+  interview_alike : (first : Machine) (joined : Bool) → Alike (interview_rule first joined) (free_rule joined) (if two_full first then Some (host.QueueFull 64) else None)
+  interview_alike first true = places_alike (two_full first)
+  interview_alike first false = inl refl
+
+  free_due : (joined : Bool) → (if joined then [] else entry.Refused refusals.NotJoined ∷ []) ++ [] ≡ due_of (free_rule joined)
+  free_due true = refl
+  free_due false = refl
+
   -- ---- the first event of any line
 
   same_events : (event : Event) (left : List Event) (inner : List OuterEvent) (outer : OuterEvent) → inner ≡ outer ∷ [] → event ∷ left ≡ map Outside_does inner → event ∷ left ≡ Outside_does outer ∷ []
@@ -776,29 +799,12 @@ module _ (devices : List State) where
   first_goal (lines.Join node) past first asked event left may is = join_goal past first node asked event left may is
   first_goal (lines.Interview node) past first asked event left may is = interview_by (node_of first.host.state node).joined refl
     where
-      abbrev full : Bool
-      full = nat_lt 64 (length first.host.state.requests.queue + 2)
-
-      abbrev rule : Bool → Option HostRefusal
-      rule joined = if joined then places_refusal first.host.state 2 else Some host.NotJoined
-
-      abbrev free_rule : Bool → Option HostRefusal
-      free_rule joined = if joined then None else Some host.NotJoined
-
-      alike : (joined : Bool) → Alike (rule joined) (free_rule joined) (if full then Some (host.QueueFull 64) else None)
-      alike true = places_alike full
-      alike false = inl refl
-
-      due : (joined : Bool) → (if joined then [] else entry.Refused refusals.NotJoined ∷ []) ++ [] ≡ due_of (free_rule joined)
-      due true = refl
-      due false = refl
-
       interview_by : (joined : Bool) → (node_of first.host.state node).joined ≡ joined → Goal (lines.Interview node) past (begun first) event left
       interview_by joined so =
           errand (lines.Interview node) past first (begun first) asked (refuses_enter first (lines.Interview node)) (λ e so. so) (λ so. so) (refl, refl)
-          (rule joined) (free_rule joined) full (Queues_interview node) event left
-          (ap (λ (j : Bool). (if j then [] else entry.Refused refusals.NotJoined ∷ []) ++ []) (joined_so asked.before first node asked.ties ∙ so) ∙ due joined) (alike joined) (interview_enters first node)
-          (subst (λ (j : Bool). Asks (rule j) (lines.Interview node) (Queues_interview node) (event ∷ left)) so is)
+          (interview_rule first joined) (free_rule joined) (two_full first) (Queues_interview node) event left
+          (ap (λ (j : Bool). (if j then [] else entry.Refused refusals.NotJoined ∷ []) ++ []) (joined_so asked.before first node asked.ties ∙ so) ∙ free_due joined) (interview_alike first joined) (interview_enters first node)
+          (subst (λ (j : Bool). Asks (interview_rule first j) (lines.Interview node) (Queues_interview node) (event ∷ left)) so is)
   first_goal (lines.Lose count) past first asked event left may is = quiet_goal (lines.Lose count) past first asked (Loses count) event left tt refl is
   first_goal (lines.LoseAck count) past first asked event left may is = quiet_goal (lines.LoseAck count) past first asked (Loses_acks count) event left tt refl is
   first_goal (lines.Repeat number) past first asked event left may (inner, (drawn, route, one), are) =
@@ -875,7 +881,7 @@ module _ (devices : List State) where
       let got = all_stand past (entries m event) (happens m event) answered (free.0 m) in (got.0, inr (inr (got.1, free.1)))
 
   answered_in_line : (line : Line) (past : List Entry) (m : Machine) → AwaitsAnswer devices line [] past m → Answered devices past m
-  answered_in_line line past m (inl (opened, is)) = absurd (empty_effect line m is)
+  answered_in_line line past m (inl (begun_so, is)) = absurd (empty_effect line m is)
   answered_in_line line past m (inr (inl waits)) = absurd (asks_some _ _ _ waits.asks)
   answered_in_line line past m (inr (inr (answered, free))) = answered
 

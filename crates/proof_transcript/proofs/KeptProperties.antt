@@ -116,25 +116,22 @@ heard_reserved (Some stored) is = refl
 value_there : (before : Option ℕ) (l : List Setting) (p : Property) → is_some (last_value before l p) ≡ (is_some before || is_among (properties_of l) p)
 value_there None [] p = refl
 value_there (Some value) [] p = refl
-value_there before (s ∷ l) p = by (same_property s.property p) (same_property p s.property) refl refl
+value_there before (s ∷ l) p = by (same_property s.property p) (same_property p s.property) refl refl (value_there (Some s.value) l p) (value_there before l p)
   where
     turned : same_property s.property p ≡ same_property p s.property
     turned = same_property_laws.symm s.property p
 
-    plus : (a b c : Bool) → (a || (b || c)) ≡ ((a || b) || c)
-    plus true b c = refl
-    plus false b c = refl
+    or_true : (a : Bool) → true ≡ (a || true)
+    or_true true = refl
+    or_true false = refl
 
-    by : (b c : Bool) → same_property s.property p ≡ b → same_property p s.property ≡ c
+    by : (b c : Bool) → same_property s.property p ≡ b → same_property p s.property ≡ c → is_some (last_value (Some s.value) l p) ≡ (true || is_among (properties_of l) p)
+        → is_some (last_value before l p) ≡ (is_some before || is_among (properties_of l) p)
         → is_some (last_value (if b then Some s.value else before) l p) ≡ (is_some before || (c || is_among (properties_of l) p))
-    by true true e f = value_there (Some s.value) l p ∙ or_true (is_some before)
-      where
-        or_true : (a : Bool) → true ≡ (a || true)
-        or_true true = refl
-        or_true false = refl
-    by false false e f = value_there before l p
-    by true false e f = absurd (let differ : true ≡ false = sym e ∙ (turned ∙ f) in cc)
-    by false true e f = absurd (let differ : false ≡ true = sym e ∙ (turned ∙ f) in cc)
+    by true true e f now rest = now ∙ or_true (is_some before)
+    by false false e f now rest = rest
+    by true false e f now rest = absurd (let differ : true ≡ false = sym e ∙ (turned ∙ f) in cc)
+    by false true e f now rest = absurd (let differ : false ≡ true = sym e ∙ (turned ∙ f) in cc)
 
 -- ---- both sides of the tie
 
@@ -254,13 +251,13 @@ module _ (listing : ℕ → List ℕ) (past : List Entry) (h : HostState) (facts
         by (inr is) = or_then (is_among ordered p) (is_among told p)
             (sym (value_there None (reported node (since_restart past)) p) ∙ (ap (λ (o : Option ℕ). is_some o) (sym (heard node p)) ∙ is))
 
+    abbrev So : ℕ → Type 0
+    So number = (settings_for listing past node number ≡ settings_taken (taken_at h.commands number)) × (nodes_by (command_at h.commands number) ≡ node ∷ [])
+
     -- and what it shows has a place
     stored : (p : Property) → is_among (properties_kept listing past node) p ≡ true → IsReserved h.store node p
     stored p among = by (one_or (is_among ordered p) (is_among told p) (sym (kept_is p) ∙ among))
       where
-        abbrev So : ℕ → Type 0
-        So number = (settings_for listing past node number ≡ settings_taken (taken_at h.commands number)) × (nodes_by (command_at h.commands number) ≡ node ∷ [])
-
         from_order : is_among ordered p ≡ true → IsReserved h.store node p
         from_order is =
             let all : AllByRecursion So (numbers_of (accepted node past)) = subst (AllByRecursion So) (sym (table node).numbers) (both_hold (numbers_for node past) (table node).settings (of_node node)) in

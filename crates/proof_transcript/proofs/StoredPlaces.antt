@@ -109,43 +109,44 @@ still h new stored keeps no_more n p there =
     by (inl set) = inl (set_stays h.commands new.commands n p keeps set)
     by (inr heard) = inr (subst (λ (v : Values). IsTrue (is_some (stored_of v n p).heard)) (sym stored) heard)
 
+-- what is stored of a property whose value is heard, or confirmed
+abbrev heard_one : Values → ℕ → Setting → Stored
+heard_one store m s = record (stored_of store m s.property) { heard = Some s.value }
+
+abbrev confirmed_one : Values → ℕ → Setting → Stored
+confirmed_one store m s = record (stored_of store m s.property) { confirmed = Some s.value }
+
 -- a value is heard
 heard_more : (h : HostState) (m : ℕ) (s : Setting) → KeepsNoMore h → KeepsNoMore (record h { store = hearing h.store m s })
 heard_more h m s no_more n p there =
     by (eqb n m && same_property p s.property) refl
   where
-    abbrev made : Stored
-    made = record (stored_of h.store m s.property) { heard = Some s.value }
-
     by : (b : Bool) → (eqb n m && same_property p s.property) ≡ b → IsSet h.commands n p ⊎ IsTrue (is_some (stored_of (hearing h.store m s) n p).heard)
-    by true is = inr (ap (λ (v : Stored). is_some v.heard) (stored-one h.store m s.property made n p ∙ ap (λ (b : Bool). cond b made (stored_of h.store n p)) is))
+    by true is = inr (ap (λ (v : Stored). is_some v.heard) (stored-one h.store m s.property (heard_one h.store m s) n p ∙ ap (λ (b : Bool). cond b (heard_one h.store m s) (stored_of h.store n p)) is))
     by false is =
-        let there_before : IsReserved h.store n p = sym (ap (λ (o : Option Stored). is_some o) (get-one h.store m s.property made n p ∙ ap (λ (b : Bool). cond b (Some made) (finmap.get h.store (n, p))) is)) ∙ there in
+        let there_before : IsReserved h.store n p = sym (ap (λ (o : Option Stored). is_some o) (get-one h.store m s.property (heard_one h.store m s) n p ∙ ap (λ (b : Bool). cond b (Some (heard_one h.store m s)) (finmap.get h.store (n, p))) is)) ∙ there in
         after_all (no_more n p there_before)
       where
         after_all : IsSet h.commands n p ⊎ IsTrue (is_some (stored_of h.store n p).heard) → IsSet h.commands n p ⊎ IsTrue (is_some (stored_of (hearing h.store m s) n p).heard)
         after_all (inl set) = inl set
         after_all (inr heard) =
-            inr (ap (λ (v : Stored). is_some v.heard) (stored-one h.store m s.property made n p ∙ ap (λ (b : Bool). cond b made (stored_of h.store n p)) is) ∙ heard)
+            inr (ap (λ (v : Stored). is_some v.heard) (stored-one h.store m s.property (heard_one h.store m s) n p ∙ ap (λ (b : Bool). cond b (heard_one h.store m s) (stored_of h.store n p)) is) ∙ heard)
 
 -- settings are confirmed
 confirmed_places : (store : Values) (m : ℕ) (l : List Setting) (n : ℕ) (p : Property) → IsReserved (confirming store m l) n p
     → IsReserved store n p ⊎ ((n ≡ m) × IsTrue (is_among (properties_of l) p))
 confirmed_places store m [] n p there = inl there
 confirmed_places store m (s ∷ l) n p there =
-    by (confirmed_places (finmap.insert store (m, s.property) made) m l n p there)
+    by (confirmed_places (finmap.insert store (m, s.property) (confirmed_one store m s)) m l n p there)
   where
-    abbrev made : Stored
-    made = record (stored_of store m s.property) { confirmed = Some s.value }
-
-    one : (b : Bool) → (eqb n m && same_property p s.property) ≡ b → IsReserved (finmap.insert store (m, s.property) made) n p
+    one : (b : Bool) → (eqb n m && same_property p s.property) ≡ b → IsReserved (finmap.insert store (m, s.property) (confirmed_one store m s)) n p
         → IsReserved store n p ⊎ ((n ≡ m) × IsTrue (is_among (properties_of (s ∷ l)) p))
     one true is there = let parts = both (eqb n m) (same_property p s.property) is in
         inr (eqb-true n m parts.0, ap (λ (t : Bool). t || is_among (properties_of l) p) parts.1)
     one false is there =
-        inl (sym (ap (λ (o : Option Stored). is_some o) (get-one store m s.property made n p ∙ ap (λ (b : Bool). cond b (Some made) (finmap.get store (n, p))) is)) ∙ there)
+        inl (sym (ap (λ (o : Option Stored). is_some o) (get-one store m s.property (confirmed_one store m s) n p ∙ ap (λ (b : Bool). cond b (Some (confirmed_one store m s)) (finmap.get store (n, p))) is)) ∙ there)
 
-    by : IsReserved (finmap.insert store (m, s.property) made) n p ⊎ ((n ≡ m) × IsTrue (is_among (properties_of l) p))
+    by : IsReserved (finmap.insert store (m, s.property) (confirmed_one store m s)) n p ⊎ ((n ≡ m) × IsTrue (is_among (properties_of l) p))
         → IsReserved store n p ⊎ ((n ≡ m) × IsTrue (is_among (properties_of (s ∷ l)) p))
     by (inl there) = one (eqb n m && same_property p s.property) refl there
     by (inr (same, among)) = inr (same, or_later (same_property p s.property) (is_among (properties_of l) p) among)
@@ -187,17 +188,14 @@ finished h new m command status stored keeps owned no_more n p there =
 
 -- ---- an order is accepted
 
+abbrev set_by : Order → Carriage → List Property
+set_by order carriage = properties_of (settings carriage.actuator order)
+
 accepted : (h : HostState) (order : Order) (carriage : Carriage) → KeepsOrders h.commands (after h (Accepts order carriage)).commands → KeepsNoMore h → KeepsNoMore (after h (Accepts order carriage))
 accepted h order carriage keeps no_more n p there =
-    by (either_of (eqb n order.node && is_among set p) (is_some (finmap.get h.store (n, p))) (sym (reserved-reserving h.store order.node set n p) ∙ there))
+    by (either_of (eqb n order.node && is_among (set_by order carriage) p) (is_some (finmap.get h.store (n, p))) (sym (reserved-reserving h.store order.node (set_by order carriage) n p) ∙ there))
   where
-    abbrev set : List Property
-    set = properties_of (settings carriage.actuator order)
-
-    abbrev new : HostState
-    new = after h (Accepts order carriage)
-
-    here : (eqb n order.node ≡ true) × (is_among set p ≡ true) → IsSet new.commands n p
+    here : (eqb n order.node ≡ true) × (is_among (set_by order carriage) p ≡ true) → IsSet (after h (Accepts order carriage)).commands n p
     here parts = record {
       number = length h.commands + 1;
       taken = record { order = order; carriage = carriage };
@@ -205,12 +203,12 @@ accepted h order carriage keeps no_more n p there =
       sets = ap (λ (ps : List Property). is_among ps p) (own_properties n (record { order = order; carriage = carriage }) (sym (eqb-true n order.node parts.0))) ∙ parts.1;
     }
 
-    before : IsSet h.commands n p ⊎ IsTrue (is_some (stored_of h.store n p).heard) → IsSet new.commands n p ⊎ IsTrue (is_some (stored_of new.store n p).heard)
-    before (inl one) = inl (set_stays h.commands new.commands n p keeps one)
-    before (inr heard) = inr (ap (λ (v : Stored). is_some v.heard) (stored-reserving h.store order.node set n p) ∙ heard)
+    before : IsSet h.commands n p ⊎ IsTrue (is_some (stored_of h.store n p).heard) → IsSet (after h (Accepts order carriage)).commands n p ⊎ IsTrue (is_some (stored_of (after h (Accepts order carriage)).store n p).heard)
+    before (inl one) = inl (set_stays h.commands (after h (Accepts order carriage)).commands n p keeps one)
+    before (inr heard) = inr (ap (λ (v : Stored). is_some v.heard) (stored-reserving h.store order.node (set_by order carriage) n p) ∙ heard)
 
-    by : (eqb n order.node && is_among set p ≡ true) ⊎ (is_some (finmap.get h.store (n, p)) ≡ true) → IsSet new.commands n p ⊎ IsTrue (is_some (stored_of new.store n p).heard)
-    by (inl is) = inl (here (both (eqb n order.node) (is_among set p) is))
+    by : (eqb n order.node && is_among (set_by order carriage) p ≡ true) ⊎ (is_some (finmap.get h.store (n, p)) ≡ true) → IsSet (after h (Accepts order carriage)).commands n p ⊎ IsTrue (is_some (stored_of (after h (Accepts order carriage)).store n p).heard)
+    by (inl is) = inl (here (both (eqb n order.node) (is_among (set_by order carriage) p) is))
     by (inr is) = before (no_more n p is)
 
 -- ---- other events leave the store

@@ -62,7 +62,7 @@ pub record AnswerTies (devices : List State) (past : List Entry) (m : Machine) :
   pub waits_not : (command : ℕ) → (Waits m.host.state command → ⊥) → may_be_taken_back past command ≡ false
   pub repeats : (number : ℕ) → refused_repeat past (frame_of past number) ≡ repeat_refusal m.outside.outer.air.frames number
   pub sound : (at : ℕ) → HasBad m.records at → ⊥
-  pub devices : (node : ℕ) → refused_without (device_of node devices) ≡ refused_without (device_at m.outside.devices (place_of node m.outside.devices))
+  pub absent : (node : ℕ) → refused_without (device_of node devices) ≡ refused_without (device_at m.outside.devices (place_of node m.outside.devices))
 
 -- ---- what is known in a line
 

@@ -21,7 +21,7 @@ use Rattle.chip_sim.specs.declared.out.ChipOut.{ChipOut}
 use Rattle.chip_sim.specs.declared.out.ChipOut.TheVariants.{Write, OnAir, NoRoute, AskInfo, Full}
 use Rattle.proof_host.proofs.Lists.{each-anywhere}
 use Rattle.host_model.specs.Outs.{answers}
-use Rattle.outside_model.specs.State.{OuterState, Outside, each, with_chip}
+use Rattle.outside_model.specs.State.{OuterState, Outside, outside, each, with_chip}
 use Rattle.outside_model.specs.Chip.{put_out, chip_does}
 use Rattle.outside_model.specs.Devices.{acts}
 use Rattle.outside_model.specs.Events.{OuterEvent, Begins_tick, Host_writes, Host_takes as host_takes, Host_notes, Chip_takes, Arrives, Gives, Device_ticks, Chip_ticks, Repeats, Wakes_device, Sets_device, outcome, mesh_of, steps, stamp, ticked_entry}
@@ -109,9 +109,9 @@ module _ (Is : Entry → Type 0) (kinds : KindsAre Is) where
     line = λ awaits past w known. tt;
     tick = λ covers awaits past w known. (kinds.time (w.outer.clock + 1), tt);
     number = λ past w known. tt;
-    simple = λ w event simple fine. moves w _ (outcome w event).entries (simple_are w event simple fine);
+    simple = λ w event simple fine. moves w (outside (outcome w event).outer w.devices) (outcome w event).entries (simple_are w event simple fine);
     session = λ w node session command. moves w w (entry.Begin node session command ∷ []) (kinds.note (entry.Begin node session command) tt, tt);
-    chip = λ w event done. moves w _ (chip_does w.outer event).entries (does_are w.outer event);
+    chip = λ w event done. moves w (outside (chip_does w.outer event).outer w.devices) (chip_does w.outer event).entries (does_are w.outer event);
     air = λ w told of_air. moves w w (told ∷ []) (kinds.of_air told of_air, tt);
     same = λ awaits past w later is known. tt;
   }
