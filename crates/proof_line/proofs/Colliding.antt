@@ -220,7 +220,7 @@ simple_comes w event simple none = absurd simple
 
 pub counts : Link MayCollide (Tie 0) IsNoCollision
 counts = record {
-  line = λ awaits past w ties. ties;
+  line = λ covers awaits past w ties. ties;
   tick = λ covers awaits past w ties. (tt, ties);
   number = λ past w ties. (unchanged 0 w w (entry.Time w.outer.clock ∷ []) (tt, tt) refl false past (λ (is : false ≡ true). absurd cc) ties).1;
   simple = simple_comes;

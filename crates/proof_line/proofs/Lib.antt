@@ -1,6 +1,7 @@
 mod Units
 mod Counting
-mod Standing
+pub mod Standing
 pub mod Marking
 mod Colliding
 pub mod Asking
+pub mod Telling

@@ -26,7 +26,7 @@ use Rattle.proof_line.specs.Marks.{changing_of, marks_at, MayMark, IsQuiet}
 
 -- ---- what is to stand next
 
-last_only : {A : Type 0} (past : List A) (x : A) → drop (length (past ++ x ∷ []) - 1) (past ++ x ∷ []) ≡ x ∷ []
+pub last_only : {A : Type 0} (past : List A) (x : A) → drop (length (past ++ x ∷ []) - 1) (past ++ x ∷ []) ≡ x ∷ []
 last_only [] x = refl
 last_only (first ∷ past) x = ap (λ (n : ℕ). drop n (first ∷ (past ++ x ∷ []))) (more (length-append past (x ∷ []))) ∙ last_only past x
   where

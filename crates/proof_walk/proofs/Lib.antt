@@ -9,5 +9,7 @@ pub mod HostNotes
 pub mod Stamping
 pub mod Machines
 pub mod ByLine
+pub mod Untimed
+pub mod Ending
 pub mod Clock
 pub mod Over

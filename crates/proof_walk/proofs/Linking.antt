@@ -140,7 +140,7 @@ module _ (Asks : List Entry → Entry → Type 0) (Knows : Knowing) (Covers : Ou
 
   pub of_link : Outer Asks (λ pending. Knows) Covers
   of_link = record {
-    line = λ covers awaits past w knows. law.same false past w _ (record { chip = refl; to_host = refl; clock = refl }) (law.line awaits past w knows);
+    line = λ covers awaits past w knows. law.same false past w _ (record { chip = refl; to_host = refl; clock = refl }) (law.line covers awaits past w knows);
     tick = λ covers awaits past w knows. law.tick covers awaits past w knows;
     number = law.number;
     stamps = λ awaits stamped past w knows. law.same awaits past w _ (record { chip = refl; to_host = refl; clock = refl }) knows;

@@ -145,7 +145,7 @@ module _ (Asks : List Entry → Entry → Type 0) (Knows : Pending → Knowing) 
 
     -- ---- any event within a line or a tick
 
-    outcome_comes : (w : Outside) (event : OuterEvent) → IsWithin event → Fits Covers event → May w event → Comes Asks Base w (outcome w event) (devices_after w event) Base
+    pub outcome_comes : (w : Outside) (event : OuterEvent) → IsWithin event → Fits Covers event → May w event → Comes Asks Base w (outcome w event) (devices_after w event) Base
     unfolding outcome devices_after May
     outcome_comes w Begins_line within fits may = absurd within
     outcome_comes w Begins_tick within fits may = absurd within
