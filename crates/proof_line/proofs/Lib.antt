@@ -5,3 +5,8 @@ pub mod Marking
 mod Colliding
 pub mod Asking
 pub mod Telling
+mod Holding
+mod Filling
+mod Chipping
+mod Hosting
+pub mod Piping

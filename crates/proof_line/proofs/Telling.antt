@@ -1,7 +1,6 @@
 -- The number of a tick stands before its first entry, and nowhere else: nothing is entered where a `tick` line waits for its first tick, and a number is never left last.
 use Rattle.std.proofs.Common.{◌≡◌, ◌≤◌, ◌<◌, ℕ, zero, suc, ◌+◌, ◌-◌, ◌&&◌, ◌||◌, not, Bool, true, false, if◌then◌else◌, List, [], ◌∷◌, ◌++◌, length, take, inl, inr, refl, sym, ap, subst, ◌∙◌, append-nil, append_assoc, arith}
 use Rattle.std.specs.List.{AllByRecursion, list_any}
-use Rattle.std.proofs.lemmas.List.{length-append, take_at}
 use Rattle.zw_text.specs.declared.line.Line.{Line}
 use Rattle.zw_text.specs.declared.line.Line.TheVariants as lines
 use Rattle.zw_text.specs.declared.entry.Entry.{Entry}
@@ -29,7 +28,7 @@ use Rattle.proof_walk.proofs.Untimed.{IsUntimed, AreUntimed, untimed_line, same_
 use Rattle.proof_walk.proofs.Ending.{EndsUntimed, event_ends}
 use Rattle.proof_walk.proofs.Clock.{no_ticks_asked}
 use Rattle.proof_line.specs.Times.{TieNumbers, GoesWithin, KnownNumbers, KnowNumbers}
-use Rattle.proof_line.proofs.Standing.{last_only}
+use Rattle.proof_line.proofs.Standing.{last_only, but_last}
 
 -- ---- the last entry
 
@@ -132,13 +131,6 @@ kept past m event within may known =
     (got.0, (got.1, still_told past (entries m event) (event_ends m event (no_tick event within) may) known.1))
 
 -- ---- the words of a line, its beginning, and a tick
-
--- all lines but the last
-but_last : (xs : List Line) (x : Line) → take (length (xs ++ x ∷ []) - 1) (xs ++ x ∷ []) ≡ xs
-but_last xs x = take_at xs (x ∷ []) (length (xs ++ x ∷ []) - 1) (one_less (length-append xs (x ∷ [])))
-  where
-    one_less : length (xs ++ x ∷ []) ≡ length xs + 1 → length xs ≡ length (xs ++ x ∷ []) - 1
-    one_less is = omega (arith, is)
 
 said : (past : List Entry) (m : Machine) (words : List ℕ) (line : Line) → line_of (entry.Said words) ≡ line ∷ [] → KnowTime Between past m → KnowNumbers Between past m
     → MayBeTold past (entry.Said words) × KnowNumbers (Said_line line) (past ++ entry.Said words ∷ []) m

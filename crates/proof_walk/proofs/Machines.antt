@@ -49,34 +49,29 @@ own_fits Covers event own covers = (tt, covers)
 abbrev IsOfHost : OuterEvent → Type 0
 IsOfHost event = IsSimple event × (is_own event ≡ false)
 
--- What goes on through each event outside the host goes on through those of the machine: it does where nothing happens, through one list of entries and then the next, and
--- where a session begins.
-module _ (Covers : OuterEvent → Type 0) (hosts : (event : OuterEvent) → is_own event ≡ false → Covers event) (Keeps : Outside → List Entry → Outside → Type 0)
+-- ---- what the host puts out
+
+-- each unit that is written is so
+abbrev pub UnitsAre : (LineUnit → Type 0) → List HostOut → Type 0
+UnitsAre Is [] = Unit {0}
+UnitsAre Is (Write unit ∷ outs) = Is unit × UnitsAre Is outs
+UnitsAre Is (Note note ∷ outs) = UnitsAre Is outs
+
+any_units : (outs : List HostOut) → UnitsAre (λ unit. Unit {0}) outs
+any_units [] = tt
+any_units (Write unit ∷ outs) = (tt, any_units outs)
+any_units (Note note ∷ outs) = any_units outs
+
+-- What goes on where nothing happens, through one list of entries and then the next, through a unit that is so, a note, and where a session begins goes on through all that a
+-- host puts out.
+module _ (IsUnit : LineUnit → Type 0) (Keeps : Outside → List Entry → Outside → Type 0)
     (keeps_none : (w : Outside) → Keeps w [] w)
     (keeps_both : (w u v : Outside) (xs ys : List Entry) → Keeps w xs u → Keeps u ys v → Keeps w (xs ++ ys) v)
-    (outer : (w : Outside) (event : OuterEvent) → Fits Covers event → MayOutside w event → Keeps w (entries_outside w event) (happens_outside w event))
+    (writes_keep : (w : Outside) (unit : LineUnit) → IsUnit unit → Keeps w (entries_outside w (Host_writes unit)) (happens_outside w (Host_writes unit)))
+    (note_keeps : (w : Outside) (note : Entry) → IsNote note → begun_in note ≡ None → Keeps w (entries_outside w (Host_notes note)) (happens_outside w (Host_notes note)))
     (session : (w : Outside) (node session command : ℕ)
         → Keeps w (entries_outside w (Host_begins node session) ++ entries_outside (happens_outside w (Host_begins node session)) (Host_notes (entry.Begin node session command)))
         (happens_outside (happens_outside w (Host_begins node session)) (Host_notes (entry.Begin node session command)))) where
-  -- ---- what the host puts out
-
-  host_event : (w : Outside) (event : OuterEvent) → IsOfHost event → MayOutside w event → Keeps w (entries_outside w event) (happens_outside w event)
-  host_event w (Host_writes unit) of_host may = outer w (Host_writes unit) (tt, hosts (Host_writes unit) refl) may
-  host_event w (host_takes count) of_host may = outer w (host_takes count) (tt, hosts (host_takes count) refl) may
-  host_event w (Host_notes note) of_host may = outer w (Host_notes note) (of_host.0, hosts (Host_notes note) refl) may
-  host_event w (Host_begins node sessions) of_host may = absurd of_host.0
-  host_event w event of_host may = let none : true ≡ false = of_host.1 in absurd cc
-
-  -- it writes
-  writes_keep : (w : Outside) (unit : LineUnit) → Keeps w (entries_outside w (Host_writes unit)) (happens_outside w (Host_writes unit))
-  unfolding MayOutside
-  writes_keep w unit = host_event w (Host_writes unit) (tt, refl) tt
-
-  -- it notes that no session has begun
-  note_keeps : (w : Outside) (note : Entry) → IsNote note → begun_in note ≡ None → Keeps w (entries_outside w (Host_notes note)) (happens_outside w (Host_notes note))
-  unfolding MayOutside
-  note_keeps w note is none = host_event w (Host_notes note) ((is, none), refl) tt
-
   -- what becomes of one event, and then of others
   then_keep : (w : Outside) (first later : List OuterEvent) → Keeps w (entries_all_outside w first) (happens_all_outside w first)
       → Keeps (happens_all_outside w first) (entries_all_outside (happens_all_outside w first) later) (happens_all_outside (happens_all_outside w first) later)
@@ -104,45 +99,76 @@ module _ (Covers : OuterEvent → Type 0) (hosts : (event : OuterEvent) → is_o
   noted_keeps w (entry.Begin node number command) is = begun_keeps w node number command
   noted_keeps w note is = one_keeps w (Host_notes note) (note_keeps w note is refl)
 
-  puts_keep : (w : Outside) (outs : List HostOut) → NoteOuts outs → Keeps w (entries_all_outside w (routed outs)) (happens_all_outside w (routed outs))
-  puts_keep w [] are = keeps_none w
-  puts_keep w (Write unit ∷ outs) are =
-      then_keep w (Host_writes unit ∷ []) (routed outs) (one_keeps w (Host_writes unit) (writes_keep w unit)) (puts_keep (happens_outside w (Host_writes unit)) outs are.1)
-  puts_keep w (Note note ∷ outs) are =
-      then_keep w (noted_by (begun_in note) note) (routed outs) (noted_keeps w note are.0) (puts_keep (happens_all_outside w (noted_by (begun_in note) note)) outs are.1)
+  pub puts_keep : (w : Outside) (outs : List HostOut) → NoteOuts outs → UnitsAre IsUnit outs → Keeps w (entries_all_outside w (routed outs)) (happens_all_outside w (routed outs))
+  puts_keep w [] are units = keeps_none w
+  puts_keep w (Write unit ∷ outs) are units =
+      then_keep w (Host_writes unit ∷ []) (routed outs) (one_keeps w (Host_writes unit) (writes_keep w unit units.0)) (puts_keep (happens_outside w (Host_writes unit)) outs are.1 units.1)
+  puts_keep w (Note note ∷ outs) are units =
+      then_keep w (noted_by (begun_in note) note) (routed outs) (noted_keeps w note are.0) (puts_keep (happens_all_outside w (noted_by (begun_in note) note)) outs are.1 units)
 
-  outs_keep : (w : Outside) (h : HostState) (events : List HostEvent) → Keeps w (entries_all_outside w (routed (outs_all h events))) (happens_all_outside w (routed (outs_all h events)))
-  outs_keep w h events = puts_keep w (outs_all h events) (all_outs_note h events)
+  pub outs_keep : (w : Outside) (h : HostState) (events : List HostEvent) → UnitsAre IsUnit (outs_all h events) → Keeps w (entries_all_outside w (routed (outs_all h events))) (happens_all_outside w (routed (outs_all h events)))
+  outs_keep w h events units = puts_keep w (outs_all h events) (all_outs_note h events) units
 
-  answers_keep : (w : Outside) (h : HostState) (event : HostEvent) → Keeps w (entries_all_outside w (notes (answers h event))) (happens_all_outside w (notes (answers h event)))
+  pub answers_keep : (w : Outside) (h : HostState) (event : HostEvent) → Keeps w (entries_all_outside w (notes (answers h event))) (happens_all_outside w (notes (answers h event)))
   answers_keep w h (Accepts order carriage) =
       one_keeps w (Host_notes (entry.Accepted (length h.commands + 1) order.node)) (note_keeps w (entry.Accepted (length h.commands + 1) order.node) tt refl)
   answers_keep w h (Cancels command) = one_keeps w (Host_notes (entry.Out command Cancelled)) (note_keeps w (entry.Out command Cancelled) tt refl)
   answers_keep w h event = keeps_none w
+
+-- ---- an event of the machine
+
+-- What goes on through each event outside the host, and so where a session begins, goes on through those of the machine.
+module _ (Covers : OuterEvent → Type 0) (hosts : (event : OuterEvent) → is_own event ≡ false → Covers event) (Keeps : Outside → List Entry → Outside → Type 0)
+    (none : (w : Outside) → Keeps w [] w)
+    (both : (w u v : Outside) (xs ys : List Entry) → Keeps w xs u → Keeps u ys v → Keeps w (xs ++ ys) v)
+    (outer : (w : Outside) (event : OuterEvent) → Fits Covers event → MayOutside w event → Keeps w (entries_outside w event) (happens_outside w event))
+    (session : (w : Outside) (node session command : ℕ)
+        → Keeps w (entries_outside w (Host_begins node session) ++ entries_outside (happens_outside w (Host_begins node session)) (Host_notes (entry.Begin node session command)))
+        (happens_outside (happens_outside w (Host_begins node session)) (Host_notes (entry.Begin node session command)))) where
+  host_event : (w : Outside) (event : OuterEvent) → IsOfHost event → MayOutside w event → Keeps w (entries_outside w event) (happens_outside w event)
+  host_event w (Host_writes unit) of_host may = outer w (Host_writes unit) (tt, hosts (Host_writes unit) refl) may
+  host_event w (host_takes count) of_host may = outer w (host_takes count) (tt, hosts (host_takes count) refl) may
+  host_event w (Host_notes note) of_host may = outer w (Host_notes note) (of_host.0, hosts (Host_notes note) refl) may
+  host_event w (Host_begins node sessions) of_host may = absurd of_host.0
+  host_event w event of_host may = let none : true ≡ false = of_host.1 in absurd cc
+
+  abbrev Any : LineUnit → Type 0
+  Any unit = Unit {0}
+
+  -- it writes
+  writes_keep : (w : Outside) (unit : LineUnit) → Any unit → Keeps w (entries_outside w (Host_writes unit)) (happens_outside w (Host_writes unit))
+  unfolding MayOutside
+  writes_keep w unit any = host_event w (Host_writes unit) (tt, refl) tt
+
+  -- it notes that no session has begun
+  note_keeps : (w : Outside) (note : Entry) → IsNote note → begun_in note ≡ None → Keeps w (entries_outside w (Host_notes note)) (happens_outside w (Host_notes note))
+  unfolding MayOutside
+  note_keeps w note is none = host_event w (Host_notes note) ((is, none), refl) tt
 
   -- the host takes bytes
   takes_keep : (w : Outside) (count : ℕ) → is_stalled w.outer ≡ false → Keeps w [] (happens_outside w (host_takes count))
   unfolding outcome MayOutside
   takes_keep w count moves = host_event w (host_takes count) (tt, refl) moves
 
-  -- ---- an event of the machine
+  of_host : (w : Outside) (h : HostState) (events : List HostEvent) → Keeps w (entries_all_outside w (routed (outs_all h events))) (happens_all_outside w (routed (outs_all h events)))
+  of_host w h events = outs_keep Any Keeps none both writes_keep note_keeps session w h events (any_units (outs_all h events))
 
   pub machine_goes : (m : Machine) (event : Event) → CoversOuter Covers event → May m event → Keeps m.outside (entries m event) (happens m event).outside
   unfolding happens entries May
   machine_goes m (Outside_does event) covers may = outer m.outside event (own_fits Covers event may.0 covers) may.1
   machine_goes m (Host_does event) covers may =
       let later : Outside = (host_does m (event ∷ [])).outside in
-      keeps_both m.outside later (happens_all_outside later (notes (answers m.host.state event)))
+      both m.outside later (happens_all_outside later (notes (answers m.host.state event)))
       (entries_all_outside m.outside (routed (outs_all m.host.state (event ∷ [])))) (entries_all_outside later (notes (answers m.host.state event)))
-      (outs_keep m.outside m.host.state (event ∷ [])) (answers_keep later m.host.state event)
+      (of_host m.outside m.host.state (event ∷ [])) (answers_keep Any Keeps none both writes_keep note_keeps session later m.host.state event)
   machine_goes m (Host_takes count rest items events) covers may =
       let later : Outside = happens_outside m.outside (host_takes count) in
-      keeps_both m.outside later (happens_all_outside later (routed (outs_all m.host.state events))) [] (entries_all_outside later (routed (outs_all m.host.state events)))
-      (takes_keep m.outside count may.moves) (outs_keep later m.host.state events)
-  machine_goes m Decoder_ticks covers may = keeps_none m.outside
+      both m.outside later (happens_all_outside later (routed (outs_all m.host.state events))) [] (entries_all_outside later (routed (outs_all m.host.state events)))
+      (takes_keep m.outside count may.moves) (of_host later m.host.state events)
+  machine_goes m Decoder_ticks covers may = none m.outside
   machine_goes m (Refuses line refusal) covers may = note_keeps m.outside (entry.Refused refusal) tt refl
   machine_goes m (Shows_values node) covers may = note_keeps m.outside (shown_values m.host.state node) tt refl
-  machine_goes m (Restarts state) covers may = keeps_none m.outside
+  machine_goes m (Restarts state) covers may = none m.outside
 
 -- What a law owes outside the host, and of the units and notes of the host, is enough.
 module _ (Asks : List Entry → Entry → Type 0) (Knows : Pending → Knowing) (Covers : OuterEvent → Type 0) (law : Outer Asks Knows Covers)

@@ -58,18 +58,20 @@ entered : (in_tick stamped : Bool) → in_tick && not (in_tick || stamped) ≡ f
 entered true stamped = refl
 entered false stamped = refl
 
-module _ (Asks : List Entry → Entry → Type 0) (Knows : Pending → Knowing) (Covers : OuterEvent → Type 0) (law : Outer Asks Knows Covers) where
-  abbrev Base : Knowing
-  Base = Knows nothing
+-- ---- with the number of the tick
 
-  -- ---- with the number of the tick
+module _ (Asks : List Entry → Entry → Type 0) (Base : Knowing)
+    (number_goes : (past : List Entry) (w : Outside) → Base true past w → Base false (past ++ entry.Time w.outer.clock ∷ []) w)
+    (stamps : (awaits stamped : Bool) (past : List Entry) (w : Outside) → Base awaits past w → Base awaits past (outside (record w.outer { stamped = stamped }) w.devices)) where
+  abbrev Numbered : List Entry → Outside → Type 0
+  Numbered past w = Known Asks (λ pending. Base) past w
 
   numbered : (past : List Entry) (w : Outside) (awaits : Bool) → Base awaits past w → Base false (past ++ number_if awaits w.outer.clock) w
-  numbered past w true knows = law.number past w knows
+  numbered past w true knows = number_goes past w knows
   numbered past w false knows = subst (λ (l : List Entry). Base false l w) (sym (append-nil past)) knows
 
   stamped_as : (w : Outside) (p : OuterState) (told : List Entry) (devices : List State) → IsSameTime w.outer p → Moves Asks Base w told Base (outside p devices) → (past : List Entry)
-      → Known Asks Knows past w → EachAfter Asks past (stamp p told) × Known Asks Knows (past ++ stamp p told) (outside (has_entered p told) devices)
+      → Numbered past w → EachAfter Asks past (stamp p told) × Numbered (past ++ stamp p told) (outside (has_entered p told) devices)
   stamped_as w p [] devices time moves past known =
       let got = moves (awaits_number w.outer) past (λ is. refl) known.0 in (
         tt,
@@ -84,17 +86,21 @@ module _ (Asks : List Entry → Entry → Type 0) (Knows : Pending → Knowing) 
       let got = moves false (past ++ number) (λ (is : false ≡ true). absurd cc) (numbered past w (awaits_number w.outer) known.0) in
       let is_entered = entered p.in_tick p.stamped in
       let base : Base false later (outside p devices) = subst (λ (l : List Entry). Base false l (outside p devices)) (append_assoc past number (first ∷ told)) got.1 in
-      subst (λ (t : Bool × Bool × ℕ). EachAfter Asks past (number_at t ++ first ∷ told) × Known Asks Knows (past ++ (number_at t ++ first ∷ told)) (outside (has_entered p (first ∷ told)) devices)) (sym time) (
+      subst (λ (t : Bool × Bool × ℕ). EachAfter Asks past (number_at t ++ first ∷ told) × Numbered (past ++ (number_at t ++ first ∷ told)) (outside (has_entered p (first ∷ told)) devices)) (sym time) (
         each-append Asks past number (first ∷ told) known.1 got.0,
         (
-          subst (λ (b : Bool). Base b later (outside (has_entered p (first ∷ told)) devices)) (sym is_entered) (law.stamps false (p.in_tick || p.stamped) later (outside p devices) base),
+          subst (λ (b : Bool). Base b later (outside (has_entered p (first ∷ told)) devices)) (sym is_entered) (stamps false (p.in_tick || p.stamped) later (outside p devices) base),
           subst (λ (b : Bool). EachAfter Asks later (number_if b p.clock)) (sym is_entered) tt,
         ),
       )
 
-  stamped : (w : Outside) (x : Outcome) (devices : List State) → IsSameTime w.outer x.outer → Comes Asks Base w x devices Base → (past : List Entry)
-      → Known Asks Knows past w → EachAfter Asks past (stamp x.outer x.entries) × Known Asks Knows (past ++ stamp x.outer x.entries) (outside (has_entered x.outer x.entries) devices)
+  pub stamped : (w : Outside) (x : Outcome) (devices : List State) → IsSameTime w.outer x.outer → Comes Asks Base w x devices Base → (past : List Entry)
+      → Numbered past w → EachAfter Asks past (stamp x.outer x.entries) × Numbered (past ++ stamp x.outer x.entries) (outside (has_entered x.outer x.entries) devices)
   stamped w x devices time moves past known = stamped_as w x.outer x.entries devices time moves past known
+
+module _ (Asks : List Entry → Entry → Type 0) (Knows : Pending → Knowing) (Covers : OuterEvent → Type 0) (law : Outer Asks Knows Covers) where
+  abbrev Base : Knowing
+  Base = Knows nothing
 
   -- ---- events that go on
 
@@ -187,7 +193,7 @@ module _ (Asks : List Entry → Entry → Type 0) (Knows : Pending → Knowing) 
 
     within_keeps : (w : Outside) (event : OuterEvent) → IsWithin event → Fits Covers event → May w event → Keeps w (entries w event) (happens w event)
     within_keeps w event within fits may past known =
-        stamped w (outcome w event) (devices_after w event) (outcome_time w event within) (outcome_comes w event within fits may) past known
+        stamped Asks Base law.number law.stamps w (outcome w event) (devices_after w event) (outcome_time w event within) (outcome_comes w event within fits may) past known
 
     pub outer_keeps : (w : Outside) (event : OuterEvent) → Fits Covers event → May w event → Keeps w (entries w event) (happens w event)
     unfolding outcome devices_after
@@ -206,4 +212,4 @@ module _ (Asks : List Entry → Entry → Type 0) (Knows : Pending → Knowing) 
     unfolding outcome devices_after
     session_keeps w node session command past known =
         let x : Outcome = session_begins w.outer node session command in
-        stamped w x w.devices refl (law.session w node session command) past known
+        stamped Asks Base law.number law.stamps w x w.devices refl (law.session w node session command) past known
