@@ -8,9 +8,8 @@ ghost use Rattle.world_model.specs.State.{first_machine};
 ghost use Rattle.world_lines.specs.Spoken.{Spoken, transcript_of};
 ghost use Rattle.world_lines.specs.Done.{AreDone};
 
-use proof_walk::time_goes_on;
-
 use crate::numbers_go_on;
+use proof_walk::time_goes_on;
 
 /// Over any lines from the first on, the last of which an allocation failure may have cut short, the number of a tick stands once, before its first entry, and
 /// nowhere else: each is later than all ticks that began before it and asked for by a line, and nothing else stands directly after the words of a `tick`.

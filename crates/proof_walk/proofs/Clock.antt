@@ -1,6 +1,5 @@
 -- At each phase of a line as many ticks have begun as lines have asked for, but for those to come; numbers of ticks rise.
-use Rattle.std.proofs.Common.{◌≡◌, ◌≤◌, ◌<◌, ℕ, zero, suc, ◌+◌, ◌&&◌, not, Bool, true, false, if◌then◌else◌, List, [], ◌∷◌, ◌++◌, length, inl, inr, refl, sym, ap, ap₂, subst, ◌∙◌, append-nil, arith}
-use Rattle.std.specs.List.{AllByRecursion}
+use Rattle.std.proofs.Common.{◌≡◌, ◌≤◌, ◌<◌, ℕ, zero, suc, ◌+◌, ◌&&◌, not, Bool, true, false, if◌then◌else◌, List, [], ◌∷◌, ◌++◌, inl, inr, refl, sym, ap, subst, ◌∙◌, append-nil, arith}
 use Rattle.zw_text.specs.declared.line.Line.{Line}
 use Rattle.zw_text.specs.declared.line.Line.TheVariants as lines
 use Rattle.zw_text.specs.declared.entry.Entry.{Entry}
@@ -20,7 +19,7 @@ use Rattle.proof_walk.specs.Phases.{Phase, Between, Said_line, Begun, Doing, To_
 use Rattle.proof_walk.specs.Walk.{Walk}
 use Rattle.proof_walk.specs.Outside.{Moves, Link, CoversOuter}
 use Rattle.proof_walk.specs.ByLine.{CoversLine}
-use Rattle.proof_walk.specs.Time.{MayCount, TieTime, BeginsNoTick, KnownTime, ticks_left, KnowTime}
+use Rattle.proof_walk.specs.Time.{MayCount, TieTime, BeginsNoTick, KnownTime, KnowTime}
 use Rattle.proof_walk.proofs.Linking.{of_link}
 use Rattle.proof_walk.proofs.Machines.{machine_keeps}
 use Rattle.proof_walk.proofs.ByLine.{effect_covered}

@@ -1,5 +1,5 @@
 -- What a law owes outside the host is enough for each event there, with the number of the tick before its first entry.
-use Rattle.std.proofs.Common.{◌≡◌, ℕ, ◌&&◌, ◌||◌, not, Bool, true, false, if◌then◌else◌, List, [], ◌∷◌, ◌++◌, refl, sym, subst, ap, append_assoc, append-nil}
+use Rattle.std.proofs.Common.{◌≡◌, ℕ, ◌&&◌, ◌||◌, not, Bool, true, false, if◌then◌else◌, List, [], ◌∷◌, ◌++◌, refl, sym, subst, append_assoc, append-nil}
 use Rattle.std.specs.Prelude.{Option, Some, None, slice_get}
 use Rattle.serial_frame.specs.declared.item.Item.{Item}
 use Rattle.route_table.specs.declared.route.Route.{Route}
@@ -23,13 +23,13 @@ use Rattle.zw_text.specs.declared.entry.Refusal.{Refusal}
 use Rattle.zw_text.specs.declared.entry.Refusal.TheVariants as refusal
 use Rattle.law_transcript.specs.Lists.{EachAfter}
 use Rattle.proof_host.proofs.Lists.{each-append}
-use Rattle.outside_model.specs.State.{OuterState, Outside, outside, Outcome, each, tells, silent}
+use Rattle.outside_model.specs.State.{OuterState, Outside, outside, Outcome, each, tells}
 use Rattle.outside_model.specs.Chip.{chip_does}
 use Rattle.outside_model.specs.Air.{deals}
 use Rattle.outside_model.specs.Devices.{acts_at, acts_by_hand, device_set, set_by_hand, MayAct, MayActByHand}
-use Rattle.outside_model.specs.Events.{OuterEvent, Begins_line, Begins_tick, Host_writes, Host_takes, Host_notes, Host_begins, Chip_takes, Arrives, Gives, Device_ticks, Chip_ticks, Repeats, Wakes_device, Sets_device, Shows, Joins, Discovers, Links, Loses, Loses_acks, Marks_loss, Marks_change, Clears_pipe, Collides_next, Stalls, Cuts, mesh_of, outcome, devices_after, May, steps, repeats, devices_repeated, MayRepeat, refusal_entries, ticked_entry, stamp, has_entered, happens, entries}
+use Rattle.outside_model.specs.Events.{OuterEvent, Begins_line, Begins_tick, Host_writes, Host_takes, Host_notes, Host_begins, Chip_takes, Arrives, Gives, Device_ticks, Chip_ticks, Repeats, Wakes_device, Sets_device, Shows, Joins, Discovers, Links, Loses, Loses_acks, Marks_loss, Marks_change, Clears_pipe, Collides_next, Stalls, Cuts, mesh_of, outcome, devices_after, May, steps, repeats, devices_repeated, MayRepeat, ticked_entry, stamp, has_entered, happens, entries}
 use Rattle.proof_walk.specs.Outside.{Pending, Judging, Dealing, nothing, Knowing, Moves, Comes, Outer, IsSimple, IsHearing, session_begins, Known, awaits_number}
-use Rattle.proof_walk.proofs.Moving.{moves_silent, moves_none, moves_both, moves_then}
+use Rattle.proof_walk.proofs.Moving.{moves_none, moves_both, moves_then}
 use Rattle.proof_walk.proofs.Times.{time_of, IsSameTime, IsWithin, does_chip, outcome_time}
 
 -- a simple event is to be covered

@@ -21,7 +21,7 @@ use Rattle.outside_model.specs.State.{OuterState, Outside, outside, each, with_c
 use Rattle.outside_model.specs.Chip.{put_out, chip_does}
 use Rattle.outside_model.specs.Results.{device_at}
 use Rattle.outside_model.specs.Devices.{shown_entries}
-use Rattle.outside_model.specs.Events.{OuterEvent, Begins_line, Begins_tick, Host_writes, Host_takes, Host_notes, Host_begins, Chip_takes, Arrives, Gives, Device_ticks, Chip_ticks, Repeats, Wakes_device, Sets_device, Shows, Joins, Discovers, Links, Loses, Loses_acks, Marks_loss, Marks_change, Clears_pipe, Collides_next, Stalls, Cuts, cleared_entries, outcome, is_own}
+use Rattle.outside_model.specs.Events.{OuterEvent, Begins_line, Begins_tick, Host_writes, Host_takes, Host_notes, Shows, Joins, Discovers, Links, Loses, Loses_acks, Marks_loss, Marks_change, Clears_pipe, Collides_next, Stalls, Cuts, cleared_entries, outcome, is_own}
 use Rattle.proof_walk.specs.Outside.{Knowing, Moves, Comes, Link, IsNote, IsSimple, IsDone, IsOfAir}
 use Rattle.proof_walk.specs.Time.{BeginsNoTick}
 use Rattle.proof_device.proofs.Entered.{IsMark, told_by_marks, IsCleared, all_cleared, IsShown, all_shown}
