@@ -1,5 +1,5 @@
 -- What is known of the pipes goes on through what the chip does, and through all else that happens outside the host.
-use Rattle.std.proofs.Common.{◌≡◌, ◌≤◌, ℕ, ◌==◌, ◌&&◌, not, Bool, true, false, if◌then◌else◌, List, [], ◌∷◌, ◌++◌, length, drop, map, refl, sym, ap, subst, ◌∙◌, append-nil, arith}
+use Rattle.std.proofs.Common.{◌≡◌, ◌≤◌, ℕ, ◌+◌, ◌==◌, ◌&&◌, not, Bool, true, false, if◌then◌else◌, List, [], ◌∷◌, ◌++◌, length, drop, map, refl, sym, ap, subst, ◌∙◌, append-nil, arith}
 use Rattle.std.specs.Prelude.{Option, Some, None, slice_get}
 use Rattle.std.specs.List.{AllByRecursion}
 use Rattle.zw_base.proofs.Each.{all-append, all-weaker}
@@ -37,7 +37,7 @@ use Rattle.zw_words.specs.declared.side.Side.TheVariants.{Host as by_host, Chip 
 use Rattle.zw_text.specs.declared.entry.Entry.{Entry}
 use Rattle.zw_text.specs.declared.entry.Entry.TheVariants as entry
 use Rattle.law_transcript.specs.Lists.{EachAfter}
-use Rattle.law_wire.specs.Pipes.{Pipe, with_answer, gone_on, sum_of}
+use Rattle.law_wire.specs.Pipes.{Pipe, with_answer, gone_on, with_turn, sum_of}
 use Rattle.outside_model.specs.State.{OuterState, Outside, outside, Outcome, each, with_chip, is_stalled}
 use Rattle.outside_model.specs.Chip.{put_out, chip_does}
 use Rattle.outside_model.specs.Results.{device_at}
@@ -281,7 +281,7 @@ module _ (tick : Bool) where
   number_goes : (past : List Entry) (w : Outside) → Base true past w → Base false (past ++ entry.Time w.outer.clock ∷ []) w
   number_goes past w held = held_turn (Waits true tick) Turned past w.outer.clock w.outer (turns tick) held
     where
-      turns : (b : Bool) (up down : Pipe) (x y : List ℕ) → Waits true b up down x y → Turned _ _ x y
+      turns : (b : Bool) (up down : Pipe) (x y : List ℕ) → Waits true b up down x y → Turned (with_turn by_host up) (with_turn by_chip down) x y
       turns true up down x y resting = turn_turned up down x y resting
       turns false up down x y turned = turn_turned up down x y turned.0
 
@@ -302,10 +302,10 @@ module _ (tick : Bool) where
 -- ---- the chip takes bytes
 
 -- it has all, and judges them
-TakenYet : Bool → Mode
+abbrev TakenYet : Bool → Mode
 TakenYet awaits up down a b = (a ≡ []) × ((length b ≤ most down) × (awaits ≡ true → length b ≤ sum_of down.frames))
 
-drop_whole : (l : List ℕ) → drop (length l) l ≡ []
+pub drop_whole : (l : List ℕ) → drop (length l) l ≡ []
 drop_whole [] = refl
 drop_whole (x ∷ l) = drop_whole l
 
@@ -384,10 +384,10 @@ module _ (w : Outside) (rest : Rest) (ways : List (Item × Option Route)) where
       same : (f n o l : ℕ) → l ≤ f + n + o → l ≤ f + 0 + (o + n)
       same f n o l few = omega (arith, few)
 
-      turns : (up down : Pipe) (x y : List ℕ) → AtMost true up down x y → AtMost false _ _ x y
+      turns : (up down : Pipe) (x y : List ℕ) → AtMost true up down x y → AtMost false (with_turn by_host up) (with_turn by_chip down) x y
       turns up down x y most_of =
           (same (sum_of up.frames) up.answers up.older (length x) most_of.0,
-          (few_frames _ (length y) (most_of.1.1 refl), λ waits. absurd (let none : false ≡ true = waits in cc)))
+          (few_frames (with_turn by_chip down) (length y) (most_of.1.1 refl), λ waits. absurd (let none : false ≡ true = waits in cc)))
 
   at_stamps : (awaits stamped : Bool) (past : List Entry) (u : Outside) → KnowsAs AtMost awaits past u → KnowsAs AtMost awaits past (outside (record u.outer { stamped = stamped }) u.devices)
   at_stamps awaits stamped past u held = held_same (AtMost awaits) past u.outer (record u.outer { stamped = stamped }) refl refl held

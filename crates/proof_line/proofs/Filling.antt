@@ -43,7 +43,7 @@ pub never : {P : Type 0} (b : Bool) → b ≡ false → b ≡ true → P
 never true is other = absurd (let none : true ≡ false = is in cc)
 never false is other = absurd (let none : false ≡ true = other in cc)
 
-no_refusal : {P : Type 0} → false ≡ true → P
+pub no_refusal : {P : Type 0} → false ≡ true → P
 no_refusal is = absurd (let none : false ≡ true = is in cc)
 
 module _ (mode : Mode) (empty : HoldsEmpty mode) where

@@ -59,7 +59,7 @@ refused_then (entry.Refused r) xs ys = refl
 refused_then e xs ys = refl
 
 -- a restart is refused where that stands next, and nowhere else
-Joins : List Entry → List Entry → Type 0
+abbrev pub Joins : List Entry → List Entry → Type 0
 Joins past told = begins_refused told ≡ true → is_restart (line_last past) ≡ false
 
 step_more : (side : Side) (pipe : Pipe) (e next : Entry) (past told : List Entry) → NoMark told → pipe_step side pipe e (next ∷ (past ++ told)) ≡ pipe_step side pipe e (next ∷ past)
@@ -74,8 +74,8 @@ step_last side pipe (entry.Said words) told none joins = by (begins_refused told
   where
     by : (b : Bool) → begins_refused told ≡ b → pipe_step side pipe (entry.Said words) told ≡ pipe_step side pipe (entry.Said words) []
     by true is =
-        ap₂ (λ (r b : Bool). if r && not b then empty_pipe else with_turn side pipe) (joins is) refl
-        ∙ sym (ap₂ (λ (r b : Bool). if r && not b then empty_pipe else with_turn side pipe) (joins is) refl)
+        ap (λ (r : Bool). if r && not (begins_refused told) then empty_pipe else with_turn side pipe) (joins is)
+        ∙ sym (ap (λ (r : Bool). if r && not false then empty_pipe else with_turn side pipe) (joins is))
     by false is = ap (λ (b : Bool). if is_restart (line_of (entry.Said words)) && not b then empty_pipe else with_turn side pipe) is
 step_last side pipe e told none joins = refl
 
@@ -154,7 +154,7 @@ module _ (side : Side) (way : WayState) (unit : LineUnit) where
       ∙ ap (λ (b : Bool). if b then (if is_lost on marks then pipe else with_unit (length text) pipe) else with_answer (length text) (gone_on pipe)) other
 
   -- whether it was lost is whether it is on its way
-  Fills : Bool → Mark → Type 0
+  abbrev Fills : Bool → Mark → Type 0
   Fills lost mark = ((lost ≡ true) × (length (passing way mark text).bytes ≡ length way.bytes)) ⊎ ((lost ≡ false) × (length (passing way mark text).bytes ≡ length way.bytes + length text))
 
   fills : (mark : Mark) → Fills (is_lost side (told_by side way.bytes mark text)) mark

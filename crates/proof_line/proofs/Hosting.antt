@@ -7,7 +7,7 @@ use Rattle.serial_frame.specs.Frame.{FrameParts}
 use Rattle.serial_frame.specs.Items.{unit_text}
 use Rattle.serial_frame.specs.declared.unit.Unit.{Unit as LineUnit}
 use Rattle.serial_frame.specs.declared.unit.Unit.TheVariants.{Ack, Nak, Can, Framed}
-use Rattle.serial_link.specs.State.{copy_due}
+use Rattle.serial_link.specs.State.{tick_side, copy_due}
 use Rattle.serial_pipes.specs.Events.{told}
 use Rattle.zw_words.specs.declared.side.Side.TheVariants.{Host as by_host, Chip as by_chip}
 use Rattle.zw_text.specs.declared.entry.Entry.{Entry}
@@ -16,14 +16,16 @@ use Rattle.law_transcript.specs.Lists.{EachAfter}
 use Rattle.law_wire.specs.Pipes.{Pipe, with_answer, gone_on, with_turn}
 use Rattle.proof_host.proofs.Lists.{each-append}
 use Rattle.host_requests.specs.declared.task.Task.{Task}
-use Rattle.host_node.specs.State.{NodeState}
+use Rattle.host_node.specs.Steps.{tick_end}
 use Rattle.host_node.specs.Search.{next_of}
 use Rattle.host_node.specs.declared.series.Series.{Series}
 use Rattle.host_node.specs.declared.series.Series.TheVariants.{Idle, Due, Running}
-use Rattle.host_model.specs.State.{HostState, node_of}
-use Rattle.host_model.specs.After.{is_full}
+use Rattle.host_model.specs.State.{HostState, node_of, command_at}
+use Rattle.host_model.specs.Sessions.{open_command, settings_with}
+use Rattle.host_model.specs.Ends.{attempt_entries}
+use Rattle.host_model.specs.After.{is_full, is_held, gives_up, line_ticked}
 use Rattle.host_model.specs.Events.{HostEvent, Accepts, Cancels, Joins, Queues, Queues_interview, Queues_probe, Hears, Requests_do, Finishes, Offers, Gives, Resends, Line_ticks, Node_ticks, Submits_abort, Submits_front, Starts, Gives_text, Gives_segment, Drops_no_more, Queues_no_more}
-use Rattle.host_model.specs.Outs.{copy_out, noted, outs, answers}
+use Rattle.host_model.specs.Outs.{copy_out, noted, request_entries, failing_entries, dropped_if, stored_entries, held_entries, ended_of, outs, answers}
 use Rattle.host_model.specs.Did.{outs_all}
 use Rattle.host_model.specs.Pumping.{no_more_event, GivesNext, IsServedBy, IsNextOfNodes, IsNextOf, IsNext}
 use Rattle.host_model.specs.Ticking.{first_ticks, tick_events, ticking_nodes}
@@ -62,13 +64,16 @@ copy_frames (Some f) = (tt, tt)
 
 one_frames : (h : HostState) (event : HostEvent) → HearsNothing event → UnitsAre IsFrame (outs h event)
 one_frames h (Hears item) nothing = absurd nothing
-one_frames h (Requests_do event moment) nothing = noted_units IsFrame _
-one_frames h (Finishes n session id command status wake_request) nothing = noted_units IsFrame _
-one_frames h (Offers n) nothing = noted_units IsFrame _
-one_frames h (Gives n drawn) nothing = noted_units IsFrame _
-one_frames h (Resends n payload) nothing = noted_units IsFrame _
-one_frames h Line_ticks nothing = units-append IsFrame (copy_out (copy_due h.side.turn)) _ (copy_frames (copy_due h.side.turn)) (noted_units IsFrame _)
-one_frames h (Node_ticks n) nothing = noted_units IsFrame _
+one_frames h (Requests_do event moment) nothing = noted_units IsFrame (request_entries h event)
+one_frames h (Finishes n number id command status wake_request) nothing =
+    noted_units IsFrame (entry.Out command (ended_of status) ∷ (stored_entries n (settings_with status (command_at h.commands command)) ++ held_entries n (is_held h n wake_request)))
+one_frames h (Offers n) nothing = noted_units IsFrame (dropped_if (is_full h) n)
+one_frames h (Gives n drawn) nothing = noted_units IsFrame (dropped_if (is_full h) n)
+one_frames h (Resends n payload) nothing = noted_units IsFrame (dropped_if (is_full h) n)
+one_frames h Line_ticks nothing =
+    let failing : List Entry = failing_entries (gives_up h.side.turn (tick_side h.side).turn) (line_ticked h) in
+    units-append IsFrame (copy_out (copy_due h.side.turn)) (noted failing) (copy_frames (copy_due h.side.turn)) (noted_units IsFrame failing)
+one_frames h (Node_ticks n) nothing = noted_units IsFrame (attempt_entries n (tick_end (node_of h n)) (open_command (node_of h n)))
 one_frames h Submits_abort nothing = (tt, tt)
 one_frames h Submits_front nothing = (tt, tt)
 one_frames h (Starts n plan more payload) nothing = (tt, tt)
@@ -115,7 +120,7 @@ tick_nothing h = all-append HearsNothing first_ticks (map Node_ticks (ticking_no
 
 gives_nothing : (h : HostState) (n : ℕ) (text : Option (List ℕ)) (event : HostEvent) → GivesNext h n text event → HearsNothing event
 gives_nothing h n (Some text) event is = subst HearsNothing (sym is) tt
-gives_nothing h n None event (payload, open, is) = subst HearsNothing (sym is) tt
+gives_nothing h n None event (payload, opens, is) = subst HearsNothing (sym is) tt
 
 served_nothing : (h : HostState) (n : ℕ) (series : Series) (event : HostEvent) → IsServedBy h n series event → HearsNothing event
 served_nothing h n Running event is = gives_nothing h n (node_of h n).text event is
@@ -159,7 +164,7 @@ module _ (mode : Mode) (empty : HoldsEmpty mode) (turns : (up down : Pipe) (a b 
       let two = later (past ++ xs) one.1 in
       (each-append MayLack past xs ys one.0 two.0, subst (λ (l : List Entry). Held mode l v.outer) (append_assoc past xs ys) two.1)
 
-  always : Bool → Mode
+  abbrev always : Bool → Mode
   always awaits = mode
 
   number_goes : (past : List Entry) (w : Outside) → KnowsAs always true past w → KnowsAs always false (past ++ entry.Time w.outer.clock ∷ []) w
@@ -176,11 +181,11 @@ module _ (mode : Mode) (empty : HoldsEmpty mode) (turns : (up down : Pipe) (a b 
       (held, number_stands past w.outer) in
       (got.0, got.1.0)
 
-  pub session : (w : Outside) (node session command : ℕ)
+  pub session_keeps : (w : Outside) (node session command : ℕ)
       → KeepsHeld w (entries_outside w (Host_begins node session) ++ entries_outside (happens_outside w (Host_begins node session)) (Host_notes (entry.Begin node session command)))
       (happens_outside (happens_outside w (Host_begins node session)) (Host_notes (entry.Begin node session command)))
   unfolding outcome devices_after
-  session w node session command past held =
+  session_keeps w node session command past held =
       let later : Outside = outside (session_begins w.outer node session command).outer w.devices in
       let got =
       stamped MayLack (KnowsAs always) number_goes stamps w (session_begins w.outer node session command) w.devices refl
@@ -206,7 +211,7 @@ module _ (mode : Mode) (empty : HoldsEmpty mode) (turns : (up down : Pipe) (a b 
 
     pub host_keeps : (w : Outside) (h : HostState) (events : List HostEvent) → UnitsAre IsUnit (outs_all h events)
         → KeepsHeld w (entries_all_outside w (routed (outs_all h events))) (happens_all_outside w (routed (outs_all h events)))
-    host_keeps w h events units = outs_keep IsUnit KeepsHeld keeps_none keeps_both writes_keep note_keeps session w h events units
+    host_keeps w h events units = outs_keep IsUnit KeepsHeld keeps_none keeps_both writes_keep note_keeps session_keeps w h events units
 
     pub answer_keeps : (w : Outside) (h : HostState) (event : HostEvent) → KeepsHeld w (entries_all_outside w (notes (answers h event))) (happens_all_outside w (notes (answers h event)))
-    answer_keeps w h event = answers_keep IsUnit KeepsHeld keeps_none keeps_both writes_keep note_keeps session w h event
+    answer_keeps w h event = answers_keep IsUnit KeepsHeld keeps_none keeps_both writes_keep note_keeps session_keeps w h event

@@ -1,17 +1,12 @@
 -- What a law owes that only the link between chip and host concerns: the events of the chip, whatever calls for them. All else leaves what is known as it is.
-use Rattle.std.proofs.Common.{◌≡◌, ℕ, zero, suc, ◌&&◌, Bool, true, false, if◌then◌else◌, List, [], ◌∷◌, ◌++◌, map, nat_le, length, drop, refl}
+use Rattle.std.proofs.Common.{◌≡◌, ℕ, Bool, true, false, List, [], ◌∷◌, refl}
 use Rattle.std.specs.List.{flat_map, AllByRecursion}
-use Rattle.std.specs.Option.{unwrap_or, option_map}
-use Rattle.std.specs.Prelude.{Option, Some, None, slice_set}
+use Rattle.std.specs.Option.{option_map}
+use Rattle.std.specs.Prelude.{Option, slice_set}
 use Rattle.zw_base.proofs.Each.{all-append, all-weaker}
-use Rattle.zw_base.specs.declared.property.Setting.{Setting}
 use Rattle.serial_frame.specs.Stream.{after_tick}
 use Rattle.route_table.specs.declared.route.Route.{Route}
-use Rattle.route_table.specs.Network.{linked}
 use Rattle.device_kinds.specs.declared.change.Change.{Change}
-use Rattle.chip_functions.specs.Notice.{status_of}
-use Rattle.chip_functions.specs.declared.notice.TransmitStatus.{TransmitStatus}
-use Rattle.chip_functions.specs.declared.notice.TransmitStatus.TheVariants.{Fail, NoRoute as no_route_status}
 use Rattle.chip_sim.specs.Events.{ChipEvent, Judged, Ticked, Done, Heard as chip_hears, Informed, Forgets, Joined, Linked, Collides, after}
 use Rattle.device_sim.specs.State.{State}
 use Rattle.device_sim.specs.Event.{DeviceEvent, device_after, device_replies}
@@ -21,15 +16,13 @@ use Rattle.mesh_sim.specs.declared.event.AirEvent.TheVariants as air_event
 use Rattle.mesh_sim.specs.Air.{AirState, departing, is_joined}
 use Rattle.mesh_sim.specs.Fates.{place_of}
 use Rattle.mesh_sim.specs.Routes.{backwards}
-use Rattle.mesh_sim.specs.Steps.{answers, answers_if, sent_event}
+use Rattle.mesh_sim.specs.Steps.{answers, answers_if}
 use Rattle.zw_text.specs.declared.entry.Entry.{Entry}
 use Rattle.zw_text.specs.declared.entry.Entry.TheVariants as entry
-use Rattle.outside_model.specs.declared.waits.Due.{Due}
-use Rattle.outside_model.specs.declared.waits.Due.TheVariants.{Info, NoRoute as no_route_due}
-use Rattle.outside_model.specs.State.{OuterState, Outside, outside, Outcome, silent, tells, and_then, with_chip}
+use Rattle.outside_model.specs.State.{OuterState, Outside, outside, Outcome, silent, tells, with_chip}
 use Rattle.outside_model.specs.Chip.{chip_does, chip_ticks}
-use Rattle.outside_model.specs.Results.{owes_call, call_back, no_route, no_routes, leading, forgets, frame_ends, gives, without_no_route, profile_for, device_at}
-use Rattle.outside_model.specs.Air.{deals, to_chip, sent_entries, change_entries, change_at}
+use Rattle.outside_model.specs.Results.{gives, device_at}
+use Rattle.outside_model.specs.Air.{deals, sent_entries, change_entries, change_at}
 use Rattle.outside_model.specs.Devices.{changes_entries, new_changes, acts}
 use Rattle.outside_model.specs.Events.{OuterEvent}
 use Rattle.proof_walk.specs.Outside.{Knowing, Moves, Comes, Outer, Link, IsOfAir, IsSameLink, IsDone, session_begins}

@@ -1,7 +1,6 @@
 -- What goes on through each event outside the host goes on through each event of the machine: so what a law owes there, and of a host's units and notes, is enough.
-use Rattle.std.proofs.Common.{◌≡◌, ℕ, ◌+◌, Bool, true, false, List, [], ◌∷◌, ◌++◌, length, refl, sym, subst, append_assoc, append-nil}
-use Rattle.std.specs.Prelude.{Option, Some, None}
-use Rattle.std.specs.List.{AllByRecursion}
+use Rattle.std.proofs.Common.{◌≡◌, ℕ, ◌+◌, true, false, List, [], ◌∷◌, ◌++◌, length, refl, sym, subst, append_assoc, append-nil}
+use Rattle.std.specs.Prelude.{Some, None}
 use Rattle.serial_frame.specs.declared.unit.Unit.{Unit as LineUnit}
 use Rattle.zw_text.specs.declared.entry.Entry.{Entry}
 use Rattle.zw_text.specs.declared.entry.Entry.TheVariants as entry
@@ -17,7 +16,7 @@ use Rattle.host_model.specs.Outs.{answers}
 use Rattle.outside_model.specs.State.{Outside, is_stalled}
 use Rattle.outside_model.specs.Events.{OuterEvent, Begins_line, Begins_tick, Host_writes, Host_takes as host_takes, Host_notes, Host_begins, Chip_takes, Arrives, Gives, Device_ticks, Chip_ticks, Repeats, Wakes_device, Sets_device, outcome, May as MayOutside, happens as happens_outside, entries as entries_outside, is_own}
 use Rattle.zw_text.specs.declared.entry.Ended.TheVariants.{Cancelled}
-use Rattle.outside_model.specs.Did.{happens_all as happens_all_outside, entries_all as entries_all_outside, MayAll as MayAllOutside}
+use Rattle.outside_model.specs.Did.{happens_all as happens_all_outside, entries_all as entries_all_outside}
 use Rattle.outside_model.proofs.EventLists.{happens_all-append, entries_all-append}
 use Rattle.world_model.specs.State.{Machine, begun_in, noted_by, routed, host_does}
 use Rattle.world_model.specs.Events.{Event, Outside_does, Host_does, Host_takes, Decoder_ticks, Refuses, Shows_values, Restarts, notes, shown_values, happens, entries, May}
@@ -70,8 +69,8 @@ module _ (IsUnit : LineUnit → Type 0) (Keeps : Outside → List Entry → Outs
     (writes_keep : (w : Outside) (unit : LineUnit) → IsUnit unit → Keeps w (entries_outside w (Host_writes unit)) (happens_outside w (Host_writes unit)))
     (note_keeps : (w : Outside) (note : Entry) → IsNote note → begun_in note ≡ None → Keeps w (entries_outside w (Host_notes note)) (happens_outside w (Host_notes note)))
     (session : (w : Outside) (node session command : ℕ)
-        → Keeps w (entries_outside w (Host_begins node session) ++ entries_outside (happens_outside w (Host_begins node session)) (Host_notes (entry.Begin node session command)))
-        (happens_outside (happens_outside w (Host_begins node session)) (Host_notes (entry.Begin node session command)))) where
+    → Keeps w (entries_outside w (Host_begins node session) ++ entries_outside (happens_outside w (Host_begins node session)) (Host_notes (entry.Begin node session command)))
+    (happens_outside (happens_outside w (Host_begins node session)) (Host_notes (entry.Begin node session command)))) where
   -- what becomes of one event, and then of others
   then_keep : (w : Outside) (first later : List OuterEvent) → Keeps w (entries_all_outside w first) (happens_all_outside w first)
       → Keeps (happens_all_outside w first) (entries_all_outside (happens_all_outside w first) later) (happens_all_outside (happens_all_outside w first) later)
@@ -123,8 +122,8 @@ module _ (Covers : OuterEvent → Type 0) (hosts : (event : OuterEvent) → is_o
     (both : (w u v : Outside) (xs ys : List Entry) → Keeps w xs u → Keeps u ys v → Keeps w (xs ++ ys) v)
     (outer : (w : Outside) (event : OuterEvent) → Fits Covers event → MayOutside w event → Keeps w (entries_outside w event) (happens_outside w event))
     (session : (w : Outside) (node session command : ℕ)
-        → Keeps w (entries_outside w (Host_begins node session) ++ entries_outside (happens_outside w (Host_begins node session)) (Host_notes (entry.Begin node session command)))
-        (happens_outside (happens_outside w (Host_begins node session)) (Host_notes (entry.Begin node session command)))) where
+    → Keeps w (entries_outside w (Host_begins node session) ++ entries_outside (happens_outside w (Host_begins node session)) (Host_notes (entry.Begin node session command)))
+    (happens_outside (happens_outside w (Host_begins node session)) (Host_notes (entry.Begin node session command)))) where
   host_event : (w : Outside) (event : OuterEvent) → IsOfHost event → MayOutside w event → Keeps w (entries_outside w event) (happens_outside w event)
   host_event w (Host_writes unit) of_host may = outer w (Host_writes unit) (tt, hosts (Host_writes unit) refl) may
   host_event w (host_takes count) of_host may = outer w (host_takes count) (tt, hosts (host_takes count) refl) may
