@@ -1,5 +1,5 @@
 -- What is known of the pipes goes on through what the chip does, and through all else that happens outside the host.
-use Rattle.std.proofs.Common.{◌≡◌, ◌≤◌, ℕ, ◌+◌, ◌==◌, ◌&&◌, not, Bool, true, false, if◌then◌else◌, List, [], ◌∷◌, ◌++◌, length, drop, map, refl, sym, ap, subst, ◌∙◌, append-nil, arith}
+use Rattle.std.proofs.Common.{◌≡◌, ◌≤◌, ℕ, ◌+◌, ◌==◌, ◌&&◌, not, Bool, true, false, if◌then◌else◌, List, [], ◌∷◌, ◌++◌, length, drop, refl, sym, ap, subst, ◌∙◌, append-nil, arith}
 use Rattle.std.specs.Prelude.{Option, Some, None, slice_get}
 use Rattle.std.specs.List.{AllByRecursion}
 use Rattle.zw_base.proofs.Each.{all-append, all-weaker}
@@ -19,7 +19,7 @@ use Rattle.chip_functions.specs.declared.notice.TransmitStatus.{TransmitStatus}
 use Rattle.chip_sim.specs.Waiting.{PortState, is_full, queued_outs_at, next_at, served_outs, ticked, written}
 use Rattle.chip_sim.specs.State.{ChipState}
 use Rattle.chip_sim.specs.Requests.{callback_frame}
-use Rattle.chip_sim.specs.Events.{ChipEvent, Judged, Ticked, Heard as chip_hears, Done, Informed, Joined, Linked, Forgets, Collides, after, outs, ended_outs}
+use Rattle.chip_sim.specs.Events.{ChipEvent, Judged, Ticked, Heard as chip_hears, Done, Informed, Forgets, after, outs, ended_outs}
 use Rattle.chip_sim.specs.Did.{judged_all}
 use Rattle.chip_sim.specs.declared.out.Sending.{Sending}
 use Rattle.chip_sim.specs.declared.out.ChipOut.{ChipOut}
@@ -43,17 +43,17 @@ use Rattle.outside_model.specs.Chip.{put_out, chip_does}
 use Rattle.outside_model.specs.Results.{device_at}
 use Rattle.outside_model.specs.Air.{deals}
 use Rattle.outside_model.specs.Devices.{acts_at, acts_by_hand, device_set, set_by_hand, shown_entries}
-use Rattle.outside_model.specs.Events.{OuterEvent, Begins_line, Begins_tick, Host_writes, Host_takes, Host_notes, Host_begins, Chip_takes, Arrives, Gives, Device_ticks, Chip_ticks, Repeats, Wakes_device, Sets_device, Shows, Joins, Discovers, Links, Loses, Loses_acks, Marks_loss, Marks_change, Clears_pipe, Collides_next, Stalls, Cuts, mesh_of, outcome, devices_after, steps, repeats, devices_repeated, refusal_entries, ticked_entry, has_entered, happens, entries}
+use Rattle.outside_model.specs.Events.{OuterEvent, Begins_line, Begins_tick, Chip_takes, Arrives, Gives, Device_ticks, Chip_ticks, Repeats, Wakes_device, Sets_device, Shows, Joins, Discovers, Links, Loses, Loses_acks, Marks_loss, Marks_change, Collides_next, Stalls, Cuts, mesh_of, outcome, devices_after, steps, repeats, devices_repeated, refusal_entries, ticked_entry, has_entered, happens, entries}
 use Rattle.proof_walk.specs.Outside.{Knowing, Moves, Comes, IsOfAir, awaits_number}
 use Rattle.proof_walk.proofs.Moving.{moves_none, moves_both, moves_then}
-use Rattle.proof_walk.proofs.Times.{IsSameTime, each_keeps, outcome_time, IsWithin}
+use Rattle.proof_walk.proofs.Times.{each_keeps, outcome_time, IsWithin}
 use Rattle.proof_walk.proofs.Linking.{IsFed, Fed, ticks_go, results_go, deals_go, acts_go}
 use Rattle.proof_walk.proofs.Stamping.{stamped}
 use Rattle.proof_device.proofs.Entered.{IsShown, all_shown}
 use Rattle.proof_line.specs.Pipes.{MayLack, Mode, most, Turned, Waits, AtMost, Taken, Held, IsByHand}
 use Rattle.proof_line.proofs.Standing.{frame_long}
 use Rattle.proof_line.proofs.Holding.{IsApart, Grown, grown_most}
-use Rattle.proof_line.proofs.Filling.{Up, Down, HoldsEmpty, all_apart, held_same, held_turn, chip_writes, none_held, few_frames, at_most_empty, waits_empty, turn_turned, turned_chip}
+use Rattle.proof_line.proofs.Filling.{Up, Down, HoldsEmpty, all_apart, held_same, held_turn, chip_writes, none_held, few_frames, waits_empty, turn_turned, turned_chip}
 
 -- ---- which units the chip writes of itself
 
@@ -125,7 +125,7 @@ module _ (flagged : Bool → Mode) (empty : (awaits : Bool) → HoldsEmpty (flag
   module _ (IsUnit : LineUnit → Type 0)
       (room : (up down : Pipe) (a b : List ℕ) → flagged false up down a b → length b ≤ most down)
       (writes : (unit : LineUnit) → IsUnit unit → (up down later : Pipe) (a b after : List ℕ) → Grown (length (unit_text unit)) down later b after → flagged false up down a b
-          → flagged false (with_answer (length (unit_text unit)) (gone_on up)) later a after)
+      → flagged false (with_answer (length (unit_text unit)) (gone_on up)) later a after)
       (devices : List State) where
     write_moves : (o : OuterState) (unit : LineUnit) → IsUnit unit → Comes MayLack (KnowsAs flagged) (outside o devices) (put_out o (Write unit)) devices (KnowsAs flagged)
     write_moves o unit is awaits past silent held = by awaits silent held
@@ -385,9 +385,10 @@ module _ (w : Outside) (rest : Rest) (ways : List (Item × Option Route)) where
       same f n o l few = omega (arith, few)
 
       turns : (up down : Pipe) (x y : List ℕ) → AtMost true up down x y → AtMost false (with_turn by_host up) (with_turn by_chip down) x y
-      turns up down x y most_of =
-          (same (sum_of up.frames) up.answers up.older (length x) most_of.0,
-          (few_frames (with_turn by_chip down) (length y) (most_of.1.1 refl), λ waits. absurd (let none : false ≡ true = waits in cc)))
+      turns up down x y most_of = (
+        same (sum_of up.frames) up.answers up.older (length x) most_of.0,
+        (few_frames (with_turn by_chip down) (length y) (most_of.1.1 refl), λ waits. absurd (let none : false ≡ true = waits in cc)),
+      )
 
   at_stamps : (awaits stamped : Bool) (past : List Entry) (u : Outside) → KnowsAs AtMost awaits past u → KnowsAs AtMost awaits past (outside (record u.outer { stamped = stamped }) u.devices)
   at_stamps awaits stamped past u held = held_same (AtMost awaits) past u.outer (record u.outer { stamped = stamped }) refl refl held

@@ -1,7 +1,6 @@
 -- What is known of the pipes goes on with entries that tell nothing of them, with the number of a tick, and with units: of the chip, and of the host.
-use Rattle.std.proofs.Common.{◌≡◌, ◌≤◌, ◌⊎◌, ℕ, ◌+◌, ◌==◌, ◌&&◌, not, Bool, true, false, if◌then◌else◌, List, [], ◌∷◌, ◌++◌, length, inl, inr, refl, sym, ap, subst, ◌∙◌, append-nil, append_assoc, arith}
+use Rattle.std.proofs.Common.{◌≡◌, ◌≤◌, ℕ, ◌+◌, ◌==◌, Bool, true, false, List, [], ◌∷◌, ◌++◌, length, refl, sym, ap, subst, ◌∙◌, append-nil, append_assoc, arith}
 use Rattle.std.specs.List.{AllByRecursion}
-use Rattle.zw_base.proofs.Each.{all-weaker}
 use Rattle.serial_frame.specs.declared.unit.Unit.{Unit as LineUnit}
 use Rattle.serial_frame.specs.Items.{unit_text}
 use Rattle.serial_pipes.specs.State.{WayState, mark_for}
@@ -18,7 +17,7 @@ use Rattle.law_wire.specs.Pipes.{Pipe, empty_pipe, with_answer, gone_on, with_tu
 use Rattle.outside_model.specs.State.{OuterState}
 use Rattle.proof_device.proofs.Entered.{IsMark, told_by_marks}
 use Rattle.proof_line.specs.Pipes.{MayLack, Mode, most, Resting, Turned, Waits, AtMost, Taken, Heard, Held}
-use Rattle.proof_line.proofs.Holding.{NoMark, pipe_grows, IsApart, apart_mark, apart_step, apart_line, apart_stands, Grown, other_pipe, unit_grows, unit_stands, grown_most, grown_frames, long_answer, gone_frames, gone_written, gone_none}
+use Rattle.proof_line.proofs.Holding.{pipe_grows, IsApart, apart_mark, apart_step, apart_line, apart_stands, Grown, other_pipe, unit_grows, unit_stands, grown_most, grown_frames, long_answer, gone_frames, gone_written, gone_none}
 
 abbrev pub Up : List Entry → Pipe
 Up past = pipe_from by_host empty_pipe past

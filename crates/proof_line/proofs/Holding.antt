@@ -1,5 +1,5 @@
 -- How the pipes that a transcript shows go on with entries: with those that tell nothing of them, with the number of a tick, and with a unit, which is in its pipe or lost.
-use Rattle.std.proofs.Common.{◌≡◌, ◌≤◌, ◌<◌, ◌⊎◌, ℕ, ◌+◌, ◌-◌, ◌==◌, ◌&&◌, ◌||◌, not, nat_le, Bool, true, false, if◌then◌else◌, List, [], ◌∷◌, ◌++◌, length, take, drop, inl, inr, refl, sym, ap, ap₂, subst, ◌∙◌, append-nil, append_assoc, arith}
+use Rattle.std.proofs.Common.{◌≡◌, ◌≤◌, ◌<◌, ◌⊎◌, ℕ, ◌+◌, ◌-◌, ◌==◌, ◌&&◌, ◌||◌, not, Bool, true, false, if◌then◌else◌, List, [], ◌∷◌, ◌++◌, length, take, drop, inl, inr, refl, sym, ap, ap₂, subst, ◌∙◌, append_assoc, arith}
 use Rattle.std.specs.List.{flat_map, list_any, AllByRecursion}
 use Rattle.std.proofs.lemmas.Bool.{eqb-true, leb-false, lt-leb}
 use Rattle.std.proofs.lemmas.List.{length-append, length-set, take_at}
@@ -10,13 +10,12 @@ use Rattle.serial_pipes.specs.Events.{told, told_by, passing, Writes, after}
 use Rattle.serial_pipes.specs.declared.marks.Mark.{Mark}
 use Rattle.serial_pipes.specs.declared.marks.Mark.TheVariants.{Free, Lost, Changed}
 use Rattle.zw_words.specs.declared.side.Side.{Side}
-use Rattle.zw_words.specs.declared.side.Side.TheVariants.{Host as by_host, Chip as by_chip}
 use Rattle.zw_text.specs.declared.entry.Entry.{Entry}
 use Rattle.zw_text.specs.declared.entry.Entry.TheVariants as entry
 use Rattle.zw_text.specs.Transcript.{line_of, line_last, same_side}
 use Rattle.law_transcript.specs.Lists.{EachAfter}
 use Rattle.law_transcript.specs.Restarts.{is_restart, begins_refused}
-use Rattle.law_wire.specs.Pipes.{Pipe, empty_pipe, with_unit, with_answer, gone_on, with_turn, is_lost, pipe_by_unit, pipe_step, pipe_from, sum_of, bytes_perhaps, Unit_last, unit_by, unit_last, may_lack}
+use Rattle.law_wire.specs.Pipes.{Pipe, empty_pipe, with_unit, with_answer, gone_on, with_turn, is_lost, pipe_by_unit, pipe_step, pipe_from, sum_of, bytes_perhaps, unit_by, may_lack}
 use Rattle.proof_device.proofs.Entered.{IsMark, told_by_marks}
 use Rattle.proof_line.specs.Pipes.{MayLack, most}
 use Rattle.proof_line.proofs.Standing.{last_only, but_last, same_itself}
@@ -169,9 +168,9 @@ module _ (side : Side) (way : WayState) (unit : LineUnit) where
     where
       by : (b : Bool)
           → ((is_lost side (entry.Garbled side (garbled garble text) ∷ (if b then [] else entry.Overrun side ∷ [])) ≡ true)
-              × (length (if b then way.bytes ++ garbled garble text else way.bytes) ≡ length way.bytes))
+          × (length (if b then way.bytes ++ garbled garble text else way.bytes) ≡ length way.bytes))
           ⊎ ((is_lost side (entry.Garbled side (garbled garble text) ∷ (if b then [] else entry.Overrun side ∷ [])) ≡ false)
-              × (length (if b then way.bytes ++ garbled garble text else way.bytes) ≡ length way.bytes + length text))
+          × (length (if b then way.bytes ++ garbled garble text else way.bytes) ≡ length way.bytes + length text))
       by true = inr (refl, length-append way.bytes (garbled garble text) ∙ ap (λ (n : ℕ). length way.bytes + n) (length-set text _ _))
       by false = inl (same_itself side, refl)
 

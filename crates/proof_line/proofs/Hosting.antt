@@ -1,12 +1,11 @@
 -- What is known of the pipes goes on through what the host writes and notes: of itself it writes data frames alone, and answers only where it takes bytes.
-use Rattle.std.proofs.Common.{◌≡◌, ◌≤◌, ℕ, ◌==◌, Bool, true, false, if◌then◌else◌, List, [], ◌∷◌, ◌++◌, length, map, inl, inr, refl, sym, subst, append-nil, append_assoc}
-use Rattle.std.specs.Prelude.{Option, Some, None, nat_lt}
+use Rattle.std.proofs.Common.{◌≡◌, ◌≤◌, ℕ, Bool, true, false, if◌then◌else◌, List, [], ◌∷◌, ◌++◌, length, map, inl, inr, refl, sym, subst, append-nil, append_assoc}
+use Rattle.std.specs.Prelude.{Option, Some, None}
 use Rattle.std.specs.List.{AllByRecursion}
 use Rattle.zw_base.proofs.Each.{all-append}
 use Rattle.serial_frame.specs.Frame.{FrameParts}
 use Rattle.serial_frame.specs.Items.{unit_text}
 use Rattle.serial_frame.specs.declared.unit.Unit.{Unit as LineUnit}
-use Rattle.serial_frame.specs.declared.unit.Unit.TheVariants.{Ack, Nak, Can, Framed}
 use Rattle.serial_link.specs.State.{tick_side, copy_due}
 use Rattle.serial_pipes.specs.Events.{told}
 use Rattle.zw_words.specs.declared.side.Side.TheVariants.{Host as by_host, Chip as by_chip}
@@ -32,8 +31,8 @@ use Rattle.host_model.specs.Ticking.{first_ticks, tick_events, ticking_nodes}
 use Rattle.host_model.specs.Did.{after_all}
 use Rattle.host_model.specs.declared.out.HostOut.{HostOut}
 use Rattle.host_model.specs.declared.out.HostOut.TheVariants.{Write, Note}
-use Rattle.outside_model.specs.State.{OuterState, Outside, outside}
-use Rattle.outside_model.specs.Events.{Host_writes, Host_takes as host_takes, Host_notes, Host_begins, outcome, devices_after, happens as happens_outside, entries as entries_outside}
+use Rattle.outside_model.specs.State.{Outside, outside}
+use Rattle.outside_model.specs.Events.{Host_writes, Host_notes, Host_begins, outcome, devices_after, happens as happens_outside, entries as entries_outside}
 use Rattle.outside_model.specs.Did.{happens_all as happens_all_outside, entries_all as entries_all_outside}
 use Rattle.world_model.specs.State.{begun_in, routed}
 use Rattle.world_model.specs.Events.{notes}
@@ -44,7 +43,7 @@ use Rattle.proof_walk.proofs.Machines.{UnitsAre, outs_keep, answers_keep}
 use Rattle.proof_line.specs.Pipes.{MayLack, Mode, most, Held, HearsNothing}
 use Rattle.proof_line.proofs.Holding.{IsApart, Grown}
 use Rattle.proof_line.proofs.Filling.{Up, Down, HoldsEmpty, held_same, held_turn, host_writes}
-use Rattle.proof_line.proofs.Chipping.{IsFrame, KnowsAs, begins, apart_moves, number_stands}
+use Rattle.proof_line.proofs.Chipping.{IsFrame, KnowsAs, apart_moves, number_stands}
 
 -- ---- which units it writes
 
@@ -195,7 +194,7 @@ module _ (mode : Mode) (empty : HoldsEmpty mode) (turns : (up down : Pipe) (a b 
   module _ (IsUnit : LineUnit → Type 0)
       (room : (up down : Pipe) (a b : List ℕ) → mode up down a b → length a ≤ most up)
       (writes : (unit : LineUnit) → IsUnit unit → (up later down : Pipe) (a after b : List ℕ) → Grown (length (unit_text unit)) up later a after → mode up down a b
-          → mode later (with_answer (length (unit_text unit)) (gone_on down)) after b) where
+      → mode later (with_answer (length (unit_text unit)) (gone_on down)) after b) where
     write_moves : (w : Outside) (unit : LineUnit) → IsUnit unit → Moves MayLack (KnowsAs always) w (told by_host w.outer.to_chip unit) (KnowsAs always) (outside (outcome w (Host_writes unit)).outer w.devices)
     unfolding outcome
     write_moves w unit is awaits past silent held =

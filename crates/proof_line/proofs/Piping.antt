@@ -1,7 +1,6 @@
 -- Neither pipe holds more than the transcript shows that it may, at each phase of a line.
-use Rattle.std.proofs.Common.{◌≡◌, ◌≤◌, ℕ, zero, suc, ◌+◌, ◌&&◌, not, nat_lt, Bool, true, false, if◌then◌else◌, List, [], ◌∷◌, ◌++◌, length, drop, inl, inr, refl, sym, ap, subst, ◌∙◌, append-nil, append_assoc, arith}
+use Rattle.std.proofs.Common.{◌≡◌, ◌≤◌, ℕ, zero, suc, ◌+◌, ◌&&◌, not, nat_lt, Bool, true, false, if◌then◌else◌, List, [], ◌∷◌, ◌++◌, length, inl, inr, refl, sym, ap, subst, ◌∙◌, append-nil, append_assoc}
 use Rattle.std.specs.Prelude.{Option}
-use Rattle.std.specs.List.{AllByRecursion}
 use Rattle.serial_frame.specs.Stream.{Rest}
 use Rattle.serial_frame.specs.Items.{unit_text}
 use Rattle.serial_frame.specs.declared.item.Item.{Item}
@@ -20,29 +19,28 @@ use Rattle.zw_text.proofs.Views.{folded-append}
 use Rattle.law_transcript.specs.Lists.{EachAfter}
 use Rattle.law_transcript.specs.Restarts.{is_restart}
 use Rattle.law_wire.specs.Pipes.{Pipe, empty_pipe, with_answer, gone_on, with_turn, pipe_from, sum_of}
-use Rattle.proof_host.proofs.Lists.{each-anywhere}
 use Rattle.host_model.specs.State.{HostState}
 use Rattle.host_model.specs.Events.{HostEvent}
 use Rattle.host_model.specs.Did.{outs_all}
 use Rattle.host_model.specs.Outs.{answers}
 use Rattle.host_model.specs.Ticking.{tick_events}
-use Rattle.outside_model.specs.State.{OuterState, Outside, outside, first_outer, is_stalled}
-use Rattle.outside_model.specs.Events.{OuterEvent, Begins_line, Begins_tick, Arrives, Gives, Device_ticks, Chip_ticks, Chip_takes, Clears_pipe, Host_takes as host_takes, Host_notes, outcome, devices_after, cleared_entries, May as MayOutside, happens as happens_outside, entries as entries_outside, stamp, has_entered}
+use Rattle.outside_model.specs.State.{OuterState, Outside, first_outer, is_stalled}
+use Rattle.outside_model.specs.Events.{OuterEvent, Begins_line, Begins_tick, Arrives, Gives, Device_ticks, Chip_ticks, Chip_takes, Clears_pipe, Host_takes as host_takes, outcome, devices_after, cleared_entries, May as MayOutside, happens as happens_outside, stamp, has_entered}
 use Rattle.outside_model.specs.Did.{happens_all as happens_all_outside, entries_all as entries_all_outside}
 use Rattle.world_model.specs.State.{Machine, routed, host_does}
 use Rattle.world_model.specs.Events.{Event, Outside_does, Host_does, Host_takes, Decoder_ticks, Refuses, Shows_values, Restarts, notes, shown_values, happens, entries, May}
-use Rattle.world_model.specs.Lines.{IsEffect, restart_events}
+use Rattle.world_model.specs.Lines.{IsEffect}
 use Rattle.proof_walk.specs.Outside.{awaits_number}
 use Rattle.proof_walk.specs.Phases.{Phase, Between, Said_line, Begun, Doing, To_tick, Ticked, Arriving, Giving, Ticking_devices, Ticking_chip, Ticking_decoder, Ticking_host, Sleeping, Submitting, Moving, Moved, Turns, Goes, IsStill}
 use Rattle.proof_walk.specs.Walk.{Walk}
 use Rattle.proof_walk.specs.ByLine.{CoversLine, IsAsked, OfEffect}
 use Rattle.proof_walk.proofs.ByLine.{effect_asks}
-use Rattle.proof_line.specs.Pipes.{MayLack, Mode, most, Resting, Turned, Waits, AtMost, Taken, Heard, Held, JustSaid, IsByHand, LeftRestart, LeftPipes, InTick, HasMoved, HearsNothing, KnowPipes}
+use Rattle.proof_line.specs.Pipes.{MayLack, Mode, most, Resting, Turned, Waits, AtMost, Heard, Held, JustSaid, IsByHand, LeftRestart, LeftPipes, InTick, HasMoved, HearsNothing, KnowPipes}
 use Rattle.proof_line.proofs.Standing.{frame_long}
 use Rattle.proof_line.proofs.Holding.{Grown, pipe_grows}
 use Rattle.proof_line.proofs.Filling.{Up, Down, held_empty, held_same, held_weaker, none_held, few_frames, never, no_refusal, resting_empty, turned_empty, heard_empty, turn_turned, turn_heard, resting_host, heard_host}
 use Rattle.proof_line.proofs.Chipping.{IsFrame, IsGoing, going_keeps, drop_whole, takes_keep}
-use Rattle.proof_line.proofs.Hosting.{NoUnit, frames_alone, asked_none, any_of, no_more_nothing, tick_nothing, next_nothing, KeepsHeld, keeps_none, keeps_both, note_keeps, host_keeps, answer_keeps}
+use Rattle.proof_line.proofs.Hosting.{NoUnit, frames_alone, asked_none, any_of, no_more_nothing, tick_nothing, next_nothing, keeps_none, keeps_both, note_keeps, host_keeps, answer_keeps}
 
 -- ---- between modes
 
@@ -128,8 +126,7 @@ begins_line : (line : Line) (past : List Entry) (m : Machine) → JustSaid line 
     → EachAfter MayLack past (entries m (Outside_does Begins_line)) × KnowPipes (Begun line) (past ++ entries m (Outside_does Begins_line)) (happens m (Outside_does Begins_line))
 unfolding happens entries outcome devices_after
 begins_line line past m just =
-    let later : OuterState = (happens m (Outside_does Begins_line)).outside.outer in
-    (
+    let later : OuterState = (happens m (Outside_does Begins_line)).outside.outer in (
       tt,
       (
         record {

@@ -1,6 +1,6 @@
 -- What is known of the pipes at each phase of a line (this project's own rule): neither holds more bytes than the transcript so far says it may; so a unit is overrun only where it
 -- may have no room.
-use Rattle.std.specs.Prelude.{◌≡◌, ◌≤◌, ◌⊎◌, ℕ, ◌+◌, Bool, true, false, if◌then◌else◌, List, [], ◌∷◌, ◌++◌, length, ⊤}
+use Rattle.std.specs.Prelude.{◌≡◌, ◌≤◌, ◌⊎◌, ℕ, ◌+◌, Bool, true, false, List, [], ◌∷◌, ◌++◌, length, ⊤}
 use Rattle.std.specs.List.{list_any, AllByRecursion}
 use Rattle.zw_words.specs.declared.side.Side.TheVariants.{Host, Chip}
 use Rattle.zw_text.specs.declared.line.Line.{Line}
@@ -16,7 +16,6 @@ use Rattle.host_model.specs.State.{HostState}
 use Rattle.host_model.specs.Events.{HostEvent, Hears}
 use Rattle.outside_model.specs.State.{OuterState, is_stalled}
 use Rattle.outside_model.specs.Events.{OuterEvent, Repeats, Wakes_device, Sets_device, Shows, Joins, Discovers, Links, Loses, Loses_acks, Marks_loss, Marks_change, Clears_pipe, Collides_next, Stalls, Cuts}
-use Rattle.world_model.specs.State.{Machine}
 use Rattle.world_model.specs.Events.{Event, Outside_does, Refuses}
 use Rattle.world_model.specs.Lines.{restart_events}
 use Rattle.proof_walk.specs.Outside.{awaits_number}
