@@ -30,7 +30,8 @@ pub fn marks_go_on()
 /// and nothing is entered from the words of a `tick` on until its first tick begins.
 pub fn numbers_go_on()
     ensures walk { WalkOver KnowTime MayBeTold KnowNumbers }
-    ensures first { (keys : Keys) (records : Option (List (List ℕ))) (devices : List State) → KnowNumbers Between [] (first_machine keys records devices) }
+    ensures first { (keys : Keys) (records : Option (List (List ℕ))) (devices : List State) →
+        KnowNumbers Between [] (first_machine keys records devices) }
 {}
 
 /// At each phase of a line, neither pipe holds more bytes than the transcript says that it may: data frames until they are answered, and answers until the other
