@@ -29,7 +29,7 @@ use Rattle.outside_model.specs.State.{OuterState, Outside, outside, Outcome, eac
 use Rattle.outside_model.specs.Chip.{put_out, chip_does}
 use Rattle.outside_model.specs.Results.{device_at}
 use Rattle.outside_model.specs.Nodes.{links_of, pairs_of, all_pairs, listens_at, joins, discovers, is_known}
-use Rattle.outside_model.specs.Events.{OuterEvent, Begins_line, Begins_tick, Host_writes, Host_takes, Host_notes, Host_begins, Chip_takes, Arrives, Gives, Device_ticks, Chip_ticks, Repeats, Wakes_device, Sets_device, Shows, Joins, Discovers, Links, Loses, Loses_acks, Marks_loss, Marks_change, Clears_pipe, Collides_next, Stalls, Cuts, outcome}
+use Rattle.outside_model.specs.Events.{OuterEvent, Host_writes, Host_takes, Host_notes, Shows, Joins, Discovers, Links, Loses, Loses_acks, Marks_loss, Marks_change, Clears_pipe, Collides_next, Stalls, Cuts, outcome}
 use Rattle.proof_walk.specs.Outside.{Moves, Comes, Link, IsSimple, IsDone}
 use Rattle.proof_walk.proofs.Moving.{moves_none, moves_both}
 use Rattle.proof_line.specs.Collisions.{link_collisions, Tie, IsNoCollision}
@@ -220,7 +220,7 @@ simple_comes w event simple none = absurd simple
 
 pub counts : Link MayCollide (Tie 0) IsNoCollision
 counts = record {
-  line = λ awaits past w ties. ties;
+  line = λ covers awaits past w ties. ties;
   tick = λ covers awaits past w ties. (tt, ties);
   number = λ past w ties. (unchanged 0 w w (entry.Time w.outer.clock ∷ []) (tt, tt) refl false past (λ (is : false ≡ true). absurd cc) ties).1;
   simple = simple_comes;

@@ -1,6 +1,12 @@
 mod Units
 mod Counting
-mod Standing
+pub mod Standing
 pub mod Marking
 mod Colliding
 pub mod Asking
+pub mod Telling
+mod Holding
+mod Filling
+mod Chipping
+mod Hosting
+pub mod Piping

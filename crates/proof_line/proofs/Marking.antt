@@ -1,14 +1,11 @@
 -- The marks that the transcript says wait are those of the pipes, over all lines, and each unit becomes what they say.
-use Rattle.std.proofs.Common.{◌≡◌, ℕ, ◌+◌, ◌&&◌, not, Bool, true, false, if◌then◌else◌, List, [], ◌∷◌, ◌++◌, length, map, inl, inr, ◌⊎◌, refl, sym, ap, ap₂, subst, ◌∙◌, append_assoc, append-nil}
+use Rattle.std.proofs.Common.{◌≡◌, ℕ, ◌+◌, ◌&&◌, not, Bool, true, false, if◌then◌else◌, List, [], ◌∷◌, ◌++◌, length, map, inl, inr, refl, sym, ap, ap₂, subst, ◌∙◌, append_assoc, append-nil}
 use Rattle.std.proofs.lemmas.List.{map-append}
 use Rattle.std.specs.Prelude.{Option, slice_set}
-use Rattle.std.specs.Option.{option_map}
-use Rattle.std.specs.List.{flat_map, AllByRecursion}
-use Rattle.zw_base.proofs.Each.{all-append, all-weaker}
+use Rattle.zw_base.proofs.Each.{all-weaker}
 use Rattle.serial_frame.specs.Stream.{after_tick}
 use Rattle.serial_frame.specs.declared.unit.Unit.{Unit as LineUnit}
 use Rattle.route_table.specs.declared.route.Route.{Route}
-use Rattle.serial_pipes.specs.State.{WayState}
 use Rattle.serial_pipes.specs.Events.{told, Writes, Takes, after as way_after}
 use Rattle.serial_pipes.specs.declared.marks.Garble.{Garble}
 use Rattle.zw_words.specs.declared.side.Side.{Side}
@@ -17,39 +14,37 @@ use Rattle.zw_text.specs.declared.line.Line.{Line}
 use Rattle.zw_text.specs.declared.line.Line.TheVariants as lines
 use Rattle.zw_text.specs.declared.entry.Entry.{Entry}
 use Rattle.zw_text.specs.declared.entry.Entry.TheVariants as entry
-use Rattle.zw_text.specs.Transcript.{line_of, same_side}
+use Rattle.zw_text.specs.Transcript.{line_of}
 use Rattle.law_transcript.specs.Lists.{EachAfter}
 use Rattle.law_wire.specs.Marks.{Changing, Marks, marks_by, marks_of}
 use Rattle.proof_host.proofs.Lists.{each-append}
-use Rattle.chip_sim.specs.Events.{ChipEvent, Judged, Ticked, Done, Heard as chip_hears, Informed, Forgets, after, outs}
+use Rattle.chip_sim.specs.Events.{ChipEvent, Judged, Ticked, Forgets, after, outs}
 use Rattle.chip_sim.specs.declared.out.ChipOut.{ChipOut}
 use Rattle.chip_sim.specs.declared.out.ChipOut.TheVariants.{Write, OnAir, NoRoute, AskInfo, Full}
 use Rattle.device_sim.specs.State.{State}
-use Rattle.device_sim.specs.Event.{DeviceEvent, device_after, device_replies}
+use Rattle.device_sim.specs.Event.{DeviceEvent, device_after}
 use Rattle.mesh_sim.specs.declared.event.AirEvent.{AirEvent}
 use Rattle.mesh_sim.specs.declared.event.AirEvent.TheVariants as air_event
-use Rattle.mesh_sim.specs.Air.{is_joined}
-use Rattle.mesh_sim.specs.Routes.{backwards}
 use Rattle.mesh_sim.specs.Fates.{place_of}
-use Rattle.mesh_sim.specs.Steps.{answers_if, mesh_after}
-use Rattle.outside_model.specs.State.{OuterState, Outside, outside, Outcome, silent, tells, each, with_chip, first_outer}
+use Rattle.mesh_sim.specs.Steps.{mesh_after}
+use Rattle.outside_model.specs.State.{OuterState, Outside, outside, Outcome, silent, each, with_chip, first_outer}
 use Rattle.outside_model.specs.Chip.{put_out, chip_does}
 use Rattle.outside_model.specs.Results.{device_at, gives}
 use Rattle.outside_model.specs.Air.{deals, sent_entries, change_entries, change_at}
-use Rattle.outside_model.specs.Devices.{acts, changes_entries, new_changes, shown_entries}
-use Rattle.outside_model.specs.Events.{OuterEvent, Begins_line, Begins_tick, Host_writes, Host_takes, Host_notes, Host_begins, Chip_takes, Arrives, Gives as gives_due, Device_ticks, Chip_ticks, Repeats, Wakes_device, Sets_device, Shows, Joins, Discovers, Links, Loses, Loses_acks, Marks_loss, Marks_change, Clears_pipe, Collides_next, Stalls, Cuts, way_of, mesh_of, cleared_entries, outcome, devices_after, ticked_entry, is_own}
+use Rattle.outside_model.specs.Devices.{acts, shown_entries}
+use Rattle.outside_model.specs.Events.{OuterEvent, Begins_line, Host_writes, Host_takes, Host_notes, Shows, Joins, Discovers, Links, Loses, Loses_acks, Marks_loss, Marks_change, Clears_pipe, Collides_next, Stalls, Cuts, way_of, mesh_of, cleared_entries, outcome, devices_after, ticked_entry, is_own}
 use Rattle.world_model.specs.State.{Machine}
 use Rattle.world_model.specs.Events.{Event, Outside_does, happens, entries, May}
 use Rattle.world_model.specs.Lines.{IsEffect}
-use Rattle.proof_walk.specs.Outside.{Pending, nothing, Moves, Comes, Outer, IsNote, IsSimple, IsOfAir, session_begins, Known, CoversOuter}
+use Rattle.proof_walk.specs.Outside.{Pending, nothing, Moves, Outer, IsNote, IsSimple, IsOfAir, session_begins, CoversOuter}
 use Rattle.proof_walk.specs.Phases.{Between}
 use Rattle.proof_walk.specs.Walk.{Walk}
 use Rattle.proof_walk.specs.ByLine.{IsOfTick, CoversLine, ByLine}
 use Rattle.proof_walk.proofs.ByLine.{effect_covered, common_covered, walk_of}
-use Rattle.proof_device.proofs.Entered.{IsCleared, all_cleared, IsShown, all_shown, IsChange, change_entered, changes_entered}
+use Rattle.proof_device.proofs.Entered.{IsCleared, all_cleared, IsShown, all_shown, IsChange, change_entered}
 use Rattle.proof_walk.proofs.Linking.{acts_of_air}
 use Rattle.proof_walk.proofs.Machines.{machine_keeps}
-use Rattle.proof_device.proofs.Results.{IsGiven, Gives, ends_go, gives_go, to_chip_goes}
+use Rattle.proof_device.proofs.Results.{Gives, ends_go, gives_go, to_chip_goes}
 use Rattle.proof_line.specs.Marks.{changing_of, marks_at, MayMark, TieMarks, IsQuiet, KnowsMarks, SetsNoMark, Marked, Setting, Sets, LeftMarks, KnowMarks}
 use Rattle.proof_line.proofs.Standing.{marks_grow, IsApart, AreApart, apart_marks, all_apart, said_stands, Stands, unit_stands}
 

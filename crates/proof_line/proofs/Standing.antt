@@ -1,24 +1,23 @@
 -- What stands after a unit, by the marks that wait; and entries that are neither units nor of marks leave all as it is.
-use Rattle.std.proofs.Common.{◌≡◌, ℕ, zero, suc, ◌+◌, ◌-◌, ◌==◌, Bool, true, false, if◌then◌else◌, List, [], ◌∷◌, ◌++◌, length, map, take, drop, min, refl, sym, ap, ap₂, subst, ◌∙◌, append_assoc, append-nil, nat_lt, arith}
+use Rattle.std.proofs.Common.{◌≡◌, ℕ, suc, ◌+◌, ◌-◌, ◌==◌, Bool, true, false, if◌then◌else◌, List, [], ◌∷◌, ◌++◌, length, map, take, drop, min, refl, sym, ap, ap₂, subst, ◌∙◌, append_assoc, append-nil, nat_lt, arith}
 use Rattle.std.specs.Prelude.{slice_index, slice_set, bit_xor}
 use Rattle.std.specs.List.{flat_map, AllByRecursion}
 use Rattle.std.proofs.lemmas.Bool.{ne_eqb}
-use Rattle.std.proofs.lemmas.List.{length-append}
+use Rattle.std.proofs.lemmas.List.{length-append, take_at}
 use Rattle.serial_frame.specs.Frame.{FrameParts}
 use Rattle.serial_frame.specs.Items.{unit_text}
 use Rattle.serial_frame.specs.declared.unit.Unit.{Unit as LineUnit}
 use Rattle.serial_frame.specs.declared.unit.Unit.TheVariants.{Ack, Nak, Can, Framed}
-use Rattle.serial_pipes.specs.State.{WayState, MarksState, fits, mark_for, change_for, garbled, overrun}
+use Rattle.serial_pipes.specs.State.{WayState, fits, mark_for, change_for, garbled}
 use Rattle.serial_pipes.specs.Events.{told, told_by, Writes, passing, after}
 use Rattle.serial_pipes.specs.declared.marks.Garble.{Garble}
 use Rattle.serial_pipes.specs.declared.marks.Mark.{Mark}
 use Rattle.serial_pipes.specs.declared.marks.Mark.TheVariants.{Free, Lost, Changed}
 use Rattle.zw_words.specs.declared.side.Side.{Side}
 use Rattle.zw_words.specs.declared.side.Side.TheVariants.{Host as by_host, Chip as by_chip}
-use Rattle.zw_text.specs.declared.line.Line.{Line}
 use Rattle.zw_text.specs.declared.entry.Entry.{Entry}
 use Rattle.zw_text.specs.declared.entry.Entry.TheVariants as entry
-use Rattle.zw_text.specs.Transcript.{folded, line_of, same_side}
+use Rattle.zw_text.specs.Transcript.{folded, same_side}
 use Rattle.zw_text.proofs.Views.{folded-append}
 use Rattle.law_transcript.specs.Lists.{EachAfter}
 use Rattle.law_wire.specs.Marks.{Changing, Marks, marks_step, marks_of, changed_by, becomes, becomes_by, to_stand, IsMarked}
@@ -26,12 +25,19 @@ use Rattle.proof_line.specs.Marks.{changing_of, marks_at, MayMark, IsQuiet}
 
 -- ---- what is to stand next
 
-last_only : {A : Type 0} (past : List A) (x : A) → drop (length (past ++ x ∷ []) - 1) (past ++ x ∷ []) ≡ x ∷ []
+pub last_only : {A : Type 0} (past : List A) (x : A) → drop (length (past ++ x ∷ []) - 1) (past ++ x ∷ []) ≡ x ∷ []
 last_only [] x = refl
 last_only (first ∷ past) x = ap (λ (n : ℕ). drop n (first ∷ (past ++ x ∷ []))) (more (length-append past (x ∷ []))) ∙ last_only past x
   where
     more : length (past ++ x ∷ []) ≡ length past + 1 → length (first ∷ (past ++ x ∷ [])) - 1 ≡ suc (length (past ++ x ∷ []) - 1)
     more is = omega (arith, is)
+
+-- all but the last
+pub but_last : {A : Type 0} (past : List A) (x : A) → take (length (past ++ x ∷ []) - 1) (past ++ x ∷ []) ≡ past
+but_last past x = take_at past (x ∷ []) (length (past ++ x ∷ []) - 1) (one_less (length-append past (x ∷ [])))
+  where
+    one_less : length (past ++ x ∷ []) ≡ length past + 1 → length past ≡ length (past ++ x ∷ []) - 1
+    one_less is = omega (arith, is)
 
 stands_next : (past : List Entry) (e : Entry) → to_stand (past ++ e ∷ []) ≡ becomes_by (past ++ e ∷ []) e
 stands_next past e = ap (flat_map (becomes_by (past ++ e ∷ []))) (last_only past e) ∙ append-nil (becomes_by (past ++ e ∷ []) e)
@@ -99,7 +105,7 @@ pub record Stands (side : Side) (past told : List Entry) (new : Marks) : Type 0 
   pub own : marks_of side (past ++ told) ≡ new
   pub other : (on : Side) → same_side on side ≡ false → marks_of on (past ++ told) ≡ marks_of on past
 
-same_itself : (side : Side) → same_side side side ≡ true
+pub same_itself : (side : Side) → same_side side side ≡ true
 same_itself by_host = refl
 same_itself by_chip = refl
 
@@ -175,7 +181,7 @@ module _ (side : Side) (past : List Entry) (unit : LineUnit) (quiet : IsQuiet pa
 -- ---- a unit with the marks of its pipe
 
 -- a frame has more than one byte
-frame_long : (f : FrameParts) → (length (unit_text (Framed f)) == 1) ≡ false
+pub frame_long : (f : FrameParts) → (length (unit_text (Framed f)) == 1) ≡ false
 frame_long f = ne_eqb (length (unit_text (Framed f))) 1 (λ is. absurd (omega (arith, is)))
 
 same_change : (garble : Garble) (text : List ℕ) → changed_by (changing_of garble) text ≡ garbled garble text

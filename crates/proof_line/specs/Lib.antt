@@ -1,2 +1,4 @@
 pub mod Collisions
 pub mod Marks
+pub mod Times
+pub mod Pipes

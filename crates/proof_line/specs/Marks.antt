@@ -1,5 +1,5 @@
 -- What is known of the marks that lines set on the serial line (this project's own rule): those that the transcript says wait are those that the pipes have.
-use Rattle.std.specs.Prelude.{◌≡◌, ◌⊎◌, ℕ, List, [], ◌∷◌, map}
+use Rattle.std.specs.Prelude.{◌≡◌, ◌⊎◌, List, [], ◌∷◌, map}
 use Rattle.std.specs.List.{AllByRecursion}
 use Rattle.serial_pipes.specs.declared.marks.Garble.{Garble}
 use Rattle.serial_pipes.specs.State.{WayState}

@@ -106,7 +106,7 @@ module _ (Is : Entry → Type 0) (kinds : KindsAre Is) where
 
   law : Link (Alone Is) Nothing_known Fine
   law = record {
-    line = λ awaits past w known. tt;
+    line = λ covers awaits past w known. tt;
     tick = λ covers awaits past w known. (kinds.time (w.outer.clock + 1), tt);
     number = λ past w known. tt;
     simple = λ w event simple fine. moves w (outside (outcome w event).outer w.devices) (outcome w event).entries (simple_are w event simple fine);

@@ -2,6 +2,7 @@
 use Rattle.std.proofs.Common.{◌≡◌, ℕ, zero, suc, ◌+◌, Bool, true, false, if◌then◌else◌, inl, inr, List, [], ◌∷◌, ◌++◌, length, map, refl, sym, ap, ◌∙◌, subst}
 use Rattle.std.specs.Prelude.{Option, Some, None}
 use Rattle.std.specs.List.{AllByRecursion}
+use Rattle.zw_base.proofs.Each.{all-weaker}
 use Rattle.zw_text.specs.declared.line.Line.{Line}
 use Rattle.zw_text.specs.declared.line.Line.TheVariants as lines
 use Rattle.zw_text.specs.declared.entry.Entry.{Entry}
@@ -30,13 +31,13 @@ use Rattle.world_model.specs.Lines.{IsRefusal, IsDone, Asks as asks_line, IsEffe
 use Rattle.proof_walk.specs.Phases.{Phase, Between, Said_line, Begun, Doing, To_tick, Ticked, Arriving, Giving, Ticking_devices, Ticking_chip, Ticking_decoder, Ticking_host, Sleeping, Submitting, Moving, Moved, Turns, Goes, passes_after}
 use Rattle.proof_walk.specs.Walk.{Walk, TiedWalk}
 use Rattle.proof_walk.specs.Outside.{CoversOuter}
-use Rattle.proof_walk.specs.ByLine.{KnownOf, by_line, IsOfTick, IsCommon, CoversLine, InLine, ByLine, TiedByLine}
+use Rattle.proof_walk.specs.ByLine.{KnownOf, by_line, IsOfTick, IsCommon, CoversLine, IsAsked, OfEffect, InLine, ByLine, TiedByLine}
 
 -- ---- which events the effect of a line has
 
 module _ (Covers : OuterEvent → Type 0) where
   abbrev Covered : List Event → Type 0
-  Covered events = AllByRecursion (CoversOuter Covers) events
+  Covered events = AllByRecursion (OfEffect Covers) events
 
   these : (events are : List Event) → events ≡ are → Covered are → Covered events
   these events are is covered = subst Covered (sym is) covered
@@ -48,46 +49,53 @@ module _ (Covers : OuterEvent → Type 0) where
   done_covered line are events covered (inl is) = these events are is covered
   done_covered line are events covered (inr refused) = refusal_covered line events refused
 
-  asks_covered : (refused : Option Refused) (line : Line) (event : HostEvent) (events : List Event) → asks_line refused line event events → Covered events
-  asks_covered None line event events is = these events _ is (tt, tt)
-  asks_covered (Some refused) line event events (refusal, shown, is) = these events _ is (tt, tt)
+  asks_covered : (refused : Option Refused) (line : Line) (event : HostEvent) (events : List Event) → IsAsked event → asks_line refused line event events → Covered events
+  asks_covered None line event events asked is = these events _ is (asked, tt)
+  asks_covered (Some refused) line event events asked (refusal, shown, is) = these events _ is (tt, tt)
 
   one_covered : (event : OuterEvent) (inner : List OuterEvent) (events : List Event) → Covers event → inner ≡ event ∷ [] → events ≡ map Outside_does inner → Covered events
   one_covered event inner events covers one are = these events (Outside_does event ∷ []) (are ∙ ap (λ (l : List OuterEvent). map Outside_does l) one) (covers, tt)
 
-  pub effect_covered : (line : Line) (m : Machine) (events : List Event) → CoversLine Covers line → IsEffect line m events → Covered events
-  effect_covered (lines.Command order) m events covers is = done_covered (lines.Command order) (Host_does (Accepts order (carriage_for m.host.state order)) ∷ []) events (tt, tt) is
-  effect_covered (lines.Tick count) m events covers is = absurd is
-  effect_covered (lines.Cut size) m events covers is = these events _ is (covers, tt)
-  effect_covered (lines.Stall ticks) m events covers is = these events _ is (covers, tt)
-  effect_covered (lines.Drop by) m events covers is = these events _ is (covers, tt)
-  effect_covered (lines.Garble by place xor) m events covers is = these events _ is (covers, tt)
-  effect_covered lines.Collide m events covers is = these events _ is (covers, tt)
-  effect_covered (lines.Send node word) m events covers is =
+  pub effect_asks : (line : Line) (m : Machine) (events : List Event) → CoversLine Covers line → IsEffect line m events → Covered events
+  effect_asks (lines.Command order) m events covers is = done_covered (lines.Command order) (Host_does (Accepts order (carriage_for m.host.state order)) ∷ []) events (tt, tt) is
+  effect_asks (lines.Tick count) m events covers is = absurd is
+  effect_asks (lines.Cut size) m events covers is = these events _ is (covers, tt)
+  effect_asks (lines.Stall ticks) m events covers is = these events _ is (covers, tt)
+  effect_asks (lines.Drop by) m events covers is = these events _ is (covers, tt)
+  effect_asks (lines.Garble by place xor) m events covers is = these events _ is (covers, tt)
+  effect_asks lines.Collide m events covers is = these events _ is (covers, tt)
+  effect_asks (lines.Send node word) m events covers is =
       asks_covered (send_refusal (known_of (node_of m.host.state node)) (length m.host.state.requests.queue) word) (lines.Send node word)
-      (Queues (task.Plain node (send_text (classes_of (known_of (node_of m.host.state node))) word))) events is
-  effect_covered (lines.Get node end) m events covers is =
+      (Queues (task.Plain node (send_text (classes_of (known_of (node_of m.host.state node))) word))) events tt is
+  effect_asks (lines.Get node end) m events covers is =
       asks_covered (get_refusal (known_of (node_of m.host.state node)) (length m.host.state.requests.queue) end) (lines.Get node end)
-      (Queues (task.Plain node (get_text (classes_of (known_of (node_of m.host.state node))) end))) events is
-  effect_covered (lines.Join node) m events covers is = done_covered (lines.Join node) (Host_does (joins_host node) ∷ Outside_does (Joins node) ∷ []) events (tt, (covers, tt)) is
-  effect_covered (lines.Interview node) m events covers is = asks_covered (interview_refusal m.host.state node) (lines.Interview node) (Queues_interview node) events is
-  effect_covered (lines.Lose count) m events covers is = these events _ is (covers, tt)
-  effect_covered (lines.LoseAck count) m events covers is = these events _ is (covers, tt)
-  effect_covered (lines.Repeat frame) m events covers (inner, (drawn, route, one), are) = one_covered (Repeats frame drawn route) inner events (covers drawn route) one are
-  effect_covered (lines.Wake node) m events covers (inner, (route, one), are) = one_covered (Wakes_device node route) inner events (covers route) one are
-  effect_covered (lines.Cancel command) m events covers is = done_covered (lines.Cancel command) (Host_does (Cancels command) ∷ []) events (tt, tt) is
-  effect_covered (lines.Link first second) m events covers is = these events _ is (covers, tt)
-  effect_covered (lines.Unlink first second) m events covers is = these events _ is (covers, tt)
-  effect_covered lines.Discover m events covers (asked, asks, are) =
-      these events (Outside_does Discovers ∷ asked) are (covers, asks_covered (places_refusal m.host.state 1) lines.Discover (Queues task.Members) asked asks)
-  effect_covered (lines.Neighbours node) m events covers is = asks_covered (places_refusal m.host.state 1) (lines.Neighbours node) (Queues (task.Neighbours node)) events is
-  effect_covered (lines.Failed node) m events covers is = asks_covered (places_refusal m.host.state 1) (lines.Failed node) (Queues (task.IsFailed node)) events is
-  effect_covered lines.Probe m events covers is = asks_covered (places_refusal m.host.state 3) lines.Probe Queues_probe events is
-  effect_covered (lines.Local node value) m events covers (inner, (route, one), are) = one_covered (Sets_device node value route) inner events (covers route) one are
-  effect_covered (lines.Show node) m events covers is = these events _ is (covers, tt)
-  effect_covered (lines.Store node) m events covers is = these events _ is (tt, tt)
-  effect_covered lines.Restart m events covers (inl (state, is)) = these events _ is (tt, (covers.0, (covers.1, tt)))
-  effect_covered lines.Restart m events covers (inr refused) = refusal_covered lines.Restart events refused
+      (Queues (task.Plain node (get_text (classes_of (known_of (node_of m.host.state node))) end))) events tt is
+  effect_asks (lines.Join node) m events covers is = done_covered (lines.Join node) (Host_does (joins_host node) ∷ Outside_does (Joins node) ∷ []) events (tt, (covers, tt)) is
+  effect_asks (lines.Interview node) m events covers is = asks_covered (interview_refusal m.host.state node) (lines.Interview node) (Queues_interview node) events tt is
+  effect_asks (lines.Lose count) m events covers is = these events _ is (covers, tt)
+  effect_asks (lines.LoseAck count) m events covers is = these events _ is (covers, tt)
+  effect_asks (lines.Repeat frame) m events covers (inner, (drawn, route, one), are) = one_covered (Repeats frame drawn route) inner events (covers drawn route) one are
+  effect_asks (lines.Wake node) m events covers (inner, (route, one), are) = one_covered (Wakes_device node route) inner events (covers route) one are
+  effect_asks (lines.Cancel command) m events covers is = done_covered (lines.Cancel command) (Host_does (Cancels command) ∷ []) events (tt, tt) is
+  effect_asks (lines.Link first second) m events covers is = these events _ is (covers, tt)
+  effect_asks (lines.Unlink first second) m events covers is = these events _ is (covers, tt)
+  effect_asks lines.Discover m events covers (asked, asks, are) =
+      these events (Outside_does Discovers ∷ asked) are (covers, asks_covered (places_refusal m.host.state 1) lines.Discover (Queues task.Members) asked tt asks)
+  effect_asks (lines.Neighbours node) m events covers is = asks_covered (places_refusal m.host.state 1) (lines.Neighbours node) (Queues (task.Neighbours node)) events tt is
+  effect_asks (lines.Failed node) m events covers is = asks_covered (places_refusal m.host.state 1) (lines.Failed node) (Queues (task.IsFailed node)) events tt is
+  effect_asks lines.Probe m events covers is = asks_covered (places_refusal m.host.state 3) lines.Probe Queues_probe events tt is
+  effect_asks (lines.Local node value) m events covers (inner, (route, one), are) = one_covered (Sets_device node value route) inner events (covers route) one are
+  effect_asks (lines.Show node) m events covers is = these events _ is (covers, tt)
+  effect_asks (lines.Store node) m events covers is = these events _ is (tt, tt)
+  effect_asks lines.Restart m events covers (inl (state, is)) = these events _ is (tt, (covers.0, (covers.1, tt)))
+  effect_asks lines.Restart m events covers (inr refused) = refusal_covered lines.Restart events refused
+
+  effect_outside : (event : Event) → OfEffect Covers event → CoversOuter Covers event
+  effect_outside (Outside_does event) covers = covers
+  effect_outside event covers = tt
+
+  pub effect_covered : (line : Line) (m : Machine) (events : List Event) → CoversLine Covers line → IsEffect line m events → AllByRecursion (CoversOuter Covers) events
+  effect_covered line m events covers is = all-weaker (OfEffect Covers) (CoversOuter Covers) effect_outside events (effect_asks line m events covers is)
 
   -- and so an event that is no line's own, where those of ticks and settlings are covered
   pub common_covered : ((event : OuterEvent) → IsOfTick event → Covers event) → (event : Event) → IsCommon event → CoversOuter Covers event

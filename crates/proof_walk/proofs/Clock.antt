@@ -1,15 +1,5 @@
 -- At each phase of a line as many ticks have begun as lines have asked for, but for those to come; numbers of ticks rise.
-use Rattle.std.proofs.Common.{◌≡◌, ◌≤◌, ◌<◌, ℕ, zero, suc, ◌+◌, ◌&&◌, not, Bool, true, false, if◌then◌else◌, List, [], ◌∷◌, ◌++◌, length, inl, inr, refl, sym, ap, ap₂, subst, ◌∙◌, append-nil, arith}
-use Rattle.std.specs.Prelude.{Option}
-use Rattle.std.specs.List.{flat_map, AllByRecursion}
-use Rattle.std.proofs.lemmas.Grind.{flat_map-append}
-use Rattle.zw_base.proofs.Each.{all-append, all-weaker}
-use Rattle.serial_frame.specs.declared.unit.Unit.{Unit as LineUnit}
-use Rattle.serial_frame.specs.Items.{unit_text}
-use Rattle.serial_pipes.specs.State.{WayState, mark_for}
-use Rattle.serial_pipes.specs.Events.{told, told_by}
-use Rattle.zw_words.specs.declared.side.Side.{Side}
-use Rattle.zw_words.specs.declared.side.Side.TheVariants.{Host as by_host, Chip as by_chip}
+use Rattle.std.proofs.Common.{◌≡◌, ◌≤◌, ◌<◌, ℕ, zero, suc, ◌+◌, ◌&&◌, not, Bool, true, false, if◌then◌else◌, List, [], ◌∷◌, ◌++◌, inl, inr, refl, sym, ap, subst, ◌∙◌, append-nil, arith}
 use Rattle.zw_text.specs.declared.line.Line.{Line}
 use Rattle.zw_text.specs.declared.line.Line.TheVariants as lines
 use Rattle.zw_text.specs.declared.entry.Entry.{Entry}
@@ -19,107 +9,31 @@ use Rattle.zw_text.proofs.Views.{shown-append}
 use Rattle.law_transcript.specs.Lists.{EachAfter}
 use Rattle.law_transcript.specs.Restarts.{ticks_of, ticks_asked}
 use Rattle.proof_host.proofs.Lists.{each-anywhere}
-use Rattle.chip_sim.specs.Events.{ChipEvent, after, outs}
-use Rattle.chip_sim.specs.declared.out.ChipOut.{ChipOut}
-use Rattle.chip_sim.specs.declared.out.ChipOut.TheVariants.{Write, OnAir, NoRoute, AskInfo, Full}
-use Rattle.mesh_sim.specs.Fates.{place_of}
 use Rattle.host_model.specs.Ticking.{tick_events}
-use Rattle.outside_model.specs.State.{OuterState, Outside, outside, Outcome, each, with_chip, first_outer}
-use Rattle.outside_model.specs.Chip.{put_out, chip_does}
-use Rattle.outside_model.specs.Results.{device_at}
-use Rattle.outside_model.specs.Devices.{shown_entries}
-use Rattle.outside_model.specs.Events.{OuterEvent, Begins_line, Begins_tick, Host_writes, Host_takes, Host_notes, Host_begins, Chip_takes, Arrives, Gives, Device_ticks, Chip_ticks, Repeats, Wakes_device, Sets_device, Shows, Joins, Discovers, Links, Loses, Loses_acks, Marks_loss, Marks_change, Clears_pipe, Collides_next, Stalls, Cuts, cleared_entries, outcome, devices_after, ticked_entry, is_own}
+use Rattle.outside_model.specs.State.{OuterState, Outside, first_outer}
+use Rattle.outside_model.specs.Events.{Begins_tick, outcome, devices_after, ticked_entry}
 use Rattle.world_model.specs.State.{Machine}
 use Rattle.world_model.specs.Events.{Event, Outside_does, happens, entries, May}
 use Rattle.world_model.specs.Lines.{IsEffect}
 use Rattle.proof_walk.specs.Phases.{Phase, Between, Said_line, Begun, Doing, To_tick, Ticked, Arriving, Giving, Ticking_devices, Ticking_chip, Ticking_decoder, Ticking_host, Sleeping, Submitting, Moving, Moved, Turns, Goes}
 use Rattle.proof_walk.specs.Walk.{Walk}
-use Rattle.proof_walk.specs.Outside.{Moves, Comes, Link, IsNote, IsSimple, IsDone, IsOfAir, IsSameLink, Known, CoversOuter}
+use Rattle.proof_walk.specs.Outside.{Moves, Link, CoversOuter}
 use Rattle.proof_walk.specs.ByLine.{CoversLine}
-use Rattle.proof_walk.specs.Time.{MayCount, TieTime, BeginsNoTick, KnownTime, ticks_left, KnowTime}
-use Rattle.proof_device.proofs.Entered.{IsMark, told_by_marks, IsCleared, all_cleared, IsShown, all_shown}
+use Rattle.proof_walk.specs.Time.{MayCount, TieTime, BeginsNoTick, KnownTime, KnowTime}
 use Rattle.proof_walk.proofs.Linking.{of_link}
 use Rattle.proof_walk.proofs.Machines.{machine_keeps}
 use Rattle.proof_walk.proofs.ByLine.{effect_covered}
-use Rattle.proof_walk.proofs.Moving.{moves_none, moves_both}
-use Rattle.proof_walk.proofs.Times.{does_time}
+use Rattle.proof_walk.proofs.Untimed.{IsUntimed, AreUntimed, same_lines, same_time, hosts_no_tick, untimed_law}
 
--- ---- entries that tell no time
-
--- neither words of a line nor the number of a tick
-abbrev IsUntimed : Entry → Type 0
-IsUntimed (entry.Said words) = ⊥
-IsUntimed (entry.Time tick) = ⊥
-IsUntimed _ = Unit {0}
-
-abbrev AreUntimed : List Entry → Type 0
-AreUntimed told = AllByRecursion IsUntimed told
+-- ---- numbers
 
 untimed_stands : (past : List Entry) (e : Entry) → IsUntimed e → MayCount past e
 untimed_stands past (entry.Time tick) untimed = absurd untimed
 untimed_stands past e untimed = tt
 
-untimed_line : (e : Entry) → IsUntimed e → line_of e ≡ []
-untimed_line (entry.Said words) untimed = absurd untimed
-untimed_line e untimed = refl
-
-untimed_tick : (e : Entry) → IsUntimed e → tick_at e ≡ []
-untimed_tick (entry.Time tick) untimed = absurd untimed
-untimed_tick e untimed = refl
-
-no_lines : (told : List Entry) → AreUntimed told → lines_run told ≡ []
-no_lines [] untimed = refl
-no_lines (e ∷ told) untimed = ap₂ (λ (a b : List Line). a ++ b) (untimed_line e untimed.0) (no_lines told untimed.1)
-
-no_ticks : (told : List Entry) → AreUntimed told → ticks told ≡ []
-no_ticks [] untimed = refl
-no_ticks (e ∷ told) untimed = ap₂ (λ (a b : List ℕ). a ++ b) (untimed_tick e untimed.0) (no_ticks told untimed.1)
-
-same_lines : (past told : List Entry) → AreUntimed told → lines_run (past ++ told) ≡ lines_run past
-same_lines past told untimed = shown-append line_of past told ∙ (ap (λ (l : List Line). lines_run past ++ l) (no_lines told untimed) ∙ append-nil (lines_run past))
-
-same_time : (past told : List Entry) → AreUntimed told → time_of (past ++ told) ≡ time_of past
-same_time past told untimed = ap (last_number 0) (shown-append tick_at past told ∙ (ap (λ (l : List ℕ). ticks past ++ l) (no_ticks told untimed) ∙ append-nil (ticks past)))
-
 last_of_more : (before : ℕ) (ns : List ℕ) (n : ℕ) → last_number before (ns ++ n ∷ []) ≡ n
 last_of_more before [] n = refl
 last_of_more before (first ∷ ns) n = last_of_more first ns n
-
-note_untimed : (e : Entry) → IsNote e → IsUntimed e
-note_untimed (entry.Said words) note = absurd note
-note_untimed (entry.Time tick) note = absurd note
-note_untimed e note = tt
-
-air_untimed : (e : Entry) → IsOfAir e → IsUntimed e
-air_untimed (entry.Said words) of_air = absurd of_air
-air_untimed (entry.Time tick) of_air = absurd of_air
-air_untimed e of_air = tt
-
-mark_untimed : (e : Entry) → IsMark e → IsUntimed e
-mark_untimed (entry.Dropped side) mark = tt
-mark_untimed (entry.Garbled side unit) mark = tt
-mark_untimed (entry.Overrun side) mark = tt
-mark_untimed e mark = absurd mark
-
-told_untimed : (side : Side) (way : WayState) (unit : LineUnit) → AreUntimed (told side way unit)
-told_untimed side way unit =
-    (tt, all-weaker IsMark IsUntimed mark_untimed (told_by side way.bytes (mark_for way.marks unit) (unit_text unit)) (told_by_marks side way.bytes (mark_for way.marks unit) (unit_text unit)))
-
-cleared_untimed : (side : Side) (count : ℕ) → AreUntimed (cleared_entries side count)
-cleared_untimed side count = all-weaker IsCleared IsUntimed one (cleared_entries side count) (all_cleared side count)
-  where
-    one : (e : Entry) → IsCleared e → IsUntimed e
-    one (entry.Cleared side count) cleared = tt
-    one e cleared = absurd cleared
-
-shown_untimed : (w : Outside) (node : ℕ) → AreUntimed (shown_entries node (device_at w.devices (place_of node w.devices)))
-shown_untimed w node =
-    all-weaker IsShown IsUntimed one (shown_entries node (device_at w.devices (place_of node w.devices))) (all_shown node (device_at w.devices (place_of node w.devices)))
-  where
-    one : (e : Entry) → IsShown e → IsUntimed e
-    one (entry.Device node setting) shown = tt
-    one (entry.Refused refusal) shown = tt
-    one e shown = absurd shown
 
 -- ---- the law outside the host
 
@@ -136,49 +50,6 @@ module _ (extra : ℕ) where
         },
       )
 
-  put_untimed : (o : OuterState) (out : ChipOut) → AreUntimed (put_out o out).entries
-  put_untimed o (Write unit) = told_untimed by_chip o.to_host unit
-  put_untimed o (OnAir to route payload) = (tt, tt)
-  put_untimed o NoRoute = tt
-  put_untimed o (AskInfo node) = tt
-  put_untimed o Full = (tt, tt)
-
-  puts_untimed : (puts : List ChipOut) (o : OuterState) → AreUntimed (each put_out o puts).entries
-  puts_untimed [] o = tt
-  puts_untimed (out ∷ puts) o = all-append IsUntimed (put_out o out).entries (each put_out (put_out o out).outer puts).entries (put_untimed o out) (puts_untimed puts (put_out o out).outer)
-
-  does_untimed : (o : OuterState) (event : ChipEvent) → AreUntimed (chip_does o event).entries
-  unfolding chip_does
-  does_untimed o event = puts_untimed (outs o.chip.state event) (with_chip o (after o.chip.state event))
-
-  chip_comes : (w : Outside) (event : ChipEvent) → IsDone event → Comes MayCount (TieTime extra) w (chip_does w.outer event) w.devices (TieTime extra)
-  chip_comes w event done =
-      untimed w (outside (chip_does w.outer event).outer w.devices) (chip_does w.outer event).entries (does_untimed w.outer event) (ap (λ (t : Bool × Bool × ℕ). t.2) (does_time w.outer event))
-
-  simple_comes : (w : Outside) (event : OuterEvent) → IsSimple event → BeginsNoTick event → Comes MayCount (TieTime extra) w (outcome w event) w.devices (TieTime extra)
-  unfolding outcome
-  simple_comes w (Host_writes unit) simple none = untimed w (outside (outcome w (Host_writes unit)).outer w.devices) (told by_host w.outer.to_chip unit) (told_untimed by_host w.outer.to_chip unit) refl
-  simple_comes w (Host_takes count) simple none = untimed w (outside (outcome w (Host_takes count)).outer w.devices) [] tt refl
-  simple_comes w (Host_notes note) simple none = untimed w w (note ∷ []) (note_untimed note simple.0, tt) refl
-  simple_comes w (Shows node) simple none = untimed w w (outcome w (Shows node)).entries (shown_untimed w node) refl
-  simple_comes w (Joins node) simple none = untimed w (outside (outcome w (Joins node)).outer w.devices) [] tt refl
-  simple_comes w Discovers simple none = untimed w (outside (outcome w Discovers).outer w.devices) [] tt refl
-  simple_comes w (Links a b live) simple none = untimed w (outside (outcome w (Links a b live)).outer w.devices) [] tt refl
-  simple_comes w (Loses count) simple none = untimed w (outside (outcome w (Loses count)).outer w.devices) [] tt refl
-  simple_comes w (Loses_acks count) simple none = untimed w (outside (outcome w (Loses_acks count)).outer w.devices) [] tt refl
-  simple_comes w (Marks_loss by_host) simple none = untimed w (outside (outcome w (Marks_loss by_host)).outer w.devices) [] tt refl
-  simple_comes w (Marks_loss by_chip) simple none = untimed w (outside (outcome w (Marks_loss by_chip)).outer w.devices) [] tt refl
-  simple_comes w (Marks_change by_host garble) simple none = untimed w (outside (outcome w (Marks_change by_host garble)).outer w.devices) [] tt refl
-  simple_comes w (Marks_change by_chip garble) simple none = untimed w (outside (outcome w (Marks_change by_chip garble)).outer w.devices) [] tt refl
-  simple_comes w (Clears_pipe by_host) simple none =
-      untimed w (outside (outcome w (Clears_pipe by_host)).outer w.devices) (outcome w (Clears_pipe by_host)).entries (cleared_untimed by_host (length w.outer.to_chip.bytes)) refl
-  simple_comes w (Clears_pipe by_chip) simple none =
-      untimed w (outside (outcome w (Clears_pipe by_chip)).outer w.devices) (outcome w (Clears_pipe by_chip)).entries (cleared_untimed by_chip (length w.outer.to_host.bytes)) refl
-  simple_comes w Collides_next simple none = untimed w (outside (outcome w Collides_next).outer w.devices) [] tt refl
-  simple_comes w (Stalls ticks) simple none = untimed w (outside (outcome w (Stalls ticks)).outer w.devices) [] tt refl
-  simple_comes w (Cuts size) simple none = untimed w (outside (outcome w (Cuts size)).outer w.devices) [] tt refl
-  simple_comes w event simple none = absurd simple
-
   -- its number is the last
   number_last : (past : List Entry) (w : Outside) → TieTime extra true past w → TieTime extra false (past ++ entry.Time w.outer.clock ∷ []) w
   number_last past w tie =
@@ -191,31 +62,16 @@ module _ (extra : ℕ) where
       }
 
   time_law : Link MayCount (TieTime extra) BeginsNoTick
-  time_law = record {
-    line = λ awaits past w tie. record { clock = tie.clock; shown = tie.shown; later = λ waits. absurd (let none : false ≡ true = waits in cc) };
-    tick = λ covers. absurd covers;
-    number = number_last;
-    simple = simple_comes;
-    session = λ w node session command. untimed w w (entry.Begin node session command ∷ []) (tt, tt) refl;
-    chip = chip_comes;
-    air = λ w told of_air. untimed w w (told ∷ []) (air_untimed told of_air, tt) refl;
-    same = λ awaits past w later is tie. record {
-      clock = ap (λ (n : ℕ). n + extra) is.clock ∙ tie.clock;
-      shown = subst (λ (n : ℕ). time_of past ≤ n) (sym is.clock) tie.shown;
-      later = λ waits. subst (λ (n : ℕ). time_of past < n) (sym is.clock) (tie.later waits);
-    };
-  }
+  time_law =
+      untimed_law MayCount (TieTime extra) BeginsNoTick untimed (λ covers. covers)
+      (λ covers awaits past w tie. record { clock = tie.clock; shown = tie.shown; later = λ waits. absurd (let none : false ≡ true = waits in cc) }) number_last
 
   -- ---- an event of the machine
-
-  hosts : (event : OuterEvent) → is_own event ≡ false → BeginsNoTick event
-  hosts Begins_tick own = absurd (let none : true ≡ false = own in cc)
-  hosts event own = tt
 
   kept : (past : List Entry) (m : Machine) (event : Event) → CoversOuter BeginsNoTick event → May m event → KnownTime extra past m
       → EachAfter MayCount past (entries m event) × KnownTime extra (past ++ entries m event) (happens m event)
   kept past m event covers may known =
-      machine_keeps MayCount (λ pending. TieTime extra) BeginsNoTick (of_link MayCount (TieTime extra) BeginsNoTick time_law) hosts m event covers may past known
+      machine_keeps MayCount (λ pending. TieTime extra) BeginsNoTick (of_link MayCount (TieTime extra) BeginsNoTick time_law) hosts_no_tick m event covers may past known
 
   -- the number may stand where it is awaited
   number_stands : (past : List Entry) (w : Outside) → TieTime extra (w.outer.in_tick && not w.outer.stamped) past w → EachAfter MayCount past (ticked_entry w.outer)
@@ -311,7 +167,7 @@ covers_line lines.Restart = (tt, tt)
 covers_line line = tt
 
 -- a line with an effect asks for no tick
-no_ticks_asked : (line : Line) (m : Machine) (events : List Event) → IsEffect line m events → ticks_of line ≡ 0
+pub no_ticks_asked : (line : Line) (m : Machine) (events : List Event) → IsEffect line m events → ticks_of line ≡ 0
 no_ticks_asked (lines.Tick count) m events is = absurd is
 no_ticks_asked line m events is = refl
 

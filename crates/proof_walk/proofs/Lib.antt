@@ -10,5 +10,7 @@ pub mod Stamping
 pub mod Machines
 pub mod ByLine
 pub mod Alone
+pub mod Untimed
+pub mod Ending
 pub mod Clock
 pub mod Over

@@ -1,5 +1,5 @@
 -- Lines as paths, and what a walk makes of lines that are said one after another, the last of which an allocation failure may have cut short.
-use Rattle.std.proofs.Common.{◌≡◌, ℕ, zero, ◌⊎◌, inl, inr, List, [], ◌∷◌, ◌++◌, refl, sym, subst, append-nil, append_assoc}
+use Rattle.std.proofs.Common.{◌≡◌, zero, inl, inr, List, [], ◌∷◌, ◌++◌, refl, sym, subst, append-nil, append_assoc}
 use Rattle.zw_words.specs.declared.side.Side.TheVariants as side
 use Rattle.zw_text.specs.declared.line.Line.{Line}
 use Rattle.zw_text.specs.declared.line.Line.TheVariants.{Tick, Restart}

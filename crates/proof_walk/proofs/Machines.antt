@@ -1,6 +1,6 @@
--- What a law owes outside the host, and of a host's units and notes, is enough for each event of the machine.
-use Rattle.std.proofs.Common.{◌≡◌, ℕ, ◌+◌, Bool, true, false, List, [], ◌∷◌, ◌++◌, length, refl, sym, subst, append_assoc, append-nil}
-use Rattle.std.specs.Prelude.{Option, Some, None}
+-- What goes on through each event outside the host goes on through each event of the machine: so what a law owes there, and of a host's units and notes, is enough.
+use Rattle.std.proofs.Common.{◌≡◌, ℕ, ◌+◌, true, false, List, [], ◌∷◌, ◌++◌, length, refl, sym, subst, append_assoc, append-nil}
+use Rattle.std.specs.Prelude.{Some, None}
 use Rattle.std.specs.List.{AllByRecursion}
 use Rattle.serial_frame.specs.declared.unit.Unit.{Unit as LineUnit}
 use Rattle.zw_text.specs.declared.entry.Entry.{Entry}
@@ -16,12 +16,12 @@ use Rattle.host_model.specs.Outs.{answers}
 use Rattle.outside_model.specs.State.{Outside, is_stalled}
 use Rattle.outside_model.specs.Events.{OuterEvent, Begins_line, Begins_tick, Host_writes, Host_takes as host_takes, Host_notes, Host_begins, Chip_takes, Arrives, Gives, Device_ticks, Chip_ticks, Repeats, Wakes_device, Sets_device, outcome, May as MayOutside, happens as happens_outside, entries as entries_outside, is_own}
 use Rattle.zw_text.specs.declared.entry.Ended.TheVariants.{Cancelled}
-use Rattle.outside_model.specs.Did.{happens_all as happens_all_outside, entries_all as entries_all_outside, MayAll as MayAllOutside}
+use Rattle.outside_model.specs.Did.{happens_all as happens_all_outside, entries_all as entries_all_outside}
 use Rattle.outside_model.proofs.EventLists.{happens_all-append, entries_all-append}
 use Rattle.world_model.specs.State.{Machine, begun_in, noted_by, routed, host_does}
 use Rattle.world_model.specs.Events.{Event, Outside_does, Host_does, Host_takes, Decoder_ticks, Refuses, Shows_values, Restarts, notes, shown_values, happens, entries, May}
-use Rattle.proof_walk.specs.Outside.{Pending, Knowing, Outer, Known, CoversOuter, CoversHost, CoversRefusal, CoversAnswer, IsNote}
-use Rattle.proof_walk.proofs.HostNotes.{NoteOuts, all_outs_note, is_note}
+use Rattle.proof_walk.specs.Outside.{Pending, Knowing, Outer, Known, CoversOuter, CoversHost, CoversRefusal, CoversAnswer, IsNote, IsHostNote}
+use Rattle.proof_walk.proofs.HostNotes.{NoteOuts, is_note, all_outs_note}
 use Rattle.proof_walk.proofs.Stamping.{Fits, outer_keeps, session_keeps}
 
 not_own : false ≡ true → ⊥
@@ -67,110 +67,156 @@ covers_answer Covers hosts (Refuses line refused) = hosts (Host_notes (entry.Ref
 covers_answer Covers hosts (Shows_values node) = λ text. hosts (Host_notes (entry.Json text)) refl
 covers_answer Covers hosts event = tt
 
-module _ (Asks : List Entry → Entry → Type 0) (Knows : Pending → Knowing) (Covers : OuterEvent → Type 0) (law : Outer Asks Knows Covers) where
-  abbrev pub Keeps_known : Outside → List Entry → Outside → Type 0
-  Keeps_known w told later = (past : List Entry) → Known Asks Knows past w → EachAfter Asks past told × Known Asks Knows (past ++ told) later
+-- ---- what the host puts out
 
-  keeps_none : (w : Outside) → Keeps_known w [] w
-  keeps_none w past known = (tt, subst (λ (l : List Entry). Known Asks Knows l w) (sym (append-nil past)) known)
+-- each unit that is written is so
+abbrev pub UnitsAre : (LineUnit → Type 0) → List HostOut → Type 0
+UnitsAre Is [] = Unit {0}
+UnitsAre Is (Write unit ∷ outs) = Is unit × UnitsAre Is outs
+UnitsAre Is (Note note ∷ outs) = UnitsAre Is outs
 
-  keeps_both : (w u v : Outside) (xs ys : List Entry) → Keeps_known w xs u → Keeps_known u ys v → Keeps_known w (xs ++ ys) v
-  keeps_both w u v xs ys first later past known =
-      let one = first past known in
-      let two = later (past ++ xs) one.1 in
-      (each-append Asks past xs ys one.0 two.0, subst (λ (l : List Entry). Known Asks Knows l v) (append_assoc past xs ys) two.1)
+any_units : (outs : List HostOut) → UnitsAre (λ unit. Unit {0}) outs
+any_units [] = tt
+any_units (Write unit ∷ outs) = (tt, any_units outs)
+any_units (Note note ∷ outs) = any_units outs
 
-  outer : (w : Outside) (event : OuterEvent) → Fits Covers event → MayOutside w event → Keeps_known w (entries_outside w event) (happens_outside w event)
-  outer w event fits may = outer_keeps Asks Knows Covers law w event fits may
+pub any_told : (told : List Entry) → AllByRecursion (λ note. Unit {0}) told
+any_told [] = tt
+any_told (note ∷ told) = (tt, any_told told)
 
-  -- ---- what the host puts out
-
-  -- it writes
-  writes_keep : (w : Outside) (unit : LineUnit) → Covers (Host_writes unit) → Keeps_known w (entries_outside w (Host_writes unit)) (happens_outside w (Host_writes unit))
-  unfolding MayOutside
-  writes_keep w unit covers = outer w (Host_writes unit) (tt, covers) tt
-
-  -- it notes that no session has begun
-  note_keeps : (w : Outside) (note : Entry) → IsNote note → begun_in note ≡ None → Covers (Host_notes note)
-      → Keeps_known w (entries_outside w (Host_notes note)) (happens_outside w (Host_notes note))
-  unfolding MayOutside
-  note_keeps w note is none covers = outer w (Host_notes note) ((is, none), covers) tt
-
+-- What goes on where nothing happens, through one list of entries and then the next, through a unit and a note that are so, and where a session begins goes on through all
+-- that a host puts out.
+module _ (IsUnit : LineUnit → Type 0) (IsTold : Entry → Type 0) (Keeps : Outside → List Entry → Outside → Type 0)
+    (keeps_none : (w : Outside) → Keeps w [] w)
+    (keeps_both : (w u v : Outside) (xs ys : List Entry) → Keeps w xs u → Keeps u ys v → Keeps w (xs ++ ys) v)
+    (writes_keep : (w : Outside) (unit : LineUnit) → IsUnit unit → Keeps w (entries_outside w (Host_writes unit)) (happens_outside w (Host_writes unit)))
+    (note_keeps : (w : Outside) (note : Entry) → IsNote note → begun_in note ≡ None → IsTold note → Keeps w (entries_outside w (Host_notes note)) (happens_outside w (Host_notes note)))
+    (session : (w : Outside) (node session command : ℕ)
+    → Keeps w (entries_outside w (Host_begins node session) ++ entries_outside (happens_outside w (Host_begins node session)) (Host_notes (entry.Begin node session command)))
+    (happens_outside (happens_outside w (Host_begins node session)) (Host_notes (entry.Begin node session command)))) where
   -- what becomes of one event, and then of others
-  then_keep : (w : Outside) (first later : List OuterEvent) → Keeps_known w (entries_all_outside w first) (happens_all_outside w first)
-      → Keeps_known (happens_all_outside w first) (entries_all_outside (happens_all_outside w first) later) (happens_all_outside (happens_all_outside w first) later)
-      → Keeps_known w (entries_all_outside w (first ++ later)) (happens_all_outside w (first ++ later))
+  then_keep : (w : Outside) (first later : List OuterEvent) → Keeps w (entries_all_outside w first) (happens_all_outside w first)
+      → Keeps (happens_all_outside w first) (entries_all_outside (happens_all_outside w first) later) (happens_all_outside (happens_all_outside w first) later)
+      → Keeps w (entries_all_outside w (first ++ later)) (happens_all_outside w (first ++ later))
   then_keep w first later one two =
-      subst (λ (l : List Entry). Keeps_known w l (happens_all_outside w (first ++ later))) (sym (entries_all-append w first later))
-      (subst (λ (u : Outside). Keeps_known w (entries_all_outside w first ++ entries_all_outside (happens_all_outside w first) later) u) (sym (happens_all-append w first later))
+      subst (λ (l : List Entry). Keeps w l (happens_all_outside w (first ++ later))) (sym (entries_all-append w first later))
+      (subst (λ (u : Outside). Keeps w (entries_all_outside w first ++ entries_all_outside (happens_all_outside w first) later) u) (sym (happens_all-append w first later))
       (keeps_both w (happens_all_outside w first) (happens_all_outside (happens_all_outside w first) later) (entries_all_outside w first)
       (entries_all_outside (happens_all_outside w first) later) one two))
 
   -- a single event
-  one_keeps : (w : Outside) (event : OuterEvent) → Keeps_known w (entries_outside w event) (happens_outside w event) → Keeps_known w (entries_all_outside w (event ∷ [])) (happens_all_outside w (event ∷ []))
-  one_keeps w event keeps = subst (λ (l : List Entry). Keeps_known w l (happens_outside w event)) (sym (append-nil (entries_outside w event))) keeps
+  one_keeps : (w : Outside) (event : OuterEvent) → Keeps w (entries_outside w event) (happens_outside w event) → Keeps w (entries_all_outside w (event ∷ [])) (happens_all_outside w (event ∷ []))
+  one_keeps w event keeps = subst (λ (l : List Entry). Keeps w l (happens_outside w event)) (sym (append-nil (entries_outside w event))) keeps
 
   -- a session that begins is noted as the air learns of it
-  begun_keeps : (w : Outside) (node session command : ℕ)
-      → Keeps_known w (entries_all_outside w (noted_by (Some (node, session)) (entry.Begin node session command))) (happens_all_outside w (noted_by (Some (node, session)) (entry.Begin node session command)))
-  begun_keeps w node session command =
-      let later : Outside = happens_outside w (Host_begins node session) in
-      subst (λ (l : List Entry). Keeps_known w (entries_outside w (Host_begins node session) ++ l) (happens_outside later (Host_notes (entry.Begin node session command))))
-      (sym (append-nil (entries_outside later (Host_notes (entry.Begin node session command)))))
-      (session_keeps Asks Knows Covers law w node session command)
+  begun_keeps : (w : Outside) (node number command : ℕ)
+      → Keeps w (entries_all_outside w (noted_by (Some (node, number)) (entry.Begin node number command))) (happens_all_outside w (noted_by (Some (node, number)) (entry.Begin node number command)))
+  begun_keeps w node number command =
+      let later : Outside = happens_outside w (Host_begins node number) in
+      subst (λ (l : List Entry). Keeps w (entries_outside w (Host_begins node number) ++ l) (happens_outside later (Host_notes (entry.Begin node number command))))
+      (sym (append-nil (entries_outside later (Host_notes (entry.Begin node number command)))))
+      (session w node number command)
 
-  noted_keeps : (w : Outside) (note : Entry) → IsNote note → Covers (Host_notes note)
-      → Keeps_known w (entries_all_outside w (noted_by (begun_in note) note)) (happens_all_outside w (noted_by (begun_in note) note))
-  noted_keeps w (entry.Begin node session command) is covers = begun_keeps w node session command
-  noted_keeps w note is covers = one_keeps w (Host_notes note) (note_keeps w note is refl covers)
+  noted_keeps : (w : Outside) (note : Entry) → IsNote note → IsTold note
+      → Keeps w (entries_all_outside w (noted_by (begun_in note) note)) (happens_all_outside w (noted_by (begun_in note) note))
+  noted_keeps w (entry.Begin node number command) is told = begun_keeps w node number command
+  noted_keeps w note is told = one_keeps w (Host_notes note) (note_keeps w note is refl told)
 
-  module _ (host : CoversHost Covers) where
-    puts_keep : (w : Outside) (outs : List HostOut) → NoteOuts outs → Keeps_known w (entries_all_outside w (routed outs)) (happens_all_outside w (routed outs))
-    puts_keep w [] are = keeps_none w
-    puts_keep w (Write unit ∷ outs) are =
-        then_keep w (Host_writes unit ∷ []) (routed outs) (one_keeps w (Host_writes unit) (writes_keep w unit (host.writes unit))) (puts_keep (happens_outside w (Host_writes unit)) outs are.1)
-    puts_keep w (Note note ∷ outs) are =
-        then_keep w (noted_by (begun_in note) note) (routed outs) (noted_keeps w note (is_note note are.0) (host.notes note are.0))
-        (puts_keep (happens_all_outside w (noted_by (begun_in note) note)) outs are.1)
+  pub answers_keep : (w : Outside) (h : HostState) (event : HostEvent) → AllByRecursion IsTold (answers h event)
+      → Keeps w (entries_all_outside w (notes (answers h event))) (happens_all_outside w (notes (answers h event)))
+  answers_keep w h (Accepts order carriage) told =
+      one_keeps w (Host_notes (entry.Accepted (length h.commands + 1) order.node)) (note_keeps w (entry.Accepted (length h.commands + 1) order.node) tt refl told.0)
+  answers_keep w h (Cancels command) told = one_keeps w (Host_notes (entry.Out command Cancelled)) (note_keeps w (entry.Out command Cancelled) tt refl told.0)
+  answers_keep w h event told = keeps_none w
 
-    outs_keep : (w : Outside) (h : HostState) (events : List HostEvent) → Keeps_known w (entries_all_outside w (routed (outs_all h events))) (happens_all_outside w (routed (outs_all h events)))
-    outs_keep w h events = puts_keep w (outs_all h events) (all_outs_note h events)
+  module _ (notes_told : (note : Entry) → IsHostNote note → IsTold note) where
+    puts_keep : (w : Outside) (outs : List HostOut) → NoteOuts outs → UnitsAre IsUnit outs → Keeps w (entries_all_outside w (routed outs)) (happens_all_outside w (routed outs))
+    puts_keep w [] are units = keeps_none w
+    puts_keep w (Write unit ∷ outs) are units =
+        then_keep w (Host_writes unit ∷ []) (routed outs) (one_keeps w (Host_writes unit) (writes_keep w unit units.0)) (puts_keep (happens_outside w (Host_writes unit)) outs are.1 units.1)
+    puts_keep w (Note note ∷ outs) are units =
+        then_keep w (noted_by (begun_in note) note) (routed outs) (noted_keeps w note (is_note note are.0) (notes_told note are.0))
+        (puts_keep (happens_all_outside w (noted_by (begun_in note) note)) outs are.1 units)
 
-    answers_keep : (w : Outside) (h : HostState) (event : HostEvent) → AllByRecursion (λ note. Covers (Host_notes note)) (answers h event)
-        → Keeps_known w (entries_all_outside w (notes (answers h event))) (happens_all_outside w (notes (answers h event)))
-    answers_keep w h (Accepts order carriage) covers =
-        one_keeps w (Host_notes (entry.Accepted (length h.commands + 1) order.node)) (note_keeps w (entry.Accepted (length h.commands + 1) order.node) tt refl covers.0)
-    answers_keep w h (Cancels command) covers = one_keeps w (Host_notes (entry.Out command Cancelled)) (note_keeps w (entry.Out command Cancelled) tt refl covers.0)
-    answers_keep w h event covers = keeps_none w
+    pub outs_keep : (w : Outside) (h : HostState) (events : List HostEvent) → UnitsAre IsUnit (outs_all h events)
+        → Keeps w (entries_all_outside w (routed (outs_all h events))) (happens_all_outside w (routed (outs_all h events)))
+    outs_keep w h events units = puts_keep w (outs_all h events) (all_outs_note h events) units
 
-    -- the host takes bytes
-    takes_keep : (w : Outside) (count : ℕ) → is_stalled w.outer ≡ false → Keeps_known w [] (happens_outside w (host_takes count))
-    unfolding outcome MayOutside
-    takes_keep w count moves = outer w (host_takes count) (tt, host.takes count) moves
+-- ---- an event of the machine
 
-    -- the values of a node are shown
-    shows_keep : (w : Outside) (h : HostState) (node : ℕ) → ((text : List ℕ) → Covers (Host_notes (entry.Json text)))
-        → Keeps_known w (entries_outside w (Host_notes (shown_values h node))) (happens_outside w (Host_notes (shown_values h node)))
-    shows_keep w h node covers = note_keeps w (shown_values h node) tt refl (covers _)
+-- What goes on through each event outside the host, and so where a session begins, goes on through those of the machine.
+module _ (Covers : OuterEvent → Type 0) (host : CoversHost Covers) (Keeps : Outside → List Entry → Outside → Type 0)
+    (none : (w : Outside) → Keeps w [] w)
+    (both : (w u v : Outside) (xs ys : List Entry) → Keeps w xs u → Keeps u ys v → Keeps w (xs ++ ys) v)
+    (outer : (w : Outside) (event : OuterEvent) → Fits Covers event → MayOutside w event → Keeps w (entries_outside w event) (happens_outside w event))
+    (session : (w : Outside) (node session command : ℕ)
+    → Keeps w (entries_outside w (Host_begins node session) ++ entries_outside (happens_outside w (Host_begins node session)) (Host_notes (entry.Begin node session command)))
+    (happens_outside (happens_outside w (Host_begins node session)) (Host_notes (entry.Begin node session command)))) where
+  abbrev Any : LineUnit → Type 0
+  Any unit = Unit {0}
 
-    -- ---- an event of the machine
+  abbrev Told_of : Entry → Type 0
+  Told_of note = Covers (Host_notes note)
 
-    pub event_keeps : (m : Machine) (event : Event) → CoversOuter Covers event → CoversAnswer Covers event → May m event → Keeps_known m.outside (entries m event) (happens m event).outside
-    unfolding happens entries May
-    event_keeps m (Outside_does event) covers answers_it may = outer m.outside event (own_fits Covers event may.0 covers answers_it) may.1
-    event_keeps m (Host_does event) covers answers_it may =
-        let later : Outside = (host_does m (event ∷ [])).outside in
-        keeps_both m.outside later (happens_all_outside later (notes (answers m.host.state event)))
-        (entries_all_outside m.outside (routed (outs_all m.host.state (event ∷ [])))) (entries_all_outside later (notes (answers m.host.state event)))
-        (outs_keep m.outside m.host.state (event ∷ [])) (answers_keep later m.host.state event (answers_it m.host.state))
-    event_keeps m (Host_takes count rest items events) covers answers_it may =
-        let later : Outside = happens_outside m.outside (host_takes count) in
-        keeps_both m.outside later (happens_all_outside later (routed (outs_all m.host.state events))) [] (entries_all_outside later (routed (outs_all m.host.state events)))
-        (takes_keep m.outside count may.moves) (outs_keep later m.host.state events)
-    event_keeps m Decoder_ticks covers answers_it may = keeps_none m.outside
-    event_keeps m (Refuses line refusal) covers answers_it may = note_keeps m.outside (entry.Refused refusal) tt refl answers_it
-    event_keeps m (Shows_values node) covers answers_it may = shows_keep m.outside m.host.state node answers_it
-    event_keeps m (Restarts state) covers answers_it may = keeps_none m.outside
+  -- it writes
+  writes_keep : (w : Outside) (unit : LineUnit) → Any unit → Keeps w (entries_outside w (Host_writes unit)) (happens_outside w (Host_writes unit))
+  unfolding MayOutside
+  writes_keep w unit any = outer w (Host_writes unit) (tt, host.writes unit) tt
+
+  -- it notes that no session has begun
+  note_keeps : (w : Outside) (note : Entry) → IsNote note → begun_in note ≡ None → Told_of note → Keeps w (entries_outside w (Host_notes note)) (happens_outside w (Host_notes note))
+  unfolding MayOutside
+  note_keeps w note is unbegun covers = outer w (Host_notes note) ((is, unbegun), covers) tt
+
+  -- the host takes bytes
+  takes_keep : (w : Outside) (count : ℕ) → is_stalled w.outer ≡ false → Keeps w [] (happens_outside w (host_takes count))
+  unfolding outcome MayOutside
+  takes_keep w count moves = outer w (host_takes count) (tt, host.takes count) moves
+
+  of_host : (w : Outside) (h : HostState) (events : List HostEvent) → Keeps w (entries_all_outside w (routed (outs_all h events))) (happens_all_outside w (routed (outs_all h events)))
+  of_host w h events = outs_keep Any Told_of Keeps none both writes_keep note_keeps session host.notes w h events (any_units (outs_all h events))
+
+  -- the values of a node are shown
+  shows_keep : (w : Outside) (h : HostState) (node : ℕ) → ((text : List ℕ) → Covers (Host_notes (entry.Json text)))
+      → Keeps w (entries_outside w (Host_notes (shown_values h node))) (happens_outside w (Host_notes (shown_values h node)))
+  shows_keep w h node covers = note_keeps w (shown_values h node) tt refl (covers _)
+
+  pub machine_goes : (m : Machine) (event : Event) → CoversOuter Covers event → CoversAnswer Covers event → May m event → Keeps m.outside (entries m event) (happens m event).outside
+  unfolding happens entries May
+  machine_goes m (Outside_does event) covers answers_it may = outer m.outside event (own_fits Covers event may.0 covers answers_it) may.1
+  machine_goes m (Host_does event) covers answers_it may =
+      let later : Outside = (host_does m (event ∷ [])).outside in
+      both m.outside later (happens_all_outside later (notes (answers m.host.state event)))
+      (entries_all_outside m.outside (routed (outs_all m.host.state (event ∷ [])))) (entries_all_outside later (notes (answers m.host.state event)))
+      (of_host m.outside m.host.state (event ∷ [])) (answers_keep Any Told_of Keeps none both writes_keep note_keeps session later m.host.state event (answers_it m.host.state))
+  machine_goes m (Host_takes count rest items events) covers answers_it may =
+      let later : Outside = happens_outside m.outside (host_takes count) in
+      both m.outside later (happens_all_outside later (routed (outs_all m.host.state events))) [] (entries_all_outside later (routed (outs_all m.host.state events)))
+      (takes_keep m.outside count may.moves) (of_host later m.host.state events)
+  machine_goes m Decoder_ticks covers answers_it may = none m.outside
+  machine_goes m (Refuses line refusal) covers answers_it may = note_keeps m.outside (entry.Refused refusal) tt refl answers_it
+  machine_goes m (Shows_values node) covers answers_it may = shows_keep m.outside m.host.state node answers_it
+  machine_goes m (Restarts state) covers answers_it may = none m.outside
+
+-- What a law owes outside the host, and of the units and notes of the host, is enough.
+module _ (Asks : List Entry → Entry → Type 0) (Knows : Pending → Knowing) (Covers : OuterEvent → Type 0) (law : Outer Asks Knows Covers) where
+  abbrev pub Keeps_known : Outside → List Entry → Outside → Type 0
+  Keeps_known w told later = (past : List Entry) → Known Asks Knows past w → EachAfter Asks past told × Known Asks Knows (past ++ told) later
+
+  known_none : (w : Outside) → Keeps_known w [] w
+  known_none w past known = (tt, subst (λ (l : List Entry). Known Asks Knows l w) (sym (append-nil past)) known)
+
+  known_both : (w u v : Outside) (xs ys : List Entry) → Keeps_known w xs u → Keeps_known u ys v → Keeps_known w (xs ++ ys) v
+  known_both w u v xs ys first later past known =
+      let one = first past known in
+      let two = later (past ++ xs) one.1 in
+      (each-append Asks past xs ys one.0 two.0, subst (λ (l : List Entry). Known Asks Knows l v) (append_assoc past xs ys) two.1)
+
+  pub event_keeps : CoversHost Covers → (m : Machine) (event : Event) → CoversOuter Covers event → CoversAnswer Covers event → May m event
+      → Keeps_known m.outside (entries m event) (happens m event).outside
+  event_keeps host m event covers answers_it may =
+      machine_goes Covers host Keeps_known known_none known_both (λ w event fits may. outer_keeps Asks Knows Covers law w event fits may)
+      (λ w node session command. session_keeps Asks Knows Covers law w node session command) m event covers answers_it may
 
   -- the same where each event of the host is covered
   pub machine_keeps : ((event : OuterEvent) → is_own event ≡ false → Covers event) → (m : Machine) (event : Event) → CoversOuter Covers event → May m event

@@ -1,7 +1,6 @@
 -- What is known outside the host, over one list of entries after another.
-use Rattle.std.proofs.Common.{◌≡◌, Bool, true, false, List, [], ◌∷◌, ◌++◌, refl, sym, subst, append_assoc, append-nil}
+use Rattle.std.proofs.Common.{◌≡◌, Bool, true, List, [], ◌∷◌, ◌++◌, refl, sym, subst, append_assoc, append-nil}
 use Rattle.zw_text.specs.declared.entry.Entry.{Entry}
-use Rattle.law_transcript.specs.Lists.{EachAfter}
 use Rattle.proof_host.proofs.Lists.{each-append}
 use Rattle.outside_model.specs.State.{Outside}
 use Rattle.proof_walk.specs.Outside.{Knowing, Moves}

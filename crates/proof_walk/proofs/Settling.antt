@@ -17,7 +17,7 @@ use Rattle.world_model.specs.Events.{Event, Outside_does, Host_does, Host_takes,
 use Rattle.world_model.specs.Did.{happens_all, Then, Nothing, ThenPrefix}
 use Rattle.world_model.specs.Settling.{IsPump, IsChipPart, IsHostPart, IsMove, IfMoved, Passes, TakesBy}
 use Rattle.world_model.specs.Prefixes.{MovePrefix, PassesPrefix}
-use Rattle.proof_walk.specs.Phases.{Phase, To_tick, Sleeping, Submitting, Moving, Moved, after_pump, passes_after, IsStill}
+use Rattle.proof_walk.specs.Phases.{To_tick, Sleeping, Submitting, Moving, Moved, after_pump, passes_after, IsStill}
 use Rattle.proof_walk.specs.Paths.{Path, Leads, Begins}
 use Rattle.proof_walk.specs.Paths.Path.{Ends, Turned, Stepped}
 use Rattle.proof_walk.proofs.Joining.{join, same, then, nothing, then_some}

@@ -1,5 +1,5 @@
 -- What a law owes outside the host is enough for each event there, with the number of the tick before its first entry.
-use Rattle.std.proofs.Common.{◌≡◌, ℕ, ◌&&◌, ◌||◌, not, Bool, true, false, if◌then◌else◌, List, [], ◌∷◌, ◌++◌, refl, sym, subst, ap, append_assoc, append-nil}
+use Rattle.std.proofs.Common.{◌≡◌, ℕ, ◌&&◌, ◌||◌, not, Bool, true, false, if◌then◌else◌, List, [], ◌∷◌, ◌++◌, refl, sym, subst, append_assoc, append-nil}
 use Rattle.std.specs.Prelude.{Option, Some, None, slice_get}
 use Rattle.serial_frame.specs.declared.item.Item.{Item}
 use Rattle.route_table.specs.declared.route.Route.{Route}
@@ -23,13 +23,13 @@ use Rattle.zw_text.specs.declared.entry.Refusal.{Refusal}
 use Rattle.zw_text.specs.declared.entry.Refusal.TheVariants as refusal
 use Rattle.law_transcript.specs.Lists.{EachAfter}
 use Rattle.proof_host.proofs.Lists.{each-append}
-use Rattle.outside_model.specs.State.{OuterState, Outside, outside, Outcome, each, tells, silent}
+use Rattle.outside_model.specs.State.{OuterState, Outside, outside, Outcome, each, tells}
 use Rattle.outside_model.specs.Chip.{chip_does}
 use Rattle.outside_model.specs.Air.{deals}
 use Rattle.outside_model.specs.Devices.{acts_at, acts_by_hand, device_set, set_by_hand, MayAct, MayActByHand}
-use Rattle.outside_model.specs.Events.{OuterEvent, Begins_line, Begins_tick, Host_writes, Host_takes, Host_notes, Host_begins, Chip_takes, Arrives, Gives, Device_ticks, Chip_ticks, Repeats, Wakes_device, Sets_device, Shows, Joins, Discovers, Links, Loses, Loses_acks, Marks_loss, Marks_change, Clears_pipe, Collides_next, Stalls, Cuts, mesh_of, outcome, devices_after, May, steps, repeats, devices_repeated, MayRepeat, refusal_entries, ticked_entry, stamp, has_entered, happens, entries}
+use Rattle.outside_model.specs.Events.{OuterEvent, Begins_line, Begins_tick, Host_writes, Host_takes, Host_notes, Host_begins, Chip_takes, Arrives, Gives, Device_ticks, Chip_ticks, Repeats, Wakes_device, Sets_device, Shows, Joins, Discovers, Links, Loses, Loses_acks, Marks_loss, Marks_change, Clears_pipe, Collides_next, Stalls, Cuts, mesh_of, outcome, devices_after, May, steps, repeats, devices_repeated, MayRepeat, ticked_entry, stamp, has_entered, happens, entries}
 use Rattle.proof_walk.specs.Outside.{Pending, Judging, Dealing, nothing, Knowing, Moves, Comes, Outer, IsSimple, IsHearing, session_begins, Known, awaits_number, CoversRefusal}
-use Rattle.proof_walk.proofs.Moving.{moves_silent, moves_none, moves_both, moves_then}
+use Rattle.proof_walk.proofs.Moving.{moves_none, moves_both, moves_then}
 use Rattle.proof_walk.proofs.Times.{time_of, IsSameTime, IsWithin, does_chip, outcome_time}
 
 -- a simple event is to be covered, and that one is refused
@@ -58,18 +58,20 @@ entered : (in_tick stamped : Bool) → in_tick && not (in_tick || stamped) ≡ f
 entered true stamped = refl
 entered false stamped = refl
 
-module _ (Asks : List Entry → Entry → Type 0) (Knows : Pending → Knowing) (Covers : OuterEvent → Type 0) (law : Outer Asks Knows Covers) where
-  abbrev Base : Knowing
-  Base = Knows nothing
+-- ---- with the number of the tick
 
-  -- ---- with the number of the tick
+module _ (Asks : List Entry → Entry → Type 0) (Base : Knowing)
+    (number_goes : (past : List Entry) (w : Outside) → Base true past w → Base false (past ++ entry.Time w.outer.clock ∷ []) w)
+    (stamps : (awaits stamped : Bool) (past : List Entry) (w : Outside) → Base awaits past w → Base awaits past (outside (record w.outer { stamped = stamped }) w.devices)) where
+  abbrev Numbered : List Entry → Outside → Type 0
+  Numbered past w = Known Asks (λ pending. Base) past w
 
   numbered : (past : List Entry) (w : Outside) (awaits : Bool) → Base awaits past w → Base false (past ++ number_if awaits w.outer.clock) w
-  numbered past w true knows = law.number past w knows
+  numbered past w true knows = number_goes past w knows
   numbered past w false knows = subst (λ (l : List Entry). Base false l w) (sym (append-nil past)) knows
 
   stamped_as : (w : Outside) (p : OuterState) (told : List Entry) (devices : List State) → IsSameTime w.outer p → Moves Asks Base w told Base (outside p devices) → (past : List Entry)
-      → Known Asks Knows past w → EachAfter Asks past (stamp p told) × Known Asks Knows (past ++ stamp p told) (outside (has_entered p told) devices)
+      → Numbered past w → EachAfter Asks past (stamp p told) × Numbered (past ++ stamp p told) (outside (has_entered p told) devices)
   stamped_as w p [] devices time moves past known =
       let got = moves (awaits_number w.outer) past (λ is. refl) known.0 in (
         tt,
@@ -84,17 +86,21 @@ module _ (Asks : List Entry → Entry → Type 0) (Knows : Pending → Knowing) 
       let got = moves false (past ++ number) (λ (is : false ≡ true). absurd cc) (numbered past w (awaits_number w.outer) known.0) in
       let is_entered = entered p.in_tick p.stamped in
       let base : Base false later (outside p devices) = subst (λ (l : List Entry). Base false l (outside p devices)) (append_assoc past number (first ∷ told)) got.1 in
-      subst (λ (t : Bool × Bool × ℕ). EachAfter Asks past (number_at t ++ first ∷ told) × Known Asks Knows (past ++ (number_at t ++ first ∷ told)) (outside (has_entered p (first ∷ told)) devices)) (sym time) (
+      subst (λ (t : Bool × Bool × ℕ). EachAfter Asks past (number_at t ++ first ∷ told) × Numbered (past ++ (number_at t ++ first ∷ told)) (outside (has_entered p (first ∷ told)) devices)) (sym time) (
         each-append Asks past number (first ∷ told) known.1 got.0,
         (
-          subst (λ (b : Bool). Base b later (outside (has_entered p (first ∷ told)) devices)) (sym is_entered) (law.stamps false (p.in_tick || p.stamped) later (outside p devices) base),
+          subst (λ (b : Bool). Base b later (outside (has_entered p (first ∷ told)) devices)) (sym is_entered) (stamps false (p.in_tick || p.stamped) later (outside p devices) base),
           subst (λ (b : Bool). EachAfter Asks later (number_if b p.clock)) (sym is_entered) tt,
         ),
       )
 
-  stamped : (w : Outside) (x : Outcome) (devices : List State) → IsSameTime w.outer x.outer → Comes Asks Base w x devices Base → (past : List Entry)
-      → Known Asks Knows past w → EachAfter Asks past (stamp x.outer x.entries) × Known Asks Knows (past ++ stamp x.outer x.entries) (outside (has_entered x.outer x.entries) devices)
+  pub stamped : (w : Outside) (x : Outcome) (devices : List State) → IsSameTime w.outer x.outer → Comes Asks Base w x devices Base → (past : List Entry)
+      → Numbered past w → EachAfter Asks past (stamp x.outer x.entries) × Numbered (past ++ stamp x.outer x.entries) (outside (has_entered x.outer x.entries) devices)
   stamped w x devices time moves past known = stamped_as w x.outer x.entries devices time moves past known
+
+module _ (Asks : List Entry → Entry → Type 0) (Knows : Pending → Knowing) (Covers : OuterEvent → Type 0) (law : Outer Asks Knows Covers) where
+  abbrev Base : Knowing
+  Base = Knows nothing
 
   -- ---- events that go on
 
@@ -148,7 +154,7 @@ module _ (Asks : List Entry → Entry → Type 0) (Knows : Pending → Knowing) 
 
   -- ---- any event within a line or a tick
 
-  outcome_comes : (w : Outside) (event : OuterEvent) → IsWithin event → Fits Covers event → May w event → Comes Asks Base w (outcome w event) (devices_after w event) Base
+  pub outcome_comes : (w : Outside) (event : OuterEvent) → IsWithin event → Fits Covers event → May w event → Comes Asks Base w (outcome w event) (devices_after w event) Base
   unfolding outcome devices_after May
   outcome_comes w Begins_line within fits may = absurd within
   outcome_comes w Begins_tick within fits may = absurd within
@@ -190,7 +196,7 @@ module _ (Asks : List Entry → Entry → Type 0) (Knows : Pending → Knowing) 
 
   within_keeps : (w : Outside) (event : OuterEvent) → IsWithin event → Fits Covers event → May w event → Keeps w (entries w event) (happens w event)
   within_keeps w event within fits may past known =
-      stamped w (outcome w event) (devices_after w event) (outcome_time w event within) (outcome_comes w event within fits may) past known
+      stamped Asks Base law.number law.stamps w (outcome w event) (devices_after w event) (outcome_time w event within) (outcome_comes w event within fits may) past known
 
   pub outer_keeps : (w : Outside) (event : OuterEvent) → Fits Covers event → May w event → Keeps w (entries w event) (happens w event)
   unfolding outcome devices_after
@@ -209,4 +215,4 @@ module _ (Asks : List Entry → Entry → Type 0) (Knows : Pending → Knowing) 
   unfolding outcome devices_after
   session_keeps w node session command past known =
       let x : Outcome = session_begins w.outer node session command in
-      stamped w x w.devices refl (law.session w node session command) past known
+      stamped Asks Base law.number law.stamps w x w.devices refl (law.session w node session command) past known

@@ -1,10 +1,10 @@
 -- No event but those that begin a line or a tick changes the line or the tick; and what the chip puts out leaves the chip alone.
-use Rattle.std.proofs.Common.{◌≡◌, ℕ, ◌&&◌, Bool, true, false, List, [], ◌∷◌, refl, sym, ◌∙◌, ap}
+use Rattle.std.proofs.Common.{◌≡◌, ℕ, Bool, List, [], ◌∷◌, refl, ◌∙◌, ap}
 use Rattle.std.specs.Prelude.{Option, Some, None, slice_get}
 use Rattle.route_table.specs.declared.route.Route.{Route}
 use Rattle.air_frames.specs.Ages.{refusal_of}
 use Rattle.air_frames.specs.declared.ages.Refusal.{Refusal}
-use Rattle.chip_sim.specs.State.{ChipState, ChipParts}
+use Rattle.chip_sim.specs.State.{ChipParts}
 use Rattle.chip_sim.specs.Events.{ChipEvent, Ticked, after, outs}
 use Rattle.chip_sim.specs.Did.{judged_all}
 use Rattle.chip_sim.specs.declared.out.ChipOut.{ChipOut}

@@ -8,7 +8,7 @@ use Rattle.zw_text.specs.declared.entry.Entry.{Entry}
 use Rattle.zw_text.specs.declared.entry.Entry.TheVariants.{Said}
 use Rattle.zw_text.specs.Transcript.{line_of}
 use Rattle.law_transcript.specs.Lists.{EachAfter}
-use Rattle.host_model.specs.Events.{HostEvent}
+use Rattle.host_model.specs.Events.{HostEvent, Accepts, Cancels, Joins as joins_host, Queues, Queues_interview, Queues_probe}
 use Rattle.host_model.proofs.Silence.{Silent}
 use Rattle.outside_model.specs.Events.{OuterEvent, Begins_line, Begins_tick, Chip_takes, Arrives, Gives, Device_ticks, Chip_ticks, Repeats, Wakes_device, Sets_device, Shows, Joins, Discovers, Links, Loses, Loses_acks, Marks_loss, Marks_change, Clears_pipe, Collides_next, Stalls, Cuts}
 use Rattle.world_model.specs.State.{Machine}
@@ -73,6 +73,24 @@ CoversLine Covers (lines.Local node value) = (route : Option Route) → Covers (
 CoversLine Covers (lines.Show node) = Covers (Shows node)
 CoversLine Covers lines.Restart = Covers (Clears_pipe side.Host) × Covers (Clears_pipe side.Chip)
 CoversLine Covers line = Unit {0}
+
+-- what a line asks of the host
+abbrev pub IsAsked : HostEvent → Type 0
+IsAsked (Accepts order carriage) = Unit {0}
+IsAsked (Cancels command) = Unit {0}
+IsAsked (joins_host node) = Unit {0}
+IsAsked (Queues asked) = Unit {0}
+IsAsked (Queues_interview node) = Unit {0}
+IsAsked Queues_probe = Unit {0}
+IsAsked _ = ⊥
+
+-- an event of the effect of a line: the host does what it is asked for, and what happens outside is covered
+abbrev pub OfEffect : (OuterEvent → Type 0) → Event → Type 0
+OfEffect Covers (Outside_does event) = Covers event
+OfEffect Covers (Host_does event) = IsAsked event
+OfEffect Covers (Host_takes count rest items events) = ⊥
+OfEffect Covers Decoder_ticks = ⊥
+OfEffect Covers event = Unit {0}
 
 -- ---- what a law owes
 

@@ -210,7 +210,7 @@ IsDone _ = Unit {0}
 
 -- It owes what begins a line or a tick, the events of the chip, whatever the chip waits for, and that all else changes nothing of what is known.
 pub record Link (Asks : List Entry → Entry → Type 0) (Knows : Knowing) (Covers : OuterEvent → Type 0) : Type 0 where
-  pub line : (awaits : Bool) (past : List Entry) (w : Outside) → Knows awaits past w → Knows false past w
+  pub line : Covers Begins_line → (awaits : Bool) (past : List Entry) (w : Outside) → Knows awaits past w → Knows false past w
   pub tick : Covers Begins_tick → (awaits : Bool) (past : List Entry) (w : Outside) → Knows awaits past w
       → Asks past (entry.Time (w.outer.clock + 1)) × Knows true past (outside (record w.outer { clock = w.outer.clock + 1; in_tick = true; stamped = false }) w.devices)
   pub number : (past : List Entry) (w : Outside) → Knows true past w → Knows false (past ++ entry.Time w.outer.clock ∷ []) w

@@ -1,6 +1,6 @@
 -- What is known of time at each phase of a line (this project's own rule): so many ticks have begun as lines have asked for, but for those that are still to come; and the
 -- number that was entered last is that of a tick that has begun.
-use Rattle.std.specs.Prelude.{◌≡◌, ◌≤◌, ◌<◌, ℕ, ◌+◌, Bool, true, List, [], ⊤}
+use Rattle.std.specs.Prelude.{◌≡◌, ◌≤◌, ◌<◌, ℕ, ◌+◌, Bool, true, List, ⊤}
 use Rattle.std.specs.List.{AllByRecursion}
 use Rattle.zw_text.specs.declared.entry.Entry.{Entry}
 use Rattle.zw_text.specs.declared.entry.Entry.TheVariants.{Time}
@@ -10,7 +10,7 @@ use Rattle.outside_model.specs.State.{Outside}
 use Rattle.outside_model.specs.Events.{OuterEvent, Begins_tick}
 use Rattle.world_model.specs.State.{Machine}
 use Rattle.proof_walk.specs.Phases.{Phase, Between, Said_line, Begun, Doing, To_tick, Ticked, Arriving, Giving, Ticking_devices, Ticking_chip, Ticking_decoder, Ticking_host, Sleeping, Submitting, Moving, Moved}
-use Rattle.proof_walk.specs.Outside.{Pending, Knowing, Known, CoversOuter}
+use Rattle.proof_walk.specs.Outside.{Known, CoversOuter}
 
 -- a number is above those before it, and lines have asked for so many ticks
 abbrev pub MayCount : List Entry → Entry → Type 0

@@ -1,0 +1,220 @@
+-- What is known of the pipes goes on through what the host writes and notes: of itself it writes data frames alone, and answers only where it takes bytes.
+use Rattle.std.proofs.Common.{◌≡◌, ◌≤◌, ℕ, Bool, true, false, if◌then◌else◌, List, [], ◌∷◌, ◌++◌, length, map, inl, inr, refl, sym, subst, append-nil, append_assoc}
+use Rattle.std.specs.Prelude.{Option, Some, None}
+use Rattle.std.specs.List.{AllByRecursion}
+use Rattle.zw_base.proofs.Each.{all-append}
+use Rattle.serial_frame.specs.Frame.{FrameParts}
+use Rattle.serial_frame.specs.Items.{unit_text}
+use Rattle.serial_frame.specs.declared.unit.Unit.{Unit as LineUnit}
+use Rattle.serial_link.specs.State.{tick_side, copy_due}
+use Rattle.serial_pipes.specs.Events.{told}
+use Rattle.zw_words.specs.declared.side.Side.TheVariants.{Host as by_host, Chip as by_chip}
+use Rattle.zw_text.specs.declared.entry.Entry.{Entry}
+use Rattle.zw_text.specs.declared.entry.Entry.TheVariants as entry
+use Rattle.law_transcript.specs.Lists.{EachAfter}
+use Rattle.law_wire.specs.Pipes.{Pipe, with_answer, gone_on, with_turn}
+use Rattle.proof_host.proofs.Lists.{each-append}
+use Rattle.host_requests.specs.declared.task.Task.{Task}
+use Rattle.host_node.specs.Steps.{tick_end}
+use Rattle.host_node.specs.Search.{next_of}
+use Rattle.host_node.specs.declared.series.Series.{Series}
+use Rattle.host_node.specs.declared.series.Series.TheVariants.{Idle, Due, Running}
+use Rattle.host_model.specs.State.{HostState, node_of, command_at}
+use Rattle.host_model.specs.Sessions.{open_command, settings_with}
+use Rattle.host_model.specs.Ends.{attempt_entries}
+use Rattle.host_model.specs.After.{is_full, is_held, gives_up, line_ticked}
+use Rattle.host_model.specs.Events.{HostEvent, Accepts, Cancels, Joins, Queues, Queues_interview, Queues_probe, Hears, Requests_do, Finishes, Offers, Gives, Resends, Line_ticks, Node_ticks, Submits_abort, Submits_front, Starts, Gives_text, Gives_segment, Drops_no_more, Queues_no_more}
+use Rattle.host_model.specs.Outs.{copy_out, noted, request_entries, failing_entries, dropped_if, stored_entries, held_entries, ended_of, outs, answers}
+use Rattle.host_model.specs.Did.{outs_all}
+use Rattle.host_model.specs.Pumping.{no_more_event, GivesNext, IsServedBy, IsNextOfNodes, IsNextOf, IsNext}
+use Rattle.host_model.specs.Ticking.{first_ticks, tick_events, ticking_nodes}
+use Rattle.host_model.specs.Did.{after_all}
+use Rattle.host_model.specs.declared.out.HostOut.{HostOut}
+use Rattle.host_model.specs.declared.out.HostOut.TheVariants.{Write, Note}
+use Rattle.outside_model.specs.State.{Outside, outside}
+use Rattle.outside_model.specs.Events.{Host_writes, Host_notes, Host_begins, outcome, devices_after, happens as happens_outside, entries as entries_outside}
+use Rattle.outside_model.specs.Did.{happens_all as happens_all_outside, entries_all as entries_all_outside}
+use Rattle.world_model.specs.State.{begun_in, routed}
+use Rattle.world_model.specs.Events.{notes}
+use Rattle.proof_walk.specs.Outside.{Moves, IsNote, session_begins}
+use Rattle.proof_walk.specs.ByLine.{IsAsked}
+use Rattle.proof_walk.proofs.Stamping.{stamped}
+use Rattle.proof_walk.proofs.Machines.{UnitsAre, any_told, outs_keep, answers_keep}
+use Rattle.proof_line.specs.Pipes.{MayLack, Mode, most, Held, HearsNothing}
+use Rattle.proof_line.proofs.Holding.{IsApart, Grown}
+use Rattle.proof_line.proofs.Filling.{Up, Down, HoldsEmpty, held_same, held_turn, host_writes}
+use Rattle.proof_line.proofs.Chipping.{IsFrame, KnowsAs, apart_moves, number_stands}
+
+-- ---- which units it writes
+
+module _ (Is : LineUnit → Type 0) where
+  noted_units : (entries : List Entry) → UnitsAre Is (noted entries)
+  noted_units [] = tt
+  noted_units (e ∷ entries) = noted_units entries
+
+  units-append : (xs ys : List HostOut) → UnitsAre Is xs → UnitsAre Is ys → UnitsAre Is (xs ++ ys)
+  units-append [] ys first later = later
+  units-append (Write unit ∷ xs) ys first later = (first.0, units-append xs ys first.1 later)
+  units-append (Note note ∷ xs) ys first later = units-append xs ys first later
+
+copy_frames : (copy : Option FrameParts) → UnitsAre IsFrame (copy_out copy)
+copy_frames None = tt
+copy_frames (Some f) = (tt, tt)
+
+one_frames : (h : HostState) (event : HostEvent) → HearsNothing event → UnitsAre IsFrame (outs h event)
+one_frames h (Hears item) nothing = absurd nothing
+one_frames h (Requests_do event moment) nothing = noted_units IsFrame (request_entries h event)
+one_frames h (Finishes n number id command status wake_request) nothing =
+    noted_units IsFrame (entry.Out command (ended_of status) ∷ (stored_entries n (settings_with status (command_at h.commands command)) ++ held_entries n (is_held h n wake_request)))
+one_frames h (Offers n) nothing = noted_units IsFrame (dropped_if (is_full h) n)
+one_frames h (Gives n drawn) nothing = noted_units IsFrame (dropped_if (is_full h) n)
+one_frames h (Resends n payload) nothing = noted_units IsFrame (dropped_if (is_full h) n)
+one_frames h Line_ticks nothing =
+    let failing : List Entry = failing_entries (gives_up h.side.turn (tick_side h.side).turn) (line_ticked h) in
+    units-append IsFrame (copy_out (copy_due h.side.turn)) (noted failing) (copy_frames (copy_due h.side.turn)) (noted_units IsFrame failing)
+one_frames h (Node_ticks n) nothing = noted_units IsFrame (attempt_entries n (tick_end (node_of h n)) (open_command (node_of h n)))
+one_frames h Submits_abort nothing = (tt, tt)
+one_frames h Submits_front nothing = (tt, tt)
+one_frames h (Starts n plan more payload) nothing = (tt, tt)
+one_frames h (Gives_text n payload) nothing = (tt, tt)
+one_frames h (Gives_segment n more payload) nothing = (tt, tt)
+one_frames h event nothing = tt
+
+pub frames_alone : (h : HostState) (event : HostEvent) → HearsNothing event → UnitsAre IsFrame (outs_all h (event ∷ []))
+frames_alone h event nothing = subst (UnitsAre IsFrame) (sym (append-nil (outs h event))) (one_frames h event nothing)
+
+-- none where a line asks for something
+abbrev pub NoUnit : LineUnit → Type 0
+NoUnit unit = ⊥
+
+pub asked_none : (h : HostState) (event : HostEvent) → IsAsked event → UnitsAre NoUnit (outs_all h (event ∷ []))
+asked_none h (Accepts order carriage) asked = tt
+asked_none h (Cancels command) asked = tt
+asked_none h (Joins node) asked = tt
+asked_none h (Queues task) asked = tt
+asked_none h (Queues_interview node) asked = tt
+asked_none h Queues_probe asked = tt
+asked_none h event asked = absurd asked
+
+pub any_of : (outs : List HostOut) → UnitsAre (λ unit. Unit {0}) outs
+any_of [] = tt
+any_of (Write unit ∷ outs) = (tt, any_of outs)
+any_of (Note note ∷ outs) = any_of outs
+
+-- ---- which events hear an item
+
+pub no_more_nothing : (h : HostState) (node : ℕ) → HearsNothing (no_more_event h node)
+no_more_nothing h node = by (is_full h)
+  where
+    by : (b : Bool) → HearsNothing (if b then Drops_no_more node else Queues_no_more node)
+    by true = tt
+    by false = tt
+
+ticks_nothing : (nodes : List ℕ) → AllByRecursion HearsNothing (map Node_ticks nodes)
+ticks_nothing [] = tt
+ticks_nothing (node ∷ nodes) = (tt, ticks_nothing nodes)
+
+pub tick_nothing : (h : HostState) → AllByRecursion HearsNothing (tick_events h)
+tick_nothing h = all-append HearsNothing first_ticks (map Node_ticks (ticking_nodes (after_all h first_ticks))) (tt, (tt, tt)) (ticks_nothing (ticking_nodes (after_all h first_ticks)))
+
+gives_nothing : (h : HostState) (n : ℕ) (text : Option (List ℕ)) (event : HostEvent) → GivesNext h n text event → HearsNothing event
+gives_nothing h n (Some text) event is = subst HearsNothing (sym is) tt
+gives_nothing h n None event (payload, opens, is) = subst HearsNothing (sym is) tt
+
+served_nothing : (h : HostState) (n : ℕ) (series : Series) (event : HostEvent) → IsServedBy h n series event → HearsNothing event
+served_nothing h n Running event is = gives_nothing h n (node_of h n).text event is
+served_nothing h n Due event (plan, more, payload, start, is) = subst HearsNothing (sym is) tt
+served_nothing h n Idle event (inl is) = subst HearsNothing (sym is) tt
+served_nothing h n Idle event (inr is) = subst HearsNothing (sym is) tt
+
+nodes_nothing : (h : HostState) (node : Option ℕ) (event : HostEvent) → IsNextOfNodes h node event → HearsNothing event
+nodes_nothing h None event is = absurd is
+nodes_nothing h (Some n) event is = served_nothing h n (node_of h n).series event is
+
+next_of_nothing : (h : HostState) (owes : Bool) (queue : List Task) (event : HostEvent) → IsNextOf h owes queue event → HearsNothing event
+next_of_nothing h true queue event is = subst HearsNothing (sym is) tt
+next_of_nothing h false (task ∷ more) event is = subst HearsNothing (sym is) tt
+next_of_nothing h false [] event is = nodes_nothing h (next_of h.nodes h.served) event is
+
+pub next_nothing : (h : HostState) (event : HostEvent) → IsNext h event → HearsNothing event
+next_nothing h event is = next_of_nothing h h.requests.owes h.requests.queue event is.1
+
+-- ---- what the host puts out
+
+pub note_apart : (e : Entry) → IsNote e → IsApart e
+note_apart (entry.Said words) note = absurd note
+note_apart (entry.Written side unit) note = absurd note
+note_apart (entry.Dropped side) note = absurd note
+note_apart (entry.Garbled side unit) note = absurd note
+note_apart (entry.Overrun side) note = absurd note
+note_apart (entry.Time tick) note = absurd note
+note_apart e note = tt
+
+-- of a note, nothing is asked
+abbrev AnyNote : Entry → Type 0
+AnyNote note = Unit {0}
+
+module _ (mode : Mode) (empty : HoldsEmpty mode) (turns : (up down : Pipe) (a b : List ℕ) → mode up down a b → mode (with_turn by_host up) (with_turn by_chip down) a b) where
+  abbrev pub KeepsHeld : Outside → List Entry → Outside → Type 0
+  KeepsHeld w told later = (past : List Entry) → Held mode past w.outer → EachAfter MayLack past told × Held mode (past ++ told) later.outer
+
+  pub keeps_none : (w : Outside) → KeepsHeld w [] w
+  keeps_none w past held = (tt, subst (λ (l : List Entry). Held mode l w.outer) (sym (append-nil past)) held)
+
+  pub keeps_both : (w u v : Outside) (xs ys : List Entry) → KeepsHeld w xs u → KeepsHeld u ys v → KeepsHeld w (xs ++ ys) v
+  keeps_both w u v xs ys first later past held =
+      let one = first past held in
+      let two = later (past ++ xs) one.1 in
+      (each-append MayLack past xs ys one.0 two.0, subst (λ (l : List Entry). Held mode l v.outer) (append_assoc past xs ys) two.1)
+
+  abbrev always : Bool → Mode
+  always awaits = mode
+
+  number_goes : (past : List Entry) (w : Outside) → KnowsAs always true past w → KnowsAs always false (past ++ entry.Time w.outer.clock ∷ []) w
+  number_goes past w held = held_turn mode mode past w.outer.clock w.outer turns held
+
+  stamps : (awaits is : Bool) (past : List Entry) (w : Outside) → KnowsAs always awaits past w → KnowsAs always awaits past (outside (record w.outer { stamped = is }) w.devices)
+  stamps awaits is past w held = held_same mode past w.outer (record w.outer { stamped = is }) refl refl held
+
+  pub note_keeps : (w : Outside) (note : Entry) → IsNote note → begun_in note ≡ None → KeepsHeld w (entries_outside w (Host_notes note)) (happens_outside w (Host_notes note))
+  unfolding outcome devices_after
+  note_keeps w note is none past held =
+      let got =
+      stamped MayLack (KnowsAs always) number_goes stamps w (outcome w (Host_notes note)) w.devices refl (apart_moves always (λ awaits. empty) w w (note ∷ []) (note_apart note is, tt) refl refl) past
+      (held, number_stands past w.outer) in
+      (got.0, got.1.0)
+
+  pub session_keeps : (w : Outside) (node session command : ℕ)
+      → KeepsHeld w (entries_outside w (Host_begins node session) ++ entries_outside (happens_outside w (Host_begins node session)) (Host_notes (entry.Begin node session command)))
+      (happens_outside (happens_outside w (Host_begins node session)) (Host_notes (entry.Begin node session command)))
+  unfolding outcome devices_after
+  session_keeps w node session command past held =
+      let later : Outside = outside (session_begins w.outer node session command).outer w.devices in
+      let got =
+      stamped MayLack (KnowsAs always) number_goes stamps w (session_begins w.outer node session command) w.devices refl
+      (apart_moves always (λ awaits. empty) w later (entry.Begin node session command ∷ []) (tt, tt) refl refl) past (held, number_stands past w.outer) in
+      (got.0, got.1.0)
+
+  module _ (IsUnit : LineUnit → Type 0)
+      (room : (up down : Pipe) (a b : List ℕ) → mode up down a b → length a ≤ most up)
+      (writes : (unit : LineUnit) → IsUnit unit → (up later down : Pipe) (a after b : List ℕ) → Grown (length (unit_text unit)) up later a after → mode up down a b
+      → mode later (with_answer (length (unit_text unit)) (gone_on down)) after b) where
+    write_moves : (w : Outside) (unit : LineUnit) → IsUnit unit → Moves MayLack (KnowsAs always) w (told by_host w.outer.to_chip unit) (KnowsAs always) (outside (outcome w (Host_writes unit)).outer w.devices)
+    unfolding outcome
+    write_moves w unit is awaits past silent held =
+        host_writes mode past w.outer unit (room (Up past) (Down past) w.outer.to_chip.bytes w.outer.to_host.bytes held.holds)
+        (λ up bytes grown. writes unit is (Up past) up (Down past) w.outer.to_chip.bytes bytes w.outer.to_host.bytes grown held.holds)
+
+    writes_keep : (w : Outside) (unit : LineUnit) → IsUnit unit → KeepsHeld w (entries_outside w (Host_writes unit)) (happens_outside w (Host_writes unit))
+    unfolding outcome devices_after
+    writes_keep w unit is past held =
+        let got =
+        stamped MayLack (KnowsAs always) number_goes stamps w (outcome w (Host_writes unit)) w.devices refl (write_moves w unit is) past (held, number_stands past w.outer) in
+        (got.0, got.1.0)
+
+    pub host_keeps : (w : Outside) (h : HostState) (events : List HostEvent) → UnitsAre IsUnit (outs_all h events)
+        → KeepsHeld w (entries_all_outside w (routed (outs_all h events))) (happens_all_outside w (routed (outs_all h events)))
+    host_keeps w h events units = outs_keep IsUnit AnyNote KeepsHeld keeps_none keeps_both writes_keep (λ w note is unbegun told. note_keeps w note is unbegun) session_keeps (λ note is. tt) w h events units
+
+    pub answer_keeps : (w : Outside) (h : HostState) (event : HostEvent) → KeepsHeld w (entries_all_outside w (notes (answers h event))) (happens_all_outside w (notes (answers h event)))
+    answer_keeps w h event = answers_keep IsUnit AnyNote KeepsHeld keeps_none keeps_both writes_keep (λ w note is unbegun told. note_keeps w note is unbegun) session_keeps w h event (any_told (answers h event))

@@ -1,0 +1,21 @@
+//! Units without room.
+
+ghost use Rattle.std.specs.Prelude.{Option, List, ℕ};
+ghost use Rattle.s0_crypto.specs.declared.key_pair.Keys.{Keys};
+ghost use Rattle.device_sim.specs.State.{State};
+ghost use Rattle.world_model.specs.State.{first_machine};
+ghost use Rattle.world_lines.specs.Spoken.{Spoken, transcript_of};
+ghost use Rattle.world_lines.specs.Done.{AreDone};
+ghost use Rattle.proof_line.specs.Pipes.{OverrunsOnlyWhenFull};
+
+use crate::pipes_go_on;
+
+/// Over any lines from the first on, the last of which an allocation failure may have cut short, a unit is overrun only where what its pipe may still hold, by
+/// what stands before it, leaves it no room in 4,096 bytes.
+pub fn lines_overrun_only_when_full()
+    ensures { (keys : Keys) (records : Option (List (List ℕ))) (devices : List State) (lines : List Spoken) →
+        AreDone (first_machine keys records devices) lines →
+        OverrunsOnlyWhenFull (transcript_of (first_machine keys records devices) lines) }
+{
+    pipes_go_on();
+}
