@@ -1,0 +1,15 @@
+pub mod Members
+pub mod Links
+pub mod Tables
+pub mod Books
+pub mod Walks
+pub mod Unrefused
+pub mod Ties
+pub mod Leaving
+pub mod Coming
+pub mod Outer
+pub mod Setting
+pub mod Remembering
+pub mod Listeners
+pub mod First
+pub mod Walking
