@@ -1,6 +1,6 @@
 -- How what a transcript shows of networks grows, one entry at a time: the live links of the air, the links of the chip's table and the joined nodes. A line counts until a refusal
 -- stands behind it, so an entry grows these where it is no refusal, or where no `join` stands last.
-use Rattle.std.proofs.Common.{◌≡◌, ◌⊎◌, ℕ, ◌==◌, ◌||◌, Bool, true, false, if◌then◌else◌, List, [], ◌∷◌, ◌++◌, refl, sym, ap, ap₂, subst, ◌∙◌, inl, inr, append_assoc, append-nil}
+use Rattle.std.proofs.Common.{◌≡◌, ◌⊎◌, ℕ, ◌==◌, ◌||◌, Bool, true, false, List, [], ◌∷◌, ◌++◌, refl, sym, ap, ap₂, ◌∙◌, inl, inr, append_assoc, append-nil}
 use Rattle.std.proofs.lemmas.Grind.{flat_map-append}
 use Rattle.std.proofs.lemmas.List.Folds.{list_any-append}
 use Rattle.std.specs.List.{list_any, flat_map}
@@ -10,11 +10,11 @@ use Rattle.zw_text.specs.declared.line.Line.TheVariants as lines
 use Rattle.zw_text.specs.declared.entry.Entry.{Entry}
 use Rattle.zw_text.specs.declared.entry.Entry.TheVariants as entry
 use Rattle.zw_text.specs.declared.entry.Refusal.{Refusal}
-use Rattle.zw_text.specs.Transcript.{line_of, line_after, line_last, lines_run, lines_done, folded, Doing, doing_lines, doing_step, join_of, joined}
+use Rattle.zw_text.specs.Transcript.{line_of, line_after, line_last, lines_run, folded, Doing, doing_lines, doing_step, join_of, joined}
 use Rattle.zw_text.proofs.Views.{folded-append, shown-append}
 use Rattle.law_transcript.specs.Nodes.{controller, is_joined}
 use Rattle.law_transcript.specs.Restarts.{begins_refused}
-use Rattle.law_wire.specs.Networks.{first_links, with_link, links_after, air_links, learned_of, learned, known_nodes, table_by, table_step, table_after, chip_links}
+use Rattle.law_wire.specs.Networks.{first_links, with_link, links_after, air_links, learned_of, learned, table_by, table_step, table_after, chip_links}
 
 -- the nodes that lines let join
 abbrev pub joins_in : List Line → List ℕ

@@ -1,8 +1,8 @@
 -- What devices send goes home over the route of the air, and the air keeps its network and its nodes, whatever is heard.
-use Rattle.std.proofs.Common.{◌≡◌, ◌⊎◌, ℕ, zero, suc, ◌+◌, ◌-◌, ◌≤◌, Bool, true, false, List, [], ◌∷◌, ◌++◌, length, slice_get, refl, sym, ap, subst, ◌∙◌, append-nil}
+use Rattle.std.proofs.Common.{◌≡◌, ℕ, zero, suc, ◌+◌, ◌-◌, Bool, true, false, List, [], ◌∷◌, ◌++◌, length, slice_get, refl, sym, ap, subst, ◌∙◌, append-nil}
 use Rattle.std.specs.Prelude.{Option, Some, None}
 use Rattle.std.specs.Option.{option_map, unwrap_or}
-use Rattle.std.specs.List.{AllByRecursion, flat_map}
+use Rattle.std.specs.List.{AllByRecursion}
 use Rattle.zw_base.proofs.Each.{all-append}
 use Rattle.route_table.specs.Network.{Network}
 use Rattle.route_table.specs.declared.route.Route.{Route}
@@ -107,9 +107,11 @@ at_place base place number node (Some device) route event end way ends =
     record {
       air = answered_if_air (is_joined air node) air node (option_map backwards route) (device_replies device event);
       homes = λ home.
-          all-append (ComesHome air.network air.joined) (air_event.Heard number ∷ told ++ replies) end
-          (tt, all-append (ComesHome air.network air.joined) told replies (changed_home air.network air.joined node (length device.journal) (length (device_after device event).journal - length device.journal))
-          (answers_if_home air.network air.joined (is_joined air node) air node route (device_replies device event) refl home (has_way air.network node (device_replies device event) route way)))
+          all-append (ComesHome air.network air.joined) (air_event.Heard number ∷ told ++ replies) end (
+            tt,
+            all-append (ComesHome air.network air.joined) told replies (changed_home air.network air.joined node (length device.journal) (length (device_after device event).journal - length device.journal))
+                (answers_if_home air.network air.joined (is_joined air node) air node route (device_replies device event) refl home (has_way air.network node (device_replies device event) route way)),
+          )
           (ends air.network air.joined);
     }
 

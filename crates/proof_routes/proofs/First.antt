@@ -4,14 +4,13 @@ use Rattle.std.proofs.lemmas.Bool.{cases_eq, cases_lt, eqb-true, eq-eqb, ne_eqb}
 use Rattle.std.proofs.lemmas.List.{length-replicate, get_or-replicate, get_or-set_same, get_or-set_other, get_or_past}
 use Rattle.std.specs.FinSet as set
 use Rattle.std.specs.Ordering.{nat_cmp}
-use Rattle.route_table.specs.Network.{Network, Link, link_cmp, link_of, linked, repeats, no_network}
+use Rattle.route_table.specs.Network.{Network, link_cmp, link_of, linked, repeats, no_network}
 use Rattle.route_table.proofs.Networks.{repeats-insert}
 use Rattle.chip_sim.specs.Nodes.{is_marked, none_marked}
 use Rattle.device_sim.specs.State.{State}
 use Rattle.mesh_sim.specs.Air.{with_link as net_link, with_repeater as net_repeater}
-use Rattle.zw_text.specs.declared.entry.Entry.{Entry}
-use Rattle.law_transcript.specs.Nodes.{controller, first_node, is_joined}
-use Rattle.law_wire.specs.Networks.{are_linked, with_link, listens_at, is_listener}
+use Rattle.law_transcript.specs.Nodes.{is_joined}
+use Rattle.law_wire.specs.Networks.{listens_at, is_listener}
 use Rattle.outside_model.specs.State.{first_outer, outside}
 use Rattle.proof_routes.specs.Networks.{HasLinks, IsApart, is_repeater, is_known, Tie}
 use Rattle.proof_routes.proofs.Links.{same_pair, pair_is, links_set, net_set, apart_set}

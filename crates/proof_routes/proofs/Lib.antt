@@ -1,15 +1,16 @@
-pub mod Members
-pub mod Links
-pub mod Tables
-pub mod Books
-pub mod Walks
-pub mod Unrefused
-pub mod Ties
-pub mod Leaving
-pub mod Coming
-pub mod Outer
-pub mod Setting
-pub mod Remembering
-pub mod Listeners
-pub mod First
-pub mod Walking
+mod Members
+mod Links
+mod Tables
+mod Books
+mod Walks
+mod Unrefused
+mod Ties
+mod Leaving
+mod Coming
+mod Outer
+mod Setting
+mod Remembering
+mod Listeners
+mod First
+mod Saying
+mod Walking

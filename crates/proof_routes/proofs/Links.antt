@@ -1,11 +1,11 @@
 -- Links, a pair of nodes at a time: what a link that is set makes of who hears whom, in a network and in a list of links, and what is learned link by link.
-use Rattle.std.proofs.Common.{◌≡◌, ◌⊎◌, ◌≤◌, ◌<◌, ℕ, ◌==◌, ◌&&◌, ◌||◌, not, min, max, Bool, true, false, if◌then◌else◌, List, [], ◌∷◌, ◌++◌, map, filter, refl, sym, ap, ap₂, subst, ◌∙◌, eqb, inl, inr, arith}
+use Rattle.std.proofs.Common.{◌≡◌, ◌⊎◌, ◌≤◌, ◌<◌, ℕ, ◌==◌, ◌&&◌, ◌||◌, not, min, max, Bool, true, false, if◌then◌else◌, List, [], ◌∷◌, filter, refl, sym, ap, ap₂, ◌∙◌, inl, inr, arith}
 use Rattle.std.proofs.lemmas.Bool.{cases_eq, cases_lt, eqb-true, eq-eqb, ne_eqb, and_from}
 use Rattle.std.proofs.lemmas.Map.Views.{any-filter_same}
 use Rattle.std.specs.List.{list_any}
 use Rattle.std.specs.FinSet as set
 use Rattle.route_table.specs.Network.{Network, Link, link_of, linked}
-use Rattle.route_table.proofs.Networks.{linked-insert, linked-remove, linked-both_ways}
+use Rattle.route_table.proofs.Networks.{linked-insert, linked-remove}
 use Rattle.chip_sim.specs.Events.{with_link as table_link}
 use Rattle.mesh_sim.specs.Air.{with_link as net_link}
 use Rattle.law_wire.specs.Networks.{same_link, are_linked, with_link, learned_of, learned}

@@ -1,6 +1,6 @@
 -- Each thing that happens outside the host keeps the tie, with what it enters: units and results, frames that are heard, what devices do, and what lines set besides networks.
-use Rattle.std.proofs.Common.{◌≡◌, ℕ, ◌≤◌, Bool, true, false, if◌then◌else◌, nat_le, List, [], ◌∷◌, ◌++◌, refl, sym, subst, ◌∙◌, append-nil, arith}
-use Rattle.std.specs.Prelude.{Option, Some, None, slice_get, slice_set}
+use Rattle.std.proofs.Common.{◌≡◌, ℕ, Bool, true, false, if◌then◌else◌, nat_le, List, [], ◌∷◌, refl, sym, subst, ◌∙◌, append-nil, arith}
+use Rattle.std.specs.Prelude.{Option, Some, slice_set}
 use Rattle.std.specs.Option.{option_map}
 use Rattle.std.specs.List.{flat_map}
 use Rattle.zw_base.proofs.Each.{all-weaker}
@@ -34,7 +34,7 @@ use Rattle.outside_model.specs.Devices.{acts, changes_entries, new_changes, show
 use Rattle.outside_model.specs.Events.{OuterEvent, Host_writes, Host_takes, Host_notes, Shows, Joins, Discovers, Links, Loses, Loses_acks, Marks_loss, Marks_change, Clears_pipe, Collides_next, Stalls, Cuts, begins, cleared_entries, mesh_of, outcome}
 use Rattle.proof_device.proofs.Entered.{IsCleared, all_cleared, IsShown, all_shown, IsChange, change_entered, changes_entered}
 use Rattle.proof_device.proofs.Results.{gives_go, ends_go, to_chip_goes}
-use Rattle.proof_walk.specs.Outside.{Pending, Judging, Dealing, nothing, IsNote, IsSimple, IsHearing, Moves, session_begins, Outer}
+use Rattle.proof_walk.specs.Outside.{Judging, Dealing, nothing, IsNote, IsSimple, IsHearing, Moves, session_begins, Outer}
 use Rattle.proof_routes.specs.Networks.{Tie}
 use Rattle.proof_routes.specs.Knowing.{Asks, Knows, SetsNone}
 use Rattle.proof_routes.proofs.Ties.{IsSameNets, same_nets, Known_of, Goes_on, known, both, still_one, still_none, IsQuiet, AreQuiet, quiet_one, quiet_goes}
@@ -83,9 +83,6 @@ module _ (devices : List State) where
 
   goes_known : (w later : Outside) (told : List Entry) → Goes_on devices nothing w told nothing later → Moves (Asks devices) (Knows devices nothing) w told (Knows devices nothing) later
   goes_known w later told goes = known devices nothing nothing w later told goes
-
-  quiet_known : (w later : Outside) (told : List Entry) → AreQuiet told → IsSameNets w.outer later.outer → Moves (Asks devices) (Knows devices nothing) w told (Knows devices nothing) later
-  quiet_known w later told quiet same = goes_known w later told (quiet_goes devices nothing w later told quiet same)
 
   -- ---- frames that are told
 

@@ -2,7 +2,7 @@
 use Rattle.std.proofs.Common.{◌≡◌, ◌⊎◌, ◌≤◌, ◌<◌, ℕ, ◌==◌, ◌||◌, Bool, true, false, List, [], ◌∷◌, ◌++◌, length, length-set, refl, sym, ap, subst, ◌∙◌, inl, inr, arith}
 use Rattle.std.proofs.lemmas.Bool.{cases_eq, cases_lt, eqb-true}
 use Rattle.std.proofs.lemmas.List.{get_or-set_same, get_or-set_other, set_past}
-use Rattle.std.specs.Prelude.{Option, Some, None, slice_set, slice_index_or}
+use Rattle.std.specs.Prelude.{Option, Some, slice_set, slice_index_or}
 use Rattle.s0_crypto.specs.declared.key_pair.Keys.{Keys}
 use Rattle.device_sim.specs.State.{State}
 use Rattle.zw_text.specs.declared.entry.Entry.{Entry}
@@ -206,12 +206,11 @@ known_host past m known node is = (known.holds.nodes node).joined ∙ known.know
 -- a node that joins the host is recorded, and kept
 join_recorded : (past : List Entry) (m : Machine) (node : ℕ) (known : Remembers past m) → (1 ≤ node) × (node ≤ 232)
     → HasRecord (known.texts ++ texts_of (records_all m.host.state (joins_host node ∷ []))) (record_of.Joined node)
-join_recorded past m node known range =
-    (
-      record_text (record_of.Joined node),
-      has_right known.texts (record_text (record_of.Joined node) ∷ []) (record_text (record_of.Joined node)) (inl refl),
-      record { in_range = range; text = refl },
-    )
+join_recorded past m node known range = (
+  record_text (record_of.Joined node),
+  has_right known.texts (record_text (record_of.Joined node) ∷ []) (record_text (record_of.Joined node)) (inl refl),
+  record { in_range = range; text = refl },
+)
 
 join_kept : (past : List Entry) (m : Machine) (node : ℕ) (known : Remembers past m) → node ≤ 232 → (kept_at (kept_after_all known.kept (records_all m.host.state (joins_host node ∷ []))) node).joined ≡ true
 join_kept past m node known high =

@@ -1,5 +1,5 @@
 -- The tie over the lines that set networks: a link that is set, a node that joins, and links that are learned.
-use Rattle.std.proofs.Common.{◌≡◌, ◌≢◌, ◌⊎◌, ◌≤◌, ◌<◌, ℕ, ◌+◌, ◌==◌, ◌&&◌, ◌||◌, not, Bool, true, false, if◌then◌else◌, nat_eq, List, [], ◌∷◌, ◌++◌, length, length-set, slice_index_or, slice_set, filter, map, refl, sym, ap, ap₂, subst, ◌∙◌, inl, inr, arith}
+use Rattle.std.proofs.Common.{◌≡◌, ◌⊎◌, ◌≤◌, ℕ, ◌==◌, ◌&&◌, ◌||◌, Bool, true, false, if◌then◌else◌, List, ◌∷◌, length, length-set, slice_set, filter, refl, sym, ap, ap₂, subst, ◌∙◌, inl, inr, arith}
 use Rattle.std.proofs.lemmas.Bool.{cases_eq, eqb-true, eq-eqb, ne_eqb, and_from, or_left, or_right}
 use Rattle.std.proofs.lemmas.List.{get_or-set_same, get_or-set_other}
 use Rattle.std.specs.List.{list_any, range_with_len}
@@ -9,7 +9,7 @@ use Rattle.route_table.specs.Network.{Network, Link, link_of, linked, repeats}
 use Rattle.route_table.proofs.Networks.{repeats-insert, repeats-remove}
 use Rattle.chip_sim.specs.State.{ChipState}
 use Rattle.chip_sim.specs.Nodes.{is_marked}
-use Rattle.chip_sim.specs.Events.{Joined, Linked, after, with_repeater as table_repeater}
+use Rattle.chip_sim.specs.Events.{Joined, after, with_repeater as table_repeater}
 use Rattle.chip_sim.specs.Did.{after_all}
 use Rattle.device_sim.specs.State.{State}
 use Rattle.mesh_sim.specs.Air.{AirState, linking, joining, with_link as net_link, with_repeater as net_repeater}
@@ -18,11 +18,11 @@ use Rattle.zw_text.specs.Transcript.{joined}
 use Rattle.law_transcript.specs.Lists.{Has}
 use Rattle.law_transcript.specs.Nodes.{controller, is_joined}
 use Rattle.law_wire.specs.Networks.{are_linked, with_link, air_links, chip_links, learned_of, learned, listens_at}
-use Rattle.outside_model.specs.State.{OuterState, Outside, outside}
-use Rattle.outside_model.specs.Nodes.{joins, discovers, links_of, pairs_of, all_pairs, is_known as known_in}
+use Rattle.outside_model.specs.State.{Outside, outside}
+use Rattle.outside_model.specs.Nodes.{joins, discovers, links_of, all_pairs, is_known as known_in}
 use Rattle.proof_routes.specs.Networks.{HasLinks, HasRepeaters, IsApart, is_repeater, is_known, Tie}
 use Rattle.proof_routes.proofs.Members.{has_number, number_has, has_filter, filter_has, range_has}
-use Rattle.proof_routes.proofs.Links.{same_pair, pair_of, pair_linked, pair_listed, or_as, and_as, links_set, apart_set, any_pair, any_pairs, any_each, learned_of_shows, learned_shows}
+use Rattle.proof_routes.proofs.Links.{pair_of, pair_linked, pair_listed, or_as, and_as, links_set, apart_set, any_pair, any_pairs, any_each, learned_of_shows, learned_shows}
 use Rattle.proof_routes.proofs.Tables.{live_shows, live_good, all_shows, all_good, pair_nodes, nodes_pair, or_split, pairs_nodes, nodes_pairs, below, all_known, each_nodes, nodes_each, map_keeps, each_keeps, net_repeater_linked, table_repeater_linked}
 
 pub not_true : (b : Bool) → (b ≡ true → ⊥) → b ≡ false
@@ -330,8 +330,8 @@ module _ (devices : List State) (past later : List Entry) (w : Outside) (tie : T
         apart_from (other, has, are) none =
             none_before x y other are
             ∙ sym (not_true (are_linked (air_links past) x y) (λ hears.
-                let live : are_linked (air_links past) node other ≡ true = sym (pair_listed (air_links past) x y node other (pair_of x y node other are)) ∙ hears in
-                let bad : false ≡ true = sym none ∙ nodes_pair x y node other heard (before_heard other has live) are in cc))
+            let live : are_linked (air_links past) node other ≡ true = sym (pair_listed (air_links past) x y node other (pair_of x y node other are)) ∙ hears in
+            let bad : false ≡ true = sym none ∙ nodes_pair x y node other heard (before_heard other has live) are in cc))
 
         by : (m k : Bool) → any_pair x y node heard ≡ m → any_pair x y node (controller ∷ joined past) ≡ k
             → (if m then are_linked (air_links past) x y else are_linked (chip_links past) x y) ≡ (if k then are_linked (air_links past) x y else are_linked (chip_links past) x y)

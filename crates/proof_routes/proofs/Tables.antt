@@ -1,20 +1,17 @@
 -- What the chip's table is once a node has joined, and once the links between known nodes were learned.
-use Rattle.std.proofs.Common.{◌≡◌, ◌⊎◌, ◌≤◌, ◌<◌, ℕ, ◌+◌, ◌-◌, ◌==◌, ◌&&◌, ◌||◌, not, Bool, true, false, if◌then◌else◌, cond, nat_eq, List, [], ◌∷◌, ◌++◌, map, filter, refl, sym, ap, ap₂, subst, ◌∙◌, inl, inr, arith}
-use Rattle.std.proofs.lemmas.Bool.{cases_lt, eqb-true, eq-eqb, and_from}
-use Rattle.std.specs.List.{list_any, range_with_len, flat_map}
+use Rattle.std.proofs.Common.{◌≡◌, ◌⊎◌, ◌≤◌, ◌<◌, ℕ, ◌-◌, ◌&&◌, ◌||◌, Bool, true, false, if◌then◌else◌, cond, nat_eq, List, [], ◌∷◌, map, filter, refl, sym, ap, ap₂, subst, ◌∙◌, inl, inr, arith}
+use Rattle.std.proofs.lemmas.Bool.{cases_lt}
+use Rattle.std.specs.List.{range_with_len, flat_map}
 use Rattle.std.specs.FinSet as set
-use Rattle.std.specs.Ordering.{nat_cmp}
-use Rattle.route_table.specs.Network.{Network, link_of, linked, repeats}
-use Rattle.route_table.proofs.Networks.{linked-both_ways}
+use Rattle.route_table.specs.Network.{Network, link_of, linked}
 use Rattle.chip_sim.specs.State.{ChipState}
-use Rattle.chip_sim.specs.Events.{ChipEvent, Joined, Linked, after, with_link as table_link, with_repeater as table_repeater}
+use Rattle.chip_sim.specs.Events.{ChipEvent, Linked, after, with_link as table_link, with_repeater as table_repeater}
 use Rattle.chip_sim.specs.Did.{after_all}
 use Rattle.chip_sim.proofs.EventLists.{after_all-append}
-use Rattle.mesh_sim.specs.Air.{AirState, with_repeater as net_repeater}
-use Rattle.outside_model.specs.Nodes.{is_known, links_of, pairs_of, all_pairs}
+use Rattle.mesh_sim.specs.Air.{with_repeater as net_repeater}
 use Rattle.law_transcript.specs.Lists.{Has}
 use Rattle.proof_routes.specs.Networks.{IsApart}
-use Rattle.proof_routes.proofs.Members.{any_has, has_any, has_filter, filter_has, has_range, range_has}
+use Rattle.proof_routes.proofs.Members.{any_has, has_any, has_filter, filter_has, range_has}
 use Rattle.proof_routes.proofs.Links.{same_pair, pair_is, pair_of, pair_linked, net_set, table_as, apart_set, any_pair, any_pairs, any_each, Learning, learn_of, learn_each, of_good, of_shows, each_good, each_shows}
 
 -- ---- the chip learns links of a network

@@ -1,7 +1,7 @@
 -- The tie goes on: with what shows nothing of networks, from a transcript to another that shows the same, and to a machine that has the same networks.
-use Rattle.std.proofs.Common.{◌≡◌, ◌⊎◌, ◌≤◌, ℕ, ◌==◌, ◌&&◌, ◌||◌, Bool, true, false, List, [], ◌∷◌, ◌++◌, length, refl, sym, ap, ap₂, subst, ◌∙◌, inl, inr, append_assoc, append-nil}
+use Rattle.std.proofs.Common.{◌≡◌, ℕ, ◌==◌, ◌&&◌, ◌||◌, Bool, List, [], ◌∷◌, ◌++◌, length, refl, sym, ap, subst, ◌∙◌, inr, append_assoc, append-nil}
 use Rattle.std.specs.List.{AllByRecursion}
-use Rattle.route_table.specs.Network.{Network, Link, linked, repeats}
+use Rattle.route_table.specs.Network.{Network, Link, linked}
 use Rattle.chip_sim.specs.Nodes.{is_marked}
 use Rattle.device_sim.specs.State.{State}
 use Rattle.zw_text.specs.declared.entry.Entry.{Entry}
@@ -13,7 +13,7 @@ use Rattle.law_wire.specs.Routes.{MayGo}
 use Rattle.proof_host.proofs.Lists.{each-append}
 use Rattle.outside_model.specs.State.{OuterState, Outside}
 use Rattle.proof_walk.specs.Outside.{Pending, Judging, Dealing, Moves}
-use Rattle.proof_routes.specs.Networks.{HasLinks, HasRepeaters, IsApart, is_repeater, is_known, Tie}
+use Rattle.proof_routes.specs.Networks.{HasLinks, HasRepeaters, IsApart, is_repeater, Tie}
 use Rattle.proof_routes.specs.Knowing.{HasNoWords, Asks, NoJoin, ComesHome, AllComeHome, Knows}
 use Rattle.proof_routes.proofs.Books.{SameShown, same_back, same_joined, IsStill, still_line, still_shown, still_last}
 
@@ -96,11 +96,10 @@ module _ (devices : List State) where
 
   -- an entry that shows nothing of networks, and may stand there
   pub still_one : (pending : Pending) (w : Outside) (e : Entry) → IsStill e → ((past : List Entry) → Known_of pending past w → MayGo devices past e) → Goes_on pending w (e ∷ []) pending w
-  still_one pending w e still may past knows =
-      (
-        ((may past knows, still_words e still), tt),
-        (tie_shown devices past (past ++ e ∷ []) w (same_back (past ++ e ∷ []) past (still_shown past e still (inr knows.1))) knows.0, still_last past e (still_line e still), knows.2),
-      )
+  still_one pending w e still may past knows = (
+    ((may past knows, still_words e still), tt),
+    (tie_shown devices past (past ++ e ∷ []) w (same_back (past ++ e ∷ []) past (still_shown past e still (inr knows.1))) knows.0, still_last past e (still_line e still), knows.2),
+  )
 
   -- nothing is entered, and the networks are the same
   pub still_none : (pending : Pending) (w later : Outside) → IsSameNets w.outer later.outer → Goes_on pending w [] pending later

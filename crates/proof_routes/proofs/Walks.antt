@@ -1,5 +1,5 @@
 -- A route is that of every network in which the same nodes hear each other and the same may repeat. So what a route of the machine's networks shows is a route by the transcript.
-use Rattle.std.proofs.Common.{◌≡◌, ◌≢◌, ◌⊎◌, ◌≤◌, ◌<◌, ◌-◌, ℕ, ◌==◌, ◌&&◌, Bool, true, false, cond, IsTrue, nat_le, nat_eq, List, [], ◌∷◌, ◌++◌, length, take, drop, reverse, filter, refl, sym, ap, ap₂, subst, ◌∙◌, inl, inr, arith}
+use Rattle.std.proofs.Common.{◌≡◌, ◌≤◌, ◌<◌, ◌-◌, ℕ, ◌==◌, Bool, true, false, cond, IsTrue, nat_le, List, [], ◌∷◌, length, take, drop, reverse, filter, refl, sym, ap, ap₂, subst, ◌∙◌, inl, inr, arith}
 use Rattle.std.proofs.lemmas.Bool.{eqb-true, ne_eqb, and_from, le-leb}
 use Rattle.std.proofs.lemmas.List.{reverse-reverse, length-reverse, length-take-le, take_at, get_or-reverse}
 use Rattle.std.proofs.lemmas.List.Elements.{All-weaker, recursion_from_All}
@@ -12,18 +12,18 @@ use Rattle.std.specs.Ordering.{eq_by_cmp}
 use Rattle.route_table.specs.declared.route.Route.{Route}
 use Rattle.route_table.specs.Route.{via}
 use Rattle.route_table.specs.Network.{Network, Link, link_cmp, link_of, linked, repeats}
-use Rattle.route_table.specs.Walk.{Hops, Walk, ComesFirst}
+use Rattle.route_table.specs.Walk.{Hops, Walk}
 use Rattle.route_table.proofs.Networks.{link_cmp_total, tied_links}
 use Rattle.chip_sim.specs.Requests.{IsRoute as is_way}
 use Rattle.device_sim.specs.State.{State}
 use Rattle.mesh_sim.specs.Air.{no_route}
-use Rattle.mesh_sim.specs.Routes.{IsRoute, IsLeast, backwards}
+use Rattle.mesh_sim.specs.Routes.{IsRoute, backwards}
 use Rattle.zw_text.specs.declared.entry.Entry.{Entry}
 use Rattle.zw_text.specs.declared.entry.Entry.TheVariants as entry
 use Rattle.zw_text.specs.Transcript.{joined}
 use Rattle.law_transcript.specs.Nodes.{controller, is_joined}
 use Rattle.law_wire.specs.Networks.{same_link, are_linked, air_links, chip_links, listens_at, network_of, air_network, chip_network}
-use Rattle.law_wire.specs.Routes.{IsRouteTo, HasNoRoute, GoesHome, GoesOver, MayGo}
+use Rattle.law_wire.specs.Routes.{IsRouteTo, GoesHome, GoesOver, MayGo}
 use Rattle.outside_model.specs.Chip.{is_node, shown_via}
 use Rattle.outside_model.specs.State.{Outside}
 use Rattle.proof_routes.specs.Networks.{HasLinks, HasRepeaters, is_repeater, Tie}

@@ -1,6 +1,6 @@
 -- What is known of networks at each phase of a line (this project's own rule). A line that sets links, lets a node join or has links learned is counted with its words, and takes
 -- effect by its event; between these the machine has the networks of the transcript before the words.
-use Rattle.std.specs.Prelude.{◌≡◌, ◌≢◌, ◌⊎◌, ℕ, Bool, true, false, List, [], ◌∷◌, ◌++◌, Option, Some}
+use Rattle.std.specs.Prelude.{◌≡◌, ◌≢◌, ◌⊎◌, ℕ, Bool, true, false, List, [], ◌∷◌, ◌++◌, Some}
 use Rattle.std.specs.List.{AllByRecursion, flat_map}
 use Rattle.route_table.specs.Network.{Network}
 use Rattle.chip_sim.specs.Nodes.{is_marked}
@@ -30,7 +30,7 @@ use Rattle.world_model.specs.Lines.{IsEffect}
 use Rattle.proof_device.specs.GoingOn.{GoOn}
 use Rattle.proof_walk.specs.Phases.{Phase}
 use Rattle.proof_walk.specs.ByLine.{KnownOf, by_line}
-use Rattle.proof_walk.specs.Outside.{Pending, Judging, Dealing, nothing, Knowing, Known, CoversOuter}
+use Rattle.proof_walk.specs.Outside.{Pending, Judging, Dealing, Knowing, Known, CoversOuter}
 use Rattle.proof_routes.specs.Networks.{Tie}
 
 -- ---- entries

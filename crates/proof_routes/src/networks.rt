@@ -14,8 +14,8 @@ ghost use Rattle.proof_routes.specs.Knowing.{KnowNetworks};
 use chip_sim::rules_of_events;
 use host_keep::a_text_is_of_one_record;
 use host_model::{
-    a_host_begins_with_what_is_kept, a_restart_keeps_what_is_held, events_do_what_their_records_do, facts_are_kept,
-    facts_are_kept_by_all,
+    a_host_begins_with_what_is_kept, a_restart_keeps_what_is_held, events_do_what_their_records_do,
+    facts_are_kept, facts_are_kept_by_all,
 };
 use proof_device::{devices_go_on, devices_stay_the_same};
 

@@ -1,9 +1,10 @@
 -- At first node 2 is joined, counts as listening and is linked to node 1, for the air as for the chip.
-use Rattle.std.proofs.Common.{[], Some}
+use Rattle.std.proofs.Common.{Some}
 use Rattle.world_model.specs.State.{first_machine}
 use Rattle.proof_routes.proofs.First.{first_tie}
 use Rattle.proof_routes.proofs.Remembering.{first_remembers}
-use Rattle.proof_routes.proofs.Walking.{networks_walk, nothing_said, tie_of}
+use Rattle.proof_routes.proofs.Saying.{nothing_said, tie_of}
+use Rattle.proof_routes.proofs.Walking.{networks_walk}
 use Rattle.proof_device.proofs.DevicePlaces.{go_none}
 use Rattle.proof_routes.proofs.networks.networks_go_on.Goals as goal
 
