@@ -1,9 +1,9 @@
 -- How what a transcript shows of networks grows, one entry at a time: the live links of the air, the links of the chip's table and the joined nodes. A line counts until a refusal
--- stands behind it, so an entry grows these where it is no refusal, or where no `join` stands last.
+-- stands after it, so an entry grows these where it is no refusal, or where no `join` stands last.
 use Rattle.std.proofs.Common.{◌≡◌, ◌⊎◌, ℕ, ◌==◌, ◌||◌, Bool, true, false, List, [], ◌∷◌, ◌++◌, refl, sym, ap, ap₂, ◌∙◌, inl, inr, append_assoc, append-nil}
 use Rattle.std.proofs.lemmas.Grind.{flat_map-append}
 use Rattle.std.proofs.lemmas.List.Folds.{list_any-append}
-use Rattle.std.specs.List.{list_any, flat_map}
+use Rattle.std.specs.List.{list_any}
 use Rattle.route_table.specs.Network.{Link}
 use Rattle.zw_text.specs.declared.line.Line.{Line}
 use Rattle.zw_text.specs.declared.line.Line.TheVariants as lines
@@ -15,14 +15,7 @@ use Rattle.zw_text.proofs.Views.{folded-append, shown-append}
 use Rattle.law_transcript.specs.Nodes.{controller, is_joined}
 use Rattle.law_transcript.specs.Restarts.{begins_refused}
 use Rattle.law_wire.specs.Networks.{first_links, with_link, links_after, air_links, learned_of, learned, table_by, table_step, table_after, chip_links}
-
--- the nodes that lines let join
-abbrev pub joins_in : List Line → List ℕ
-joins_in lines = flat_map join_of lines
-
--- no `join` stands last
-abbrev pub NoJoin : List Entry → Type 0
-NoJoin past = joins_in (line_last past) ≡ []
+use Rattle.proof_routes.specs.Knowing.{joins_in, NoJoin}
 
 -- the next entry refuses no `join`
 abbrev pub Keeps : List Entry → Entry → Type 0
@@ -175,11 +168,11 @@ still_shown past e still keeps = record {
   nodes = joined_grows past e keeps ∙ (ap (λ (l : List Line). joined past ++ joins_in l) (still_line e still) ∙ append-nil (joined past));
 }
 
--- behind any entry but a line's words no `join` stands last
+-- after any entry but a line's words no `join` stands last
 pub still_last : (past : List Entry) (e : Entry) → line_of e ≡ [] → NoJoin (past ++ e ∷ [])
 still_last past e none = ap joins_in (last_is past e ∙ none)
 
--- the same entry shows the same behind two such transcripts
+-- the same entry shows the same after two such transcripts
 step_by : (one other : List Entry) → SameShown one other → (table : List Link) (said : List Line) → table_by one false table said ≡ table_by other false table said
 step_by one other same table [] = refl
 step_by one other same table (lines.Join node ∷ more) = ap₂ (λ (a : List Link) (l : List ℕ). learned_of a node (controller ∷ l) table) same.air same.nodes

@@ -1,6 +1,6 @@
 -- Links, a pair of nodes at a time: what a link that is set makes of who hears whom, in a network and in a list of links, and what is learned link by link.
 use Rattle.std.proofs.Common.{◌≡◌, ◌⊎◌, ◌≤◌, ◌<◌, ℕ, ◌==◌, ◌&&◌, ◌||◌, not, min, max, Bool, true, false, if◌then◌else◌, List, [], ◌∷◌, filter, refl, sym, ap, ap₂, ◌∙◌, inl, inr, arith}
-use Rattle.std.proofs.lemmas.Bool.{cases_eq, cases_lt, eqb-true, eq-eqb, ne_eqb, and_from}
+use Rattle.std.proofs.lemmas.Bool.{and_parts, cases_eq, cases_lt, eqb-true, eq-eqb, ne_eqb, and_from}
 use Rattle.std.proofs.lemmas.Map.Views.{any-filter_same}
 use Rattle.std.specs.List.{list_any}
 use Rattle.std.specs.FinSet as set
@@ -17,13 +17,9 @@ use Rattle.proof_routes.specs.Networks.{HasLinks, IsApart}
 abbrev pub same_pair : ℕ → ℕ → ℕ → ℕ → Bool
 same_pair x y a b = same_link (link_of x y) (link_of a b)
 
-both_true : (a b : Bool) → a && b ≡ true → (a ≡ true) × (b ≡ true)
-both_true true b is = (refl, is)
-both_true false b is = let none : false ≡ true = is in absurd cc
-
 ends : (x y a b : ℕ) → same_pair x y a b ≡ true → (min x y ≡ min a b) × (max x y ≡ max a b)
 ends x y a b same =
-    let both = both_true (min x y == min a b) (max x y == max a b) same in
+    let both = and_parts (min x y == min a b) (max x y == max a b) same in
     (eqb-true (min x y) (min a b) both.0, eqb-true (max x y) (max a b) both.1)
 
 pub pair_is : (x y a b : ℕ) → same_pair x y a b ≡ true → ((x ≡ a) × (y ≡ b)) ⊎ ((x ≡ b) × (y ≡ a))
@@ -96,7 +92,7 @@ link_symmetric k l = ap₂ (λ (a b : Bool). a && b) (same_number k.low l.low) (
 -- of two links of one pair each is that of a third where the other is
 link_through : (q k l : Link) → same_link q l ≡ true → same_link k l ≡ same_link q k
 link_through q k l same =
-    let both = both_true (q.low == l.low) (q.high == l.high) same in
+    let both = and_parts (q.low == l.low) (q.high == l.high) same in
     let low = eqb-true q.low l.low both.0 in
     let high = eqb-true q.high l.high both.1 in
     ap₂ (λ (a b : ℕ). (k.low == a) && (k.high == b)) (sym low) (sym high) ∙ link_symmetric k q

@@ -21,8 +21,8 @@ use Rattle.proof_device.specs.GoingOn.{GoOn}
 use Rattle.proof_walk.specs.ByLine.{IsOfTick, CoversLine}
 use Rattle.proof_walk.proofs.ByLine.{effect_covered}
 use Rattle.proof_routes.specs.Networks.{Tie}
-use Rattle.proof_routes.specs.Knowing.{HasNoWords, Asks, NoJoin, SetsNone, HasDevices, Settled, Else, Saying, Opened, IsPlain, Left}
-use Rattle.proof_routes.proofs.Books.{joins_in, last_is, air_grows, chip_grows, joined_grows, SameShown, same_back, same_joined, still_shown, still_last}
+use Rattle.proof_routes.specs.Knowing.{joins_in, HasNoWords, Asks, NoJoin, SetsNone, HasDevices, Settled, Else, Saying, Opened, IsPlain, Left}
+use Rattle.proof_routes.proofs.Books.{last_is, air_grows, chip_grows, joined_grows, SameShown, same_back, same_joined, still_shown, still_last}
 use Rattle.proof_routes.proofs.Ties.{tie_shown, same_nets, tie_nets}
 use Rattle.proof_routes.proofs.Remembering.{remembers_shown, remembers_same}
 

@@ -1,6 +1,6 @@
 -- The tie over the lines that set networks: a link that is set, a node that joins, and links that are learned.
 use Rattle.std.proofs.Common.{◌≡◌, ◌⊎◌, ◌≤◌, ℕ, ◌==◌, ◌&&◌, ◌||◌, Bool, true, false, if◌then◌else◌, List, ◌∷◌, length, length-set, slice_set, filter, refl, sym, ap, ap₂, subst, ◌∙◌, inl, inr, arith}
-use Rattle.std.proofs.lemmas.Bool.{cases_eq, eqb-true, eq-eqb, ne_eqb, and_from, or_left, or_right}
+use Rattle.std.proofs.lemmas.Bool.{and_parts, or_cases, false_from_ne_true, cases_eq, eqb-true, eq-eqb, ne_eqb, and_from, or_left, or_right}
 use Rattle.std.proofs.lemmas.List.{get_or-set_same, get_or-set_other}
 use Rattle.std.specs.List.{list_any, range_with_len}
 use Rattle.std.specs.FinSet as set
@@ -23,22 +23,15 @@ use Rattle.outside_model.specs.Nodes.{joins, discovers, links_of, all_pairs, is_
 use Rattle.proof_routes.specs.Networks.{HasLinks, HasRepeaters, IsApart, is_repeater, is_known, Tie}
 use Rattle.proof_routes.proofs.Members.{has_number, number_has, has_filter, filter_has, range_has}
 use Rattle.proof_routes.proofs.Links.{pair_of, pair_linked, pair_listed, or_as, and_as, links_set, apart_set, any_pair, any_pairs, any_each, learned_of_shows, learned_shows}
-use Rattle.proof_routes.proofs.Tables.{live_shows, live_good, all_shows, all_good, pair_nodes, nodes_pair, or_split, pairs_nodes, nodes_pairs, below, all_known, each_nodes, nodes_each, map_keeps, each_keeps, net_repeater_linked, table_repeater_linked}
+use Rattle.proof_routes.proofs.Tables.{live_shows, live_good, all_shows, all_good, pair_nodes, nodes_pair, pairs_nodes, nodes_pairs, below, all_known, each_nodes, nodes_each, map_keeps, each_keeps, net_repeater_linked, table_repeater_linked}
 
-pub not_true : (b : Bool) → (b ≡ true → ⊥) → b ≡ false
-not_true true none = absurd (none refl)
-not_true false none = refl
-
-both_ways : (a b : Bool) → (a ≡ true → b ≡ true) → (b ≡ true → a ≡ true) → a ≡ b
-both_ways true b to from = sym (to refl)
-both_ways false b to from = sym (not_true b (λ is. no_true (from is)))
+-- two tests are one that follow from each other
+same_test : (a b : Bool) → (a ≡ true → b ≡ true) → (b ≡ true → a ≡ true) → a ≡ b
+same_test true b to from = sym (to refl)
+same_test false b to from = sym (false_from_ne_true b (λ is. no_true (from is)))
   where
     no_true : false ≡ true → ⊥
     no_true is = cc
-
-both_true : (a b : Bool) → a && b ≡ true → (a ≡ true) × (b ≡ true)
-both_true true b is = (refl, is)
-both_true false b is = let none : false ≡ true = is in absurd cc
 
 -- ---- a link is set
 
@@ -84,7 +77,7 @@ module _ (devices : List State) (past later : List Entry) (w : Outside) (tie : T
   -- ---- links are learned
 
   known_has : (node : ℕ) → known_in w.outer.air node ≡ true → Has (controller ∷ joined past) node
-  known_has node known = by (or_split (node == 1) (is_marked w.outer.air.joined node) known)
+  known_has node known = by (or_cases (node == 1) (is_marked w.outer.air.joined node) known)
     where
       by : ((node == 1) ≡ true) ⊎ (is_marked w.outer.air.joined node ≡ true) → Has (controller ∷ joined past) node
       by (inl is) = inl (sym (eqb-true node 1 is))
@@ -102,7 +95,7 @@ module _ (devices : List State) (past later : List Entry) (w : Outside) (tie : T
   known_now node = known_in w.outer.air node
 
   each_pairs : (x y : ℕ) → (x ≡ y → ⊥) → any_each x y (below known_now) (all_known known_now) ≡ any_pairs x y (controller ∷ joined past)
-  each_pairs x y other = both_ways (any_each x y (below known_now) (all_known known_now)) (any_pairs x y (controller ∷ joined past)) there back
+  each_pairs x y other = same_test (any_each x y (below known_now) (all_known known_now)) (any_pairs x y (controller ∷ joined past)) there back
     where
       there : any_each x y (below known_now) (all_known known_now) ≡ true → any_pairs x y (controller ∷ joined past) ≡ true
       there any = let both = each_nodes known_now x y any in nodes_pairs x y (controller ∷ joined past) other (known_has x both.0) (known_has y both.1)
@@ -195,7 +188,7 @@ module _ (devices : List State) (past later : List Entry) (w : Outside) (tie : T
     -- ---- nodes
 
     symmetric : (a b : ℕ) → (a == b) ≡ (b == a)
-    symmetric a b = both_ways (a == b) (b == a) (λ is. eq-eqb b a (sym (eqb-true a b is))) (λ is. eq-eqb a b (sym (eqb-true b a is)))
+    symmetric a b = same_test (a == b) (b == a) (λ is. eq-eqb b a (sym (eqb-true a b is))) (λ is. eq-eqb a b (sym (eqb-true b a is)))
 
     joined_as : (other : ℕ) → is_joined later other ≡ (if other == node then true else is_joined past other)
     joined_as other = nodes other ∙ (ap (λ (b : Bool). is_joined past other || b) (symmetric node other) ∙ by (is_joined past other) (other == node))
@@ -243,7 +236,7 @@ module _ (devices : List State) (past later : List Entry) (w : Outside) (tie : T
         by false j n is = or_left j n is
 
     unknown : is_known past node ≡ true → ⊥
-    unknown known = by (or_split (node == controller) (is_joined past node) known)
+    unknown known = by (or_cases (node == controller) (is_joined past node) known)
       where
         by : ((node == controller) ≡ true) ⊎ (is_joined past node ≡ true) → ⊥
         by (inl is) = let same = eqb-true node controller is in absurd (omega (arith, same, low))
@@ -286,8 +279,8 @@ module _ (devices : List State) (past later : List Entry) (w : Outside) (tie : T
     heard_before : (other : ℕ) → Has heard other → Has (controller ∷ joined past) other
     heard_before other has =
         let passes = (has_filter (λ one. known_in air_then one && linked air_then.network node one) (range_with_len 1 232) other has).1 in
-        let both = both_true (known_in air_then other) (linked air_then.network node other) passes in
-        by (or_split (other == controller) (is_joined later other) (sym (known_then other) ∙ both.0)) both.1
+        let both = and_parts (known_in air_then other) (linked air_then.network node other) passes in
+        by (or_cases (other == controller) (is_joined later other) (sym (known_then other) ∙ both.0)) both.1
       where
         past_or : (is_joined past other ≡ true) ⊎ ((node == other) ≡ true) → linked air_then.network node other ≡ true → Has (controller ∷ joined past) other
         past_or (inl is) hears = inr (has_number (joined past) other is)
@@ -297,7 +290,7 @@ module _ (devices : List State) (past later : List Entry) (w : Outside) (tie : T
 
         by : ((other == controller) ≡ true) ⊎ (is_joined later other ≡ true) → linked air_then.network node other ≡ true → Has (controller ∷ joined past) other
         by (inl is) hears = inl (sym (eqb-true other controller is))
-        by (inr is) hears = past_or (or_split (is_joined past other) (node == other) (sym (nodes other) ∙ is)) hears
+        by (inr is) hears = past_or (or_cases (is_joined past other) (node == other) (sym (nodes other) ∙ is)) hears
 
     -- and so is heard where the two hear each other
     before_heard : (other : ℕ) → Has (controller ∷ joined past) other → are_linked (air_links past) node other ≡ true → Has heard other
@@ -315,7 +308,7 @@ module _ (devices : List State) (past later : List Entry) (w : Outside) (tie : T
     none_before : (x y other : ℕ) → ((x ≡ node) × (y ≡ other)) ⊎ ((x ≡ other) × (y ≡ node)) → are_linked (chip_links past) x y ≡ false
     none_before x y other are =
         sym (tie.chip_hears x y) ∙ (pair_linked w.outer.chip.state.table x y node other (pair_of x y node other are)
-        ∙ not_true (linked w.outer.chip.state.table node other) (λ hears. unknown (tie.known node other hears)))
+        ∙ false_from_ne_true (linked w.outer.chip.state.table node other) (λ hears. unknown (tie.known node other hears)))
 
     met_learned : HasLinks met.table (learned_of (air_links past) node (controller ∷ joined past) (chip_links past))
     met_learned x y =
@@ -329,7 +322,7 @@ module _ (devices : List State) (past later : List Entry) (w : Outside) (tie : T
         apart_from : (other : ℕ) × Has (controller ∷ joined past) other × (((x ≡ node) × (y ≡ other)) ⊎ ((x ≡ other) × (y ≡ node))) → any_pair x y node heard ≡ false → are_linked (chip_links past) x y ≡ are_linked (air_links past) x y
         apart_from (other, has, are) none =
             none_before x y other are
-            ∙ sym (not_true (are_linked (air_links past) x y) (λ hears.
+            ∙ sym (false_from_ne_true (are_linked (air_links past) x y) (λ hears.
             let live : are_linked (air_links past) node other ≡ true = sym (pair_listed (air_links past) x y node other (pair_of x y node other are)) ∙ hears in
             let bad : false ≡ true = sym none ∙ nodes_pair x y node other heard (before_heard other has live) are in cc))
 

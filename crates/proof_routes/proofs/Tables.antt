@@ -1,6 +1,6 @@
 -- What the chip's table is once a node has joined, and once the links between known nodes were learned.
-use Rattle.std.proofs.Common.{◌≡◌, ◌⊎◌, ◌≤◌, ◌<◌, ℕ, ◌-◌, ◌&&◌, ◌||◌, Bool, true, false, if◌then◌else◌, cond, nat_eq, List, [], ◌∷◌, map, filter, refl, sym, ap, ap₂, subst, ◌∙◌, inl, inr, arith}
-use Rattle.std.proofs.lemmas.Bool.{cases_lt}
+use Rattle.std.proofs.Common.{◌≡◌, ◌⊎◌, ◌≤◌, ◌<◌, ℕ, ◌-◌, ◌&&◌, Bool, true, false, if◌then◌else◌, cond, nat_eq, List, [], ◌∷◌, map, filter, refl, sym, ap, ap₂, subst, ◌∙◌, inl, inr, arith}
+use Rattle.std.proofs.lemmas.Bool.{or_cases, or_left, or_right, cases_lt}
 use Rattle.std.specs.List.{range_with_len, flat_map}
 use Rattle.std.specs.FinSet as set
 use Rattle.route_table.specs.Network.{Network, link_of, linked}
@@ -105,19 +105,10 @@ both_in : (nodes : List ℕ) (x y node other : ℕ) → Has nodes node → Has n
 both_in nodes x y node other one two (inl (first, second)) = (subst (Has nodes) (sym first) one, subst (Has nodes) (sym second) two)
 both_in nodes x y node other one two (inr (first, second)) = (subst (Has nodes) (sym first) two, subst (Has nodes) (sym second) one)
 
-pub or_split : (a b : Bool) → a || b ≡ true → (a ≡ true) ⊎ (b ≡ true)
-or_split true b is = inl refl
-or_split false b is = inr is
-
-or_one : (a b : Bool) → (a ≡ true) ⊎ (b ≡ true) → a || b ≡ true
-or_one true b is = refl
-or_one false b (inl is) = let none : false ≡ true = is in absurd cc
-or_one false b (inr is) = is
-
 -- one of a list and a later one of it
 pub pairs_nodes : (x y : ℕ) (nodes : List ℕ) → any_pairs x y nodes ≡ true → Has nodes x × Has nodes y
 pairs_nodes x y [] any = let none : false ≡ true = any in absurd cc
-pairs_nodes x y (node ∷ nodes) any = by (or_split (any_pair x y node nodes) (any_pairs x y nodes) any) (pairs_nodes x y nodes)
+pairs_nodes x y (node ∷ nodes) any = by (or_cases (any_pair x y node nodes) (any_pairs x y nodes) any) (pairs_nodes x y nodes)
   where
     here : (other : ℕ) × Has nodes other × (((x ≡ node) × (y ≡ other)) ⊎ ((x ≡ other) × (y ≡ node))) → Has (node ∷ nodes) x × Has (node ∷ nodes) y
     here (other, has, are) = both_in (node ∷ nodes) x y node other (inl refl) (inr has) are
@@ -129,9 +120,9 @@ pairs_nodes x y (node ∷ nodes) any = by (or_split (any_pair x y node nodes) (a
 pub nodes_pairs : (x y : ℕ) (nodes : List ℕ) → (x ≡ y → ⊥) → Has nodes x → Has nodes y → any_pairs x y nodes ≡ true
 nodes_pairs x y [] other one two = absurd one
 nodes_pairs x y (node ∷ nodes) other (inl first) (inl second) = absurd (other (sym first ∙ second))
-nodes_pairs x y (node ∷ nodes) other (inl first) (inr second) = or_one (any_pair x y node nodes) (any_pairs x y nodes) (inl (nodes_pair x y node y nodes second (inl (sym first, refl))))
-nodes_pairs x y (node ∷ nodes) other (inr first) (inl second) = or_one (any_pair x y node nodes) (any_pairs x y nodes) (inl (nodes_pair x y node x nodes first (inr (refl, sym second))))
-nodes_pairs x y (node ∷ nodes) other (inr first) (inr second) = or_one (any_pair x y node nodes) (any_pairs x y nodes) (inr (nodes_pairs x y nodes other first second))
+nodes_pairs x y (node ∷ nodes) other (inl first) (inr second) = or_left (any_pair x y node nodes) (any_pairs x y nodes) (nodes_pair x y node y nodes second (inl (sym first, refl)))
+nodes_pairs x y (node ∷ nodes) other (inr first) (inl second) = or_left (any_pair x y node nodes) (any_pairs x y nodes) (nodes_pair x y node x nodes first (inr (refl, sym second)))
+nodes_pairs x y (node ∷ nodes) other (inr first) (inr second) = or_right (any_pair x y node nodes) (any_pairs x y nodes) (nodes_pairs x y nodes other first second)
 
 -- each known node with those below it
 module _ (known : ℕ → Bool) where

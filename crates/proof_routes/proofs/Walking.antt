@@ -1,6 +1,6 @@
 -- Over the lines of a run: at each phase air and chip have the networks of the transcript, and each frame goes by its route.
 use Rattle.std.proofs.Common.{◌≡◌, ◌≢◌, ◌⊎◌, ◌≤◌, ◌<◌, ℕ, ◌==◌, ◌&&◌, ◌||◌, not, Bool, true, false, if◌then◌else◌, List, [], ◌∷◌, ◌++◌, refl, sym, ap, subst, ◌∙◌, inl, inr, append_assoc, append-nil, arith}
-use Rattle.std.proofs.lemmas.Bool.{cases_lt, eqb-true}
+use Rattle.std.proofs.lemmas.Bool.{or_cases, false_from_ne_true, cases_lt, eqb-true}
 use Rattle.std.specs.Prelude.{Option, Some, None, Result, Ok, Err}
 use Rattle.std.specs.List.{AllByRecursion, list_any}
 use Rattle.route_table.specs.Network.{Link}
@@ -42,15 +42,14 @@ use Rattle.proof_walk.specs.ByLine.{IsCommon, ByLine}
 use Rattle.proof_walk.proofs.ByLine.{common_covered, walk_of}
 use Rattle.proof_walk.proofs.Machines.{machine_keeps}
 use Rattle.proof_routes.specs.Networks.{Tie}
-use Rattle.proof_routes.specs.Knowing.{Asks, Knows, SetsNone, HasRecord, Remembers, HasDevices, Settled, HasJoined, Else, Saying, Opened, IsPlain, Joining, Left, KnowNetworks}
-use Rattle.proof_routes.proofs.Books.{joins_in, air_grows, chip_grows, joined_grows, SameShown, same_shown, same_then, same_back, same_joined, refused_shown, still_shown, still_last, same_grows, more_joined}
+use Rattle.proof_routes.specs.Knowing.{joins_in, Asks, Knows, SetsNone, HasRecord, Remembers, HasDevices, Settled, HasJoined, Else, Saying, Opened, IsPlain, Joining, Left, KnowNetworks}
+use Rattle.proof_routes.proofs.Books.{air_grows, chip_grows, joined_grows, SameShown, same_shown, same_then, same_back, same_joined, refused_shown, still_shown, still_last, same_grows, more_joined}
 use Rattle.proof_routes.proofs.Ties.{tie_shown, same_nets, tie_nets}
 use Rattle.proof_routes.proofs.Walks.{may_same}
-use Rattle.proof_routes.proofs.Setting.{not_true, link_tie, discover_tie, join_tie}
+use Rattle.proof_routes.proofs.Setting.{link_tie, discover_tie, join_tie}
 use Rattle.proof_routes.proofs.Leaving.{StartsSo}
 use Rattle.proof_routes.proofs.Outer.{routes_law}
 use Rattle.proof_routes.proofs.Unrefused.{IsUnrefused, Unrefused, common_bare}
-use Rattle.proof_routes.proofs.Tables.{or_split}
 use Rattle.proof_routes.proofs.Remembering.{Keeping, remembers_shown, remembers_same, event_remembers, known_host, host_joined}
 use Rattle.proof_routes.proofs.Listeners.{new_listens}
 use Rattle.proof_routes.proofs.Saying.{asked_nodes, asked_go, hosts, of_tick, said, begins, settled_with, said_last, others_shown, settle, effect, within}
@@ -180,7 +179,7 @@ module _ (devices : List State) (rules : StartsSo) (keeping : Keeping) (goes : (
 
   -- ---- a node joins
 
-  -- the line is refused, which is entered directly behind its words
+  -- the line is refused, which is entered directly after its words
   refuses_entry : (m : Machine) (line : Line) (refusal : Refusal) → m.outside.outer.in_tick ≡ false → entries m (Refuses line refusal) ≡ entry.Refused refusal ∷ []
   unfolding entries outcome
   refuses_entry m line refusal in_tick = ap (λ (b : Bool). (if b && not m.outside.outer.stamped then entry.Time m.outside.outer.clock ∷ [] else []) ++ entry.Refused refusal ∷ []) in_tick
@@ -243,7 +242,7 @@ module _ (devices : List State) (rules : StartsSo) (keeping : Keeping) (goes : (
         left_is = refl;
         tie = tie_nets devices before m.outside (happens m (Host_does (joins_host node))).outside (same_nets m.outside.outer _ refl refl refl refl) saying.tie;
         others = (known, go_then devices m.outside.devices (happens m (Host_does (joins_host node))).outside.devices saying.others.1 (goes m (Host_does (joins_host node))));
-        fresh = not_true (is_joined before node) (λ is. let both : false ≡ true = sym allowed.0 ∙ known_host before m saying.others.0 node is in cc);
+        fresh = false_from_ne_true (is_joined before node) (λ is. let both : false ≡ true = sym allowed.0 ∙ known_host before m saying.others.0 node is in cc);
         apart = allowed.1;
         recorded = recorded;
         knows = knows;
@@ -258,10 +257,10 @@ module _ (devices : List State) (rules : StartsSo) (keeping : Keeping) (goes : (
   remembers_more before later m node more known recorded knows = record {
     texts = known.texts;
     told = known.told;
-    recorded = λ other is. kept_as other (or_split (is_joined before other) (node == other) (sym (more other) ∙ is));
+    recorded = λ other is. kept_as other (or_cases (is_joined before other) (node == other) (sym (more other) ∙ is));
     kept = known.kept;
     holds = known.holds;
-    known = λ other is. known_as other (or_split (is_joined before other) (node == other) (sym (more other) ∙ is));
+    known = λ other is. known_as other (or_cases (is_joined before other) (node == other) (sym (more other) ∙ is));
     facts = known.facts;
   }
     where

@@ -46,9 +46,13 @@ Asks devices past e = MayGo devices past e × HasNoWords e
 
 -- ---- outside the host
 
+-- the nodes that lines let join
+abbrev pub joins_in : List Line → List ℕ
+joins_in lines = flat_map join_of lines
+
 -- no `join` stands last, which a refusal could still take back
 abbrev pub NoJoin : List Entry → Type 0
-NoJoin past = flat_map join_of (line_last past) ≡ []
+NoJoin past = joins_in (line_last past) ≡ []
 
 -- a frame that is still to be entered goes home from a node that is joined
 abbrev pub ComesHome : Network → List Bool → AirEvent → Type 0
