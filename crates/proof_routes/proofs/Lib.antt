@@ -3,6 +3,7 @@ mod Links
 mod Tables
 mod Books
 mod Walks
+mod Entering
 mod Unrefused
 mod Ties
 mod Leaving
