@@ -60,7 +60,7 @@ covers_refusal Covers hosts (Wakes_device node route) = λ refused. hosts (Host_
 covers_refusal Covers hosts (Sets_device node value route) = λ refused. hosts (Host_notes (entry.Refused refused)) refl
 covers_refusal Covers hosts event = tt
 
-covers_answer : (Covers : OuterEvent → Type 0) → ((event : OuterEvent) → is_own event ≡ false → Covers event) → (event : Event) → CoversAnswer Covers event
+pub covers_answer : (Covers : OuterEvent → Type 0) → ((event : OuterEvent) → is_own event ≡ false → Covers event) → (event : Event) → CoversAnswer Covers event
 covers_answer Covers hosts (Outside_does event) = covers_refusal Covers hosts event
 covers_answer Covers hosts (Host_does event) = λ h. covers_notes Covers hosts (answers h event)
 covers_answer Covers hosts (Refuses line refused) = hosts (Host_notes (entry.Refused refused)) refl

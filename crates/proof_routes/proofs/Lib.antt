@@ -1,0 +1,17 @@
+mod Members
+mod Links
+mod Tables
+mod Books
+mod Walks
+mod Entering
+mod Unrefused
+mod Ties
+mod Leaving
+mod Coming
+mod Outer
+mod Setting
+mod Remembering
+mod Listeners
+mod First
+mod Saying
+mod Walking
