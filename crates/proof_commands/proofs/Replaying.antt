@@ -19,8 +19,7 @@ use Rattle.run_lines.specs.declared.running.LinesEnd.{LinesEnd}
 use Rattle.run_lines.specs.declared.running.LinesEnd.TheVariants.{All, Bad, ReadFailed, TooMuch, WriteFailed, NoMemory}
 use Rattle.run_lines.specs.Lines.{TextLine, AllRan, RanLines}
 use Rattle.world_model.specs.Events.{Event as MachineEvent, Host_does, Refuses as refuses, Shows_values as shows_values, shown_values}
-use Rattle.world_model.proofs.Hosting.{silent-append}
-use Rattle.host_model.proofs.Silence.{Silent, judged_silent, pump_silent, tick_silent}
+use Rattle.host_model.proofs.Silence.{Silent, judged_silent, pump_silent, silent-append, tick_silent}
 use Rattle.run_replay.specs.Machine.{Lone, Event, Does_itself, Does_asked, Takes, Ticks, Refuses, Shows_values, happens, entries, May, happens_all, entries_all, MayAll, Then}
 use Rattle.run_replay.specs.Lines.{by_host, IsEffect, IsPump, IsTaking, IsTick, AreTicks, IsPlain, IsLine}
 use Rattle.run_replay.specs.Replay.{Point, LineRan, PartRan, said}

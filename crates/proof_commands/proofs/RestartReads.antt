@@ -4,7 +4,7 @@ use Rattle.zw_text.specs.Line.{line_at}
 use Rattle.zw_text.specs.declared.line.Line.{Line}
 use Rattle.zw_text.specs.declared.line.Line.TheVariants.{Command, Restart}
 use Rattle.zw_text.specs.declared.entry.Entry.{Entry}
-use Rattle.zw_text.specs.declared.entry.Entry.TheVariants.{Accepted, Refused}
+use Rattle.zw_text.specs.declared.entry.Entry.TheVariants.{Accepted}
 use Rattle.host_model.specs.Did.{RoseBy}
 use Rattle.host_model.proofs.EventLists.{rose_both, rose_less, rose_none}
 use Rattle.world_model.specs.State.{Machine}
@@ -20,7 +20,7 @@ use Rattle.run_lines.specs.Lines.{TextLine, lines_in, AllRan, StopsIn, RanLines}
 use Rattle.run_sim.specs.Sim.{Point, point_of, LineRan, PartRan, said}
 use Rattle.law_transcript.specs.Restarts.{begins_refused}
 use Rattle.proof_commands.specs.Around.{Around}
-use Rattle.proof_commands.specs.Laws.{Ran, lines_of, transcript_from}
+use Rattle.proof_commands.specs.Laws.{Ran, lines_of}
 use Rattle.proof_commands.specs.Sim.{AreRun, RunsSim}
 use Rattle.proof_commands.specs.RestartReads.{accepts, reads_of, reads_in, ReadsRecords}
 use Rattle.proof_commands.proofs.Stories.{Tale, no_tale, tale_on}

@@ -33,10 +33,10 @@ said text line t =
     }
 
 module _ (text : List ℕ) (line : Line) (is : line_at text ≡ Ok (Some line)) where
-  t : LineText text line
+  abbrev t : LineText text line
   t = line_takes text (Some line) is
 
-  joined : List ℕ
+  abbrev joined : List ℕ
   joined = join_with_byte 32 (word_text (first_word line) ∷ t.rest)
 
   said_is : said_text text ≡ joined
@@ -46,6 +46,7 @@ module _ (text : List ℕ) (line : Line) (is : line_at text ≡ Ok (Some line)) 
   read_again = subst (λ (s : List ℕ). line_at s ≡ Ok (Some line)) (sym said_is) (line_again joined line (said text line t))
 
   pub says_line : SaysLine (said_text text)
+  unfolding said
   says_line = record {
     line = line;
     read = subst (λ (s : List ℕ). LineText s line) (sym said_is) (said text line t);

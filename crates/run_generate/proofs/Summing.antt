@@ -1,5 +1,5 @@
 -- Lines that are run one after another from a world at its beginning, some of them where there is no memory, and their summary.
-use Rattle.std.proofs.Common.{◌≡◌, ℕ, zero, suc, ◌+◌, ◌<◌, inl, inr, List, [], ◌∷◌, ◌++◌, Option, length, take, get_or, arith, refl, sym, ap, ◌∙◌, subst}
+use Rattle.std.proofs.Common.{◌≡◌, ℕ, zero, suc, ◌+◌, ◌<◌, inl, inr, List, [], ◌∷◌, ◌++◌, Option, Result, OnErr, length, take, get_or, arith, refl, sym, ap, ◌∙◌, subst}
 use Rattle.std.proofs.lemmas.List.{take_more}
 use Rattle.zw_text.specs.declared.line.Line.{Line}
 use Rattle.zw_text.specs.declared.entry.Entry.{Entry}
@@ -10,6 +10,7 @@ use Rattle.world_model.specs.Prefixes.{LinePrefix}
 use Rattle.world_model.specs.Table.{table_entries}
 use Rattle.world_model.proofs.EventLists.{stopped_now}
 use Rattle.zw_world.specs.World.{WorldState, first_world, machine_of, scene}
+use Rattle.run_lines.proofs.Pieces.{OnErr-always}
 use Rattle.run_generate.specs.Generate.{AllDone, IsCutShort, SomeDone, SumsUp, generated_lines, summary_text}
 
 done-more : (lines : List Line) (line : Line) (old mid new : Scene) → AllDone lines old mid → Does (IsLine line) mid new → AllDone (lines ++ line ∷ []) old new
@@ -71,6 +72,20 @@ not_begun hundreds key devices records faults = record {
   records_are = refl;
   faults_are = refl;
 }
+
+-- at an error, whatever the key is
+module _ {T E : Type 0} (r : Result T E) (hundreds : ℕ) (before : List State) (records : Option (List (List ℕ))) (faults : ℕ) (world : WorldState) where
+  abbrev IsCut : List State → Option (List (List ℕ)) → ℕ → Type 0
+  IsCut after records' faults' = (key : List ℕ) → world ≡ first_world key → IsCutShort hundreds key before after records records' faults faults'
+
+  pub cut_at_err : (after : List State) (records' : Option (List (List ℕ))) (faults' : ℕ) (world' : WorldState) (lines : List Line) (none entries : List Entry)
+      → lines ≡ generated_lines hundreds → none ≡ []
+      → SomeDone lines (scene world before records none faults) (scene world' after records' entries faults') → OnErr r (IsCut after records' faults')
+  cut_at_err after records' faults' world' lines none entries are empty done = OnErr-always r (IsCut after records' faults')
+      (λ key first. cut_short hundreds key before after records records' faults faults' world world' lines none entries are first empty done)
+
+  pub not_begun_at_err : OnErr r (IsCut before records faults)
+  not_begun_at_err = OnErr-always r (IsCut before records faults) (λ key first. not_begun hundreds key before records faults)
 
 -- it was run whole, and summed up
 module _ (hundreds : ℕ) (key : List ℕ) (before after : List State) (records records' : Option (List (List ℕ))) (faults faults' : ℕ)
