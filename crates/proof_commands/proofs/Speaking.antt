@@ -1,5 +1,5 @@
 -- A story as lines that were said: the words that are entered of a line are read as it.
-use Rattle.std.proofs.Common.{◌≡◌, ℕ, List, [], ◌∷◌, ◌++◌, Some, Ok, refl, ap, ◌∙◌}
+use Rattle.std.proofs.Common.{◌≡◌, ℕ, List, [], ◌∷◌, ◌++◌, Some, Ok, refl, sym, ap, ◌∙◌}
 use Rattle.zw_text.specs.Line.{line_at}
 use Rattle.zw_text.specs.Transcript.{read_as}
 use Rattle.zw_text.specs.declared.line.Line.{Line}
@@ -8,11 +8,11 @@ use Rattle.zw_text.specs.declared.entry.Entry.TheVariants.{Said}
 use Rattle.world_model.specs.State.{Machine}
 use Rattle.world_model.specs.Events.{Event}
 use Rattle.world_model.specs.Did.{happens_all, entries_all, MayAll}
+use Rattle.world_model.proofs.EventLists.{happens_all-append}
 use Rattle.world_model.specs.Prefixes.{IsLineBefore}
 use Rattle.run_lines.specs.Pieces.{said_text}
 use Rattle.world_lines.specs.Spoken.{Spoken, after_all, transcript_of}
 use Rattle.world_lines.specs.Done.{AreDone, events_of as events_said}
-use Rattle.proof_spoken.proofs.SpokenLines.{all_after}
 use Rattle.proof_commands.specs.Around.{Around}
 use Rattle.proof_commands.specs.Laws.{Ran, AreBegun, IsStory, events_of, first, transcript_from}
 use Rattle.proof_commands.proofs.SimKeeping.{may_prefix, may_rest}
@@ -37,7 +37,8 @@ same_transcript m [] = refl
 same_transcript m (ran ∷ more) = ap (λ (l : List Entry). Said (said_text ran.line.text) ∷ (entries_all m ran.events ++ l)) (same_transcript (happens_all m ran.events) more)
 
 pub same_machine : (m : Machine) (story : List Ran) → after_all m (all_said story) ≡ happens_all m (events_of story)
-same_machine m story = all_after m (all_said story) ∙ ap (λ (l : List Event). happens_all m l) (same_events story)
+same_machine m [] = refl
+same_machine m (ran ∷ more) = same_machine (happens_all m ran.events) more ∙ sym (happens_all-append m ran.events (events_of more))
 
 -- ---- they were said and done
 

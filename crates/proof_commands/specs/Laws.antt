@@ -29,6 +29,9 @@ use Rattle.law_transcript.specs.Payloads.{BeginsWithUnit}
 use Rattle.law_transcript.specs.Restarts.{is_restart}
 use Rattle.law_transcript.specs.Stores.{StoresConfirmed}
 use Rattle.law_wire.specs.Marks.{CollidesWhenAsked, MarksUnits}
+use Rattle.law_wire.specs.Routes.{GoesByRoute}
+use Rattle.law_wire.specs.Times.{TellsTime}
+use Rattle.proof_line.specs.Pipes.{OverrunsOnlyWhenFull}
 use Rattle.proof_transcript.specs.Lines.{IsNoRepeat}
 use Rattle.proof_world.specs.Devices.{GroupsSessions}
 use Rattle.proof_world.specs.Restarts.{AllKeepWell, BeginsEmpty}
@@ -225,6 +228,10 @@ RepeatsNothing story = AllByRecursion (λ (ran : Ran). IsNoRepeat ran.line.line)
 abbrev pub FaresFrames : List ℕ → Around → Around → Type 0
 FaresFrames key old new = AlwaysOf key old new (λ story. RepeatsNothing story ⊎ KeepsRecords key old story → FaresInTurn (transcript key old story))
 
+-- over a keeper that tells its records, each frame goes over the route of its moment
+abbrev pub RoutesFrames : List ℕ → Around → Around → Type 0
+RoutesFrames key old new = AlwaysOf key old new (λ story. (texts : List (List ℕ)) → old.records ≡ Some texts → GoesByRoute old.devices (transcript key old story))
+
 -- ---- the serial line
 
 -- the chip answers a good frame CAN only where a line has asked for a collision that has not come, and ACK only where none is outstanding
@@ -234,6 +241,16 @@ CollidesAsAsked key old new = AlwaysOf key old new (λ story. CollidesWhenAsked 
 -- a unit is lost or changed as the marks of lines say, and no other is
 abbrev pub MarksAsAsked : List ℕ → Around → Around → Type 0
 MarksAsAsked key old new = AlwaysOf key old new (λ story. MarksUnits (transcript key old story))
+
+-- a unit is overrun only where what its pipe may still hold, by what stands before it, leaves it no room
+abbrev pub OverrunsWithoutRoom : List ℕ → Around → Around → Type 0
+OverrunsWithoutRoom key old new = AlwaysOf key old new (λ story. OverrunsOnlyWhenFull (transcript key old story))
+
+-- ---- ticks
+
+-- the number of a tick stands once, before its first entry, and nowhere else
+abbrev pub NumbersTicks : List ℕ → Around → Around → Type 0
+NumbersTicks key old new = AlwaysOf key old new (λ story. TellsTime (transcript key old story))
 
 -- ---- the headline
 
@@ -287,5 +304,8 @@ pub record StoriesKeepLaws (key : List ℕ) (old new : Around) : Type 0 where
   pub numbers : NumbersAir key old new
   pub loses : LosesFrames key old new
   pub fares : FaresFrames key old new
+  pub routes : RoutesFrames key old new
   pub collides : CollidesAsAsked key old new
   pub marks : MarksAsAsked key old new
+  pub overruns : OverrunsWithoutRoom key old new
+  pub ticks : NumbersTicks key old new

@@ -18,8 +18,11 @@ ghost use Rattle.proof_commands.specs.Laws.{
   LosesFrames,
   MarksAsAsked,
   NumbersAir,
+  NumbersTicks,
+  OverrunsWithoutRoom,
   ReadsWhatItKept,
   ReportsAfterChange,
+  RoutesFrames,
   ShowsChanges,
   ShowsTables,
   StoresValues,
@@ -34,7 +37,10 @@ use proof_headline::{
     nodes_report_after_the_change, supervised_nodes_are_plain_or_locks,
 };
 use proof_host::{asides_keep_facts, laws_follow};
-use proof_line::{lines_collide_when_asked, lines_mark_units};
+use proof_line::{
+    lines_collide_when_asked, lines_mark_units, lines_overrun_only_when_full, ticks_are_told,
+};
+use proof_routes::frames_go_by_route;
 use proof_transcript::{
     commands_are_taken_back_when_asked, lines_are_answered, lines_lose_marked_frames,
     lines_number_frames, records_are_what_is_shown, sessions_begin_with_their_unit,
@@ -134,19 +140,25 @@ fn stories_have_the_headline()
     runs_take_once();
 }
 
-/// The frames on the air, and the units of the serial line, are those of lines that were said.
+/// The frames on the air, the units of the serial line and the numbers of ticks are those of lines that were said.
 fn stories_keep_air_laws()
     ensures numbers { (key : List ℕ) (old new : Around) → NumbersAir key old new }
     ensures loses { (key : List ℕ) (old new : Around) → LosesFrames key old new }
     ensures fares { (key : List ℕ) (old new : Around) → FaresFrames key old new }
+    ensures routes { (key : List ℕ) (old new : Around) → RoutesFrames key old new }
     ensures collides { (key : List ℕ) (old new : Around) → CollidesAsAsked key old new }
     ensures marks { (key : List ℕ) (old new : Around) → MarksAsAsked key old new }
+    ensures overruns { (key : List ℕ) (old new : Around) → OverrunsWithoutRoom key old new }
+    ensures ticks { (key : List ℕ) (old new : Around) → NumbersTicks key old new }
 {
     lines_are_read_as_said();
     stories_keep_laws();
     lines_number_frames();
     lines_lose_marked_frames();
     ticks_decide_each_frame();
+    frames_go_by_route();
     lines_collide_when_asked();
     lines_mark_units();
+    lines_overrun_only_when_full();
+    ticks_are_told();
 }

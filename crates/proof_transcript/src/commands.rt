@@ -10,8 +10,8 @@ ghost use Rattle.law_transcript.specs.Stores.{StoresConfirmed};
 ghost use Rattle.proof_host.specs.Laws.{HostLaws};
 ghost use Rattle.world_model.specs.State.{Machine, first_machine};
 ghost use Rattle.world_lines.specs.Spoken.{Spoken, transcript_of};
-ghost use Rattle.proof_spoken.specs.Spoken.{AreSpoken};
-ghost use Rattle.world_lines.specs.Done.{AreDone};
+ghost use Rattle.world_lines.specs.Done.{AreDone, events_of};
+ghost use Rattle.proof_world.specs.Restarts.{AllStartWell};
 
 use host_model::attempts_have_what_they_give;
 use host_requests::callback_ids;
@@ -44,10 +44,11 @@ pub fn values_are_stored_as_asked()
 }
 
 /// Directly after a session that begins stands the unit that asks the chip to send to its node: over any lines, the last of which an
-/// allocation failure may have cut short.
+/// allocation failure may have cut short, where each host that starts again has what the one before recorded.
 pub fn sessions_begin_with_their_unit()
     ensures { (keys : Keys) (records : Option (List (List ℕ))) (devices : List State) (lines : List Spoken) →
-        AreSpoken (first_machine keys records devices) lines →
+        AreDone (first_machine keys records devices) lines →
+        AllStartWell (first_machine keys records devices) (events_of lines) →
         BeginsWithUnit (transcript_of (first_machine keys records devices) lines) }
 {
     attempts_have_what_they_give();

@@ -23,6 +23,9 @@ returns c = λ key old new. record {
   numbers = c.stories_keep_air_laws.ensures.numbers key old new;
   loses = c.stories_keep_air_laws.ensures.loses key old new;
   fares = c.stories_keep_air_laws.ensures.fares key old new;
+  routes = c.stories_keep_air_laws.ensures.routes key old new;
   collides = c.stories_keep_air_laws.ensures.collides key old new;
   marks = c.stories_keep_air_laws.ensures.marks key old new;
+  overruns = c.stories_keep_air_laws.ensures.overruns key old new;
+  ticks = c.stories_keep_air_laws.ensures.ticks key old new;
 }

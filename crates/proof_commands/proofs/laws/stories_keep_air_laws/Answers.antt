@@ -1,14 +1,19 @@
 -- The lines of a story were said, and the laws of the air and of the serial line are of lines that were said.
-use Rattle.std.proofs.Common.{List, [], ◌∷◌, ◌⊎◌, inl, inr, subst, sym}
+use Rattle.std.proofs.Common.{◌≡◌, ℕ, List, [], ◌∷◌, ◌⊎◌, inl, inr, Option, Some, ap, subst, sym, ◌∙◌}
 use Rattle.std.specs.List.{AllByRecursion}
 use Rattle.zw_text.specs.declared.entry.Entry.{Entry}
 use Rattle.law_transcript.specs.Fates.{FaresInTurn, LosesMarked, NumbersFrames}
 use Rattle.law_wire.specs.Marks.{CollidesWhenAsked, MarksUnits}
+use Rattle.law_wire.specs.Routes.{GoesByRoute}
+use Rattle.law_wire.specs.Times.{TellsTime}
+use Rattle.proof_line.specs.Pipes.{OverrunsOnlyWhenFull}
+use Rattle.world_model.specs.State.{Machine, first_machine}
+use Rattle.world_lines.specs.Done.{AreDone}
 use Rattle.proof_host.specs.Laws.{HostLaws}
 use Rattle.world_lines.specs.Spoken.{transcript_of}
 use Rattle.proof_transcript.specs.Lines.{RepeatsNone}
 use Rattle.host_core.specs.Network.{keys_of}
-use Rattle.proof_commands.specs.Laws.{Ran, RepeatsNothing, KeepsRecords, first}
+use Rattle.proof_commands.specs.Laws.{Ran, RepeatsNothing, KeepsRecords, first, transcript, transcript_from}
 use Rattle.proof_commands.proofs.Speaking.{all_said, same_transcript, story_done}
 use Rattle.proof_commands.proofs.laws.stories_keep_air_laws.Goals as goal
 
@@ -50,3 +55,22 @@ pub returns-clause-marks : goal.returns-clause-marks
 returns-clause-marks c = λ key old new story unentered is.
     subst (λ (l : List Entry). MarksUnits l) (same_transcript (first key old) story)
     (c.lines_mark_units.ensures (keys_of key) old.records old.devices (all_said story) (story_done c.lines_are_read_as_said.ensures key old new story unentered is))
+
+pub returns-clause-overruns : goal.returns-clause-overruns
+returns-clause-overruns c = λ key old new story unentered is.
+    subst (λ (l : List Entry). OverrunsOnlyWhenFull l) (same_transcript (first key old) story)
+    (c.lines_overrun_only_when_full.ensures (keys_of key) old.records old.devices (all_said story) (story_done c.lines_are_read_as_said.ensures key old new story unentered is))
+
+pub returns-clause-ticks : goal.returns-clause-ticks
+returns-clause-ticks c = λ key old new story unentered is.
+    subst (λ (l : List Entry). TellsTime l) (same_transcript (first key old) story)
+    (c.ticks_are_told.ensures (keys_of key) old.records old.devices (all_said story) (story_done c.lines_are_read_as_said.ensures key old new story unentered is))
+
+-- the keeper tells these texts
+pub returns-clause-routes : goal.returns-clause-routes
+returns-clause-routes c = λ key old new story unentered is texts tells.
+    let same : first key old ≡ first_machine (keys_of key) (Some texts) old.devices = ap (λ (records : Option (List (List ℕ))). first_machine (keys_of key) records old.devices) tells in
+    let done = subst (λ (m : Machine). AreDone m (all_said story)) same (story_done c.lines_are_read_as_said.ensures key old new story unentered is) in
+    let told : transcript_of (first_machine (keys_of key) (Some texts) old.devices) (all_said story) ≡ transcript key old story =
+    same_transcript (first_machine (keys_of key) (Some texts) old.devices) story ∙ ap (λ (m : Machine). transcript_from m story) (sym same) in
+    subst (λ (l : List Entry). GoesByRoute old.devices l) told (c.frames_go_by_route.ensures (keys_of key) texts old.devices (all_said story) done)

@@ -9,7 +9,6 @@ use Rattle.host_core.specs.Network.{keys_of}
 use Rattle.world_model.specs.Events.{Event}
 use Rattle.proof_host.specs.Laws.{HostLaws}
 use Rattle.proof_world.specs.Restarts.{AllStartWell}
-use Rattle.proof_spoken.proofs.SpokenLines.{are_spoken}
 use Rattle.proof_commands.specs.Laws.{first}
 use Rattle.proof_commands.proofs.Speaking.{all_done, all_said, same_events, same_transcript, story_done}
 use Rattle.proof_commands.proofs.Told.{Restarting, fresh, starts_well, story_told}
@@ -37,6 +36,6 @@ returns-clause-written c = λ key old new story unentered is well.
     let done = story_done c.lines_are_read_as_said.ensures key old new story unentered is in
     let restarting : Restarting = record { held = c.restarts_go_on.ensures.first; goes_on = c.restarts_go_on.ensures.all } in
     let starts = starts_well restarting key old new story unentered is (c.the_machine_keeps_facts.ensures.first (keys_of key) old.records old.devices) well in
-    let spoken = are_spoken m (all_said story) done (subst (λ (l : List Event). AllStartWell m l) (sym (same_events story)) starts) in
+    let starting = subst (λ (l : List Event). AllStartWell m l) (sym (same_events story)) starts in
     subst (λ (l : List Entry). BeginsWithUnit l) (same_transcript m story) (c.sessions_begin_with_their_unit.ensures (keys_of key) old.records old.devices
-    (all_said story) spoken)
+    (all_said story) done starting)
