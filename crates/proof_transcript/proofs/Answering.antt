@@ -823,14 +823,16 @@ module _ (devices : List State) where
       let head : event ≡ Outside_does Discovers = cc in
       let tail : left ≡ asked_then = cc in
       subst (λ (e : Event). Goal lines.Discover past (begun first) e left) (sym head)
-      (subst (λ (told : List Entry). EachAfter Stands past told × AwaitsAnswer devices lines.Discover left (past ++ told) (happens (begun first) (Outside_does Discovers))) (sym (quiet_enters (begun first) Discovers tt))
-      (tt, inr (inl (record {
-        first = first;
-        asked = record { before = asked.before; words = asked.words; is = append-nil past ∙ asked.is; read = asked.read; ties = asked.ties };
-        line_is = refl;
-        is = refl;
-        asks = subst (λ (l : List Event). Asks (places_refusal first.host.state 1) lines.Discover (Queues task.Members) l) (sym tail) asks;
-      }))))
+      (subst (λ (told : List Entry). EachAfter Stands past told × AwaitsAnswer devices lines.Discover left (past ++ told) (happens (begun first) (Outside_does Discovers))) (sym (quiet_enters (begun first) Discovers tt)) (
+        tt,
+        inr (inl (record {
+          first = first;
+          asked = record { before = asked.before; words = asked.words; is = append-nil past ∙ asked.is; read = asked.read; ties = asked.ties };
+          line_is = refl;
+          is = refl;
+          asks = subst (λ (l : List Event). Asks (places_refusal first.host.state 1) lines.Discover (Queues task.Members) l) (sym tail) asks;
+        })),
+      ))
   first_goal (lines.Neighbours node) past first asked event left may is =
       errand (lines.Neighbours node) past first (begun first) asked (refuses_enter first (lines.Neighbours node)) (λ e so. so) (λ so. so) (refl, refl)
       (places_refusal first.host.state 1) None (nat_lt 64 (length first.host.state.requests.queue + 1)) (Queues (task.Neighbours node)) event left refl (places_alike _) (asks_enter first _) is

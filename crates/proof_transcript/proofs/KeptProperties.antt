@@ -190,8 +190,12 @@ taken_sets commands number store p all among = by (command_at commands number) r
 
     by : (o : Option Command) → command_at commands number ≡ o → (command : Command) × (command_at commands number ≡ Some command) × IsReserved store command.order.node p
     by None is = absurd (let none : false ≡ true = sym (ap (λ (c : Option Command). is_among (properties_of (settings_taken (taken_by c))) p) is) ∙ among in cc)
-    by (Some command) is = (command, is, all_among (IsReserved store command.order.node) (properties_of (settings command.carriage.actuator command.order)) p (place number command is).kept
-        (sym (ap (λ (c : Option Command). is_among (properties_of (settings_taken (taken_by c))) p) is) ∙ among))
+    by (Some command) is = (
+      command,
+      is,
+      all_among (IsReserved store command.order.node) (properties_of (settings command.carriage.actuator command.order)) p (place number command is).kept
+          (sym (ap (λ (c : Option Command). is_among (properties_of (settings_taken (taken_by c))) p) is) ∙ among),
+    )
 
 -- a command that was taken for a node was accepted for it
 taken_node : (commands : List Command) (number node : ℕ) (taken : Taken) → taken_at commands number ≡ Some taken → taken.order.node ≡ node → nodes_by (command_at commands number) ≡ node ∷ []
