@@ -3,7 +3,6 @@ mod Links
 mod Tables
 mod Books
 mod Walks
-mod Entering
 mod Unrefused
 mod Ties
 mod Leaving

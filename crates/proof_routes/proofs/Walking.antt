@@ -115,7 +115,7 @@ module _ (devices : List State) (rules : StartsSo) (keeping : Keeping) (goes : (
       → EachAfter (MayGo devices) past (entries m event) × Else devices (past ++ entries m event) (happens m event)
   common past m event is may (inl settled) = let got = kept past m event (common_covered SetsNone of_tick event is) may settled in (got.0, inl got.1)
   common past m event is may (inr joined) =
-      carried past m (happens m event) (entries m event) joined (common_bare m event is)
+      carried past m (happens m event) (entries m event) joined (common_bare m event is may)
       (kept (past ++ entry.Asleep 0 ∷ []) m event (common_covered SetsNone of_tick event is) may joined.settled)
 
   -- ---- an event that sets networks
@@ -402,12 +402,14 @@ module _ (devices : List State) (rules : StartsSo) (keeping : Keeping) (goes : (
   by_lines : ByLine (MayGo devices) (Saying devices) (Opened devices) (Left devices) (Else devices)
   by_lines = record {
     said = said devices;
-    begins = begins devices;
-    effect = effect devices;
-    does = does;
-    done = done;
-    ticks = λ count past m opened. inl (settle devices (lines.Tick count) tt past m opened.0);
-    common = common;
+    in_line = record {
+      begins = begins devices;
+      effect = effect devices;
+      does = does;
+      done = done;
+      ticks = λ count past m opened. inl (settle devices (lines.Tick count) tt past m opened.0);
+      common = common;
+    };
   }
 
   pub networks_walk : Walk (MayGo devices) (KnowNetworks devices)
