@@ -26,7 +26,8 @@ returns-clause-due c = λ key old new story unentered is none whole all.
     let done = subst (λ (m : Machine). AreDone m (all_said story)) same (story_done c.lines_are_read_as_said.ensures key old new story unentered is) in
     let told : transcript_of (fresh key old) (all_said story) ≡ transcript key old story =
     same_transcript (fresh key old) story ∙ ap (λ (m : Machine). transcript_from m story) (sym same) in
-    let by : (b : Bool) → (b ≡ true → AreSchedules (first key old) story) → AnswersLines b old.devices (transcript_of (fresh key old) (all_said story)) = λ b. elim b [
+    let by : (b : Bool) → (b ≡ true → AreSchedules (first key old) story) → AnswersLines b old.devices (transcript_of (fresh key old) (all_said story)) = λ b.
+    elim b as (λ k. (k ≡ true → AreSchedules (first key old) story) → AnswersLines k old.devices (transcript_of (fresh key old) (all_said story))) [
       | true ↦ λ schedules. c.lines_are_answered.ensures.whole (keys_of key) old.devices (all_said story) done
           (whole_said (fresh key old) story (subst (λ (m : Machine). AreSchedules m story) same (schedules refl)))
       | false ↦ λ schedules. c.lines_are_answered.ensures.part (keys_of key) old.devices (all_said story) done
