@@ -48,24 +48,17 @@ impl<K: Sink> Gathered<K> {
         ensures err { OnErr result (AppendsPrefix (K.written self.old.sink) (K.written self.new.sink) (self.old.waiting.items ++ piece.now)) }
         ensures failed { OnErr result (self.new.has_failed ≡ true) }
     {
-        if self.gather(piece) {
+        if self.has_failed {
+            return Err(Failed);
+        }
+        if gather(&mut self.waiting, self.most, piece) {
             return Ok(());
         }
         self.write_on()?;
-        if self.gather(piece) {
+        if gather(&mut self.waiting, self.most, piece) {
             return Ok(());
         }
         self.put(piece)
-    }
-
-    /// Has a piece wait, where there is room and no write has failed, and answers whether it does.
-    fn gather(&mut self, piece: &[u8]) -> bool
-        ensures gathered { IsTrue result → self.new.waiting.items ≡ self.old.waiting.items ++ piece.now }
-        ensures refused { result ≡ false → self.new.waiting.items ≡ self.old.waiting.items }
-        ensures others { (self.new.sink ≡ self.old.sink) × (self.new.has_failed ≡ self.old.has_failed) }
-    {
-        let room = self.most.saturating_sub(self.waiting.len());
-        !self.has_failed && piece.len() <= room && self.waiting.extend_from_slice(piece).is_ok()
     }
 
     /// Writes all that waits.
@@ -105,6 +98,17 @@ impl<K: Sink> Gathered<K> {
             }
         }
     }
+}
+
+/// Has a piece wait, where no more than so many bytes do then, and answers whether it does.
+fn gather(waiting: &mut Vec<u8>, most: usize, piece: &[u8]) -> bool
+    ensures gathered { IsTrue result → waiting.new.items ≡ waiting.old.items ++ piece.now }
+    ensures refused { result ≡ false → waiting.new.items ≡ waiting.old.items }
+{
+    if piece.len() > most.saturating_sub(waiting.len()) {
+        return false;
+    }
+    waiting.extend_from_slice(piece).is_ok()
 }
 
 /// Writes all that waits, and answers whether all that was handed over is written.
