@@ -1,12 +1,12 @@
 -- A frame is fresh, or refused for the same reason, by the transcript as by the history that it shows.
-use Rattle.std.proofs.Common.{◌≡◌, ◌≢◌, ◌≤◌, ◌<◌, ℕ, zero, suc, ◌+◌, ◌-◌, ◌==◌, ◌&&◌, Bool, true, false, if◌then◌else◌, List, [], ◌∷◌, ◌++◌, length, refl, sym, ap, ap₂, subst, ◌∙◌, append_assoc, nat_lt, inl, inr, ◌⊎◌, arith}
+use Rattle.std.proofs.Common.{◌≡◌, ◌≢◌, ◌≤◌, ◌<◌, ℕ, zero, suc, ◌+◌, ◌-◌, ◌==◌, Bool, true, false, if◌then◌else◌, List, [], ◌∷◌, ◌++◌, length, refl, sym, ap, ap₂, subst, ◌∙◌, append_assoc, nat_lt, inl, inr, ◌⊎◌, arith}
 use Rattle.std.proofs.lemmas.Bool.{eqb-true, eqb-false, ltb-true, ltb-false, lt-ltb, le-ltb, cases_lt}
 use Rattle.std.specs.Prelude.{Option, Some, None, slice_get}
 use Rattle.std.specs.Option.{option_map}
 use Rattle.std.specs.List.{flat_map, AllByRecursion}
 use Rattle.air_frames.specs.declared.frame.Departure.{Departure}
 use Rattle.air_frames.specs.declared.ages.Refusal.{Refusal}
-use Rattle.air_frames.specs.declared.ages.Refusal.TheVariants.{NeverSent, Forgotten}
+use Rattle.air_frames.specs.declared.ages.Refusal.TheVariants.{Forgotten}
 use Rattle.air_frames.specs.Ages.{stale_by}
 use Rattle.air_frames.specs.History.{Mark, Goes, Begins, goes_in, begins_in, news_after, through, since, departure_at, Later, NewNonces, stale_in, refusal_in}
 use Rattle.air_frames.proofs.Logs.{begins_in-append, news_after-append, through-since, never_sent}
@@ -18,7 +18,7 @@ use Rattle.law_transcript.specs.Nodes.{controller}
 use Rattle.law_transcript.specs.Fates.{MayAir}
 use Rattle.law_transcript.specs.Sessions.{MayBegin}
 use Rattle.law_transcript.specs.Repeats.{node_of, frame_of, up_to_frame, later_sessions, new_nonces, later_nonces, too_old, refused_repeat, repeat_entry, refusal_to_repeat}
-use Rattle.proof_air.specs.Logs.{departure_of, log_of, IsApart}
+use Rattle.proof_air.specs.Logs.{log_of, IsApart}
 use Rattle.proof_air.specs.Hearing.{IsFresh, MayHear, MayRepeat}
 use Rattle.proof_air.proofs.Counting.{departure, HasEnd, frames_sent, frame_sent, frame_is_aired, log_up_to, up_to_prefix, each-left, sessions_begun, nonces_new}
 

@@ -1,12 +1,12 @@
 -- Over the lines of a run: what a line repeats is fresh by the history that the transcript shows.
-use Rattle.std.proofs.Common.{◌≡◌, ◌≢◌, ℕ, ◌&&◌, not, Bool, true, false, if◌then◌else◌, List, [], ◌∷◌, ◌++◌, map, inl, inr, ◌⊎◌, refl, sym, ap, subst, ◌∙◌, append-nil, append_assoc}
+use Rattle.std.proofs.Common.{◌≡◌, ◌≢◌, ℕ, ◌&&◌, not, Bool, true, false, if◌then◌else◌, List, [], ◌∷◌, ◌++◌, map, inl, inr, refl, sym, ap, subst, ◌∙◌, append-nil, append_assoc}
 use Rattle.std.specs.Prelude.{Option, Some, None}
 use Rattle.std.specs.List.{AllByRecursion}
 use Rattle.route_table.specs.declared.route.Route.{Route}
 use Rattle.air_frames.specs.Ages.{refusal_of}
 use Rattle.air_frames.specs.declared.ages.Refusal.{Refusal}
 use Rattle.air_frames.specs.declared.ages.Refusal.TheVariants.{NeverSent, Forgotten, Stale}
-use Rattle.air_frames.specs.History.{Mark, Goes, Begins, refusal_in}
+use Rattle.air_frames.specs.History.{Mark, refusal_in}
 use Rattle.air_frames.proofs.Aged.{refusal_is}
 use Rattle.mesh_sim.specs.Steps.{AirStep}
 use Rattle.mesh_sim.specs.Steps as mesh
@@ -33,7 +33,7 @@ use Rattle.proof_walk.specs.Walk.{Walk}
 use Rattle.proof_walk.specs.ByLine.{IsOfTick, CoversLine, ByLine}
 use Rattle.proof_walk.proofs.ByLine.{effect_covered, common_covered, walk_of}
 use Rattle.proof_walk.proofs.Machines.{machine_keeps}
-use Rattle.proof_air.specs.Logs.{mark_step, log_of, plain_log, IsApart, Tie}
+use Rattle.proof_air.specs.Logs.{mark_step, log_of, IsApart, Tie}
 use Rattle.proof_air.specs.Hearing.{IsFresh, MayHear, FreshHere, Knows, JoinsNode, Settled, Said_so, AwaitsRepeat, AwaitsJoin, Left, KnowAir}
 use Rattle.proof_air.proofs.Logs.{plain_apart, plain_refusal}
 use Rattle.proof_air.proofs.Silent.{IsSilent, AreSilent, fresh_one, fresh_said, words_last, number_stands}

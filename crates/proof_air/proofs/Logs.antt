@@ -1,12 +1,11 @@
 -- How the history that a transcript shows grows, and that routes and what arrives count nothing in it.
-use Rattle.std.proofs.Common.{◌≡◌, ℕ, zero, suc, ◌+◌, ◌-◌, ◌==◌, Bool, true, false, if◌then◌else◌, List, [], ◌∷◌, ◌++◌, refl, sym, ap, ap₂, ◌∙◌, append_assoc, append-nil, nat_lt, replicate}
+use Rattle.std.proofs.Common.{◌≡◌, ℕ, zero, suc, ◌+◌, ◌-◌, ◌==◌, if◌then◌else◌, List, [], ◌∷◌, ◌++◌, refl, sym, ap, ap₂, ◌∙◌, nat_lt, replicate}
 use Rattle.std.specs.Prelude.{Option, Some, None}
 use Rattle.std.specs.Option.{option_map}
 use Rattle.std.specs.List.{AllByRecursion}
 use Rattle.air_frames.specs.declared.frame.Departure.{Departure}
 use Rattle.air_frames.specs.declared.frame.Heading.{Heading}
-use Rattle.air_frames.specs.declared.ages.Refusal.{Refusal}
-use Rattle.air_frames.specs.declared.ages.Refusal.TheVariants.{NeverSent, Forgotten}
+use Rattle.air_frames.specs.declared.ages.Refusal.TheVariants.{Forgotten}
 use Rattle.air_frames.specs.Ages.{stale_by}
 use Rattle.air_frames.specs.Nonces.{nonce_in}
 use Rattle.air_frames.specs.History.{Mark, Goes, Begins, goes_in, begins_in, last_after, last_in, news_by, new_in, news_after, through, since, departure_at, Later, NewNonces, stale_in, refusal_in}

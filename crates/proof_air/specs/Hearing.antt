@@ -1,5 +1,5 @@
 -- That a line repeats only a frame that is fresh by the history that the transcript shows (this project's own rule), and what is known of it at each phase of a line.
-use Rattle.std.specs.Prelude.{◌≡◌, ◌≢◌, ◌⊎◌, ℕ, Bool, Option, None, List, [], ◌∷◌, ⊤}
+use Rattle.std.specs.Prelude.{◌≡◌, ◌≢◌, ◌⊎◌, ℕ, Option, None, List, [], ◌∷◌, ⊤}
 use Rattle.std.specs.List.{AllByRecursion}
 use Rattle.air_frames.specs.Ages.{refusal_of}
 use Rattle.air_frames.specs.History.{refusal_in}
@@ -13,7 +13,6 @@ use Rattle.law_transcript.specs.Lists.{EachAfter}
 use Rattle.law_transcript.specs.Nodes.{controller}
 use Rattle.law_transcript.specs.Repeats.{frame_of, refusal_to_repeat, refused_repeat}
 use Rattle.host_model.specs.Events.{Joins as joins_host}
-use Rattle.outside_model.specs.State.{Outside}
 use Rattle.outside_model.specs.Events.{OuterEvent, Joins, Repeats}
 use Rattle.world_model.specs.State.{Machine}
 use Rattle.world_model.specs.Events.{Event, Outside_does, Host_does}

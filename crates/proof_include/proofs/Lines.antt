@@ -26,7 +26,7 @@ use Rattle.proof_include.proofs.HostShows.{seen_of}
 use Rattle.proof_include.proofs.NearFacts.{Way}
 use Rattle.proof_include.proofs.ShowFacts.{Ready}
 use Rattle.proof_include.proofs.Stages.{SchemeAsked}
-use Rattle.proof_include.proofs.ExchangeSteps.{Going, unmarked}
+use Rattle.proof_include.proofs.ExchangeSteps.{Going}
 use Rattle.proof_include.proofs.Ticking.{Ahead, Calm, drawn_prefix, drawn_rest, ticks_end}
 use Rattle.proof_include.proofs.Starting.{begins_going}
 use Rattle.proof_include.specs.Lines.{AreLines, CameTo}

@@ -1,7 +1,7 @@
 -- What decides the answer to a line is as the transcript before it shows, after lines that were all run whole.
-use Rattle.std.proofs.Common.{◌≡◌, ◌⊎◌, ℕ, ◌==◌, ◌&&◌, ◌||◌, Bool, true, false, if◌then◌else◌, inl, inr, List, [], ◌∷◌, ◌++◌, map, length, refl, sym, ap, subst, ◌∙◌}
-use Rattle.std.specs.Prelude.{All, Contains, IsSome, Option, Some, None, filter, unwrap_or}
-use Rattle.std.specs.List.{AllByRecursion, AllZip, list_any}
+use Rattle.std.proofs.Common.{◌≡◌, ℕ, ◌==◌, ◌&&◌, ◌||◌, Bool, true, false, if◌then◌else◌, inl, inr, List, [], ◌∷◌, ◌++◌, length, refl, sym, ap, subst, ◌∙◌}
+use Rattle.std.specs.Prelude.{Contains, IsSome, Option, Some, None, filter, unwrap_or}
+use Rattle.std.specs.List.{list_any}
 use Rattle.std.specs.Set.{distinct_count}
 use Rattle.std.proofs.lemmas.Bool.{eqb-true, eq-eqb}
 use Rattle.std.proofs.lemmas.List.Elements.{All-contains, All-from_recursion}
@@ -9,7 +9,6 @@ use Rattle.zw_base.specs.PropertyOrder.{same_property}
 use Rattle.zw_base.specs.declared.order.Order.{Order}
 use Rattle.zw_base.specs.declared.property.Property.{Property}
 use Rattle.device_sim.specs.State.{State}
-use Rattle.mesh_sim.specs.Fates.{place_of}
 use Rattle.host_keep.specs.Kept.{is_among}
 use Rattle.host_orders.specs.Classes.{actuator_of}
 use Rattle.host_orders.specs.Refusals.{Known, classes_of, refusal_of}
@@ -18,12 +17,12 @@ use Rattle.zw_text.specs.declared.entry.Entry.{Entry}
 use Rattle.zw_text.specs.declared.entry.Entry.TheVariants.{Accepted}
 use Rattle.zw_text.specs.declared.entry.Outcome.{Outcome}
 use Rattle.zw_text.specs.declared.entry.Outcome.TheVariants as outcomes
-use Rattle.zw_text.specs.Transcript.{accepted, accepted_number, accepted_numbers, outcome}
+use Rattle.zw_text.specs.Transcript.{accepted_number, accepted_numbers, outcome}
 use Rattle.law_transcript.specs.Answers.{known_of, properties_kept, properties_with, refused_without}
 use Rattle.law_transcript.specs.Commands.{is_waiting, waiting}
 use Rattle.law_transcript.specs.Lists.{Has}
 use Rattle.law_transcript.specs.Stores.{node_at}
-use Rattle.law_transcript.specs.Nodes.{device_of, host_list, is_joined, known_classes, listing_of}
+use Rattle.law_transcript.specs.Nodes.{device_of, host_list, known_classes, listing_of}
 use Rattle.law_transcript.proofs.Having.{all_of, has_shown, shown_has}
 use Rattle.host_model.specs.State.{HostState, Command, command_at, node_of}
 use Rattle.host_model.specs.After.{node_for, node_with}
@@ -31,14 +30,13 @@ use Rattle.host_model.specs.Asking.{Waits, carriage_for, refusal_for}
 use Rattle.host_model.specs.Facts.{IsCommandOf}
 use Rattle.host_model.specs.May.{known_of as known_of_host}
 use Rattle.host_model.proofs.RestoredFacts.{from_among}
-use Rattle.value_store.specs.Values.{count_with, stored_of}
+use Rattle.value_store.specs.Values.{count_with}
 use Rattle.proof_host.specs.Facts.{AreShown, Facts}
 use Rattle.proof_host.specs.Laws.{accepted_for, number_for, numbers_for}
 use Rattle.proof_host.specs.Tables.{nodes_by, outcome_in, recorded}
 use Rattle.proof_once.specs.ByTable.{IsTable}
-use Rattle.proof_device.specs.GoingOn.{AreSame, IsSame}
+use Rattle.proof_device.specs.GoingOn.{AreSame}
 use Rattle.proof_spoken.specs.Said.{KnowsListing}
-use Rattle.outside_model.specs.Results.{device_at}
 use Rattle.world_model.specs.State.{Machine}
 use Rattle.world_model.specs.Refusals.{HasBad}
 use Rattle.proof_air.specs.Hearing.{RefusesAlike}

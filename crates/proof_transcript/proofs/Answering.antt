@@ -1,5 +1,5 @@
 -- Each line has the answer that the transcript before it demands, at the first event of its effect, and none comes later.
-use Rattle.std.proofs.Common.{◌≡◌, ◌≢◌, ◌⊎◌, ◌≤◌, ℕ, ◌+◌, ◌-◌, ◌==◌, ◌||◌, ◌&&◌, not, nat_le, nat_lt, Bool, true, false, if◌then◌else◌, inl, inr, List, [], ◌∷◌, ◌++◌, map, length, take, refl, sym, ap, subst, ◌∙◌, append-nil, append_assoc, arith}
+use Rattle.std.proofs.Common.{◌≡◌, ◌≢◌, ◌⊎◌, ◌≤◌, ℕ, ◌+◌, ◌-◌, ◌==◌, ◌||◌, not, nat_le, nat_lt, Bool, true, false, if◌then◌else◌, inl, inr, List, [], ◌∷◌, ◌++◌, map, length, take, refl, sym, ap, subst, ◌∙◌, append-nil, append_assoc, arith}
 use Rattle.std.specs.Prelude.{Contains, Option, Some, None, slice_get}
 use Rattle.std.specs.List.{AllByRecursion, flat_map}
 use Rattle.std.proofs.lemmas.Bool.{ne_eqb, le-ltb}
@@ -35,28 +35,28 @@ use Rattle.zw_text.specs.declared.entry.Entry.TheVariants as entry
 use Rattle.zw_text.specs.Transcript.{line_of, line_last, line_after}
 use Rattle.zw_text.proofs.Views.{folded-append}
 use Rattle.law_transcript.specs.Lists.{EachAfter, listed}
-use Rattle.law_transcript.specs.Answers.{AsksNothing, Follows, IsAnswer, IsNoAnswer, IsNoBadRecord, IsRefusal, LetsIn, MayAnswer, MayStandAfter, ReadsItsRecords, answer_to, answered_by, before_last, known_of, refusal_entry, refusals_to, refused_without}
+use Rattle.law_transcript.specs.Answers.{AsksNothing, Follows, IsAnswer, IsNoAnswer, IsNoBadRecord, IsRefusal, LetsIn, MayAnswer, MayStandAfter, ReadsItsRecords, answer_to, answered_by, before_last, refusal_entry, refusals_to, refused_without}
 use Rattle.law_transcript.specs.Nodes.{device_of, is_joined, listing_of}
-use Rattle.law_transcript.specs.Repeats.{frame_of, refused_repeat, repeat_entry}
+use Rattle.law_transcript.specs.Repeats.{repeat_entry}
 use Rattle.proof_host.proofs.Lists.{each-weaker}
 use Rattle.host_model.specs.State.{HostState, node_of}
 use Rattle.host_model.specs.After.{node_for}
 use Rattle.host_model.specs.Events.{HostEvent, Accepts, Cancels, Joins as joins_host, Queues, Queues_interview, Queues_probe}
 use Rattle.host_model.specs.May.{known_of as known_of_host}
-use Rattle.host_model.specs.Asking.{Waits, carriage_for, interview_refusal, join_refusal, places_refusal, refusal_for}
+use Rattle.host_model.specs.Asking.{carriage_for, join_refusal, places_refusal, refusal_for}
 use Rattle.host_requests.specs.declared.task.Task.{Task}
 use Rattle.host_requests.specs.declared.task.Task.TheVariants as task
-use Rattle.outside_model.specs.State.{OuterState, Outside, Outcome}
-use Rattle.outside_model.specs.Devices.{MayAct, MayActByHand, acts, acts_at, acts_by_hand, device_entries, shown_entries}
+use Rattle.outside_model.specs.State.{Outcome}
+use Rattle.outside_model.specs.Devices.{MayAct, MayActByHand, acts, acts_at, acts_by_hand, shown_entries}
 use Rattle.outside_model.specs.Results.{device_at}
 use Rattle.outside_model.specs.Events.{OuterEvent, Begins_line, Repeats, Wakes_device, Sets_device, Shows, Joins, Discovers, Links, Loses, Loses_acks, Marks_loss, Marks_change, Clears_pipe, Collides_next, Stalls, Cuts, MayRepeat, cleared_entries, refusal_entries, repeats, stamp, way_of, outcome, devices_after, May as MayOutside}
 use Rattle.proof_device.proofs.Entered.{IsMark, IsCleared, all_cleared}
 use Rattle.world_model.specs.State.{Machine}
 use Rattle.world_model.specs.Events.{Event, Outside_does, Host_does, Refuses, Shows_values, Restarts, shown_values, happens, entries, May}
 use Rattle.world_model.specs.Refusals.{HasBad, IsRefusedOrUnkept, IsUncancelled, IsUnopened, shown}
-use Rattle.world_model.specs.Lines.{Asks, IsDone, IsEffect, restart_events}
+use Rattle.world_model.specs.Lines.{Asks, IsDone, IsEffect}
 use Rattle.proof_walk.specs.Outside.{IsOfAir, IsHostNote}
-use Rattle.proof_walk.specs.ByLine.{IsCommon, InLine, TiedByLine}
+use Rattle.proof_walk.specs.ByLine.{TiedByLine}
 use Rattle.proof_walk.specs.Walk.{TiedWalk}
 use Rattle.proof_walk.proofs.Alone.{KindsAre, acts_are, common_are, stamped_are, steps_are}
 use Rattle.proof_walk.proofs.ByLine.{tied_walk_of}

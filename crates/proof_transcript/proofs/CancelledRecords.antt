@@ -2,7 +2,6 @@
 use Rattle.std.proofs.Common.{◌≡◌, ℕ, ◌==◌, Bool, true, false, if◌then◌else◌, List, [], ◌∷◌, ◌++◌, map, refl, sym, ap, ap₂, subst, ◌∙◌, append_assoc, append-nil}
 use Rattle.std.specs.List.{flat_map}
 use Rattle.std.proofs.lemmas.Grind.{flat_map-append}
-use Rattle.zw_text.specs.declared.entry.Ended.TheVariants as ended
 use Rattle.zw_text.specs.declared.entry.Entry.{Entry}
 use Rattle.zw_text.specs.declared.entry.Entry.TheVariants as entry
 use Rattle.zw_text.specs.Transcript.{shown}
@@ -14,16 +13,16 @@ use Rattle.host_keep.specs.declared.final_status.FinalStatus.{FinalStatus}
 use Rattle.host_keep.specs.declared.final_status.FinalStatus.TheVariants as final
 use Rattle.law_transcript.specs.Records.{cancelled_at}
 use Rattle.host_model.specs.State.{HostState, node_of}
-use Rattle.host_model.specs.Events.{HostEvent, Accepts, Cancels, Joins, Queues, Queues_interview, Queues_probe, Hears, Requests_do, Interviews, Interview_unkept, Unreads, Is_unkept, Reports_old, Works, Finishes, Offers, Gives, Spends, Spends_unread, Takes_nonce, Notifies, Resends, Hears_value, Has_no_room, Line_ticks, Node_ticks, Queues_no_more, Drops_no_more, Submits_abort, Submits_front, Starts, Gives_text, Gives_segment, Begins, Begin_unkept}
-use Rattle.host_model.specs.Records.{records_at, seen_records}
+use Rattle.host_model.specs.Events.{HostEvent, Accepts, Cancels, Interviews, Interview_unkept, Unreads, Is_unkept, Reports_old, Finishes, Spends_unread, Takes_nonce, Notifies, Hears_value, Has_no_room, Begins, Begin_unkept}
+use Rattle.host_model.specs.Records.{records_at}
 use Rattle.host_model.specs.After.{after}
 use Rattle.host_model.specs.Did.{records_all}
-use Rattle.host_model.specs.Outs.{outs, ended_of, answers}
+use Rattle.host_model.specs.Outs.{outs, ended_of}
 use Rattle.host_model.specs.declared.out.HostOut.{HostOut}
 use Rattle.host_model.specs.declared.out.HostOut.TheVariants.{Write, Note}
 use Rattle.host_model.proofs.Silence.{Silent}
-use Rattle.proof_host.specs.Entries.{IsAside, note_of, notes_of, entries_at}
-use Rattle.proof_device.proofs.HostOuts.{OutIs, OutsAre, OwnIs, SharedAre, outs_are}
+use Rattle.proof_host.specs.Entries.{IsAside, notes_of, entries_at}
+use Rattle.proof_device.proofs.HostOuts.{OutsAre, OwnIs, SharedAre, outs_are}
 use Rattle.world_model.specs.State.{Machine, host_does, host_entries, routed}
 use Rattle.world_model.proofs.Hosting.{entries_cons}
 use Rattle.outside_model.specs.Events.{Host_notes}

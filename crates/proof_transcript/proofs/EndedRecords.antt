@@ -1,5 +1,5 @@
 -- How the sessions of a node ended by the records is how the transcript shows their commands to have ended.
-use Rattle.std.proofs.Common.{◌≡◌, ℕ, ◌==◌, ◌||◌, Bool, true, false, if◌then◌else◌, List, [], ◌∷◌, ◌++◌, map, Option, Some, None, refl, sym, ap, ap₂, subst, ◌∙◌}
+use Rattle.std.proofs.Common.{◌≡◌, ℕ, ◌==◌, ◌||◌, Bool, true, false, if◌then◌else◌, List, [], ◌∷◌, map, Option, Some, None, refl, sym, ap, ap₂, subst, ◌∙◌}
 use Rattle.std.specs.Prelude.{All}
 use Rattle.std.specs.Option.{option_or}
 use Rattle.std.proofs.lemmas.Bool.{eq-eqb, eqb-true}
@@ -12,7 +12,7 @@ use Rattle.law_transcript.specs.Records.{final_of}
 use Rattle.host_keep.specs.Kept.{Kept, KeptNode, Session, is_among, node_of as kept_of_node}
 use Rattle.host_keep.specs.declared.final_status.FinalStatus.{FinalStatus}
 use Rattle.host_keep.specs.declared.final_status.FinalStatus.TheVariants as final
-use Rattle.host_model.specs.State.{HostState, Command, command_at, node_of}
+use Rattle.host_model.specs.State.{HostState, Command, node_of}
 use Rattle.host_model.specs.Facts.{HostFacts, IsCommandOf}
 use Rattle.host_model.specs.Holding.{Holds, Rise, as_kept, commands_of, ended_in, outcome_by, outcome_kept}
 use Rattle.host_model.proofs.Rising.{not_below, not_later, rise-left}

@@ -1,6 +1,6 @@
 -- How many properties of a node a host would keep with those of an order is what the transcript shows.
-use Rattle.std.proofs.Common.{◌≡◌, ◌⊎◌, ◌≤◌, ℕ, zero, suc, ◌==◌, ◌&&◌, ◌||◌, Bool, true, false, cond, eqb, if◌then◌else◌, is_some, unwrap_or, inl, inr, List, [], ◌∷◌, ◌++◌, map, length, All, Option, Some, None, refl, sym, ap, subst, ◌∙◌, arith}
-use Rattle.std.specs.Prelude.{IsTrue, slice_get}
+use Rattle.std.proofs.Common.{◌≡◌, ◌⊎◌, ◌≤◌, ℕ, zero, suc, ◌==◌, ◌&&◌, ◌||◌, Bool, true, false, cond, eqb, if◌then◌else◌, is_some, unwrap_or, inl, inr, List, [], ◌∷◌, ◌++◌, All, Option, Some, None, refl, sym, ap, subst, ◌∙◌, arith}
+use Rattle.std.specs.Prelude.{IsTrue}
 use Rattle.std.specs.List.{AllByRecursion, IsDistinct, cons_option, filter_map, flat_map}
 use Rattle.std.specs.Set.{distinct_count, is_member, unique_keys}
 use Rattle.std.specs.FinMap as finmap
@@ -26,7 +26,7 @@ use Rattle.value_store.proofs.Keys.{same_property_laws}
 use Rattle.host_keep.specs.Kept.{Taken, properties_for}
 use Rattle.host_orders.specs.Settings.{properties_of, settings}
 use Rattle.host_model.specs.State.{HostState, Command, command_at}
-use Rattle.host_model.specs.Facts.{HostFacts, IsSound}
+use Rattle.host_model.specs.Facts.{IsSound}
 use Rattle.host_model.proofs.Values.{one_property, same_key}
 use Rattle.proof_host.specs.Facts.{Facts}
 use Rattle.proof_host.specs.Laws.{accepted_for, numbers_for}

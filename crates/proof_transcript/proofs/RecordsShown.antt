@@ -2,15 +2,15 @@
 use Rattle.std.proofs.Common.{◌≡◌, ℕ, ◌==◌, ◌||◌, Bool, true, false, if◌then◌else◌, List, map, Option, Some, None, refl, sym, ap, ◌∙◌}
 use Rattle.std.specs.Prelude.{is_some, filter}
 use Rattle.zw_text.specs.declared.entry.Entry.{Entry}
-use Rattle.zw_text.specs.Transcript.{outcome, sessions, shown}
+use Rattle.zw_text.specs.Transcript.{outcome, shown}
 use Rattle.law_transcript.specs.Commands.{is_waiting}
-use Rattle.law_transcript.specs.Nodes.{first_node, is_interviewed, is_joined, known_at_first, known_classes}
+use Rattle.law_transcript.specs.Nodes.{first_node, is_interviewed, is_joined}
 use Rattle.law_transcript.specs.Records.{Shows, ShowsNode, cancelled_at, final_of}
 use Rattle.host_keep.specs.Kept.{Interview, Kept, Taken, classes_said, node_of as kept_of_node}
 use Rattle.host_model.specs.State.{HostState, node_of}
 use Rattle.host_model.specs.Holding.{Holds}
 use Rattle.proof_host.specs.Facts.{AreShown, Facts}
-use Rattle.proof_host.specs.Laws.{HostLaws, numbers_for}
+use Rattle.proof_host.specs.Laws.{HostLaws}
 use Rattle.proof_once.specs.ByTable.{IsTable}
 use Rattle.proof_spoken.specs.Said.{AreSaid, KnowsListing}
 use Rattle.proof_transcript.proofs.EndedRecords.{node_ended}

@@ -1,12 +1,11 @@
 -- Over lines that were all run whole, the records cancel the commands that the transcript shows to be taken back, in the same order.
-use Rattle.std.proofs.Common.{◌≡◌, ℕ, List, [], ◌∷◌, ◌++◌, map, Option, Some, refl, sym, ap, ap₂, subst, ◌∙◌, append-nil}
+use Rattle.std.proofs.Common.{◌≡◌, ℕ, List, [], ◌∷◌, ◌++◌, map, Option, refl, sym, ap, ap₂, subst, ◌∙◌, append-nil}
 use Rattle.std.specs.Prelude.{⊤}
 use Rattle.std.specs.List.{flat_map}
 use Rattle.std.proofs.lemmas.Grind.{flat_map-append}
-use Rattle.zw_text.specs.declared.line.Line.{Line}
 use Rattle.zw_text.specs.declared.entry.Entry.{Entry}
 use Rattle.zw_text.specs.declared.entry.Entry.TheVariants.{Said, Refused}
-use Rattle.zw_text.specs.Transcript.{line_of, shown}
+use Rattle.zw_text.specs.Transcript.{shown}
 use Rattle.zw_text.proofs.Views.{shown-append}
 use Rattle.law_transcript.specs.Lists.{EachAfter}
 use Rattle.law_transcript.specs.Records.{cancelled_at}
@@ -32,7 +31,7 @@ use Rattle.proof_host.specs.Entries.{IsAside, entries_at}
 use Rattle.proof_world.proofs.Aside.{own_aside, stamp_aside}
 use Rattle.proof_world.proofs.HeldRecords.{texts_both, texts_of_range}
 use Rattle.proof_world.proofs.Notes.{Trailing, event_following}
-use Rattle.proof_walk.specs.Phases.{Phase, Between, Goes, Turns}
+use Rattle.proof_walk.specs.Phases.{Phase}
 use Rattle.proof_walk.specs.Walk.{Walk}
 use Rattle.proof_walk.proofs.Lines.{lines_lead}
 use Rattle.proof_transcript.specs.Records.{TellsCancelled, cancelled_by}

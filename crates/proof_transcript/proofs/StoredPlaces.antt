@@ -1,7 +1,7 @@
 -- A store has places only for the properties that commands set, and for those of which a value was heard.
-use Rattle.std.proofs.Common.{◌≡◌, ◌⊎◌, ℕ, zero, suc, ◌+◌, ◌==◌, ◌&&◌, ◌||◌, Bool, true, false, cond, eqb, if◌then◌else◌, is_some, inl, inr, List, [], ◌∷◌, ◌++◌, map, length, All, Option, Some, None, refl, sym, ap, subst, ◌∙◌}
+use Rattle.std.proofs.Common.{◌≡◌, ◌⊎◌, ℕ, zero, suc, ◌+◌, ◌&&◌, ◌||◌, Bool, true, false, cond, eqb, if◌then◌else◌, is_some, inl, inr, List, [], ◌∷◌, ◌++◌, map, length, All, Option, Some, None, refl, sym, ap, subst, ◌∙◌}
 use Rattle.std.specs.Prelude.{IsTrue, slice_get}
-use Rattle.std.specs.List.{flat_map, list_any}
+use Rattle.std.specs.List.{flat_map}
 use Rattle.std.specs.FinMap as finmap
 use Rattle.std.proofs.lemmas.Bool.{eqb-true, eq-eqb}
 use Rattle.std.proofs.lemmas.List.Elements.{All-head, All-tail}
@@ -42,7 +42,7 @@ use Rattle.host_model.specs.Events.{HostEvent, Accepts, Finishes, Gives, Hears_v
 use Rattle.host_model.specs.Facts.{HostFacts, IsCommandOf}
 use Rattle.host_model.specs.May.{May}
 use Rattle.host_model.specs.Holding.{HoldsAlone, taken_as}
-use Rattle.host_model.proofs.Values.{get-one, heard-confirming, one_property, reserved-reserving, stored-one, stored-reserving}
+use Rattle.host_model.proofs.Values.{get-one, heard-confirming, reserved-reserving, stored-one, stored-reserving}
 use Rattle.proof_host.specs.Tables.{taken_at, taken_by}
 use Rattle.proof_once.specs.Tied.{KeepsOrders}
 use Rattle.proof_spoken.proofs.Orders.{push_is}

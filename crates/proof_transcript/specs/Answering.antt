@@ -1,5 +1,5 @@
 -- How lines are answered (this project's own): what is tied to the transcript where a line begins, and what is known at each phase of it.
-use Rattle.std.specs.Prelude.{◌≡◌, ◌≢◌, ◌⊎◌, ℕ, ◌==◌, ◌&&◌, Bool, true, false, List, [], ◌∷◌, ◌++◌, length, Option, None, Contains}
+use Rattle.std.specs.Prelude.{◌≡◌, ◌⊎◌, ℕ, ◌==◌, ◌&&◌, Bool, true, false, List, [], ◌∷◌, ◌++◌, length, Contains}
 use Rattle.std.specs.List.{AllByRecursion, list_any}
 use Rattle.zw_base.specs.declared.order.Order.{Order}
 use Rattle.air_frames.specs.Ages.{refusal_of as repeat_refusal}
@@ -15,7 +15,7 @@ use Rattle.law_transcript.specs.Answers.{IsNoBadRecord, MayAnswer, before_last, 
 use Rattle.law_transcript.specs.Commands.{is_waiting}
 use Rattle.law_transcript.specs.Nodes.{device_of, listing_of}
 use Rattle.law_transcript.specs.Repeats.{frame_of, refused_repeat}
-use Rattle.host_model.specs.State.{HostState, node_of}
+use Rattle.host_model.specs.State.{node_of}
 use Rattle.host_model.specs.After.{node_for}
 use Rattle.host_requests.specs.declared.task.Task.TheVariants as task
 use Rattle.host_model.specs.Events.{Queues}

@@ -1,5 +1,5 @@
 -- What a law asks of each kind of entry by itself holds of the entries of each event that is no line's own.
-use Rattle.std.proofs.Common.{◌≡◌, ℕ, ◌+◌, ◌&&◌, not, Bool, true, false, if◌then◌else◌, inl, inr, ◌⊎◌, List, [], ◌∷◌, ◌++◌, refl, sym, subst}
+use Rattle.std.proofs.Common.{◌≡◌, ℕ, ◌+◌, ◌&&◌, not, Bool, true, false, if◌then◌else◌, inl, inr, ◌⊎◌, List, [], ◌∷◌, ◌++◌, sym, subst}
 use Rattle.std.specs.Prelude.{Option}
 use Rattle.std.specs.List.{AllByRecursion}
 use Rattle.zw_base.proofs.Each.{all-append, all-weaker}
@@ -24,11 +24,11 @@ use Rattle.host_model.specs.Outs.{answers}
 use Rattle.outside_model.specs.State.{OuterState, Outside, outside, each, with_chip}
 use Rattle.outside_model.specs.Chip.{put_out, chip_does}
 use Rattle.outside_model.specs.Devices.{acts}
-use Rattle.outside_model.specs.Events.{OuterEvent, Begins_tick, Host_writes, Host_takes as host_takes, Host_notes, Chip_takes, Arrives, Gives, Device_ticks, Chip_ticks, Repeats, Wakes_device, Sets_device, outcome, mesh_of, steps, stamp, ticked_entry}
+use Rattle.outside_model.specs.Events.{OuterEvent, Begins_tick, Host_notes, Chip_takes, Arrives, Gives, Device_ticks, Chip_ticks, Repeats, Wakes_device, Sets_device, outcome, mesh_of, steps, stamp, ticked_entry}
 use Rattle.world_model.specs.State.{Machine}
 use Rattle.world_model.specs.Events.{Event, Outside_does, Host_does, Host_takes, Decoder_ticks, Refuses, Shows_values, Restarts, entries, May}
 use Rattle.proof_device.proofs.Entered.{IsMark, told_by_marks}
-use Rattle.proof_walk.specs.Outside.{Knowing, Moves, Link, IsDone, IsSimple, IsHearing, IsOfAir, IsHostNote, CoversHost, CoversOuter, CoversRefusal, CoversAnswer}
+use Rattle.proof_walk.specs.Outside.{Knowing, Moves, Link, IsSimple, IsHearing, IsOfAir, IsHostNote, CoversHost, CoversOuter, CoversRefusal, CoversAnswer}
 use Rattle.proof_walk.specs.ByLine.{IsOfTick, IsCommon}
 use Rattle.proof_walk.proofs.Linking.{of_link, acts_of_air}
 use Rattle.proof_walk.proofs.Stamping.{steps_come}

@@ -1,5 +1,5 @@
 -- The lines of a story were said, and each has its answer.
-use Rattle.std.proofs.Common.{◌≡◌, ℕ, Bool, true, false, List, [], Option, Some, ap, refl, sym, subst, ◌∙◌}
+use Rattle.std.proofs.Common.{◌≡◌, ℕ, Bool, true, false, List, Option, ap, refl, sym, subst, ◌∙◌}
 use Rattle.host_core.specs.Network.{keys_of}
 use Rattle.law_transcript.specs.Answers.{AnswersLines, ReadsItsRecords}
 use Rattle.zw_text.specs.declared.entry.Entry.{Entry}

@@ -1,12 +1,9 @@
-use Rattle.std.proofs.Common.{◌≡◌, ℕ, List, [], ◌++◌, Some, None, Option, refl, sym, ap, subst, ◌∙◌}
+use Rattle.std.proofs.Common.{◌≡◌, ℕ, List, [], Some, Option, refl, sym, ap, subst, ◌∙◌}
 use Rattle.std.specs.List.{flat_map}
 use Rattle.law_transcript.specs.Nodes.{listing_of}
-use Rattle.law_transcript.specs.Records.{cancelled_at}
-use Rattle.zw_text.specs.Transcript.{shown}
 use Rattle.host_keep.specs.Kept.{first_kept, kept_of}
 use Rattle.host_keep.specs.declared.record.Record.{Record}
 use Rattle.world_model.specs.State.{Machine, first_machine}
-use Rattle.world_model.specs.Did.{happens_all}
 use Rattle.world_lines.specs.Done.{events_of}
 use Rattle.world_lines.specs.Spoken.{after_all, transcript_of}
 use Rattle.proof_spoken.proofs.SpokenLines.{all_after, all_lines, all_may, lines_of}
