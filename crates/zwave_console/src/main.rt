@@ -6,6 +6,8 @@ mod gathering;
 mod opening;
 mod records;
 
+ghost use Rattle.std.specs.Prelude.{◌<◌, ◌^◌, length};
+
 use crate::devices::{FIRST, KEY, LAST, Made, make_device};
 use crate::gathering::{Gathered, GatheringSink, MOST_WAITING, WritingSource, write_waiting};
 use crate::opening::{is_host, make_records, records_name, say_faults};
@@ -52,12 +54,13 @@ fn start(rt: &HostRuntime) -> Result<Status, Status> {
 // The words after the program's name. The program accepts no word that is not UTF-8.
 fn words_of(rt: &HostRuntime) -> Result<Vec<String>, Status> {
     let mut words = Vec::new(rt.alloc());
-    let args = match env::args(rt) {
+    let mut args = match env::args(rt) {
         Ok(args) => args,
         Err(error) if error.kind() == ErrorKind::OutOfMemory => return Err(Status::NoMemory),
         Err(_) => return Err(Status::Usage),
     };
-    for word in args.skip(1) {
+    let _program = args.next();
+    for word in args {
         if words.push(word).is_err() {
             return Err(Status::NoMemory);
         }
@@ -107,15 +110,20 @@ fn run_with_devices<S: Source, K: Sink>(
         };
         devices.push(device)?;
     }
+    Ok(run_over(alloc, words, source, sink, &mut devices, records))
+}
+
+// Runs the command over these devices.
+fn run_over<S: Source, K: Sink>(
+    alloc: Global,
+    words: &[String],
+    source: &mut S,
+    sink: &mut K,
+    devices: &mut Vec<Box<dyn Device>>,
+    records: &mut Records,
+) -> Status
+    requires { length devices.old.items < 2 ^ 64 }
+{
     let mut draw = ChaChaDraw::new([0; 32]);
-    Ok(run(
-        alloc,
-        words,
-        source,
-        sink,
-        &mut devices,
-        KEY,
-        &mut draw,
-        records,
-    ))
+    run(alloc, words, source, sink, devices, KEY, &mut draw, records)
 }
