@@ -59,7 +59,7 @@ class Device:
     def __init__(self, node, key, lived=Clock):
         self.node, self.kind, self.key, self.lived = node, kind_of(node), key, lived
         self.classes = listing_of(node)
-        self.awake = listens(node)
+        self.awake = True
         self.last = 0
         self.values, self.last_level = {}, None
         self.taken, self.status, self.work = 0, SUCCESS, None

@@ -50,10 +50,14 @@ class Splitter:
 
     def take(self, piece):
         """The items that end in the piece, in order."""
+        return [item_of(unit) for unit in self.units(piece)]
+
+    def units(self, piece):
+        """Their bytes."""
         data = self.rest + piece
         if not self.rest:
             self.age = 0
-        place, items = 0, []
+        place, units = 0, []
         while place < len(data):
             size = 1
             if data[place] == 1:
@@ -62,11 +66,11 @@ class Splitter:
                 size = 2 if data[place + 1] < 3 else data[place + 1] + 2
                 if place + size > len(data):
                     break
-            items.append(item_of(data[place:place + size]))
+            units.append(data[place:place + size])
             place += size
             self.age = 0
         self.rest = data[place:]
-        return items
+        return units
 
     def tick(self):
         """A tick of the side that hears."""

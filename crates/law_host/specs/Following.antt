@@ -10,7 +10,6 @@ use Rattle.zw_text.specs.declared.entry.Ended.{Ended}
 use Rattle.zw_text.specs.declared.entry.Ended.TheVariants.{Cancelled}
 use Rattle.zw_text.specs.declared.entry.Entry.{Entry}
 use Rattle.zw_text.specs.declared.entry.Entry.TheVariants.{Said, Written, Begin, Out, Store, Report, Unstored, Old, Unread, Awake, Asleep, Interviewed, InterviewFailed, Done, Neighbours, Failed, QueueFull, Held, Unkept, Time}
-use Rattle.law_transcript.specs.Commands.{waiting}
 use Rattle.law_time.specs.Moments.{clock, now_at}
 use Rattle.law_time.specs.Judged.{is_acknowledgement, is_mark}
 use Rattle.law_time.specs.Requests.{are_none, asked, is_new, starts_anew}

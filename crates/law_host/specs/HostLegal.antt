@@ -12,7 +12,7 @@ use Rattle.zw_text.specs.Transcript.{line_last}
 use Rattle.law_transcript.specs.Answers.{AnswersAfter, MayCancel, refusals_by_host}
 use Rattle.law_transcript.specs.Lists.{EachAfter}
 use Rattle.law_transcript.specs.Once.{CarriesOnce}
-use Rattle.law_transcript.specs.Payloads.{FollowsBegin, MayRequest}
+use Rattle.law_transcript.specs.Payloads.{MayRequest}
 use Rattle.law_transcript.specs.Records.{KeepsRecords}
 use Rattle.law_transcript.specs.Sessions.{MayBegin}
 use Rattle.law_transcript.specs.Stores.{StoresConfirmed}
@@ -54,8 +54,7 @@ pub record IsHostLegal (key : List ℕ) (listing : ℕ → List ℕ) (start : St
   pub link : KeepsLink Host (ended whole heard)
   pub notes : NotesWhatHappens key listing start whole heard
   pub stores : StoresConfirmed whole listing (start.before ++ heard)
-  pub values : EachAfter (ShowsValues listing) start.before heard
+  pub values : EachAfter (ShowsValues listing) start.before (ended whole heard)
   pub sends : EachAfter (MayRequest listing key) start.before heard
-  pub begins : EachAfter FollowsBegin start.before heard
   pub prompt : IsPromptAfter start.before whole listing heard
   pub records_kept : whole ≡ true → IfSome records (KeepsRecords (start.before ++ heard))

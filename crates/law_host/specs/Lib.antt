@@ -8,5 +8,6 @@ pub mod Following
 pub mod Notes
 pub mod Heard
 pub mod HostLegal
+pub mod Starting
 pub mod Legal
 pub mod Worked

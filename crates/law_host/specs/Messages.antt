@@ -1,6 +1,6 @@
 -- What a message of a node has the host note (Supervision, Security 0, Wake Up and Transport Service Command Classes and the reports of the
 -- Application Command Classes; which notes come of which message is this project's own rule).
-use Rattle.std.specs.Prelude.{ℕ, ◌+◌, ◌%◌, ◌==◌, ◌&&◌, not, nat_le, Bool, true, if◌then◌else◌, List, [], ◌∷◌, ◌++◌, length, slice_index}
+use Rattle.std.specs.Prelude.{ℕ, ◌+◌, ◌%◌, ◌==◌, ◌&&◌, not, nat_le, Bool, true, if◌then◌else◌, List, [], ◌∷◌, ◌++◌, length}
 use Rattle.std.specs.List.{flat_map}
 use Rattle.std.specs.Set.{distinct_count}
 use Rattle.serial_frame.specs.declared.unit.TheConstants.{ACK}

@@ -163,6 +163,13 @@ given_live = nonce_given ++ by_host (codes "01110013040A9880019E0A1249BB594F2502
 abbrev pub given_new : List Entry
 given_new = nonce_given ++ by_host (codes "01110013040A988002010203040506072502CE") ∷ []
 
+-- or another with the number of the live one; and the first that is given has the number of the second
+abbrev pub given_otherwise : List Entry
+given_otherwise = nonce_given ++ by_host (codes "01110013040A988001FF0A1249BB594F2502CE") ∷ []
+
+abbrev pub given_skipped : List Entry
+given_skipped = nonce_asked ∷ host_acknowledges ∷ by_host (codes "01110013040A988002010203040506072501CD") ∷ []
+
 -- ---- what no entry shows
 
 -- the report of the lock is judged, and one of two records is not kept: that the nonce is spent, or how the session ended; it asks for a nonce again
@@ -209,3 +216,17 @@ abbrev pub mixed_heard : List Entry
 mixed_heard =
     by_chip (codes "01080004000502840776") ∷ Garbled Chip (bytes (codes "01080004000502840776")) ∷ by_host (codes "15") ∷ notified ∷
     host_acknowledges ∷ Dropped Host ∷ Awake 5 ∷ Said (codes "cancel 1") ∷ Refused (refusals.NotWaiting 1) ∷ []
+
+-- ---- a run that ends
+
+-- `stall 5`, `drop h`, `set 2 on`: the run ends with the unit, and it is not told that it was lost
+abbrev pub loss_untold : List Entry
+loss_untold =
+    Said (codes "stall 5") ∷ Said (codes "drop h") ∷ Said (codes "set 2 on") ∷ Accepted 1 2 ∷ Begin 2 1 1
+    ∷ by_host (codes "010E001302076C0101032501FF250177") ∷ []
+
+-- ---- starts
+
+-- after the plain exchange, though the host goes on
+abbrev pub after_exchange : Start
+after_exchange = record { before = plain_exchange; books = [] }

@@ -7,11 +7,13 @@ ghost use Rattle.law_host.specs.Heard.{heard_by_host};
 ghost use Rattle.law_host.specs.HostLegal.{IsHostLegal};
 ghost use Rattle.law_host.specs.Legal.{IsLegal};
 ghost use Rattle.law_host.specs.Notes.{first_start};
+ghost use Rattle.law_host.specs.Starting.{StartsFrom};
+ghost use Rattle.law_host.specs.Worked.{after_exchange, loss_untold};
 ghost use Rattle.law_transcript.specs.Devices.{after_events};
 ghost use Rattle.law_transcript.specs.Nodes.{listing_of};
 ghost use Rattle.law_transcript.specs.Worked.{plain_exchange, refused_lines, the_switch};
 ghost use Rattle.law_transcript.specs.WorkedDevices.{plain_records, switch_events};
-ghost use Rattle.law_wire.specs.WorkedRecords.{ordered_otherwise};
+ghost use Rattle.law_wire.specs.WorkedRecords.{begun_records, ordered_otherwise};
 ghost use Rattle.law_wire.specs.WorkedWrong.{answered_nothing};
 
 use law_transcript::{
@@ -19,9 +21,9 @@ use law_transcript::{
     worked_losses, worked_payloads, worked_stores, worked_units,
 };
 use law_wire::{
-    rejected_links, rejected_records, worked_arrivals, worked_collisions, worked_forgetting,
-    worked_links, worked_marks, worked_pipes, worked_records, worked_repeats, worked_routes,
-    worked_service,
+    rejected_links, rejected_records, worked_arrivals, worked_collisions, worked_doings,
+    worked_forgetting, worked_landings, worked_links, worked_marks, worked_pipes, worked_records,
+    worked_repeats, worked_routes, worked_service, worked_showing,
 };
 
 /// A host that refuses lines, each by its rule, is legal over what it hears of them.
@@ -35,6 +37,7 @@ pub fn worked_run()
 {
     worked_answers();
     worked_devices();
+    worked_doings();
     worked_frames();
     worked_fates();
     worked_losses();
@@ -44,6 +47,7 @@ pub fn worked_run()
     worked_cancels();
     worked_stores();
     worked_arrivals();
+    worked_landings();
     worked_repeats();
     worked_forgetting();
     worked_routes();
@@ -53,13 +57,30 @@ pub fn worked_run()
     worked_collisions();
     worked_pipes();
     worked_records();
+    worked_showing();
 }
 
-/// With the records of another order it is not, and no transcript is in which the chip answers a frame that never came.
+/// With the records of another order it is not, no transcript is in which the chip answers a frame that never came, and no whole run that ends with a
+/// unit of which it is to be told that it was lost.
 pub fn rejected_run()
     ensures records { (after : List State) → IsLegal [] (the_switch ∷ []) after true plain_exchange (Some (map record_text ordered_otherwise)) → ⊥ }
     ensures line { (after : List State) → IsLegal [] (the_switch ∷ []) after false answered_nothing None → ⊥ }
+    ensures end { (after : List State) → IsLegal [] (the_switch ∷ []) after true loss_untold None → ⊥ }
 {
     rejected_records();
     rejected_links();
+}
+
+/// Where there are no records a host starts with nothing.
+pub fn worked_start()
+    ensures { StartsFrom (listing_of (the_switch ∷ [])) [] first_start }
+{}
+
+/// From the records of a session that has not ended it does not start as after the plain exchange, and from those of that exchange it does not
+/// where the old host goes on.
+pub fn rejected_start()
+    ensures records { StartsFrom (listing_of (the_switch ∷ [])) (map record_text begun_records) after_exchange → ⊥ }
+    ensures running { StartsFrom (listing_of (the_switch ∷ [])) (map record_text plain_records) after_exchange → ⊥ }
+{
+    rejected_records();
 }

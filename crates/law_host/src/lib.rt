@@ -7,8 +7,8 @@
 //!
 //! The definitions are in `specs/`: `Course` (what stands next, and what no entry shows), `Nonces`, `Messages`, `Ends`,
 //! `Frames` and `Ticks` (what each event makes), `Following` and `Notes` (the law of notes and nonces); `Heard` (what a
-//! host heard of a run); `HostLegal` (the laws of the host, as one) and `Legal` (those of a run, as one). `Worked` has the
-//! transcripts that the functions here speak of.
+//! host heard of a run); `HostLegal` (the laws of the host, as one), `Starting` (how it starts from records) and `Legal`
+//! (those of a run, as one). `Worked` has the transcripts that the functions here speak of.
 #![tactic(auto)]
 
 mod heard;
@@ -17,6 +17,6 @@ mod nonces;
 mod notes;
 
 pub use heard::worked_heard;
-pub use legal::{rejected_run, worked_legal, worked_run};
+pub use legal::{rejected_run, rejected_start, worked_legal, worked_run, worked_start};
 pub use nonces::{rejected_nonces, worked_nonces};
 pub use notes::{rejected_notes, worked_notes};

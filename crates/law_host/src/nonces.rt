@@ -2,7 +2,18 @@
 
 ghost use Rattle.std.specs.Prelude.{◌∷◌, [], true};
 ghost use Rattle.law_host.specs.Notes.{NotesWhatHappens, first_start};
-ghost use Rattle.law_host.specs.Worked.{after_nonce_given, asked_anew, ended_sealed, given_live, given_new, given_spent, given_unspent, nonce_again};
+ghost use Rattle.law_host.specs.Worked.{
+  after_nonce_given,
+  asked_anew,
+  ended_sealed,
+  given_live,
+  given_new,
+  given_otherwise,
+  given_skipped,
+  given_spent,
+  given_unspent,
+  nonce_again,
+};
 ghost use Rattle.law_transcript.specs.Nodes.{listing_of};
 ghost use Rattle.law_transcript.specs.Worked.{network_key, sealed_exchange, the_lock};
 
@@ -18,8 +29,11 @@ pub fn worked_nonces()
     ensures spent { NotesWhatHappens network_key (listing_of (the_lock ∷ [])) first_start true given_spent }
 {}
 
-/// Each of these breaks the law by one entry: an attempt is sealed for the nonce of the one before, and a node is given a new nonce while one is live.
+/// Each of these breaks the law by one entry: an attempt is sealed for the nonce of the one before, a node is given a new nonce while one is live, or
+/// another nonce with its number, and the first one has the number of the second.
 pub fn rejected_nonces()
     ensures again { NotesWhatHappens network_key (listing_of (the_lock ∷ [])) first_start true nonce_again → ⊥ }
     ensures new { NotesWhatHappens network_key (listing_of (the_lock ∷ [])) first_start true given_new → ⊥ }
+    ensures other { NotesWhatHappens network_key (listing_of (the_lock ∷ [])) first_start true given_otherwise → ⊥ }
+    ensures skipped { NotesWhatHappens network_key (listing_of (the_lock ∷ [])) first_start true given_skipped → ⊥ }
 {}

@@ -19,8 +19,9 @@ use Rattle.law_transcript.specs.Nodes.{controller, known_classes}
 use Rattle.law_transcript.specs.Repeats.{frame_of}
 use Rattle.law_transcript.specs.Restarts.{repeats, ticks_asked}
 use Rattle.law_transcript.specs.Units.{is_frame, function_in, body_in}
+use Rattle.law_wire.specs.Links.{lasts}
 use Rattle.law_time.specs.Moments.{clock}
-use Rattle.law_time.specs.Judged.{is_data, acknowledgements_come, last_of}
+use Rattle.law_time.specs.Judged.{acknowledged, frames_come, is_data, acknowledgements_come, last_of}
 use Rattle.law_time.specs.Requests.{are_none}
 use Rattle.law_time.specs.Interviews.{listens}
 use Rattle.law_time.specs.Waking.{is_awake_sleeper}
@@ -91,6 +92,14 @@ no_marks past =
     && (marks_left past == 0) && (acks_from [] 0 past == 0)
 
 -- ---- nothing is under way
+
+-- a line stalls the serial bytes from all ticks on that lines before it asked for
+abbrev pub is_stalled : List Entry → ℕ → Bool
+is_stalled past now = lasts (λ before. ticks_asked (lines_run before)) line_of past now
+
+-- no stall lasts, and the host has judged every frame of the chip
+abbrev pub has_judged_all : List Entry → ℕ → Bool
+has_judged_all past now = not (is_stalled past now) && (acknowledged past == length (frames_come past))
 
 -- every frame on the air has had its fate
 abbrev pub air_is_empty : List Entry → Bool
@@ -165,6 +174,7 @@ is_not_stuck past now node =
 -- all is still: nothing is to be lost, and nothing is under way
 pub record IsStill (listing : ℕ → List ℕ) (devices : List State) (past : List Entry) (now : ℕ) : Type 0 where
   pub marks : no_marks past ≡ true
+  pub judged : has_judged_all past now ≡ true
   pub host : is_rest past now ≡ true
   pub chip : chip_is_idle past now ≡ true
   pub called : owes_no_call past now ≡ true

@@ -1,16 +1,14 @@
 -- Rests, and what the host owes at one (this project's own rule): nothing that was asked for is left, no command waits for a node
 -- that is awake, no part of an attempt, and no attempt, is left unsent, none is overdue, and a node that sleeps is kept awake for a reason alone.
-use Rattle.std.specs.Prelude.{◌≡◌, ℕ, ◌+◌, ◌==◌, ◌&&◌, ◌||◌, not, nat_lt, Bool, true, List, [], ◌∷◌, ◌++◌, length}
+use Rattle.std.specs.Prelude.{◌≡◌, ℕ, ◌+◌, ◌==◌, ◌&&◌, ◌||◌, not, nat_lt, Bool, true, List, [], ◌++◌, length}
 use Rattle.std.specs.List.{flat_map, list_any, list_all}
 use Rattle.zw_text.specs.declared.line.Line.{Line}
 use Rattle.zw_text.specs.declared.line.Line.TheVariants as lines
 use Rattle.zw_text.specs.declared.entry.Entry.{Entry}
 use Rattle.zw_text.specs.declared.entry.Entry.TheVariants.{Said, Interviewed, InterviewFailed, Unkept, Time}
-use Rattle.zw_text.specs.Transcript.{joined, shown, line_of, lines_run, lines_done, requests_done, where_same}
-use Rattle.law_transcript.specs.Restarts.{since_restart, ticks_asked}
-use Rattle.law_wire.specs.Links.{lasts}
+use Rattle.zw_text.specs.Transcript.{joined, shown, lines_done, requests_done, where_same}
+use Rattle.law_transcript.specs.Restarts.{since_restart}
 use Rattle.law_time.specs.Moments.{KeepsAfter, now_at}
-use Rattle.law_time.specs.Judged.{acknowledged, frames_come}
 use Rattle.law_time.specs.Requests.{asked, are_none}
 use Rattle.law_time.specs.Ends.{is_over, owes_abort}
 use Rattle.law_time.specs.Sessions.{runs}
@@ -20,13 +18,9 @@ use Rattle.law_time.specs.Choice.{is_in_tick, is_to_begin, parts_of, unkept_when
 
 -- ---- when it rests
 
--- a line stalls the serial bytes from all ticks on that lines before it asked for
-abbrev pub is_stalled : List Entry → ℕ → Bool
-is_stalled past now = lasts (λ before. ticks_asked (lines_run before)) line_of past now
-
--- the host rests: no stall lasts, every frame of the chip is judged, and no request is under way
+-- the host rests where no request is under way, also while a stall lasts: then it has heard nothing since, and sends all the same
 abbrev pub is_rest : List Entry → ℕ → Bool
-is_rest past now = not (is_stalled past now) && (acknowledged past == length (frames_come past)) && is_over (asked past) now
+is_rest past now = is_over (asked past) now
 
 -- ---- what is asked for has come
 

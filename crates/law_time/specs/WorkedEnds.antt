@@ -217,10 +217,6 @@ waits_for_line =
     take 4 four_lost ++ Said (codes "failed 2") ∷ drop 4 four_lost ++ Time 80 ∷ delivered ∷ host_acknowledges ∷ Done 2 done.Delivered ∷ Time 93 ∷
     failed_asked ∷ []
 
--- nor while a frame of the chip is not judged
-abbrev pub waits_for_judging : List Entry
-waits_for_judging = Said (codes "failed 2") ∷ notified ∷ Said (codes "tick 1") ∷ []
-
 -- the first copy is acknowledged at its fifteenth tick
 abbrev pub silent_after_late : List Entry
 silent_after_late = take 2 unrouted_errand ++ Said (codes "tick 100") ∷ Time 15 ∷ chip_acknowledges ∷ Time 30 ∷ Done 2 done.Silent ∷ []

@@ -324,3 +324,9 @@ the_keeper = fresh 101 kinds.Sensor []
 
 abbrev pub the_other_switch : State
 the_other_switch = fresh 10 kinds.Switch []
+
+-- `stall 5`, `set 2 on`: the session begins in the stall, and the chip has not answered its unit
+abbrev pub sent_in_stall : List Entry
+sent_in_stall =
+    Said (codes "stall 5") ∷ Said (codes "set 2 on") ∷ Accepted 1 2 ∷ Begin 2 1 1 ∷
+    Written Host (bytes (codes "010E001302076C0101032501FF250177")) ∷ Said (codes "tick 4") ∷ []

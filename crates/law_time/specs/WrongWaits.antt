@@ -1,13 +1,14 @@
 -- Transcripts like the worked ones that break the laws of waking, attempts, rests and stretches, one thing wrong in each.
 use Rattle.std.specs.Prelude.{List, [], ◌∷◌, codes}
 use Rattle.zw_base.specs.declared.property.Name.TheVariants as names
-use Rattle.zw_base.specs.declared.property.By.TheVariants.{Session}
+use Rattle.zw_base.specs.declared.property.By.TheVariants.{Local, Session}
 use Rattle.zw_words.specs.declared.side.Side.TheVariants.{Host, Chip}
 use Rattle.host_orders.specs.Settings.{setting}
 use Rattle.zw_text.specs.declared.entry.Ended.TheVariants as endings
 use Rattle.zw_text.specs.declared.entry.Entry.{Entry}
 use Rattle.zw_text.specs.declared.entry.Entry.TheVariants.{Said, Accepted, Begin, Written, Dropped, Air, Heard, Lost, Dev, Out, Store, Awake, Asleep, Interviewed, Held, Time}
 use Rattle.law_transcript.specs.Worked.{bytes}
+use Rattle.law_time.specs.WorkedUnits.{notified}
 
 -- a node counts as awake though it has not told so
 abbrev pub awake_untold : List Entry
@@ -298,3 +299,22 @@ stretch_unwoken =
     Store 5 (setting 0 names.Interval 300) ∷ Written Host (bytes (codes "0109001305028408250348")) ∷ Written Chip (bytes (codes "06")) ∷
     Written Chip (bytes (codes "0104011301E8")) ∷ Air 6 1 5 [] (bytes (codes "8408")) ∷ Written Host (bytes (codes "06")) ∷ Time 8 ∷ Heard 6 ∷
     Written Chip (bytes (codes "010500130300EA")) ∷ Written Host (bytes (codes "06")) ∷ Asleep 5 ∷ []
+
+-- `stall 5`, `set 2 on`: no session begins before the stall ends, though no request is under way
+abbrev pub left_in_stall : List Entry
+left_in_stall = Said (codes "stall 5") ∷ Said (codes "set 2 on") ∷ Accepted 1 2 ∷ Said (codes "tick 4") ∷ []
+
+-- nor where the chip has written in the stall, which the host has not heard
+abbrev pub left_unheard : List Entry
+left_unheard =
+    Said (codes "stall 9") ∷ Said (codes "local 2 1") ∷ Dev 2 Local (setting 0 names.Switch 255) ∷ Air 1 2 1 [] (bytes (codes "2503FF")) ∷
+    Said (codes "tick 1") ∷ Time 1 ∷ Heard 1 ∷ Written Chip (bytes (codes "010900040002032503FF2A")) ∷ Said (codes "set 2 on") ∷ Accepted 1 2 ∷
+    Said (codes "tick 1") ∷ []
+
+-- `failed 2`: the question is not asked while the chip has written what the host has not judged, though no request is under way
+abbrev pub left_unasked : List Entry
+left_unasked = Said (codes "failed 2") ∷ notified ∷ Said (codes "tick 1") ∷ []
+
+-- `stall 5`, `set 2 on`: a session begins, and nothing is sent
+abbrev pub begun_silently : List Entry
+begun_silently = Said (codes "stall 5") ∷ Said (codes "set 2 on") ∷ Accepted 1 2 ∷ Begin 2 1 1 ∷ []

@@ -34,5 +34,7 @@ pub use requests::{
     rejected_errands, rejected_interviews, rejected_questions, worked_errands, worked_interviews,
     worked_questions,
 };
-pub use waits::{rejected_rests, rejected_waits, worked_attempts, worked_prompt, worked_rests};
+pub use waits::{
+    rejected_prompt, rejected_rests, rejected_waits, worked_attempts, worked_prompt, worked_rests,
+};
 pub use waking::{rejected_waking, worked_holds, worked_sleeping, worked_waking};

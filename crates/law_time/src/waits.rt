@@ -10,6 +10,7 @@ ghost use Rattle.law_time.specs.WorkedWaits.{
   given_up_asleep,
   given_up_lock,
   given_up_segments,
+  sent_in_stall,
   the_keeper,
   the_other_switch,
   waited_attempts,
@@ -34,14 +35,18 @@ ghost use Rattle.law_time.specs.WrongQueue.{
   left_unresent,
 };
 ghost use Rattle.law_time.specs.WrongWaits.{
+  begun_silently,
   given_up_after_two,
   given_up_before_time,
   given_up_inside,
   given_up_under_way,
   gone_on_after_three,
   left_awake,
+  left_in_stall,
   left_overdue,
+  left_unasked,
   left_unbegun,
+  left_unheard,
   left_unsent,
   left_waiting,
 };
@@ -102,7 +107,7 @@ ghost use Rattle.law_time.specs.WrongAttempts.{
   given_up_after_line,
   left_given_up,
 };
-ghost use Rattle.law_time.specs.WorkedEnds.{informed, informed_unkept, interview_uninformed, waits_for_judging, waits_for_line};
+ghost use Rattle.law_time.specs.WorkedEnds.{informed, informed_unkept, interview_uninformed, waits_for_line};
 
 /// In worked transcripts a command is given up when its third attempt has ended: by callbacks, a refusal, or 100 ticks after the last
 /// callback or report of work; also that of a node that sleeps, of a lock, and of a message in segments, where the first one that is lost
@@ -142,9 +147,10 @@ pub fn worked_attempts()
 /// failed, and an interview may have ended in each way. In one a restart leaves a node as asleep though it was last said to be awake and
 /// was taken to listen: were it still taken to be awake, its command would wait for nothing. What is sent to a node is sent once though it
 /// fails in a tick in which the chip has written, and a restart ends a hold. The attempt after one whose
-/// last segment has failed begins in that tick.
+/// last segment has failed begins in that tick. In a stall a session begins all the same.
 pub fn worked_rests()
     ensures plain { RestsWell true (listing_of (the_switch ∷ [])) plain_exchange }
+    ensures stalled { RestsWell true (listing_of (the_switch ∷ [])) sent_in_stall }
     ensures errands { RestsWell true (listing_of (the_switch ∷ [])) answered_errands }
     ensures waited { RestsWell true (listing_of (the_switch ∷ [])) waited_attempts }
     ensures sleeping { RestsWell true (listing_of (the_sensor ∷ [])) sleeping_node }
@@ -166,7 +172,6 @@ pub fn worked_rests()
     ensures uninformed { RestsWell true (listing_of (the_switch ∷ [])) interview_uninformed }
     ensures unkept { RestsWell true (listing_of (the_switch ∷ [])) informed_unkept }
     ensures for_line { RestsWell true (listing_of (the_switch ∷ [])) waits_for_line }
-    ensures for_judging { RestsWell true (listing_of (the_switch ∷ [])) waits_for_judging }
     ensures as_chip_writes { RestsWell true (listing_of (the_switch ∷ the_sensor ∷ [])) told_as_chip_writes }
     ensures after_restart { RestsWell true (listing_of (the_keeper ∷ [])) told_after_restart }
     ensures attempt { RestsWell true (listing_of (the_plug ∷ [])) attempt_follows }
@@ -175,6 +180,11 @@ pub fn worked_rests()
 /// In a plain exchange the host is prompt.
 pub fn worked_prompt()
     ensures { IsPrompt true (listing_of (the_switch ∷ [])) plain_exchange }
+{}
+
+/// Where a session has begun and the run ends before its message, it is not.
+pub fn rejected_prompt()
+    ensures { IsPrompt true (listing_of (the_switch ∷ [])) begun_silently → ⊥ }
 {}
 
 /// Each of these breaks one part of the law: a command given up without a session, after two attempts, or while the third is under way, or
@@ -211,13 +221,17 @@ pub fn rejected_waits()
     ensures following_line { GivesUpAfterThree true (listing_of (the_switch ∷ [])) given_up_after_line → ⊥ }
 {}
 
-/// Each of these breaks one part of the law of rests: a rest at which a command waits for a node that is awake, also a tick after the
-/// keeper has failed, as it has for another node, or before a restart; a Set or an interview has not begun, the end of a Get or of an
-/// interview is not said, or is left out as the keeper fails for another node; an attempt is overdue, a node is kept awake for nothing, or
-/// since a host before this one has held it, or a Nonce Report, a segment that was asked for or an abort is not sent, nor the second segment
-/// of an attempt, the message that could be sealed, or the attempt that follows one that is over.
+/// Each of these breaks one part of the law of rests: a rest at which a command waits for a node that is awake, also in a stall, in one in
+/// which the chip has written, a tick after the keeper has failed, as it has for another node, or before a restart; a Set or an interview
+/// has not begun, nor a question where the chip has written what is not judged; the end of a Get or of an interview is not said, or is left
+/// out as the keeper fails for another node; an attempt is overdue, a node is kept awake for nothing, or since a host before this one has
+/// held it, or a Nonce Report, a segment that was asked for or an abort is not sent, nor the second segment of an attempt, the message that
+/// could be sealed, or the attempt that follows one that is over.
 pub fn rejected_rests()
     ensures waiting { RestsWell true (listing_of (the_switch ∷ [])) left_waiting → ⊥ }
+    ensures stalled { RestsWell true (listing_of (the_switch ∷ [])) left_in_stall → ⊥ }
+    ensures unheard { RestsWell true (listing_of (the_switch ∷ [])) left_unheard → ⊥ }
+    ensures unasked { RestsWell true (listing_of (the_switch ∷ [])) left_unasked → ⊥ }
     ensures unsent { RestsWell true (listing_of (the_switch ∷ [])) left_unsent → ⊥ }
     ensures unbegun { RestsWell true (listing_of (the_sensor ∷ [])) left_unbegun → ⊥ }
     ensures overdue { RestsWell true (listing_of (the_switch ∷ [])) left_overdue → ⊥ }

@@ -1,9 +1,13 @@
 -- What the host asks the chip to send (Supervision, Transport Service, Security 0 and Wake Up Command Classes; which of them
 -- is sent when is this project's own rule): the message of the last session, or what a node or a line asked for.
-use Rattle.std.specs.Prelude.{◌≡◌, ◌⊎◌, ℕ, ◌+◌, ◌%◌, if◌then◌else◌, List, [], ◌∷◌, ◌++◌, length, drop, slice_index, Option, Some, None, ⊤}
+use Rattle.std.specs.Prelude.{◌≡◌, ◌⊎◌, ℕ, ◌%◌, if◌then◌else◌, List, [], ◌∷◌, ◌++◌, length, Option, Some, None, ⊤}
 use Rattle.std.specs.List.{flat_map, AllByRecursion}
 use Rattle.zw_base.specs.declared.order.Order.{Order}
-use Rattle.encap.specs.Opening.{begins_with}
+use Rattle.host_heard.specs.Telling.{heard_at}
+use Rattle.host_heard.specs.declared.payload.Heard.{Heard}
+use Rattle.host_heard.specs.declared.payload.Heard.TheVariants.{Messages}
+use Rattle.host_heard.specs.declared.told.Told.{Told}
+use Rattle.host_heard.specs.declared.told.Told.TheVariants.{NonceGet, NonceReport}
 use Rattle.host_orders.specs.Errands.{send_text, get_text}
 use Rattle.host_orders.specs.Wrapping.{carriage_of, form_of}
 use Rattle.host_orders.specs.declared.carriage.Form.{Form}
@@ -18,12 +22,12 @@ use Rattle.zw_text.specs.declared.line.Line.{Line}
 use Rattle.zw_text.specs.declared.line.Line.TheVariants as lines
 use Rattle.zw_text.specs.declared.entry.Entry.{Entry}
 use Rattle.zw_text.specs.declared.entry.Entry.TheVariants.{Begin, Written}
-use Rattle.zw_text.specs.Transcript.{accepted, sessions, written, line_of}
-use Rattle.law_transcript.specs.Lists.{EachAfter, Has, last_or, listed}
+use Rattle.zw_text.specs.Transcript.{accepted, sessions, line_of}
+use Rattle.law_transcript.specs.Lists.{EachAfter, Has, listed}
 use Rattle.law_transcript.specs.Nodes.{controller, host_list}
 use Rattle.law_transcript.specs.Restarts.{begins_refused}
 use Rattle.law_transcript.specs.Commands.{order_of, classes_for, message_for}
-use Rattle.law_transcript.specs.Units.{Carried, sending_in, from_node, payloads_from}
+use Rattle.law_transcript.specs.Units.{Carried, sending_in, payloads_from}
 
 -- a Nonce Report of eight bytes, and a Nonce Get (Security 0)
 abbrev pub nonce_report : List ℕ → List ℕ
@@ -35,6 +39,14 @@ nonce_get = 0x98 ∷ 0x40 ∷ []
 -- a No More Information (Wake Up)
 abbrev pub no_more_information : List ℕ
 no_more_information = 0x84 ∷ 8 ∷ []
+
+-- what the payloads of a node tell, in whatever wraps; what is sealed tells nothing here
+abbrev pub messages_of : Heard → List Told
+messages_of (Messages messages) = messages
+messages_of heard = []
+
+abbrev pub told_by : ℕ → List Entry → List Told
+told_by node past = flat_map (λ payload. messages_of (heard_at payload)) (payloads_from node past)
 
 -- ---- of a session
 
@@ -48,7 +60,7 @@ pub record IsSegmentOf (message : List ℕ) (session : ℕ) (payload : List ℕ)
 pub record IsSealedFor (key : List ℕ) (past : List Entry) (node : ℕ) (message payload : List ℕ) : Type 0 where
   pub own : List ℕ
   pub nonce : List ℕ
-  pub given : Has (payloads_from node past) (nonce_report nonce)
+  pub given : Has (told_by node past) (NonceReport nonce)
   pub own_eight : length own ≡ 8
   pub eight : length nonce ≡ 8
   pub text : payload ≡ sealed_text (keys_of key) own nonce (record { sender = controller; receiver = node }) message
@@ -80,24 +92,12 @@ IsOfSession listing key past carried session = IsOfCommands (listed (command_at 
 
 -- ---- of nodes and lines
 
--- the nonces that the host has given a node, in order: those of its Nonce Reports
-abbrev pub nonce_of : List ℕ → List (List ℕ)
-nonce_of payload = if begins_with payload 0x98 0x80 then drop 2 payload ∷ [] else []
-
-abbrev pub nonces_given : ℕ → List Entry → List (List ℕ)
-nonces_given node past = flat_map nonce_of (flat_map (from_node node) (flat_map sending_in (written Host past)))
-
--- a nonce is the last of these again, or its first byte counts on from that of the last; the first one has 1
-abbrev pub CountsOn : List (List ℕ) → List ℕ → Type 0
-CountsOn given nonce = (nonce ≡ last_or [] given) ⊎ (slice_index nonce 0 ≡ (slice_index (last_or [] given) 0 + 1) % 256)
-
 -- the payload is a Nonce Report that a Nonce Get of the node asked for
 pub record IsNonceReport (past : List Entry) (carried : Carried) : Type 0 where
   pub nonce : List ℕ
   pub eight : length nonce ≡ 8
-  pub asked : Has (payloads_from carried.node past) nonce_get
+  pub asked : Has (told_by carried.node past) NonceGet
   pub text : carried.payload ≡ nonce_report nonce
-  pub counted : CountsOn (nonces_given carried.node past) nonce
 
 -- the texts that a line asked for of a node with these classes
 abbrev pub asked_by : (ℕ → List ℕ) → List Entry → Line → List Carried

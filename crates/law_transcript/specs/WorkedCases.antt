@@ -116,3 +116,9 @@ nonces_counted =
     nonce_asked ∷ Written Host (bytes (codes "01110013040A9880019E0A1249BB594F2501AC")) ∷ nonce_asked ∷
     Written Host (bytes (codes "01110013040A9880019E0A1249BB594F2502AF")) ∷ nonce_asked ∷
     Written Host (bytes (codes "01110013040A988002010203040506072503CF")) ∷ []
+
+-- a Nonce Get with a check, and one with a byte after it, are answered too
+abbrev pub nonces_wrapped : List Entry
+nonces_wrapped =
+    Written Chip (bytes (codes "010C000400040656019840B204CC")) ∷ Written Host (bytes (codes "01110013040A988001B8E0ADA0F13D902501C7")) ∷
+    Written Chip (bytes (codes "010900040004039840AA87")) ∷ Written Host (bytes (codes "01110013040A988001B8E0ADA0F13D902502C4")) ∷ []

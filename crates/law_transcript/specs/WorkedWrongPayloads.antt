@@ -1,12 +1,12 @@
 -- Transcripts like the worked ones in which the host asks the chip to send what is not due, one thing wrong in each.
-use Rattle.std.specs.Prelude.{List, [], ◌∷◌, ◌++◌, codes, take}
+use Rattle.std.specs.Prelude.{List, [], ◌∷◌, ◌++◌, codes}
 use Rattle.zw_words.specs.declared.side.Side.TheVariants.{Host, Chip}
 use Rattle.zw_text.specs.declared.entry.Ended.TheVariants.{Success}
 use Rattle.zw_text.specs.declared.entry.Refusal.TheVariants.{QueueFull}
 use Rattle.zw_text.specs.declared.entry.Entry.{Entry}
 use Rattle.zw_text.specs.declared.entry.Entry.TheVariants.{Said, Accepted, Refused, Begin, Written, Interviewed}
 use Rattle.law_transcript.specs.Worked.{bytes}
-use Rattle.law_transcript.specs.WorkedCases.{nonce_asked, nonces_counted, then_begins}
+use Rattle.law_transcript.specs.WorkedCases.{then_begins}
 
 -- the host sends the message of another session
 abbrev pub sent_otherwise : List Entry
@@ -121,13 +121,6 @@ abbrev pub nonce_shorter : List Entry
 nonce_shorter =
     Written Chip (bytes (codes "0108000400040298402D")) ∷
     Written Host (bytes (codes "0110001304099880019E0A1249BB592501E1")) ∷ []
-
--- the first nonce of a lock has the number of the second; and another one than before has the same number
-abbrev pub nonce_skipped : List Entry
-nonce_skipped = nonce_asked ∷ Written Host (bytes (codes "01110013040A988002010203040506072501CD")) ∷ []
-
-abbrev pub nonce_uncounted : List Entry
-nonce_uncounted = take 3 nonces_counted ++ Written Host (bytes (codes "01110013040A988001FF0A1249BB594F2502CE")) ∷ []
 
 -- a Nonce Report was asked for, and a Set is sent
 abbrev pub nonce_otherwise : List Entry

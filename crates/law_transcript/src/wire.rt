@@ -24,6 +24,7 @@ ghost use Rattle.law_transcript.specs.WorkedCases.{
   set_asked,
   get_asked,
   nonces_counted,
+  nonces_wrapped,
   sent_by_old_list,
   set_by_old_list,
   the_dimmer,
@@ -61,8 +62,6 @@ ghost use Rattle.law_transcript.specs.WorkedWrongPayloads.{
   nonce_unasked,
   nonce_of_another,
   nonce_otherwise,
-  nonce_skipped,
-  nonce_uncounted,
   nonce_shorter,
   set_unasked,
   set_by_new_list,
@@ -124,6 +123,7 @@ pub fn worked_payloads()
     ensures get { SendsWhatIsDue (listing_of (the_switch ∷ [])) [] get_asked }
     ensures old_list { SendsWhatIsDue (listing_of (the_dimmer ∷ [])) [] sent_by_old_list }
     ensures nonces { SendsWhatIsDue (listing_of (the_lock ∷ [])) network_key nonces_counted }
+    ensures wrapped { SendsWhatIsDue (listing_of (the_lock ∷ [])) network_key nonces_wrapped }
     ensures set_old_list { SendsWhatIsDue (listing_of (the_dimmer ∷ [])) [] set_by_old_list }
 {}
 
@@ -131,7 +131,7 @@ pub fn worked_payloads()
 /// the classes that came to be known later; one that is sealed though its node lists no Security 0, or not though it does, sealed for no
 /// nonce that was given or for one of nine bytes, with another byte, or under a longer nonce; one that is not cut though its node lists
 /// Transport Service, a segment with another byte, of another session, or after the end; a Nonce Report that nobody asked for, or another
-/// node, of seven bytes, whose number skips one or is that of another nonce, or another payload in its place; and a Set that no line asked
+/// node, of seven bytes, or another payload in its place; and a Set that no line asked
 /// for, or one that was refused, with another value, for another node, or by classes that came to be known later, and such a Get.
 pub fn rejected_payloads()
     ensures otherwise { SendsWhatIsDue (listing_of (the_switch ∷ [])) [] sent_otherwise → ⊥ }
@@ -150,8 +150,6 @@ pub fn rejected_payloads()
     ensures past_end { SendsWhatIsDue (listing_of (the_plug ∷ [])) [] cut_past_end → ⊥ }
     ensures nonce_unasked { SendsWhatIsDue (listing_of (the_lock ∷ [])) network_key nonce_unasked → ⊥ }
     ensures nonce_of_another { SendsWhatIsDue (listing_of (the_lock ∷ [])) network_key nonce_of_another → ⊥ }
-    ensures nonce_skipped { SendsWhatIsDue (listing_of (the_lock ∷ [])) network_key nonce_skipped → ⊥ }
-    ensures nonce_uncounted { SendsWhatIsDue (listing_of (the_lock ∷ [])) network_key nonce_uncounted → ⊥ }
     ensures nonce_otherwise { SendsWhatIsDue (listing_of (the_lock ∷ [])) network_key nonce_otherwise → ⊥ }
     ensures nonce_shorter { SendsWhatIsDue (listing_of (the_lock ∷ [])) network_key nonce_shorter → ⊥ }
     ensures set_unasked { SendsWhatIsDue (listing_of (the_switch ∷ [])) [] set_unasked → ⊥ }

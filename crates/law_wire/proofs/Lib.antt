@@ -6,7 +6,7 @@ mod Differing
 mod Entries
 mod Halting
 pub mod Judging
-mod ShownRecords
+pub mod ShownRecords
 mod Linked
 mod Listening
 mod Losing

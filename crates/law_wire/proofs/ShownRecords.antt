@@ -46,7 +46,7 @@ abbrev pub EachBelow : ℕ → (ℕ → Type 0) → Type 0
 EachBelow zero P = ⊤
 EachBelow (suc bound) P = P 0 × EachBelow bound (λ node. P (suc node))
 
-every : (bound : ℕ) (P : ℕ → Type 0) → EachBelow bound P → ((more : ℕ) → P (above bound more)) → (node : ℕ) → P node
+pub every : (bound : ℕ) (P : ℕ → Type 0) → EachBelow bound P → ((more : ℕ) → P (above bound more)) → (node : ℕ) → P node
 every zero P below others node = others node
 every (suc bound) P below others zero = below.0
 every (suc bound) P below others (suc node) = every bound (λ node. P (suc node)) below.1 others node
@@ -71,7 +71,7 @@ all_below bound (entry ∷ entries) = shows_below bound entry && all_below bound
 is_other : (bound more node : ℕ) → nat_lt node bound ≡ true → (node == above bound more) ≡ false
 is_other bound more node low = let is = above_is bound more in grind (arith, nat_tests, low, is)
 
-others_are : (bound more node : ℕ) → nat_lt node bound ≡ true → (above bound more == node) ≡ false
+pub others_are : (bound more node : ℕ) → nat_lt node bound ≡ true → (above bound more == node) ≡ false
 others_are bound more node low = let is = above_is bound more in grind (arith, nat_tests, low, is)
 
 none_joined : (bound more : ℕ) (nodes : List ℕ) → are_below bound nodes ≡ true → list_any (λ one. one == above bound more) nodes ≡ false
@@ -166,7 +166,7 @@ are_texts : (kept : List Record) → AllByRecursion IsRecord kept → AreTextsOf
 are_texts [] well = tt
 are_texts (one ∷ more) well = (record { in_range = well.0; text = refl }, are_texts more well.1)
 
-gives : (kept : List Record) → AllByRecursion IsRecord kept → AreLegal kept → Give (map record_text kept) (kept_of kept)
+pub gives : (kept : List Record) → AllByRecursion IsRecord kept → AreLegal kept → Give (map record_text kept) (kept_of kept)
 gives kept well legal = record { records = kept; are = are_texts kept well; legal = legal; gives = refl }
 
 pub gives_plain : Give (map record_text plain_records) (kept_of plain_records)

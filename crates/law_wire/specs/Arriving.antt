@@ -1,6 +1,6 @@
 -- What becomes of each frame, and why (this project's own rule): lost by a mark or for want of a way, unheard at a dead link or
 -- where no device is awake, heard else; and which hop the chip forgets.
-use Rattle.std.specs.Prelude.{◌≡◌, ℕ, zero, suc, ◌-◌, ◌==◌, ◌&&◌, ◌||◌, not, Bool, true, false, if◌then◌else◌, List, [], ◌∷◌, map, filter, length, take, drop, Option, Some, None, ⊤}
+use Rattle.std.specs.Prelude.{◌≡◌, ℕ, zero, suc, ◌-◌, ◌==◌, ◌&&◌, ◌||◌, not, nat_lt, Bool, true, false, if◌then◌else◌, List, [], ◌∷◌, map, filter, length, take, drop, Option, Some, None, ⊤}
 use Rattle.std.specs.List.{list_any, flat_map}
 use Rattle.route_table.specs.Network.{Link}
 use Rattle.device_sim.specs.State.{State}
@@ -9,17 +9,18 @@ use Rattle.device_sim.specs.Event.DeviceEvent.{Hears, Ticks, Wakes, Sets}
 use Rattle.zw_text.specs.declared.line.Line.{Line}
 use Rattle.zw_text.specs.declared.line.Line.TheVariants as lines
 use Rattle.zw_text.specs.declared.entry.Entry.{Entry}
-use Rattle.zw_text.specs.declared.entry.Entry.TheVariants.{Heard, Lost, Unheard, Forget}
-use Rattle.zw_text.specs.Transcript.{AirFrame, Fate, line_last}
+use Rattle.zw_text.specs.declared.entry.Entry.TheVariants.{Said, Time, Air, Heard, Lost, Unheard, Forget}
+use Rattle.zw_text.specs.Transcript.{AirFrame, Fate, line_last, lines_run}
 use Rattle.zw_text.specs.Transcript.Fate.{WasHeard, WasLost, WasUnheard}
-use Rattle.law_transcript.specs.Lists.{EachAfter, listed}
+use Rattle.law_transcript.specs.Lists.{EachAfter, listed, shown_after}
 use Rattle.law_transcript.specs.Nodes.{controller, device_of}
-use Rattle.law_transcript.specs.Restarts.{repeats}
+use Rattle.law_transcript.specs.Restarts.{repeats, ticks_asked}
 use Rattle.law_transcript.specs.Repeats.{frame_of, up_to_frame, refusal_to_repeat}
-use Rattle.law_transcript.specs.Fates.{frames_marked}
+use Rattle.law_transcript.specs.Fates.{first_fates, frames_marked}
 use Rattle.law_transcript.specs.Answers.{before_last}
 use Rattle.law_transcript.specs.Devices.{Coming, ComingAt, brought, lived_by}
 use Rattle.law_transcript.specs.Devices.Coming.{Payload, Woken, SetTo}
+use Rattle.law_wire.specs.Asked.{clock_of}
 use Rattle.law_wire.specs.Networks.{are_linked, air_links, chip_links}
 
 -- ---- ways
@@ -111,6 +112,30 @@ MayMeet devices past _ = ⊤
 
 abbrev pub MeetsWhatIsDue : List State → List Entry → Type 0
 MeetsWhatIsDue devices transcript = EachAfter (MayMeet devices) [] transcript
+
+-- ---- in time
+
+-- the frames that went on the air before a time
+abbrev pub sent_at : ℕ → List Entry → Entry → List ℕ
+sent_at now past (Air frame sender receiver repeaters payload) = if nat_lt (clock_of past) now then frame ∷ [] else []
+sent_at now past _ = []
+
+abbrev pub sent_before : ℕ → List Entry → ℕ
+sent_before now past = length (shown_after (sent_at now) [] past)
+
+-- just these have had their fate
+abbrev pub HaveLanded : ℕ → List Entry → Type 0
+HaveLanded now past = length (first_fates past) ≡ sent_before now past
+
+-- a frame has its fate in the tick after, also where that tick has no other entry: before a line those have that were sent before the last tick that was
+-- asked for, and before a tick those that were sent before the last one
+abbrev pub MayLand : List Entry → Entry → Type 0
+MayLand past (Said words) = HaveLanded (ticks_asked (lines_run past)) past
+MayLand past (Time tick) = HaveLanded (tick - 1) past
+MayLand past _ = ⊤
+
+abbrev pub LandsInTime : List Entry → Type 0
+LandsInTime transcript = EachAfter MayLand [] transcript
 
 -- ---- repeats
 

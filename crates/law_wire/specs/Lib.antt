@@ -12,6 +12,8 @@ pub mod Serial
 pub mod Links
 pub mod Clearing
 pub mod Times
+pub mod Doings
+pub mod Shown
 pub mod Halted
 pub mod Answering
 pub mod Worked
@@ -23,5 +25,6 @@ pub mod WorkedFull
 pub mod WorkedPipes
 pub mod WorkedLinks
 pub mod WorkedHalted
+pub mod WorkedDoings
 pub mod WorkedRecords
 pub mod WorkedWrong

@@ -1,10 +1,10 @@
 -- Short pasts of the air, by hand: what stands before a frame, a fate, a hearing or a forgotten hop that may stand there or may not.
-use Rattle.std.specs.Prelude.{ℕ, List, [], ◌∷◌, ◌++◌, codes}
+use Rattle.std.specs.Prelude.{ℕ, List, [], ◌∷◌, ◌++◌, codes, take}
 use Rattle.device_kinds.specs.declared.kind.Kind.TheVariants as kinds
 use Rattle.device_stack.specs.State.{State, fresh}
 use Rattle.zw_text.specs.declared.entry.Entry.{Entry}
 use Rattle.zw_text.specs.declared.entry.Entry.TheVariants.{Said, Air, Heard, Lost, Unheard, Time}
-use Rattle.law_transcript.specs.Worked.{bytes, the_sensor}
+use Rattle.law_transcript.specs.Worked.{bytes, plain_exchange, the_sensor}
 
 -- a frame of the controller to node 2, over repeaters to node 10, and one of node 2 that tells its value
 abbrev pub going_out : ℕ → Entry
@@ -145,3 +145,16 @@ abbrev pub first_learned : List Entry
 first_learned =
     Said (codes "link 2 10") ∷ Said (codes "join 10") ∷ going_over (2 ∷ []) 10 ∷ Said (codes "unlink 1 2") ∷
     Said (codes "discover") ∷ Said (codes "unlink 2 10") ∷ (a_tick 1 ++ Unheard 1 ∷ [])
+
+-- ---- fates in time
+
+-- a line that asks for two ticks after the message of the plain exchange has gone on the air: it lands in neither of them, or in the second
+abbrev pub never_landed : List Entry
+never_landed = take 8 plain_exchange ++ Said (codes "tick 2") ∷ []
+
+abbrev pub landed_late : List Entry
+landed_late = never_landed ++ Time 2 ∷ Heard 1 ∷ []
+
+-- after ticks without an entry a line puts a frame on the air, and the next line comes before its tick
+abbrev pub still_flying : List Entry
+still_flying = Said (codes "tick 3") ∷ Said (codes "local 2 1") ∷ coming_home 1 255 ∷ Said (codes "cut 0") ∷ []

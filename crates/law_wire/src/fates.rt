@@ -1,7 +1,8 @@
 //! What the laws of fates, of repeats and of forgotten links say of one entry after a short past: which may stand there, and which may not.
 
-ghost use Rattle.std.specs.Prelude.{◌∷◌, []};
-ghost use Rattle.law_wire.specs.Arriving.{FollowsRepeat, IsForgotten, MayMeet, forgets};
+ghost use Rattle.std.specs.Prelude.{◌∷◌, [], true};
+ghost use Rattle.law_wire.specs.Arriving.{FollowsRepeat, IsForgotten, LandsInTime, MayMeet, forgets};
+ghost use Rattle.law_wire.specs.Serial.{ended};
 ghost use Rattle.law_wire.specs.WorkedAir.{
   arriving,
   both_dead,
@@ -11,11 +12,14 @@ ghost use Rattle.law_wire.specs.WorkedAir.{
   first_marked,
   home_cut_after,
   home_linked_after,
+  landed_late,
   long_still,
   lost_after,
+  never_landed,
   repeating,
   repeating_another,
   repeating_home,
+  still_flying,
   to_sensor,
   to_sensor_later,
   to_woken,
@@ -25,7 +29,7 @@ ghost use Rattle.law_wire.specs.WorkedAir.{
   unheard_in_sleep,
 };
 ghost use Rattle.law_wire.specs.WorkedHalted.{sleeper};
-ghost use Rattle.law_transcript.specs.Worked.{the_sensor, the_switch};
+ghost use Rattle.law_transcript.specs.Worked.{plain_exchange, the_sensor, the_switch};
 ghost use Rattle.zw_text.specs.Transcript.{line_last};
 ghost use Rattle.zw_text.specs.declared.entry.Entry.TheVariants.{Forget, Heard, Lost, Refused, Time, Unheard};
 ghost use Rattle.zw_text.specs.declared.entry.Refusal.TheVariants.{NeverSent};
@@ -102,4 +106,16 @@ pub fn rejected_hops()
     ensures second { IsForgotten (forgets first_learned) (Forget 2 10) → ⊥ }
     ensures lost { IsForgotten (forgets lost_after) (Forget 1 2) → ⊥ }
     ensures live { IsForgotten (forgets unheard_in_sleep) (Forget 1 5) → ⊥ }
+{}
+
+/// Each frame of the plain exchange has its fate in the tick after; one that a line puts on the air has none yet where the next line begins.
+pub fn worked_landings()
+    ensures plain { LandsInTime (ended true plain_exchange) }
+    ensures flying { LandsInTime (ended true still_flying) }
+{}
+
+/// Each of these breaks that: a frame that stays on the air over ticks in which nothing is entered, and one whose fate comes a tick late.
+pub fn rejected_landings()
+    ensures never { LandsInTime (ended true never_landed) → ⊥ }
+    ensures late { LandsInTime landed_late → ⊥ }
 {}

@@ -9,13 +9,15 @@
 //! SendData the chip accepts and which frames it puts on the air), `Results`, `Given` and `Answering` (what it has for
 //! the host and what it writes); `Marks` (which units are lost, changed or answered CAN because a line asks for it) and
 //! `Pipes` (which units find no room); `Serial` and `Links` (what the sides of the serial line write, hear and tick),
-//! `Clearing` (what a restart loses) and `Times` (when the number of a tick stands); `Halted` (what a device did when an allocation failure ended the run).
+//! `Clearing` (what a restart loses) and `Times` (when the number of a tick stands); `Doings` and `Shown` (where what devices do stands, and what is
+//! shown of them) and `Halted` (what a device did when an allocation failure ended the run).
 //! `Worked..` are the transcripts that the functions here speak of.
 #![tactic(auto)]
 
 mod answers;
 mod arriving;
 mod chip;
+mod doings;
 mod fates;
 mod full;
 mod halted;
@@ -38,8 +40,10 @@ pub use arriving::{rejected_arrivals, worked_arrivals, worked_forgetting, worked
 pub use chip::{
     rejected_chip, rejected_telling, worked_answers, worked_drops, worked_taking, worked_telling,
 };
+pub use doings::{rejected_doings, rejected_showing, worked_doings, worked_showing};
 pub use fates::{
-    rejected_fates, rejected_hearings, rejected_hops, worked_fates, worked_hearings, worked_hops,
+    rejected_fates, rejected_hearings, rejected_hops, rejected_landings, worked_fates,
+    worked_hearings, worked_hops, worked_landings,
 };
 pub use full::{rejected_waits, worked_full, worked_waits};
 pub use halted::{rejected_halted, worked_halted};

@@ -3,37 +3,32 @@ use Rattle.std.proofs.Common.{◌≡◌, ◌≢◌, ◌≤◌, ◌<◌, ℕ, zer
 use Rattle.std.proofs.Math.Seq.{set_out}
 use Rattle.std.proofs.lemmas.List.{get_or_past}
 use Rattle.std.proofs.lemmas.Bool.{cases_lt, ne_eqb, leb-true, leb-false}
-use Rattle.std.specs.Prelude.{Option, Some, None, drop, slice_set, slice_index_or}
-use Rattle.std.specs.Option.{is_none, option_map, unwrap_or}
+use Rattle.std.specs.Prelude.{Option, None, drop, slice_set, slice_index_or}
+use Rattle.std.specs.Option.{is_none, unwrap_or}
 use Rattle.std.specs.List.{flat_map, AllByRecursion}
 use Rattle.zw_base.proofs.Each.{all-append}
 use Rattle.route_table.specs.declared.route.Route.{Route}
 use Rattle.air_frames.specs.declared.frame.Departure.{Departure}
 use Rattle.air_frames.specs.declared.frame.Heading.{Heading}
-use Rattle.air_frames.specs.declared.frame.Heading.TheVariants.{Outward, Homeward}
+use Rattle.air_frames.specs.declared.frame.Heading.TheVariants.{Homeward}
 use Rattle.air_frames.specs.declared.peer.Peer.{Peer}
 use Rattle.air_frames.specs.Flown.{Flown}
 use Rattle.air_frames.specs.Frames.{FramesState, peer_of, kept as kept_of}
 use Rattle.air_frames.specs.History.{Mark, Goes, Begins, begins_in, news_after, last_in, stamped, IsOf}
 use Rattle.air_frames.proofs.Logs.{begins_in-append, begins_in-begins, goes_in-append, goes_in-begins, news_after-append, news_after-begins, last_in-append, last_in-begins, stamped-append, stamped-begins, GoBetweenNodes-append, between-begins}
 use Rattle.air_frames.proofs.Counted.{IsOf-goes, IsOf-begins}
-use Rattle.device_sim.specs.State.{State}
-use Rattle.device_sim.specs.Event.{DeviceEvent, device_after, device_replies}
 use Rattle.mesh_sim.specs.declared.event.AirEvent.{AirEvent}
 use Rattle.mesh_sim.specs.declared.event.AirEvent.TheVariants as air_event
 use Rattle.mesh_sim.specs.Air.{AirState, no_route, departing, is_joined, beginning}
-use Rattle.mesh_sim.specs.Routes.{backwards}
 use Rattle.mesh_sim.specs.Steps.{answered, answers, answered_if, answers_if, changed}
 use Rattle.zw_text.specs.declared.entry.Entry.{Entry}
 use Rattle.zw_text.specs.declared.entry.Entry.TheVariants as entry
 use Rattle.zw_text.specs.Transcript.{folded}
-use Rattle.law_transcript.specs.Lists.{EachAfter}
 use Rattle.law_transcript.specs.Nodes.{controller}
-use Rattle.outside_model.specs.State.{OuterState, Outside, outside, Outcome}
-use Rattle.outside_model.specs.Chip.{shown_via}
+use Rattle.outside_model.specs.State.{OuterState, Outside, outside}
 use Rattle.outside_model.specs.Air.{sent_entries}
 use Rattle.outside_model.specs.Events.{begins}
-use Rattle.proof_walk.specs.Outside.{Pending, Dealing, nothing, Moves, session_begins}
+use Rattle.proof_walk.specs.Outside.{Pending, nothing, Moves, session_begins}
 use Rattle.proof_air.specs.Logs.{departure_of, mark_step, log_of, plain, plain_mark, plain_log, sent_marks, pending_marks, IsApart, Tie}
 use Rattle.proof_air.specs.Hearing.{MayHear, Knows}
 use Rattle.proof_air.proofs.Logs.{log_grows, plain-append, plain-begins, plain_begun}

@@ -1,25 +1,25 @@
 -- What a transcript shows of ages is what its history gives: sessions that began, new nonces, and frames that came later.
-use Rattle.std.proofs.Common.{◌≡◌, ◌≢◌, ◌≤◌, ◌<◌, ℕ, zero, suc, ◌+◌, ◌-◌, ◌==◌, ◌&&◌, Bool, true, false, if◌then◌else◌, List, [], ◌∷◌, ◌++◌, length, map, replicate, refl, sym, ap, ap₂, subst, ◌∙◌, append_assoc, append-nil, nat_lt, inl, inr, ◌⊎◌, arith}
-use Rattle.std.proofs.lemmas.Bool.{ne_eqb, eqb-true, eqb-false, cases_eq}
-use Rattle.std.proofs.lemmas.List.{length-append, map-append}
+use Rattle.std.proofs.Common.{◌≡◌, ◌≢◌, ◌≤◌, ◌<◌, ℕ, zero, suc, ◌+◌, ◌-◌, ◌==◌, ◌&&◌, Bool, true, false, if◌then◌else◌, List, [], ◌∷◌, ◌++◌, length, map, replicate, refl, sym, ap, ap₂, subst, ◌∙◌, append_assoc, append-nil, inl, inr, ◌⊎◌, arith}
+use Rattle.std.proofs.lemmas.Bool.{ne_eqb, eqb-true, eqb-false, cases_eq, lt-ltb}
+use Rattle.std.proofs.lemmas.List.{length-append}
 use Rattle.std.specs.Prelude.{Option, Some, None, slice_get}
 use Rattle.std.specs.Option.{option_map}
-use Rattle.std.specs.List.{flat_map, AllByRecursion}
+use Rattle.std.specs.List.{flat_map}
 use Rattle.std.proofs.lemmas.Grind.{flat_map-append}
 use Rattle.air_frames.specs.declared.frame.Departure.{Departure}
 use Rattle.air_frames.specs.declared.frame.Heading.{Heading}
 use Rattle.air_frames.specs.declared.frame.Heading.TheVariants.{Outward, Homeward}
 use Rattle.air_frames.specs.Nonces.{nonce_in, is_news}
 use Rattle.air_frames.specs.History.{Mark, Goes, Begins, goes_in, begins_in, last_in, last_after, later_nonce, news_by, new_in, news_after, through, departure_at}
-use Rattle.air_frames.proofs.Logs.{goes_in-append, goes_in-begins, begins_in-append, begins_in-begins, last_in-append, last_in-begins, news_after-append, news_after-begins}
+use Rattle.air_frames.proofs.Logs.{goes_in-append, begins_in-append, begins_in-begins, last_in-append, last_in-begins, news_after-append, news_after-begins}
 use Rattle.zw_text.specs.declared.entry.Entry.{Entry}
 use Rattle.zw_text.specs.declared.entry.Entry.TheVariants as entry
-use Rattle.zw_text.specs.Transcript.{AirFrame, where_same, folded, frame_at, frames, session_at, sessions, session_number_at, session_numbers}
+use Rattle.zw_text.specs.Transcript.{AirFrame, folded, frame_at, frames, sessions, session_number_at, session_numbers}
 use Rattle.law_transcript.specs.Lists.{EachAfter, listed}
 use Rattle.law_transcript.specs.Nodes.{controller}
 use Rattle.law_transcript.specs.Fates.{MayAir}
 use Rattle.law_transcript.specs.Sessions.{MayBegin}
-use Rattle.law_transcript.specs.Repeats.{up_to_frame, nonces_shown, news_after as news_in, new_nonces}
+use Rattle.law_transcript.specs.Repeats.{frame_of, up_to_frame, nonces_shown, news_after as news_in, new_nonces}
 use Rattle.mesh_sim.specs.Air.{no_route}
 use Rattle.proof_air.specs.Logs.{departure_of, mark_step, log_of}
 use Rattle.proof_air.proofs.Logs.{log_grows}
@@ -87,6 +87,13 @@ frames_sent past = gone_count (log_of past) ∙ (ap length (frames_gone past) �
 
 pub frame_sent : (past : List Entry) (number : ℕ) → departure_at (log_of past) number ≡ option_map departure (slice_get (frames past) number)
 frame_sent past number = gone_at (log_of past) number ∙ (ap (λ (l : List Departure). slice_get l number) (frames_gone past) ∙ get_map departure (frames past) number)
+
+-- that of a number stands before it
+pub at_its_place : (past : List Entry) (at : ℕ) → frame_of past (suc at) ≡ slice_get (frames past) at
+at_its_place past at =
+    let some : 0 < suc at = omega arith in
+    let place : suc at - 1 ≡ at = omega arith in
+    ap (λ (b : Bool). if b then slice_get (frames past) (suc at - 1) else None) (lt-ltb 0 (suc at) some) ∙ ap (slice_get (frames past)) place
 
 -- they are numbered in order, and the controller is one end of each
 abbrev pub HasEnd : AirFrame → Type 0

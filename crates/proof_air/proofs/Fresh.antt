@@ -20,7 +20,7 @@ use Rattle.law_transcript.specs.Sessions.{MayBegin}
 use Rattle.law_transcript.specs.Repeats.{node_of, frame_of, up_to_frame, later_sessions, new_nonces, later_nonces, too_old, refused_repeat, repeat_entry, refusal_to_repeat}
 use Rattle.proof_air.specs.Logs.{log_of, IsApart}
 use Rattle.proof_air.specs.Hearing.{IsFresh, MayHear, MayRepeat}
-use Rattle.proof_air.proofs.Counting.{departure, HasEnd, frames_sent, frame_sent, frame_is_aired, log_up_to, up_to_prefix, each-left, sessions_begun, nonces_new}
+use Rattle.proof_air.proofs.Counting.{departure, HasEnd, frames_sent, frame_sent, at_its_place, frame_is_aired, log_up_to, up_to_prefix, each-left, sessions_begun, nonces_new}
 
 -- ---- ages
 
@@ -115,15 +115,9 @@ module _ (past : List Entry) (airs : EachAfter MayAir [] past) (begins : EachAft
   same_found None is = refl
   same_found (Some frame) is = same_age frame is (frame_sent past at ∙ ap (option_map departure) is)
 
-  at_its_place : frame_of past (suc at) ≡ slice_get (frames past) at
-  at_its_place =
-      let some : 0 < suc at = omega arith in
-      let place : suc at - 1 ≡ at = omega arith in
-      ap (λ (b : Bool). if b then slice_get (frames past) (suc at - 1) else None) (lt-ltb 0 (suc at) some) ∙ ap (slice_get (frames past)) place
-
   at_number : refused_repeat past (frame_of past (suc at)) ≡ refusal_in (log_of past) (suc at)
   at_number =
-      ap (refused_repeat past) at_its_place
+      ap (refused_repeat past) (at_its_place past at)
       ∙ (same_found (slice_get (frames past) at) refl ∙ ap (λ (found : Option Departure). stale_in (log_of past) at found) (sym (frame_sent past at)))
 
 -- where sessions and frames are numbered in order

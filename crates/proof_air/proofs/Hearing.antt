@@ -104,7 +104,7 @@ effect line past m events is known = inr (inr (effect_covered JoinsNode line m e
 
 -- ---- an event
 
-hosts : (event : OuterEvent) → is_own event ≡ false → JoinsNode event
+pub hosts : (event : OuterEvent) → is_own event ≡ false → JoinsNode event
 hosts (Joins node) own = absurd (not_own own)
   where
     not_own : true ≡ false → ⊥

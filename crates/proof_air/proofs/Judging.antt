@@ -1,5 +1,5 @@
 -- What the chip puts on the air goes to a node that has a place, and is none of the controller's own.
-use Rattle.std.proofs.Common.{◌≡◌, ◌≢◌, ◌≤◌, ◌<◌, ℕ, ◌&&◌, Bool, true, false, if◌then◌else◌, List, [], ◌∷◌, ◌++◌, ◌-◌, ◌==◌, length, length-set, filter, refl, sym, ap, subst, ◌∙◌, nat_le, inl, inr, ◌⊎◌, arith}
+use Rattle.std.proofs.Common.{◌≡◌, ◌≤◌, ◌<◌, ℕ, ◌&&◌, Bool, true, false, if◌then◌else◌, List, [], ◌∷◌, ◌-◌, ◌==◌, length, length-set, filter, refl, sym, subst, ◌∙◌, inl, inr, ◌⊎◌}
 use Rattle.std.proofs.lemmas.List.{get_or_past}
 use Rattle.std.proofs.lemmas.Bool.{cases_lt}
 use Rattle.std.specs.Prelude.{Option, Some, None}
@@ -41,7 +41,7 @@ all_go (Full ∷ puts) well = (tt, all_go puts well)
 
 -- ---- a SendData that is taken
 
-both_true : (a b : Bool) → a && b ≡ true → (a ≡ true) × (b ≡ true)
+pub both_true : (a b : Bool) → a && b ≡ true → (a ≡ true) × (b ≡ true)
 both_true true b is = (refl, is)
 both_true false b is = let none : false ≡ true = is in absurd cc
 

@@ -6,3 +6,9 @@ mod Outer
 pub mod Hearing
 mod Counting
 pub mod Fresh
+mod Homes
+mod Brought
+mod Ports
+mod Putting
+mod Bringing
+mod Handling

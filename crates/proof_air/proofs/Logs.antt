@@ -1,5 +1,5 @@
 -- How the history that a transcript shows grows, and that routes and what arrives count nothing in it.
-use Rattle.std.proofs.Common.{◌≡◌, ℕ, zero, suc, ◌+◌, ◌-◌, ◌==◌, if◌then◌else◌, List, [], ◌∷◌, ◌++◌, refl, sym, ap, ap₂, ◌∙◌, nat_lt, replicate}
+use Rattle.std.proofs.Common.{◌≡◌, ℕ, zero, suc, ◌+◌, ◌==◌, if◌then◌else◌, List, [], ◌∷◌, ◌++◌, refl, sym, ap, ap₂, ◌∙◌, nat_lt, replicate}
 use Rattle.std.specs.Prelude.{Option, Some, None}
 use Rattle.std.specs.Option.{option_map}
 use Rattle.std.specs.List.{AllByRecursion}
@@ -68,7 +68,7 @@ plain_since (Goes departure ∷ log) zero = refl
 plain_since (Goes departure ∷ log) (suc number) = plain_since log number
 plain_since (Begins node ∷ log) number = plain_since log number
 
-plain_at : (log : List Mark) (number : ℕ) → departure_at (plain_log log) number ≡ option_map plain (departure_at log number)
+pub plain_at : (log : List Mark) (number : ℕ) → departure_at (plain_log log) number ≡ option_map plain (departure_at log number)
 plain_at [] number = refl
 plain_at (Goes departure ∷ log) zero = refl
 plain_at (Goes departure ∷ log) (suc number) = plain_at log number

@@ -1,12 +1,11 @@
 -- What happens outside the host keeps the tie between the air's history and the transcript, and what is heard directly after a `repeat` is fresh.
-use Rattle.std.proofs.Common.{◌≡◌, ◌≢◌, ◌<◌, ℕ, zero, suc, ◌+◌, ◌-◌, ◌==◌, ◌&&◌, Bool, true, false, if◌then◌else◌, List, [], ◌∷◌, ◌++◌, length, refl, sym, ap, ap₂, subst, ◌∙◌, append_assoc, append-nil, nat_lt, get_or, set, get_or-set_same, get_or-set_other, length-set, inl, inr, ◌⊎◌, arith}
-use Rattle.std.proofs.lemmas.Bool.{ne_eqb, ltb-true, cases_lt}
-use Rattle.std.proofs.lemmas.List.{get_or_past}
+use Rattle.std.proofs.Common.{◌≡◌, ◌≢◌, ◌<◌, ℕ, ◌+◌, ◌-◌, ◌==◌, Bool, true, false, if◌then◌else◌, List, [], ◌∷◌, ◌++◌, length, refl, sym, ap, ap₂, subst, ◌∙◌, append_assoc, append-nil, nat_lt, get_or-set_other, length-set}
+use Rattle.std.proofs.lemmas.Bool.{ne_eqb, ltb-true}
 use Rattle.std.specs.Prelude.{Option, Some, None, slice_get, slice_set, slice_index_or}
-use Rattle.std.specs.Option.{option_map, is_none}
+use Rattle.std.specs.Option.{option_map}
 use Rattle.std.specs.List.{flat_map, AllByRecursion}
 use Rattle.zw_base.proofs.Each.{all-append}
-use Rattle.serial_frame.specs.Stream.{Rest, after_tick}
+use Rattle.serial_frame.specs.Stream.{after_tick}
 use Rattle.serial_frame.specs.declared.item.Item.{Item}
 use Rattle.route_table.specs.declared.route.Route.{Route}
 use Rattle.air_frames.specs.declared.frame.Departure.{Departure}
@@ -16,8 +15,7 @@ use Rattle.air_frames.specs.Flown.{Flown}
 use Rattle.air_frames.specs.Frames.{FramesState, next_of, remembered}
 use Rattle.air_frames.specs.History.{Mark, Goes, IsOf}
 use Rattle.air_frames.proofs.Counted.{IsOf-lands}
-use Rattle.serial_pipes.specs.Events.{told, Takes}
-use Rattle.serial_pipes.specs.Events as way
+use Rattle.serial_pipes.specs.Events.{told}
 use Rattle.zw_words.specs.declared.side.Side.TheVariants.{Host as by_host, Chip as by_chip}
 use Rattle.zw_text.specs.declared.entry.Entry.{Entry}
 use Rattle.zw_text.specs.declared.entry.Entry.TheVariants as entry
@@ -35,33 +33,33 @@ use Rattle.mesh_sim.specs.Routes.{backwards}
 use Rattle.mesh_sim.specs.declared.fate.Fate.{Fate}
 use Rattle.mesh_sim.specs.declared.fate.Fate.TheVariants as fate
 use Rattle.mesh_sim.specs.Fates.{Mesh, fate_of, place_of, listener_of}
-use Rattle.mesh_sim.specs.Steps.{AirStep, landed, acknowledged, status_of, done_of, changed, answers_if, air_hearing, outs_hearing, heard_at, outs_at, arriving_as, arriving, arrival_outs_as, arrival_outs, heard_again, outs_again, repeating_by, repeating, repeat_outs_by, repeat_outs, mesh_after, mesh_outs, MayHappen}
+use Rattle.mesh_sim.specs.Steps.{AirStep, landed, acknowledged, status_of, done_of, changed, answers_if, air_hearing, outs_hearing, heard_at, outs_at, arriving_as, arriving, arrival_outs_as, arrival_outs, heard_again, outs_again, repeating_by, repeating, repeat_outs_by, repeat_outs, mesh_after, mesh_outs}
 use Rattle.mesh_sim.specs.Steps as mesh
-use Rattle.outside_model.specs.State.{OuterState, Outside, outside, Outcome, silent as silently, tells, each, and_then, with_chip}
-use Rattle.outside_model.specs.Chip.{put_out, chip_does, shown_via}
+use Rattle.outside_model.specs.State.{OuterState, Outside, outside, Outcome, silent as silently, each, with_chip}
+use Rattle.outside_model.specs.Chip.{put_out, chip_does, chip_ticks, shown_via}
 use Rattle.outside_model.specs.Results.{device_at}
 use Rattle.outside_model.specs.Air.{deals, sent_entries, change_entries, change_at}
 use Rattle.outside_model.specs.Devices.{acts, changes_entries, new_changes}
-use Rattle.outside_model.specs.Nodes.{joins, listens_at, links_of, discovers, all_pairs}
-use Rattle.outside_model.specs.Events.{OuterEvent, Begins_line, Begins_tick, Host_writes, Host_takes, Host_notes, Host_begins, Chip_takes, Arrives, Gives as gives_due, Device_ticks, Chip_ticks, Repeats, Wakes_device, Sets_device, Shows, Joins, Discovers, Links, Loses, Loses_acks, Marks_loss, Marks_change, Clears_pipe, Collides_next, Stalls, Cuts, mesh_of, outcome}
-use Rattle.proof_walk.specs.Outside.{Pending, Judging, Dealing, nothing, Knowing, Moves, Comes, Outer, IsSimple, IsHearing, session_begins}
+use Rattle.outside_model.specs.Nodes.{joins, listens_at, links_of, all_pairs}
+use Rattle.outside_model.specs.Events.{OuterEvent, Host_writes, Host_takes, Host_notes, Shows, Joins, Discovers, Links, Loses, Loses_acks, Marks_loss, Marks_change, Clears_pipe, Collides_next, Stalls, Cuts, mesh_of, outcome}
+use Rattle.proof_walk.specs.Outside.{Pending, Judging, Dealing, nothing, Outer, IsSimple, IsHearing}
 use Rattle.proof_device.proofs.Results.{IsGiven, Gives, ends_go, gives_go, to_chip_goes}
-use Rattle.proof_air.specs.Logs.{departure_of, mark_step, log_of, plain, plain_log, sent_marks, pending_marks, IsApart, Tie}
-use Rattle.proof_air.specs.Hearing.{MayHear, FreshHere, Knows, JoinsNode}
+use Rattle.proof_air.specs.Logs.{departure_of, log_of, plain, sent_marks, IsApart, Tie}
+use Rattle.proof_air.specs.Hearing.{MayHear, Knows, JoinsNode}
 use Rattle.proof_air.proofs.Logs.{log_grows, plain-append}
-use Rattle.proof_air.proofs.Silent.{AreSilent, IsNoLine, AreNoLines, silent_lines, silent_log, fresh_after, note_silent, told_silent, cleared_silent, shown_silent, change_silent, changes_silent}
+use Rattle.proof_air.proofs.Silent.{AreSilent, IsNoLine, AreNoLines, silent_lines, fresh_after, note_silent, told_silent, cleared_silent, shown_silent, change_silent, changes_silent}
 use Rattle.proof_air.proofs.Airing.{Goes_on, known, both, IsSameAir, silent, IsPlace, flown, flies, one_apart, entered, Answered, answers_if_all, sent_enter, sent_lines, sent-append, changed_sends, session_goes}
 use Rattle.proof_air.proofs.Judging.{AllGoWell, StartsSo, judged_well, JudgesNone, NoFrame, none_flies, after_joined, all_joined}
 
 -- nothing changes but what the tie does not speak of
-same : (o p : OuterState) → p.air.frames ≡ o.air.frames → p.air.joined ≡ o.air.joined → p.chip.state.joined ≡ o.chip.state.joined → IsSameAir o p
+pub same : (o p : OuterState) → p.air.frames ≡ o.air.frames → p.air.joined ≡ o.air.joined → p.chip.state.joined ≡ o.chip.state.joined → IsSameAir o p
 same o p frames joined chip = record { frames = frames; joined = joined; chip = ap length chip }
 
 same_then : (o p q : OuterState) → IsSameAir o p → IsSameAir p q → IsSameAir o q
 same_then o p q first later = record { frames = later.frames ∙ first.frames; joined = later.joined ∙ first.joined; chip = later.chip ∙ first.chip }
 
 -- of items that are judged nothing is to be entered
-from_judging : (ways : List (Item × Option Route)) (past : List Entry) (w : Outside) → Tie (Judging ways) past w → Tie nothing past w
+pub from_judging : (ways : List (Item × Option Route)) (past : List Entry) (w : Outside) → Tie (Judging ways) past w → Tie nothing past w
 from_judging ways past w tie = record { log = tie.log; kept = tie.kept; shown = tie.shown; apart = tie.apart; chip = tie.chip; air = tie.air; home = tie.home }
 
 to_judging : (ways : List (Item × Option Route)) (past : List Entry) (w : Outside) → Tie nothing past w → Tie (Judging ways) past w
@@ -71,7 +69,7 @@ to_judging ways past w tie = record { log = tie.log; kept = tie.kept; shown = ti
 
 module _ (devices : List State) where
   -- with these devices, which stay
-  abbrev Puts : Pending → OuterState → Outcome → Type 0
+  abbrev pub Puts : Pending → OuterState → Outcome → Type 0
   Puts p o x = Goes_on p (outside o devices) x.entries p (outside x.outer devices)
 
   none_put : (p : Pending) (o : OuterState) → Puts p o (silently o)
@@ -157,7 +155,7 @@ module _ (devices : List State) where
     given p o (Informed node profile) is = does_silently p o (Informed node profile) tt
     given p o event is = absurd is
 
-    results : (p : Pending) → Gives (Puts p)
+    pub results : (p : Pending) → Gives (Puts p)
     results p = record {
       still = λ o q is. silent p (outside o devices) (outside q devices) [] tt
           (same o q (ap (λ (a : AirState). a.frames) is.air) (ap (λ (a : AirState). a.joined) is.air) (ap (λ (s : ChipState). s.joined) is.chip));
@@ -214,7 +212,7 @@ module _ (devices : List State) where
     told_only o event events told none entries =
         passes (outside o devices) (outside o devices) event events told none (silent (Dealing events) (outside o devices) (outside o devices) told entries (same o o refl refl refl))
 
-    deals_go : (o : OuterState) (event : AirEvent) (events : List AirEvent)
+    pub deals_go : (o : OuterState) (event : AirEvent) (events : List AirEvent)
         → Goes_on (Dealing (event ∷ events)) (outside o devices) (deals devices o event).entries (Dealing events) (outside (deals devices o event).outer devices)
     deals_go o (air_event.Heard frame) events = told_only o (air_event.Heard frame) events (entry.Heard frame ∷ []) tt (tt, tt)
     deals_go o (air_event.Lost frame) events = told_only o (air_event.Lost frame) events (entry.Lost frame ∷ []) tt (tt, tt)
@@ -341,7 +339,7 @@ module _ (w : Outside) where
   step_hears (mesh.Repeats number drawn route) hearing = again_if number (remembered w.outer.air.frames number) drawn route
   step_hears step hearing = absurd hearing
 
-  step_goes : (step : AirStep) → IsHearing step
+  pub step_goes : (step : AirStep) → IsHearing step
       → Goes_on nothing w [] (Dealing (mesh_outs (mesh_of w) step)) (outside (record w.outer { air = (mesh_after (mesh_of w) step).air }) (mesh_after (mesh_of w) step).devices)
   step_goes step hearing = record {
     lines = tt;
@@ -362,7 +360,7 @@ module _ (w : Outside) where
   -- ---- a device does something of itself
 
   -- what it changed, and what it sends
-  acts_goes : (device : State) (event : DeviceEvent) (route : Option Route) (devices : List State)
+  pub acts_goes : (device : State) (event : DeviceEvent) (route : Option Route) (devices : List State)
       → Goes_on nothing w (acts w.outer device event route).entries nothing (outside (acts w.outer device event route).outer devices)
   acts_goes device event route devices =
       let way : Option Route = option_map backwards route in
@@ -406,7 +404,7 @@ joins_goes w node listening apart = record {
 
 -- ---- simple events
 
-simple_goes : (w : Outside) (event : OuterEvent) → IsSimple event → JoinsNode event → Goes_on nothing w (outcome w event).entries nothing (outside (outcome w event).outer w.devices)
+pub simple_goes : (w : Outside) (event : OuterEvent) → IsSimple event → JoinsNode event → Goes_on nothing w (outcome w event).entries nothing (outside (outcome w event).outer w.devices)
 unfolding outcome
 simple_goes w (Host_writes unit) simple joins = silent nothing w _ (told by_host w.outer.to_chip unit) (told_silent by_host w.outer.to_chip unit) (same w.outer (outcome w (Host_writes unit)).outer refl refl refl)
 simple_goes w (Host_takes count) simple joins = silent nothing w _ [] tt (same w.outer (outcome w (Host_takes count)).outer refl refl refl)
@@ -434,8 +432,11 @@ simple_goes w event simple joins = absurd simple
 -- ---- all of it
 
 -- nothing is entered, and all that the tie speaks of stays
+pub same_tie : (w later : Outside) → IsSameAir w.outer later.outer → (past : List Entry) → Tie nothing past w → Tie nothing past later
+same_tie w later is past tie = subst (λ (l : List Entry). Tie nothing l later) (append-nil past) ((silent nothing w later [] tt is).ties past tie)
+
 same_knows : (w later : Outside) → IsSameAir w.outer later.outer → (past : List Entry) → Knows nothing false past w → Knows nothing false past later
-same_knows w later is past knows = (subst (λ (l : List Entry). Tie nothing l later) (append-nil past) ((silent nothing w later [] tt is).ties past knows.0), knows.1)
+same_knows w later is past knows = (same_tie w later is past knows.0, knows.1)
 
 -- what the chip puts out has no words
 put_lines : (o : OuterState) (out : ChipOut) → AreNoLines (put_out o out).entries
@@ -453,8 +454,19 @@ does_lines : (o : OuterState) (event : ChipEvent) → AreNoLines (chip_does o ev
 unfolding chip_does
 does_lines o event = puts_lines (outs o.chip.state event) (with_chip o (after o.chip.state event))
 
+pub number_goes : (w : Outside) → Goes_on nothing w (entry.Time w.outer.clock ∷ []) nothing w
+number_goes w = silent nothing w w (entry.Time w.outer.clock ∷ []) (tt, tt) (same w.outer w.outer refl refl refl)
+
+pub takes_goes : (w later : Outside) (ways : List (Item × Option Route)) → IsSameAir w.outer later.outer → Goes_on nothing w [] (Judging ways) later
+takes_goes w later ways is = record { lines = tt; ties = λ past tie. to_judging ways _ _ ((silent nothing w later [] tt is).ties past tie) }
+
 module _ (rules : StartsSo) where
-  judging : (w : Outside) (way : Item × Option Route) (ways : List (Item × Option Route)) → MayOfChip w.outer.chip.state (Judged way.0 way.1)
+  pub ticks_goes : (w : Outside) → Goes_on nothing w (chip_ticks w.outer).entries nothing (outside (chip_ticks w.outer).outer w.devices)
+  ticks_goes w =
+      both nothing nothing nothing w (outside (record w.outer { chip = record { decoder = after_tick w.outer.chip.decoder; state = w.outer.chip.state } }) w.devices) _ [] _
+      (silent nothing w _ [] tt (same w.outer _ refl refl refl)) (does_silently w.devices rules nothing _ Ticked tt)
+
+  pub judging : (w : Outside) (way : Item × Option Route) (ways : List (Item × Option Route)) → MayOfChip w.outer.chip.state (Judged way.0 way.1)
       → Goes_on (Judging (way ∷ ways)) w (chip_does w.outer (Judged way.0 way.1)).entries (Judging ways) (outside (chip_does w.outer (Judged way.0 way.1)).outer w.devices)
   judging w way ways may = record {
     lines = does_lines w.outer (Judged way.0 way.1);
@@ -466,18 +478,15 @@ module _ (rules : StartsSo) where
     line = λ covers awaits past w knows. same_knows w _ (same w.outer _ refl refl refl) past knows;
     tick = λ covers awaits past w knows. (tt, same_knows w _ (same w.outer _ refl refl refl) past knows);
     number = λ past w knows.
-        ((silent nothing w w (entry.Time w.outer.clock ∷ []) (tt, tt) (same w.outer w.outer refl refl refl)).ties past knows.0, fresh_after past (entry.Time w.outer.clock ∷ []) (tt, tt) knows.1);
+        ((number_goes w).ties past knows.0, fresh_after past (entry.Time w.outer.clock ∷ []) (tt, tt) knows.1);
     stamps = λ awaits stamped past w knows. same_knows w _ (same w.outer _ refl refl refl) past knows;
     simple = λ w event simple joins. known nothing nothing w _ _ (simple_goes w event simple joins);
     session = λ w node session command. known nothing nothing w _ _ (session_goes w node session command);
     takes = λ w count rest ways may.
-        known nothing (Judging ways) w _ [] (record { lines = tt; ties = λ past tie. to_judging ways _ _ ((silent nothing w _ [] tt (same w.outer _ refl refl refl)).ties past tie) });
+        known nothing (Judging ways) w _ [] (takes_goes w _ ways (same w.outer _ refl refl refl));
     judges = λ w way ways may. known (Judging (way ∷ ways)) (Judging ways) w _ _ (judging w way ways may);
     judged = λ awaits past w knows. (from_judging [] past w knows.0, knows.1);
-    ticks = λ w.
-        known nothing nothing w _ _
-        (both nothing nothing nothing w (outside (record w.outer { chip = record { decoder = after_tick w.outer.chip.decoder; state = w.outer.chip.state } }) w.devices) _ [] _
-        (silent nothing w _ [] tt (same w.outer _ refl refl refl)) (does_silently w.devices rules nothing _ Ticked tt));
+    ticks = λ w. known nothing nothing w _ _ (ticks_goes w);
     gives = λ w route may. known nothing nothing w _ _ (gives_go (Puts w.devices nothing) (results w.devices rules nothing) w.outer w.devices w.outer.due route);
     steps = λ w step hearing may. known nothing (Dealing (mesh_outs (mesh_of w) step)) w _ [] (step_goes w step hearing);
     deals = λ w event events. known (Dealing (event ∷ events)) (Dealing events) w _ _ (deals_go w.devices rules w.outer event events);

@@ -1,7 +1,7 @@
 -- Entries that show nothing of the history of the air, and what stands after them.
-use Rattle.std.proofs.Common.{◌≡◌, ℕ, ◌&&◌, not, Bool, true, false, if◌then◌else◌, List, [], ◌∷◌, ◌++◌, map, refl, sym, subst, ap, ◌∙◌, append_assoc, append-nil, nat_lt}
+use Rattle.std.proofs.Common.{◌≡◌, ℕ, ◌&&◌, not, Bool, true, false, if◌then◌else◌, List, [], ◌∷◌, ◌++◌, refl, sym, subst, ap, ◌∙◌, append_assoc, append-nil}
 use Rattle.std.specs.Prelude.{Option, Some, None}
-use Rattle.std.specs.List.{flat_map, AllByRecursion}
+use Rattle.std.specs.List.{AllByRecursion}
 use Rattle.zw_base.proofs.Each.{all-weaker}
 use Rattle.serial_frame.specs.declared.unit.Unit.{Unit as LineUnit}
 use Rattle.serial_frame.specs.Items.{unit_text}
@@ -26,7 +26,7 @@ use Rattle.world_model.specs.State.{begun_in}
 use Rattle.proof_walk.specs.Outside.{IsNote}
 use Rattle.proof_device.proofs.Entered.{IsMark, told_by_marks, IsCleared, all_cleared, IsShown, all_shown, IsChange, change_entered, changes_entered}
 use Rattle.proof_air.specs.Logs.{mark_step, log_of}
-use Rattle.proof_air.specs.Hearing.{IsFresh, MayHear, FreshHere}
+use Rattle.proof_air.specs.Hearing.{MayHear, FreshHere}
 use Rattle.proof_air.proofs.Logs.{log_grows}
 
 -- ---- which they are

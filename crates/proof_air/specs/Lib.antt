@@ -1,2 +1,3 @@
 pub mod Logs
 pub mod Hearing
+pub mod Carrying

@@ -3,13 +3,16 @@
 //! Each is the contract of a function with an empty body, over lines that are said one after another (`world_lines`) and the events of the machine that each
 //! line is, and is proved on the walk of `proof_walk`. `history_goes_on` ties the history of
 //! the air to the transcript, at each phase of a line. Of repeats: `lines_repeat_what_is_fresh`, and
-//! `lines_refuse_what_is_old` after whole lines.
-//! The definitions are in `specs/`: `Logs` (the history of the air that a transcript shows, and its tie to the history that the air keeps) and `Hearing` (what
-//! is known of it at each phase of a line).
+//! `lines_refuse_what_is_old` after whole lines. Of what comes to the controller: `handlers_go_on`, over the history of the air, and with it
+//! `lines_bring_what_was_heard`.
+//! The definitions are in `specs/`: `Logs` (the history of the air that a transcript shows, and its tie to the history that the air keeps), `Hearing` (what
+//! is known of it at each phase of a line) and `Carrying` (what is known of the frames that the chip holds for the host).
 #![tactic(auto)]
 
+mod carrying;
 mod history;
 mod repeats;
 
+pub use carrying::{handlers_go_on, lines_bring_what_was_heard};
 pub use history::history_goes_on;
 pub use repeats::{lines_refuse_what_is_old, lines_repeat_what_is_fresh};

@@ -22,16 +22,21 @@ use Rattle.device_sim.specs.State.{State}
 use Rattle.proof_device.specs.GoingOn.{AreInOrder, AreSame, TakeOnce}
 use Rattle.proof_device.specs.Showing.{AreApart, IsShown}
 use Rattle.law_transcript.specs.Answers.{AnswersLines, CancelsWhenAsked, ReadsItsRecords}
+use Rattle.law_transcript.specs.Carrying.{BringsWhatWasHeard}
 use Rattle.law_transcript.specs.Fates.{FaresInTurn, LosesMarked, NumbersFrames}
+use Rattle.law_transcript.specs.Lists.{EachAfter}
 use Rattle.law_transcript.specs.Headline.{Headline, HeadlineOf, IsAsMade}
 use Rattle.law_transcript.specs.Nodes.{device_of, first_node, is_supervised, listing_of}
 use Rattle.law_transcript.specs.Payloads.{BeginsWithUnit}
 use Rattle.law_transcript.specs.Restarts.{is_restart}
 use Rattle.law_transcript.specs.Stores.{StoresConfirmed}
 use Rattle.law_wire.specs.Marks.{CollidesWhenAsked, MarksUnits}
+use Rattle.law_wire.specs.Arriving.{ForgetsDeadHops}
 use Rattle.law_wire.specs.Routes.{GoesByRoute}
+use Rattle.law_wire.specs.Shown.{ShowsDevices}
 use Rattle.law_wire.specs.Times.{TellsTime}
-use Rattle.proof_line.specs.Pipes.{OverrunsOnlyWhenFull}
+use Rattle.law_host.specs.HostLegal.{ShowsValues}
+use Rattle.proof_line.specs.Pipes.{ClearsAtRestarts, ClearsNowhereElse, OverrunsOnlyWhenFull}
 use Rattle.proof_transcript.specs.Lines.{IsNoRepeat}
 use Rattle.proof_world.specs.Devices.{GroupsSessions}
 use Rattle.proof_world.specs.Restarts.{AllKeepWell, BeginsEmpty}
@@ -184,6 +189,14 @@ AnswersAsDue key old new = AlwaysOf key old new
 abbrev pub ReadsWhatItKept : List ℕ → Around → Around → Type 0
 ReadsWhatItKept key old new = AlwaysOf key old new (λ story. old.records ≡ Some [] → ReadsItsRecords (transcript key old story))
 
+-- Over such a keeper, directly after a `show` stand the values of the device of its node, as the changes entered so far leave it, where no two devices are of one node, and
+-- directly after a `store` those of its node; and neither elsewhere.
+abbrev pub ShowsKeptDevices : List ℕ → Around → Around → Type 0
+ShowsKeptDevices key old new = AlwaysOf key old new (λ story. old.records ≡ Some [] → AreApart old.devices → ShowsDevices old.devices (transcript key old story))
+
+abbrev pub ShowsStoredValues : List ℕ → Around → Around → Type 0
+ShowsStoredValues key old new = AlwaysOf key old new (λ story. old.records ≡ Some [] → EachAfter (ShowsValues (listing_of old.devices)) [] (transcript key old story))
+
 -- Where every line was run whole and all that was done is entered, over a keeper that tells its records and had none at first: the records at exit are legal, and
 -- give exactly what the transcript shows.
 abbrev pub KeepsWhatIsShown : List ℕ → Around → Around → Type 0
@@ -232,6 +245,10 @@ FaresFrames key old new = AlwaysOf key old new (λ story. RepeatsNothing story �
 abbrev pub RoutesFrames : List ℕ → Around → Around → Type 0
 RoutesFrames key old new = AlwaysOf key old new (λ story. (texts : List (List ℕ)) → old.records ≡ Some texts → GoesByRoute old.devices (transcript key old story))
 
+-- and of a frame that nobody heard the chip forgets the first dead hop, and no other link
+abbrev pub ForgetsHops : List ℕ → Around → Around → Type 0
+ForgetsHops key old new = AlwaysOf key old new (λ story. (texts : List (List ℕ)) → old.records ≡ Some texts → ForgetsDeadHops (transcript key old story))
+
 -- ---- the serial line
 
 -- the chip answers a good frame CAN only where a line has asked for a collision that has not come, and ACK only where none is outstanding
@@ -242,9 +259,21 @@ CollidesAsAsked key old new = AlwaysOf key old new (λ story. CollidesWhenAsked 
 abbrev pub MarksAsAsked : List ℕ → Around → Around → Type 0
 MarksAsAsked key old new = AlwaysOf key old new (λ story. MarksUnits (transcript key old story))
 
+-- each payload that the chip writes the host from a node was heard before
+abbrev pub BringsHeard : List ℕ → Around → Around → Type 0
+BringsHeard key old new = AlwaysOf key old new (λ story. BringsWhatWasHeard (transcript key old story))
+
 -- a unit is overrun only where what its pipe may still hold, by what stands before it, leaves it no room
 abbrev pub OverrunsWithoutRoom : List ℕ → Around → Around → Type 0
 OverrunsWithoutRoom key old new = AlwaysOf key old new (λ story. OverrunsOnlyWhenFull (transcript key old story))
+
+-- Bytes are cleared only directly after the words of a `restart`, no more than the pipe may hold; and what stands directly after those that were not refused is all
+-- that is told of them.
+abbrev pub ClearsWhenRestarted : List ℕ → Around → Around → Type 0
+ClearsWhenRestarted key old new = AlwaysOf key old new (λ story. ClearsAtRestarts (transcript key old story))
+
+abbrev pub ClearsNothingElse : List ℕ → Around → Around → Type 0
+ClearsNothingElse key old new = AlwaysOf key old new (λ story. (whole : Bool) → ClearsNowhereElse whole (transcript key old story))
 
 -- ---- ticks
 
@@ -290,6 +319,8 @@ pub record StoriesKeepLaws (key : List ℕ) (old new : Around) : Type 0 where
   pub values : ConfirmsValues key old new
   pub answers : AnswersAsDue key old new
   pub reads : ReadsWhatItKept key old new
+  pub shows : ShowsKeptDevices key old new
+  pub shows_stored : ShowsStoredValues key old new
   pub taken_back : TakesBackWhenAsked key old new
   pub stores : StoresValues key old new
   pub written : WritesSessions key old new
@@ -305,7 +336,11 @@ pub record StoriesKeepLaws (key : List ℕ) (old new : Around) : Type 0 where
   pub loses : LosesFrames key old new
   pub fares : FaresFrames key old new
   pub routes : RoutesFrames key old new
+  pub forgets : ForgetsHops key old new
+  pub brings : BringsHeard key old new
   pub collides : CollidesAsAsked key old new
   pub marks : MarksAsAsked key old new
   pub overruns : OverrunsWithoutRoom key old new
+  pub clears : ClearsWhenRestarted key old new
+  pub clears_only : ClearsNothingElse key old new
   pub ticks : NumbersTicks key old new

@@ -5,9 +5,13 @@ ghost use Rattle.proof_commands.specs.Around.{Around};
 ghost use Rattle.proof_commands.specs.Laws.{
   AnswersAsDue,
   AppliesOnce,
+  BringsHeard,
+  ClearsNothingElse,
+  ClearsWhenRestarted,
   CollidesAsAsked,
   ConfirmsValues,
   FaresFrames,
+  ForgetsHops,
   GroupsChanges,
   HasHeadline,
   HasWholeHeadline,
@@ -24,6 +28,8 @@ ghost use Rattle.proof_commands.specs.Laws.{
   ReportsAfterChange,
   RoutesFrames,
   ShowsChanges,
+  ShowsKeptDevices,
+  ShowsStoredValues,
   ShowsTables,
   StoresValues,
   StoriesKeepLaws,
@@ -32,19 +38,21 @@ ghost use Rattle.proof_commands.specs.Laws.{
 };
 
 use crate::lines_are_read_as_said;
+use proof_air::lines_bring_what_was_heard;
 use proof_headline::{
     askable_nodes_have_the_headline, devices_as_made_begin_courses, nodes_have_the_headline,
     nodes_report_after_the_change, supervised_nodes_are_plain_or_locks,
 };
 use proof_host::{asides_keep_facts, laws_follow};
 use proof_line::{
-    lines_collide_when_asked, lines_mark_units, lines_overrun_only_when_full, ticks_are_told,
+    lines_clear_at_restarts, lines_clear_nowhere_else, lines_collide_when_asked, lines_mark_units,
+    lines_overrun_only_when_full, ticks_are_told,
 };
-use proof_routes::frames_go_by_route;
+use proof_routes::{dead_hops_are_forgotten, frames_go_by_route};
 use proof_transcript::{
     commands_are_taken_back_when_asked, lines_are_answered, lines_lose_marked_frames,
-    lines_number_frames, records_are_what_is_shown, sessions_begin_with_their_unit,
-    ticks_decide_each_frame, values_are_stored_as_asked,
+    lines_number_frames, lines_show_what_is_kept, records_are_what_is_shown,
+    sessions_begin_with_their_unit, ticks_decide_each_frame, values_are_stored_as_asked,
 };
 use proof_world::{
     lines_keep_and_ask_well, restarts_go_on, runs_take_once, the_machine_keeps_facts,
@@ -98,13 +106,16 @@ fn stories_tell_of_commands()
     sessions_begin_with_their_unit();
 }
 
-/// Each line of a story has its answer.
+/// Each line of a story has its answer, and shows what it asks for.
 fn stories_answer_lines()
     ensures due { (key : List ℕ) (old new : Around) → AnswersAsDue key old new }
     ensures reads { (key : List ℕ) (old new : Around) → ReadsWhatItKept key old new }
+    ensures shows { (key : List ℕ) (old new : Around) → ShowsKeptDevices key old new }
+    ensures stored { (key : List ℕ) (old new : Around) → ShowsStoredValues key old new }
 {
     lines_are_read_as_said();
     lines_are_answered();
+    lines_show_what_is_kept();
 }
 
 /// The records at exit give what the transcript of a story shows.
@@ -146,9 +157,13 @@ fn stories_keep_air_laws()
     ensures loses { (key : List ℕ) (old new : Around) → LosesFrames key old new }
     ensures fares { (key : List ℕ) (old new : Around) → FaresFrames key old new }
     ensures routes { (key : List ℕ) (old new : Around) → RoutesFrames key old new }
+    ensures forgets { (key : List ℕ) (old new : Around) → ForgetsHops key old new }
+    ensures brings { (key : List ℕ) (old new : Around) → BringsHeard key old new }
     ensures collides { (key : List ℕ) (old new : Around) → CollidesAsAsked key old new }
     ensures marks { (key : List ℕ) (old new : Around) → MarksAsAsked key old new }
     ensures overruns { (key : List ℕ) (old new : Around) → OverrunsWithoutRoom key old new }
+    ensures clears { (key : List ℕ) (old new : Around) → ClearsWhenRestarted key old new }
+    ensures nowhere { (key : List ℕ) (old new : Around) → ClearsNothingElse key old new }
     ensures ticks { (key : List ℕ) (old new : Around) → NumbersTicks key old new }
 {
     lines_are_read_as_said();
@@ -157,8 +172,12 @@ fn stories_keep_air_laws()
     lines_lose_marked_frames();
     ticks_decide_each_frame();
     frames_go_by_route();
+    dead_hops_are_forgotten();
+    lines_bring_what_was_heard();
     lines_collide_when_asked();
     lines_mark_units();
     lines_overrun_only_when_full();
+    lines_clear_at_restarts();
+    lines_clear_nowhere_else();
     ticks_are_told();
 }

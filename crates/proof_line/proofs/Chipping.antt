@@ -50,9 +50,9 @@ use Rattle.proof_walk.proofs.Times.{each_keeps, outcome_time, IsWithin}
 use Rattle.proof_walk.proofs.Linking.{IsFed, Fed, ticks_go, results_go, deals_go, acts_go}
 use Rattle.proof_walk.proofs.Stamping.{stamped}
 use Rattle.proof_device.proofs.Entered.{IsShown, all_shown}
-use Rattle.proof_line.specs.Pipes.{MayLack, Mode, most, Turned, Waits, AtMost, Taken, Held, IsByHand}
+use Rattle.proof_line.specs.Pipes.{MayTell, Mode, most, Turned, Waits, AtMost, Taken, Held, IsByHand}
 use Rattle.proof_line.proofs.Standing.{frame_long}
-use Rattle.proof_line.proofs.Holding.{IsApart, Grown, grown_most}
+use Rattle.proof_line.proofs.Holding.{TellsNothing, Grown, grown_most}
 use Rattle.proof_line.proofs.Filling.{Up, Down, HoldsEmpty, all_apart, held_same, held_turn, chip_writes, none_held, few_frames, waits_empty, turn_turned, turned_chip}
 
 -- ---- which units the chip writes of itself
@@ -117,8 +117,8 @@ begins x xs is = absurd cc
 
 module _ (flagged : Bool → Mode) (empty : (awaits : Bool) → HoldsEmpty (flagged awaits)) where
   -- entries that tell nothing of the pipes, over the same bytes
-  pub apart_moves : (w later : Outside) (told : List Entry) → AllByRecursion IsApart told → later.outer.to_chip.bytes ≡ w.outer.to_chip.bytes → later.outer.to_host.bytes ≡ w.outer.to_host.bytes
-      → Moves MayLack (KnowsAs flagged) w told (KnowsAs flagged) later
+  pub apart_moves : (w later : Outside) (told : List Entry) → AllByRecursion TellsNothing told → later.outer.to_chip.bytes ≡ w.outer.to_chip.bytes → later.outer.to_host.bytes ≡ w.outer.to_host.bytes
+      → Moves MayTell (KnowsAs flagged) w told (KnowsAs flagged) later
   apart_moves w later told apart up down awaits past silent held =
       all_apart (flagged awaits) (empty awaits) past told later.outer apart (held_same (flagged awaits) past w.outer later.outer up down held)
 
@@ -127,59 +127,60 @@ module _ (flagged : Bool → Mode) (empty : (awaits : Bool) → HoldsEmpty (flag
       (writes : (unit : LineUnit) → IsUnit unit → (up down later : Pipe) (a b after : List ℕ) → Grown (length (unit_text unit)) down later b after → flagged false up down a b
       → flagged false (with_answer (length (unit_text unit)) (gone_on up)) later a after)
       (devices : List State) where
-    write_moves : (o : OuterState) (unit : LineUnit) → IsUnit unit → Comes MayLack (KnowsAs flagged) (outside o devices) (put_out o (Write unit)) devices (KnowsAs flagged)
+    write_moves : (o : OuterState) (unit : LineUnit) → IsUnit unit → Comes MayTell (KnowsAs flagged) (outside o devices) (put_out o (Write unit)) devices (KnowsAs flagged)
     write_moves o unit is awaits past silent held = by awaits silent held
       where
         by : (b : Bool) → (b ≡ true → told by_chip o.to_host unit ≡ []) → Held (flagged b) past o
-            → EachAfter MayLack past (told by_chip o.to_host unit) × Held (flagged b) (past ++ told by_chip o.to_host unit) (put_out o (Write unit)).outer
+            → EachAfter MayTell past (told by_chip o.to_host unit) × Held (flagged b) (past ++ told by_chip o.to_host unit) (put_out o (Write unit)).outer
         by true silent held = begins _ _ (silent refl)
         by false silent held =
             chip_writes (flagged false) past o unit (room (Up past) (Down past) o.to_chip.bytes o.to_host.bytes held.holds)
             (λ down bytes grown. writes unit is (Up past) (Down past) down o.to_chip.bytes o.to_host.bytes bytes grown held.holds)
 
-    put_moves : (o : OuterState) (out : ChipOut) → IsPut IsUnit out → Comes MayLack (KnowsAs flagged) (outside o devices) (put_out o out) devices (KnowsAs flagged)
+    put_moves : (o : OuterState) (out : ChipOut) → IsPut IsUnit out → Comes MayTell (KnowsAs flagged) (outside o devices) (put_out o out) devices (KnowsAs flagged)
     put_moves o (Write unit) is = write_moves o unit is
     put_moves o (OnAir to route payload) is = apart_moves (outside o devices) (outside (put_out o (OnAir to route payload)).outer devices) (put_out o (OnAir to route payload)).entries (tt, tt) refl refl
     put_moves o NoRoute is = apart_moves (outside o devices) (outside (put_out o NoRoute).outer devices) [] tt refl refl
     put_moves o (AskInfo node) is = apart_moves (outside o devices) (outside (put_out o (AskInfo node)).outer devices) [] tt refl refl
     put_moves o Full is = apart_moves (outside o devices) (outside (put_out o Full).outer devices) (entry.ChipFull ∷ []) (tt, tt) refl refl
 
-    puts_move : (puts : List ChipOut) (o : OuterState) → ArePut IsUnit puts → Comes MayLack (KnowsAs flagged) (outside o devices) (each put_out o puts) devices (KnowsAs flagged)
-    puts_move [] o are = moves_none MayLack (KnowsAs flagged) (outside o devices)
+    puts_move : (puts : List ChipOut) (o : OuterState) → ArePut IsUnit puts → Comes MayTell (KnowsAs flagged) (outside o devices) (each put_out o puts) devices (KnowsAs flagged)
+    puts_move [] o are = moves_none MayTell (KnowsAs flagged) (outside o devices)
     puts_move (out ∷ puts) o are =
         let one : Outcome = put_out o out in
-        moves_both MayLack (KnowsAs flagged) (KnowsAs flagged) (KnowsAs flagged) (outside o devices) (outside one.outer devices) (outside (each put_out one.outer puts).outer devices)
+        moves_both MayTell (KnowsAs flagged) (KnowsAs flagged) (KnowsAs flagged) (outside o devices) (outside one.outer devices) (outside (each put_out one.outer puts).outer devices)
         one.entries (each put_out one.outer puts).entries (put_moves o out are.0) (puts_move puts one.outer are.1)
 
-    pub does_moves : (o : OuterState) (event : ChipEvent) → ArePut IsUnit (outs o.chip.state event) → Comes MayLack (KnowsAs flagged) (outside o devices) (chip_does o event) devices (KnowsAs flagged)
+    pub does_moves : (o : OuterState) (event : ChipEvent) → ArePut IsUnit (outs o.chip.state event) → Comes MayTell (KnowsAs flagged) (outside o devices) (chip_does o event) devices (KnowsAs flagged)
     unfolding chip_does
     does_moves o event are =
         let p : OuterState = with_chip o (after o.chip.state event) in
         let x : Outcome = each put_out p (outs o.chip.state event) in
-        moves_both MayLack (KnowsAs flagged) (KnowsAs flagged) (KnowsAs flagged) (outside o devices) (outside p devices) (outside x.outer devices) [] x.entries
+        moves_both MayTell (KnowsAs flagged) (KnowsAs flagged) (KnowsAs flagged) (outside o devices) (outside p devices) (outside x.outer devices) [] x.entries
         (apart_moves (outside o devices) (outside p devices) [] tt refl refl) (puts_move (outs o.chip.state event) p are)
 
 -- ---- what the chip does of itself, and all else outside
 
-air_apart : (e : Entry) → IsOfAir e → IsApart e
+air_apart : (e : Entry) → IsOfAir e → TellsNothing e
 air_apart (entry.Said words) of_air = absurd of_air
 air_apart (entry.Written side unit) of_air = absurd of_air
 air_apart (entry.Dropped side) of_air = absurd of_air
 air_apart (entry.Garbled side unit) of_air = absurd of_air
 air_apart (entry.Overrun side) of_air = absurd of_air
+air_apart (entry.Cleared side count) of_air = absurd of_air
 air_apart (entry.Time tick) of_air = absurd of_air
 air_apart e of_air = tt
 
-shown_apart : (e : Entry) → IsShown e → IsApart e
+shown_apart : (e : Entry) → IsShown e → TellsNothing e
 shown_apart (entry.Device node setting) shown = tt
 shown_apart (entry.Refused refusal) shown = tt
 shown_apart e shown = absurd shown
 
 -- the number may stand anywhere
-pub number_stands : (past : List Entry) (o : OuterState) → EachAfter MayLack past (ticked_entry o)
+pub number_stands : (past : List Entry) (o : OuterState) → EachAfter MayTell past (ticked_entry o)
 number_stands past o = by (o.in_tick && not o.stamped)
   where
-    by : (b : Bool) → EachAfter MayLack past (if b then entry.Time o.clock ∷ [] else [])
+    by : (b : Bool) → EachAfter MayTell past (if b then entry.Time o.clock ∷ [] else [])
     by true = (tt, tt)
     by false = tt
 
@@ -208,61 +209,61 @@ module _ (tick : Bool) where
   all_empty : (awaits : Bool) → HoldsEmpty (Waits awaits tick)
   all_empty awaits = waits_empty awaits tick
 
-  apart_base : (w later : Outside) (told : List Entry) → AllByRecursion IsApart told → later.outer.to_chip.bytes ≡ w.outer.to_chip.bytes → later.outer.to_host.bytes ≡ w.outer.to_host.bytes
-      → Moves MayLack Base w told Base later
+  apart_base : (w later : Outside) (told : List Entry) → AllByRecursion TellsNothing told → later.outer.to_chip.bytes ≡ w.outer.to_chip.bytes → later.outer.to_host.bytes ≡ w.outer.to_host.bytes
+      → Moves MayTell Base w told Base later
   apart_base = apart_moves (λ awaits. Waits awaits tick) all_empty
 
-  fed : Fed MayLack Base
+  fed : Fed MayTell Base
   fed = record {
     chip = λ w event is. does_moves (λ awaits. Waits awaits tick) all_empty IsFrame turned_room turned_writes w.devices w.outer event (fed_put w.outer.chip.state event is);
     air = λ w told of_air. apart_base w w (told ∷ []) (air_apart told of_air, tt) refl refl;
     same = λ awaits past w later is held. held_same (Waits awaits tick) past w.outer later.outer (ap (λ (l : _). l.bytes) is.to_chip) (ap (λ (l : _). l.bytes) is.to_host) held;
   }
 
-  deals_all : (devices : List State) (events : List AirEvent) (o : OuterState) → Comes MayLack Base (outside o devices) (each (deals devices) o events) devices Base
-  deals_all devices [] o = moves_none MayLack Base (outside o devices)
+  deals_all : (devices : List State) (events : List AirEvent) (o : OuterState) → Comes MayTell Base (outside o devices) (each (deals devices) o events) devices Base
+  deals_all devices [] o = moves_none MayTell Base (outside o devices)
   deals_all devices (event ∷ events) o =
       let one : Outcome = deals devices o event in
-      moves_both MayLack Base Base Base (outside o devices) (outside one.outer devices) (outside (each (deals devices) one.outer events).outer devices)
-      one.entries (each (deals devices) one.outer events).entries (deals_go MayLack Base fed devices o event) (deals_all devices events one.outer)
+      moves_both MayTell Base Base Base (outside o devices) (outside one.outer devices) (outside (each (deals devices) one.outer events).outer devices)
+      one.entries (each (deals devices) one.outer events).entries (deals_go MayTell Base fed devices o event) (deals_all devices events one.outer)
 
-  steps_go : (w : Outside) (step : AirStep) → Comes MayLack Base w (steps w step) (mesh_after (mesh_of w) step).devices Base
+  steps_go : (w : Outside) (step : AirStep) → Comes MayTell Base w (steps w step) (mesh_after (mesh_of w) step).devices Base
   steps_go w step =
       let o : OuterState = record w.outer { air = (mesh_after (mesh_of w) step).air } in
       let devices : List State = (mesh_after (mesh_of w) step).devices in
-      moves_both MayLack Base Base Base w (outside o devices) (outside (steps w step).outer devices) [] (steps w step).entries
+      moves_both MayTell Base Base Base w (outside o devices) (outside (steps w step).outer devices) [] (steps w step).entries
       (apart_base w (outside o devices) [] tt refl refl) (deals_all devices (mesh_outs (mesh_of w) step) o)
 
-  repeats_go : (w : Outside) (refused : Option RepeatRefusal) (step : AirStep) → Comes MayLack Base w (repeats w refused step) (devices_repeated w refused step) Base
+  repeats_go : (w : Outside) (refused : Option RepeatRefusal) (step : AirStep) → Comes MayTell Base w (repeats w refused step) (devices_repeated w refused step) Base
   repeats_go w None step = steps_go w step
   repeats_go w (Some NeverSent) step = apart_base w w (refusal_entries NeverSent) (tt, tt) refl refl
   repeats_go w (Some Forgotten) step = apart_base w w (refusal_entries Forgotten) (tt, tt) refl refl
   repeats_go w (Some (Stale later)) step = apart_base w w (refusal_entries (Stale later)) (tt, tt) refl refl
 
-  at_go : (w : Outside) (place : ℕ) (found : Option State) (event : DeviceEvent) (route : Option Route) → Comes MayLack Base w (acts_at w.outer found event route) (device_set w.devices place found event) Base
+  at_go : (w : Outside) (place : ℕ) (found : Option State) (event : DeviceEvent) (route : Option Route) → Comes MayTell Base w (acts_at w.outer found event route) (device_set w.devices place found event) Base
   at_go w place None event route = apart_base w w [] tt refl refl
-  at_go w place (Some device) event route = acts_go MayLack Base fed w place device event route
+  at_go w place (Some device) event route = acts_go MayTell Base fed w place device event route
 
-  hand_go : (w : Outside) (place : Option ℕ) (event : DeviceEvent) (route : Option Route) → Comes MayLack Base w (acts_by_hand w.outer w.devices place event route) (set_by_hand w.devices place event) Base
+  hand_go : (w : Outside) (place : Option ℕ) (event : DeviceEvent) (route : Option Route) → Comes MayTell Base w (acts_by_hand w.outer w.devices place event route) (set_by_hand w.devices place event) Base
   hand_go w None event route = apart_base w w (acts_by_hand w.outer w.devices None event route).entries (tt, tt) refl refl
   hand_go w (Some place) event route = at_go w place (slice_get w.devices place) event route
 
   -- nothing is entered, over the same bytes
-  silent_goes : (w : Outside) (o : OuterState) → o.to_chip.bytes ≡ w.outer.to_chip.bytes → o.to_host.bytes ≡ w.outer.to_host.bytes → Moves MayLack Base w [] Base (outside o w.devices)
+  silent_goes : (w : Outside) (o : OuterState) → o.to_chip.bytes ≡ w.outer.to_chip.bytes → o.to_host.bytes ≡ w.outer.to_host.bytes → Moves MayTell Base w [] Base (outside o w.devices)
   silent_goes w o up down = apart_base w (outside o w.devices) [] tt up down
 
-  goes : (w : Outside) (event : OuterEvent) → IsGoing event → Comes MayLack Base w (outcome w event) (devices_after w event) Base
+  goes : (w : Outside) (event : OuterEvent) → IsGoing event → Comes MayTell Base w (outcome w event) (devices_after w event) Base
   unfolding outcome devices_after
   goes w (Arrives drawn route) going = steps_go w (mesh.Arrives drawn route)
-  goes w (Gives route) going = results_go MayLack Base fed w route
+  goes w (Gives route) going = results_go MayTell Base fed w route
   goes w (Device_ticks place drawn route) going = at_go w place (slice_get w.devices place) (Ticks drawn) route
-  goes w Chip_ticks going = ticks_go MayLack Base fed w
+  goes w Chip_ticks going = ticks_go MayTell Base fed w
   goes w (Repeats number drawn route) going = repeats_go w (refusal_of w.outer.air.frames number) (mesh.Repeats number drawn route)
   goes w (Wakes_device node route) going = hand_go w (place_of node w.devices) Wakes route
   goes w (Sets_device node value route) going = hand_go w (place_of node w.devices) (Sets value) route
   goes w (Shows node) going =
       let device : Option State = device_at w.devices (place_of node w.devices) in
-      apart_base w w (shown_entries node device) (all-weaker IsShown IsApart shown_apart (shown_entries node device) (all_shown node device)) refl refl
+      apart_base w w (shown_entries node device) (all-weaker IsShown TellsNothing shown_apart (shown_entries node device) (all_shown node device)) refl refl
   goes w (Joins node) going = silent_goes w (outcome w (Joins node)).outer refl refl
   goes w Discovers going = silent_goes w (outcome w Discovers).outer refl refl
   goes w (Links a b live) going = silent_goes w (outcome w (Links a b live)).outer refl refl
@@ -294,9 +295,9 @@ module _ (tick : Bool) where
   going_within event going = tt
 
   pub going_keeps : (w : Outside) (event : OuterEvent) → IsGoing event → (past : List Entry) → Held (Waits (awaits_number w.outer) tick) past w.outer
-      → EachAfter MayLack past (entries w event) × Held (Waits (awaits_number (happens w event).outer) tick) (past ++ entries w event) (happens w event).outer
+      → EachAfter MayTell past (entries w event) × Held (Waits (awaits_number (happens w event).outer) tick) (past ++ entries w event) (happens w event).outer
   going_keeps w event going past held =
-      let got = stamped MayLack Base number_goes stamps w (outcome w event) (devices_after w event) (outcome_time w event (going_within event going)) (goes w event going) past (held, number_stands past w.outer) in
+      let got = stamped MayTell Base number_goes stamps w (outcome w event) (devices_after w event) (outcome_time w event (going_within event going)) (goes w event going) past (held, number_stands past w.outer) in
       (got.0, got.1.0)
 
 -- ---- the chip takes bytes
@@ -321,11 +322,11 @@ taken_writes unit is up down later a b after grown taken =
     (taken.0, (grown_most (length (unit_text unit)) down later b after grown taken.1.0, λ waits. absurd (let none : false ≡ true = waits in cc)))
 
 judges_all : (devices : List State) (ways : List (Item × Option Route)) (o : OuterState)
-    → Comes MayLack (KnowsAs TakenYet) (outside o devices) (each chip_does o (judged_all ways)) devices (KnowsAs TakenYet)
-judges_all devices [] o = moves_none MayLack (KnowsAs TakenYet) (outside o devices)
+    → Comes MayTell (KnowsAs TakenYet) (outside o devices) (each chip_does o (judged_all ways)) devices (KnowsAs TakenYet)
+judges_all devices [] o = moves_none MayTell (KnowsAs TakenYet) (outside o devices)
 judges_all devices (way ∷ ways) o =
     let one : Outcome = chip_does o (Judged way.0 way.1) in
-    moves_both MayLack (KnowsAs TakenYet) (KnowsAs TakenYet) (KnowsAs TakenYet) (outside o devices) (outside one.outer devices) (outside (each chip_does one.outer (judged_all ways)).outer devices)
+    moves_both MayTell (KnowsAs TakenYet) (KnowsAs TakenYet) (KnowsAs TakenYet) (outside o devices) (outside one.outer devices) (outside (each chip_does one.outer (judged_all ways)).outer devices)
     one.entries (each chip_does one.outer (judged_all ways)).entries
     (does_moves TakenYet taken_empty (λ unit. Unit {0}) taken_room taken_writes devices o (Judged way.0 way.1) (any_put (outs o.chip.state (Judged way.0 way.1)))) (judges_all devices ways one.outer)
 
@@ -355,7 +356,7 @@ module _ (w : Outside) (rest : Rest) (ways : List (Item × Option Route)) where
   abbrev started : OuterState
   started = record w.outer { to_chip = way.after w.outer.to_chip (Takes all); chip = record { decoder = rest; state = w.outer.chip.state } }
 
-  starts : Moves MayLack (KnowsAs AtMost) w [] (KnowsAs TakenYet) (outside started w.devices)
+  starts : Moves MayTell (KnowsAs AtMost) w [] (KnowsAs TakenYet) (outside started w.devices)
   starts awaits past silent held = (
     tt,
     subst (λ (l : List Entry). Held (TakenYet awaits) l started) (sym (append-nil past)) (record {
@@ -370,12 +371,12 @@ module _ (w : Outside) (rest : Rest) (ways : List (Item × Option Route)) where
     fresh = held.fresh;
   }
 
-  takes_go : Comes MayLack (KnowsAs AtMost) w (outcome w (Chip_takes all rest ways)) w.devices (KnowsAs AtMost)
+  takes_go : Comes MayTell (KnowsAs AtMost) w (outcome w (Chip_takes all rest ways)) w.devices (KnowsAs AtMost)
   unfolding outcome
   takes_go =
       let x : Outcome = each chip_does started (judged_all ways) in
-      moves_then MayLack (KnowsAs AtMost) (KnowsAs TakenYet) (KnowsAs AtMost) w (outside x.outer w.devices) (outside x.outer w.devices) x.entries
-      (moves_both MayLack (KnowsAs AtMost) (KnowsAs TakenYet) (KnowsAs TakenYet) w (outside started w.devices) (outside x.outer w.devices) [] x.entries starts (judges_all w.devices ways started))
+      moves_then MayTell (KnowsAs AtMost) (KnowsAs TakenYet) (KnowsAs AtMost) w (outside x.outer w.devices) (outside x.outer w.devices) x.entries
+      (moves_both MayTell (KnowsAs AtMost) (KnowsAs TakenYet) (KnowsAs TakenYet) w (outside started w.devices) (outside x.outer w.devices) [] x.entries starts (judges_all w.devices ways started))
       (λ awaits past held. ends awaits past x.outer held)
 
   at_number : (past : List Entry) (u : Outside) → KnowsAs AtMost true past u → KnowsAs AtMost false (past ++ entry.Time u.outer.clock ∷ []) u
@@ -399,13 +400,13 @@ module _ (w : Outside) (rest : Rest) (ways : List (Item × Option Route)) where
       entered_leaves (outcome w (Chip_takes all rest ways)).outer (outcome w (Chip_takes all rest ways)).entries ∙ each_keeps left_of chip_does does_leaves started (judged_all ways)
 
   pub takes_keep : is_stalled w.outer ≡ false → (past : List Entry) → Held (AtMost (awaits_number w.outer)) past w.outer
-      → EachAfter MayLack past (entries w (Chip_takes all rest ways))
+      → EachAfter MayTell past (entries w (Chip_takes all rest ways))
       × (Held Taken (past ++ entries w (Chip_takes all rest ways)) (happens w (Chip_takes all rest ways)).outer × (is_stalled (happens w (Chip_takes all rest ways)).outer ≡ false))
   unfolding devices_after
   takes_keep moves past held =
       let later : Outside = happens w (Chip_takes all rest ways) in
       let got =
-      stamped MayLack (KnowsAs AtMost) at_number at_stamps w (outcome w (Chip_takes all rest ways)) (devices_after w (Chip_takes all rest ways)) (outcome_time w (Chip_takes all rest ways) tt) takes_go past
+      stamped MayTell (KnowsAs AtMost) at_number at_stamps w (outcome w (Chip_takes all rest ways)) (devices_after w (Chip_takes all rest ways)) (outcome_time w (Chip_takes all rest ways) tt) takes_go past
       (held, number_stands past w.outer) in
       let none : later.outer.to_chip.bytes ≡ [] = ap (λ (l : List ℕ × Bool). l.0) taken_left ∙ drop_whole w.outer.to_chip.bytes in (
         got.0,

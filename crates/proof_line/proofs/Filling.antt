@@ -9,15 +9,15 @@ use Rattle.zw_words.specs.declared.side.Side.{Side}
 use Rattle.zw_words.specs.declared.side.Side.TheVariants.{Host as by_host, Chip as by_chip}
 use Rattle.zw_text.specs.declared.entry.Entry.{Entry}
 use Rattle.zw_text.specs.declared.entry.Entry.TheVariants as entry
-use Rattle.zw_text.specs.Transcript.{line_of, line_after, line_last}
-use Rattle.zw_text.proofs.Views.{folded-append}
+use Rattle.zw_text.specs.Transcript.{line_of, line_last}
 use Rattle.law_transcript.specs.Lists.{EachAfter}
 use Rattle.law_transcript.specs.Restarts.{is_restart}
 use Rattle.law_wire.specs.Pipes.{Pipe, empty_pipe, with_answer, gone_on, with_turn, pipe_from, sum_of}
 use Rattle.outside_model.specs.State.{OuterState}
 use Rattle.proof_device.proofs.Entered.{IsMark, told_by_marks}
-use Rattle.proof_line.specs.Pipes.{MayLack, Mode, most, Resting, Turned, Waits, AtMost, Taken, Heard, Held}
-use Rattle.proof_line.proofs.Holding.{pipe_grows, IsApart, apart_mark, apart_step, apart_line, apart_stands, Grown, other_pipe, unit_grows, unit_stands, grown_most, grown_frames, long_answer, gone_frames, gone_written, gone_none}
+use Rattle.proof_line.specs.Pipes.{MayTell, Mode, most, Resting, Turned, Waits, AtMost, Taken, Heard, Held}
+use Rattle.proof_line.proofs.Standing.{line_then}
+use Rattle.proof_line.proofs.Holding.{pipe_grows, TellsNothing, apart_mark, apart_step, apart_line, apart_stands, Grown, other_pipe, unit_grows, unit_stands, grown_most, grown_frames, long_answer, gone_frames, gone_written, gone_none}
 
 abbrev pub Up : List Entry → Pipe
 Up past = pipe_from by_host empty_pipe past
@@ -30,9 +30,6 @@ abbrev pub HoldsEmpty : Mode → Type 0
 HoldsEmpty mode = (up down : Pipe) → mode up down [] []
 
 -- ---- entries
-
-line_then : (past : List Entry) (e : Entry) → line_last (past ++ e ∷ []) ≡ line_of e
-line_then past e = folded-append line_after [] past (e ∷ [])
 
 -- no line was just said
 unsaid : (past : List Entry) (e : Entry) → line_of e ≡ [] → is_restart (line_last (past ++ e ∷ [])) ≡ false
@@ -53,7 +50,7 @@ module _ (mode : Mode) (empty : HoldsEmpty mode) where
     fresh = λ is. (up, down);
   }
 
-  apart_held : (past : List Entry) (e : Entry) (o : OuterState) → IsApart e → Held mode past o → Held mode (past ++ e ∷ []) o
+  apart_held : (past : List Entry) (e : Entry) (o : OuterState) → TellsNothing e → Held mode past o → Held mode (past ++ e ∷ []) o
   apart_held past e o apart held = by (is_restart (line_last past)) refl
     where
       by : (b : Bool) → is_restart (line_last past) ≡ b → Held mode (past ++ e ∷ []) o
@@ -67,7 +64,7 @@ module _ (mode : Mode) (empty : HoldsEmpty mode) where
         fresh = λ said. never (is_restart (line_last (past ++ e ∷ []))) (unsaid past e (apart_line e apart)) said;
       }
 
-  pub all_apart : (past told : List Entry) (o : OuterState) → AllByRecursion IsApart told → Held mode past o → EachAfter MayLack past told × Held mode (past ++ told) o
+  pub all_apart : (past told : List Entry) (o : OuterState) → AllByRecursion TellsNothing told → Held mode past o → EachAfter MayTell past told × Held mode (past ++ told) o
   all_apart past [] o apart held = (tt, subst (λ (l : List Entry). Held mode l o) (sym (append-nil past)) held)
   all_apart past (e ∷ told) o apart held =
       let rest = all_apart (past ++ e ∷ []) told o apart.1 (apart_held past e o apart.0 held) in
@@ -126,7 +123,7 @@ module _ (other : Mode) (past : List Entry) (o : OuterState) (unit : LineUnit) w
   -- of the chip
   pub chip_writes : length o.to_host.bytes ≤ most (Down past)
       → ((down : Pipe) (bytes : List ℕ) → Grown size (Down past) down o.to_host.bytes bytes → other (with_answer size (gone_on (Up past))) down o.to_chip.bytes bytes)
-      → EachAfter MayLack past (told by_chip o.to_host unit) × Held other (past ++ told by_chip o.to_host unit) (record o { to_host = after o.to_host (Writes unit) })
+      → EachAfter MayTell past (told by_chip o.to_host unit) × Held other (past ++ told by_chip o.to_host unit) (record o { to_host = after o.to_host (Writes unit) })
   chip_writes room goes =
       let one : List Entry = told by_chip o.to_host unit in
       let later : List Entry = past ++ one in
@@ -145,7 +142,7 @@ module _ (other : Mode) (past : List Entry) (o : OuterState) (unit : LineUnit) w
   -- of the host
   pub host_writes : length o.to_chip.bytes ≤ most (Up past)
       → ((up : Pipe) (bytes : List ℕ) → Grown size (Up past) up o.to_chip.bytes bytes → other up (with_answer size (gone_on (Down past))) bytes o.to_host.bytes)
-      → EachAfter MayLack past (told by_host o.to_chip unit) × Held other (past ++ told by_host o.to_chip unit) (record o { to_chip = after o.to_chip (Writes unit) })
+      → EachAfter MayTell past (told by_host o.to_chip unit) × Held other (past ++ told by_host o.to_chip unit) (record o { to_chip = after o.to_chip (Writes unit) })
   host_writes room goes =
       let one : List Entry = told by_host o.to_chip unit in
       let later : List Entry = past ++ one in

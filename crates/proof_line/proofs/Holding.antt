@@ -17,7 +17,7 @@ use Rattle.law_transcript.specs.Lists.{EachAfter}
 use Rattle.law_transcript.specs.Restarts.{is_restart, begins_refused}
 use Rattle.law_wire.specs.Pipes.{Pipe, empty_pipe, with_unit, with_answer, gone_on, with_turn, is_lost, pipe_by_unit, pipe_step, pipe_from, sum_of, bytes_perhaps, unit_by, may_lack}
 use Rattle.proof_device.proofs.Entered.{IsMark, told_by_marks}
-use Rattle.proof_line.specs.Pipes.{MayLack, most}
+use Rattle.proof_line.specs.Pipes.{MayTell, most}
 use Rattle.proof_line.proofs.Standing.{last_only, but_last, same_itself}
 
 -- ---- what stands next may say what became of the last
@@ -87,34 +87,36 @@ pipe_grows side pipe (e ∷ (next ∷ past)) told none joins =
 
 -- ---- entries that tell nothing of the pipes
 
--- no line, no unit and nothing of one, and no number of a tick
-abbrev pub IsApart : Entry → Type 0
-IsApart (entry.Said words) = ⊥
-IsApart (entry.Written side unit) = ⊥
-IsApart (entry.Dropped side) = ⊥
-IsApart (entry.Garbled side unit) = ⊥
-IsApart (entry.Overrun side) = ⊥
-IsApart (entry.Time tick) = ⊥
-IsApart _ = Unit {0}
+-- no line, no unit and nothing of one, no bytes that a restart lost, and no number of a tick
+abbrev pub TellsNothing : Entry → Type 0
+TellsNothing (entry.Said words) = ⊥
+TellsNothing (entry.Written side unit) = ⊥
+TellsNothing (entry.Dropped side) = ⊥
+TellsNothing (entry.Garbled side unit) = ⊥
+TellsNothing (entry.Overrun side) = ⊥
+TellsNothing (entry.Cleared side count) = ⊥
+TellsNothing (entry.Time tick) = ⊥
+TellsNothing _ = Unit {0}
 
-pub apart_mark : (e : Entry) → IsApart e → NoMark (e ∷ [])
+pub apart_mark : (e : Entry) → TellsNothing e → NoMark (e ∷ [])
 apart_mark (entry.Dropped side) apart = absurd apart
 apart_mark (entry.Garbled side unit) apart = absurd apart
 apart_mark (entry.Overrun side) apart = absurd apart
 apart_mark e apart = tt
 
-pub apart_step : (side : Side) (pipe : Pipe) (e : Entry) → IsApart e → pipe_from side pipe (e ∷ []) ≡ pipe
+pub apart_step : (side : Side) (pipe : Pipe) (e : Entry) → TellsNothing e → pipe_from side pipe (e ∷ []) ≡ pipe
 apart_step side pipe (entry.Said words) apart = absurd apart
 apart_step side pipe (entry.Written on unit) apart = absurd apart
 apart_step side pipe (entry.Time tick) apart = absurd apart
 apart_step side pipe e apart = refl
 
-pub apart_line : (e : Entry) → IsApart e → line_of e ≡ []
+pub apart_line : (e : Entry) → TellsNothing e → line_of e ≡ []
 apart_line (entry.Said words) apart = absurd apart
 apart_line e apart = refl
 
-pub apart_stands : (past : List Entry) (e : Entry) → IsApart e → MayLack past e
+pub apart_stands : (past : List Entry) (e : Entry) → TellsNothing e → MayTell past e
 apart_stands past (entry.Overrun side) apart = absurd apart
+apart_stands past (entry.Cleared side count) apart = absurd apart
 apart_stands past e apart = tt
 
 -- ---- a unit
@@ -198,13 +200,13 @@ module _ (side : Side) (way : WayState) (unit : LineUnit) where
         over : (a b n : ℕ) → a ≤ b → 4096 < a + n → 4096 < b + n
         over a b n few full = omega (arith, few, full)
 
-    last_lacks : (later : List Entry) (e : Entry) → list_any (may_lack side) (unit_by (later ++ e ∷ []) e ++ []) ≡ true → MayLack (later ++ e ∷ []) (entry.Overrun side)
+    last_lacks : (later : List Entry) (e : Entry) → list_any (may_lack side) (unit_by (later ++ e ∷ []) e ++ []) ≡ true → MayTell (later ++ e ∷ []) (entry.Overrun side)
     last_lacks later e lacking = ap (λ (l : List Entry). list_any (may_lack side) (flat_map (unit_by (later ++ e ∷ [])) l)) (last_only later e) ∙ lacking
 
-    written_lacks : fits way.bytes text ≡ false → MayLack written (entry.Overrun side)
+    written_lacks : fits way.bytes text ≡ false → MayTell written (entry.Overrun side)
     written_lacks none = last_lacks past (entry.Written side text) (lacks text (take (length written - 1) written) refl (but_last past (entry.Written side text)) none)
 
-    changed_lacks : (bytes : List ℕ) → length bytes ≡ length text → fits way.bytes bytes ≡ false → MayLack (written ++ entry.Garbled side bytes ∷ []) (entry.Overrun side)
+    changed_lacks : (bytes : List ℕ) → length bytes ≡ length text → fits way.bytes bytes ≡ false → MayTell (written ++ entry.Garbled side bytes ∷ []) (entry.Overrun side)
     changed_lacks bytes same none =
         last_lacks written (entry.Garbled side bytes)
         (lacks bytes (take (length (written ++ entry.Garbled side bytes ∷ []) - 2) (written ++ entry.Garbled side bytes ∷ [])) same before none)
@@ -220,20 +222,20 @@ module _ (side : Side) (way : WayState) (unit : LineUnit) where
             ap (λ (l : List Entry). take (length l - 2) l) (append_assoc past (entry.Written side text ∷ []) (entry.Garbled side bytes ∷ []))
             ∙ take_at past two (length (past ++ two) - 2) (two_less (length-append past two))
 
-    marks_stand : (mark : Mark) → EachAfter MayLack written (told_by side way.bytes mark text)
+    marks_stand : (mark : Mark) → EachAfter MayTell written (told_by side way.bytes mark text)
     marks_stand Free = by (fits way.bytes text) refl
       where
-        by : (b : Bool) → fits way.bytes text ≡ b → EachAfter MayLack written (if b then [] else entry.Overrun side ∷ [])
+        by : (b : Bool) → fits way.bytes text ≡ b → EachAfter MayTell written (if b then [] else entry.Overrun side ∷ [])
         by true is = tt
         by false is = (written_lacks is, tt)
     marks_stand Lost = (tt, tt)
     marks_stand (Changed garble) = (tt, by (fits way.bytes (garbled garble text)) refl)
       where
-        by : (b : Bool) → fits way.bytes (garbled garble text) ≡ b → EachAfter MayLack (written ++ entry.Garbled side (garbled garble text) ∷ []) (if b then [] else entry.Overrun side ∷ [])
+        by : (b : Bool) → fits way.bytes (garbled garble text) ≡ b → EachAfter MayTell (written ++ entry.Garbled side (garbled garble text) ∷ []) (if b then [] else entry.Overrun side ∷ [])
         by true is = tt
         by false is = (changed_lacks (garbled garble text) (length-set text _ _) is, tt)
 
-    pub unit_stands : EachAfter MayLack past (told side way unit)
+    pub unit_stands : EachAfter MayTell past (told side way unit)
     unit_stands = (tt, marks_stand mark)
 
 -- ---- what pipes hold

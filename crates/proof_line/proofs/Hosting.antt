@@ -40,8 +40,8 @@ use Rattle.proof_walk.specs.Outside.{Moves, IsNote, session_begins}
 use Rattle.proof_walk.specs.ByLine.{IsAsked}
 use Rattle.proof_walk.proofs.Stamping.{stamped}
 use Rattle.proof_walk.proofs.Machines.{UnitsAre, any_told, outs_keep, answers_keep}
-use Rattle.proof_line.specs.Pipes.{MayLack, Mode, most, Held, HearsNothing}
-use Rattle.proof_line.proofs.Holding.{IsApart, Grown}
+use Rattle.proof_line.specs.Pipes.{MayTell, Mode, most, Held, HearsNothing}
+use Rattle.proof_line.proofs.Holding.{TellsNothing, Grown}
 use Rattle.proof_line.proofs.Filling.{Up, Down, HoldsEmpty, held_same, held_turn, host_writes}
 use Rattle.proof_line.proofs.Chipping.{IsFrame, KnowsAs, apart_moves, number_stands}
 
@@ -141,12 +141,13 @@ next_nothing h event is = next_of_nothing h h.requests.owes h.requests.queue eve
 
 -- ---- what the host puts out
 
-pub note_apart : (e : Entry) → IsNote e → IsApart e
+pub note_apart : (e : Entry) → IsNote e → TellsNothing e
 note_apart (entry.Said words) note = absurd note
 note_apart (entry.Written side unit) note = absurd note
 note_apart (entry.Dropped side) note = absurd note
 note_apart (entry.Garbled side unit) note = absurd note
 note_apart (entry.Overrun side) note = absurd note
+note_apart (entry.Cleared side count) note = absurd note
 note_apart (entry.Time tick) note = absurd note
 note_apart e note = tt
 
@@ -156,7 +157,7 @@ AnyNote note = Unit {0}
 
 module _ (mode : Mode) (empty : HoldsEmpty mode) (turns : (up down : Pipe) (a b : List ℕ) → mode up down a b → mode (with_turn by_host up) (with_turn by_chip down) a b) where
   abbrev pub KeepsHeld : Outside → List Entry → Outside → Type 0
-  KeepsHeld w told later = (past : List Entry) → Held mode past w.outer → EachAfter MayLack past told × Held mode (past ++ told) later.outer
+  KeepsHeld w told later = (past : List Entry) → Held mode past w.outer → EachAfter MayTell past told × Held mode (past ++ told) later.outer
 
   pub keeps_none : (w : Outside) → KeepsHeld w [] w
   keeps_none w past held = (tt, subst (λ (l : List Entry). Held mode l w.outer) (sym (append-nil past)) held)
@@ -165,7 +166,7 @@ module _ (mode : Mode) (empty : HoldsEmpty mode) (turns : (up down : Pipe) (a b 
   keeps_both w u v xs ys first later past held =
       let one = first past held in
       let two = later (past ++ xs) one.1 in
-      (each-append MayLack past xs ys one.0 two.0, subst (λ (l : List Entry). Held mode l v.outer) (append_assoc past xs ys) two.1)
+      (each-append MayTell past xs ys one.0 two.0, subst (λ (l : List Entry). Held mode l v.outer) (append_assoc past xs ys) two.1)
 
   abbrev always : Bool → Mode
   always awaits = mode
@@ -180,7 +181,7 @@ module _ (mode : Mode) (empty : HoldsEmpty mode) (turns : (up down : Pipe) (a b 
   unfolding outcome devices_after
   note_keeps w note is none past held =
       let got =
-      stamped MayLack (KnowsAs always) number_goes stamps w (outcome w (Host_notes note)) w.devices refl (apart_moves always (λ awaits. empty) w w (note ∷ []) (note_apart note is, tt) refl refl) past
+      stamped MayTell (KnowsAs always) number_goes stamps w (outcome w (Host_notes note)) w.devices refl (apart_moves always (λ awaits. empty) w w (note ∷ []) (note_apart note is, tt) refl refl) past
       (held, number_stands past w.outer) in
       (got.0, got.1.0)
 
@@ -191,7 +192,7 @@ module _ (mode : Mode) (empty : HoldsEmpty mode) (turns : (up down : Pipe) (a b 
   session_keeps w node session command past held =
       let later : Outside = outside (session_begins w.outer node session command).outer w.devices in
       let got =
-      stamped MayLack (KnowsAs always) number_goes stamps w (session_begins w.outer node session command) w.devices refl
+      stamped MayTell (KnowsAs always) number_goes stamps w (session_begins w.outer node session command) w.devices refl
       (apart_moves always (λ awaits. empty) w later (entry.Begin node session command ∷ []) (tt, tt) refl refl) past (held, number_stands past w.outer) in
       (got.0, got.1.0)
 
@@ -199,7 +200,7 @@ module _ (mode : Mode) (empty : HoldsEmpty mode) (turns : (up down : Pipe) (a b 
       (room : (up down : Pipe) (a b : List ℕ) → mode up down a b → length a ≤ most up)
       (writes : (unit : LineUnit) → IsUnit unit → (up later down : Pipe) (a after b : List ℕ) → Grown (length (unit_text unit)) up later a after → mode up down a b
       → mode later (with_answer (length (unit_text unit)) (gone_on down)) after b) where
-    write_moves : (w : Outside) (unit : LineUnit) → IsUnit unit → Moves MayLack (KnowsAs always) w (told by_host w.outer.to_chip unit) (KnowsAs always) (outside (outcome w (Host_writes unit)).outer w.devices)
+    write_moves : (w : Outside) (unit : LineUnit) → IsUnit unit → Moves MayTell (KnowsAs always) w (told by_host w.outer.to_chip unit) (KnowsAs always) (outside (outcome w (Host_writes unit)).outer w.devices)
     unfolding outcome
     write_moves w unit is awaits past silent held =
         host_writes mode past w.outer unit (room (Up past) (Down past) w.outer.to_chip.bytes w.outer.to_host.bytes held.holds)
@@ -209,7 +210,7 @@ module _ (mode : Mode) (empty : HoldsEmpty mode) (turns : (up down : Pipe) (a b 
     unfolding outcome devices_after
     writes_keep w unit is past held =
         let got =
-        stamped MayLack (KnowsAs always) number_goes stamps w (outcome w (Host_writes unit)) w.devices refl (write_moves w unit is) past (held, number_stands past w.outer) in
+        stamped MayTell (KnowsAs always) number_goes stamps w (outcome w (Host_writes unit)) w.devices refl (write_moves w unit is) past (held, number_stands past w.outer) in
         (got.0, got.1.0)
 
     pub host_keeps : (w : Outside) (h : HostState) (events : List HostEvent) → UnitsAre IsUnit (outs_all h events)

@@ -10,3 +10,4 @@ mod Filling
 mod Chipping
 mod Hosting
 pub mod Piping
+pub mod Clearing

@@ -1,6 +1,7 @@
 -- Neither pipe holds more than the transcript shows that it may, at each phase of a line.
 use Rattle.std.proofs.Common.{◌≡◌, ◌≤◌, ℕ, zero, suc, ◌+◌, ◌&&◌, not, nat_lt, Bool, true, false, if◌then◌else◌, List, [], ◌∷◌, ◌++◌, length, inl, inr, refl, sym, ap, subst, ◌∙◌, append-nil, append_assoc}
 use Rattle.std.specs.Prelude.{Option}
+use Rattle.std.proofs.lemmas.Bool.{ltb-true}
 use Rattle.serial_frame.specs.Stream.{Rest}
 use Rattle.serial_frame.specs.Items.{unit_text}
 use Rattle.serial_frame.specs.declared.item.Item.{Item}
@@ -18,7 +19,7 @@ use Rattle.zw_text.specs.Transcript.{line_of, line_after, line_last}
 use Rattle.zw_text.proofs.Views.{folded-append}
 use Rattle.law_transcript.specs.Lists.{EachAfter}
 use Rattle.law_transcript.specs.Restarts.{is_restart}
-use Rattle.law_wire.specs.Pipes.{Pipe, empty_pipe, with_answer, gone_on, with_turn, pipe_from, sum_of}
+use Rattle.law_wire.specs.Pipes.{Pipe, empty_pipe, with_answer, gone_on, with_turn, pipe_from, sum_of, bytes_perhaps}
 use Rattle.host_model.specs.State.{HostState}
 use Rattle.host_model.specs.Events.{HostEvent}
 use Rattle.host_model.specs.Did.{outs_all}
@@ -35,7 +36,8 @@ use Rattle.proof_walk.specs.Phases.{Phase, Between, Said_line, Begun, Doing, To_
 use Rattle.proof_walk.specs.Walk.{Walk}
 use Rattle.proof_walk.specs.ByLine.{CoversLine, IsAsked, OfEffect}
 use Rattle.proof_walk.proofs.ByLine.{effect_asks}
-use Rattle.proof_line.specs.Pipes.{MayLack, Mode, most, Resting, Turned, Waits, AtMost, Heard, Held, JustSaid, IsByHand, LeftRestart, LeftPipes, InTick, HasMoved, HearsNothing, KnowPipes}
+use Rattle.proof_walk.proofs.Stepping.{Steps, event_then}
+use Rattle.proof_line.specs.Pipes.{MayLack, MayClear, MayTell, Mode, most, Resting, Turned, Waits, AtMost, Heard, Held, JustSaid, IsByHand, HasCleared, Restarts_next, LeftRestart, LeftPipes, InTick, HasMoved, HearsNothing, KnowPipes}
 use Rattle.proof_line.proofs.Standing.{frame_long}
 use Rattle.proof_line.proofs.Holding.{Grown, pipe_grows}
 use Rattle.proof_line.proofs.Filling.{Up, Down, held_empty, held_same, held_weaker, none_held, few_frames, never, no_refusal, resting_empty, turned_empty, heard_empty, turn_turned, turn_heard, resting_host, heard_host}
@@ -78,7 +80,7 @@ rest_writes Can is = absurd is
 rest_writes (Framed f) is = λ up later down a after b grown resting. resting_host (length (unit_text (Framed f))) up later down a after b (frame_long f) grown resting
 
 abbrev Keeps : Mode → Machine → Event → List Entry → Type 0
-Keeps mode m event past = EachAfter MayLack past (entries m event) × Held mode (past ++ entries m event) (happens m event).outside.outer
+Keeps mode m event past = EachAfter MayTell past (entries m event) × Held mode (past ++ entries m event) (happens m event).outside.outer
 
 -- of itself
 host_goes : (m : Machine) (event : HostEvent) → HearsNothing event → (past : List Entry) → Held Resting past m.outside.outer → Keeps Resting m (Host_does event) past
@@ -119,11 +121,11 @@ heard_goes m rest items events past few fresh =
 -- ---- the words of a line
 
 said : (past : List Entry) (m : Machine) (words : List ℕ) (line : Line) → line_of (entry.Said words) ≡ line ∷ [] → Held Resting past m.outside.outer
-    → MayLack past (entry.Said words) × JustSaid line (past ++ entry.Said words ∷ []) m.outside.outer
+    → MayTell past (entry.Said words) × JustSaid line (past ++ entry.Said words ∷ []) m.outside.outer
 said past m words line read held = (tt, record { before = past; words = words; read = read; is = refl; held = held })
 
 begins_line : (line : Line) (past : List Entry) (m : Machine) → JustSaid line past m.outside.outer
-    → EachAfter MayLack past (entries m (Outside_does Begins_line)) × KnowPipes (Begun line) (past ++ entries m (Outside_does Begins_line)) (happens m (Outside_does Begins_line))
+    → EachAfter MayTell past (entries m (Outside_does Begins_line)) × KnowPipes (Begun line) (past ++ entries m (Outside_does Begins_line)) (happens m (Outside_does Begins_line))
 unfolding happens entries outcome devices_after
 begins_line line past m just =
     let later : OuterState = (happens m (Outside_does Begins_line)).outside.outer in (
@@ -198,56 +200,143 @@ effect_keeps past m (Refuses line refusal) of_effect held = note_keeps Turned tu
 effect_keeps past m (Shows_values node) of_effect held = note_keeps Turned turned_empty turn_turn m.outside (shown_values m.host.state node) tt refl past held
 effect_keeps past m (Restarts state) of_effect held = keeps_none Turned turned_empty turn_turn m.outside past held
 
--- the bytes that are on their way
-abbrev bytes_of : OuterState → List ℕ × List ℕ
-bytes_of o = (o.to_chip.bytes, o.to_host.bytes)
+-- the bytes that are on their way, and whether a tick runs
+abbrev bytes_of : OuterState → List ℕ × List ℕ × Bool
+bytes_of o = (o.to_chip.bytes, o.to_host.bytes, o.in_tick)
 
 entered_same : (o : OuterState) (told : List Entry) → bytes_of (has_entered o told) ≡ bytes_of o
 entered_same o [] = refl
 entered_same o (e ∷ told) = refl
 
-clear_stands : (past : List Entry) (o : OuterState) (side : Side) (count : ℕ) → EachAfter MayLack past (stamp o (cleared_entries side count))
-clear_stands past o side count = by (nat_lt 0 count)
-  where
-    number : (b : Bool) → EachAfter MayLack past ((if b then entry.Time o.clock ∷ [] else []) ++ entry.Cleared side count ∷ [])
-    number true = (tt, (tt, tt))
-    number false = (tt, tt)
-
-    by : (some : Bool) → EachAfter MayLack past (stamp o (if some then entry.Cleared side count ∷ [] else []))
-    by false = tt
-    by true = number (o.in_tick && not o.stamped)
+-- outside a tick no number stands before what is told
+stamp_quiet : (o : OuterState) (told : List Entry) → o.in_tick ≡ false → stamp o told ≡ told
+stamp_quiet o [] quiet = refl
+stamp_quiet o (e ∷ told) quiet = ap (λ (b : Bool). (if b && not o.stamped then entry.Time o.clock ∷ [] else []) ++ e ∷ told) quiet
 
 abbrev Restarted : List Event → List Entry → Machine → Event → Type 0
-Restarted left past m event = EachAfter MayLack past (entries m event) × LeftRestart left (past ++ entries m event) (happens m event)
+Restarted left past m event = EachAfter MayTell past (entries m event) × LeftRestart left (past ++ entries m event) (happens m event)
 
-refuses : (past : List Entry) (m : Machine) (refusal : Refusal) → JustSaid lines.Restart past m.outside.outer → awaits_number m.outside.outer ≡ false → Restarted [] past m (Refuses lines.Restart refusal)
+refuses : (past : List Entry) (m : Machine) (refusal : Refusal) → Restarts_next past m → Restarted [] past m (Refuses lines.Restart refusal)
 unfolding happens entries outcome devices_after
-refuses past m refusal just quiet =
+refuses past m refusal known =
     let o : OuterState = m.outside.outer in
-    let alone : entries m (Refuses lines.Restart refusal) ≡ entry.Refused refusal ∷ [] = ap (λ (b : Bool). (if b then entry.Time o.clock ∷ [] else []) ++ entry.Refused refusal ∷ []) quiet in
-    let held : Held Resting (past ++ entry.Refused refusal ∷ []) (happens m (Refuses lines.Restart refusal)).outside.outer =
-    held_same Resting (past ++ entry.Refused refusal ∷ []) o (happens m (Refuses lines.Restart refusal)).outside.outer refl refl (at_rest (past ++ entry.Refused refusal ∷ []) o (refused_turned past o refusal just)) in (
-      subst (λ (l : List Entry). EachAfter MayLack past l) (sym alone) (tt, tt),
-      inr (inr (inr (inr (refl, subst (λ (l : List Entry). Held Resting (past ++ l) (happens m (Refuses lines.Restart refusal)).outside.outer) (sym alone) held)))),
+    let later : OuterState = (happens m (Refuses lines.Restart refusal)).outside.outer in
+    let alone : entries m (Refuses lines.Restart refusal) ≡ entry.Refused refusal ∷ [] = stamp_quiet o (entry.Refused refusal ∷ []) known.1 in
+    let held : Held Resting (past ++ entry.Refused refusal ∷ []) later =
+    held_same Resting (past ++ entry.Refused refusal ∷ []) o later refl refl (at_rest (past ++ entry.Refused refusal ∷ []) o (refused_turned past o refusal known.0)) in (
+      subst (λ (l : List Entry). EachAfter MayTell past l) (sym alone) (tt, tt),
+      inr (inr (inr (inr (refl, subst (λ (l : List Entry). Held Resting (past ++ l) later) (sym alone) held)))),
     )
 
-starts_again : (past : List Entry) (m : Machine) (state : HostState) (left : List Event) → left ≡ Outside_does (Clears_pipe by_host) ∷ Outside_does (Clears_pipe by_chip) ∷ [] → Restarted left past m (Restarts state)
+-- the same entries before it
+just_later : (line : Line) (past : List Entry) (o p : OuterState) → p.to_chip.bytes ≡ o.to_chip.bytes → p.to_host.bytes ≡ o.to_host.bytes → JustSaid line past o → JustSaid line (past ++ []) p
+just_later line past o p up down just =
+    record { before = just.before; words = just.words; read = just.read; is = append-nil past ∙ just.is; held = held_same Resting just.before o p up down just.held }
+
+starts_again : (past : List Entry) (m : Machine) (state : HostState) (left : List Event) → left ≡ Outside_does (Clears_pipe by_host) ∷ Outside_does (Clears_pipe by_chip) ∷ [] → Restarts_next past m
+    → Restarted left past m (Restarts state)
 unfolding happens entries
-starts_again past m state left is = (tt, inr (inr (inl is)))
+starts_again past m state left is known =
+    (tt, inr (inr (inl (is, (just_later lines.Restart past m.outside.outer (happens m (Restarts state)).outside.outer refl refl known.0, known.1)))))
 
-clears_host : (past : List Entry) (m : Machine) (left : List Event) → left ≡ Outside_does (Clears_pipe by_chip) ∷ [] → Restarted left past m (Outside_does (Clears_pipe by_host))
-unfolding happens entries outcome devices_after
-clears_host past m left is =
-    let x = outcome m.outside (Clears_pipe by_host) in
-    (clear_stands past x.outer by_host (length m.outside.outer.to_chip.bytes), inr (inr (inr (inl (is, ap (λ (l : List ℕ × List ℕ). l.0) (entered_same x.outer x.entries))))))
+-- what was on its way to the chip is lost
+module _ (past : List Entry) (o : OuterState) (just : JustSaid lines.Restart past o) (quiet : o.in_tick ≡ false) where
+  few_up : length o.to_chip.bytes ≤ bytes_perhaps by_host just.before
+  few_up = just.held.holds.0
 
-clears_chip : (past : List Entry) (m : Machine) → m.outside.outer.to_chip.bytes ≡ [] → Restarted [] past m (Outside_does (Clears_pipe by_chip))
+  few_down : length o.to_host.bytes ≤ bytes_perhaps by_chip just.before
+  few_down = few_frames (Down just.before) (length o.to_host.bytes) just.held.holds.1
+
+  clears_up : (some : Bool) (later : OuterState) → nat_lt 0 (length o.to_chip.bytes) ≡ some → later.to_host.bytes ≡ o.to_host.bytes → later.to_chip.bytes ≡ [] → later.in_tick ≡ false
+      → let told : List Entry = if some then entry.Cleared by_host (length o.to_chip.bytes) ∷ [] else [] in EachAfter MayTell past told × HasCleared (past ++ told) later
+  clears_up true later some same none still = (
+    (
+      record {
+        before = just.before;
+        words = just.words;
+        told = [];
+        is = just.is;
+        restarts = just.read;
+        ahead = refl;
+        some = ltb-true 0 (length o.to_chip.bytes) some;
+        few = few_up;
+      },
+      tt,
+    ),
+    record {
+      before = just.before;
+      words = just.words;
+      told = entry.Cleared by_host (length o.to_chip.bytes) ∷ [];
+      is =
+          ap (λ (l : List Entry). l ++ entry.Cleared by_host (length o.to_chip.bytes) ∷ []) just.is
+          ∙ append_assoc just.before (entry.Said just.words ∷ []) (entry.Cleared by_host (length o.to_chip.bytes) ∷ []);
+      restarts = just.read;
+      ahead = inr (length o.to_chip.bytes, refl);
+      few = subst (λ (l : List ℕ). length l ≤ bytes_perhaps by_chip just.before) (sym same) few_down;
+      none = none;
+      quiet = still;
+    },
+  )
+  clears_up false later some same none still = (
+    tt,
+    record {
+      before = just.before;
+      words = just.words;
+      told = [];
+      is = append-nil past ∙ just.is;
+      restarts = just.read;
+      ahead = inl refl;
+      few = subst (λ (l : List ℕ). length l ≤ bytes_perhaps by_chip just.before) (sym same) few_down;
+      none = none;
+      quiet = still;
+    },
+  )
+
+-- and then what was on its way to the host
+clears_down : (past : List Entry) (o : OuterState) (some : Bool) → nat_lt 0 (length o.to_host.bytes) ≡ some → HasCleared past o
+    → EachAfter MayTell past (if some then entry.Cleared by_chip (length o.to_host.bytes) ∷ [] else [])
+clears_down past o true some known = (
+  record {
+    before = known.before;
+    words = known.words;
+    told = known.told;
+    is = known.is;
+    restarts = known.restarts;
+    ahead = known.ahead;
+    some = ltb-true 0 (length o.to_host.bytes) some;
+    few = known.few;
+  },
+  tt,
+)
+clears_down past o false some known = tt
+
+clears_host : (past : List Entry) (m : Machine) (left : List Event) → left ≡ Outside_does (Clears_pipe by_chip) ∷ [] → Restarts_next past m → Restarted left past m (Outside_does (Clears_pipe by_host))
 unfolding happens entries outcome devices_after
-clears_chip past m none =
-    let x = outcome m.outside (Clears_pipe by_chip) in
-    let same = entered_same x.outer x.entries in (
-      clear_stands past x.outer by_chip (length m.outside.outer.to_host.bytes),
-      inr (inr (inr (inr (refl, held_empty Resting resting_empty _ _ (ap (λ (l : List ℕ × List ℕ). l.0) same ∙ none) (ap (λ (l : List ℕ × List ℕ). l.1) same))))),
+clears_host past m left is known =
+    let o : OuterState = m.outside.outer in
+    let told : List Entry = cleared_entries by_host (length o.to_chip.bytes) in
+    let x : OuterState = (outcome m.outside (Clears_pipe by_host)).outer in
+    let later : OuterState = has_entered x told in
+    let same = entered_same x told in
+    let got =
+    clears_up past o known.0 known.1 (nat_lt 0 (length o.to_chip.bytes)) later refl (ap (λ (l : List ℕ × List ℕ × Bool). l.1) same) (ap (λ (l : List ℕ × List ℕ × Bool). l.0) same)
+    (ap (λ (l : List ℕ × List ℕ × Bool). l.2) same ∙ known.1) in
+    subst (λ (l : List Entry). EachAfter MayTell past l × LeftRestart left (past ++ l) (happens m (Outside_does (Clears_pipe by_host)))) (sym (stamp_quiet x told known.1))
+    (got.0, inr (inr (inr (inl (is, got.1)))))
+
+clears_chip : (past : List Entry) (m : Machine) → HasCleared past m.outside.outer → Restarted [] past m (Outside_does (Clears_pipe by_chip))
+unfolding happens entries outcome devices_after
+clears_chip past m known =
+    let o : OuterState = m.outside.outer in
+    let told : List Entry = cleared_entries by_chip (length o.to_host.bytes) in
+    let x : OuterState = (outcome m.outside (Clears_pipe by_chip)).outer in
+    let same = entered_same x told in
+    subst (λ (l : List Entry). EachAfter MayTell past l × LeftRestart [] (past ++ l) (happens m (Outside_does (Clears_pipe by_chip)))) (sym (stamp_quiet x told known.quiet)) (
+      clears_down past o (nat_lt 0 (length o.to_host.bytes)) refl known,
+      inr (inr (inr (inr (
+        refl,
+        held_empty Resting resting_empty (past ++ told) (has_entered x told) (ap (λ (l : List ℕ × List ℕ × Bool). l.0) same ∙ known.none) (ap (λ (l : List ℕ × List ℕ × Bool). l.1) same),
+      )))),
     )
 
 as_first : (left : List Event) (first is : Event) (past : List Entry) (m : Machine) → first ≡ is → Restarted left past m is → Restarted left past m first
@@ -257,27 +346,27 @@ as_none : (left : List Event) (past : List Entry) (m : Machine) (event : Event) 
 as_none left past m event none restarted = subst (λ (l : List Event). Restarted l past m event) (sym none) restarted
 
 does_restart : (first : Event) (left : List Event) (past : List Entry) (m : Machine) → LeftRestart (first ∷ left) past m → Restarted left past m first
-does_restart first left past m (inl (refusal, is, just, quiet)) =
+does_restart first left past m (inl (refusal, is, known)) =
     let head : first ≡ Refuses lines.Restart refusal = cc in
     let tail : left ≡ [] = cc in
-    as_first left first (Refuses lines.Restart refusal) past m head (as_none left past m (Refuses lines.Restart refusal) tail (refuses past m refusal just quiet))
-does_restart first left past m (inr (inl (state, is))) =
+    as_first left first (Refuses lines.Restart refusal) past m head (as_none left past m (Refuses lines.Restart refusal) tail (refuses past m refusal known))
+does_restart first left past m (inr (inl (state, is, known))) =
     let head : first ≡ Restarts state = cc in
     let tail : left ≡ Outside_does (Clears_pipe by_host) ∷ Outside_does (Clears_pipe by_chip) ∷ [] = cc in
-    as_first left first (Restarts state) past m head (starts_again past m state left tail)
-does_restart first left past m (inr (inr (inl is))) =
+    as_first left first (Restarts state) past m head (starts_again past m state left tail known)
+does_restart first left past m (inr (inr (inl (is, known)))) =
     let head : first ≡ Outside_does (Clears_pipe by_host) = cc in
     let tail : left ≡ Outside_does (Clears_pipe by_chip) ∷ [] = cc in
-    as_first left first (Outside_does (Clears_pipe by_host)) past m head (clears_host past m left tail)
-does_restart first left past m (inr (inr (inr (inl (is, none))))) =
+    as_first left first (Outside_does (Clears_pipe by_host)) past m head (clears_host past m left tail known)
+does_restart first left past m (inr (inr (inr (inl (is, known))))) =
     let head : first ≡ Outside_does (Clears_pipe by_chip) = cc in
     let tail : left ≡ [] = cc in
-    as_first left first (Outside_does (Clears_pipe by_chip)) past m head (as_none left past m (Outside_does (Clears_pipe by_chip)) tail (clears_chip past m none))
+    as_first left first (Outside_does (Clears_pipe by_chip)) past m head (as_none left past m (Outside_does (Clears_pipe by_chip)) tail (clears_chip past m known))
 does_restart first left past m (inr (inr (inr (inr (is, held))))) = absurd cc
 
 -- the next event
 does : (line : Line) (first : Event) (left : List Event) (past : List Entry) (m : Machine) → LeftPipes line (first ∷ left) past m
-    → EachAfter MayLack past (entries m first) × LeftPipes line left (past ++ entries m first) (happens m first)
+    → EachAfter MayTell past (entries m first) × LeftPipes line left (past ++ entries m first) (happens m first)
 does lines.Restart first left past m known = does_restart first left past m known
 does line first left past m known = let got = effect_keeps past m first known.0.0 known.1 in (got.0, (known.0.1, got.1))
 
@@ -290,29 +379,29 @@ covers_line lines.Restart other = absurd (let none : true ≡ false = other in c
 covers_line line other = tt
 
 effect : (line : Line) (past : List Entry) (m : Machine) (events : List Event) → IsEffect line m events → KnowPipes (Begun line) past m → LeftPipes line events past m
-effect lines.Restart past m events (inl (state, is)) known = inr (inl (state, is))
-effect lines.Restart past m events (inr (refusal, is)) known = inl (refusal, is, known.0, known.1)
+effect lines.Restart past m events (inl (state, is)) known = inr (inl (state, is, known))
+effect lines.Restart past m events (inr (refusal, is)) known = inl (refusal, is, known)
 effect line past m events is known = (effect_asks IsByHand line m events (covers_line line refl) is, said_turned line past m.outside.outer refl known.0)
 
 done : (line : Line) (past : List Entry) (m : Machine) → LeftPipes line [] past m → Held Resting past m.outside.outer
-done lines.Restart past m (inl (refusal, is, just, quiet)) = absurd cc
-done lines.Restart past m (inr (inl (state, is))) = absurd cc
-done lines.Restart past m (inr (inr (inl is))) = absurd cc
-done lines.Restart past m (inr (inr (inr (inl (is, none))))) = absurd cc
+done lines.Restart past m (inl (refusal, is, known)) = absurd cc
+done lines.Restart past m (inr (inl (state, is, known))) = absurd cc
+done lines.Restart past m (inr (inr (inl (is, known)))) = absurd cc
+done lines.Restart past m (inr (inr (inr (inl (is, known))))) = absurd cc
 done lines.Restart past m (inr (inr (inr (inr (is, held))))) = held
 done line past m known = at_rest past m.outside.outer known.1
 
 -- ---- ticks and passes
 
 begins_tick : (ticks : ℕ) (past : List Entry) (m : Machine) → Held Resting past m.outside.outer
-    → EachAfter MayLack past (entries m (Outside_does Begins_tick)) × KnowPipes (Ticked ticks) (past ++ entries m (Outside_does Begins_tick)) (happens m (Outside_does Begins_tick))
+    → EachAfter MayTell past (entries m (Outside_does Begins_tick)) × KnowPipes (Ticked ticks) (past ++ entries m (Outside_does Begins_tick)) (happens m (Outside_does Begins_tick))
 unfolding happens entries outcome devices_after
 begins_tick ticks past m held =
     let later : OuterState = (happens m (Outside_does Begins_tick)).outside.outer in
     (tt, held_same Resting (past ++ []) m.outside.outer later refl refl (subst (λ (l : List Entry). Held Resting l m.outside.outer) (sym (append-nil past)) held))
 
 in_tick : (past : List Entry) (m : Machine) (event : OuterEvent) → IsGoing event → InTick past m
-    → EachAfter MayLack past (entries m (Outside_does event)) × InTick (past ++ entries m (Outside_does event)) (happens m (Outside_does event))
+    → EachAfter MayTell past (entries m (Outside_does event)) × InTick (past ++ entries m (Outside_does event)) (happens m (Outside_does event))
 unfolding happens entries
 in_tick past m event going known = going_keeps true m.outside event going past known
 
@@ -322,7 +411,7 @@ decoder past m held = (tt, subst (λ (l : List Entry). Held Resting l m.outside.
 
 chip_takes : (past : List Entry) (m : Machine) (rest : Rest) (ways : List (Item × Option Route)) → May m (Outside_does (Chip_takes (length m.outside.outer.to_chip.bytes) rest ways))
     → Held Resting past m.outside.outer
-    → EachAfter MayLack past (entries m (Outside_does (Chip_takes (length m.outside.outer.to_chip.bytes) rest ways)))
+    → EachAfter MayTell past (entries m (Outside_does (Chip_takes (length m.outside.outer.to_chip.bytes) rest ways)))
     × HasMoved true (past ++ entries m (Outside_does (Chip_takes (length m.outside.outer.to_chip.bytes) rest ways))) (happens m (Outside_does (Chip_takes (length m.outside.outer.to_chip.bytes) rest ways)))
 unfolding happens entries May MayOutside
 chip_takes past m rest ways may held = takes_keep m.outside rest ways may.1.moves past (at_most (awaits_number m.outside.outer) past m.outside.outer held)
@@ -342,40 +431,35 @@ stays_still false past m still known = known
 -- ---- phases
 
 abbrev Next : Phase → List Entry → Machine → Event → Type 0
-Next next past m event = EachAfter MayLack past (entries m event) × KnowPipes next (past ++ entries m event) (happens m event)
-
--- the event is this one, and the phase after it
-event_then : (next to : Phase) (event is : Event) (past : List Entry) (m : Machine) → event ≡ is → next ≡ to → Next to past m is → Next next past m event
-event_then next to event is past m event_is next_is keeps =
-    subst (λ (e : Event). Next next past m e) (sym event_is) (subst (λ (q : Phase). Next q past m is) (sym next_is) keeps)
+Next = Steps MayTell KnowPipes
 
 event_keeps : (here next : Phase) (past : List Entry) (m : Machine) (event : Event) → Goes here m event next → May m event → KnowPipes here past m → Next next past m event
-event_keeps (Said_line line) next past m event (event_is, next_is) may known = event_then next (Begun line) event (Outside_does Begins_line) past m event_is next_is (begins_line line past m known)
-event_keeps (Doing line (first ∷ left)) next past m event (event_is, next_is) may known = event_then next (Doing line left) event first past m event_is next_is (does line first left past m known)
-event_keeps (To_tick (suc ticks)) next past m event (event_is, next_is) may known = event_then next (Ticked ticks) event (Outside_does Begins_tick) past m event_is next_is (begins_tick ticks past m known)
+event_keeps (Said_line line) next past m event (event_is, next_is) may known = event_then MayTell KnowPipes next (Begun line) event (Outside_does Begins_line) past m event_is next_is (begins_line line past m known)
+event_keeps (Doing line (first ∷ left)) next past m event (event_is, next_is) may known = event_then MayTell KnowPipes next (Doing line left) event first past m event_is next_is (does line first left past m known)
+event_keeps (To_tick (suc ticks)) next past m event (event_is, next_is) may known = event_then MayTell KnowPipes next (Ticked ticks) event (Outside_does Begins_tick) past m event_is next_is (begins_tick ticks past m known)
 event_keeps (Arriving (suc frames) ticks) next past m event (drawn, route, event_is, next_is) may known =
-    event_then next (Arriving frames ticks) event (Outside_does (Arrives drawn route)) past m event_is next_is (in_tick past m (Arrives drawn route) tt known)
+    event_then MayTell KnowPipes next (Arriving frames ticks) event (Outside_does (Arrives drawn route)) past m event_is next_is (in_tick past m (Arrives drawn route) tt known)
 event_keeps (Giving (suc results) ticks) next past m event (route, event_is, next_is) may known =
-    event_then next (Giving results ticks) event (Outside_does (Gives route)) past m event_is next_is (in_tick past m (Gives route) tt known)
+    event_then MayTell KnowPipes next (Giving results ticks) event (Outside_does (Gives route)) past m event_is next_is (in_tick past m (Gives route) tt known)
 event_keeps (Ticking_devices place (suc count) ticks) next past m event (drawn, route, event_is, next_is) may known =
-    event_then next (Ticking_devices (place + 1) count ticks) event (Outside_does (Device_ticks place drawn route)) past m event_is next_is (in_tick past m (Device_ticks place drawn route) tt known)
+    event_then MayTell KnowPipes next (Ticking_devices (place + 1) count ticks) event (Outside_does (Device_ticks place drawn route)) past m event_is next_is (in_tick past m (Device_ticks place drawn route) tt known)
 event_keeps (Ticking_chip ticks) next past m event (event_is, next_is) may known =
     let got = in_tick past m Chip_ticks tt known in
-    event_then next (Ticking_decoder ticks) event (Outside_does Chip_ticks) past m event_is next_is (got.0, of_tick _ _ _ got.1)
+    event_then MayTell KnowPipes next (Ticking_decoder ticks) event (Outside_does Chip_ticks) past m event_is next_is (got.0, of_tick _ _ _ got.1)
 event_keeps (Ticking_decoder ticks) next past m event (event_is, next_is) may known =
     let got = decoder past m known in
-    event_then next (Ticking_host (tick_events m.host.state) ticks) event Decoder_ticks past m event_is next_is (got.0, (got.1, tick_nothing m.host.state))
+    event_then MayTell KnowPipes next (Ticking_host (tick_events m.host.state) ticks) event Decoder_ticks past m event_is next_is (got.0, (got.1, tick_nothing m.host.state))
 event_keeps (Ticking_host (first ∷ events) ticks) next past m event (event_is, next_is) may known =
     let got = host_goes m first known.1.0 past known.0 in
-    event_then next (Ticking_host events ticks) event (Host_does first) past m event_is next_is (got.0, (got.1, known.1.1))
+    event_then MayTell KnowPipes next (Ticking_host events ticks) event (Host_does first) past m event_is next_is (got.0, (got.1, known.1.1))
 event_keeps (Sleeping passes ticks) next past m event (node, wants, event_is, next_is) may known =
-    event_then next (Sleeping passes ticks) event _ past m event_is next_is (host_goes m _ (no_more_nothing m.host.state node) past known)
+    event_then MayTell KnowPipes next (Sleeping passes ticks) event _ past m event_is next_is (host_goes m _ (no_more_nothing m.host.state node) past known)
 event_keeps (Submitting passes ticks) next past m event (asked, is, event_is, next_is) may known =
-    event_then next (Submitting passes ticks) event (Host_does asked) past m event_is next_is (host_goes m asked (next_nothing m.host.state asked is) past known)
+    event_then MayTell KnowPipes next (Submitting passes ticks) event (Host_does asked) past m event_is next_is (host_goes m asked (next_nothing m.host.state asked is) past known)
 event_keeps (Moving passes ticks) next past m event (rest, ways, event_is, next_is) may known =
-    event_then next (Moved true passes ticks) event _ past m event_is next_is (chip_takes past m rest ways (subst (May m) event_is may) known)
+    event_then MayTell KnowPipes next (Moved true passes ticks) event _ past m event_is next_is (chip_takes past m rest ways (subst (May m) event_is may) known)
 event_keeps (Moved has_moved passes ticks) next past m event (rest, items, done, event_is, next_is) may known =
-    event_then next (Sleeping passes ticks) event _ past m event_is next_is (host_takes_all has_moved past m rest items done known)
+    event_then MayTell KnowPipes next (Sleeping passes ticks) event _ past m event_is next_is (host_takes_all has_moved past m rest items done known)
 event_keeps here next past m event goes may known = absurd goes
 
 to : (next phase : Phase) (past : List Entry) (m : Machine) → next ≡ phase → KnowPipes phase past m → KnowPipes next past m
@@ -400,10 +484,20 @@ turn_keeps (Moving passes ticks) next past m (still, next_is) known = to next (M
 turn_keeps (Moved has_moved passes ticks) next past m (still, next_is) known = to next (Sleeping _ ticks) past m next_is (stays_still has_moved past m still known)
 turn_keeps here next past m turns known = absurd turns
 
-pub pipe_walk : Walk MayLack KnowPipes
+pub pipe_walk : Walk MayTell KnowPipes
 pipe_walk = record { said = said; event = event_keeps; turn = turn_keeps }
 
 pub pipes_first : (m : Machine) → m.outside.outer ≡ first_outer → KnowPipes Between [] m
 unfolding first_outer
 pipes_first m is =
     held_empty Resting resting_empty [] m.outside.outer (ap (λ (o : OuterState). o.to_chip.bytes) is) (ap (λ (o : OuterState). o.to_host.bytes) is)
+
+-- ---- each of both
+
+pub tells_lack : (past : List Entry) (e : Entry) → MayTell past e → MayLack past e
+tells_lack past (entry.Overrun side) tells = tells
+tells_lack past e tells = tt
+
+pub tells_clear : (past : List Entry) (e : Entry) → MayTell past e → MayClear past e
+tells_clear past (entry.Cleared side count) tells = tells
+tells_clear past e tells = tt

@@ -5,8 +5,8 @@ use Rattle.zw_text.specs.declared.line.Line.{Line}
 use Rattle.zw_text.specs.declared.line.Line.TheVariants as lines
 use Rattle.zw_text.specs.declared.entry.Entry.{Entry}
 use Rattle.zw_text.specs.declared.entry.Entry.TheVariants as entry
-use Rattle.zw_text.specs.Transcript.{line_of, lines_run, line_after, line_last}
-use Rattle.zw_text.proofs.Views.{shown-append, folded-append}
+use Rattle.zw_text.specs.Transcript.{line_of, lines_run, line_last}
+use Rattle.zw_text.proofs.Views.{shown-append}
 use Rattle.law_transcript.specs.Lists.{EachAfter}
 use Rattle.law_transcript.specs.Restarts.{ticks_of, ticks_asked}
 use Rattle.law_wire.specs.Asked.{lines_before}
@@ -23,11 +23,12 @@ use Rattle.proof_walk.specs.Time.{BeginsNoTick, KnowTime}
 use Rattle.proof_walk.proofs.Linking.{of_link}
 use Rattle.proof_walk.proofs.Machines.{machine_keeps}
 use Rattle.proof_walk.proofs.ByLine.{effect_covered}
+use Rattle.proof_walk.proofs.Stepping.{Steps, event_then}
 use Rattle.proof_walk.proofs.Untimed.{IsUntimed, AreUntimed, untimed_line, same_lines, untimed_law}
 use Rattle.proof_walk.proofs.Ending.{EndsUntimed, event_ends}
 use Rattle.proof_walk.proofs.Clock.{no_ticks_asked}
 use Rattle.proof_line.specs.Times.{TieNumbers, GoesWithin, KnownNumbers, KnowNumbers}
-use Rattle.proof_line.proofs.Standing.{last_only, but_last}
+use Rattle.proof_line.proofs.Standing.{last_only, but_last, line_then}
 
 -- ---- the last entry
 
@@ -50,9 +51,6 @@ ends_told past e (next ∷ told) ends = ap tells_tick (sym (append_assoc past (e
 still_told : (past told : List Entry) → EndsUntimed told → tells_tick past ≡ false → tells_tick (past ++ told) ≡ false
 still_told past [] ends none = ap tells_tick (append-nil past) ∙ none
 still_told past (e ∷ told) ends none = ends_told past e told ends
-
-line_then : (past : List Entry) (e : Entry) → line_last (past ++ e ∷ []) ≡ line_of e
-line_then past e = folded-append line_after [] past (e ∷ [])
 
 -- ---- entries that are neither lines nor numbers
 
@@ -165,27 +163,22 @@ begins_tick ticks past m time known =
 -- ---- phases
 
 abbrev Keeps : Phase → List Entry → Machine → Event → Type 0
-Keeps next past m event = EachAfter MayBeTold past (entries m event) × KnowNumbers next (past ++ entries m event) (happens m event)
-
--- the event is this one, and the phase after it
-event_then : (next to : Phase) (event is : Event) (past : List Entry) (m : Machine) → event ≡ is → next ≡ to → Keeps to past m is → Keeps next past m event
-event_then next to event is past m event_is next_is keeps =
-    subst (λ (e : Event). Keeps next past m e) (sym event_is) (subst (λ (q : Phase). Keeps q past m is) (sym next_is) keeps)
+Keeps = Steps MayBeTold KnowNumbers
 
 -- one within a line or a tick
 stays : (next to : Phase) (event is : Event) (past : List Entry) (m : Machine) → event ≡ is → next ≡ to → CoversOuter GoesWithin is → May m event → KnownNumbers 0 past m
     → ((later : List Entry) (n : Machine) → KnownNumbers 0 later n → KnowNumbers to later n) → Keeps next past m event
 stays next to event is past m event_is next_is within may known there =
     let got = kept past m is within (subst (May m) event_is may) known in
-    event_then next to event is past m event_is next_is (got.0, there (past ++ entries m is) (happens m is) got.1)
+    event_then MayBeTold KnowNumbers next to event is past m event_is next_is (got.0, there (past ++ entries m is) (happens m is) got.1)
 
 event_keeps : (here next : Phase) (past : List Entry) (m : Machine) (event : Event) → Goes here m event next → May m event → KnowTime here past m → KnowNumbers here past m → Keeps next past m event
 event_keeps (Said_line line) next past m event (event_is, next_is) may time known =
-    event_then next (Begun line) event (Outside_does Begins_line) past m event_is next_is (begins_line line past m known)
+    event_then MayBeTold KnowNumbers next (Begun line) event (Outside_does Begins_line) past m event_is next_is (begins_line line past m known)
 event_keeps (Doing line (first ∷ left)) next past m event (event_is, next_is) may time known =
     stays next (Doing line left) event first past m event_is next_is known.1.0 may known.0 (λ p n k. (k, known.1.1))
 event_keeps (To_tick (suc ticks)) next past m event (event_is, next_is) may time known =
-    event_then next (Ticked ticks) event (Outside_does Begins_tick) past m event_is next_is (begins_tick ticks past m time known)
+    event_then MayBeTold KnowNumbers next (Ticked ticks) event (Outside_does Begins_tick) past m event_is next_is (begins_tick ticks past m time known)
 event_keeps (Arriving (suc frames) ticks) next past m event (drawn, route, event_is, next_is) may time known = stays next (Arriving frames ticks) event _ past m event_is next_is tt may known (λ p n k. k)
 event_keeps (Giving (suc results) ticks) next past m event (route, event_is, next_is) may time known = stays next (Giving results ticks) event _ past m event_is next_is tt may known (λ p n k. k)
 event_keeps (Ticking_devices place (suc count) ticks) next past m event (drawn, route, event_is, next_is) may time known =

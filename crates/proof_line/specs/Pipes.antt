@@ -1,17 +1,20 @@
 -- What is known of the pipes at each phase of a line (this project's own rule): neither holds more bytes than the transcript so far says it may; so a unit is overrun only where it
 -- may have no room.
-use Rattle.std.specs.Prelude.{◌≡◌, ◌≤◌, ◌⊎◌, ℕ, ◌+◌, Bool, true, false, List, [], ◌∷◌, ◌++◌, length, ⊤}
-use Rattle.std.specs.List.{list_any, AllByRecursion}
+use Rattle.std.specs.Prelude.{◌≡◌, ◌≤◌, ◌<◌, ◌⊎◌, ℕ, ◌+◌, Bool, true, false, List, [], ◌∷◌, ◌++◌, length, ⊤}
+use Rattle.std.specs.List.{flat_map, list_any, AllByRecursion}
+use Rattle.zw_words.specs.declared.side.Side.{Side}
 use Rattle.zw_words.specs.declared.side.Side.TheVariants.{Host, Chip}
 use Rattle.zw_text.specs.declared.line.Line.{Line}
 use Rattle.zw_text.specs.declared.line.Line.TheVariants as lines
 use Rattle.zw_text.specs.declared.entry.Entry.{Entry}
 use Rattle.zw_text.specs.declared.entry.Refusal.{Refusal}
-use Rattle.zw_text.specs.declared.entry.Entry.TheVariants.{Said, Overrun}
-use Rattle.zw_text.specs.Transcript.{line_of, line_last}
+use Rattle.zw_text.specs.declared.entry.Entry.TheVariants.{Said, Overrun, Cleared}
+use Rattle.zw_text.specs.Transcript.{shown, line_of, line_last}
 use Rattle.law_transcript.specs.Lists.{EachAfter}
 use Rattle.law_transcript.specs.Restarts.{is_restart}
-use Rattle.law_wire.specs.Pipes.{Pipe, empty_pipe, pipe_from, sum_of, unit_last, may_lack}
+use Rattle.law_wire.specs.Clearing.{clears, clear_at}
+use Rattle.law_wire.specs.Serial.{ended}
+use Rattle.law_wire.specs.Pipes.{Pipe, empty_pipe, pipe_from, sum_of, bytes_perhaps, unit_last, may_lack}
 use Rattle.host_model.specs.State.{HostState}
 use Rattle.host_model.specs.Events.{HostEvent, Hears}
 use Rattle.outside_model.specs.State.{OuterState, is_stalled}
@@ -22,7 +25,7 @@ use Rattle.proof_walk.specs.Outside.{awaits_number}
 use Rattle.proof_walk.specs.Phases.{Phase, Said_line, Begun, Doing, Ticked, Arriving, Giving, Ticking_devices, Ticking_chip, Ticking_host, Moved}
 use Rattle.proof_walk.specs.ByLine.{KnownOf, OfEffect}
 
--- ---- the law
+-- ---- the laws
 
 -- a unit is overrun only where it may have no room
 abbrev pub MayLack : List Entry → Entry → Type 0
@@ -31,6 +34,39 @@ MayLack past entry = ⊤
 
 abbrev pub OverrunsOnlyWhenFull : List Entry → Type 0
 OverrunsOnlyWhenFull transcript = EachAfter MayLack [] transcript
+
+-- between the words of a `restart` and what it lost of a side stands at most what it lost of the host
+abbrev pub IsAheadOf : Side → List Entry → Type 0
+IsAheadOf Host told = told ≡ []
+IsAheadOf Chip told = (told ≡ []) ⊎ ((count : ℕ) × (told ≡ Cleared Host count ∷ []))
+
+-- so many bytes are lost at a `restart`: some, and no more than the pipe may hold by what stands before it
+pub record IsCleared (past : List Entry) (side : Side) (count : ℕ) : Type 0 where
+  pub before : List Entry
+  pub words : List ℕ
+  pub told : List Entry
+  pub is : past ≡ before ++ Said words ∷ told
+  pub restarts : line_of (Said words) ≡ lines.Restart ∷ []
+  pub ahead : IsAheadOf side told
+  pub some : 0 < count
+  pub few : count ≤ bytes_perhaps side before
+
+abbrev pub MayClear : List Entry → Entry → Type 0
+MayClear past (Cleared side count) = IsCleared past side count
+MayClear past entry = ⊤
+
+abbrev pub ClearsAtRestarts : List Entry → Type 0
+ClearsAtRestarts transcript = EachAfter MayClear [] transcript
+
+-- what stands directly after restarts that were not refused is all that is told of lost bytes, as `ClearsLine` has it
+abbrev pub ClearsNowhereElse : Bool → List Entry → Type 0
+ClearsNowhereElse whole transcript = flat_map (λ one. one.entries) (clears (ended whole transcript)) ≡ shown clear_at transcript
+
+-- both
+abbrev pub MayTell : List Entry → Entry → Type 0
+MayTell past (Overrun side) = MayLack past (Overrun side)
+MayTell past (Cleared side count) = IsCleared past side count
+MayTell past entry = ⊤
 
 -- ---- what is known
 
@@ -101,12 +137,28 @@ IsByHand (Stalls ticks) = Unit {0}
 IsByHand (Cuts size) = Unit {0}
 IsByHand _ = ⊥
 
+-- the host starts again, and what was on its way to the chip is lost; what is on its way to the host is not yet
+pub record HasCleared (past : List Entry) (o : OuterState) : Type 0 where
+  pub before : List Entry
+  pub words : List ℕ
+  pub told : List Entry
+  pub is : past ≡ before ++ Said words ∷ told
+  pub restarts : line_of (Said words) ≡ lines.Restart ∷ []
+  pub ahead : IsAheadOf Chip told
+  pub few : length o.to_host.bytes ≤ bytes_perhaps Chip before
+  pub none : o.to_chip.bytes ≡ []
+  pub quiet : o.in_tick ≡ false
+
+-- the words of a restart are entered, and it has begun
+abbrev pub Restarts_next : KnownOf
+Restarts_next past m = JustSaid lines.Restart past m.outside.outer × (m.outside.outer.in_tick ≡ false)
+
 -- of a restart these events are to come: it is refused, or the host starts again and both ways are cleared, one after the other
 abbrev pub LeftRestart : List Event → KnownOf
 LeftRestart left past m =
-    ((refusal : Refusal) × (left ≡ Refuses lines.Restart refusal ∷ []) × JustSaid lines.Restart past m.outside.outer × (awaits_number m.outside.outer ≡ false))
-    ⊎ (((state : HostState) × (left ≡ restart_events state)) ⊎ ((left ≡ Outside_does (Clears_pipe Host) ∷ Outside_does (Clears_pipe Chip) ∷ [])
-    ⊎ (((left ≡ Outside_does (Clears_pipe Chip) ∷ []) × (m.outside.outer.to_chip.bytes ≡ [])) ⊎ ((left ≡ []) × Held Resting past m.outside.outer))))
+    ((refusal : Refusal) × (left ≡ Refuses lines.Restart refusal ∷ []) × Restarts_next past m) ⊎ (((state : HostState) × (left ≡ restart_events state) × Restarts_next past m)
+    ⊎ (((left ≡ Outside_does (Clears_pipe Host) ∷ Outside_does (Clears_pipe Chip) ∷ []) × Restarts_next past m)
+    ⊎ (((left ≡ Outside_does (Clears_pipe Chip) ∷ []) × HasCleared past m.outside.outer) ⊎ ((left ≡ []) × Held Resting past m.outside.outer))))
 
 abbrev pub LeftPipes : Line → List Event → KnownOf
 LeftPipes lines.Restart left past m = LeftRestart left past m
@@ -128,7 +180,7 @@ HearsNothing event = Unit {0}
 
 abbrev pub KnowPipes : Phase → KnownOf
 KnowPipes (Said_line line) past m = JustSaid line past m.outside.outer
-KnowPipes (Begun line) past m = JustSaid line past m.outside.outer × (awaits_number m.outside.outer ≡ false)
+KnowPipes (Begun line) past m = JustSaid line past m.outside.outer × (m.outside.outer.in_tick ≡ false)
 KnowPipes (Doing line left) past m = LeftPipes line left past m
 KnowPipes (Ticked ticks) past m = InTick past m
 KnowPipes (Arriving frames ticks) past m = InTick past m

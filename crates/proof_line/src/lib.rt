@@ -1,9 +1,10 @@
 //! The laws of the serial line that every run keeps, whatever is lost, delayed or repeated, and wherever an allocation failure cuts it short.
 //!
 //! Each is the contract of a function with an empty body, over lines that are said one after another (`world_lines`) and the events of the machine that each
-//! line is; the laws themselves are those of `law_wire`, and each is proved on the walk of `proof_walk`. `marks_go_on`,
+//! line is; the laws themselves are those of `law_wire`, or parts of them (`Pipes`), and each is proved on the walk of `proof_walk`. `marks_go_on`,
 //! `collisions_go_on`, `pipes_go_on` and `numbers_go_on` tie the machine to the transcript at each phase of a line; from them follow `lines_mark_units`,
-//! `lines_collide_when_asked`, `lines_overrun_only_when_full` and `ticks_are_told`.
+//! `lines_collide_when_asked`, `lines_overrun_only_when_full`, `lines_clear_at_restarts`, `lines_clear_nowhere_else` and
+//! `ticks_are_told`.
 //! The definitions are in `specs/`: `Collisions`, `Marks`, `Pipes` and `Times` (what is known of each at each phase of a line).
 #![tactic(auto)]
 
@@ -13,6 +14,6 @@ mod ties;
 mod times;
 
 pub use marks::{lines_collide_when_asked, lines_mark_units};
-pub use pipes::lines_overrun_only_when_full;
+pub use pipes::{lines_clear_at_restarts, lines_clear_nowhere_else, lines_overrun_only_when_full};
 pub use ties::{collisions_go_on, marks_go_on, numbers_go_on, pipes_go_on};
 pub use times::ticks_are_told;

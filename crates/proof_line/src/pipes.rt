@@ -1,12 +1,12 @@
-//! Units without room.
+//! Units without room, and what restarts lose.
 
-ghost use Rattle.std.specs.Prelude.{Option, List, ℕ};
+ghost use Rattle.std.specs.Prelude.{Bool, Option, List, ℕ};
 ghost use Rattle.s0_crypto.specs.declared.key_pair.Keys.{Keys};
 ghost use Rattle.device_sim.specs.State.{State};
 ghost use Rattle.world_model.specs.State.{first_machine};
 ghost use Rattle.world_lines.specs.Spoken.{Spoken, transcript_of};
 ghost use Rattle.world_lines.specs.Done.{AreDone};
-ghost use Rattle.proof_line.specs.Pipes.{OverrunsOnlyWhenFull};
+ghost use Rattle.proof_line.specs.Pipes.{ClearsAtRestarts, ClearsNowhereElse, OverrunsOnlyWhenFull};
 
 use crate::pipes_go_on;
 
@@ -18,4 +18,23 @@ pub fn lines_overrun_only_when_full()
         OverrunsOnlyWhenFull (transcript_of (first_machine keys records devices) lines) }
 {
     pipes_go_on();
+}
+
+/// Over any such lines, bytes are cleared only directly after the words of a `restart`, at most once for each side and the host's first, and no more than the
+/// pipe of the side may hold by what stands before them.
+pub fn lines_clear_at_restarts()
+    ensures { (keys : Keys) (records : Option (List (List ℕ))) (devices : List State) (lines : List Spoken) →
+        AreDone (first_machine keys records devices) lines →
+        ClearsAtRestarts (transcript_of (first_machine keys records devices) lines) }
+{
+    pipes_go_on();
+}
+
+/// And so what stands directly after restarts that were not refused is all that is told of lost bytes.
+pub fn lines_clear_nowhere_else()
+    ensures { (keys : Keys) (records : Option (List (List ℕ))) (devices : List State) (lines : List Spoken) →
+        AreDone (first_machine keys records devices) lines →
+        (whole : Bool) → ClearsNowhereElse whole (transcript_of (first_machine keys records devices) lines) }
+{
+    lines_clear_at_restarts();
 }

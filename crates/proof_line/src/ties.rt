@@ -11,7 +11,7 @@ ghost use Rattle.proof_walk.specs.Time.{KnowTime};
 ghost use Rattle.proof_walk.specs.Walk.{Walk, WalkOver};
 ghost use Rattle.proof_line.specs.Collisions.{KnowCollisions};
 ghost use Rattle.proof_line.specs.Marks.{KnowMarks, MayMark};
-ghost use Rattle.proof_line.specs.Pipes.{KnowPipes, MayLack};
+ghost use Rattle.proof_line.specs.Pipes.{KnowPipes, MayTell};
 ghost use Rattle.proof_line.specs.Times.{KnowNumbers};
 
 /// At each phase of a line, the collisions that lines have asked for are the CAN that the chip wrote, and those that its link is still to make.
@@ -34,9 +34,9 @@ pub fn numbers_go_on()
         KnowNumbers Between [] (first_machine keys records devices) }
 {}
 
-/// At each phase of a line, neither pipe holds more bytes than the transcript says that it may: data frames until they are answered, and answers until the other
-/// side has gone on.
+/// At each phase of a line, neither pipe holds more bytes than the transcript says that it may: data frames until they are answered, and answers until the
+/// other side has gone on.
 pub fn pipes_go_on()
-    ensures walk { Walk MayLack KnowPipes }
+    ensures walk { Walk MayTell KnowPipes }
     ensures first { (keys : Keys) (records : Option (List (List ℕ))) (devices : List State) → KnowPipes Between [] (first_machine keys records devices) }
 {}

@@ -61,7 +61,7 @@ AllHome net joined events = AllByRecursion (ComesHome net joined) events
 abbrev pub NotHome : List Bool → Type 0
 NotHome joined = is_marked joined 1 ≡ false
 
-apart_of : (joined : List Bool) (node : ℕ) → NotHome joined → is_marked joined node ≡ true → node ≡ 1 → ⊥
+pub apart_of : (joined : List Bool) (node : ℕ) → NotHome joined → is_marked joined node ≡ true → node ≡ 1 → ⊥
 apart_of joined node home is same = let both : false ≡ true = sym home ∙ (ap (λ (n : ℕ). is_marked joined n) (sym same) ∙ is) in cc
 
 module _ (net : Network) (marks : List Bool) where

@@ -45,11 +45,11 @@ use Rattle.proof_routes.proofs.Walks.{may_leave}
 -- ---- what goes on the air
 
 -- a frame goes over a route of that table
-abbrev GoesOver : Network → ChipOut → Type 0
+abbrev pub GoesOver : Network → ChipOut → Type 0
 GoesOver table (OnAir to route payload) = is_way table to route
 GoesOver table _ = Unit {0}
 
-abbrev AllGoOver : Network → List ChipOut → Type 0
+abbrev pub AllGoOver : Network → List ChipOut → Type 0
 AllGoOver table puts = AllByRecursion (GoesOver table) puts
 
 all_go : (table : Network) (puts : List ChipOut) → AllGoOver table (filter is_start puts) → AllGoOver table puts
@@ -87,6 +87,18 @@ module _ (s : ChipState) where
   frame_goes : (found : Option FrameParts) (way : Option Route) → JudgedWay found s way → AllGoOver s.table (judged_starts found s way)
   frame_goes None way has = tt
   frame_goes (Some f) way has = request_goes (asked f) way has
+
+-- of a frame of the host
+pub judged_over : StartsSo → (s : ChipState) (item : Item) (way : Option Route) → May s (Judged item way) → AllGoOver s.table (outs s (Judged item way))
+judged_over rules s item way may =
+    all_go s.table (outs s (Judged item way)) (subst (AllGoOver s.table) (sym (rules s (Judged item way))) (frame_goes (heard s item) (passed (collides s) item) way may))
+
+-- what the chip is given begins no SendData
+pub given_none : (s : ChipState) (event : ChipEvent) → IsGiven event → starts s event ≡ []
+given_none s (Heard n payload) given = refl
+given_none s (Done status) given = refl
+given_none s (Informed n profile) given = refl
+given_none s event given = absurd given
 
 -- ---- what an event leaves
 
@@ -238,21 +250,12 @@ module _ (devices : List State) (pending : Pending) where
 
     module _ (rules : StartsSo) where
       pub judges : (o : OuterState) (item : Item) (way : Option Route) → May o.chip.state (Judged item way) → Puts there o (chip_does o (Judged item way))
-      judges o item way may =
-          does_goes o (Judged item way) (judged_keeps o.chip.state item way)
-          (all_go o.chip.state.table (outs o.chip.state (Judged item way))
-          (subst (AllGoOver o.chip.state.table) (sym (rules o.chip.state (Judged item way))) (frame_goes (heard o.chip.state item) (passed (collides o.chip.state) item) way may)))
+      judges o item way may = does_goes o (Judged item way) (judged_keeps o.chip.state item way) (judged_over rules o.chip.state item way may)
 
       -- an event at which no SendData begins
       pub does_quietly : (o : OuterState) (event : ChipEvent) → starts o.chip.state event ≡ [] → KeepsNets o.chip.state (after o.chip.state event) → Puts there o (chip_does o event)
       does_quietly o event none keeps =
           does_goes o event keeps (all_go o.chip.state.table (outs o.chip.state event) (subst (AllGoOver o.chip.state.table) (sym (rules o.chip.state event ∙ none)) tt))
-
-      given_none : (s : ChipState) (event : ChipEvent) → IsGiven event → starts s event ≡ []
-      given_none s (Heard n payload) given = refl
-      given_none s (Done status) given = refl
-      given_none s (Informed n profile) given = refl
-      given_none s event given = absurd given
 
       pub results : Gives (Puts there)
       results = record {

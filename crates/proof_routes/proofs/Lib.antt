@@ -12,5 +12,11 @@ mod Setting
 mod Remembering
 mod Listeners
 mod First
+mod Passages
+mod Sending
+mod Entering
+mod Mute
+mod Arriving
 mod Saying
 mod Walking
+mod Forgetting

@@ -44,20 +44,20 @@ use Rattle.proof_routes.proofs.Walks.{may_come}
 
 -- ---- which entries show nothing
 
-note_quiet : (e : Entry) → IsNote e → IsQuiet e
+pub note_quiet : (e : Entry) → IsNote e → IsQuiet e
 note_quiet (entry.Said words) note = absurd note
 note_quiet (entry.Forget a b) note = absurd note
 note_quiet (entry.Air frame sender receiver repeaters payload) note = absurd note
 note_quiet e note = tt
 
-cleared_quiet : (side : Side) (count : ℕ) → AreQuiet (cleared_entries side count)
+pub cleared_quiet : (side : Side) (count : ℕ) → AreQuiet (cleared_entries side count)
 cleared_quiet side count = all-weaker IsCleared IsQuiet one (cleared_entries side count) (all_cleared side count)
   where
     one : (e : Entry) → IsCleared e → IsQuiet e
     one (entry.Cleared side count) cleared = tt
     one e cleared = absurd cleared
 
-shown_quiet : (node : ℕ) (device : Option State) → AreQuiet (shown_entries node device)
+pub shown_quiet : (node : ℕ) (device : Option State) → AreQuiet (shown_entries node device)
 shown_quiet node device = all-weaker IsShown IsQuiet one (shown_entries node device) (all_shown node device)
   where
     one : (e : Entry) → IsShown e → IsQuiet e
@@ -65,7 +65,7 @@ shown_quiet node device = all-weaker IsShown IsQuiet one (shown_entries node dev
     one (entry.Refused refusal) shown = tt
     one e shown = absurd shown
 
-change_quiet : (e : Entry) → IsChange e → IsQuiet e
+pub change_quiet : (e : Entry) → IsChange e → IsQuiet e
 change_quiet (entry.Dev node by setting) change = tt
 change_quiet e change = absurd change
 
@@ -76,7 +76,7 @@ not_joined true none = absurd (none refl)
 not_joined false none = refl
 
 module _ (devices : List State) where
-  home_of : (past : List Entry) (w : Outside) → Tie devices past w → NotHome w.outer.air.joined
+  pub home_of : (past : List Entry) (w : Outside) → Tie devices past w → NotHome w.outer.air.joined
   home_of past w tie = tie.joined 1 ∙ not_joined (joined_in past 1) (λ is. let low = (tie.within 1 is).0 in absurd (omega (arith, low)))
 
   -- ---- what chip and line do

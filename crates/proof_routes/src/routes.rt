@@ -1,14 +1,16 @@
-//! The way of each frame.
+//! The way of each frame, and what the chip forgets of it.
 
 ghost use Rattle.std.specs.Prelude.{Some, List, ℕ};
 ghost use Rattle.s0_crypto.specs.declared.key_pair.Keys.{Keys};
 ghost use Rattle.device_sim.specs.State.{State};
 ghost use Rattle.law_wire.specs.Routes.{GoesByRoute};
+ghost use Rattle.law_wire.specs.Arriving.{ForgetsDeadHops};
 ghost use Rattle.world_model.specs.State.{first_machine};
 ghost use Rattle.world_lines.specs.Spoken.{Spoken, transcript_of};
 ghost use Rattle.world_lines.specs.Done.{AreDone};
 
 use crate::networks_go_on;
+use chip_sim::rules_of_events;
 
 /// Over any lines from the first on, the last of which an allocation failure may have cut short, each frame goes over the route of its moment: one of the
 /// controller over that of the chip's table, one of a device over that of the air, from its other end; and only nodes that are joined send to the controller.
@@ -18,4 +20,14 @@ pub fn frames_go_by_route()
         GoesByRoute devices (transcript_of (first_machine keys (Some texts) devices) lines) }
 {
     networks_go_on();
+}
+
+/// Over the same, directly after a frame of the controller that nobody heard the chip forgets the first hop of its way that is no link, where its table
+/// has it; and it forgets no other.
+pub fn dead_hops_are_forgotten()
+    ensures { (keys : Keys) (texts : List (List ℕ)) (devices : List State) (lines : List Spoken) → AreDone (first_machine keys (Some texts) devices) lines →
+        ForgetsDeadHops (transcript_of (first_machine keys (Some texts) devices) lines) }
+{
+    networks_go_on();
+    rules_of_events();
 }

@@ -32,8 +32,7 @@ use Rattle.zw_text.specs.declared.entry.Refusal.{Refusal}
 use Rattle.zw_text.specs.declared.entry.Refusal.TheVariants as refusals
 use Rattle.zw_text.specs.declared.entry.Entry.{Entry}
 use Rattle.zw_text.specs.declared.entry.Entry.TheVariants as entry
-use Rattle.zw_text.specs.Transcript.{line_of, line_last, line_after}
-use Rattle.zw_text.proofs.Views.{folded-append}
+use Rattle.zw_text.specs.Transcript.{line_of, line_last}
 use Rattle.law_transcript.specs.Lists.{EachAfter, listed}
 use Rattle.law_transcript.specs.Answers.{AsksNothing, Follows, IsAnswer, IsNoAnswer, IsNoBadRecord, IsRefusal, LetsIn, MayAnswer, MayStandAfter, ReadsItsRecords, answer_to, answered_by, before_last, refusal_entry, refusals_to, refused_without}
 use Rattle.law_transcript.specs.Nodes.{device_of, is_joined, listing_of}
@@ -49,18 +48,18 @@ use Rattle.host_requests.specs.declared.task.Task.TheVariants as task
 use Rattle.outside_model.specs.State.{Outcome}
 use Rattle.outside_model.specs.Devices.{MayAct, MayActByHand, acts, acts_at, acts_by_hand, shown_entries}
 use Rattle.outside_model.specs.Results.{device_at}
-use Rattle.outside_model.specs.Events.{OuterEvent, Begins_line, Repeats, Wakes_device, Sets_device, Shows, Joins, Discovers, Links, Loses, Loses_acks, Marks_loss, Marks_change, Clears_pipe, Collides_next, Stalls, Cuts, MayRepeat, cleared_entries, refusal_entries, repeats, stamp, way_of, outcome, devices_after, May as MayOutside}
+use Rattle.outside_model.specs.Events.{OuterEvent, Repeats, Wakes_device, Sets_device, Shows, Joins, Discovers, Links, Loses, Loses_acks, Marks_loss, Marks_change, Clears_pipe, Collides_next, Stalls, Cuts, MayRepeat, cleared_entries, refusal_entries, repeats, stamp, way_of, outcome, devices_after, May as MayOutside}
 use Rattle.proof_device.proofs.Entered.{IsMark, IsCleared, all_cleared}
 use Rattle.world_model.specs.State.{Machine}
 use Rattle.world_model.specs.Events.{Event, Outside_does, Host_does, Refuses, Shows_values, Restarts, shown_values, happens, entries, May}
 use Rattle.world_model.specs.Refusals.{HasBad, IsRefusedOrUnkept, IsUncancelled, IsUnopened, shown}
 use Rattle.world_model.specs.Lines.{Asks, IsDone, IsEffect}
 use Rattle.proof_walk.specs.Outside.{IsOfAir, IsHostNote}
-use Rattle.proof_walk.specs.ByLine.{TiedByLine}
+use Rattle.proof_walk.specs.ByLine.{Asked, begun, Opened, TiedByLine}
 use Rattle.proof_walk.specs.Walk.{TiedWalk}
 use Rattle.proof_walk.proofs.Alone.{KindsAre, acts_are, common_are, stamped_are, steps_are}
-use Rattle.proof_walk.proofs.ByLine.{tied_walk_of}
-use Rattle.proof_transcript.specs.Answering.{IsFree, AreFree, IsFreeEvent, AnswerTies, IsAnswered, Answered, Asked, begun, Opened, AwaitsAnswer, KnowsAnswers, IsAnswerOf, may_be_taken_back}
+use Rattle.proof_walk.proofs.ByLine.{last_is, said_last, opens, tied_walk_of}
+use Rattle.proof_transcript.specs.Answering.{IsFree, AreFree, IsFreeEvent, AnswerTies, IsAnswered, Answered, AwaitsAnswer, KnowsAnswers, IsAnswerOf, may_be_taken_back}
 
 -- ---- lists
 
@@ -73,9 +72,6 @@ before_is : (before : List Entry) (e : Entry) → before_last (before ++ e ∷ [
 before_is before e =
     let count : length (before ++ e ∷ []) - 1 ≡ length before = omega (arith, (length_at_push before e).1) in
     ap (λ (n : ℕ). take n (before ++ e ∷ [])) count ∙ all_but_last before e
-
-last_is : (before : List Entry) (e : Entry) → line_last (before ++ e ∷ []) ≡ line_of e
-last_is before e = folded-append line_after [] before (e ∷ [])
 
 -- ---- kinds of entries
 
@@ -281,9 +277,9 @@ module _ (devices : List State) where
   abbrev Goal : Line → List Entry → Machine → Event → List Event → Type 0
   Goal line past m first left = EachAfter Stands past (entries m first) × AwaitsAnswer devices line left (past ++ entries m first) (happens m first)
 
-  module _ (line : Line) (past : List Entry) (first here : Machine) (asked : Asked devices line past first) where
+  module _ (line : Line) (past : List Entry) (first here : Machine) (asked : Asked (AnswerTies devices) line past first) where
     last_line : line_last past ≡ line ∷ []
-    last_line = ap (λ (l : List Entry). line_last l) asked.is ∙ (last_is asked.before (entry.Said asked.words) ∙ asked.read)
+    last_line = said_last (AnswerTies devices) line past first asked
 
     before_line : before_last past ≡ asked.before
     before_line = ap (λ (l : List Entry). before_last l) asked.is ∙ before_is asked.before (entry.Said asked.words)
@@ -331,7 +327,7 @@ module _ (devices : List State) where
   unfolding happens entries outcome devices_after
   refuses_enter first line refusal = refl
 
-  module _ (line : Line) (past : List Entry) (first : Machine) (asked : Asked devices line past first) where
+  module _ (line : Line) (past : List Entry) (first : Machine) (asked : Asked (AnswerTies devices) line past first) where
     abbrev opened : Machine
     opened = begun first
 
@@ -359,7 +355,7 @@ module _ (devices : List State) where
       let one : due ≡ entry.Refused refusal ∷ [] = is ∙ ap (λ (l : List Entry). (l ++ []) ++ []) (shown_entry refused refusal so) in
       subst (λ (l : List Entry). IsRefusal line l (entry.Refused refusal)) (sym one) refl
 
-  module _ (line : Line) (past : List Entry) (first here : Machine) (asked : Asked devices line past first)
+  module _ (line : Line) (past : List Entry) (first here : Machine) (asked : Asked (AnswerTies devices) line past first)
       (enters : (refusal : Refusal) → entries here (Refuses line refusal) ≡ entry.Refused refusal ∷ [])
       (to_follows : (e : Entry) → IsRefusal line (refusals_to devices asked.before line) e → Follows (listing_of devices) (refusals_to devices) asked.before (line ∷ []) e)
       (to_answered : refusals_to devices asked.before line ≡ [] → IsAnswered (refusals_to devices) asked.before (line ∷ []))
@@ -432,7 +428,7 @@ module _ (devices : List State) where
   unfolding happens May
   may_refuse_order first order refusal may = may
 
-  order_goal : (past : List Entry) (first : Machine) (order : Order) (asked : Asked devices (lines.Command order) past first) (event : Event) (left : List Event) → May (begun first) event
+  order_goal : (past : List Entry) (first : Machine) (order : Order) (asked : Asked (AnswerTies devices) (lines.Command order) past first) (event : Event) (left : List Event) → May (begun first) event
       → IsDone (lines.Command order) (Host_does (Accepts order (carriage_for first.host.state order)) ∷ []) (event ∷ left) → Goal (lines.Command order) past (begun first) event left
   order_goal past first order asked event left may (inl are) =
       let made : Event = Host_does (Accepts order (carriage_for first.host.state order)) in
@@ -475,7 +471,7 @@ module _ (devices : List State) where
   cancel_sound first command refusal (inl (not_waits, is)) = subst (λ (r : Refusal). IsNoBadRecord (entry.Refused r)) (sym is) tt
   cancel_sound first command refusal (inr (waits, is)) = keeper_sound refusal is
 
-  cancel_goal : (past : List Entry) (first : Machine) (command : ℕ) (asked : Asked devices (lines.Cancel command) past first) (event : Event) (left : List Event) → May (begun first) event
+  cancel_goal : (past : List Entry) (first : Machine) (command : ℕ) (asked : Asked (AnswerTies devices) (lines.Cancel command) past first) (event : Event) (left : List Event) → May (begun first) event
       → IsDone (lines.Cancel command) (Host_does (Cancels command) ∷ []) (event ∷ left) → Goal (lines.Cancel command) past (begun first) event left
   cancel_goal past first command asked event left may (inl are) =
       let waits = may_cancel first command (may_these (begun first) event (Host_does (Cancels command)) left [] are may) in
@@ -518,7 +514,7 @@ module _ (devices : List State) where
   join_refused node due refusal false is (inr (none, keeper)) =
       no_refusal (lines.Join node) due (entry.Refused refusal) is (subst (λ (r : Refusal). MayStandAfter (lines.Join node) (entry.Refused r)) (sym keeper) refl)
 
-  join_goal : (past : List Entry) (first : Machine) (node : ℕ) (asked : Asked devices (lines.Join node) past first) (event : Event) (left : List Event) → May (begun first) event
+  join_goal : (past : List Entry) (first : Machine) (node : ℕ) (asked : Asked (AnswerTies devices) (lines.Join node) past first) (event : Event) (left : List Event) → May (begun first) event
       → IsDone (lines.Join node) (Host_does (joins_host node) ∷ Outside_does (Joins node) ∷ []) (event ∷ left) → Goal (lines.Join node) past (begun first) event left
   join_goal past first node asked event left may (inl are) =
       let allowed = may_join first node (may_these (begun first) event (Host_does (joins_host node)) left (Outside_does (Joins node) ∷ []) are may) in
@@ -559,7 +555,7 @@ module _ (devices : List State) where
   restart_sound records refusal sound (inl keeper) = keeper_sound refusal keeper
   restart_sound records refusal sound (inr (at, bad, is)) = absurd (sound at bad)
 
-  restart_goal : (past : List Entry) (first : Machine) (asked : Asked devices lines.Restart past first) (event : Event) (left : List Event) → May (begun first) event
+  restart_goal : (past : List Entry) (first : Machine) (asked : Asked (AnswerTies devices) lines.Restart past first) (event : Event) (left : List Event) → May (begun first) event
       → IsEffect lines.Restart (begun first) (event ∷ left) → Goal lines.Restart past (begun first) event left
   restart_goal past first asked event left may (inl (state, are)) =
       let later : List Event = Outside_does (Clears_pipe by_host) ∷ Outside_does (Clears_pipe by_chip) ∷ [] in
@@ -598,7 +594,7 @@ module _ (devices : List State) where
   quiet_enters m Discovers quiet = refl
   quiet_enters m event quiet = absurd quiet
 
-  quiet_goal : (line : Line) (past : List Entry) (first : Machine) (asked : Asked devices line past first) (outer : OuterEvent) (event : Event) (left : List Event) → IsQuiet outer
+  quiet_goal : (line : Line) (past : List Entry) (first : Machine) (asked : Asked (AnswerTies devices) line past first) (outer : OuterEvent) (event : Event) (left : List Event) → IsQuiet outer
       → IsAnswered (refusals_to devices) asked.before (line ∷ []) → event ∷ left ≡ Outside_does outer ∷ [] → Goal line past (begun first) event left
   quiet_goal line past first asked outer event left quiet answered are =
       as_these line past (begun first) event (Outside_does outer) left [] are
@@ -608,7 +604,7 @@ module _ (devices : List State) where
   unfolding happens entries outcome devices_after
   values_enter first node = refl
 
-  values_goal : (past : List Entry) (first : Machine) (node : ℕ) (asked : Asked devices (lines.Store node) past first) (event : Event) (left : List Event) → event ∷ left ≡ Shows_values node ∷ []
+  values_goal : (past : List Entry) (first : Machine) (node : ℕ) (asked : Asked (AnswerTies devices) (lines.Store node) past first) (event : Event) (left : List Event) → event ∷ left ≡ Shows_values node ∷ []
       → Goal (lines.Store node) past (begun first) event left
   values_goal past first node asked event left are =
       as_these (lines.Store node) past (begun first) event (Shows_values node) left [] are
@@ -643,7 +639,7 @@ module _ (devices : List State) where
   unfolding happens May MayOutside outcome devices_after
   may_repeat first number drawn route refused is may = subst (λ (o : Option RepeatRefusal). MayRepeat (begun first).outside o (mesh.Repeats number drawn route)) is may.1
 
-  repeat_by : (past : List Entry) (first : Machine) (number : ℕ) (asked : Asked devices (lines.Repeat number) past first) (drawn : List ℕ) (route : Option Route) (refused : Option RepeatRefusal)
+  repeat_by : (past : List Entry) (first : Machine) (number : ℕ) (asked : Asked (AnswerTies devices) (lines.Repeat number) past first) (drawn : List ℕ) (route : Option Route) (refused : Option RepeatRefusal)
       → repeat_refusal first.outside.outer.air.frames number ≡ refused → May (begun first) (Outside_does (Repeats number drawn route))
       → Goal (lines.Repeat number) past (begun first) (Outside_does (Repeats number drawn route)) []
   repeat_by past first number asked drawn route None is may =
@@ -683,7 +679,7 @@ module _ (devices : List State) where
   settings_free node (setting ∷ settings) = (tt, settings_free node settings)
 
   -- the line is refused where the node has no device
-  module _ (line : Line) (past : List Entry) (first : Machine) (asked : Asked devices line past first) (node : ℕ) (done : DeviceEvent)
+  module _ (line : Line) (past : List Entry) (first : Machine) (asked : Asked (AnswerTies devices) line past first) (node : ℕ) (done : DeviceEvent)
       (due : refusals_to devices asked.before line ≡ refused_without (device_of node devices))
       (to_follows : (e : Entry) → IsRefusal line (refusals_to devices asked.before line) e → Follows (listing_of devices) (refusals_to devices) asked.before (line ∷ []) e)
       (to_answered : refusals_to devices asked.before line ≡ [] → IsAnswered (refusals_to devices) asked.before (line ∷ [])) where
@@ -773,7 +769,7 @@ module _ (devices : List State) where
   same_events : (event : Event) (left : List Event) (inner : List OuterEvent) (outer : OuterEvent) → inner ≡ outer ∷ [] → event ∷ left ≡ map Outside_does inner → event ∷ left ≡ Outside_does outer ∷ []
   same_events event left inner outer one are = are ∙ ap (λ (l : List OuterEvent). map Outside_does l) one
 
-  first_goal : (line : Line) (past : List Entry) (first : Machine) (asked : Asked devices line past first) (event : Event) (left : List Event) → May (begun first) event
+  first_goal : (line : Line) (past : List Entry) (first : Machine) (asked : Asked (AnswerTies devices) line past first) (event : Event) (left : List Event) → May (begun first) event
       → IsEffect line (begun first) (event ∷ left) → Goal line past (begun first) event left
   unfolding happens
   first_goal (lines.Command order) past first asked event left may is = order_goal past first order asked event left may is
@@ -863,7 +859,7 @@ module _ (devices : List State) where
   unfolding happens entries outcome devices_after
   made_asks first = refl
 
-  members_goal : (past : List Entry) (event : Event) (left : List Event) (first : Machine) (asked : Asked devices lines.Discover past first)
+  members_goal : (past : List Entry) (event : Event) (left : List Event) (first : Machine) (asked : Asked (AnswerTies devices) lines.Discover past first)
       → Asks (places_refusal first.host.state 1) lines.Discover (Queues task.Members) (event ∷ left) → Goal lines.Discover past (happens (begun first) (Outside_does Discovers)) event left
   members_goal past event left first asked asks =
       errand lines.Discover past first (happens (begun first) (Outside_does Discovers)) asked (made_refuses first) (λ e so. so) (λ so. so) (refl, refl)
@@ -878,7 +874,7 @@ module _ (devices : List State) where
   does line event left past m may (inr (inl waits)) =
       subst (λ (l : Line). Goal l past m event left) (sym waits.line_is)
       (subst (λ (n : Machine). Goal lines.Discover past n event left) (sym waits.is)
-      (members_goal past event left waits.first (subst (λ (l : Line). Asked devices l past waits.first) waits.line_is waits.asked) waits.asks))
+      (members_goal past event left waits.first (subst (λ (l : Line). Asked (AnswerTies devices) l past waits.first) waits.line_is waits.asked) waits.asks))
   does line event left past m may (inr (inr (answered, free))) =
       let got = all_stand past (entries m event) (happens m event) answered (free.0 m) in (got.0, inr (inr (got.1, free.1)))
 
@@ -888,30 +884,20 @@ module _ (devices : List State) where
   answered_in_line line past m (inr (inr (answered, free))) = answered
 
   said : (past : List Entry) (m : Machine) (words : List ℕ) (line : Line) → line_of (entry.Said words) ≡ line ∷ [] → AnswerTies devices past m → Answered devices past m
-      → Stands past (entry.Said words) × Asked devices line (past ++ entry.Said words ∷ []) m
+      → Stands past (entry.Said words) × Asked (AnswerTies devices) line (past ++ entry.Said words ∷ []) m
   said past m words line read ties answered = (
     (answered_stands (before_last past) (line_last past) (entry.Said words) tt answered, tt),
     record { before = past; words = words; is = refl; read = read; ties = ties },
   )
 
-  begins_none : (m : Machine) → entries m (Outside_does Begins_line) ≡ []
-  unfolding entries outcome
-  begins_none m = refl
-
-  begins : (line : Line) (past : List Entry) (m : Machine) → Asked devices line past m
-      → EachAfter Stands past (entries m (Outside_does Begins_line)) × Opened devices line (past ++ entries m (Outside_does Begins_line)) (happens m (Outside_does Begins_line))
-  begins line past m asked =
-      subst (λ (told : List Entry). EachAfter Stands past told × Opened devices line (past ++ told) (begun m)) (sym (begins_none m))
-      (tt, (m, record { before = asked.before; words = asked.words; is = append-nil past ∙ asked.is; read = asked.read; ties = asked.ties }, refl))
-
-  ticks : (count : ℕ) (past : List Entry) (m : Machine) → Opened devices (lines.Tick count) past m → Answered devices past m
+  ticks : (count : ℕ) (past : List Entry) (m : Machine) → Opened (AnswerTies devices) (lines.Tick count) past m → Answered devices past m
   ticks count past m (first, asked, m_is) = answered_here (lines.Tick count) past first m asked m refl
 
-  by_lines : TiedByLine (AnswerTies devices) Stands (Asked devices) (Opened devices) (AwaitsAnswer devices) (Answered devices)
+  by_lines : TiedByLine (AnswerTies devices) Stands (Asked (AnswerTies devices)) (Opened (AnswerTies devices)) (AwaitsAnswer devices) (Answered devices)
   by_lines = record {
     said = said;
     in_line = record {
-      begins = begins;
+      begins = opens Stands (AnswerTies devices);
       effect = λ line past m events is opened. inl (opened, is);
       does = does;
       done = answered_in_line;
@@ -921,7 +907,7 @@ module _ (devices : List State) where
   }
 
   pub answers_walk : TiedWalk (AnswerTies devices) Stands (KnowsAnswers devices)
-  answers_walk = tied_walk_of Stands (Asked devices) (Opened devices) (AwaitsAnswer devices) (Answered devices) (AnswerTies devices) by_lines
+  answers_walk = tied_walk_of Stands (Asked (AnswerTies devices)) (Opened (AnswerTies devices)) (AwaitsAnswer devices) (Answered devices) (AnswerTies devices) by_lines
 
   -- the two laws
   pub answers_of : (past told : List Entry) → EachAfter Stands past told → EachAfter (MayAnswer (listing_of devices) (refusals_to devices)) past told

@@ -10,10 +10,10 @@ use Rattle.zw_text.specs.Transcript.{joined, lines_run, outcome, sessions}
 use Rattle.law_transcript.specs.Commands.{settings_for}
 use Rattle.law_transcript.specs.Lists.{Has}
 use Rattle.law_transcript.specs.Restarts.{ticks_asked}
-use Rattle.law_transcript.specs.Table.{in_order, node_lines, table_of}
+use Rattle.law_transcript.specs.Table.{in_order, node_lines, table_of, value_lines}
 use Rattle.law_transcript.specs.Values.{confirmed, confirmed_by, is_success}
 use Rattle.law_transcript.proofs.Having.{all_has, all_of}
-use Rattle.value_store.specs.Values.{stored_of}
+use Rattle.value_store.specs.Values.{held_of, stored_of}
 use Rattle.host_keep.specs.Kept.{Taken, value_among, value_by}
 use Rattle.proof_host.specs.Facts.{AreShown}
 use Rattle.proof_host.specs.Laws.{HostLaws, numbers_for}
@@ -23,7 +23,7 @@ use Rattle.proof_host.proofs.Confirmed.{last_agree}
 use Rattle.world_model.specs.State.{Machine}
 use Rattle.world_model.specs.Events.{Event, happens}
 use Rattle.world_model.specs.Did.{happens_all, AllAlong}
-use Rattle.world_model.specs.Table.{node_entries, table_entries}
+use Rattle.world_model.specs.Table.{node_entries, table_entries, value_entry}
 use Rattle.proof_once.specs.ByTable.{IsTable}
 use Rattle.proof_once.specs.Tied.{settings_taken}
 use Rattle.world_lines.specs.Spoken.{Spoken, after, after_all, entries_of, transcript_of}
@@ -78,11 +78,15 @@ module _ (listing : ℕ → List ℕ) (past : List Entry) (m : Machine) (told : 
       ∙ sym (last_agree (given_by m.host.state.commands (λ k. outcome k past) p) (confirmed_by listing past node p) (sessions node past)
       (all_of (λ k. confirmed_by listing past node p k ≡ given_by m.host.state.commands (λ j. outcome j past) p k) (sessions node past) (λ k has. sym (gives_same node p k has))))
 
+  -- the values of a node
+  pub values_so : (node : ℕ) → map (value_entry node) (held_of m.host.state.store node) ≡ value_lines listing past node
+  values_so node = values_are listing past node m.host.state.store (confirmed_is node) (told.heard node)
+
   -- the lines of a node
   node_is : (node : ℕ) → node_entries m node ≡ node_lines listing past m.outside.devices node
   node_is node =
       ap₂ (λ (a : List ℕ) (b : List Entry). TableNode node a ∷ b) (tables.sessions_are node)
-      (ap₂ (λ (a b : List Entry). a ++ b) (values_are listing past node m.host.state.store (confirmed_is node) (told.heard node)) (devices_are node m.outside.devices))
+      (ap₂ (λ (a b : List Entry). a ++ b) (values_so node) (devices_are node m.outside.devices))
 
   pub table_is : table_entries m ≡ table_of listing (ticks_asked (lines_run past)) past m.outside.devices
   table_is =

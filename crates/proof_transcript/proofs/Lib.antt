@@ -47,3 +47,6 @@ mod StoredPlaces
 mod KeptProperties
 mod PlacesKept
 mod AnswerFacts
+mod Showing
+mod ShownDevices
+mod SaidNext

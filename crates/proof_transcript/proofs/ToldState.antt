@@ -61,7 +61,7 @@ module _ (past : List Entry) (m : Machine) (words : List ℕ) (line : Line) (rea
       let now : new ≡ ticks_asked (lines_run past ++ line ∷ []) = omega (arith, is, before, asked, ticks) in
       now ∙ ap ticks_asked (sym lines)
 
-  stays : (refusals : Bool) (count : ℕ) (events : List Event) → Goes refusals count m events → ticks_of line ≡ count → (join_of line ≡ []) ⊎ (begins_refused (entries_all m events) ≡ true)
+  pub stays : (refusals : Bool) (count : ℕ) (events : List Event) → Goes refusals count m events → ticks_of line ≡ count → (join_of line ≡ []) ⊎ (begins_refused (entries_all m events) ≡ true)
       → is_restart (line ∷ []) && not (begins_refused (entries_all m events)) ≡ false → IsTold (past ++ Said words ∷ entries_all m events) (happens_all m events)
   stays refusals count events goes ticks joins again =
       let es = entries_all m events in
@@ -83,15 +83,15 @@ rest_of : (line : Line) → IsOther line → (m : Machine) (events : List Event)
 rest_of (Tick count) other m events is = absurd other
 rest_of line other m events is = is
 
-asks_no_tick : (line : Line) → IsOther line → ticks_of line ≡ 0
+pub asks_no_tick : (line : Line) → IsOther line → ticks_of line ≡ 0
 asks_no_tick (Tick count) other = absurd other
 asks_no_tick line other = refl
 
-joins_none : (line : Line) → IsOther line → join_of line ≡ []
+pub joins_none : (line : Line) → IsOther line → join_of line ≡ []
 joins_none (Join node) other = absurd other
 joins_none line other = refl
 
-starts_none : (line : Line) → IsOther line → is_restart (line ∷ []) ≡ false
+pub starts_none : (line : Line) → IsOther line → is_restart (line ∷ []) ≡ false
 starts_none Restart other = absurd other
 starts_none line other = refl
 

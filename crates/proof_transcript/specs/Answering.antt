@@ -1,5 +1,5 @@
 -- How lines are answered (this project's own): what is tied to the transcript where a line begins, and what is known at each phase of it.
-use Rattle.std.specs.Prelude.{◌≡◌, ◌⊎◌, ℕ, ◌==◌, ◌&&◌, Bool, true, false, List, [], ◌∷◌, ◌++◌, length, Contains}
+use Rattle.std.specs.Prelude.{◌≡◌, ◌⊎◌, ℕ, ◌==◌, ◌&&◌, Bool, true, false, List, [], ◌∷◌, length, Contains}
 use Rattle.std.specs.List.{AllByRecursion, list_any}
 use Rattle.zw_base.specs.declared.order.Order.{Order}
 use Rattle.air_frames.specs.Ages.{refusal_of as repeat_refusal}
@@ -10,7 +10,7 @@ use Rattle.zw_text.specs.declared.line.Line.{Line}
 use Rattle.zw_text.specs.declared.line.Line.TheVariants as lines
 use Rattle.zw_text.specs.declared.entry.Entry.{Entry}
 use Rattle.zw_text.specs.declared.entry.Entry.TheVariants.{Said, Accepted, Refused}
-use Rattle.zw_text.specs.Transcript.{accepted_numbers, line_of, line_last, outcome}
+use Rattle.zw_text.specs.Transcript.{accepted_numbers, line_last, outcome}
 use Rattle.law_transcript.specs.Answers.{IsNoBadRecord, MayAnswer, before_last, known_of, properties_with, refused_without, refusals_to}
 use Rattle.law_transcript.specs.Commands.{is_waiting}
 use Rattle.law_transcript.specs.Nodes.{device_of, listing_of}
@@ -21,13 +21,13 @@ use Rattle.host_requests.specs.declared.task.Task.TheVariants as task
 use Rattle.host_model.specs.Events.{Queues}
 use Rattle.host_model.specs.May.{known_of as known_of_host}
 use Rattle.host_model.specs.Asking.{places_refusal, refusal_for, Waits}
-use Rattle.outside_model.specs.Events.{Begins_line, Discovers}
+use Rattle.outside_model.specs.Events.{Discovers}
 use Rattle.outside_model.specs.Results.{device_at}
 use Rattle.world_model.specs.State.{Machine}
 use Rattle.world_model.specs.Events.{Event, Outside_does, happens, entries}
 use Rattle.world_model.specs.Refusals.{HasBad}
 use Rattle.world_model.specs.Lines.{Asks, IsEffect}
-use Rattle.proof_walk.specs.ByLine.{KnownOf, by_line}
+use Rattle.proof_walk.specs.ByLine.{KnownOf, by_line, Asked, begun, Opened}
 use Rattle.proof_walk.specs.Phases.{Phase}
 
 -- ---- entries
@@ -76,25 +76,10 @@ IsAnswered refusals before (line ∷ more) = refusals before line ≡ []
 abbrev pub Answered : List State → KnownOf
 Answered devices past m = IsAnswered (refusals_to devices) (before_last past) (line_last past)
 
--- the words of a line are the last entry, and what stands before them is tied to the machine
-pub record Asked (devices : List State) (line : Line) (past : List Entry) (m : Machine) : Type 0 where
-  pub before : List Entry
-  pub words : List ℕ
-  pub is : past ≡ before ++ Said words ∷ []
-  pub read : line_of (Said words) ≡ line ∷ []
-  pub ties : AnswerTies devices before m
-
--- the line has begun
-abbrev pub begun : Machine → Machine
-begun m = happens m (Outside_does Begins_line)
-
-abbrev pub Opened : List State → Line → KnownOf
-Opened devices line past m = (first : Machine) × Asked devices line past first × (m ≡ begun first)
-
 -- the chip's table was made anew, and the members are still to be asked for
 pub record AwaitsMembers (devices : List State) (line : Line) (left : List Event) (past : List Entry) (m : Machine) : Type 0 where
   pub first : Machine
-  pub asked : Asked devices line past first
+  pub asked : Asked (AnswerTies devices) line past first
   pub line_is : line ≡ lines.Discover
   pub is : m ≡ happens (begun first) (Outside_does Discovers)
   pub asks : Asks (places_refusal first.host.state 1) lines.Discover (Queues task.Members) left
@@ -102,11 +87,11 @@ pub record AwaitsMembers (devices : List State) (line : Line) (left : List Event
 -- its effect is to come; or it was answered, and what is left of it answers nothing
 abbrev pub AwaitsAnswer : List State → Line → List Event → KnownOf
 AwaitsAnswer devices line left past m =
-    (Opened devices line past m × IsEffect line m left) ⊎ (AwaitsMembers devices line left past m ⊎ (Answered devices past m × AllByRecursion IsFreeEvent left))
+    (Opened (AnswerTies devices) line past m × IsEffect line m left) ⊎ (AwaitsMembers devices line left past m ⊎ (Answered devices past m × AllByRecursion IsFreeEvent left))
 
 -- at each phase of a line
 abbrev pub KnowsAnswers : List State → Phase → List Entry → Machine → Type 0
-KnowsAnswers devices here past m = by_line (Asked devices) (Opened devices) (AwaitsAnswer devices) (Answered devices) here past m
+KnowsAnswers devices here past m = by_line (Asked (AnswerTies devices)) (Opened (AnswerTies devices)) (AwaitsAnswer devices) (Answered devices) here past m
 
 -- each entry is an answer exactly where it must be one, and refuses no restart for an invalid record
 abbrev pub IsAnswerOf : List State → List Entry → Entry → Type 0

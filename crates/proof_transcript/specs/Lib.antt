@@ -3,3 +3,4 @@ pub mod Lines
 pub mod Fares
 pub mod Records
 pub mod Answering
+pub mod Showing

@@ -21,8 +21,8 @@ use proof_spoken::{
 use proof_world::{lines_keep_and_ask_well, restarts_go_on, the_machine_keeps_facts};
 
 /// Over lines that are said one after another, over a keeper that tells its records and has none at first, each line has the one answer that the
-/// transcript before it demands, and no answer stands elsewhere. An allocation failure may have cut the last line short: then it may lack its answer. And no restart meets an
-/// invalid record.
+/// transcript before it demands, and no answer stands elsewhere. An allocation failure may have cut the last line short: then it may lack its answer.
+/// And no restart meets an invalid record.
 pub fn lines_are_answered()
     ensures part { (keys : Keys) (devices : List State) (lines : List Spoken) → AreDone (first_machine keys (Some []) devices) lines →
         AnswersLines false devices (transcript_of (first_machine keys (Some []) devices) lines) }

@@ -3,7 +3,7 @@
 //! This holds whatever is lost, delayed or repeated, whatever the host does, and whatever becomes of the devices. Each
 //! law is the contract of a function with an empty body, over lines that are said one after another (`proof_spoken`)
 //! and the events of the machine that each line is; the laws themselves are those of `law_transcript`. Of answers:
-//! `lines_are_answered` (`specs/Answering`). Of frames:
+//! `lines_are_answered` (`specs/Answering`); and what lines show, `lines_show_what_is_kept` (`specs/Showing`). Of frames:
 //! `lines_number_frames`, `ticks_decide_each_frame`, `lines_lose_marked_frames`. Of commands:
 //! `commands_are_taken_back_when_asked`, `values_are_stored_as_asked`, `sessions_begin_with_their_unit`. Of the table:
 //! `what_is_told` covers the clock, the joined nodes and the heard values (`specs/Told`), line by line, and
@@ -15,6 +15,7 @@ mod answers;
 mod commands;
 mod frames;
 mod records;
+mod shows;
 mod table;
 
 pub use answers::lines_are_answered;
@@ -23,4 +24,5 @@ pub use commands::{
 };
 pub use frames::{lines_lose_marked_frames, lines_number_frames, ticks_decide_each_frame};
 pub use records::records_are_what_is_shown;
+pub use shows::lines_show_what_is_kept;
 pub use table::{tables_are_what_is_shown, what_is_told};

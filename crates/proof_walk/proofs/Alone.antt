@@ -1,5 +1,5 @@
 -- What a law asks of each kind of entry by itself holds of the entries of each event that is no line's own.
-use Rattle.std.proofs.Common.{◌≡◌, ℕ, ◌+◌, ◌&&◌, not, Bool, true, false, if◌then◌else◌, inl, inr, ◌⊎◌, List, [], ◌∷◌, ◌++◌, sym, subst}
+use Rattle.std.proofs.Common.{◌≡◌, ℕ, ◌+◌, ◌&&◌, not, Bool, true, false, if◌then◌else◌, inl, inr, ◌⊎◌, List, [], ◌∷◌, ◌++◌, length, sym, subst}
 use Rattle.std.specs.Prelude.{Option}
 use Rattle.std.specs.List.{AllByRecursion}
 use Rattle.zw_base.proofs.Each.{all-append, all-weaker}
@@ -15,21 +15,25 @@ use Rattle.device_sim.specs.Event.{DeviceEvent}
 use Rattle.mesh_sim.specs.Steps.{AirStep, MayHappen}
 use Rattle.zw_text.specs.declared.entry.Entry.{Entry}
 use Rattle.zw_text.specs.declared.entry.Entry.TheVariants as entry
+use Rattle.zw_text.specs.declared.entry.Ended.TheVariants.{Cancelled}
+use Rattle.zw_text.specs.declared.entry.Refusal.{Refusal}
 use Rattle.law_transcript.specs.Lists.{EachAfter}
 use Rattle.chip_sim.specs.Events.{ChipEvent, after, outs}
 use Rattle.chip_sim.specs.declared.out.ChipOut.{ChipOut}
 use Rattle.chip_sim.specs.declared.out.ChipOut.TheVariants.{Write, OnAir, NoRoute, AskInfo, Full}
 use Rattle.proof_host.proofs.Lists.{each-anywhere}
+use Rattle.host_model.specs.State.{HostState}
+use Rattle.host_model.specs.Events.{HostEvent, Accepts, Cancels, Joins as joins_host, Queues, Queues_interview, Queues_probe}
 use Rattle.host_model.specs.Outs.{answers}
 use Rattle.outside_model.specs.State.{OuterState, Outside, outside, each, with_chip}
 use Rattle.outside_model.specs.Chip.{put_out, chip_does}
 use Rattle.outside_model.specs.Devices.{acts}
-use Rattle.outside_model.specs.Events.{OuterEvent, Begins_tick, Host_notes, Chip_takes, Arrives, Gives, Device_ticks, Chip_ticks, Repeats, Wakes_device, Sets_device, outcome, mesh_of, steps, stamp, ticked_entry}
+use Rattle.outside_model.specs.Events.{OuterEvent, Begins_tick, Host_writes, Host_takes as host_takes, Host_notes, Chip_takes, Arrives, Gives, Device_ticks, Chip_ticks, Repeats, Wakes_device, Sets_device, Shows, Joins, Discovers, Links, Loses, Loses_acks, Marks_loss, Marks_change, Clears_pipe, Collides_next, Stalls, Cuts, way_of, outcome, mesh_of, steps, stamp, ticked_entry}
 use Rattle.world_model.specs.State.{Machine}
 use Rattle.world_model.specs.Events.{Event, Outside_does, Host_does, Host_takes, Decoder_ticks, Refuses, Shows_values, Restarts, entries, May}
-use Rattle.proof_device.proofs.Entered.{IsMark, told_by_marks}
+use Rattle.proof_device.proofs.Entered.{IsMark, IsCleared, told_by_marks, all_cleared}
 use Rattle.proof_walk.specs.Outside.{Knowing, Moves, Link, IsSimple, IsHearing, IsOfAir, IsHostNote, CoversHost, CoversOuter, CoversRefusal, CoversAnswer}
-use Rattle.proof_walk.specs.ByLine.{IsOfTick, IsCommon}
+use Rattle.proof_walk.specs.ByLine.{IsOfTick, IsCommon, IsAsked, OfEffect, ShowsNothing}
 use Rattle.proof_walk.proofs.Linking.{of_link, acts_of_air}
 use Rattle.proof_walk.proofs.Stamping.{steps_come}
 use Rattle.proof_walk.proofs.Machines.{event_keeps}
@@ -42,6 +46,13 @@ pub record KindsAre (Is : Entry → Type 0) : Type 0 where
   pub full : Is entry.ChipFull
   pub time : (tick : ℕ) → Is (entry.Time tick)
   pub note : (told : Entry) → IsHostNote told → Is told
+
+-- each kind that answers a line, and of bytes that are cleared
+pub record AnswersAre (Is : Entry → Type 0) : Type 0 where
+  pub accepted : (command node : ℕ) → Is (entry.Accepted command node)
+  pub refused : (refusal : Refusal) → Is (entry.Refused refusal)
+  pub taken_back : (command : ℕ) → Is (entry.Out command Cancelled)
+  pub cleared : (told : Entry) → IsCleared told → Is told
 
 -- what is asked by itself, as a law
 abbrev Alone : (Entry → Type 0) → List Entry → Entry → Type 0
@@ -71,9 +82,9 @@ module _ (Is : Entry → Type 0) (kinds : KindsAre Is) where
   abbrev Nothing_known : Knowing
   Nothing_known awaits past w = Unit {0}
 
-  -- an event of a tick, or one whose entries are so
+  -- an event that is not simple, or one whose entries are so
   abbrev Fine : OuterEvent → Type 0
-  Fine event = IsOfTick event ⊎ ((w : Outside) → Are (outcome w event).entries)
+  Fine event = (IsSimple event → ⊥) ⊎ ((w : Outside) → Are (outcome w event).entries)
 
   moves : (w later : Outside) (told : List Entry) → Are told → Moves (Alone Is) Nothing_known w told Nothing_known later
   moves w later told are awaits past silent known = (all_alone Is past told are, tt)
@@ -101,7 +112,7 @@ module _ (Is : Entry → Type 0) (kinds : KindsAre Is) where
   -- ---- what is owed
 
   simple_are : (w : Outside) (event : OuterEvent) → IsSimple event → Fine event → Are (outcome w event).entries
-  simple_are w event simple (inl tick) = absurd (no_simple event simple tick)
+  simple_are w event simple (inl never) = absurd (never simple)
   simple_are w event simple (inr are) = are w
 
   law : Link (Alone Is) Nothing_known Fine
@@ -125,7 +136,7 @@ module _ (Is : Entry → Type 0) (kinds : KindsAre Is) where
   }
 
   covers : (event : Event) → IsCommon event → CoversOuter Fine event
-  covers (Outside_does event) common = inl common
+  covers (Outside_does event) common = inl (λ simple. no_simple event simple common)
   covers event common = tt
 
   refuses : (event : OuterEvent) → IsOfTick event → CoversRefusal Fine event
@@ -176,3 +187,65 @@ module _ (Is : Entry → Type 0) (kinds : KindsAre Is) where
   common_are m event common may =
       each_alone Is [] (entries m event)
       (event_keeps (Alone Is) (λ pending. Nothing_known) Fine (of_link (Alone Is) Nothing_known Fine law) host m event (covers event common) (answers_none event common) may [] (tt, number_is m.outside.outer)).0
+
+  -- ---- events of the effect of a line
+
+  module _ (answered : AnswersAre Is) where
+    refused_is : (refusal : Refusal) → Fine (Host_notes (entry.Refused refusal))
+    unfolding outcome
+    refused_is refusal = inr (λ w. (answered.refused refusal, tt))
+
+    -- outside
+    effect_covers : (event : OuterEvent) → ShowsNothing event → Fine event
+    unfolding outcome
+    effect_covers (Host_writes unit) none = inr (λ w. told_are by_host w.outer.to_chip unit)
+    effect_covers (host_takes count) none = inr (λ w. tt)
+    effect_covers (Host_notes note) none = absurd none
+    effect_covers (Shows node) none = absurd none
+    effect_covers (Joins node) none = inr (λ w. tt)
+    effect_covers Discovers none = inr (λ w. tt)
+    effect_covers (Links a b live) none = inr (λ w. tt)
+    effect_covers (Loses count) none = inr (λ w. tt)
+    effect_covers (Loses_acks count) none = inr (λ w. tt)
+    effect_covers (Marks_loss side) none = inr (λ w. tt)
+    effect_covers (Marks_change side garble) none = inr (λ w. tt)
+    effect_covers (Clears_pipe side) none = inr (λ w. all-weaker IsCleared Is answered.cleared _ (all_cleared side (length (way_of w.outer side).bytes)))
+    effect_covers Collides_next none = inr (λ w. tt)
+    effect_covers (Stalls ticks) none = inr (λ w. tt)
+    effect_covers (Cuts size) none = inr (λ w. tt)
+    effect_covers event none = inl (λ simple. simple)
+
+    effect_refuses : (event : OuterEvent) → CoversRefusal Fine event
+    effect_refuses (Repeats number drawn route) = refused_is
+    effect_refuses (Wakes_device node route) = refused_is
+    effect_refuses (Sets_device node value route) = refused_is
+    effect_refuses event = tt
+
+    -- of the host
+    effect_answers : (event : HostEvent) → IsAsked event → (h : HostState) → AllByRecursion (λ note. Fine (Host_notes note)) (answers h event)
+    unfolding outcome
+    effect_answers (Accepts order carriage) asked h = (inr (λ w. (answered.accepted _ _, tt)), tt)
+    effect_answers (Cancels command) asked h = (inr (λ w. (answered.taken_back command, tt)), tt)
+    effect_answers (joins_host node) asked h = tt
+    effect_answers (Queues task) asked h = tt
+    effect_answers (Queues_interview node) asked h = tt
+    effect_answers Queues_probe asked h = tt
+    effect_answers event asked h = absurd asked
+
+    outer_covers : (event : Event) → OfEffect ShowsNothing event → CoversOuter Fine event
+    outer_covers (Outside_does event) of_effect = effect_covers event of_effect
+    outer_covers event of_effect = tt
+
+    answer_covers : (event : Event) → OfEffect ShowsNothing event → CoversAnswer Fine event
+    answer_covers (Outside_does event) of_effect = effect_refuses event
+    answer_covers (Host_does event) of_effect = effect_answers event of_effect
+    answer_covers (Host_takes count rest items events) of_effect = tt
+    answer_covers Decoder_ticks of_effect = tt
+    answer_covers (Refuses line refusal) of_effect = refused_is refusal
+    answer_covers (Shows_values node) of_effect = absurd of_effect
+    answer_covers (Restarts state) of_effect = tt
+
+    pub effect_are : (m : Machine) (event : Event) → OfEffect ShowsNothing event → May m event → Are (entries m event)
+    effect_are m event of_effect may =
+        each_alone Is [] (entries m event)
+        (event_keeps (Alone Is) (λ pending. Nothing_known) Fine (of_link (Alone Is) Nothing_known Fine law) host m event (outer_covers event of_effect) (answer_covers event of_effect) may [] (tt, number_is m.outside.outer)).0

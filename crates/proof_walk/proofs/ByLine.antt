@@ -1,11 +1,14 @@
 -- A law that tells apart what a line has done, and nothing else in a line, is a walk; and which events the effect of a line has.
-use Rattle.std.proofs.Common.{◌≡◌, ℕ, zero, suc, ◌+◌, Bool, true, false, if◌then◌else◌, inl, inr, List, [], ◌∷◌, ◌++◌, length, map, refl, sym, ap, ◌∙◌, subst}
+use Rattle.std.proofs.Common.{◌≡◌, ℕ, zero, suc, ◌+◌, Bool, true, false, if◌then◌else◌, inl, inr, List, [], ◌∷◌, ◌++◌, length, map, refl, sym, ap, ◌∙◌, subst, append-nil}
 use Rattle.std.specs.Prelude.{Option, Some, None}
 use Rattle.std.specs.List.{AllByRecursion}
 use Rattle.zw_base.proofs.Each.{all-weaker}
 use Rattle.zw_text.specs.declared.line.Line.{Line}
 use Rattle.zw_text.specs.declared.line.Line.TheVariants as lines
 use Rattle.zw_text.specs.declared.entry.Entry.{Entry}
+use Rattle.zw_text.specs.declared.entry.Entry.TheVariants as entry
+use Rattle.zw_text.specs.Transcript.{line_of, line_last, line_after}
+use Rattle.zw_text.proofs.Views.{folded-append}
 use Rattle.law_transcript.specs.Lists.{EachAfter}
 use Rattle.host_orders.specs.declared.refused.Refused.{Refused}
 use Rattle.host_orders.specs.Refusals.{classes_of}
@@ -24,14 +27,15 @@ use Rattle.host_model.proofs.Silence.{Silent, tick_silent}
 use Rattle.host_model.specs.May.{known_of}
 use Rattle.host_model.specs.Asking.{carriage_for, places_refusal, interview_refusal}
 use Rattle.host_model.specs.Ticking.{tick_events}
-use Rattle.outside_model.specs.Events.{OuterEvent, Begins_line, Joins, Repeats, Wakes_device, Sets_device, Discovers}
+use Rattle.outside_model.specs.Events.{OuterEvent, Begins_line, Joins, Repeats, Wakes_device, Sets_device, Discovers, outcome}
 use Rattle.world_model.specs.State.{Machine}
 use Rattle.world_model.specs.Events.{Event, Outside_does, Host_does, Host_takes, Decoder_ticks, happens, entries, May}
 use Rattle.world_model.specs.Lines.{IsRefusal, IsDone, Asks as asks_line, IsEffect}
 use Rattle.proof_walk.specs.Phases.{Phase, Between, Said_line, Begun, Doing, To_tick, Ticked, Arriving, Giving, Ticking_devices, Ticking_chip, Ticking_decoder, Ticking_host, Sleeping, Submitting, Moving, Moved, Turns, Goes, passes_after}
 use Rattle.proof_walk.specs.Walk.{Walk, TiedWalk}
 use Rattle.proof_walk.specs.Outside.{CoversOuter}
-use Rattle.proof_walk.specs.ByLine.{KnownOf, by_line, IsOfTick, IsCommon, CoversLine, IsAsked, OfEffect, InLine, ByLine, TiedByLine}
+use Rattle.proof_walk.specs.ByLine.{KnownOf, by_line, IsOfTick, IsCommon, CoversLine, IsAsked, OfEffect, Asked, begun, Opened, InLine, ByLine, TiedByLine}
+use Rattle.proof_walk.proofs.Stepping.{Steps, event_then}
 
 -- ---- which events the effect of a line has
 
@@ -86,7 +90,7 @@ module _ (Covers : OuterEvent → Type 0) where
   effect_asks lines.Probe m events covers is = asks_covered (places_refusal m.host.state 3) lines.Probe Queues_probe events tt is
   effect_asks (lines.Local node value) m events covers (inner, (route, one), are) = one_covered (Sets_device node value route) inner events (covers route) one are
   effect_asks (lines.Show node) m events covers is = these events _ is (covers, tt)
-  effect_asks (lines.Store node) m events covers is = these events _ is (tt, tt)
+  effect_asks (lines.Store node) m events covers is = these events _ is (covers, tt)
   effect_asks lines.Restart m events covers (inl (state, is)) = these events _ is (tt, (covers.0, (covers.1, tt)))
   effect_asks lines.Restart m events covers (inr refused) = refusal_covered lines.Restart events refused
 
@@ -104,6 +108,24 @@ module _ (Covers : OuterEvent → Type 0) where
   common_covered of_tick (Host_takes count rest items events) common = tt
   common_covered of_tick Decoder_ticks common = tt
   common_covered of_tick event common = absurd common
+
+-- ---- where a line begins
+
+pub last_is : (before : List Entry) (e : Entry) → line_last (before ++ e ∷ []) ≡ line_of e
+last_is before e = folded-append line_after [] before (e ∷ [])
+
+pub said_last : (Tied : KnownOf) (line : Line) (past : List Entry) (m : Machine) (asked : Asked Tied line past m) → line_last past ≡ line ∷ []
+said_last Tied line past m asked = ap (λ (l : List Entry). line_last l) asked.is ∙ (last_is asked.before (entry.Said asked.words) ∙ asked.read)
+
+begins_none : (m : Machine) → entries m (Outside_does Begins_line) ≡ []
+unfolding entries outcome
+begins_none m = refl
+
+pub opens : (Asks : List Entry → Entry → Type 0) (Tied : KnownOf) (line : Line) (past : List Entry) (m : Machine) → Asked Tied line past m
+    → EachAfter Asks past (entries m (Outside_does Begins_line)) × Opened Tied line (past ++ entries m (Outside_does Begins_line)) (begun m)
+opens Asks Tied line past m asked =
+    subst (λ (told : List Entry). EachAfter Asks past told × Opened Tied line (past ++ told) (begun m)) (sym (begins_none m))
+    (tt, (m, record { before = asked.before; words = asked.words; is = append-nil past ∙ asked.is; read = asked.read; ties = asked.ties }, refl))
 
 -- ---- the walk
 
@@ -143,25 +165,20 @@ module _ (Asks : List Entry → Entry → Type 0) (Words Opened : Line → Known
 
   -- what is entered at an event, and known after it
   abbrev Keeps : Phase → List Entry → Machine → Event → Type 0
-  Keeps next past m event = EachAfter Asks past (entries m event) × Know next (past ++ entries m event) (happens m event)
-
-  -- the event and the phase after it are these
-  event_then : (next to : Phase) (event is : Event) (past : List Entry) (m : Machine) → event ≡ is → next ≡ to → Keeps to past m is → Keeps next past m event
-  event_then next to event is past m event_is next_is keeps =
-      subst (λ (e : Event). Keeps next past m e) (sym event_is) (subst (λ (q : Phase). Keeps q past m is) (sym next_is) keeps)
+  Keeps = Steps Asks Know
 
   -- an event that is no line's own
   common : (next to : Phase) (event is : Event) (past : List Entry) (m : Machine) → event ≡ is → next ≡ to → IsCommon is → May m event → Else past m
       → ((later : List Entry) (n : Machine) → Else later n → Know to later n) → Keeps next past m event
   common next to event is past m event_is next_is of_none may known there =
       let got = law.common past m is of_none (subst (May m) event_is may) known in
-      event_then next to event is past m event_is next_is (got.0, there (past ++ entries m is) (happens m is) got.1)
+      event_then Asks Know next to event is past m event_is next_is (got.0, there (past ++ entries m is) (happens m is) got.1)
 
   event_keeps : (here next : Phase) (past : List Entry) (m : Machine) (event : Event) → Goes here m event next → May m event → Know here past m → Keeps next past m event
   event_keeps (Said_line line) next past m event (event_is, next_is) may known =
-      event_then next (Begun line) event (Outside_does Begins_line) past m event_is next_is (law.begins line past m known)
+      event_then Asks Know next (Begun line) event (Outside_does Begins_line) past m event_is next_is (law.begins line past m known)
   event_keeps (Doing line (first ∷ left)) next past m event (event_is, next_is) may known =
-      event_then next (Doing line left) event first past m event_is next_is (law.does line first left past m (subst (May m) event_is may) known)
+      event_then Asks Know next (Doing line left) event first past m event_is next_is (law.does line first left past m (subst (May m) event_is may) known)
   event_keeps (To_tick (suc ticks)) next past m event (event_is, next_is) may known = common next (Ticked ticks) event _ past m event_is next_is tt may known (λ p n k. k)
   event_keeps (Arriving (suc frames) ticks) next past m event (drawn, route, event_is, next_is) may known =
       common next (Arriving frames ticks) event _ past m event_is next_is tt may known (λ p n k. k)

@@ -23,6 +23,7 @@ use Rattle.proof_walk.specs.Time.{MayCount, TieTime, BeginsNoTick, KnownTime, Kn
 use Rattle.proof_walk.proofs.Linking.{of_link}
 use Rattle.proof_walk.proofs.Machines.{machine_keeps}
 use Rattle.proof_walk.proofs.ByLine.{effect_covered}
+use Rattle.proof_walk.proofs.Stepping.{Steps, event_then}
 use Rattle.proof_walk.proofs.Untimed.{IsUntimed, AreUntimed, same_lines, same_time, hosts_no_tick, untimed_law}
 
 -- ---- numbers
@@ -123,25 +124,20 @@ begins_tick ticks past m known =
 -- ---- phases
 
 abbrev Keeps : Phase → List Entry → Machine → Event → Type 0
-Keeps next past m event = EachAfter MayCount past (entries m event) × KnowTime next (past ++ entries m event) (happens m event)
-
--- the event is this one, and the phase after it
-event_then : (next to : Phase) (event is : Event) (past : List Entry) (m : Machine) → event ≡ is → next ≡ to → Keeps to past m is → Keeps next past m event
-event_then next to event is past m event_is next_is keeps =
-    subst (λ (e : Event). Keeps next past m e) (sym event_is) (subst (λ (q : Phase). Keeps q past m is) (sym next_is) keeps)
+Keeps = Steps MayCount KnowTime
 
 -- one that begins no tick
 stays : (extra : ℕ) (next to : Phase) (event is : Event) (past : List Entry) (m : Machine) → event ≡ is → next ≡ to → CoversOuter BeginsNoTick is → May m event → KnownTime extra past m
     → ((later : List Entry) (n : Machine) → KnownTime extra later n → KnowTime to later n) → Keeps next past m event
 stays extra next to event is past m event_is next_is covers may known there =
     let got = kept extra past m is covers (subst (May m) event_is may) known in
-    event_then next to event is past m event_is next_is (got.0, there (past ++ entries m is) (happens m is) got.1)
+    event_then MayCount KnowTime next to event is past m event_is next_is (got.0, there (past ++ entries m is) (happens m is) got.1)
 
 event_keeps : (here next : Phase) (past : List Entry) (m : Machine) (event : Event) → Goes here m event next → May m event → KnowTime here past m → Keeps next past m event
 event_keeps (Said_line line) next past m event (event_is, next_is) may known = stays (ticks_of line) next (Begun line) event _ past m event_is next_is tt may known.0 (λ p n k. (k, tt))
 event_keeps (Doing line (first ∷ left)) next past m event (event_is, next_is) may known = stays 0 next (Doing line left) event first past m event_is next_is known.1.0 may known.0 (λ p n k. (k, known.1.1))
 event_keeps (To_tick (suc ticks)) next past m event (event_is, next_is) may known =
-    let got = begins_tick ticks past m known.0 in event_then next (Ticked ticks) event (Outside_does Begins_tick) past m event_is next_is (got.0, (got.1, tt))
+    let got = begins_tick ticks past m known.0 in event_then MayCount KnowTime next (Ticked ticks) event (Outside_does Begins_tick) past m event_is next_is (got.0, (got.1, tt))
 event_keeps (Arriving (suc frames) ticks) next past m event (drawn, route, event_is, next_is) may known = stays ticks next (Arriving frames ticks) event _ past m event_is next_is tt may known.0 (λ p n k. (k, tt))
 event_keeps (Giving (suc results) ticks) next past m event (route, event_is, next_is) may known = stays ticks next (Giving results ticks) event _ past m event_is next_is tt may known.0 (λ p n k. (k, tt))
 event_keeps (Ticking_devices place (suc count) ticks) next past m event (drawn, route, event_is, next_is) may known =

@@ -8,6 +8,7 @@ pub mod Linking
 pub mod HostNotes
 pub mod Stamping
 pub mod Machines
+pub mod Stepping
 pub mod ByLine
 pub mod Alone
 pub mod Untimed

@@ -10,9 +10,9 @@ use Rattle.zw_text.specs.Transcript.{line_of}
 use Rattle.law_transcript.specs.Lists.{EachAfter}
 use Rattle.host_model.specs.Events.{HostEvent, Accepts, Cancels, Joins as joins_host, Queues, Queues_interview, Queues_probe}
 use Rattle.host_model.proofs.Silence.{Silent}
-use Rattle.outside_model.specs.Events.{OuterEvent, Begins_line, Begins_tick, Chip_takes, Arrives, Gives, Device_ticks, Chip_ticks, Repeats, Wakes_device, Sets_device, Shows, Joins, Discovers, Links, Loses, Loses_acks, Marks_loss, Marks_change, Clears_pipe, Collides_next, Stalls, Cuts}
+use Rattle.outside_model.specs.Events.{OuterEvent, Begins_line, Begins_tick, Chip_takes, Arrives, Gives, Device_ticks, Chip_ticks, Repeats, Wakes_device, Sets_device, Shows, Joins, Discovers, Links, Loses, Loses_acks, Marks_loss, Marks_change, Clears_pipe, Collides_next, Stalls, Cuts, Host_notes}
 use Rattle.world_model.specs.State.{Machine}
-use Rattle.world_model.specs.Events.{Event, Outside_does, Host_does, Host_takes, Decoder_ticks, happens, entries, May}
+use Rattle.world_model.specs.Events.{Event, Outside_does, Host_does, Host_takes, Decoder_ticks, Shows_values, happens, entries, May}
 use Rattle.world_model.specs.Lines.{IsEffect}
 use Rattle.proof_walk.specs.Phases.{Phase, Said_line, Begun, Doing, Ticking_host}
 
@@ -54,7 +54,7 @@ IsCommon (Host_takes count rest items events) = Unit {0}
 IsCommon Decoder_ticks = Unit {0}
 IsCommon _ = ⊥
 
--- what a line does outside by itself is covered
+-- what a line does outside by itself is covered; a line that shows the values of a node counts as one that shows its device
 abbrev pub CoversLine : (OuterEvent → Type 0) → Line → Type 0
 CoversLine Covers (lines.Cut size) = Covers (Cuts size)
 CoversLine Covers (lines.Stall ticks) = Covers (Stalls ticks)
@@ -71,6 +71,7 @@ CoversLine Covers (lines.Unlink first second) = Covers (Links first second false
 CoversLine Covers lines.Discover = Covers Discovers
 CoversLine Covers (lines.Local node value) = (route : Option Route) → Covers (Sets_device node value route)
 CoversLine Covers (lines.Show node) = Covers (Shows node)
+CoversLine Covers (lines.Store node) = Covers (Shows node)
 CoversLine Covers lines.Restart = Covers (Clears_pipe side.Host) × Covers (Clears_pipe side.Chip)
 CoversLine Covers line = Unit {0}
 
@@ -84,13 +85,37 @@ IsAsked (Queues_interview node) = Unit {0}
 IsAsked Queues_probe = Unit {0}
 IsAsked _ = ⊥
 
--- an event of the effect of a line: the host does what it is asked for, and what happens outside is covered
+-- an event of the effect of a line: the host does what it is asked for, and what happens outside is covered, or that a node is shown
 abbrev pub OfEffect : (OuterEvent → Type 0) → Event → Type 0
 OfEffect Covers (Outside_does event) = Covers event
 OfEffect Covers (Host_does event) = IsAsked event
 OfEffect Covers (Host_takes count rest items events) = ⊥
 OfEffect Covers Decoder_ticks = ⊥
+OfEffect Covers (Shows_values node) = Covers (Shows node)
 OfEffect Covers event = Unit {0}
+
+-- it shows neither a device nor stored values
+abbrev pub ShowsNothing : OuterEvent → Type 0
+ShowsNothing (Shows node) = ⊥
+ShowsNothing (Host_notes note) = ⊥
+ShowsNothing _ = Unit {0}
+
+-- ---- where a line begins
+
+-- its words are the last entry, and what stands before them is tied to the machine
+pub record Asked (Tied : KnownOf) (line : Line) (past : List Entry) (m : Machine) : Type 0 where
+  pub before : List Entry
+  pub words : List ℕ
+  pub is : past ≡ before ++ Said words ∷ []
+  pub read : line_of (Said words) ≡ line ∷ []
+  pub ties : Tied before m
+
+-- it has begun
+abbrev pub begun : Machine → Machine
+begun m = happens m (Outside_does Begins_line)
+
+abbrev pub Opened : KnownOf → Line → KnownOf
+Opened Tied line past m = (first : Machine) × Asked Tied line past first × (m ≡ begun first)
 
 -- ---- what a law owes
 

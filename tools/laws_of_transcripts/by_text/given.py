@@ -467,9 +467,9 @@ def sealed_for(key, past, node, message, payload):
     """The two nonces of a sealed text."""
     from .laws import NAMES
     ends, own = WORLD.record(("sender", "receiver"), (1, node)), payload[2:10]
-    for one in tuple_of(NAMES.get("law_transcript.specs.Units.payloads_from").code(node, past)):
-        if one[:2] == (0x98, 0x80) and len(one) == 10 and one[2:3] == payload[-9:-8] and sealed_text(bytes(key), own, one[2:], ends, message) == payload:
-            return own, one[2:]
+    for one in tuple_of(NAMES.get("law_transcript.specs.Payloads.told_by").code(node, past)):
+        if one.name == "Told.NonceReport" and one.fields[0][:1] == payload[-9:-8] and sealed_text(bytes(key), own, one.fields[0], ends, message) == payload:
+            return own, one.fields[0]
     return None
 
 

@@ -6,6 +6,8 @@ import threading
 from collections import namedtuple
 
 from ..entries import transcript_of
+from . import air, doings
+from .alone import heard_alone, is_alone
 from .courses import Notes, moments_of, parts_of
 from .entries import entry_of
 from .given import GIVEN, LISTING, SIDES, arity_of
@@ -60,10 +62,13 @@ SIM_TESTS = TESTS + (
     ("GivesUpAfterThree", "law_time.specs.Unanswered.may_give_up", "listing"), ("FallsAsleep", "law_time.specs.Waking.may_sleep", ""),
     ("WakesAsTold", "law_time.specs.Waking.may_wake", ""), ("HoldsAsAsked", "law_time.specs.Holds.may_hold", ""),
     ("EndsInterviews", "law_time.specs.Interviews.may_end", ""), ("SaysHowDone", "law_time.specs.Errands.may_say_done", "listing"),
-    ("AnswersQuestions", "law_time.specs.Questions.may_answer", ""), ("TellsTime", "law_wire.specs.Times.MayBeTold", ""),
-    ("OverrunsWhenFull", "law_wire.specs.Pipes.may_overrun", ""), ("CollidesWhenAsked", "law_wire.specs.Marks.MayCollide", ""),
-    ("MarksUnits", "by_text.MarksUnits", ""),
+    ("AnswersQuestions", "law_time.specs.Questions.may_answer", ""), ("CollidesWhenAsked", "law_wire.specs.Marks.MayCollide", ""),
 )
+# these also judge what is owed at the end of a whole run
+END_TESTS = (
+    ("TellsTime", "law_wire.specs.Times.MayBeTold", ""), ("OverrunsWhenFull", "law_wire.specs.Pipes.may_overrun", ""),
+    ("MarksUnits", "by_text.MarksUnits", ""),
+) + air.TESTS + doings.TESTS
 
 
 def marks_unit(past, entry):
@@ -71,7 +76,7 @@ def marks_unit(past, entry):
     return NAMES.get("law_wire.specs.Marks.IsMarked").code(NAMES.get("law_wire.specs.Marks.to_stand").code(past), entry)
 
 
-OWN = {"by_text.MarksUnits": marks_unit}
+OWN = {"by_text.MarksUnits": marks_unit, **air.OWN, **doings.OWN}
 
 
 def refusals(listing):
@@ -82,7 +87,7 @@ def refusals(listing):
 def test_of(path, wants, listing, key):
     """A test of an entry behind those before it."""
     code = OWN[path] if path in OWN else NAMES.get(path).code
-    given = {"listing": lambda: listing, "key": lambda: tuple(key), "refusals": lambda: refusals(listing)}
+    given = {"listing": lambda: listing, "key": lambda: tuple(key), "refusals": lambda: refusals(listing), "devices": air.devices_at_entry}
     first = tuple(given[one]() for one in wants.split())
     return lambda past, entry: code(*first, past, entry)
 
@@ -155,6 +160,7 @@ class Reading:
 
     def __init__(self, transcript, key):
         self.key, self.entries, self.whole = key, row(transcript), transcript.ended
+        doings.HELD["key"] = key
         self.texts = [entry.text for entry in transcript.entries]
         self.found = []
 
@@ -181,6 +187,7 @@ class Reading:
     def sim(self):
         """The laws of time and of the line over what the run printed."""
         self.tests("IsLegal, IsPrompt", SIM_TESTS, self.entries, LISTING)
+        self.tests("IsLegal", END_TESTS, ended(self.entries) if self.whole else self.entries, LISTING)
         nothing, in_the_end = WORLD.variant("Entry.Said", ()), not self.whole
         code = lambda path: NAMES.get(path).code  # noqa: E731
         asked = code("law_transcript.specs.Restarts.ticks_asked")(code("zw_text.specs.Transcript.lines_run")(self.entries))
@@ -226,11 +233,14 @@ class Reading:
             self.breaks("KeepsLinks", "IsHostLegal", broken[0], broken[1], "by events of the line, as heard")
 
 
-def violations(lines, key, parts=("sim", "host")):
-    """What a transcript breaks, by the text of the laws."""
-    reading = Reading(transcript_of(lines), key)
-    for part in parts:
-        getattr(reading, part)()
+def violations(lines, key, alone=None):
+    """What a transcript breaks, by the text of the laws; that of `replay`, or of a host alone, over what this host heard."""
+    transcript = transcript_of(lines)
+    alone = is_alone(transcript.entries) if alone is None else alone
+    reading = Reading(transcript._replace(entries=heard_alone(transcript.entries)) if alone else transcript, key)
+    if not alone:
+        reading.sim()
+    reading.host()
     return reading.found
 
 

@@ -4,6 +4,7 @@ Each equation is tried in order, as it stands. Where a definition goes through a
 (`Chain`), so that a list of thousands of entries needs no deep stack; over a row, what it has worked out is kept for each row on the way, as long as
 it has not looked at the end of the list. What else a definition gives for a row of entries, or for a record, is kept with that.
 """
+from keyword import iskeyword
 from operator import add
 
 from .grammar import Module, Parser, Unreadable, equation_of
@@ -13,6 +14,11 @@ RAW = {"true": "True", "false": "False", "⊤": "True", "⊥": "False", "zero": 
 SIGNS = {"&&": "({} and {})", "||": "({} or {})", "×": "({} and {})", "⊎": "({} or {})", "→": "(not {} or {})", "==": "same({}, {})",
          "≡": "same({}, {})", "≢": "not same({}, {})", "≤": "({} <= {})", "<": "({} < {})", "+": "({} + {})", "*": "({} * {})", "-": "max({} - {}, 0)",
          "/": "({} // {})", "%": "({} % {})", "++": "concat({}, {})"}
+
+
+def python_name(field):
+    """The name of a field in Python."""
+    return field + "_" if iskeyword(field) else field
 
 
 class Missing:
@@ -392,12 +398,12 @@ class Maker:
         _, base, field = tree
         if base[0] == "name" and base[1] in self.module.aliases and base[1] not in names:
             return self.outer(base[1] + "." + field, 0)
-        return "%s.%s" % (self.expression(base, names), field)
+        return "%s.%s" % (self.expression(base, names), python_name(field))
 
     def of_record_tree(self, tree, names):
         """A record."""
         _, base, fields = tree
-        labels = repr(tuple(name for name, _ in fields))
+        labels = repr(tuple(python_name(name) for name, _ in fields))
         values = "(%s)" % "".join(self.expression(value, names) + ", " for _, value in fields)
         if base is None:
             return "WORLD.record(%s, %s)" % (labels, values)

@@ -50,14 +50,14 @@ returns c = record {
     link = silent;
     notes = noted [] listing first_start lines all_kept refl;
     stores = record { asked = ([], refl); all = λ whole. refl; following = (tt, (tt, (tt, (tt, (tt, (tt, (tt, (tt, (tt, (tt, (tt, (tt, (tt, tt))))))))))))) };
-    values = (tt, (tt, (tt, (tt, (tt, (tt, (tt, (tt, (tt, (tt, (tt, (tt, (tt, tt)))))))))))));
+    values = (tt, (tt, (tt, (tt, (tt, (tt, (tt, (tt, (tt, (tt, (tt, (tt, (tt, (tt, tt))))))))))))));
     sends = (tt, (tt, (tt, (tt, (tt, (tt, (tt, (tt, (tt, (tt, (tt, (tt, (tt, tt)))))))))))));
-    begins = (tt, (tt, (tt, (tt, (tt, (tt, (tt, (tt, (tt, (tt, (tt, (tt, (tt, tt)))))))))))));
     prompt = record {
       fits = kept (may_queue listing) lines refl;
       turn = kept (may_send listing) lines refl;
       one_by_one = kept may_follow lines refl;
       numbers = kept may_number lines refl;
+      begins = (tt, (tt, (tt, (tt, (tt, (tt, (tt, (tt, (tt, (tt, (tt, (tt, (tt, (tt, tt))))))))))))));
       gives_up = record { between = kept (may_give_up listing) lines refl; in_the_end = λ whole. refl };
       rests = record { between = kept (may_rest listing) lines refl; in_the_end = λ whole. refl };
     };

@@ -1,19 +1,26 @@
-use Rattle.std.proofs.Common.{◌≡◌, ℕ, ◌==◌, Bool, true, false, if◌then◌else◌, List, [], ◌∷◌, arith, refl, sym, ap, subst, ◌∙◌}
-use Rattle.std.specs.Prelude.{Option, Some, None}
+use Rattle.std.proofs.Common.{◌≡◌, ℕ, ◌==◌, Bool, true, false, if◌then◌else◌, List, [], ◌∷◌, ◌++◌, arith, refl, sym, ap, subst, append_assoc, append-nil, ◌∙◌}
+use Rattle.std.specs.Prelude.{Some, None}
 use Rattle.std.proofs.lemmas.Bool.{eqb-true}
 use Rattle.device_stack.specs.State.{State}
 use Rattle.zw_words.specs.declared.side.Side.TheVariants.{Host, Chip}
 use Rattle.zw_text.specs.declared.entry.Entry.{Entry}
+use Rattle.zw_text.specs.declared.entry.Entry.TheVariants.{Said}
+use Rattle.zw_text.specs.Transcript.{line_last}
 use Rattle.law_transcript.specs.Devices.{RanAsShown, after_events}
+use Rattle.law_transcript.specs.Fates.{MayFare}
+use Rattle.law_transcript.specs.Lists.{EachAfter}
 use Rattle.law_transcript.specs.Nodes.{device_of, listing_of}
 use Rattle.law_transcript.specs.Worked.{plain_exchange, the_switch}
 use Rattle.law_transcript.specs.WorkedDevices.{switch_events}
+use Rattle.law_wire.specs.Arriving.{FollowsRepeat, IsForgotten, forgets}
 use Rattle.law_wire.specs.Clearing.{ClearsLine}
-use Rattle.law_wire.specs.Links.{KeepsLinks}
+use Rattle.law_wire.specs.Doings.{DoesAtOnce}
+use Rattle.law_wire.specs.Marks.{IsMarked, to_stand}
+use Rattle.law_wire.specs.Pipes.{may_overrun}
 use Rattle.law_wire.specs.Serial.{ended}
-use Rattle.law_wire.specs.Times.{TellsTime}
+use Rattle.law_wire.specs.Times.{MayBeTold, TellsTime}
 use Rattle.law_host.specs.Heard.{heard_by_host}
-use Rattle.law_host.specs.Legal.{DevicesDid}
+use Rattle.law_host.specs.HostLegal.{ShowsValues}
 use Rattle.law_host.specs.Notes.{NotesWhatHappens, first_start}
 use Rattle.law_host.specs.Worked.{all_kept}
 use Rattle.law_wire.proofs.Judging.{keeps_link}
@@ -91,44 +98,105 @@ after_node : after.node ≡ 2
 unfolding computing_devices
 after_node = refl
 
-devices : RanAsShown 2 plain_exchange the_switch after → DevicesDid true (the_switch ∷ []) (after ∷ []) plain_exchange
-devices ran node old new before now = by (2 == node) refl before (ap (λ (k : ℕ). if k == node then Some after else None) (sym after_node) ∙ now)
+-- so what is said of each device is said of that one
+only : (node : ℕ) (old : State) → device_of node (the_switch ∷ []) ≡ Some old → (2 ≡ node) × (the_switch ≡ old)
+only node old before = by (2 == node) refl before
   where
-    by : (is : Bool) → (2 == node) ≡ is → (if is then Some the_switch else None) ≡ Some old → (if is then Some after else None) ≡ Some new
-        → RanAsShown node plain_exchange old new
-    by true same before now =
-        subst (λ (n : ℕ). RanAsShown n plain_exchange old new) (eqb-true 2 node same)
-        (subst (λ (d : State). RanAsShown 2 plain_exchange d new) (some_is the_switch old before)
-        (subst (λ (d : State). RanAsShown 2 plain_exchange the_switch d) (some_is after new now) ran))
-    by false same before now = absurd (none_is old before)
+    by : (is : Bool) → (2 == node) ≡ is → (if is then Some the_switch else None) ≡ Some old → (2 ≡ node) × (the_switch ≡ old)
+    by true same before = (eqb-true 2 node same, some_is the_switch old before)
+    by false same before = absurd (none_is old before)
+
+after_only : (new : State) → device_of 2 (after ∷ []) ≡ Some new → after ≡ new
+after_only new now = some_is after new (ap (λ (k : ℕ). if k == 2 then Some after else None) (sym after_node) ∙ now)
+
+each : RanAsShown 2 plain_exchange the_switch after → (node : ℕ) (old new : State) → device_of node (the_switch ∷ []) ≡ Some old
+    → device_of node (after ∷ []) ≡ Some new → RanAsShown node plain_exchange old new
+each ran node old new before now =
+    let is = only node old before in
+    subst (λ (n : ℕ). RanAsShown n plain_exchange old new) is.0
+    (subst (λ (d : State). RanAsShown 2 plain_exchange d new) is.1
+    (subst (λ (d : State). RanAsShown 2 plain_exchange the_switch d)
+    (after_only new (subst (λ (n : ℕ). device_of n (after ∷ []) ≡ Some new) (sym is.0) now)) ran))
+
+at_once : DoesAtOnce 2 the_switch whole → (node : ℕ) (old : State) → device_of node (the_switch ∷ []) ≡ Some old → DoesAtOnce node old whole
+at_once does node old before =
+    let is = only node old before in
+    subst (λ (n : ℕ). DoesAtOnce n old whole) is.0 (subst (λ (d : State). DoesAtOnce 2 d whole) is.1 does)
+
+-- what each entry may do after those before it, the empty line at the end may too
+with_end : (Allowed : List Entry → Entry → Type 0) (past rest : List Entry) (last : Entry) → EachAfter Allowed past rest → Allowed (past ++ rest) last
+    → EachAfter Allowed past (rest ++ last ∷ [])
+with_end Allowed past [] last each at = (subst (λ (p : List Entry). Allowed p last) (append-nil past) at, tt)
+with_end Allowed past (entry ∷ rest) last each at =
+    (each.0, with_end Allowed (past ++ entry ∷ []) rest last each.1 (subst (λ (p : List Entry). Allowed p last) (sym (append_assoc past (entry ∷ []) rest)) at))
+
+ends : (Allowed : List Entry → Entry → Type 0) → EachAfter Allowed [] plain_exchange → Allowed plain_exchange (Said []) → EachAfter Allowed [] whole
+ends Allowed each at = with_end Allowed [] plain_exchange (Said []) each at
+
+-- at the end all have landed, nothing is to stand next, and all units fit
+landed : MayFare plain_exchange (Said [])
+unfolding computing
+landed = refl
+
+repeated : FollowsRepeat (the_switch ∷ []) plain_exchange (line_last plain_exchange) (Said [])
+unfolding computing
+repeated = tt
+
+forgotten : IsForgotten (forgets plain_exchange) (Said [])
+unfolding computing
+forgotten = tt
+
+marked : IsMarked (to_stand plain_exchange) (Said [])
+unfolding computing
+marked = tt
+
+fitting : may_overrun plain_exchange (Said []) ≡ true
+unfolding computing
+fitting = refl
+
+timed : MayBeTold plain_exchange (Said [])
+unfolding computing
+timed = refl
+
+-- no line asks for stored values, and none stand
+valued : EachAfter (ShowsValues (listing_of (the_switch ∷ []))) [] whole
+unfolding computing
+valued = (tt, (tt, (tt, (tt, (tt, (tt, (tt, (tt, (tt, (tt, (tt, (tt, (tt, (tt, (tt, (tt, (tt, (tt, (tt, (tt, (tt, (tt, tt))))))))))))))))))))))
 
 pub returns : goal.returns
 returns c = record {
   answers = c.worked_answers.ensures.plain;
-  devices = devices c.worked_devices.ensures.plain;
+  devices = record {
+    each = each c.worked_devices.ensures.plain;
+    at_once = at_once c.worked_doings.ensures.plain;
+    alone = c.worked_doings.ensures.devices;
+  };
   air = record {
     numbers = c.worked_frames.ensures.plain;
     routes = c.worked_routes.ensures.plain;
-    fares = c.worked_fates.ensures.plain;
+    fares = ends MayFare c.worked_fates.ensures.plain landed;
+    lands = c.worked_landings.ensures.plain;
     meets = c.worked_arrivals.ensures.plain;
     loses = c.worked_losses.ensures.plain;
-    repeats = c.worked_repeats.ensures.plain;
-    forgets = c.worked_forgetting.ensures.plain;
+    repeats = ends (λ past entry. FollowsRepeat (the_switch ∷ []) past (line_last past) entry) c.worked_repeats.ensures.plain repeated;
+    forgets = ends (λ past entry. IsForgotten (forgets past) entry) c.worked_forgetting.ensures.plain forgotten;
   };
   line = record {
     links = c.worked_links.ensures.plain;
-    marks = c.worked_marks.ensures.plain;
+    marks = ends (λ past entry. IsMarked (to_stand past) entry) c.worked_marks.ensures.plain marked;
     collides = c.worked_collisions.ensures.plain;
-    overruns = c.worked_pipes.ensures.plain;
+    overruns = ends (λ past entry. may_overrun past entry ≡ true) c.worked_pipes.ensures.plain fitting;
     clears = clears;
     carries = c.worked_units.ensures.plain;
     brings = c.worked_bringing.ensures.plain;
     serves = c.worked_service.ensures.plain;
-    times = told;
+    times = ends MayBeTold told timed;
   };
   sends = c.worked_payloads.ensures.plain;
   notes = noted_so;
   cancels = c.worked_cancels.ensures.plain;
   stores = c.worked_stores.ensures.plain;
+  shows = c.worked_showing.ensures.plain;
+  values = valued;
   records = λ whole. c.worked_records.ensures.plain;
 }

@@ -1,8 +1,8 @@
-use Rattle.std.proofs.Common.{◌≡◌, Bool, true, false, ℕ, List, [], ◌∷◌, refl, ap, arith}
+use Rattle.std.proofs.Common.{◌≡◌, Bool, true, false, ℕ, List, [], ◌∷◌, slice_index, refl, ap, sym, ◌∙◌, arith}
 use Rattle.std.specs.Prelude.{Option}
 use Rattle.law_host.specs.Nonces.{UsesNonces}
 use Rattle.law_host.specs.Notes.{course_of, first_start}
-use Rattle.law_host.specs.Worked.{given_new, nonce_again}
+use Rattle.law_host.specs.Worked.{given_new, given_otherwise, given_skipped, nonce_again}
 use Rattle.law_transcript.specs.Nodes.{listing_of}
 use Rattle.law_transcript.specs.Worked.{network_key, the_lock}
 use Rattle.law_transcript.proofs.Deciding.{not_true}
@@ -41,3 +41,30 @@ new_fails drawn (false ∷ keepings) texts fits uses = not_true fits
 
 pub returns-clause-new : goal.returns-clause-new
 returns-clause-new c = λ law. new_fails law.drawn law.choices.keepings law.choices.texts law.fits law.nonces
+
+-- nor is the other one with its number
+nine_other : ◌≡◌ {A = ℕ} 0x9E 0xFF → ⊥
+nine_other e = omega (arith, e)
+
+other_fails : (drawn : ℕ → ℕ → List ℕ) (keepings : List Bool) (texts : List (Option (List ℕ)))
+    → (course_of (listing_of (the_lock ∷ [])) first_start given_otherwise (record { keepings = keepings; texts = texts })).fits ≡ true
+    → UsesNonces network_key drawn (course_of (listing_of (the_lock ∷ [])) first_start given_otherwise (record { keepings = keepings; texts = texts })) → ⊥
+unfolding computing
+other_fails drawn [] texts fits uses = nine_other (ap (λ (nonce : List ℕ). slice_index nonce 1) (uses.offered.0 ∙ sym uses.offered.1.0))
+other_fails drawn (true ∷ keepings) texts fits uses = nine_other (ap (λ (nonce : List ℕ). slice_index nonce 1) (uses.offered.0 ∙ sym uses.offered.1.0))
+other_fails drawn (false ∷ keepings) texts fits uses = not_true fits
+
+pub returns-clause-other : goal.returns-clause-other
+returns-clause-other c = λ law. other_fails law.drawn law.choices.keepings law.choices.texts law.fits law.nonces
+
+-- the first has the number 1
+skipped_fails : (drawn : ℕ → ℕ → List ℕ) (keepings : List Bool) (texts : List (Option (List ℕ)))
+    → (course_of (listing_of (the_lock ∷ [])) first_start given_skipped (record { keepings = keepings; texts = texts })).fits ≡ true
+    → UsesNonces network_key drawn (course_of (listing_of (the_lock ∷ [])) first_start given_skipped (record { keepings = keepings; texts = texts })) → ⊥
+unfolding computing
+skipped_fails drawn [] texts fits uses = two_one (ap (λ (nonce : List ℕ). first_byte nonce) uses.offered.0)
+skipped_fails drawn (true ∷ keepings) texts fits uses = two_one (ap (λ (nonce : List ℕ). first_byte nonce) uses.offered.0)
+skipped_fails drawn (false ∷ keepings) texts fits uses = not_true fits
+
+pub returns-clause-skipped : goal.returns-clause-skipped
+returns-clause-skipped c = λ law. skipped_fails law.drawn law.choices.keepings law.choices.texts law.fits law.nonces

@@ -24,7 +24,7 @@ returns-clause-to_collide c = λ calm. not_true calm.still.marks
 
 pub returns-clause-stalled : goal.returns-clause-stalled
 unfolding computing
-returns-clause-stalled c = λ calm. not_true calm.still.host
+returns-clause-stalled c = λ calm. not_true calm.still.judged
 
 pub returns-clause-under_way : goal.returns-clause-under_way
 unfolding computing

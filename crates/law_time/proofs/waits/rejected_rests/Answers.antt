@@ -4,7 +4,7 @@ use Rattle.law_time.specs.WrongBetween.{held_over_restart}
 use Rattle.law_time.specs.WrongChoice.{left_due, left_sealed, left_segment}
 use Rattle.law_time.specs.WorkedWaits.{the_keeper}
 use Rattle.law_time.specs.WrongQueue.{left_unaborted, left_unreported, left_unresent}
-use Rattle.law_time.specs.WrongWaits.{left_awake, left_overdue, left_unbegun, left_unsent, left_waiting}
+use Rattle.law_time.specs.WrongWaits.{left_awake, left_in_stall, left_overdue, left_unasked, left_unbegun, left_unheard, left_unsent, left_waiting}
 use Rattle.law_transcript.specs.Nodes.{listing_of}
 use Rattle.law_transcript.specs.Worked.{the_lock, the_plug, the_sensor, the_switch}
 use Rattle.law_time.proofs.Computing.{computing}
@@ -99,3 +99,15 @@ returns-clause-nonce c = λ law. broken (may_rest (listing_of (the_lock ∷ []))
 pub returns-clause-due : goal.returns-clause-due
 unfolding computing
 returns-clause-due c = λ law. broken (may_rest (listing_of (the_plug ∷ []))) left_due refl law.between
+
+pub returns-clause-stalled : goal.returns-clause-stalled
+unfolding computing
+returns-clause-stalled c = λ law. broken (may_rest (listing_of (the_switch ∷ []))) left_in_stall refl law.between
+
+pub returns-clause-unheard : goal.returns-clause-unheard
+unfolding computing
+returns-clause-unheard c = λ law. broken (may_rest (listing_of (the_switch ∷ []))) left_unheard refl law.between
+
+pub returns-clause-unasked : goal.returns-clause-unasked
+unfolding computing
+returns-clause-unasked c = λ law. broken (may_rest (listing_of (the_switch ∷ []))) left_unasked refl law.between

@@ -16,6 +16,7 @@ returns c = record {
   turn = kept (may_send (listing_of (the_switch ∷ []))) plain_exchange refl;
   one_by_one = kept may_follow plain_exchange refl;
   numbers = kept may_number plain_exchange refl;
+  begins = (tt, (tt, (tt, (refl, (tt, (tt, (tt, (tt, (tt, (tt, (tt, (tt, (tt, (tt, (tt, (tt, (tt, (tt, (tt, (tt, (tt, (tt, tt))))))))))))))))))))));
   gives_up = record { between = kept (may_give_up (listing_of (the_switch ∷ []))) plain_exchange refl; in_the_end = λ whole. refl };
   rests = record { between = kept (may_rest (listing_of (the_switch ∷ []))) plain_exchange refl; in_the_end = λ whole. refl };
 }

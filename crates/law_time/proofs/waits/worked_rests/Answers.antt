@@ -3,14 +3,14 @@ use Rattle.law_time.specs.Rests.{may_rest}
 use Rattle.law_time.specs.WorkedBetween.{told_after_restart, told_as_chip_writes}
 use Rattle.law_time.specs.WorkedChoice.{attempt_follows}
 use Rattle.law_time.specs.WorkedQueue.{resent_segments}
-use Rattle.law_time.specs.WorkedWaits.{answered_errands, the_keeper, the_other_switch, waited_attempts, woken_before_restart}
+use Rattle.law_time.specs.WorkedWaits.{sent_in_stall, answered_errands, the_keeper, the_other_switch, waited_attempts, woken_before_restart}
 use Rattle.law_transcript.specs.Nodes.{listing_of}
 use Rattle.law_transcript.specs.Worked.{cancelled_order, long_message, lossy_exchange, plain_exchange, repeated_exchange, restarted_host, sealed_exchange, sleeping_node, the_lock, the_plug, the_sensor, the_switch}
 use Rattle.law_time.proofs.Computing.{computing}
 use Rattle.law_transcript.proofs.Deciding.{kept}
 use Rattle.law_time.proofs.waits.worked_rests.Goals as goal
 use Rattle.law_time.specs.WorkedAttempts.{asked_before_restart, begun_kept, waits_asleep}
-use Rattle.law_time.specs.WorkedEnds.{informed, informed_unkept, interview_uninformed, waits_for_judging, waits_for_line}
+use Rattle.law_time.specs.WorkedEnds.{informed, informed_unkept, interview_uninformed, waits_for_line}
 
 pub returns-clause-plain : goal.returns-clause-plain
 unfolding computing
@@ -100,10 +100,6 @@ pub returns-clause-for_line : goal.returns-clause-for_line
 unfolding computing
 returns-clause-for_line c = record { between = kept (may_rest (listing_of (the_switch ∷ []))) waits_for_line refl; in_the_end = λ whole. refl }
 
-pub returns-clause-for_judging : goal.returns-clause-for_judging
-unfolding computing
-returns-clause-for_judging c = record { between = kept (may_rest (listing_of (the_switch ∷ []))) waits_for_judging refl; in_the_end = λ whole. refl }
-
 pub returns-clause-as_chip_writes : goal.returns-clause-as_chip_writes
 unfolding computing
 returns-clause-as_chip_writes c = record { between = kept (may_rest (listing_of (the_switch ∷ the_sensor ∷ []))) told_as_chip_writes refl; in_the_end = λ whole. refl }
@@ -115,3 +111,7 @@ returns-clause-after_restart c = record { between = kept (may_rest (listing_of (
 pub returns-clause-attempt : goal.returns-clause-attempt
 unfolding computing
 returns-clause-attempt c = record { between = kept (may_rest (listing_of (the_plug ∷ []))) attempt_follows refl; in_the_end = λ whole. refl }
+
+pub returns-clause-stalled : goal.returns-clause-stalled
+unfolding computing
+returns-clause-stalled c = record { between = kept (may_rest (listing_of (the_switch ∷ []))) sent_in_stall refl; in_the_end = λ whole. refl }

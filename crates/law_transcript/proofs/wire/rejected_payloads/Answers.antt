@@ -1,11 +1,14 @@
 use Rattle.std.proofs.Common.{◌≡◌, ℕ, suc, ◌*◌, List, [], ◌∷◌, length, slice_index, refl, inl, inr, ap, ◌∙◌, arith}
-use Rattle.std.specs.Prelude.{replicate, take, drop, codes, ⊤}
+use Rattle.std.specs.Prelude.{replicate, take, codes, ⊤}
+use Rattle.class_info.specs.InfoReading.{nonce_at}
 use Rattle.device_kinds.specs.Sealing.{sealed_text}
+use Rattle.host_heard.specs.declared.told.Told.{Told}
+use Rattle.host_heard.specs.declared.told.Told.TheVariants.{NonceReport}
 use Rattle.law_transcript.specs.Nodes.{listing_of}
 use Rattle.law_transcript.specs.Units.{Carried}
 use Rattle.law_transcript.specs.Worked.{bytes, network_key, the_switch, the_lock, the_plug}
 use Rattle.law_transcript.specs.WorkedCases.{the_dimmer}
-use Rattle.law_transcript.specs.WorkedWrongPayloads.{sent_otherwise, sent_earlier, sent_unbegun, sent_by_new_list, sealed_unasked, sent_openly, sealed_for_none, sealed_for_longer, sealed_otherwise, sealed_longer, sent_whole, cut_otherwise, cut_of_another, cut_past_end, nonce_unasked, nonce_of_another, nonce_otherwise, nonce_shorter, nonce_skipped, nonce_uncounted, set_unasked, set_by_new_list, set_otherwise, set_of_another, set_refused, get_unasked}
+use Rattle.law_transcript.specs.WorkedWrongPayloads.{sent_otherwise, sent_earlier, sent_unbegun, sent_by_new_list, sealed_unasked, sent_openly, sealed_for_none, sealed_for_longer, sealed_otherwise, sealed_longer, sent_whole, cut_otherwise, cut_of_another, cut_past_end, nonce_unasked, nonce_of_another, nonce_otherwise, nonce_shorter, set_unasked, set_by_new_list, set_otherwise, set_of_another, set_refused, get_unasked}
 use Rattle.law_transcript.proofs.Computing.{computing}
 use Rattle.law_transcript.proofs.Dues.{head_of, differ, not_due, no_other, sealed_as, sealed_length, is_cut, cut_at}
 use Rattle.law_transcript.proofs.Sealing.{set_own, set_nonce, set_plain, sealed_set}
@@ -13,20 +16,17 @@ use Rattle.law_transcript.proofs.wire.rejected_payloads.Goals as goal
 
 -- what an answer unfolds to see how a message is sealed
 unfoldable sealing : ⊤
-unfolding sealed_text
+unfolding sealed_text nonce_at
 sealing = tt
+
+-- the nonce that a message tells
+abbrev nonce_of : Told → List ℕ
+nonce_of (NonceReport nonce) = nonce
+nonce_of _ = []
 
 -- nine bytes are no Nonce Report of an eight-byte nonce
 shorter : (nonce : List ℕ) → 9 ≡ suc (suc (length nonce)) → length nonce ≡ 8 → ⊥
 shorter nonce nine eight = omega (arith, nine, eight)
-
--- nor are eleven
-longer : (nonce : List ℕ) → 11 ≡ suc (suc (length nonce)) → length nonce ≡ 8 → ⊥
-longer nonce eleven eight = omega (arith, eleven, eight)
-
--- a nonce of eight bytes is not empty
-eight_none : (nonce : List ℕ) → length nonce ≡ 8 → nonce ≡ [] → ⊥
-eight_none nonce eight none = omega (arith, eight, ap length none)
 
 -- the message that is cut
 abbrev the_message : List ℕ
@@ -66,7 +66,7 @@ pub returns-clause-sealed_otherwise : goal.returns-clause-sealed_otherwise
 unfolding computing sealing
 returns-clause-sealed_otherwise c = λ law.
     no_other (listing_of (the_lock ∷ [])) network_key (take 6 sealed_otherwise) (record { node = 4; payload = bytes (codes "98816B71E54E0F8EE3186CCEA9D132AB2C95018A573A88D6BE287F") }) refl refl refl
-    (λ of. differ 0x7F 0x7E refl (ap (λ p. slice_index p 26) (sealed_as of.own of.nonce set_own set_nonce set_plain _ of.own_eight refl (elim of.given [ inl same ↦ ap (λ p. drop 2 p) same | inr never ↦ absurd never ]) of.text ∙ sealed_set))) (λ asked. asked) law.1.1.1.1.1.1.0.0
+    (λ of. differ 0x7F 0x7E refl (ap (λ p. slice_index p 26) (sealed_as of.own of.nonce set_own set_nonce set_plain _ of.own_eight refl (elim of.given [ inl same ↦ ap nonce_of same | inr never ↦ absurd never ]) of.text ∙ sealed_set))) (λ asked. asked) law.1.1.1.1.1.1.0.0
 
 pub returns-clause-longer : goal.returns-clause-longer
 unfolding computing sealing
@@ -153,7 +153,9 @@ pub returns-clause-for_longer : goal.returns-clause-for_longer
 unfolding computing sealing
 returns-clause-for_longer c = λ law.
     no_other (listing_of (the_lock ∷ [])) network_key (take 6 sealed_for_longer) (record { node = 4; payload = bytes (codes "98816B71E54E0F8EE3186CCEA9D132AB2C95013AA2BEFDC2FEF985") }) refl refl refl
-    (λ of. elim of.given [ inl same ↦ longer of.nonce (ap (λ p. length p) same) of.eight | inr never ↦ never ]) (λ asked. asked) law.1.1.1.1.1.1.0.0
+    (λ of. differ 0x3A 0x8A refl (ap (λ p. slice_index p 19)
+    (sealed_as of.own of.nonce set_own set_nonce set_plain _ of.own_eight refl (elim of.given [ inl same ↦ ap nonce_of same | inr never ↦ absurd never ]) of.text
+    ∙ sealed_set))) (λ asked. asked) law.1.1.1.1.1.1.0.0
 
 pub returns-clause-nonce_otherwise : goal.returns-clause-nonce_otherwise
 unfolding computing sealing
@@ -187,25 +189,3 @@ unfolding computing sealing
 returns-clause-set_new_list c = λ law.
     no_other (listing_of (the_dimmer ∷ [])) [] (take 2 set_by_new_list) (record { node = 2; payload = bytes (codes "260163") }) refl refl refl
     (λ of. of) (λ asked. elim asked [ inl same ↦ differ 0x2501 0x2601 refl (ap (λ (carried : Carried). head_of carried.payload) same) | inr never ↦ never ]) law.1.1.0.0
-
-pub returns-clause-nonce_skipped : goal.returns-clause-nonce_skipped
-unfolding computing sealing
-returns-clause-nonce_skipped c = λ law.
-    not_due (listing_of (the_lock ∷ [])) network_key (take 1 nonce_skipped) (record { node = 4; payload = bytes (codes "98800201020304050607") }) (λ of. of)
-    (λ get. differ 0x9880 0x9840 refl (ap head_of get))
-    (λ report. elim report.counted [
-      | inl same ↦ eight_none report.nonce report.eight same
-      | inr next ↦ differ 2 1 refl (ap (λ p. slice_index p 2) report.text ∙ next)
-    ])
-    (λ more. differ 0x9880 0x8408 refl (ap head_of more)) (λ asked. asked) law.1.0.0
-
-pub returns-clause-nonce_uncounted : goal.returns-clause-nonce_uncounted
-unfolding computing sealing
-returns-clause-nonce_uncounted c = λ law.
-    not_due (listing_of (the_lock ∷ [])) network_key (take 3 nonce_uncounted) (record { node = 4; payload = bytes (codes "988001FF0A1249BB594F") }) (λ of. of)
-    (λ get. differ 0x9880 0x9840 refl (ap head_of get))
-    (λ report. elim report.counted [
-      | inl same ↦ differ 0xFF 0x9E refl (ap (λ p. slice_index p 3) report.text ∙ ap (λ p. slice_index p 1) same)
-      | inr next ↦ differ 1 2 refl (ap (λ p. slice_index p 2) report.text ∙ next)
-    ])
-    (λ more. differ 0x9880 0x8408 refl (ap head_of more)) (λ asked. asked) law.1.1.1.0.0

@@ -1,8 +1,9 @@
 use Rattle.std.proofs.Common.{[], ◌∷◌, refl, inl, inr, sym, arith}
 use Rattle.std.specs.Prelude.{codes}
 use Rattle.law_transcript.specs.Nodes.{listing_of}
+use Rattle.class_info.specs.InfoReading.{nonce_at}
 use Rattle.law_transcript.specs.Worked.{bytes, plain_exchange, repeated_exchange, lossy_exchange, cancelled_order, restarted_host, sleeping_node, sealed_exchange, long_message, the_switch, the_sensor, the_lock, the_plug, network_key}
-use Rattle.law_transcript.specs.WorkedCases.{set_asked, get_asked, nonces_counted, sent_by_old_list, set_by_old_list, the_dimmer}
+use Rattle.law_transcript.specs.WorkedCases.{nonces_wrapped, set_asked, get_asked, nonces_counted, sent_by_old_list, set_by_old_list, the_dimmer}
 use Rattle.law_transcript.proofs.Entries.{sends_what_is_due}
 use Rattle.law_transcript.proofs.Sealing.{set_own, set_nonce, report_nonce, sealed_set}
 use Rattle.law_transcript.proofs.Computing.{computing}
@@ -33,7 +34,7 @@ unfolding computing
 returns-clause-sleeping c = sends_what_is_due (listing_of (the_sensor ∷ [])) [] sleeping_node ((inr (inr (inr (inl refl))), tt), ((inl refl, tt), ((inr (inr (inr (inl refl))), tt), tt)))
 
 pub returns-clause-sealed : goal.returns-clause-sealed
-unfolding computing
+unfolding computing nonce_at
 returns-clause-sealed c = sends_what_is_due (listing_of (the_lock ∷ [])) network_key sealed_exchange (
   (inr (inl refl), tt),
   (
@@ -57,7 +58,6 @@ returns-clause-sealed c = sends_what_is_due (listing_of (the_lock ∷ [])) netwo
             eight = refl;
             asked = inr (inl refl);
             text = refl;
-            counted = inr refl;
           }))),
           tt,
         ),
@@ -103,12 +103,19 @@ returns-clause-set_old_list c = sends_what_is_due (listing_of (the_dimmer ∷ []
 pub returns-clause-nonces : goal.returns-clause-nonces
 unfolding computing
 returns-clause-nonces c = sends_what_is_due (listing_of (the_lock ∷ [])) network_key nonces_counted (
-  (inr (inr (inl (record { nonce = bytes (codes "019E0A1249BB594F"); eight = refl; asked = inl refl; text = refl; counted = inr refl }))), tt),
+  (inr (inr (inl (record { nonce = bytes (codes "019E0A1249BB594F"); eight = refl; asked = inl refl; text = refl }))), tt),
   (
-    (inr (inr (inl (record { nonce = bytes (codes "019E0A1249BB594F"); eight = refl; asked = inl refl; text = refl; counted = inl refl }))), tt),
+    (inr (inr (inl (record { nonce = bytes (codes "019E0A1249BB594F"); eight = refl; asked = inl refl; text = refl }))), tt),
     (
-      (inr (inr (inl (record { nonce = bytes (codes "0201020304050607"); eight = refl; asked = inl refl; text = refl; counted = inr refl }))), tt),
+      (inr (inr (inl (record { nonce = bytes (codes "0201020304050607"); eight = refl; asked = inl refl; text = refl }))), tt),
       tt,
     ),
   ),
+)
+
+pub returns-clause-wrapped : goal.returns-clause-wrapped
+unfolding computing
+returns-clause-wrapped c = sends_what_is_due (listing_of (the_lock ∷ [])) network_key nonces_wrapped (
+  (inr (inr (inl (record { nonce = bytes (codes "01B8E0ADA0F13D90"); eight = refl; asked = inl refl; text = refl }))), tt),
+  ((inr (inr (inl (record { nonce = bytes (codes "01B8E0ADA0F13D90"); eight = refl; asked = inl refl; text = refl }))), tt), tt),
 )

@@ -1,6 +1,5 @@
 -- At first nothing was sent and no session began, so the tie holds.
 use Rattle.std.proofs.Common.{[], refl}
-use Rattle.air_frames.specs.Frames.{no_frames}
 use Rattle.air_frames.proofs.Counted.{IsOf-first}
 use Rattle.chip_sim.specs.Nodes.{none_marked}
 use Rattle.outside_model.specs.State.{first_outer}

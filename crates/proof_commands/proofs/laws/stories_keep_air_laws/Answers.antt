@@ -2,17 +2,20 @@
 use Rattle.std.proofs.Common.{◌≡◌, ℕ, List, [], ◌∷◌, ◌⊎◌, inl, inr, Option, Some, ap, subst, sym, ◌∙◌}
 use Rattle.std.specs.List.{AllByRecursion}
 use Rattle.zw_text.specs.declared.entry.Entry.{Entry}
+use Rattle.law_transcript.specs.Carrying.{BringsWhatWasHeard}
 use Rattle.law_transcript.specs.Fates.{FaresInTurn, LosesMarked, NumbersFrames}
 use Rattle.law_wire.specs.Marks.{CollidesWhenAsked, MarksUnits}
+use Rattle.law_wire.specs.Arriving.{ForgetsDeadHops}
 use Rattle.law_wire.specs.Routes.{GoesByRoute}
 use Rattle.law_wire.specs.Times.{TellsTime}
-use Rattle.proof_line.specs.Pipes.{OverrunsOnlyWhenFull}
+use Rattle.proof_line.specs.Pipes.{ClearsAtRestarts, ClearsNowhereElse, OverrunsOnlyWhenFull}
 use Rattle.world_model.specs.State.{Machine, first_machine}
 use Rattle.world_lines.specs.Done.{AreDone}
 use Rattle.proof_host.specs.Laws.{HostLaws}
 use Rattle.world_lines.specs.Spoken.{transcript_of}
 use Rattle.proof_transcript.specs.Lines.{RepeatsNone}
 use Rattle.host_core.specs.Network.{keys_of}
+use Rattle.proof_commands.specs.Around.{Around}
 use Rattle.proof_commands.specs.Laws.{Ran, RepeatsNothing, KeepsRecords, first, transcript, transcript_from}
 use Rattle.proof_commands.proofs.Speaking.{all_said, same_transcript, story_done}
 use Rattle.proof_commands.proofs.laws.stories_keep_air_laws.Goals as goal
@@ -46,6 +49,11 @@ returns-clause-fares c = λ key old new story unentered is may.
     (subst (λ (l : List Entry). HostLaws l) (sym (same_transcript (first key old) story)) (c.stories_keep_laws.ensures.orders key old new story unentered is well)).sessions_keep)
     may)
 
+pub returns-clause-brings : goal.returns-clause-brings
+returns-clause-brings c = λ key old new story unentered is.
+    subst (λ (l : List Entry). BringsWhatWasHeard l) (same_transcript (first key old) story)
+    (c.lines_bring_what_was_heard.ensures (keys_of key) old.records old.devices (all_said story) (story_done c.lines_are_read_as_said.ensures key old new story unentered is))
+
 pub returns-clause-collides : goal.returns-clause-collides
 returns-clause-collides c = λ key old new story unentered is.
     subst (λ (l : List Entry). CollidesWhenAsked l) (same_transcript (first key old) story)
@@ -61,16 +69,40 @@ returns-clause-overruns c = λ key old new story unentered is.
     subst (λ (l : List Entry). OverrunsOnlyWhenFull l) (same_transcript (first key old) story)
     (c.lines_overrun_only_when_full.ensures (keys_of key) old.records old.devices (all_said story) (story_done c.lines_are_read_as_said.ensures key old new story unentered is))
 
+pub returns-clause-clears : goal.returns-clause-clears
+returns-clause-clears c = λ key old new story unentered is.
+    subst (λ (l : List Entry). ClearsAtRestarts l) (same_transcript (first key old) story)
+    (c.lines_clear_at_restarts.ensures (keys_of key) old.records old.devices (all_said story) (story_done c.lines_are_read_as_said.ensures key old new story unentered is))
+
+pub returns-clause-nowhere : goal.returns-clause-nowhere
+returns-clause-nowhere c = λ key old new story unentered is whole.
+    subst (λ (l : List Entry). ClearsNowhereElse whole l) (same_transcript (first key old) story)
+    (c.lines_clear_nowhere_else.ensures (keys_of key) old.records old.devices (all_said story) (story_done c.lines_are_read_as_said.ensures key old new story unentered is) whole)
+
 pub returns-clause-ticks : goal.returns-clause-ticks
 returns-clause-ticks c = λ key old new story unentered is.
     subst (λ (l : List Entry). TellsTime l) (same_transcript (first key old) story)
     (c.ticks_are_told.ensures (keys_of key) old.records old.devices (all_said story) (story_done c.lines_are_read_as_said.ensures key old new story unentered is))
 
 -- the keeper tells these texts
+module _ (key : List ℕ) (old : Around) (story : List Ran) (texts : List (List ℕ)) (tells : old.records ≡ Some texts) where
+  abbrev pub told_first : Machine
+  told_first = first_machine (keys_of key) (Some texts) old.devices
+
+  pub same_first : first key old ≡ told_first
+  same_first = ap (λ (records : Option (List (List ℕ))). first_machine (keys_of key) records old.devices) tells
+
+  pub same_told : transcript_of told_first (all_said story) ≡ transcript key old story
+  same_told = same_transcript told_first story ∙ ap (λ (m : Machine). transcript_from m story) (sym same_first)
+
 pub returns-clause-routes : goal.returns-clause-routes
 returns-clause-routes c = λ key old new story unentered is texts tells.
-    let same : first key old ≡ first_machine (keys_of key) (Some texts) old.devices = ap (λ (records : Option (List (List ℕ))). first_machine (keys_of key) records old.devices) tells in
-    let done = subst (λ (m : Machine). AreDone m (all_said story)) same (story_done c.lines_are_read_as_said.ensures key old new story unentered is) in
-    let told : transcript_of (first_machine (keys_of key) (Some texts) old.devices) (all_said story) ≡ transcript key old story =
-    same_transcript (first_machine (keys_of key) (Some texts) old.devices) story ∙ ap (λ (m : Machine). transcript_from m story) (sym same) in
-    subst (λ (l : List Entry). GoesByRoute old.devices l) told (c.frames_go_by_route.ensures (keys_of key) texts old.devices (all_said story) done)
+    subst (λ (l : List Entry). GoesByRoute old.devices l) (same_told key old story texts tells)
+    (c.frames_go_by_route.ensures (keys_of key) texts old.devices (all_said story)
+    (subst (λ (m : Machine). AreDone m (all_said story)) (same_first key old story texts tells) (story_done c.lines_are_read_as_said.ensures key old new story unentered is)))
+
+pub returns-clause-forgets : goal.returns-clause-forgets
+returns-clause-forgets c = λ key old new story unentered is texts tells.
+    subst (λ (l : List Entry). ForgetsDeadHops l) (same_told key old story texts tells)
+    (c.dead_hops_are_forgotten.ensures (keys_of key) texts old.devices (all_said story)
+    (subst (λ (m : Machine). AreDone m (all_said story)) (same_first key old story texts tells) (story_done c.lines_are_read_as_said.ensures key old new story unentered is)))

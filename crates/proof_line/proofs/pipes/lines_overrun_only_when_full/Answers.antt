@@ -1,10 +1,14 @@
--- The pipes hold no more than the transcript shows over all lines.
+-- The pipes hold no more than the transcript shows over all lines, so a unit is overrun only where there may be no room.
 use Rattle.std.proofs.Common.{[]}
+use Rattle.world_lines.specs.Spoken.{transcript_of}
 use Rattle.world_model.specs.State.{first_machine}
+use Rattle.proof_host.proofs.Lists.{each-weaker}
 use Rattle.proof_walk.proofs.Lines.{lines_stand}
-use Rattle.proof_line.specs.Pipes.{KnowPipes, MayLack}
+use Rattle.proof_line.specs.Pipes.{KnowPipes, MayLack, MayTell}
+use Rattle.proof_line.proofs.Piping.{tells_lack}
 use Rattle.proof_line.proofs.pipes.lines_overrun_only_when_full.Goals as goal
 
 pub returns : goal.returns
 returns c = λ keys records devices lines are.
-    lines_stand MayLack KnowPipes c.pipes_go_on.ensures.walk [] (first_machine keys records devices) lines are (c.pipes_go_on.ensures.first keys records devices)
+    each-weaker MayTell MayLack tells_lack [] (transcript_of (first_machine keys records devices) lines)
+    (lines_stand MayTell KnowPipes c.pipes_go_on.ensures.walk [] (first_machine keys records devices) lines are (c.pipes_go_on.ensures.first keys records devices))
