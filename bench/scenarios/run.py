@@ -1,17 +1,20 @@
 #!/usr/bin/env python3
-"""Lines a second of `sim`, the time of an idle tick, and the memory that it takes.
+"""Lines a second of `sim`, the time of an idle tick and of `generate`, the calls of `write`, and the memory that it takes.
 
-    bench/scenarios/run.py PROGRAM.. [--sizes 1000,10000,100000] [--whole MIB] [--idle TICKS] [--model FILE]
+    bench/scenarios/run.py PROGRAM.. [--sizes 1000,10000,100000] [--idle TICKS] [--generate N] [--writes LINES] [--whole MIB] [--model FILE] [--times N]
 
-PROGRAM is the program as it was built (crates/zwave_console/out/zwave_console); with several, as before and after a change, each is
-measured in turn. For each kind of scenario and each number of lines it writes one, runs the program on it, and prints how much processor
-time that took (the least of five runs, or of two above 10,000 lines), lines a second, microseconds a line, and that beside the same at the
-smallest size. Then it lets so many ticks of an idle mesh of 231 devices pass. With a model of the program, which Python runs, it tells
-how many times as long that takes for the same 2,000 lines. Last it runs plain exchanges of 16 MiB, the longest input that the program
-takes, and prints the most memory that it held. What the program writes is counted and dropped.
+PROGRAM is the program as it was built (crates/zwave_console/out/zwave_console); with several, as before and after a change, they take
+turns at each scenario, and each has a row. For each kind of scenario and each number of lines it writes one, runs the program on it, and
+prints how much processor time that took (the least of five runs, or of N; of half as many above 10,000 lines), lines a second,
+microseconds a line, that relative to the same at the smallest size, and relative to the first program. Then it lets so many ticks of an
+idle mesh of 231 devices pass, in lines of a thousand ticks and in lines of one; runs `generate N`; and counts with `strace` how often
+`write` is called for so many lines. With a model of the program, which Python runs, it tells how many times as long that takes for the
+same 2,000 lines, and for 2,000 ticks. Last it runs plain exchanges of 16 MiB, the longest input that the program takes, and prints the
+most memory that it held. What the program writes is counted and dropped.
 """
 import argparse
 import os
+import shutil
 import subprocess
 import sys
 import tempfile
@@ -81,13 +84,13 @@ def held(process):
         return next((int(line.split()[1]) for line in lines if line.startswith("VmHWM:")), None)
 
 
-def run(program, text):
+def run(program, text, words=("sim",)):
     """Runs the program, a list of words, on a text: its status, seconds of processor time, KB of memory at most, bytes written."""
     with tempfile.TemporaryDirectory() as folder:
         with open(f"{folder}/in", "w", encoding="ascii") as out:
             out.write(text)
         with open(f"{folder}/in", "rb") as source, open(f"{folder}/out", "wb") as sink:
-            child = subprocess.Popen([*program, "sim"], stdin=source, stdout=sink)
+            child = subprocess.Popen([*program, *words], stdin=source, stdout=sink)
             most = 0
             while True:
                 ended, status, used = os.wait4(child.pid, os.WNOHANG)
@@ -99,69 +102,110 @@ def run(program, text):
         return child.returncode, used.ru_utime + used.ru_stime, most, os.path.getsize(f"{folder}/out")
 
 
-def least(program, text, times):
-    """The run of so many that took the least time."""
-    return min((run(program, text) for _ in range(times)), key=lambda ran: ran[1])
+def least(programs, text, times, words=("sim",)):
+    """For each program its run of so many that took the least time; the programs take turns."""
+    ran = [[run(program, text, words) for program in programs] for _ in range(times)]
+    return [min((turn[i] for turn in ran), key=lambda one: one[1]) for i in range(len(programs))]
 
 
-def measured(program, sizes):
-    """A row for each kind and each size."""
-    print("| Scenario | Lines | Seconds | Lines a second | Microseconds a line | Beside the first | MiB held | KiB written |")
-    print("|---|---|---|---|---|---|---|---|")
+def row(*cells):
+    print("| " + " | ".join(str(cell) for cell in cells) + " |", flush=True)
+
+
+def measured(programs, names, sizes, times):
+    """A row for each kind, each size and each program."""
+    row("Scenario", "Lines", "Program", "Seconds", "Lines a second", "Microseconds a line", "Relative to the least size", "Relative to the first program",
+        "MiB held", "KiB written")
+    row(*["---"] * 10)
     for kind in KINDS:
-        first = None
+        first = {}
         for size in sizes:
             text, lines = scenario(kind, size, LARGEST)
-            status, seconds, memory, written = least(program, text, 5 if lines <= 10000 else 2)
-            micros = seconds * 1e6 / lines
-            first = first or micros
-            print(
-                f"| {kind} | {lines:,} | {seconds:.2f} | {lines / max(seconds, 1e-6):,.0f} | {micros:.1f} | {micros / max(first, 1e-9):.2f} "
-                f"| {memory // 1024:,} | {written // 1024:,} |" + (f" status {status}" if status else ""),
-                flush=True,
-            )
+            ran = least(programs, text, times if lines <= 10000 else max(2, times // 2))
+            for name, (status, seconds, memory, written) in zip(names, ran):
+                micros = seconds * 1e6 / lines
+                row(kind, f"{lines:,}", name, f"{seconds:.3f}", f"{lines / max(seconds, 1e-6):,.0f}", f"{micros:.2f}",
+                    f"{micros / max(first.setdefault(name, micros), 1e-9):.2f}", f"{seconds / max(ran[0][1], 1e-9):.2f}",
+                    f"{memory // 1024:,}", f"{written // 1024:,}" + (f", status {status}" if status else ""))
 
 
-def idle(program, ticks):
-    """The time of a tick in which nothing happens."""
-    lines = ticks // TICKS_A_LINE
-    ran = [least(program, f"tick {TICKS_A_LINE}\n" * count, 3) for count in (0, lines)]
-    seconds = ran[1][1] - ran[0][1]
-    print(f"{lines * TICKS_A_LINE:,} idle ticks of 231 devices: {seconds:.2f} s, {seconds * 1e6 / max(1, lines * TICKS_A_LINE):.2f} microseconds a tick", flush=True)
+def idle(programs, names, ticks, times):
+    """The time of a tick in which nothing happens, without the start of the program and the table at its end."""
+    for at_once in (TICKS_A_LINE, 1):
+        none = least(programs, "", times)
+        many = least(programs, f"tick {at_once}\n" * (ticks // at_once), times)
+        for name, before, after in zip(names, none, many):
+            seconds = after[1] - before[1]
+            micros = seconds * 1e6 / max(1, ticks // at_once * at_once)
+            print(f"{name}: {ticks:,} idle ticks of 231 devices, {at_once:,} a line: {seconds:.3f} s, {micros:.2f} microseconds a tick; "
+                  f"without a tick {before[1]:.3f} s", flush=True)
 
 
-def beside(program, model):
+def generate(programs, names, count, times):
+    """The time of a generated scenario of so many hundred commands."""
+    for name, (status, seconds, memory, _) in zip(names, least(programs, "", times, ("generate", str(count)))):
+        print(f"{name}: generate {count}: {seconds:.3f} s, {memory // 1024:,} MiB held, status {status}", flush=True)
+
+
+def writes(programs, names, lines):
+    """How often `write` is called, as `strace` counts."""
+    if not shutil.which("strace"):
+        print("writes: strace is not there")
+        return
+    text, count = scenario("plain exchange", lines, LARGEST)
+    for name, program in zip(names, programs):
+        with tempfile.NamedTemporaryFile("r", encoding="ascii") as told:
+            run(["strace", "-f", "-c", "-e", "trace=write", "-o", told.name, *program], text)
+            calls = next((line.split()[3] for line in told if line.split()[-1:] == ["write"]), "0")
+        print(f"{name}: {count:,} lines of plain exchanges: {int(calls):,} calls of write", flush=True)
+
+
+def beside(programs, names, model, times):
     """How many times as long the model takes for the same lines."""
-    for kind in KINDS:
-        text, lines = scenario(kind, LINES_BESIDE_THE_MODEL, LARGEST)
-        own, other = (least(words, text, 3)[1] for words in (program, [sys.executable, model]))
-        print(f"{lines:,} lines, {kind}: {own:.3f} s, the model {other:.2f} s, {other / max(own, 1e-6):.0f} times as long", flush=True)
+    texts = {kind: scenario(kind, LINES_BESIDE_THE_MODEL, LARGEST)[0] for kind in KINDS}
+    texts["idle ticks"] = "tick 1\n" * LINES_BESIDE_THE_MODEL
+    for kind, text in texts.items():
+        *own, other = least([*programs, [sys.executable, model]], text, times)
+        for name, ran in zip(names, own):
+            print(f"{name}: {LINES_BESIDE_THE_MODEL:,} lines, {kind}: {ran[1]:.4f} s, the model {other[1]:.2f} s, "
+                  f"{other[1] / max(ran[1], 1e-6):.1f} times as long", flush=True)
+
+
+def whole(programs, names, size):
+    """The longest input."""
+    text, lines = scenario("plain exchange", LARGEST, size * 1024 * 1024)
+    for name, (status, seconds, memory, written) in zip(names, least(programs, text, 1)):
+        print(f"{name}: {size} MiB of plain exchanges: {lines:,} lines, {seconds:.1f} s, {memory // 1024:,} MiB held, "
+              f"{written // 1048576:,} MiB written, status {status}", flush=True)
 
 
 def main():
     words = argparse.ArgumentParser(description=__doc__, formatter_class=argparse.RawDescriptionHelpFormatter)
     words.add_argument("programs", nargs="+", metavar="PROGRAM")
-    words.add_argument("--sizes", default="1000,10000,100000", help="numbers of lines")
-    words.add_argument("--whole", type=int, default=16, help="MiB of the longest input; 0 leaves it out")
+    words.add_argument("--sizes", default="1000,10000,100000", help="numbers of lines; none leaves them out")
     words.add_argument("--idle", type=int, default=100000, help="ticks of the idle mesh; 0 leaves it out")
+    words.add_argument("--generate", type=int, default=50, help="what `generate` is asked for; 0 leaves it out")
+    words.add_argument("--writes", type=int, default=0, help="lines for which calls of write are counted")
+    words.add_argument("--whole", type=int, default=16, help="MiB of the longest input; 0 leaves it out")
     words.add_argument("--model", help="a model of the program, which Python runs; none leaves it out")
+    words.add_argument("--times", type=int, default=5, help="runs of which the least is taken")
     given = words.parse_args()
     for program in given.programs:
         if not os.access(program, os.X_OK):
             sys.exit(f"{program} is no program")
-    for name in given.programs:
-        program = [os.path.abspath(name)]
-        if len(given.programs) > 1:
-            print(f"\n{name}\n")
-        measured(program, [int(size) for size in given.sizes.split(",")])
-        if given.idle:
-            idle(program, given.idle)
-        if given.model:
-            beside(program, given.model)
-        if given.whole:
-            text, lines = scenario("plain exchange", LARGEST, given.whole * 1024 * 1024)
-            status, seconds, memory, written = run(program, text)
-            print(f"{given.whole} MiB of plain exchanges: {lines:,} lines, {seconds:.1f} s, {memory // 1024:,} MiB held, {written // 1048576:,} MiB written, status {status}")
+    programs, names = [[os.path.abspath(name)] for name in given.programs], given.programs
+    if given.sizes:
+        measured(programs, names, [int(size) for size in given.sizes.split(",")], given.times)
+    if given.idle:
+        idle(programs, names, given.idle, given.times)
+    if given.generate:
+        generate(programs, names, given.generate, given.times)
+    if given.model:
+        beside(programs, names, given.model, given.times)
+    if given.writes:
+        writes(programs, names, given.writes)
+    if given.whole:
+        whole(programs, names, given.whole)
 
 
 if __name__ == "__main__":
