@@ -30,7 +30,7 @@ use Rattle.proof_air.proofs.Judging.{both_true}
 
 -- ---- a notice is read as it was written
 
-body_is : (body : List ℕ) (func sum : ℕ) → take (length (0 ∷ func ∷ body) + 1 - 3) (body ++ sum ∷ []) ≡ body
+pub body_is : (body : List ℕ) (func sum : ℕ) → take (length (0 ∷ func ∷ body) + 1 - 3) (body ++ sum ∷ []) ≡ body
 body_is body func sum =
     let count : length (0 ∷ func ∷ body) + 1 - 3 ≡ length body = omega arith in
     ap (λ (k : ℕ). take k (body ++ sum ∷ [])) count ∙ take-append_seam body (sum ∷ [])

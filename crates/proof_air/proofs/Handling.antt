@@ -26,7 +26,7 @@ use Rattle.proof_air.proofs.Bringing.{bring_law}
 
 -- ---- what is known of the air
 
-tie_here : (here : Phase) (past : List Entry) (m : Machine) → KnowAir here past m → Tie nothing past m.outside
+pub tie_here : (here : Phase) (past : List Entry) (m : Machine) → KnowAir here past m → Tie nothing past m.outside
 tie_here (Said_line line) past m known = known.0
 tie_here (Begun line) past m known = known.0
 tie_here (Doing line left) past m (inl awaits) = awaits.tie

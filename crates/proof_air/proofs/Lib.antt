@@ -1,14 +1,14 @@
-mod Logs
+pub mod Logs
 mod Silent
 mod Airing
-mod Judging
+pub mod Judging
 mod Outer
 pub mod Hearing
-mod Counting
+pub mod Counting
 pub mod Fresh
-mod Homes
-mod Brought
+pub mod Homes
+pub mod Brought
 mod Ports
 mod Putting
 mod Bringing
-mod Handling
+pub mod Handling

@@ -22,7 +22,7 @@ use Rattle.device_sim.specs.State.{State}
 use Rattle.proof_device.specs.GoingOn.{AreInOrder, AreSame, TakeOnce}
 use Rattle.proof_device.specs.Showing.{AreApart, IsShown}
 use Rattle.law_transcript.specs.Answers.{AnswersLines, CancelsWhenAsked, ReadsItsRecords}
-use Rattle.law_transcript.specs.Carrying.{BringsWhatWasHeard}
+use Rattle.law_transcript.specs.Carrying.{BringsWhatWasHeard, CarriesUnits}
 use Rattle.law_transcript.specs.Fates.{FaresInTurn, LosesMarked, NumbersFrames}
 use Rattle.law_transcript.specs.Lists.{EachAfter}
 use Rattle.law_transcript.specs.Headline.{Headline, HeadlineOf, IsAsMade}
@@ -259,6 +259,10 @@ CollidesAsAsked key old new = AlwaysOf key old new (λ story. CollidesWhenAsked 
 abbrev pub MarksAsAsked : List ℕ → Around → Around → Type 0
 MarksAsAsked key old new = AlwaysOf key old new (λ story. MarksUnits (transcript key old story))
 
+-- over a keeper that tells its records and had none at first, each frame of the controller carries what a unit that came before asked to be sent, one each and in order
+abbrev pub CarriesWhatWasAsked : List ℕ → Around → Around → Type 0
+CarriesWhatWasAsked key old new = AlwaysOf key old new (λ story. old.records ≡ Some [] → CarriesUnits (transcript key old story))
+
 -- each payload that the chip writes the host from a node was heard before
 abbrev pub BringsHeard : List ℕ → Around → Around → Type 0
 BringsHeard key old new = AlwaysOf key old new (λ story. BringsWhatWasHeard (transcript key old story))
@@ -337,6 +341,7 @@ pub record StoriesKeepLaws (key : List ℕ) (old new : Around) : Type 0 where
   pub fares : FaresFrames key old new
   pub routes : RoutesFrames key old new
   pub forgets : ForgetsHops key old new
+  pub carries : CarriesWhatWasAsked key old new
   pub brings : BringsHeard key old new
   pub collides : CollidesAsAsked key old new
   pub marks : MarksAsAsked key old new

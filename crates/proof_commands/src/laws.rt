@@ -6,6 +6,7 @@ ghost use Rattle.proof_commands.specs.Laws.{
   AnswersAsDue,
   AppliesOnce,
   BringsHeard,
+  CarriesWhatWasAsked,
   ClearsNothingElse,
   ClearsWhenRestarted,
   CollidesAsAsked,
@@ -50,9 +51,10 @@ use proof_line::{
 };
 use proof_routes::{dead_hops_are_forgotten, frames_go_by_route};
 use proof_transcript::{
-    commands_are_taken_back_when_asked, lines_are_answered, lines_lose_marked_frames,
-    lines_number_frames, lines_show_what_is_kept, records_are_what_is_shown,
-    sessions_begin_with_their_unit, ticks_decide_each_frame, values_are_stored_as_asked,
+    commands_are_taken_back_when_asked, lines_are_answered, lines_carry_units,
+    lines_lose_marked_frames, lines_number_frames, lines_show_what_is_kept,
+    records_are_what_is_shown, sessions_begin_with_their_unit, ticks_decide_each_frame,
+    values_are_stored_as_asked,
 };
 use proof_world::{
     lines_keep_and_ask_well, restarts_go_on, runs_take_once, the_machine_keeps_facts,
@@ -158,6 +160,7 @@ fn stories_keep_air_laws()
     ensures fares { (key : List ℕ) (old new : Around) → FaresFrames key old new }
     ensures routes { (key : List ℕ) (old new : Around) → RoutesFrames key old new }
     ensures forgets { (key : List ℕ) (old new : Around) → ForgetsHops key old new }
+    ensures carries { (key : List ℕ) (old new : Around) → CarriesWhatWasAsked key old new }
     ensures brings { (key : List ℕ) (old new : Around) → BringsHeard key old new }
     ensures collides { (key : List ℕ) (old new : Around) → CollidesAsAsked key old new }
     ensures marks { (key : List ℕ) (old new : Around) → MarksAsAsked key old new }
@@ -173,6 +176,7 @@ fn stories_keep_air_laws()
     ticks_decide_each_frame();
     frames_go_by_route();
     dead_hops_are_forgotten();
+    lines_carry_units();
     lines_bring_what_was_heard();
     lines_collide_when_asked();
     lines_mark_units();

@@ -21,14 +21,14 @@ use Rattle.proof_host.specs.Stores.{StoresLaw, given_by}
 use Rattle.proof_host.specs.Tables.{taken_at}
 use Rattle.proof_host.proofs.Confirmed.{last_agree}
 use Rattle.world_model.specs.State.{Machine}
-use Rattle.world_model.specs.Events.{Event, happens}
-use Rattle.world_model.specs.Did.{happens_all, AllAlong}
+use Rattle.world_model.specs.Did.{AllAlong}
 use Rattle.world_model.specs.Table.{node_entries, table_entries, value_entry}
 use Rattle.proof_once.specs.ByTable.{IsTable}
 use Rattle.proof_once.specs.Tied.{settings_taken}
 use Rattle.world_lines.specs.Spoken.{Spoken, after, after_all, entries_of, transcript_of}
 use Rattle.world_lines.specs.Done.{AreDone, IsRead, events_of}
 use Rattle.world_lines.specs.Whole.{AreWhole}
+use Rattle.proof_walk.proofs.Where.{along_parts}
 use Rattle.proof_transcript.proofs.Hosts.{LeavesRecords}
 use Rattle.proof_transcript.specs.Told.{IsTold}
 use Rattle.proof_transcript.proofs.ToldState.{GoesOn, line_told}
@@ -37,15 +37,11 @@ use Rattle.proof_transcript.proofs.Values.{flat_same, values_are}
 
 -- ---- lines, one after another
 
-along_both : (m : Machine) (a b : List Event) → AllAlong GoesOn m (a ++ b) → AllAlong GoesOn m a × AllAlong GoesOn (happens_all m a) b
-along_both m [] b all = (tt, all)
-along_both m (event ∷ a) b all = let more = along_both (happens m event) a b all.1 in ((all.0, more.0), more.1)
-
 pub lines_told : LeavesRecords → (past : List Entry) (m : Machine) (lines : List Spoken) → AreDone m lines → AreWhole m lines → AllByRecursion IsRead (map (λ (spoken : Spoken). spoken.line) lines)
     → AllAlong GoesOn m (events_of lines) → IsTold past m → IsTold (past ++ transcript_of m lines) (after_all m lines)
 lines_told law past m [] are whole read along told = subst (λ (l : List Entry). IsTold l m) (sym (append-nil past)) told
 lines_told law past m (spoken ∷ more) are whole read along told =
-    let both = along_both m spoken.events (events_of more) along in
+    let both = along_parts GoesOn m spoken.events (events_of more) along in
     let one = line_told law past m spoken.words told spoken.line spoken.events are.0.read read.0 both.0 whole.0 are.0.may in
     let later = after m spoken in
     subst (λ (l : List Entry). IsTold l (after_all later more)) (append_assoc past (entries_of m spoken) (transcript_of later more))

@@ -50,3 +50,7 @@ mod AnswerFacts
 mod Showing
 mod ShownDevices
 mod SaidNext
+mod Picked
+mod AskedUnits
+mod SentFrames
+mod CarryingWalk

@@ -1,5 +1,5 @@
 -- No marked frame is heard or unheard, over lines.
-use Rattle.std.proofs.Common.{◌≡◌, ℕ, ◌+◌, ◌&&◌, ◌⊎◌, not, Bool, true, false, if◌then◌else◌, inl, inr, List, [], ◌∷◌, ◌++◌, refl, ap, sym, subst, ◌∙◌, append_assoc, arith}
+use Rattle.std.proofs.Common.{◌≡◌, ℕ, ◌+◌, Bool, true, if◌then◌else◌, List, [], ◌∷◌, refl, ap, subst, ◌∙◌, arith}
 use Rattle.std.specs.Prelude.{Option}
 use Rattle.std.specs.List.{AllByRecursion}
 use Rattle.route_table.specs.declared.route.Route.{Route}
@@ -11,7 +11,6 @@ use Rattle.zw_text.specs.Transcript.{line_last, line_of}
 use Rattle.law_transcript.specs.Fates.{marks_asked, MayBeMarked}
 use Rattle.law_transcript.specs.Lists.{EachAfter, Has}
 use Rattle.law_transcript.specs.Restarts.{is_repeat, repeats as answers_repeat}
-use Rattle.mesh_sim.specs.Air.{AirState}
 use Rattle.mesh_sim.specs.Steps as mesh
 use Rattle.outside_model.specs.Events.{Begins_tick, Arrives, Loses, Repeats, outcome, steps, May as MayOutside}
 use Rattle.world_model.specs.State.{Machine}

@@ -1,5 +1,5 @@
 -- What is known goes on over a line that repeats a frame: the frame is heard first, directly after the words, or a refusal stands there, or nothing.
-use Rattle.std.proofs.Common.{◌≡◌, ℕ, ◌&&◌, ◌||◌, ◌⊎◌, not, Bool, true, false, if◌then◌else◌, inl, inr, List, [], ◌∷◌, ◌++◌, refl, ap, sym, subst, ◌∙◌, append_assoc}
+use Rattle.std.proofs.Common.{◌≡◌, ℕ, ◌&&◌, ◌⊎◌, not, Bool, false, if◌then◌else◌, inl, inr, List, [], ◌∷◌, ◌++◌, refl, ap, sym, subst, ◌∙◌, append_assoc}
 use Rattle.std.specs.Prelude.{Option}
 use Rattle.route_table.specs.declared.route.Route.{Route}
 use Rattle.zw_text.specs.declared.line.Line.TheVariants.{Repeat}
@@ -14,7 +14,7 @@ use Rattle.air_frames.specs.Ages.{refusal_of}
 use Rattle.outside_model.specs.State.{OuterState, Outside, Outcome}
 use Rattle.outside_model.specs.Events.{Repeats, stamp, has_entered, outcome, repeats}
 use Rattle.world_model.specs.State.{Machine}
-use Rattle.world_model.specs.Events.{Event, Outside_does, happens, entries}
+use Rattle.world_model.specs.Events.{Outside_does, happens, entries}
 use Rattle.proof_transcript.proofs.KeptOverLists.{Keeps, Airs, Goes, keeps_both}
 use Rattle.proof_transcript.proofs.Arrivals.{IsAgain, repeats_again}
 use Rattle.proof_transcript.proofs.Events.{Stamps, stamped_keeps}

@@ -1,5 +1,5 @@
 -- Fates in turn, where what is said of a frame that is heard again is left open (this project's own).
-use Rattle.std.specs.Prelude.{◌≡◌, ℕ, Bool, true, false, List, [], ⊤}
+use Rattle.std.specs.Prelude.{ℕ, Bool, true, false, List, ⊤}
 use Rattle.zw_text.specs.declared.entry.Entry.{Entry}
 use Rattle.zw_text.specs.declared.entry.Entry.TheVariants.{Said, Heard, Lost, Unheard, Time}
 use Rattle.law_transcript.specs.Restarts.{repeats}

@@ -4,3 +4,4 @@ pub mod Fares
 pub mod Records
 pub mod Answering
 pub mod Showing
+pub mod Carrying

@@ -4,7 +4,7 @@
 //! law is the contract of a function with an empty body, over lines that are said one after another (`proof_spoken`)
 //! and the events of the machine that each line is; the laws themselves are those of `law_transcript`. Of answers:
 //! `lines_are_answered` (`specs/Answering`); and what lines show, `lines_show_what_is_kept` (`specs/Showing`). Of frames:
-//! `lines_number_frames`, `ticks_decide_each_frame`, `lines_lose_marked_frames`. Of commands:
+//! `lines_number_frames`, `ticks_decide_each_frame`, `lines_lose_marked_frames`, `lines_carry_units` (`specs/Carrying`). Of commands:
 //! `commands_are_taken_back_when_asked`, `values_are_stored_as_asked`, `sessions_begin_with_their_unit`. Of the table:
 //! `what_is_told` covers the clock, the joined nodes and the heard values (`specs/Told`), line by line, and
 //! `tables_are_what_is_shown` the whole table if all lines were run whole (`AreWhole` of `proof_spoken`). Of the
@@ -12,6 +12,7 @@
 #![tactic(auto)]
 
 mod answers;
+mod carrying;
 mod commands;
 mod frames;
 mod records;
@@ -19,6 +20,7 @@ mod shows;
 mod table;
 
 pub use answers::lines_are_answered;
+pub use carrying::lines_carry_units;
 pub use commands::{
     commands_are_taken_back_when_asked, sessions_begin_with_their_unit, values_are_stored_as_asked,
 };

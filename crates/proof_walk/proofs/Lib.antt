@@ -15,3 +15,4 @@ pub mod Untimed
 pub mod Ending
 pub mod Clock
 pub mod Over
+pub mod Where

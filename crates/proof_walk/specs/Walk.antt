@@ -49,3 +49,11 @@ pub record WalkOver (Ground : Phase → List Entry → Machine → Type 0) (Asks
 -- what both know
 abbrev pub both_know : (Ground Know : Phase → List Entry → Machine → Type 0) → Phase → List Entry → Machine → Type 0
 both_know Ground Know here past m = Ground here past m × Know here past m
+
+-- The same, where each event that comes has what `Has` says of it: what holds of all events of whole lists, and not of each that may happen.
+pub record WalkWhere (Has : Machine → Event → Type 0) (Asks : List Entry → Entry → Type 0) (Know : Phase → List Entry → Machine → Type 0) : Type 0 where
+  pub said : (past : List Entry) (m : Machine) (words : List ℕ) (line : Line) → line_of (Said words) ≡ line ∷ [] → Know Between past m →
+      Asks past (Said words) × Know (Said_line line) (past ++ Said words ∷ []) m
+  pub event : (here next : Phase) (past : List Entry) (m : Machine) (event : Event) → Goes here m event next → May m event → Has m event → Know here past m →
+      EachAfter Asks past (entries m event) × Know next (past ++ entries m event) (happens m event)
+  pub turn : OwesTurns Know

@@ -27,6 +27,7 @@ returns c = λ key old new. record {
   fares = c.stories_keep_air_laws.ensures.fares key old new;
   routes = c.stories_keep_air_laws.ensures.routes key old new;
   forgets = c.stories_keep_air_laws.ensures.forgets key old new;
+  carries = c.stories_keep_air_laws.ensures.carries key old new;
   brings = c.stories_keep_air_laws.ensures.brings key old new;
   collides = c.stories_keep_air_laws.ensures.collides key old new;
   marks = c.stories_keep_air_laws.ensures.marks key old new;

@@ -2,7 +2,7 @@
 use Rattle.std.proofs.Common.{◌≡◌, ℕ, List, [], ◌∷◌, ◌⊎◌, inl, inr, Option, Some, ap, subst, sym, ◌∙◌}
 use Rattle.std.specs.List.{AllByRecursion}
 use Rattle.zw_text.specs.declared.entry.Entry.{Entry}
-use Rattle.law_transcript.specs.Carrying.{BringsWhatWasHeard}
+use Rattle.law_transcript.specs.Carrying.{BringsWhatWasHeard, CarriesUnits}
 use Rattle.law_transcript.specs.Fates.{FaresInTurn, LosesMarked, NumbersFrames}
 use Rattle.law_wire.specs.Marks.{CollidesWhenAsked, MarksUnits}
 use Rattle.law_wire.specs.Arriving.{ForgetsDeadHops}
@@ -106,3 +106,9 @@ returns-clause-forgets c = λ key old new story unentered is texts tells.
     subst (λ (l : List Entry). ForgetsDeadHops l) (same_told key old story texts tells)
     (c.dead_hops_are_forgotten.ensures (keys_of key) texts old.devices (all_said story)
     (subst (λ (m : Machine). AreDone m (all_said story)) (same_first key old story texts tells) (story_done c.lines_are_read_as_said.ensures key old new story unentered is)))
+
+pub returns-clause-carries : goal.returns-clause-carries
+returns-clause-carries c = λ key old new story unentered is none.
+    subst (λ (l : List Entry). CarriesUnits l) (same_told key old story [] none)
+    (c.lines_carry_units.ensures (keys_of key) old.devices (all_said story)
+    (subst (λ (m : Machine). AreDone m (all_said story)) (same_first key old story [] none) (story_done c.lines_are_read_as_said.ensures key old new story unentered is)))

@@ -1,0 +1,9 @@
+mod Quiet
+mod Machines
+mod Shown
+mod Frames
+mod Places
+mod Hearing
+mod Numbers
+mod Walking
+mod Whole

@@ -1,0 +1,117 @@
+-- What a transcript shows to have come to a node grows with what is heard and with the words of lines, and with nothing else.
+use Rattle.std.proofs.Common.{◌≡◌, ◌≢◌, ℕ, ◌+◌, ◌==◌, Bool, true, false, if◌then◌else◌, List, [], ◌∷◌, ◌++◌, refl, sym, ap, ◌∙◌, append-nil, append_assoc, arith}
+use Rattle.std.proofs.lemmas.Bool.{ne_eqb, eqb-true}
+use Rattle.std.specs.Prelude.{Option, Some, None}
+use Rattle.zw_text.specs.declared.line.Line.{Line}
+use Rattle.zw_text.specs.declared.line.Line.TheVariants as lines
+use Rattle.zw_text.specs.declared.entry.Entry.{Entry}
+use Rattle.zw_text.specs.declared.entry.Entry.TheVariants as entry
+use Rattle.zw_text.specs.Transcript.{AirFrame, line_of, lines_run}
+use Rattle.device_sim.specs.State.{State}
+use Rattle.device_sim.specs.Event.{DeviceEvent, device_after}
+use Rattle.law_transcript.specs.Lists.{shown_after}
+use Rattle.law_transcript.specs.Nodes.{controller}
+use Rattle.law_transcript.specs.Repeats.{frame_of}
+use Rattle.law_transcript.specs.Restarts.{ticks_asked}
+use Rattle.law_transcript.specs.Units.{Carried}
+use Rattle.law_transcript.specs.Carrying.{homeward}
+use Rattle.law_transcript.specs.Devices.{ComingAt, coming_of, ticks_in, ticks_lived, after_events, lived_by, brought_by, asked_by, brought_at, brought}
+use Rattle.proof_devices.specs.Living.{Lived, IsActing}
+use Rattle.proof_devices.proofs.Quiet.{IsQuiet, AreQuiet}
+
+-- ---- lists that are shown
+
+shown_both : {A B : Type 0} (shows : List A → A → List B) (before xs ys : List A) → shown_after shows before (xs ++ ys) ≡ shown_after shows before xs ++ shown_after shows (before ++ xs) ys
+shown_both {A} {B} shows before [] ys = ap (λ (l : List A). shown_after shows l ys) (sym (append-nil before))
+shown_both {A} {B} shows before (x ∷ xs) ys =
+    ap (λ (l : List B). shows before x ++ l)
+    (shown_both shows (before ++ x ∷ []) xs ys ∙ ap (λ (l : List A). shown_after shows (before ++ x ∷ []) xs ++ shown_after shows l ys) (append_assoc before (x ∷ []) xs))
+    ∙ sym (append_assoc (shows before x) (shown_after shows (before ++ x ∷ []) xs) (shown_after shows (before ++ x ∷ xs) ys))
+
+-- ---- what comes to a node
+
+quiet_at : (node : ℕ) (past : List Entry) (e : Entry) → IsQuiet e → brought_at node past e ≡ []
+quiet_at node past (entry.Said words) quiet = absurd quiet
+quiet_at node past (entry.Heard frame) quiet = absurd quiet
+quiet_at node past e quiet = refl
+
+none_shown : (node : ℕ) (past told : List Entry) → AreQuiet told → shown_after (brought_at node) past told ≡ []
+none_shown node past [] quiet = refl
+none_shown node past (e ∷ told) quiet =
+    ap (λ (l : List ComingAt). l ++ shown_after (brought_at node) (past ++ e ∷ []) told) (quiet_at node past e quiet.0) ∙ none_shown node (past ++ e ∷ []) told quiet.1
+
+pub still_brought : (node : ℕ) (past told : List Entry) → AreQuiet told → brought node (past ++ told) ≡ brought node past
+still_brought node past told quiet =
+    shown_both (brought_at node) [] past told ∙ (ap (λ (l : List ComingAt). brought node past ++ l) (none_shown node past told quiet) ∙ append-nil (brought node past))
+
+-- that a frame is heard, and what is quiet after it
+pub heard_brought : (node : ℕ) (past : List Entry) (number : ℕ) (told : List Entry) → AreQuiet told
+    → brought node (past ++ entry.Heard number ∷ told) ≡ brought node past ++ brought_by node (lived_by past) (frame_of past number)
+heard_brought node past number told quiet =
+    shown_both (brought_at node) [] past (entry.Heard number ∷ told)
+    ∙ ap (λ (l : List ComingAt). brought node past ++ l)
+    (ap (λ (l : List ComingAt). brought_by node (lived_by past) (frame_of past number) ++ l) (none_shown node (past ++ entry.Heard number ∷ []) told quiet)
+    ∙ append-nil (brought_by node (lived_by past) (frame_of past number)))
+
+-- the words of a line
+pub said_brought : (node : ℕ) (past : List Entry) (words : List ℕ) (line : Line) → line_of (entry.Said words) ≡ line ∷ []
+    → brought node (past ++ entry.Said words ∷ []) ≡ brought node past ++ asked_by node (ticks_asked (lines_run past)) (line ∷ [])
+said_brought node past words line read =
+    shown_both (brought_at node) [] past (entry.Said words ∷ [])
+    ∙ ap (λ (l : List ComingAt). brought node past ++ l)
+    (append-nil (asked_by node (ticks_asked (lines_run past)) (line_of (entry.Said words))) ∙ ap (λ (l : List Line). asked_by node (ticks_asked (lines_run past)) l) read)
+
+-- a line that wakes or sets none brings nothing
+pub asks_none : (node ticks : ℕ) (line : Line) → (IsActing line → ⊥) → asked_by node ticks (line ∷ []) ≡ []
+asks_none node ticks (lines.Wake at) none = absurd (none tt)
+asks_none node ticks (lines.Local at value) none = absurd (none tt)
+asks_none node ticks line none = refl
+
+pub repeat_asks_none : (node ticks frame : ℕ) → asked_by node ticks (lines.Repeat frame ∷ []) ≡ []
+repeat_asks_none node ticks frame = refl
+
+-- ---- frames
+
+-- the frame of a number goes to a node and carries this
+pub record IsOut (past : List Entry) (number node : ℕ) (payload : List ℕ) : Type 0 where
+  pub frame : AirFrame
+  pub found : frame_of past number ≡ Some frame
+  pub receiver : frame.receiver ≡ node
+  pub payload_is : frame.payload ≡ payload
+
+-- one for the controller brings no other node anything
+pub home_brings : (node ticks : ℕ) (found : Option AirFrame) (carried : Carried) → node ≢ controller → homeward found ≡ carried ∷ [] → brought_by node ticks found ≡ []
+home_brings node ticks None carried apart home = refl
+home_brings node ticks (Some frame) carried apart home = by (frame.receiver == controller) refl home
+  where
+    by : (b : Bool) → (frame.receiver == controller) ≡ b → if◌then◌else◌ {A = List Carried} b (record { node = frame.sender; payload = frame.payload } ∷ []) [] ≡ carried ∷ []
+        → brought_by node ticks (Some frame) ≡ []
+    by true is home =
+        let receiver : frame.receiver ≡ controller = eqb-true frame.receiver controller is in
+        let other : (frame.receiver == node) ≡ false = ne_eqb frame.receiver node (λ same. apart (sym same ∙ receiver)) in
+        rw other refl
+    by false is home = absurd cc
+
+-- ---- a device has one event more
+
+after_one : (device : State) (events : List DeviceEvent) (event : DeviceEvent) → after_events device (events ++ event ∷ []) ≡ device_after (after_events device events) event
+after_one device [] event = refl
+after_one device (first ∷ events) event = after_one (device_after device first) events event
+
+ticks_one : (events : List DeviceEvent) (event : DeviceEvent) → ticks_lived (events ++ event ∷ []) ≡ ticks_lived events + ticks_in event
+ticks_one [] event = omega arith
+ticks_one (first ∷ events) event = let rest = ticks_one events event in omega (arith, rest)
+
+pub lived_on : (ticks : ℕ) (came : List ComingAt) (old new : State) (event : DeviceEvent) → Lived ticks came old new
+    → Lived (ticks + ticks_in event) (came ++ coming_of ticks event) old (device_after new event)
+lived_on ticks came old new event lived = record {
+  events = lived.events ++ event ∷ [];
+  runs = ap (λ (s : State). device_after s event) lived.runs ∙ sym (after_one old lived.events event);
+  comes = shown_both (λ (past : List DeviceEvent) (one : DeviceEvent). coming_of (ticks_lived past) one) [] lived.events (event ∷ [])
+      ∙ (ap (λ (l : List ComingAt). l ++ (coming_of (ticks_lived lived.events) event ++ [])) lived.comes
+      ∙ (ap (λ (n : ℕ). came ++ (coming_of n event ++ [])) lived.ticked ∙ ap (λ (l : List ComingAt). came ++ l) (append-nil (coming_of ticks event))));
+  ticked = ticks_one lived.events event ∙ ap (λ (n : ℕ). n + ticks_in event) lived.ticked;
+}
+
+pub lived_as : (ticks now : ℕ) (came comes : List ComingAt) (old new : State) → now ≡ ticks → comes ≡ came → Lived ticks came old new → Lived now comes old new
+lived_as ticks now came comes old new same shown lived = record { events = lived.events; runs = lived.runs; comes = lived.comes ∙ sym shown; ticked = lived.ticked ∙ sym same }

@@ -1,0 +1,50 @@
+-- What a walk makes of lines whose events all have something more.
+use Rattle.std.proofs.Common.{List, [], ◌∷◌, ◌++◌, sym, subst, append-nil, append_assoc}
+use Rattle.zw_text.specs.declared.entry.Entry.{Entry}
+use Rattle.zw_text.specs.declared.entry.Entry.TheVariants.{Said}
+use Rattle.law_transcript.specs.Lists.{EachAfter}
+use Rattle.proof_host.proofs.Lists.{each-append}
+use Rattle.world_model.specs.State.{Machine}
+use Rattle.world_model.specs.Events.{Event, happens, entries}
+use Rattle.world_model.specs.Did.{happens_all, entries_all, MayAll, AllAlong}
+use Rattle.world_lines.specs.Spoken.{Spoken, after, entries_of, transcript_of}
+use Rattle.world_lines.specs.Done.{AreDone, events_of}
+use Rattle.proof_walk.specs.Phases.{Phase, Between}
+use Rattle.proof_walk.specs.Paths.{Path}
+use Rattle.proof_walk.specs.Paths.Path.{Ends, Turned, Stepped}
+use Rattle.proof_walk.specs.Walk.{WalkWhere}
+use Rattle.proof_walk.proofs.Lines.{whole_line, line_part}
+
+-- events one after another have it, and so have both parts of them
+pub along_parts : (Has : Machine → Event → Type 0) (m : Machine) (a b : List Event) → AllAlong Has m (a ++ b) → AllAlong Has m a × AllAlong Has (happens_all m a) b
+along_parts Has m [] b all = (tt, all)
+along_parts Has m (event ∷ a) b all = let more = along_parts Has (happens m event) a b all.1 in ((all.0, more.0), more.1)
+
+module _ (Has : Machine → Event → Type 0) (Asks : List Entry → Entry → Type 0) (Know : Phase → List Entry → Machine → Type 0) (walk : WalkWhere Has Asks Know) where
+  along_where : {last here : Phase} {m : Machine} {events : List Event} → Path last here m events → MayAll m events → AllAlong Has m events → (past : List Entry) → Know here past m
+      → EachAfter Asks past (entries_all m events) × Know last (past ++ entries_all m events) (happens_all m events)
+  along_where {last} {m = m} Ends may has past knows = (tt, subst (λ (l : List Entry). Know last l m) (sym (append-nil past)) knows)
+  along_where {here = here} {m = m} (Turned {next = next} turns path) may has past knows = along_where path may has past (walk.turn here next past m turns knows)
+  along_where {last} {here} {m = m} (Stepped {next = next} {event = event} {events = events} goes path) may has past knows =
+      let got = walk.event here next past m event goes may.0 has.0 knows in
+      let more = along_where path may.1 has.1 (past ++ entries m event) got.1 in (
+        each-append Asks past (entries m event) (entries_all (happens m event) events) got.0 more.0,
+        subst (λ (l : List Entry). Know last l (happens_all (happens m event) events)) (append_assoc past (entries m event) (entries_all (happens m event) events)) more.1,
+      )
+
+  -- every entry keeps the law
+  pub where_stand : (past : List Entry) (m : Machine) (lines : List Spoken) → AreDone m lines → AllAlong Has m (events_of lines) → Know Between past m → EachAfter Asks past (transcript_of m lines)
+  where_stand past m [] are has knows = tt
+  where_stand past m (line ∷ []) are has knows =
+      let said = walk.said past m line.words line.line are.0.read knows in
+      let part = line_part line.line m line.events are.0.is_line in
+      subst (EachAfter Asks past) (sym (append-nil (entries_of m line)))
+      (said.0, (along_where part.1 are.0.may (along_parts Has m line.events [] has).0 (past ++ Said line.words ∷ []) said.1).0)
+  where_stand past m (line ∷ (next ∷ more)) are has knows =
+      let said = walk.said past m line.words line.line are.0.read knows in
+      let both = along_parts Has m line.events (events_of (next ∷ more)) has in
+      let got = along_where (whole_line line.line m line.events are.0.is_line) are.0.may both.0 (past ++ Said line.words ∷ []) said.1 in
+      let known : Know Between (past ++ entries_of m line) (after m line)
+      = subst (λ (l : List Entry). Know Between l (after m line)) (append_assoc past (Said line.words ∷ []) (entries_all m line.events)) got.1 in
+      each-append Asks past (entries_of m line) (transcript_of (after m line) (next ∷ more)) (said.0, got.0)
+      (where_stand (past ++ entries_of m line) (after m line) (next ∷ more) are.1 both.1 known)
