@@ -141,12 +141,12 @@ heard_picked past number node payload has home =
 -- ---- the frames that the air keeps
 
 -- the frame at a place went on the air so
-record Departs (log : List Mark) (at : ℕ) (frame : Flown) : Type 0 where
-  departs : Departure
-  there : departure_at log at ≡ Some departs
-  node : departs.node ≡ frame.node
-  heading : departs.heading ≡ frame.heading
-  payload : departs.payload ≡ frame.payload
+pub record Departs (log : List Mark) (at : ℕ) (frame : Flown) : Type 0 where
+  pub departs : Departure
+  pub there : departure_at log at ≡ Some departs
+  pub node : departs.node ≡ frame.node
+  pub heading : departs.heading ≡ frame.heading
+  pub payload : departs.payload ≡ frame.payload
 
 departs_so : (before log : List Mark) (at : ℕ) (frame : Flown) → slice_get (stamped before log) at ≡ Some frame → Departs log at frame
 departs_so before [] at frame is = absurd cc
@@ -180,14 +180,20 @@ module _ (past : List Entry) (w : Outside) (tie : Tie nothing past w) where
   abbrev state : FramesState
   state = w.outer.air.frames
 
+  -- the frame at a place, and how the transcript shows it
+  pub went_so : (at : ℕ) (frame : Flown) → slice_get (stamped [] tie.log) at ≡ Some frame → Departs tie.log at frame
+  went_so at frame is = departs_so [] tie.log at frame is
+
+  pub shown_so : (at : ℕ) (frame : Flown) (is : slice_get (stamped [] tie.log) at ≡ Some frame) → option_map departure (slice_get (frames past) at) ≡ Some (plain (went_so at frame is).departs)
+  shown_so at frame is =
+      let same : log_of past ≡ plain_log tie.log = sym (tie.shown ∙ append-nil (log_of past)) in
+      sym (frame_sent past at) ∙ (ap (λ (l : List Mark). departure_at l at) same ∙ (plain_at tie.log at ∙ ap (option_map plain) (went_so at frame is).there))
+
   at_home : (at : ℕ) (frame : Flown) → slice_get (stamped [] tie.log) at ≡ Some frame → frame.heading ≡ Homeward → IsHome past (suc at) frame.node frame.payload
   at_home at frame is heads =
-      let went = departs_so [] tie.log at frame is in
-      let same : log_of past ≡ plain_log tie.log = sym (tie.shown ∙ append-nil (log_of past)) in
-      let sent : departure_at (log_of past) at ≡ Some (plain went.departs) =
-      ap (λ (l : List Mark). departure_at l at) same ∙ (plain_at tie.log at ∙ ap (option_map plain) went.there) in
+      let went = went_so at frame is in
       ap homeward (at_its_place past at)
-      ∙ found_home (slice_get (frames past) at) (plain went.departs) frame.node frame.payload (sym (frame_sent past at) ∙ sent) (went.heading ∙ heads) went.node went.payload
+      ∙ found_home (slice_get (frames past) at) (plain went.departs) frame.node frame.payload (shown_so at frame is) (went.heading ∙ heads) went.node went.payload
 
   -- the last frames of the history
   long : length (stamped [] tie.log) ≡ state.sent
@@ -201,34 +207,41 @@ module _ (past : List Entry) (w : Outside) (tie : Tie nothing past w) where
       sym (ap (λ (l : List Flown). slice_get l at) tie.kept.frames ∙ slice_get-drop (state.sent - kept state.sent state.landed) (stamped [] tie.log) at place same) ∙ is
 
   -- the next one to arrive
-  pub next_home : (frame : Flown) → next_of state ≡ Some frame → frame.heading ≡ Homeward → IsHome past (state.landed + 1) frame.node frame.payload
-  next_home frame next heads = by (nat_lt state.landed state.sent) refl next
+  pub next_stands : (frame : Flown) → next_of state ≡ Some frame → slice_get (stamped [] tie.log) state.landed ≡ Some frame
+  next_stands frame next = by (nat_lt state.landed state.sent) refl next
     where
       by : (b : Bool) → nat_lt state.landed state.sent ≡ b → (if b then slice_get state.frames (state.landed - (state.sent - length state.frames)) else None) ≡ Some frame
-          → IsHome past (state.landed + 1) frame.node frame.payload
+          → slice_get (stamped [] tie.log) state.landed ≡ Some frame
       by true below found =
           let flying = ltb-true state.landed state.sent below in
           let count = few in
           let order = tie.kept.order in
           let place : state.landed ≡ (state.sent - kept state.sent state.landed) + (state.landed - (state.sent - length state.frames)) = omega arith in
-          let number : suc state.landed ≡ state.landed + 1 = omega arith in
-          subst (λ (n : ℕ). IsHome past n frame.node frame.payload) number (at_home state.landed frame (at_place (state.landed - (state.sent - length state.frames)) state.landed frame place found) heads)
+          at_place (state.landed - (state.sent - length state.frames)) state.landed frame place found
       by false below found = absurd cc
 
+  pub next_home : (frame : Flown) → next_of state ≡ Some frame → frame.heading ≡ Homeward → IsHome past (state.landed + 1) frame.node frame.payload
+  next_home frame next heads =
+      let number : suc state.landed ≡ state.landed + 1 = omega arith in
+      subst (λ (n : ℕ). IsHome past n frame.node frame.payload) number (at_home state.landed frame (next_stands frame next) heads)
+
   -- one that may be repeated
-  pub again_home : (number : ℕ) (frame : Flown) → remembered state number ≡ Some frame → frame.heading ≡ Homeward → IsHome past number frame.node frame.payload
-  again_home zero frame is heads = absurd cc
-  again_home (suc at) frame is heads = by (nat_lt 0 (suc at)) (nat_le (suc at) state.sent) (nat_le (state.sent - suc at) 4096) refl refl is
+  pub again_stands : (at : ℕ) (frame : Flown) → remembered state (suc at) ≡ Some frame → slice_get (stamped [] tie.log) at ≡ Some frame
+  again_stands at frame is = by (nat_lt 0 (suc at)) (nat_le (suc at) state.sent) (nat_le (state.sent - suc at) 4096) refl refl is
     where
       by : (some sent late : Bool) → nat_le (suc at) state.sent ≡ sent → nat_le (state.sent - suc at) 4096 ≡ late
-          → (if some && (sent && late) then slice_get state.frames (length state.frames - (state.sent - suc at) - 1) else None) ≡ Some frame → IsHome past (suc at) frame.node frame.payload
+          → (if some && (sent && late) then slice_get state.frames (length state.frames - (state.sent - suc at) - 1) else None) ≡ Some frame → slice_get (stamped [] tie.log) at ≡ Some frame
       by true true true within recent found =
           let below = leb-true (suc at) state.sent within in
           let near = leb-true (state.sent - suc at) 4096 recent in
           let count = few in
           let order = tie.kept.order in
           let place : at ≡ (state.sent - kept state.sent state.landed) + (length state.frames - (state.sent - suc at) - 1) = omega arith in
-          at_home at frame (at_place (length state.frames - (state.sent - suc at) - 1) at frame place found) heads
+          at_place (length state.frames - (state.sent - suc at) - 1) at frame place found
       by false sent late within recent found = absurd cc
       by true false late within recent found = absurd cc
       by true true false within recent found = absurd cc
+
+  pub again_home : (number : ℕ) (frame : Flown) → remembered state number ≡ Some frame → frame.heading ≡ Homeward → IsHome past number frame.node frame.payload
+  again_home zero frame is heads = absurd cc
+  again_home (suc at) frame is heads = at_home at frame (again_stands at frame is) heads

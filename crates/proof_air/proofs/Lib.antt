@@ -1,4 +1,4 @@
-pub mod Logs
+mod Logs
 mod Silent
 mod Airing
 pub mod Judging

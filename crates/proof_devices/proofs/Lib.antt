@@ -7,3 +7,6 @@ mod Hearing
 mod Numbers
 mod Walking
 mod Whole
+mod Awake
+mod Now
+mod Listening

@@ -98,7 +98,7 @@ after_one : (device : State) (events : List DeviceEvent) (event : DeviceEvent) �
 after_one device [] event = refl
 after_one device (first ∷ events) event = after_one (device_after device first) events event
 
-ticks_one : (events : List DeviceEvent) (event : DeviceEvent) → ticks_lived (events ++ event ∷ []) ≡ ticks_lived events + ticks_in event
+pub ticks_one : (events : List DeviceEvent) (event : DeviceEvent) → ticks_lived (events ++ event ∷ []) ≡ ticks_lived events + ticks_in event
 ticks_one [] event = omega arith
 ticks_one (first ∷ events) event = let rest = ticks_one events event in omega (arith, rest)
 

@@ -54,7 +54,7 @@ lived_now reached clock place below = let is : nat_lt place reached ≡ true = g
 lived_later : (reached clock place : ℕ) → reached ≤ place → lived_in reached clock place ≡ clock - 1
 lived_later reached clock place above = let is : nat_lt place reached ≡ false = grind (arith, above, nat_tests) in ap (λ (b : Bool). if b then clock else clock - 1) is
 
-lived_none : (clock place : ℕ) → lived_in 0 clock place ≡ clock - 1
+pub lived_none : (clock place : ℕ) → lived_in 0 clock place ≡ clock - 1
 lived_none clock place = lived_later 0 clock place (omega arith)
 
 lived_apart : (place clock other : ℕ) → other ≢ place → lived_in (place + 1) clock other ≡ lived_in place clock other
@@ -248,7 +248,7 @@ module _ (olds : List State) where
   -- ---- the effect of a line
 
   -- the words of a line that wakes or sets none bring nothing
-  after_words : (line : Line) (past : List Entry) (m : Machine) → Saying olds line past m → ((node ticks : ℕ) → asked_by node ticks (line ∷ []) ≡ []) → Rested olds past m
+  pub after_words : (line : Line) (past : List Entry) (m : Machine) → Saying olds line past m → ((node ticks : ℕ) → asked_by node ticks (line ∷ []) ≡ []) → Rested olds past m
   after_words line past m saying none =
       subst (λ (l : List Entry). Rested olds l m) (sym saying.is)
       (tie_still olds (λ place. m.outside.outer.clock) (λ place. m.outside.outer.clock) saying.before (saying.before ++ entry.Said saying.words ∷ []) m.outside m.outside refl (λ place. refl)
@@ -256,7 +256,7 @@ module _ (olds : List State) where
       ∙ (ap (λ (l : List ComingAt). brought old.node saying.before ++ l) (none old.node (ticks_asked (lines_run saying.before))) ∙ append-nil (brought old.node saying.before))) saying.rested)
 
   -- a frame is repeated
-  repeats_said : (frame : ℕ) (past : List Entry) (m : Machine) → Saying olds (lines.Repeat frame) past m → repeats past ≡ true
+  pub repeats_said : (frame : ℕ) (past : List Entry) (m : Machine) → Saying olds (lines.Repeat frame) past m → repeats past ≡ true
   repeats_said frame past m saying =
       ap repeats saying.is ∙ ap is_repeat (folded-append line_after [] saying.before (entry.Said saying.words ∷ []) ∙ saying.read)
 

@@ -2,6 +2,7 @@
 -- lived the ticks that have begun; but for the running one, until its turn comes in that. The words of a line that wakes or sets one, or that repeats a frame, are counted by its event.
 use Rattle.std.specs.Prelude.{◌≡◌, ◌≢◌, ◌≤◌, ◌⊎◌, ℕ, ◌+◌, ◌-◌, nat_lt, if◌then◌else◌, Bool, false, List, [], ◌∷◌, ◌++◌, length, Some, slice_get, ⊤}
 use Rattle.std.specs.List.{AllByRecursion}
+use Rattle.device_kinds.specs.declared.kind.Kind.TheVariants.{Lock}
 use Rattle.device_sim.specs.State.{State}
 use Rattle.device_sim.specs.Event.{DeviceEvent}
 use Rattle.mesh_sim.specs.Fates.{place_of}
@@ -131,3 +132,11 @@ pub record LivedAsShown (node : ℕ) (transcript : List Entry) (old new : State)
 abbrev pub AllLivedAsShown : List State → List Entry → List State → Type 0
 AllLivedAsShown olds transcript news =
     (node : ℕ) (old new : State) → node ≢ controller → device_of node olds ≡ Some old → device_of node news ≡ Some new → LivedAsShown node transcript old new
+
+-- ---- a device without what it drew
+
+-- a device of which one was shown is the same, or is a lock, which is as awake as that
+pub record IsNow (shown real : State) : Type 0 where
+  pub kind : real.kind ≡ shown.kind
+  pub awake : real.awake ≡ shown.awake
+  pub plain : (shown.kind ≡ Lock → ⊥) → real ≡ shown
