@@ -14,7 +14,6 @@ mod kind;
 mod laws;
 mod line;
 mod orders;
-mod range;
 mod scene;
 mod sessions;
 mod setting;

@@ -4,10 +4,10 @@ ghost use Rattle.std.specs.Prelude.{◌≡◌, IfOk, MatchOption};
 ghost use Rattle.zw_text.specs.Fits.{feeds};
 ghost use Rattle.audit_books.specs.Lines.{IsCut, IsNext, IsNoLine};
 
-use crate::range;
 use std::alloc::Global;
 use zw_base::NoMemory;
 use zw_parse::{EntryFault, read_entry};
+use zw_range::entry_in_range;
 use zw_text::Entry;
 
 /// The byte that ends a line.
@@ -34,7 +34,7 @@ pub fn next_entry(alloc: Global, text: &[u8]) -> Result<Option<(Entry, &[u8])>, 
     };
     match read_entry(alloc, line) {
         Ok(entry) => {
-            range::entry(&entry);
+            entry_in_range(&entry);
             Ok(Some((entry, rest)))
         }
         Err(EntryFault::Bad) => Ok(None),

@@ -7,9 +7,9 @@ ghost use Rattle.host_orders.specs.Messages.{level_of as level_by};
 ghost use Rattle.audit_books.specs.Asking.{IsNoneThere, is_there, same_setting, settings_asked};
 
 use crate::kind::actuator_of;
-use crate::range::setting_in_range;
 use host_orders::Actuator;
 use zw_base::{EndPoint, Name, Order, Property, Setting, What, Word, properties_in_order};
+use zw_range::setting_in_range;
 
 /// The level of a dimmer that is all the way on, in per cent.
 const FULL_LEVEL: u32 = 99;

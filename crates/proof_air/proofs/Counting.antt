@@ -115,7 +115,7 @@ aired_at n (first ∷ more) (suc at) frame aired is =
     let sum : ((n + 1) + at) + 1 ≡ (n + suc at) + 1 = omega arith in
     (rest.0 ∙ sum, rest.1)
 
-no_frame : (past : List Entry) (e : Entry) → frame_at e ≡ [] → length (frames (past ++ e ∷ [])) ≡ length (frames past)
+pub no_frame : (past : List Entry) (e : Entry) → frame_at e ≡ [] → length (frames (past ++ e ∷ [])) ≡ length (frames past)
 no_frame past e none =
     ap length (flat_map-append frame_at past (e ∷ []))
     ∙ (ap (λ (l : List AirFrame). length (frames past ++ (l ++ []))) none ∙ ap length (append-nil (frames past)))

@@ -12,3 +12,8 @@ mod Ports
 mod Putting
 mod Bringing
 pub mod Handling
+mod SentBefore
+mod Fateless
+mod Fated
+mod LandingWalk
+mod Doing

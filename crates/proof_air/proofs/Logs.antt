@@ -34,7 +34,7 @@ plain_begun node [] = refl
 plain_begun node (Goes departure ∷ log) = plain_begun node log
 plain_begun node (Begins other ∷ log) = ap (λ (n : ℕ). (if other == node then 1 else 0) + n) (plain_begun node log)
 
-plain_sent : (log : List Mark) → goes_in (plain_log log) ≡ goes_in log
+pub plain_sent : (log : List Mark) → goes_in (plain_log log) ≡ goes_in log
 plain_sent [] = refl
 plain_sent (Goes departure ∷ log) = ap suc (plain_sent log)
 plain_sent (Begins node ∷ log) = plain_sent log

@@ -73,7 +73,7 @@ silent_log past told silent = log_grows past told ∙ silent_steps (log_of past)
 
 -- ---- what stands after entries that are no lines
 
-last_is : (past : List Entry) (e : Entry) → line_last (past ++ e ∷ []) ≡ line_of e
+pub last_is : (past : List Entry) (e : Entry) → line_last (past ++ e ∷ []) ≡ line_of e
 last_is past e = folded-append line_after [] past (e ∷ [])
 
 no_line : (e : Entry) → IsNoLine e → line_of e ≡ []

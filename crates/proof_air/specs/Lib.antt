@@ -1,3 +1,5 @@
 pub mod Logs
 pub mod Hearing
 pub mod Carrying
+pub mod Landing
+pub mod Doing

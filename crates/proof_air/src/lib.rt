@@ -4,15 +4,21 @@
 //! line is, and is proved on the walk of `proof_walk`. `history_goes_on` ties the history of
 //! the air to the transcript, at each phase of a line. Of repeats: `lines_repeat_what_is_fresh`, and
 //! `lines_refuse_what_is_old` after whole lines. Of what comes to the controller: `handlers_go_on`, over the history of the air, and with it
-//! `lines_bring_what_was_heard`.
+//! `lines_bring_what_was_heard`. Of when frames have their fate: `landings_go_on`, over the history of the air and over time, and with it `lines_land_in_time`.
+//! Of who does what is entered of devices: `lines_are_done_by_devices`.
 //! The definitions are in `specs/`: `Logs` (the history of the air that a transcript shows, and its tie to the history that the air keeps), `Hearing` (what
-//! is known of it at each phase of a line) and `Carrying` (what is known of the frames that the chip holds for the host).
+//! is known of it at each phase of a line), `Carrying` (what is known of the frames that the chip holds for the host), `Landing` (what is known of the
+//! frames that have had their fate) and `Doing` (what is known of who does what).
 #![tactic(auto)]
 
 mod carrying;
+mod doings;
 mod history;
+mod landing;
 mod repeats;
 
 pub use carrying::{handlers_go_on, lines_bring_what_was_heard};
+pub use doings::lines_are_done_by_devices;
 pub use history::history_goes_on;
+pub use landing::{landings_go_on, lines_land_in_time};
 pub use repeats::{lines_refuse_what_is_old, lines_repeat_what_is_fresh};

@@ -1,5 +1,5 @@
--- Words that are joined by one space are split into the same words, and are no longer than the text that they came from.
-use Rattle.std.proofs.Common.{◌≡◌, ℕ, zero, suc, ◌+◌, ◌-◌, ◌≤◌, eqb, ltb, Bool, true, false, cond, ◌||◌, List, [], ◌∷◌, length, get_or, take, arith, ap, refl, ◌∙◌, ne_eqb, length-append}
+-- Words that are joined by one space are split into the same words, are one line, and are no longer than the text that they came from.
+use Rattle.std.proofs.Common.{◌≡◌, ℕ, zero, suc, ◌+◌, ◌-◌, ◌≤◌, eqb, ltb, Bool, true, false, cond, not, ◌||◌, List, [], ◌∷◌, length, get_or, take, arith, ap, refl, ◌∙◌, ne_eqb, length-append}
 use Rattle.std.specs.Prelude.{filter}
 use Rattle.std.specs.List.{AllByRecursion, join_with_byte, list_all, onto_first, slice_split}
 use Rattle.std.proofs.lemmas.Bool.{and_from, and_parts, ltb-true}
@@ -7,7 +7,9 @@ use Rattle.std.proofs.lemmas.List.{length-take-le}
 use Rattle.std.proofs.lemmas.List.Elements.{All-from_recursion}
 use Rattle.std.proofs.lemmas.List.Splits.{slice_split_at, slice_split_none}
 use Rattle.zw_words.specs.Words.{is_blank, is_remark, is_word, without_return, words}
+use Rattle.zw_text.specs.Fits.{feeds}
 use Rattle.zw_parse.proofs.Pieces.{Solid, lacks-append, weaker}
+use Rattle.proof_audit.proofs.JsonLines.{none_counted}
 
 -- a word of bytes above the space
 pub record IsSolidWord (word : List ℕ) : Type 0 where
@@ -117,6 +119,18 @@ pub joined_has_no_return : (word : List ℕ) (more : List (List ℕ)) → AllByR
 joined_has_no_return word more all =
     let text = join_with_byte 32 (word ∷ more) in
     ap (λ (t : Bool). cond t (take (length text - 1) text) text) (at_passes text (length text - 1) (joined_pass word more all))
+
+-- ---- no line feed
+
+no_feed : (b : ℕ) → ltb 31 b ≡ true → not (eqb b 10) ≡ true
+no_feed b above =
+    let high = ltb-true 31 b above in
+    ap not (ne_eqb b 10 (λ same. omega (arith, high, same)))
+
+pub joined_has_no_feed : (word : List ℕ) (more : List (List ℕ)) → AllByRecursion IsSolidWord (word ∷ more) → feeds (join_with_byte 32 (word ∷ more)) ≡ 0
+joined_has_no_feed word more all =
+    let text = join_with_byte 32 (word ∷ more) in
+    none_counted text (weaker (λ b. ltb 31 b) (λ b. not (eqb b 10)) no_feed text (joined_pass word more all))
 
 -- ---- no remark
 

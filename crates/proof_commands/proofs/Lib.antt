@@ -9,7 +9,10 @@ pub mod Speaking
 pub mod Unread
 pub mod Told
 pub mod Unentered
+pub mod Further
 pub mod Tables
+pub mod ReadBack
+mod KeptRules
 pub mod Generated
 pub mod Stepping
 pub mod Living

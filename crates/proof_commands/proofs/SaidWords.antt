@@ -3,12 +3,14 @@ use Rattle.std.proofs.Common.{◌≡◌, ℕ, List, ◌∷◌, length, Ok, Some,
 use Rattle.std.specs.List.{AllByRecursion, join_with_byte}
 use Rattle.std.proofs.lemmas.Bool.{le-ltb}
 use Rattle.zw_words.specs.Words.{line_words, without_return, words}
+use Rattle.zw_text.specs.Fits.{feeds}
 use Rattle.zw_text.specs.Line.{LineText, first_word, line_at, word_text}
 use Rattle.zw_text.specs.declared.line.Line.{Line}
 use Rattle.zw_text.proofs.TextLaws.{line_again, line_takes}
 use Rattle.zw_parse.specs.Said.{SaysLine}
 use Rattle.run_lines.specs.Pieces.{joined_in, said_text}
-use Rattle.proof_commands.proofs.Joining.{IsSolidWord, joined_are_short, joined_begins, joined_has_no_return, without_return_is_short, words-joined}
+use Rattle.proof_audit.specs.Legible.{AreOfLine}
+use Rattle.proof_commands.proofs.Joining.{IsSolidWord, joined_are_short, joined_begins, joined_has_no_feed, joined_has_no_return, without_return_is_short, words-joined}
 use Rattle.proof_commands.proofs.Solid.{all_solid, first_word_is, line_solid}
 
 -- the words of the text of a line
@@ -16,12 +18,16 @@ words_are : (text : List ℕ) (line : Line) (t : LineText text line) → line_wo
 unfolding line_words
 words_are text line t = rw (le-ltb 1024 (length text) t.may_be.short, t.may_be.no_remark, t.words_are) refl
 
+solid_words : (text : List ℕ) (line : Line) (t : LineText text line) → AllByRecursion IsSolidWord (word_text (first_word line) ∷ t.rest)
+solid_words text line t =
+    all_solid (without_return text) (word_text (first_word line) ∷ t.rest) t.words_are ((first_word_is (first_word line)).solid, line_solid line t.rest t.stands)
+
 said : (text : List ℕ) (line : Line) (t : LineText text line) → LineText (join_with_byte 32 (word_text (first_word line) ∷ t.rest)) line
 said text line t =
     let word = word_text (first_word line) in
     let joined = join_with_byte 32 (word ∷ t.rest) in
     let first = first_word_is (first_word line) in
-    let all : AllByRecursion IsSolidWord (word ∷ t.rest) = all_solid (without_return text) (word ∷ t.rest) t.words_are (first.solid, line_solid line t.rest t.stands) in
+    let all = solid_words text line t in
     let short = joined_are_short (without_return text) word t.rest t.words_are in
     let cut = without_return_is_short text in
     let most = t.may_be.short in
@@ -45,10 +51,16 @@ module _ (text : List ℕ) (line : Line) (is : line_at text ≡ Ok (Some line)) 
   pub read_again : line_at (said_text text) ≡ Ok (Some line)
   read_again = subst (λ (s : List ℕ). line_at s ≡ Ok (Some line)) (sym said_is) (line_again joined line (said text line t))
 
-  pub says_line : SaysLine (said_text text)
+  says_line : SaysLine (said_text text)
   unfolding said
   says_line = record {
     line = line;
     read = subst (λ (s : List ℕ). LineText s line) (sym said_is) (said text line t);
     joined = ap said_text said_is ∙ (ap joined_in (words_are joined line (said text line t)) ∙ sym said_is);
+  }
+
+  pub are_of_line : AreOfLine (said_text text)
+  are_of_line = record {
+    says = says_line;
+    one_line = ap feeds said_is ∙ joined_has_no_feed (word_text (first_word line)) t.rest (solid_words text line t);
   }

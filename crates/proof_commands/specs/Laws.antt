@@ -31,11 +31,17 @@ use Rattle.law_transcript.specs.Payloads.{BeginsWithUnit}
 use Rattle.law_transcript.specs.Restarts.{is_restart}
 use Rattle.law_transcript.specs.Stores.{StoresConfirmed}
 use Rattle.law_wire.specs.Marks.{CollidesWhenAsked, MarksUnits}
-use Rattle.law_wire.specs.Arriving.{ForgetsDeadHops}
+use Rattle.law_wire.specs.Arriving.{ForgetsDeadHops, LandsInTime, MeetsWhatIsDue, RepeatsWhatIsAsked}
+use Rattle.law_wire.specs.Doings.{DoneByDevices}
+use Rattle.law_wire.specs.Pipes.{OverrunsWhenFull}
+use Rattle.law_wire.specs.Serial.{ended}
+use Rattle.law_host.specs.Legal.{DevicesDid, IsLegalOnAir}
 use Rattle.law_wire.specs.Routes.{GoesByRoute}
 use Rattle.law_wire.specs.Shown.{ShowsDevices}
 use Rattle.law_wire.specs.Times.{TellsTime}
 use Rattle.law_host.specs.HostLegal.{ShowsValues}
+use Rattle.proof_line.specs.Arrivals.{ClearsWholeUnits}
+use Rattle.proof_line.specs.Rooms.{AnswersFrames}
 use Rattle.proof_line.specs.Pipes.{ClearsAtRestarts, ClearsNowhereElse, OverrunsOnlyWhenFull}
 use Rattle.proof_transcript.specs.Lines.{IsNoRepeat}
 use Rattle.proof_world.specs.Devices.{GroupsSessions}
@@ -239,7 +245,8 @@ abbrev pub RepeatsNothing : List Ran → Type 0
 RepeatsNothing story = AllByRecursion (λ (ran : Ran). IsNoRepeat ran.line.line) story
 
 abbrev pub FaresFrames : List ℕ → Around → Around → Type 0
-FaresFrames key old new = AlwaysOf key old new (λ story. RepeatsNothing story ⊎ KeepsRecords key old story → FaresInTurn (transcript key old story))
+FaresFrames key old new = AlwaysOf key old new
+    (λ story. RepeatsNothing story ⊎ KeepsRecords key old story → (whole : Bool) → (whole ≡ true → AreSchedules (first key old) story) → FaresInTurn (ended whole (transcript key old story)))
 
 -- over a keeper that tells its records, each frame goes over the route of its moment
 abbrev pub RoutesFrames : List ℕ → Around → Around → Type 0
@@ -247,7 +254,50 @@ RoutesFrames key old new = AlwaysOf key old new (λ story. (texts : List (List �
 
 -- and of a frame that nobody heard the chip forgets the first dead hop, and no other link
 abbrev pub ForgetsHops : List ℕ → Around → Around → Type 0
-ForgetsHops key old new = AlwaysOf key old new (λ story. (texts : List (List ℕ)) → old.records ≡ Some texts → ForgetsDeadHops (transcript key old story))
+ForgetsHops key old new = AlwaysOf key old new
+    (λ story. (texts : List (List ℕ)) → old.records ≡ Some texts → (whole : Bool) → (whole ≡ true → AreSchedules (first key old) story) → ForgetsDeadHops (ended whole (transcript key old story)))
+
+-- a frame has its fate in the tick after, also one that is owed at the end of a story that was run whole
+abbrev pub LandsFrames : List ℕ → Around → Around → Type 0
+LandsFrames key old new = AlwaysOf key old new
+    (λ story. (whole : Bool) → (whole ≡ true → AreSchedules (first key old) story) → LandsInTime (ended whole (transcript key old story)))
+
+-- a frame is heard again directly after a line that repeats it, where it is fresh and somebody is there to hear it
+abbrev pub RepeatsAsAsked : List ℕ → Around → Around → Type 0
+RepeatsAsAsked key old new = AlwaysOf key old new
+    (λ story. KeepsRecords key old story → (whole : Bool) → (whole ≡ true → AreSchedules (first key old) story) → RepeatsWhatIsAsked old.devices (ended whole (transcript key old story)))
+
+-- over a keeper that tells its records, each frame meets the fate that is due
+abbrev pub MeetsFates : List ℕ → Around → Around → Type 0
+MeetsFates key old new = AlwaysOf key old new (λ story. (texts : List (List ℕ)) → old.records ≡ Some texts → MeetsWhatIsDue old.devices (transcript key old story))
+
+-- all of this as one law, over a keeper that tells its records and had none at first
+abbrev pub KeepsAir : List ℕ → Around → Around → Type 0
+KeepsAir key old new = AlwaysOf key old new
+    (λ story. old.records ≡ Some [] → (whole : Bool) → (whole ≡ true → AreSchedules (first key old) story) → IsLegalOnAir whole old.devices (transcript key old story))
+
+-- ---- the devices
+
+-- no change and no frame is of a node that has no device
+abbrev pub DoneByNodes : List ℕ → Around → Around → Type 0
+DoneByNodes key old new = AlwaysOf key old new (λ story. DoneByDevices old.devices (transcript key old story))
+
+-- the keeper tells its records and had none at first, and the devices are as their makers left them, one a node
+pub record IsFairWorld (key : List ℕ) (old : Around) : Type 0 where
+  pub told : old.records ≡ Some []
+  pub made : AllByRecursion (IsAsMade key) old.devices
+  pub apart : AreApart old.devices
+
+-- each line was run whole, and all is entered
+pub record IsWhole (key : List ℕ) (old : Around) (story : List Ran) (unentered : List Event) : Type 0 where
+  pub schedules : AreSchedules (first key old) story
+  pub all_entered : unentered ≡ []
+
+-- There each device went from its state at entry to that at exit by what is shown to have come to it; all that it did then is shown, and at once; and nothing is done by
+-- a node without a device. Where the last line was cut short, something of that may lack.
+abbrev pub DoesAsShown : List ℕ → Around → Around → Type 0
+DoesAsShown key old new = Always key old new
+    (λ story unentered. IsFairWorld key old → (whole : Bool) → (whole ≡ true → IsWhole key old story unentered) → DevicesDid whole old.devices new.devices (transcript key old story))
 
 -- ---- the serial line
 
@@ -270,6 +320,18 @@ BringsHeard key old new = AlwaysOf key old new (λ story. BringsWhatWasHeard (tr
 -- a unit is overrun only where what its pipe may still hold, by what stands before it, leaves it no room
 abbrev pub OverrunsWithoutRoom : List ℕ → Around → Around → Type 0
 OverrunsWithoutRoom key old new = AlwaysOf key old new (λ story. OverrunsOnlyWhenFull (transcript key old story))
+
+-- and over a keeper that tells its records and had none at first, each unit that has no room is
+abbrev pub OverrunsAsDue : List ℕ → Around → Around → Type 0
+OverrunsAsDue key old new = AlwaysOf key old new (λ story. old.records ≡ Some [] → OverrunsWhenFull (transcript key old story))
+
+-- an answer stands only where a data frame of the other side has arrived and has none yet, over such a keeper
+abbrev pub AnswersData : List ℕ → Around → Around → Type 0
+AnswersData key old new = AlwaysOf key old new (λ story. old.records ≡ Some [] → AnswersFrames (transcript key old story))
+
+-- and what a restart clears of a side is all bytes of the units of it that arrived last
+abbrev pub ClearsUnits : List ℕ → Around → Around → Type 0
+ClearsUnits key old new = AlwaysOf key old new (λ story. old.records ≡ Some [] → ClearsWholeUnits (transcript key old story))
 
 -- Bytes are cleared only directly after the words of a `restart`, no more than the pipe may hold; and what stands directly after those that were not refused is all
 -- that is told of them.
@@ -341,11 +403,20 @@ pub record StoriesKeepLaws (key : List ℕ) (old new : Around) : Type 0 where
   pub fares : FaresFrames key old new
   pub routes : RoutesFrames key old new
   pub forgets : ForgetsHops key old new
+  pub lands : LandsFrames key old new
+  pub repeats : RepeatsAsAsked key old new
+  pub meets : MeetsFates key old new
+  pub air : KeepsAir key old new
+  pub done_by : DoneByNodes key old new
+  pub devices : DoesAsShown key old new
   pub carries : CarriesWhatWasAsked key old new
   pub brings : BringsHeard key old new
   pub collides : CollidesAsAsked key old new
   pub marks : MarksAsAsked key old new
   pub overruns : OverrunsWithoutRoom key old new
+  pub overrun : OverrunsAsDue key old new
+  pub acknowledges : AnswersData key old new
   pub clears : ClearsWhenRestarted key old new
+  pub clears_whole : ClearsUnits key old new
   pub clears_only : ClearsNothingElse key old new
   pub ticks : NumbersTicks key old new

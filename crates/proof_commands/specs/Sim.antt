@@ -1,6 +1,7 @@
 -- What a run of `sim` keeps true (this project's own rule): it has a story, whose lines are those that it read, and it writes the transcript of this story.
-use Rattle.std.specs.Prelude.{◌≡◌, ℕ, Bool, ◌⊎◌, List, [], ◌∷◌, ◌++◌, Option}
+use Rattle.std.specs.Prelude.{◌≡◌, ℕ, Bool, false, ◌⊎◌, List, [], ◌∷◌, ◌++◌, Option}
 use Rattle.std.specs.Io.KnownBytes.{Appends}
+use Rattle.std.specs.List.{AllByRecursion}
 use Rattle.zw_text.specs.Entry.{transcript_text}
 use Rattle.zw_text.specs.Transcript.{lines_run}
 use Rattle.zw_text.specs.Line.{line_at}
@@ -14,11 +15,14 @@ use Rattle.run_lines.specs.declared.status.Status.{Status}
 use Rattle.run_lines.specs.declared.status.Status.TheVariants.{Ok}
 use Rattle.run_lines.specs.Lines.{TextLine, lines_in}
 use Rattle.run_sim.specs.Sim.{SimRan, shown_text}
-use Rattle.law_transcript.specs.Nodes.{listing_of}
+use Rattle.law_transcript.specs.Nodes.{first_node, listing_of}
 use Rattle.law_transcript.specs.Restarts.{ticks_asked}
 use Rattle.law_transcript.specs.Table.{table_of}
+use Rattle.proof_audit.specs.Books.{IsOfItsKind}
+use Rattle.proof_audit.specs.Whole.{AnswersYes}
+use Rattle.proof_headline.specs.Supervised.{IsSupervisedNode}
 use Rattle.proof_commands.specs.Around.{Around}
-use Rattle.proof_commands.specs.Laws.{AreSchedules, IsStory, Ran, TellsAtRestarts, events_of, first, lines_of, transcript}
+use Rattle.proof_commands.specs.Laws.{AreSchedules, IsFairWorld, IsStory, Ran, TellsAtRestarts, events_of, first, lines_of, transcript}
 
 -- `sim` ran so, with what it was given and what it leaves
 abbrev pub RunsSim : Status → Bool → List ℕ → Around → Around → Type 0
@@ -74,9 +78,29 @@ EndsWithTable ended key old new =
     ended ≡ Ok → (quiet : Bool) (story : List Ran) (unentered : List Event) → Tells ended quiet key old new story unentered → TellsAtRestarts old story
     → WritesTable quiet key old new story
 
+-- ---- in order
+
+-- what was written is judged to be in order
+abbrev pub WritesInOrder : Around → Around → Type 0
+WritesInOrder old new = (text : List ℕ) × Appends old.written new.written text × AnswersYes text
+
+-- Over a keeper that tells its records and had none at first, with devices as their makers left them, one a node, each of the kind that the number of its node tells, and node 2 among
+-- those that take commands in sessions.
+pub record IsAuditable (key : List ℕ) (old : Around) : Type 0 where
+  pub fair : IsFairWorld key old
+  pub kinds : AllByRecursion IsOfItsKind old.devices
+  pub first : IsSupervisedNode old.devices first_node
+
+-- so ends every run without `--quiet` that ends well
+abbrev pub IsAudited : Status → List ℕ → Around → Around → Type 0
+IsAudited ended key old new =
+    ended ≡ Ok → (story : List Ran) (unentered : List Event) → Tells ended false key old new story unentered → IsAuditable key old
+    → WritesInOrder old new
+
 -- ---- all of it
 
 -- What holds of every run of `sim`, at every status.
 pub record SimKeepsLaws (ended : Status) (key : List ℕ) (old new : Around) : Type 0 where
   pub story : HasStory ended key old new
   pub table : EndsWithTable ended key old new
+  pub audited : IsAudited ended key old new

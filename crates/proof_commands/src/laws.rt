@@ -4,28 +4,37 @@ ghost use Rattle.std.specs.Prelude.{ℕ, List};
 ghost use Rattle.proof_commands.specs.Around.{Around};
 ghost use Rattle.proof_commands.specs.Laws.{
   AnswersAsDue,
+  AnswersData,
   AppliesOnce,
   BringsHeard,
   CarriesWhatWasAsked,
   ClearsNothingElse,
+  ClearsUnits,
   ClearsWhenRestarted,
   CollidesAsAsked,
   ConfirmsValues,
+  DoesAsShown,
+  DoneByNodes,
   FaresFrames,
   ForgetsHops,
   GroupsChanges,
   HasHeadline,
   HasWholeHeadline,
+  KeepsAir,
   KeepsDevices,
   KeepsOrders,
   KeepsWell,
   KeepsWhatIsShown,
+  LandsFrames,
   LosesFrames,
   MarksAsAsked,
+  MeetsFates,
   NumbersAir,
   NumbersTicks,
+  OverrunsAsDue,
   OverrunsWithoutRoom,
   ReadsWhatItKept,
+  RepeatsAsAsked,
   ReportsAfterChange,
   RoutesFrames,
   ShowsChanges,
@@ -39,20 +48,25 @@ ghost use Rattle.proof_commands.specs.Laws.{
 };
 
 use crate::lines_are_read_as_said;
-use proof_air::lines_bring_what_was_heard;
+use proof_air::{lines_are_done_by_devices, lines_bring_what_was_heard, lines_land_in_time};
+use proof_devices::{devices_do_at_once, lines_run_as_far, lines_run_as_shown};
+use proof_fates::{lines_meet_what_is_due, lines_repeat_what_is_asked};
 use proof_headline::{
     askable_nodes_have_the_headline, devices_as_made_begin_courses, nodes_have_the_headline,
     nodes_report_after_the_change, supervised_nodes_are_plain_or_locks,
 };
 use proof_host::{asides_keep_facts, laws_follow};
 use proof_line::{
-    lines_clear_at_restarts, lines_clear_nowhere_else, lines_collide_when_asked, lines_mark_units,
-    lines_overrun_only_when_full, ticks_are_told,
+    lines_answer_frames, lines_clear_at_restarts, lines_clear_nowhere_else,
+    lines_clear_whole_units, lines_collide_when_asked, lines_mark_units,
+    lines_overrun_only_when_full, lines_overrun_when_full, ticks_are_told,
 };
-use proof_routes::{dead_hops_are_forgotten, frames_go_by_route};
+use proof_routes::{
+    dead_hops_are_forgotten, dead_hops_are_forgotten_in_the_end, frames_go_by_route,
+};
 use proof_transcript::{
-    commands_are_taken_back_when_asked, lines_are_answered, lines_carry_units,
-    lines_lose_marked_frames, lines_number_frames, lines_show_what_is_kept,
+    all_frames_land_in_the_end, commands_are_taken_back_when_asked, lines_are_answered,
+    lines_carry_units, lines_lose_marked_frames, lines_number_frames, lines_show_what_is_kept,
     records_are_what_is_shown, sessions_begin_with_their_unit, ticks_decide_each_frame,
     values_are_stored_as_asked,
 };
@@ -72,6 +86,8 @@ pub fn every_story_keeps_laws()
     stories_take_once();
     stories_have_the_headline();
     stories_keep_air_laws();
+    stories_are_legal_on_air();
+    stories_do_as_shown();
 }
 
 /// A story has the records that these laws assume, if the keeper tells them and had none at first, or no line is `restart`.
@@ -160,12 +176,18 @@ fn stories_keep_air_laws()
     ensures fares { (key : List ℕ) (old new : Around) → FaresFrames key old new }
     ensures routes { (key : List ℕ) (old new : Around) → RoutesFrames key old new }
     ensures forgets { (key : List ℕ) (old new : Around) → ForgetsHops key old new }
+    ensures lands { (key : List ℕ) (old new : Around) → LandsFrames key old new }
+    ensures repeats { (key : List ℕ) (old new : Around) → RepeatsAsAsked key old new }
+    ensures meets { (key : List ℕ) (old new : Around) → MeetsFates key old new }
     ensures carries { (key : List ℕ) (old new : Around) → CarriesWhatWasAsked key old new }
     ensures brings { (key : List ℕ) (old new : Around) → BringsHeard key old new }
     ensures collides { (key : List ℕ) (old new : Around) → CollidesAsAsked key old new }
     ensures marks { (key : List ℕ) (old new : Around) → MarksAsAsked key old new }
     ensures overruns { (key : List ℕ) (old new : Around) → OverrunsWithoutRoom key old new }
+    ensures overrun { (key : List ℕ) (old new : Around) → OverrunsAsDue key old new }
     ensures clears { (key : List ℕ) (old new : Around) → ClearsWhenRestarted key old new }
+    ensures acknowledges { (key : List ℕ) (old new : Around) → AnswersData key old new }
+    ensures clears_whole { (key : List ℕ) (old new : Around) → ClearsUnits key old new }
     ensures nowhere { (key : List ℕ) (old new : Around) → ClearsNothingElse key old new }
     ensures ticks { (key : List ℕ) (old new : Around) → NumbersTicks key old new }
 {
@@ -174,14 +196,43 @@ fn stories_keep_air_laws()
     lines_number_frames();
     lines_lose_marked_frames();
     ticks_decide_each_frame();
+    all_frames_land_in_the_end();
     frames_go_by_route();
     dead_hops_are_forgotten();
+    dead_hops_are_forgotten_in_the_end();
+    lines_land_in_time();
+    lines_repeat_what_is_asked();
+    lines_meet_what_is_due();
     lines_carry_units();
     lines_bring_what_was_heard();
     lines_collide_when_asked();
     lines_mark_units();
     lines_overrun_only_when_full();
+    lines_overrun_when_full();
     lines_clear_at_restarts();
     lines_clear_nowhere_else();
+    lines_clear_whole_units();
+    lines_answer_frames();
     ticks_are_told();
+}
+
+/// What is on the air is legal, where the keeper tells its records and had none at first.
+fn stories_are_legal_on_air()
+    ensures { (key : List ℕ) (old new : Around) → KeepsAir key old new }
+{
+    stories_keep_records();
+    stories_keep_air_laws();
+}
+
+/// The devices did what lines that were said show.
+fn stories_do_as_shown()
+    ensures done_by { (key : List ℕ) (old new : Around) → DoneByNodes key old new }
+    ensures devices { (key : List ℕ) (old new : Around) → DoesAsShown key old new }
+{
+    lines_are_read_as_said();
+    lines_are_done_by_devices();
+    lines_run_as_shown();
+    lines_run_as_far();
+    devices_do_at_once();
+    stories_take_once();
 }

@@ -3,18 +3,25 @@
 ghost use Rattle.std.specs.Prelude.{ℕ, List};
 ghost use Rattle.run_lines.specs.declared.status.Status.{Status};
 ghost use Rattle.proof_commands.specs.Around.{Around};
-ghost use Rattle.proof_commands.specs.Sim.{EndsWithTable, HasStory, SimKeepsLaws};
+ghost use Rattle.proof_commands.specs.Sim.{EndsWithTable, HasStory, IsAudited, SimKeepsLaws};
 ghost use Rattle.proof_commands.specs.RestartReads.{ReadsAtRestarts};
 
-use crate::lines_are_read_as_said;
-use proof_transcript::tables_are_what_is_shown;
+use crate::laws::every_story_keeps_laws;
+use crate::{lines_are_read_as_said, said_lines_are_entries};
+use proof_audit::{
+    accepted_orders_were_asked, changes_are_entered_whole, entries_are_legible,
+    frames_keep_the_rule_of_the_air, kept_rules_answer_yes, laws_keep_every_rule, lines_show_texts,
+    sessions_begin_before_changes, values_are_stored_directly,
+};
+use proof_transcript::{lines_carry_whole_units, tables_are_what_is_shown};
 
-/// Every run of `sim` has a story, and one that ends well writes its table.
+/// Every run of `sim` has a story, and one that ends well writes its table, and is in order as `audit` judges.
 pub fn sim_keeps_laws()
     ensures { (ended : Status) (key : List ℕ) (old new : Around) → SimKeepsLaws ended key old new }
 {
     runs_have_stories();
     runs_end_with_tables();
+    runs_are_in_order();
 }
 
 /// Each run of `sim` has a story: its lines, each with the events of the machine that it was.
@@ -33,4 +40,24 @@ fn runs_end_with_tables()
 {
     lines_are_read_as_said();
     tables_are_what_is_shown();
+}
+
+/// What is written of a run that ends well is judged to be in order: its entries are read back, and each rule is kept.
+fn runs_are_in_order()
+    ensures { (ended : Status) (key : List ℕ) (old new : Around) → IsAudited ended key old new }
+{
+    lines_are_read_as_said();
+    said_lines_are_entries();
+    tables_are_what_is_shown();
+    lines_show_texts();
+    entries_are_legible();
+    kept_rules_answer_yes();
+    every_story_keeps_laws();
+    accepted_orders_were_asked();
+    changes_are_entered_whole();
+    sessions_begin_before_changes();
+    frames_keep_the_rule_of_the_air();
+    lines_carry_whole_units();
+    values_are_stored_directly();
+    laws_keep_every_rule();
 }

@@ -28,3 +28,4 @@ pub mod Whole
 pub mod TrueLines
 pub mod OtherAsks
 pub mod Runs
+pub mod Places

@@ -10,3 +10,4 @@ pub mod Outside
 pub mod Host
 pub mod HostGoing
 pub mod World
+pub mod Plain

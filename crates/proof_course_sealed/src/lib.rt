@@ -11,6 +11,8 @@
 //! The definitions are in `specs/`: `Labels` (what is on its way, by numbers), `Courses` (the three side by side),
 //! `Meaning` (what a label says of bytes); where the courses are: `Lock` and `Device`, `Air`, `Mesh`, `Lines`,
 //! `Outside`, `Host` and `HostGoing`, `World`.
+//! Whoever depends on courses of both kinds names this crate alone: `Plain`, and what is used from `proof_course_plain`
+//! below, are of the other kind.
 #![tactic(auto)]
 
 mod air;
@@ -26,5 +28,9 @@ pub use device::locks_follow_the_courses;
 pub use host::{hosts_do_as_the_courses_have_it, hosts_judge_as_the_courses_have_it};
 pub use mesh::arrivals_follow_the_courses;
 pub use outside::outsides_follow_the_courses;
+pub use proof_course_plain::{
+    devices_follow_the_course, idle_devices_stay_idle, lines_ask_plainly, lines_have_a_course,
+    lines_tell_the_truth,
+};
 pub use ways::{ways_thin_together, what_waits_is_written};
 pub use world::{lines_ask_fitly, lines_have_courses, worlds_follow_the_courses};

@@ -1,12 +1,27 @@
 mod Quiet
 mod Machines
 mod Shown
+mod Joined
+mod Sent
+mod Keeping
+mod Replies
 mod Frames
 mod Places
 mod Hearing
+mod Telling
 mod Numbers
+mod Grounds
+pub mod Changes
 mod Walking
 mod Whole
 mod Awake
 mod Now
 mod Listening
+mod Together
+mod Wordless
+mod Had
+mod Clocks
+mod AtOnce
+mod Standing
+mod Halting
+mod LastLine

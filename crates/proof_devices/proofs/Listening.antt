@@ -19,21 +19,22 @@ use Rattle.zw_text.specs.Transcript.{lines_run, time_of}
 use Rattle.law_transcript.specs.Restarts.{ticks_asked}
 use Rattle.proof_device.specs.GoingOn.{AreSame}
 use Rattle.proof_device.proofs.DevicePlaces.{go_same}
-use Rattle.proof_devices.specs.Living.{Acts, Lived, Tie, IsNow, InTick, KnownNumber, lived_in}
+use Rattle.proof_devices.specs.Living.{Acts, Lived, Simply, Tie, IsNow, InTick, KnownNumber, lived_in}
 use Rattle.proof_devices.proofs.Quiet.{number_quiet}
 use Rattle.proof_devices.proofs.Shown.{still_brought}
 use Rattle.proof_devices.proofs.Places.{same_place, tie_still}
 use Rattle.proof_devices.proofs.Numbers.{lived_ticking}
 use Rattle.proof_devices.proofs.Now.{lived_is_now}
+use Rattle.proof_devices.proofs.Replies.{JoinsAny, simply_keep}
 use Rattle.proof_devices.proofs.Walking.{lived_none, repeats_said, after_words}
 use Rattle.proof_devices.proofs.Whole.{stands_at}
 
 -- a device stands where one stood
-record StandsThere (devices : List State) (place : ℕ) : Type 0 where
-  device : State
-  stands : slice_get devices place ≡ Some device
+pub record StandsThere (devices : List State) (place : ℕ) : Type 0 where
+  pub device : State
+  pub stands : slice_get devices place ≡ Some device
 
-stands_there : (olds news : List State) (place : ℕ) (old : State) → AreSame olds news → slice_get olds place ≡ Some old → StandsThere news place
+pub stands_there : (olds news : List State) (place : ℕ) (old : State) → AreSame olds news → slice_get olds place ≡ Some old → StandsThere news place
 stands_there [] news place old same stood = absurd cc
 stands_there (first ∷ olds) [] place old same stood = absurd same
 stands_there (first ∷ olds) (new ∷ news) zero old same stood = record { device = new; stands = refl }
@@ -55,7 +56,7 @@ awake_is place true = refl
 awake_is place false = refl
 
 -- all have lived as many ticks, and as many has a device by the transcript
-module _ (olds : List State) (past : List Entry) (w : Outside) (node : ℕ) (apart : node ≢ controller) (tie : Tie olds (λ place. lived_by past) past w) where
+module _ (olds : List State) (past : List Entry) (w : Outside) (node : ℕ) (apart : node ≢ controller) (tie : Tie Simply olds (λ place. lived_by past) past w) where
   none_listens : device_of node olds ≡ None → is_some (listener_of node w.devices) ≡ false
   none_listens none =
       ap (λ (place : Option ℕ). is_some (awake_at w.devices place)) (same_place node olds w.devices (go_same olds w.devices tie.go) ∙ no_place node olds none)
@@ -78,15 +79,15 @@ module _ (olds : List State) (past : List Entry) (w : Outside) (node : ℕ) (apa
       by (Some old) is = one_listens old is
 
 -- where a frame arrives, once the number of the tick is entered
-pub arriving_listens : (olds : List State) (past : List Entry) (m : Machine) (node : ℕ) → node ≢ controller → InTick olds 0 past m → KnownNumber past m
+pub arriving_listens : (olds : List State) (past : List Entry) (m : Machine) (node : ℕ) → node ≢ controller → InTick Simply olds 0 past m → KnownNumber past m
     → is_some (listener_of node m.outside.devices) ≡ is_awake (past ++ ticked_entry m.outside.outer) (device_of node olds)
 arriving_listens olds past m node apart known number =
     let w : Outside = m.outside in
     let later : List Entry = past ++ ticked_entry w.outer in
     let lived : lived_by later ≡ w.outer.clock - 1 = lived_ticking past w number.0 in
     listens_as_shown olds later w node apart
-    (tie_still olds (lived_in 0 w.outer.clock) (λ place. lived_by later) past later w w refl (λ place. lived ∙ sym (lived_none w.outer.clock place))
-    (λ place old first other. still_brought old.node past (ticked_entry w.outer) (number_quiet w.outer)) known.tie)
+    (tie_still Simply olds (lived_in 0 w.outer.clock) (λ place. lived_by later) past later w w refl (λ place. lived ∙ sym (lived_none w.outer.clock place))
+    (λ place old first other. still_brought old.node past (ticked_entry w.outer) (number_quiet w.outer)) (λ place old events other came ticked also. tt) known.tie)
 
 -- where a frame is to be repeated, directly after the words of the line
 pub repeating_listens : (olds : List State) (past : List Entry) (m : Machine) (frame : ℕ) (left : List Event) (node : ℕ) → node ≢ controller → KnowTime (Doing (lines.Repeat frame) left) past m
@@ -96,7 +97,7 @@ repeating_listens olds past m frame left node apart time acts =
     let clock = time.0.0.clock in
     let asked : ticks_asked (lines_run past) ≡ w.outer.clock = omega (arith, clock) in
     let lived : lived_by past ≡ w.outer.clock
-    = ap (λ (b : Bool). if b then ticks_asked (lines_run past) else time_of past - 1) (repeats_said olds frame past m acts.0.0) ∙ asked in
+    = ap (λ (b : Bool). if b then ticks_asked (lines_run past) else time_of past - 1) (repeats_said Simply olds frame past m acts.0.0) ∙ asked in
     listens_as_shown olds past w node apart
-    (tie_still olds (λ place. w.outer.clock) (λ place. lived_by past) past past w w refl (λ place. lived) (λ place old first other. refl)
-    (after_words olds (lines.Repeat frame) past m acts.0.0 (λ other ticks. refl)))
+    (tie_still Simply olds (λ place. w.outer.clock) (λ place. lived_by past) past past w w refl (λ place. lived) (λ place old first other. refl)
+    (λ place old events other came ticked also. tt) (after_words Simply olds JoinsAny (simply_keep olds) (lines.Repeat frame) past m acts.0.0 (λ other ticks. refl)))

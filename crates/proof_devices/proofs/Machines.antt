@@ -18,7 +18,7 @@ use Rattle.world_model.specs.Events.{Event, Outside_does, Host_does, Host_takes,
 use Rattle.proof_walk.specs.Outside.{CoversOuter, IsNote}
 use Rattle.proof_walk.proofs.Machines.{UnitsAre, any_told, answers_keep, outs_keep}
 use Rattle.proof_devices.specs.Living.{MovesNone}
-use Rattle.proof_devices.proofs.Quiet.{NotesQuietly, Still, still_none, still_both, still_event, note_quiet}
+use Rattle.proof_devices.proofs.Quiet.{NotesQuietly, Still, still_none, still_both, still_event, note_idle}
 
 abbrev AnyUnit : LineUnit → Type 0
 AnyUnit unit = Unit {0}
@@ -35,7 +35,7 @@ writes : (w : Outside) (unit : LineUnit) → AnyUnit unit → Still w (entries_o
 writes w unit any = still_event w (Host_writes unit) tt tt
 
 noted : (w : Outside) (note : Entry) → IsNote note → begun_in note ≡ None → AnyNote note → Still w (entries_outside w (Host_notes note)) (happens_outside w (Host_notes note))
-noted w note is unbegun any = still_event w (Host_notes note) tt (note_quiet note is)
+noted w note is unbegun any = still_event w (Host_notes note) tt (note_idle note is)
 
 session : (w : Outside) (node session command : ℕ)
     → Still w (entries_outside w (Host_begins node session) ++ entries_outside (happens_outside w (Host_begins node session)) (Host_notes (entry.Begin node session command)))
@@ -51,7 +51,7 @@ of_host w h events = outs_keep AnyUnit AnyNote Still still_none still_both write
 
 takes : (w : Outside) (count : ℕ) → Still w [] (happens_outside w (host_takes count))
 unfolding outcome devices_after
-takes w count = record { quiet = tt; devices = refl; clock = refl }
+takes w count = record { idle = tt; devices = refl; clock = refl }
 
 own_notes : (event : OuterEvent) → is_own event ≡ true → NotesQuietly event
 own_notes (Host_notes note) own = absurd (let none : false ≡ true = own in cc)

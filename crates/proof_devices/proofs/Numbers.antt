@@ -26,7 +26,7 @@ each_any past (e ∷ told) = (tt, each_any (past ++ e ∷ []) told)
 
 -- ---- the last entry
 
-last_is : (past : List Entry) (e : Entry) → line_last (past ++ e ∷ []) ≡ line_of e
+pub last_is : (past : List Entry) (e : Entry) → line_last (past ++ e ∷ []) ≡ line_of e
 last_is past e = folded-append line_after [] past (e ∷ [])
 
 folded_last : (before : List Line) (told : List Entry) → AreUntimed told → is_repeat before ≡ false → is_repeat (folded line_after before told) ≡ false
@@ -40,7 +40,7 @@ last_of_more : (before : ℕ) (ns : List ℕ) (n : ℕ) → last_number before (
 last_of_more before [] n = refl
 last_of_more before (first ∷ ns) n = last_of_more first ns n
 
-number_is : (past : List Entry) (n : ℕ) → time_of (past ++ entry.Time n ∷ []) ≡ n
+pub number_is : (past : List Entry) (n : ℕ) → time_of (past ++ entry.Time n ∷ []) ≡ n
 number_is past n = ap (last_number 0) (shown-append tick_at past (entry.Time n ∷ [])) ∙ last_of_more 0 (ticks past) n
 
 number_apart : (past : List Entry) (n : ℕ) → repeats (past ++ entry.Time n ∷ []) ≡ false
@@ -64,7 +64,7 @@ numbered =
 
 -- ---- an event of the machine
 
-hosts : (event : OuterEvent) → is_own event ≡ false → GoesWithin event
+pub hosts : (event : OuterEvent) → is_own event ≡ false → GoesWithin event
 hosts Begins_line own = absurd (let none : true ≡ false = own in cc)
 hosts Begins_tick own = absurd (let none : true ≡ false = own in cc)
 hosts event own = tt

@@ -15,13 +15,13 @@ use Rattle.law_transcript.specs.Repeats.{frame_of}
 use Rattle.law_transcript.specs.Restarts.{ticks_asked}
 use Rattle.law_transcript.specs.Units.{Carried}
 use Rattle.law_transcript.specs.Carrying.{homeward}
-use Rattle.law_transcript.specs.Devices.{ComingAt, coming_of, ticks_in, ticks_lived, after_events, lived_by, brought_by, asked_by, brought_at, brought}
-use Rattle.proof_devices.specs.Living.{Lived, IsActing}
+use Rattle.law_transcript.specs.Devices.{ComingAt, coming_of, ticks_in, ticks_lived, comings, after_events, lived_by, brought_by, asked_by, brought_at, brought}
+use Rattle.proof_devices.specs.Living.{LivedWith, IsActing}
 use Rattle.proof_devices.proofs.Quiet.{IsQuiet, AreQuiet}
 
 -- ---- lists that are shown
 
-shown_both : {A B : Type 0} (shows : List A → A → List B) (before xs ys : List A) → shown_after shows before (xs ++ ys) ≡ shown_after shows before xs ++ shown_after shows (before ++ xs) ys
+pub shown_both : {A B : Type 0} (shows : List A → A → List B) (before xs ys : List A) → shown_after shows before (xs ++ ys) ≡ shown_after shows before xs ++ shown_after shows (before ++ xs) ys
 shown_both {A} {B} shows before [] ys = ap (λ (l : List A). shown_after shows l ys) (sym (append-nil before))
 shown_both {A} {B} shows before (x ∷ xs) ys =
     ap (λ (l : List B). shows before x ++ l)
@@ -30,7 +30,7 @@ shown_both {A} {B} shows before (x ∷ xs) ys =
 
 -- ---- what comes to a node
 
-quiet_at : (node : ℕ) (past : List Entry) (e : Entry) → IsQuiet e → brought_at node past e ≡ []
+pub quiet_at : (node : ℕ) (past : List Entry) (e : Entry) → IsQuiet e → brought_at node past e ≡ []
 quiet_at node past (entry.Said words) quiet = absurd quiet
 quiet_at node past (entry.Heard frame) quiet = absurd quiet
 quiet_at node past e quiet = refl
@@ -67,9 +67,6 @@ asks_none node ticks (lines.Wake at) none = absurd (none tt)
 asks_none node ticks (lines.Local at value) none = absurd (none tt)
 asks_none node ticks line none = refl
 
-pub repeat_asks_none : (node ticks frame : ℕ) → asked_by node ticks (lines.Repeat frame ∷ []) ≡ []
-repeat_asks_none node ticks frame = refl
-
 -- ---- frames
 
 -- the frame of a number goes to a node and carries this
@@ -102,16 +99,30 @@ pub ticks_one : (events : List DeviceEvent) (event : DeviceEvent) → ticks_live
 ticks_one [] event = omega arith
 ticks_one (first ∷ events) event = let rest = ticks_one events event in omega (arith, rest)
 
-pub lived_on : (ticks : ℕ) (came : List ComingAt) (old new : State) (event : DeviceEvent) → Lived ticks came old new
-    → Lived (ticks + ticks_in event) (came ++ coming_of ticks event) old (device_after new event)
-lived_on ticks came old new event lived = record {
-  events = lived.events ++ event ∷ [];
-  runs = ap (λ (s : State). device_after s event) lived.runs ∙ sym (after_one old lived.events event);
-  comes = shown_both (λ (past : List DeviceEvent) (one : DeviceEvent). coming_of (ticks_lived past) one) [] lived.events (event ∷ [])
-      ∙ (ap (λ (l : List ComingAt). l ++ (coming_of (ticks_lived lived.events) event ++ [])) lived.comes
-      ∙ (ap (λ (n : ℕ). came ++ (coming_of n event ++ [])) lived.ticked ∙ ap (λ (l : List ComingAt). came ++ l) (append-nil (coming_of ticks event))));
-  ticked = ticks_one lived.events event ∙ ap (λ (n : ℕ). n + ticks_in event) lived.ticked;
-}
+-- what else is kept of it may go by all that is known of its events
+pub lived_on : (Was Now : List DeviceEvent → Type 0) (ticks : ℕ) (came : List ComingAt) (old new : State) (event : DeviceEvent)
+    → ((events : List DeviceEvent) → new ≡ after_events old events → comings events ≡ came → ticks_lived events ≡ ticks → comings (events ++ event ∷ []) ≡ came ++ coming_of ticks event → ticks_lived (events ++ event ∷ []) ≡ ticks + ticks_in event
+    → Was events → Now (events ++ event ∷ [])) → LivedWith Was ticks came old new → LivedWith Now (ticks + ticks_in event) (came ++ coming_of ticks event) old (device_after new event)
+lived_on Was Now ticks came old new event also lived =
+    let comes : comings (lived.events ++ event ∷ []) ≡ came ++ coming_of ticks event
+    = shown_both (λ (past : List DeviceEvent) (one : DeviceEvent). coming_of (ticks_lived past) one) [] lived.events (event ∷ [])
+    ∙ (ap (λ (l : List ComingAt). l ++ (coming_of (ticks_lived lived.events) event ++ [])) lived.comes
+    ∙ (ap (λ (n : ℕ). came ++ (coming_of n event ++ [])) lived.ticked ∙ ap (λ (l : List ComingAt). came ++ l) (append-nil (coming_of ticks event)))) in
+    let ticked : ticks_lived (lived.events ++ event ∷ []) ≡ ticks + ticks_in event = ticks_one lived.events event ∙ ap (λ (n : ℕ). n + ticks_in event) lived.ticked in
+    record {
+      events = lived.events ++ event ∷ [];
+      runs = ap (λ (s : State). device_after s event) lived.runs ∙ sym (after_one old lived.events event);
+      comes = comes;
+      ticked = ticked;
+      also = also lived.events lived.runs lived.comes lived.ticked comes ticked lived.also;
+    }
 
-pub lived_as : (ticks now : ℕ) (came comes : List ComingAt) (old new : State) → now ≡ ticks → comes ≡ came → Lived ticks came old new → Lived now comes old new
-lived_as ticks now came comes old new same shown lived = record { events = lived.events; runs = lived.runs; comes = lived.comes ∙ sym shown; ticked = lived.ticked ∙ sym same }
+pub lived_as : (Was Now : List DeviceEvent → Type 0) (ticks now : ℕ) (came comes : List ComingAt) (old new : State) → now ≡ ticks → comes ≡ came
+    → ((events : List DeviceEvent) → comings events ≡ came → ticks_lived events ≡ ticks → Was events → Now events) → LivedWith Was ticks came old new → LivedWith Now now comes old new
+lived_as Was Now ticks now came comes old new same shown also lived = record {
+  events = lived.events;
+  runs = lived.runs;
+  comes = lived.comes ∙ sym shown;
+  ticked = lived.ticked ∙ sym same;
+  also = also lived.events lived.comes lived.ticked lived.also;
+}

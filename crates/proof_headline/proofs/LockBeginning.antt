@@ -7,7 +7,7 @@ use Rattle.device_kinds.specs.Sealing.{keys_of}
 use Rattle.device_sim.specs.State.{State, fresh}
 use Rattle.law_transcript.specs.Headline.{IsAsMade}
 use Rattle.law_transcript.specs.Nodes.{device_of}
-use Rattle.proof_course_plain.specs.Device.{IsIdle}
+use Rattle.proof_course_sealed.specs.Plain.{IsIdle}
 use Rattle.proof_course_sealed.specs.Courses.{first_courses}
 use Rattle.proof_course_sealed.specs.Meaning.{first_past}
 use Rattle.proof_course_sealed.specs.Lock.{AtLock}

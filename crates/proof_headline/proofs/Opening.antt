@@ -12,7 +12,7 @@ use Rattle.law_transcript.specs.Nodes.{device_of, known_at_first, listed_by, lis
 use Rattle.world_model.specs.State.{Machine}
 use Rattle.world_model.specs.Events.{Event, Host_does, May}
 use Rattle.proof_spoken.proofs.Classes.{classes_of}
-use Rattle.proof_course_plain.specs.World.{OrderPlain, OrdersPlain}
+use Rattle.proof_course_sealed.specs.Plain.{OrderPlain, OrdersPlain}
 use Rattle.proof_headline.specs.Plain.{IsOpenList, IsPlainKind}
 use Rattle.proof_messages.proofs.LockSessions.{some_same}
 use Rattle.proof_headline.proofs.Carrying.{goes_unsealed}

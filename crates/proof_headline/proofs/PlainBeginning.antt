@@ -10,8 +10,7 @@ use Rattle.mesh_sim.specs.Fates.{place_of}
 use Rattle.proof_messages.specs.Asking.{takes_openly}
 use Rattle.law_transcript.specs.Headline.{IsAsMade}
 use Rattle.law_transcript.specs.Nodes.{device_of}
-use Rattle.proof_course_plain.specs.Device.{AtDevice, IsIdle, OthersAreIdle}
-use Rattle.proof_course_plain.specs.Mesh.{HasDevice}
+use Rattle.proof_course_sealed.specs.Plain.{AtDevice, HasDevice, IsIdle, OthersAreIdle}
 use Rattle.proof_headline.specs.Plain.{IsPlainKind}
 
 -- ---- kinds

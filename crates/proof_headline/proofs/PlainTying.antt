@@ -22,8 +22,8 @@ use Rattle.proof_once.specs.Truly.{AreTrue}
 use Rattle.world_lines.specs.Spoken.{Spoken, after}
 use Rattle.world_lines.specs.Done.{IsRead, events_of}
 use Rattle.proof_headline.specs.Truly.{LinesAreTrue}
-use Rattle.proof_course_plain.specs.World.{HasCourse, NamesEnd}
-use Rattle.proof_course_plain.proofs.Replies.{one_place, one_stands}
+use Rattle.proof_course_sealed.specs.Plain.{HasCourse, NamesEnd}
+use Rattle.proof_course_sealed.proofs.Places.{one_place, one_stands}
 use Rattle.proof_headline.proofs.PlainBeginning.{finds}
 
 -- ---- lines

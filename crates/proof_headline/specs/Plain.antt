@@ -8,8 +8,7 @@ use Rattle.device_sim.specs.State.{State}
 use Rattle.host_orders.specs.Classes.{lists}
 use Rattle.law_transcript.specs.Nodes.{device_of}
 use Rattle.world_model.specs.Events.{Event}
-use Rattle.proof_course_plain.specs.Mesh.{HasDevice}
-use Rattle.proof_course_plain.specs.World.{OrdersPlain}
+use Rattle.proof_course_sealed.specs.Plain.{HasDevice, OrdersPlain}
 
 -- A kind that lists Supervision, and not Security 0 (the classes are those of a Node Information Frame): it takes commands in sessions, whole or in segments, and not sealed.
 pub record IsPlainKind (kind : Kind) : Type 0 where

@@ -14,8 +14,9 @@ ghost use Rattle.world_lines.specs.Spoken.{Spoken, after_all};
 ghost use Rattle.world_lines.specs.Done.{AreDone};
 ghost use Rattle.proof_headline.specs.Truly.{LinesAreTrue};
 
-use proof_course_plain::{idle_devices_stay_idle, lines_ask_plainly};
-use proof_course_sealed::{lines_have_courses, locks_follow_the_courses};
+use proof_course_sealed::{
+    idle_devices_stay_idle, lines_ask_plainly, lines_have_courses, locks_follow_the_courses,
+};
 use proof_once::courses_tie_their_ends;
 use proof_world::lines_keep_and_ask_well;
 

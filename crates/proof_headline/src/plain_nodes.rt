@@ -7,7 +7,7 @@ ghost use Rattle.device_sim.specs.State.{State};
 ghost use Rattle.proof_device.specs.Showing.{AreUnchanged};
 ghost use Rattle.law_transcript.specs.Headline.{IsAsMade};
 ghost use Rattle.law_transcript.specs.Nodes.{device_of};
-ghost use Rattle.proof_course_plain.specs.Mesh.{HasDevice};
+ghost use Rattle.proof_course_sealed.specs.Plain.{HasDevice, OrdersPlain};
 ghost use Rattle.proof_headline.specs.Plain.{IsPlainKind, IsPlain};
 ghost use Rattle.s0_crypto.specs.declared.key_pair.Keys.{Keys};
 ghost use Rattle.zw_text.specs.declared.line.Line.{Line};
@@ -15,14 +15,13 @@ ghost use Rattle.world_model.specs.State.{first_machine};
 ghost use Rattle.world_model.specs.Events.{Event};
 ghost use Rattle.world_model.specs.Did.{MayAll};
 ghost use Rattle.proof_serial.specs.Line.{AreLines};
-ghost use Rattle.proof_course_plain.specs.World.{OrdersPlain};
 ghost use Rattle.proof_once.specs.Tied.{AreTied};
 ghost use Rattle.world_lines.specs.Spoken.{Spoken, after_all};
 ghost use Rattle.world_lines.specs.Done.{AreDone, events_of};
 ghost use Rattle.proof_headline.specs.Truly.{LinesAreTrue};
 
 use host_node::a_restart_needs_the_records_alone;
-use proof_course_plain::{
+use proof_course_sealed::{
     devices_follow_the_course, idle_devices_stay_idle, lines_ask_plainly, lines_have_a_course,
     lines_tell_the_truth,
 };

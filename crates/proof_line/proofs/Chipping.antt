@@ -62,23 +62,23 @@ abbrev pub IsFrame : LineUnit → Type 0
 IsFrame (Framed f) = Unit {0}
 IsFrame unit = ⊥
 
-abbrev IsPut : (LineUnit → Type 0) → ChipOut → Type 0
+abbrev pub IsPut : (LineUnit → Type 0) → ChipOut → Type 0
 IsPut IsUnit (Write unit) = IsUnit unit
 IsPut IsUnit out = Unit {0}
 
-abbrev ArePut : (LineUnit → Type 0) → List ChipOut → Type 0
+abbrev pub ArePut : (LineUnit → Type 0) → List ChipOut → Type 0
 ArePut IsUnit puts = AllByRecursion (IsPut IsUnit) puts
 
 full_put : (b : Bool) → ArePut IsFrame (if b then Full ∷ [] else [])
 full_put true = (tt, tt)
 full_put false = tt
 
-queued_put : (turn : Turn) (p : PortState) (f : FrameParts) → ArePut IsFrame (queued_outs_at turn p f)
+pub queued_put : (turn : Turn) (p : PortState) (f : FrameParts) → ArePut IsFrame (queued_outs_at turn p f)
 queued_put Idle p f = (tt, tt)
 queued_put (Copied g copies ticks) p f = full_put (is_full p.waiting)
 queued_put (Paused g copies ticks) p f = full_put (is_full p.waiting)
 
-written_put : (next : Option FrameParts) → ArePut IsFrame (written next)
+pub written_put : (next : Option FrameParts) → ArePut IsFrame (written next)
 written_put None = tt
 written_put (Some f) = (tt, tt)
 
@@ -90,7 +90,7 @@ done_put : (b : Bool) (s : ChipState) (status : TransmitStatus) → ArePut IsFra
 done_put true s status = ended_put s.sending s status
 done_put false s status = tt
 
-fed_put : (s : ChipState) (event : ChipEvent) → IsFed event → ArePut IsFrame (outs s event)
+pub fed_put : (s : ChipState) (event : ChipEvent) → IsFed event → ArePut IsFrame (outs s event)
 fed_put s (Judged item way) fed = absurd fed
 fed_put s Ticked fed =
     all-append (IsPut IsFrame) (written (copy_due s.port.side.turn)) (served_outs (ticked s.port)) (written_put (copy_due s.port.side.turn))
@@ -161,7 +161,7 @@ module _ (flagged : Bool → Mode) (empty : (awaits : Bool) → HoldsEmpty (flag
 
 -- ---- what the chip does of itself, and all else outside
 
-air_apart : (e : Entry) → IsOfAir e → TellsNothing e
+pub air_apart : (e : Entry) → IsOfAir e → TellsNothing e
 air_apart (entry.Said words) of_air = absurd of_air
 air_apart (entry.Written side unit) of_air = absurd of_air
 air_apart (entry.Dropped side) of_air = absurd of_air
@@ -171,7 +171,7 @@ air_apart (entry.Cleared side count) of_air = absurd of_air
 air_apart (entry.Time tick) of_air = absurd of_air
 air_apart e of_air = tt
 
-shown_apart : (e : Entry) → IsShown e → TellsNothing e
+pub shown_apart : (e : Entry) → IsShown e → TellsNothing e
 shown_apart (entry.Device node setting) shown = tt
 shown_apart (entry.Refused refusal) shown = tt
 shown_apart e shown = absurd shown

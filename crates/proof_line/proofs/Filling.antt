@@ -32,7 +32,7 @@ HoldsEmpty mode = (up down : Pipe) → mode up down [] []
 -- ---- entries
 
 -- no line was just said
-unsaid : (past : List Entry) (e : Entry) → line_of e ≡ [] → is_restart (line_last (past ++ e ∷ [])) ≡ false
+pub unsaid : (past : List Entry) (e : Entry) → line_of e ≡ [] → is_restart (line_last (past ++ e ∷ [])) ≡ false
 unsaid past e none = ap is_restart (line_then past e ∙ none)
 
 pub never : {P : Type 0} (b : Bool) → b ≡ false → b ≡ true → P

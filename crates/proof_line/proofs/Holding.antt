@@ -45,7 +45,7 @@ changed_then : (side on : Side) (unit : List ℕ) (e : Entry) (xs ys : List Entr
 changed_then side on unit (entry.Overrun of) xs ys = refl
 changed_then side on unit e xs ys = refl
 
-lost_same : (side : Side) (past told : List Entry) → NoMark told → is_lost side (past ++ told) ≡ is_lost side past
+pub lost_same : (side : Side) (past told : List Entry) → NoMark told → is_lost side (past ++ told) ≡ is_lost side past
 lost_same side [] told none = lost_none side told none
 lost_same side (entry.Dropped on ∷ past) told none = refl
 lost_same side (entry.Overrun on ∷ past) told none = refl
@@ -53,7 +53,7 @@ lost_same side (entry.Garbled on unit ∷ []) told none = changed_none side on u
 lost_same side (entry.Garbled on unit ∷ (e ∷ past)) told none = changed_then side on unit e (past ++ told) past
 lost_same side (e ∷ past) told none = refl
 
-refused_then : (e : Entry) (xs ys : List Entry) → begins_refused (e ∷ xs) ≡ begins_refused (e ∷ ys)
+pub refused_then : (e : Entry) (xs ys : List Entry) → begins_refused (e ∷ xs) ≡ begins_refused (e ∷ ys)
 refused_then (entry.Refused r) xs ys = refl
 refused_then e xs ys = refl
 
@@ -143,7 +143,7 @@ module _ (side : Side) (way : WayState) (unit : LineUnit) where
   marks = told_by side way.bytes mark text
 
   -- what it makes of the pipe of its side
-  own_pipe : (pipe : Pipe) → pipe_from side pipe (told side way unit) ≡ (if is_lost side marks then pipe else with_unit (length text) pipe)
+  pub own_pipe : (pipe : Pipe) → pipe_from side pipe (told side way unit) ≡ (if is_lost side marks then pipe else with_unit (length text) pipe)
   own_pipe pipe =
       marks_pass side (pipe_step side pipe (entry.Written side text) marks) marks (told_by_marks side way.bytes mark text)
       ∙ ap (λ (b : Bool). if b then (if is_lost side marks then pipe else with_unit (length text) pipe) else with_answer (length text) (gone_on pipe)) (same_itself side)

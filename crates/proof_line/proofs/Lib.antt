@@ -11,3 +11,12 @@ mod Chipping
 mod Hosting
 pub mod Piping
 pub mod Clearing
+mod Arriving
+mod Fitting
+mod Tellings
+mod Numbering
+mod HostTelling
+mod ChipTelling
+mod Goings
+mod Roomy
+pub mod Rooming

@@ -201,15 +201,15 @@ effect_keeps past m (Shows_values node) of_effect held = note_keeps Turned turne
 effect_keeps past m (Restarts state) of_effect held = keeps_none Turned turned_empty turn_turn m.outside past held
 
 -- the bytes that are on their way, and whether a tick runs
-abbrev bytes_of : OuterState → List ℕ × List ℕ × Bool
+abbrev pub bytes_of : OuterState → List ℕ × List ℕ × Bool
 bytes_of o = (o.to_chip.bytes, o.to_host.bytes, o.in_tick)
 
-entered_same : (o : OuterState) (told : List Entry) → bytes_of (has_entered o told) ≡ bytes_of o
+pub entered_same : (o : OuterState) (told : List Entry) → bytes_of (has_entered o told) ≡ bytes_of o
 entered_same o [] = refl
 entered_same o (e ∷ told) = refl
 
 -- outside a tick no number stands before what is told
-stamp_quiet : (o : OuterState) (told : List Entry) → o.in_tick ≡ false → stamp o told ≡ told
+pub stamp_quiet : (o : OuterState) (told : List Entry) → o.in_tick ≡ false → stamp o told ≡ told
 stamp_quiet o [] quiet = refl
 stamp_quiet o (e ∷ told) quiet = ap (λ (b : Bool). (if b && not o.stamped then entry.Time o.clock ∷ [] else []) ++ e ∷ told) quiet
 
@@ -371,7 +371,7 @@ does lines.Restart first left past m known = does_restart first left past m know
 does line first left past m known = let got = effect_keeps past m first known.0.0 known.1 in (got.0, (known.0.1, got.1))
 
 -- which events it has
-covers_line : (line : Line) → is_restart (line ∷ []) ≡ false → CoversLine IsByHand line
+pub covers_line : (line : Line) → is_restart (line ∷ []) ≡ false → CoversLine IsByHand line
 covers_line (lines.Repeat frame) other = λ drawn route. tt
 covers_line (lines.Wake node) other = λ route. tt
 covers_line (lines.Local node value) other = λ route. tt

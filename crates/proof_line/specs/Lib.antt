@@ -2,3 +2,5 @@ pub mod Collisions
 pub mod Marks
 pub mod Times
 pub mod Pipes
+pub mod Arrivals
+pub mod Rooms

@@ -1,14 +1,19 @@
 //! Units without room, and what restarts lose.
 
-ghost use Rattle.std.specs.Prelude.{Bool, Option, List, ℕ};
+ghost use Rattle.std.specs.Prelude.{Bool, Option, Some, List, [], ℕ};
 ghost use Rattle.s0_crypto.specs.declared.key_pair.Keys.{Keys};
 ghost use Rattle.device_sim.specs.State.{State};
+ghost use Rattle.law_wire.specs.Pipes.{OverrunsWhenFull};
 ghost use Rattle.world_model.specs.State.{first_machine};
 ghost use Rattle.world_lines.specs.Spoken.{Spoken, transcript_of};
 ghost use Rattle.world_lines.specs.Done.{AreDone};
+ghost use Rattle.proof_line.specs.Arrivals.{ClearsWholeUnits};
 ghost use Rattle.proof_line.specs.Pipes.{ClearsAtRestarts, ClearsNowhereElse, OverrunsOnlyWhenFull};
+ghost use Rattle.proof_line.specs.Rooms.{AnswersFrames};
 
-use crate::pipes_go_on;
+use crate::{pipes_go_on, rooms_go_on};
+use proof_serial::hosts_write_well;
+use proof_world::lines_keep_and_ask_well;
 
 /// Over any lines from the first on, the last of which an allocation failure may have cut short, a unit is overrun only where what its pipe may still hold, by
 /// what stands before it, leaves it no room in 4,096 bytes.
@@ -37,4 +42,41 @@ pub fn lines_clear_nowhere_else()
         (whole : Bool) → ClearsNowhereElse whole (transcript_of (first_machine keys records devices) lines) }
 {
     lines_clear_at_restarts();
+}
+
+/// Over any such lines, over a keeper that tells its records and has none at first, a unit that is neither lost nor overrun surely fits too, by what stands
+/// before it: data frames that are not answered, and answers given since the other side wrote, leave it room.
+pub fn lines_overrun_when_full()
+    ensures { (keys : Keys) (devices : List State) (lines : List Spoken) →
+        AreDone (first_machine keys (Some []) devices) lines →
+        OverrunsWhenFull (transcript_of (first_machine keys (Some []) devices) lines) }
+{
+    lines_overrun_only_when_full();
+    rooms_go_on();
+    hosts_write_well();
+    lines_keep_and_ask_well();
+}
+
+/// Over any such lines, over a keeper that tells its records and has none at first, what a `restart` loses of a side is all bytes of the units of that side
+/// that arrived last: no unit is lost in part.
+pub fn lines_clear_whole_units()
+    ensures { (keys : Keys) (devices : List State) (lines : List Spoken) →
+        AreDone (first_machine keys (Some []) devices) lines →
+        ClearsWholeUnits (transcript_of (first_machine keys (Some []) devices) lines) }
+{
+    rooms_go_on();
+    hosts_write_well();
+    lines_keep_and_ask_well();
+}
+
+/// Over any such lines, over a keeper that tells its records and has none at first, a side answers, by a unit of one byte, only where a data frame of the other
+/// side has arrived that has no answer yet: so at most once each.
+pub fn lines_answer_frames()
+    ensures { (keys : Keys) (devices : List State) (lines : List Spoken) →
+        AreDone (first_machine keys (Some []) devices) lines →
+        AnswersFrames (transcript_of (first_machine keys (Some []) devices) lines) }
+{
+    rooms_go_on();
+    hosts_write_well();
+    lines_keep_and_ask_well();
 }

@@ -1,5 +1,5 @@
 -- Of a frame that arrives and is not heard, the chip forgets the first hop that the transcript shows to be dead, where its table has it, and nothing else is forgotten.
-use Rattle.std.proofs.Common.{◌≡◌, ℕ, zero, suc, ◌+◌, ◌-◌, ◌==◌, ◌&&◌, not, Bool, true, false, cond, if◌then◌else◌, List, [], ◌∷◌, ◌++◌, filter, map, take, drop, length, slice_get, refl, sym, ap, subst, ◌∙◌, inl, append-nil, append_assoc, arith}
+use Rattle.std.proofs.Common.{◌≡◌, ℕ, zero, suc, ◌+◌, ◌-◌, ◌==◌, ◌&&◌, not, Bool, true, false, cond, if◌then◌else◌, List, [], ◌∷◌, ◌++◌, filter, take, drop, length, slice_get, refl, sym, ap, subst, ◌∙◌, inl, append-nil, append_assoc, arith}
 use Rattle.std.proofs.Math.Seq.{drop-append_seam}
 use Rattle.std.proofs.lemmas.List.{length-append}
 use Rattle.std.proofs.lemmas.Bool.{ne_eqb, lt-ltb}
@@ -38,9 +38,9 @@ use Rattle.outside_model.specs.Results.{call_back, no_routes, leading}
 use Rattle.outside_model.specs.Air.{deals}
 use Rattle.outside_model.specs.Events.{Arrives, mesh_of, stamp, outcome, entries}
 use Rattle.proof_routes.specs.Networks.{HasLinks, Tie}
-use Rattle.proof_routes.specs.Forgetting.{MayForget, Passage, Out, Home, passage_of, passage_by, passage_flown, passages, IsApartFrom, HasPassages}
+use Rattle.proof_routes.specs.Forgetting.{MayForget, Passage, passage_by, passage_flown, passages, IsApartFrom, HasPassages}
 use Rattle.proof_routes.proofs.Books.{SameShown, same_shown, same_then, still_shown}
-use Rattle.proof_routes.proofs.Passages.{frames_same, next_passage}
+use Rattle.proof_routes.proofs.Passages.{GoesSo, frames_same, next_passage, passage_got}
 use Rattle.proof_routes.proofs.Entering.{rest_are}
 use Rattle.proof_routes.proofs.Mute.{IsMute, AreMute, kinds, AreMuteEvents, IsMuteEvent, each_mute, at_mute}
 
@@ -128,42 +128,21 @@ module _ (past : List Entry) (net table : Network) (hears : HasLinks net (air_li
       by true = refl
       by false = refl
 
-  passage_due : (heading : Heading) (node : ℕ) (route : Route) (f : AirFrame) → passage_of f ≡ passage_by heading node route → IsApartFrom (passage_by heading node route)
+  passage_due : (heading : Heading) (node : ℕ) (route : Route) (lost : Bool) (f : AirFrame) → GoesSo f (passage_by heading node route lost) → IsApartFrom (passage_by heading node route lost)
       → forgotten_of past f ≡ due table heading (dead_hop_by heading net node (via route))
-  passage_due Outward node route f is apart = by (f.receiver == controller) is
-    where
-      ends : Out f.sender f.receiver f.repeaters ≡ Out controller node (via route) → forgotten_of past f ≡ due table Outward (dead_hop net 1 (via route) node)
-      ends same =
-          let sender : f.sender ≡ controller = cc in
-          let receiver : f.receiver ≡ node = cc in
-          let over : f.repeaters ≡ via route = cc in
-          ap (λ (s : ℕ). forgotten_as past s f.receiver f.repeaters) sender
-          ∙ (ap (λ (r : ℕ). forgotten_as past controller r f.repeaters) receiver
-          ∙ (ap (λ (l : List ℕ). forgotten_as past controller node l) over
-          ∙ (ap (λ (l : List Hop). filter (λ (hop : Hop). are_linked (chip_links past) hop.from hop.to) l) (first_dead net (air_links past) hears 1 (via route) node)
-          ∙ kept_hop (dead_hop net 1 (via route) node))))
-
-      by : (b : Bool) → (if b then Home f.sender else Out f.sender f.receiver f.repeaters) ≡ Out controller node (via route)
-          → forgotten_of past f ≡ due table Outward (dead_hop net 1 (via route) node)
-      by true same = absurd (let bad : Home f.sender ≡ Out controller node (via route) = same in cc)
-      by false same = ends same
-  passage_due Homeward node route f is apart = by (f.receiver == controller) is
-    where
-      by : (b : Bool) → (if b then Home f.sender else Out f.sender f.receiver f.repeaters) ≡ Home node → forgotten_of past f ≡ []
-      by true same =
-          let sender : f.sender ≡ node = let all : Home f.sender ≡ Home node = same in cc in
-          ap (λ (b : Bool). if b then filter (λ (hop : Hop). are_linked (chip_links past) hop.from hop.to) (take 1 (filter (λ (hop : Hop). not (are_linked (air_links past) hop.from hop.to)) (hops f.sender f.repeaters f.receiver))) else [])
-          (ap (λ (s : ℕ). s == controller) sender ∙ ne_eqb node controller apart)
-      by false same = absurd (let bad : Out f.sender f.receiver f.repeaters ≡ Home node = same in cc)
+  passage_due Outward node route lost f goes apart =
+      ap (λ (s : ℕ). forgotten_as past s f.receiver f.repeaters) goes.sender
+      ∙ (ap (λ (r : ℕ). forgotten_as past controller r f.repeaters) goes.receiver
+      ∙ (ap (λ (l : List ℕ). forgotten_as past controller node l) goes.over
+      ∙ (ap (λ (l : List Hop). filter (λ (hop : Hop). are_linked (chip_links past) hop.from hop.to) l) (first_dead net (air_links past) hears 1 (via route) node)
+      ∙ kept_hop (dead_hop net 1 (via route) node))))
+  passage_due Homeward node route lost f goes apart =
+      ap (λ (b : Bool). if b then filter (λ (hop : Hop). are_linked (chip_links past) hop.from hop.to) (take 1 (filter (λ (hop : Hop). not (are_linked (air_links past) hop.from hop.to)) (hops f.sender f.repeaters f.receiver))) else [])
+      (ap (λ (s : ℕ). s == controller) goes.sender ∙ ne_eqb node controller apart)
 
 -- ---- a frame that is not heard
 
-map_got : (all : List AirFrame) (at : ℕ) (passage : Passage) → slice_get (map passage_of all) at ≡ Some passage → (f : AirFrame) × (slice_get all at ≡ Some f) × (passage_of f ≡ passage)
-map_got [] at passage is = absurd (let none : None ≡ Some passage = is in cc)
-map_got (f ∷ all) zero passage is = (f, refl, (let same : Some (passage_of f) ≡ Some passage = is in cc))
-map_got (f ∷ all) (suc at) passage is = map_got all at passage is
-
-apart_got : (all : List Passage) (at : ℕ) (passage : Passage) → AllByRecursion IsApartFrom all → slice_get all at ≡ Some passage → IsApartFrom passage
+pub apart_got : (all : List Passage) (at : ℕ) (passage : Passage) → AllByRecursion IsApartFrom all → slice_get all at ≡ Some passage → IsApartFrom passage
 apart_got [] at passage apart is = absurd (let none : None ≡ Some passage = is in cc)
 apart_got (one ∷ all) zero passage apart is = let same : one ≡ passage = (let both : Some one ≡ Some passage = is in cc) in subst IsApartFrom same apart.0
 apart_got (one ∷ all) (suc at) passage apart is = apart_got all at passage apart.1 is
@@ -181,7 +160,7 @@ module _ (devices : List State) (past : List Entry) (w : Outside) (tie : Tie dev
       let all : List Entry = p ++ unheard ∷ [] in
       let here : SameShown all past = same_then all p past (still_shown p unheard tt (inl refl)) shown in
       let flown = (next_passage (passages past) w.outer.air.frames frame has next).1 in
-      let got = map_got (frames past) w.outer.air.frames.landed (passage_flown frame) flown in
+      let got = passage_got [] past w.outer.air.frames.landed (passage_flown frame) flown in
       let f : AirFrame = got.0 in
       let there : frames all ≡ frames past = frames_same p (unheard ∷ []) (tt, tt) ∙ same in
       let found : frame_of all (w.outer.air.frames.landed + 1) ≡ Some f
@@ -190,7 +169,7 @@ module _ (devices : List State) (past : List Entry) (w : Outside) (tie : Tie dev
       ∙ (ap (λ (one : Option AirFrame). flat_map (forgotten_of all) (listed one)) found
       ∙ (append-nil (forgotten_of all f)
       ∙ passage_due all w.outer.air.network w.outer.chip.state.table (subst (HasLinks w.outer.air.network) (sym here.air) tie.air_hears)
-      (subst (HasLinks w.outer.chip.state.table) (sym here.chip) tie.chip_hears) frame.heading frame.node frame.route f got.2
+      (subst (HasLinks w.outer.chip.state.table) (sym here.chip) tie.chip_hears) frame.heading frame.node frame.route frame.lost f got.2
       (apart_got (passages past) w.outer.air.frames.landed (passage_flown frame) has.apart flown)))
 
   -- ---- what is entered as it arrives

@@ -82,7 +82,7 @@ module _ (net : Network) (marks : List Bool) where
   changed_home node first zero = tt
   changed_home node first (suc count) = (tt, changed_home node (first + 1) count)
 
-has_way : (net : Network) (node : ℕ) (replies : List (List ℕ)) (route : Option Route) → IsRoute net node route → HasWay net node replies route
+pub has_way : (net : Network) (node : ℕ) (replies : List (List ℕ)) (route : Option Route) → IsRoute net node route → HasWay net node replies route
 has_way net node [] route way = tt
 has_way net node (reply ∷ replies) route way = way
 

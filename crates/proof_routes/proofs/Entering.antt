@@ -1,5 +1,5 @@
 -- What chip, devices and host enter, gone over once for predicates of entries: units and what became of them, frames, changes, numbers of ticks and the notes of the host.
-use Rattle.std.proofs.Common.{ℕ, zero, suc, ◌&&◌, not, nat_le, Bool, true, false, if◌then◌else◌, List, [], ◌∷◌, ◌++◌, length, drop, sym, subst}
+use Rattle.std.proofs.Common.{◌≡◌, ℕ, zero, suc, ◌&&◌, not, nat_le, Bool, true, false, if◌then◌else◌, List, [], ◌∷◌, ◌++◌, length, drop, slice_get, sym, subst}
 use Rattle.std.specs.Prelude.{Option, Some, None}
 use Rattle.std.specs.Option.{option_map, unwrap_or}
 use Rattle.std.specs.List.{AllByRecursion, flat_map}
@@ -12,6 +12,7 @@ use Rattle.route_table.specs.declared.route.Route.{Route}
 use Rattle.chip_functions.specs.Notice.{status_of}
 use Rattle.chip_functions.specs.declared.notice.TransmitStatus.{TransmitStatus}
 use Rattle.chip_functions.specs.declared.notice.TransmitStatus.TheVariants.{Fail, NoRoute as no_route_status}
+use Rattle.chip_sim.specs.Did.{judged_all}
 use Rattle.chip_sim.specs.Events.{ChipEvent, Done, Heard as chip_hears, Informed, after, outs}
 use Rattle.chip_sim.specs.declared.out.ChipOut.{ChipOut}
 use Rattle.chip_sim.specs.declared.out.ChipOut.TheVariants as chip_out
@@ -19,6 +20,7 @@ use Rattle.device_kinds.specs.declared.change.Change.{Change}
 use Rattle.device_sim.specs.State.{State}
 use Rattle.device_sim.specs.Event.{DeviceEvent, device_replies}
 use Rattle.mesh_sim.specs.Air.{is_joined}
+use Rattle.mesh_sim.specs.Fates.{place_of}
 use Rattle.mesh_sim.specs.Routes.{backwards}
 use Rattle.mesh_sim.specs.Steps.{answers_if}
 use Rattle.mesh_sim.specs.declared.event.AirEvent.{AirEvent}
@@ -27,6 +29,7 @@ use Rattle.zw_words.specs.declared.side.Side.{Side}
 use Rattle.zw_words.specs.declared.side.Side.TheVariants.{Host as by_host}
 use Rattle.zw_text.specs.declared.entry.Entry.{Entry}
 use Rattle.zw_text.specs.declared.entry.Entry.TheVariants as entry
+use Rattle.zw_text.specs.declared.entry.Refusal.TheVariants.{NoDevice}
 use Rattle.host_model.specs.State.{HostState}
 use Rattle.host_model.specs.Events.{HostEvent}
 use Rattle.host_model.specs.Did.{outs_all}
@@ -37,17 +40,17 @@ use Rattle.outside_model.specs.declared.waits.Due.{Due}
 use Rattle.outside_model.specs.declared.waits.Due.TheVariants.{Info, NoRoute as no_route_due}
 use Rattle.outside_model.specs.State.{OuterState, Outside, Outcome, each, with_chip, silent, and_then}
 use Rattle.outside_model.specs.Chip.{put_out, chip_does}
-use Rattle.outside_model.specs.Results.{owes_call, call_back, no_route, no_routes, leading, gives, without_no_route, profile_for}
+use Rattle.outside_model.specs.Results.{owes_call, call_back, no_route, no_routes, leading, gives, without_no_route, profile_for, device_at}
 use Rattle.outside_model.specs.Air.{change_entries, sent_entries, to_chip}
-use Rattle.outside_model.specs.Devices.{acts_at, changes_entries, new_changes, sends}
-use Rattle.outside_model.specs.Events.{Host_writes, Host_notes, Host_begins, outcome, stamp, ticked_entry, happens, entries}
+use Rattle.outside_model.specs.Devices.{acts_at, acts_by_hand, changes_entries, new_changes, sends, shown_entries}
+use Rattle.outside_model.specs.Events.{OuterEvent, Host_writes, Host_takes as host_takes, Host_notes, Host_begins, Chip_takes, Arrives, Gives, Device_ticks, Chip_ticks, Repeats, Wakes_device, Sets_device, Shows, Clears_pipe, cleared_entries, way_of, is_own, outcome, stamp, ticked_entry, happens, entries}
 use Rattle.outside_model.specs.Did.{happens_all, entries_all}
 use Rattle.outside_model.proofs.EventLists.{entries_all-append}
 use Rattle.world_model.specs.State.{Machine, noted_by, routed, begun_in, host_does}
-use Rattle.world_model.specs.Events.{Host_does, Host_takes, fed, notes, entries as machine_entries}
+use Rattle.world_model.specs.Events.{Event, Outside_does, Host_does, Host_takes, Decoder_ticks, Refuses, Shows_values, Restarts, May, fed, notes, entries as machine_entries}
 use Rattle.serial_frame.specs.Stream.{Rest}
 use Rattle.serial_frame.specs.declared.item.Item.{Item}
-use Rattle.proof_device.proofs.Entered.{IsMark, told_by_marks, IsChange, change_entered, changes_entered}
+use Rattle.proof_device.proofs.Entered.{IsMark, told_by_marks, IsChange, change_entered, changes_entered, IsCleared, all_cleared, IsShown, all_shown}
 use Rattle.proof_device.proofs.HostOuts.{OutsAre, OwnIs, SharedAre, all_outs_are, answers_are}
 
 -- the entries that are so
@@ -60,6 +63,19 @@ pub record Kinds (Is : Entry → Type 0) : Type 0 where
   pub changed : (e : Entry) → IsChange e → Is e
   pub shared : SharedAre Is
   pub own : (event : HostEvent) → OwnIs Is event
+
+-- no frame arrives or is heard again
+abbrev pub HearsNone : OuterEvent → Type 0
+HearsNone (Arrives drawn route) = ⊥
+HearsNone (Repeats number drawn route) = ⊥
+HearsNone event = Unit {0}
+
+abbrev pub NoHearing : Event → Type 0
+NoHearing (Outside_does event) = HearsNone event
+NoHearing event = Unit {0}
+
+not_own : false ≡ true → ⊥
+not_own is = cc
 
 module _ (Is : Entry → Type 0) (law : Kinds Is) where
   abbrev pub Are : List Entry → Type 0
@@ -207,3 +223,41 @@ module _ (Is : Entry → Type 0) (law : Kinds Is) where
   pub taken_are : (m : Machine) (count : ℕ) (rest : Rest) (items : List Item) (events : List HostEvent) → Are (machine_entries m (Host_takes count rest items events))
   unfolding machine_entries
   taken_are m count rest items events = outs_are (fed m count rest).outside m.host.state events
+
+  -- ---- events at which no frame is heard
+
+  -- what a line shows or is refused, and bytes that are cleared
+  module _ (shown : (e : Entry) → IsShown e → Is e) (cleared : (e : Entry) → IsCleared e → Is e) (json : (text : List ℕ) → Is (entry.Json text)) where
+    hand_are : (o : OuterState) (devices : List State) (place : Option ℕ) (event : DeviceEvent) (route : Option Route) → Are (acts_by_hand o devices place event route).entries
+    hand_are o devices None event route = (shown (entry.Refused NoDevice) tt, tt)
+    hand_are o devices (Some place) event route = at_are o (slice_get devices place) event route
+
+    outcome_are : (w : Outside) (event : OuterEvent) → is_own event ≡ true → HearsNone event → Are (outcome w event).entries
+    unfolding outcome
+    outcome_are w (Host_writes unit) own none = absurd (not_own own)
+    outcome_are w (host_takes count) own none = absurd (not_own own)
+    outcome_are w (Host_notes note) own none = absurd (not_own own)
+    outcome_are w (Host_begins node sessions) own none = absurd (not_own own)
+    outcome_are w (Chip_takes count rest ways) own none = each_are chip_does does_are _ (judged_all ways)
+    outcome_are w (Arrives drawn route) own none = absurd none
+    outcome_are w (Gives route) own none = gives_are w.outer w.devices w.outer.due route
+    outcome_are w (Device_ticks place drawn route) own none = at_are w.outer (slice_get w.devices place) _ route
+    outcome_are w Chip_ticks own none = does_are _ _
+    outcome_are w (Repeats number drawn route) own none = absurd none
+    outcome_are w (Wakes_device node route) own none = hand_are w.outer w.devices (place_of node w.devices) _ route
+    outcome_are w (Sets_device node value route) own none = hand_are w.outer w.devices (place_of node w.devices) _ route
+    outcome_are w (Shows node) own none =
+        all-weaker IsShown Is shown (shown_entries node (device_at w.devices (place_of node w.devices))) (all_shown node (device_at w.devices (place_of node w.devices)))
+    outcome_are w (Clears_pipe side) own none =
+        all-weaker IsCleared Is cleared (cleared_entries side (length (way_of w.outer side).bytes)) (all_cleared side (length (way_of w.outer side).bytes))
+    outcome_are w event own none = tt
+
+    pub event_are : (m : Machine) (event : Event) → May m event → NoHearing event → Are (machine_entries m event)
+    unfolding machine_entries May
+    event_are m (Outside_does event) may none = stamp_are (outcome m.outside event).outer (outcome m.outside event).entries (outcome_are m.outside event may.0 none)
+    event_are m (Host_does event) may none = host_are m event
+    event_are m (Host_takes count rest items events) may none = taken_are m count rest items events
+    event_are m Decoder_ticks may none = tt
+    event_are m (Refuses line refusal) may none = note_are m.outside (entry.Refused refusal) (shown (entry.Refused refusal) tt)
+    event_are m (Shows_values node) may none = note_are m.outside _ (json _)
+    event_are m (Restarts state) may none = tt

@@ -1,8 +1,9 @@
 mod Members
 mod Links
 mod Tables
-mod Books
+pub mod Books
 mod Walks
+pub mod Turned
 mod Unrefused
 mod Ties
 mod Leaving
@@ -12,11 +13,11 @@ mod Setting
 mod Remembering
 mod Listeners
 mod First
-mod Passages
+pub mod Passages
 mod Sending
-mod Entering
+pub mod Entering
 mod Mute
-mod Arriving
-mod Saying
+pub mod Arriving
+pub mod Saying
 mod Walking
 mod Forgetting

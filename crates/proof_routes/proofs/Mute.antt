@@ -1,9 +1,9 @@
 -- All events but the arrival of a frame enter neither that a frame was not heard nor a link that is forgotten.
-use Rattle.std.proofs.Common.{◌≡◌, ℕ, zero, suc, ◌+◌, ◌-◌, Bool, true, false, List, [], ◌∷◌, length, slice_get}
+use Rattle.std.proofs.Common.{ℕ, zero, suc, ◌+◌, ◌-◌, Bool, true, false, List, [], ◌∷◌, length, slice_get}
 use Rattle.std.specs.Prelude.{Option, Some, None}
 use Rattle.std.specs.Option.{option_map}
 use Rattle.std.specs.List.{AllByRecursion}
-use Rattle.zw_base.proofs.Each.{all-append, all-weaker}
+use Rattle.zw_base.proofs.Each.{all-append}
 use Rattle.route_table.specs.declared.route.Route.{Route}
 use Rattle.air_frames.specs.Flown.{Flown}
 use Rattle.air_frames.specs.Frames.{remembered}
@@ -12,11 +12,10 @@ use Rattle.air_frames.specs.declared.ages.Refusal.{Refusal as RepeatRefusal}
 use Rattle.air_frames.specs.declared.ages.Refusal.TheVariants.{NeverSent, Forgotten, Stale}
 use Rattle.air_frames.specs.declared.frame.Heading.{Heading}
 use Rattle.air_frames.specs.declared.frame.Heading.TheVariants.{Outward, Homeward}
-use Rattle.chip_sim.specs.Did.{judged_all}
 use Rattle.device_sim.specs.State.{State}
 use Rattle.device_sim.specs.Event.{DeviceEvent, Hears, device_after, device_replies}
 use Rattle.mesh_sim.specs.Air.{AirState, is_joined, departing}
-use Rattle.mesh_sim.specs.Fates.{Mesh, place_of, listener_of}
+use Rattle.mesh_sim.specs.Fates.{Mesh, listener_of}
 use Rattle.mesh_sim.specs.Routes.{backwards}
 use Rattle.mesh_sim.specs.Steps.{mesh_after, mesh_outs, answers_if, answers, changed, outs_at, outs_again, repeat_outs, repeat_outs_by}
 use Rattle.mesh_sim.specs.Steps as mesh
@@ -25,17 +24,14 @@ use Rattle.mesh_sim.specs.declared.event.AirEvent.TheVariants as air_event
 use Rattle.zw_text.specs.declared.entry.Entry.{Entry}
 use Rattle.zw_text.specs.declared.entry.Entry.TheVariants as entry
 use Rattle.host_model.specs.Events.{HostEvent, Accepts}
-use Rattle.outside_model.specs.State.{OuterState, Outside, each}
-use Rattle.outside_model.specs.Chip.{chip_does}
-use Rattle.outside_model.specs.Results.{device_at}
+use Rattle.outside_model.specs.State.{OuterState, Outside, Outcome, each}
 use Rattle.outside_model.specs.Air.{deals}
-use Rattle.outside_model.specs.Devices.{acts_by_hand, shown_entries}
-use Rattle.outside_model.specs.Events.{OuterEvent, Host_writes, Host_takes as host_takes, Host_notes, Host_begins, Chip_takes, Arrives, Gives, Device_ticks, Chip_ticks, Repeats, Wakes_device, Sets_device, Shows, Clears_pipe, cleared_entries, way_of, is_own, mesh_of, repeats, outcome}
+use Rattle.outside_model.specs.Events.{OuterEvent, Arrives, Repeats, mesh_of, repeats, outcome}
 use Rattle.world_model.specs.State.{Machine}
-use Rattle.world_model.specs.Events.{Event, Outside_does, Host_does, Host_takes, Decoder_ticks, Refuses, Shows_values, Restarts, May, entries as machine_entries}
-use Rattle.proof_device.proofs.Entered.{IsMark, IsChange, IsCleared, all_cleared, IsShown, all_shown}
+use Rattle.world_model.specs.Events.{Event, Outside_does, May, entries as machine_entries}
+use Rattle.proof_device.proofs.Entered.{IsMark, IsChange, IsCleared, IsShown}
 use Rattle.proof_device.proofs.HostOuts.{OwnIs}
-use Rattle.proof_routes.proofs.Entering.{Kinds, each_are, does_are, rest_are, gives_are, to_chip_are, change_are, at_are, stamp_are, note_are, host_are, taken_are}
+use Rattle.proof_routes.proofs.Entering.{Kinds, rest_are, to_chip_are, change_are, stamp_are, event_are}
 
 -- it says neither that a frame was not heard nor that a link is forgotten
 abbrev pub IsMute : Entry → Type 0
@@ -156,58 +152,31 @@ repeats_mute w None number drawn route =
 
 -- ---- events
 
-hand_mute : (o : OuterState) (devices : List State) (place : Option ℕ) (event : DeviceEvent) (route : Option Route) → AreMute (acts_by_hand o devices place event route).entries
-hand_mute o devices None event route = (tt, tt)
-hand_mute o devices (Some place) event route = at_are IsMute kinds o (slice_get devices place) event route
+shown_mute : (e : Entry) → IsShown e → IsMute e
+shown_mute (entry.Device node setting) shown = tt
+shown_mute (entry.Refused refusal) shown = tt
+shown_mute e shown = absurd shown
+
+cleared_mute : (e : Entry) → IsCleared e → IsMute e
+cleared_mute (entry.Cleared side count) cleared = tt
+cleared_mute e cleared = absurd cleared
 
 -- no frame arrives
 abbrev pub ArrivesNone : OuterEvent → Type 0
 ArrivesNone (Arrives drawn route) = ⊥
 ArrivesNone event = Unit {0}
 
-not_own : false ≡ true → ⊥
-not_own is = cc
-
-outcome_mute : (w : Outside) (event : OuterEvent) → is_own event ≡ true → ArrivesNone event → AreMute (outcome w event).entries
-unfolding outcome
-outcome_mute w (Host_writes unit) own none = absurd (not_own own)
-outcome_mute w (host_takes count) own none = absurd (not_own own)
-outcome_mute w (Host_notes note) own none = absurd (not_own own)
-outcome_mute w (Host_begins node sessions) own none = absurd (not_own own)
-outcome_mute w (Chip_takes count rest ways) own none = each_are IsMute kinds chip_does (does_are IsMute kinds) _ (judged_all ways)
-outcome_mute w (Arrives drawn route) own none = absurd none
-outcome_mute w (Gives route) own none = gives_are IsMute kinds w.outer w.devices w.outer.due route
-outcome_mute w (Device_ticks place drawn route) own none = at_are IsMute kinds w.outer (slice_get w.devices place) _ route
-outcome_mute w Chip_ticks own none = does_are IsMute kinds _ _
-outcome_mute w (Repeats number drawn route) own none = repeats_mute w (refusal_of w.outer.air.frames number) number drawn route
-outcome_mute w (Wakes_device node route) own none = hand_mute w.outer w.devices (place_of node w.devices) _ route
-outcome_mute w (Sets_device node value route) own none = hand_mute w.outer w.devices (place_of node w.devices) _ route
-outcome_mute w (Shows node) own none = all-weaker IsShown IsMute one (shown_entries node (device_at w.devices (place_of node w.devices))) (all_shown node (device_at w.devices (place_of node w.devices)))
-  where
-    one : (e : Entry) → IsShown e → IsMute e
-    one (entry.Device node setting) shown = tt
-    one (entry.Refused refusal) shown = tt
-    one e shown = absurd shown
-outcome_mute w (Clears_pipe side) own none =
-    all-weaker IsCleared IsMute one (cleared_entries side (length (way_of w.outer side).bytes)) (all_cleared side (length (way_of w.outer side).bytes))
-  where
-    one : (e : Entry) → IsCleared e → IsMute e
-    one (entry.Cleared side count) cleared = tt
-    one e cleared = absurd cleared
-outcome_mute w event own none = tt
-
--- so of the machine
 abbrev pub NoArrival : Event → Type 0
 NoArrival (Outside_does event) = ArrivesNone event
 NoArrival event = Unit {0}
 
+again_enters : (m : Machine) (number : ℕ) (drawn : List ℕ) (route : Option Route) → AreMute (machine_entries m (Outside_does (Repeats number drawn route)))
+unfolding machine_entries outcome
+again_enters m number drawn route =
+    let x : Outcome = repeats m.outside (refusal_of m.outside.outer.air.frames number) (mesh.Repeats number drawn route) in
+    stamp_are IsMute kinds x.outer x.entries (repeats_mute m.outside (refusal_of m.outside.outer.air.frames number) number drawn route)
+
 pub event_mute : (m : Machine) (event : Event) → May m event → NoArrival event → AreMute (machine_entries m event)
-unfolding machine_entries May
-event_mute m (Outside_does event) may none =
-    stamp_are IsMute kinds (outcome m.outside event).outer (outcome m.outside event).entries (outcome_mute m.outside event may.0 none)
-event_mute m (Host_does event) may none = host_are IsMute kinds m event
-event_mute m (Host_takes count rest items events) may none = taken_are IsMute kinds m count rest items events
-event_mute m Decoder_ticks may none = tt
-event_mute m (Refuses line refusal) may none = note_are IsMute kinds m.outside (entry.Refused refusal) tt
-event_mute m (Shows_values node) may none = note_are IsMute kinds m.outside _ tt
-event_mute m (Restarts state) may none = tt
+event_mute m (Outside_does (Arrives drawn route)) may none = absurd none
+event_mute m (Outside_does (Repeats number drawn route)) may none = again_enters m number drawn route
+event_mute m event may none = event_are IsMute kinds shown_mute cleared_mute (λ text. tt) m event may tt

@@ -1,8 +1,9 @@
 -- The frames that the air keeps go as the transcript says, whatever is sent, arrives, or is pushed out.
-use Rattle.std.proofs.Common.{◌≡◌, ◌<◌, ℕ, zero, suc, ◌+◌, ◌-◌, nat_lt, Bool, true, false, if◌then◌else◌, List, [], ◌∷◌, ◌++◌, map, drop, length, slice_get, refl, sym, ap, ap₂, ◌∙◌, append-nil, length-append, length-drop, arith}
+use Rattle.std.proofs.Common.{◌≡◌, ◌<◌, ℕ, zero, suc, ◌+◌, ◌-◌, nat_lt, Bool, true, false, if◌then◌else◌, List, [], ◌∷◌, ◌++◌, map, drop, length, slice_get, refl, sym, ap, ap₂, ◌∙◌, append-nil, append_assoc, length-append, length-drop, arith}
 use Rattle.std.proofs.lemmas.Bool.{ltb-true}
 use Rattle.std.proofs.lemmas.List.{length-map, map-append, drop-map, drop-append-le}
 use Rattle.std.specs.Prelude.{Some, None}
+use Rattle.std.specs.Option.{option_map}
 use Rattle.std.specs.List.{AllByRecursion}
 use Rattle.zw_base.proofs.Each.{all-append}
 use Rattle.circular_buffer.specs.Buffer.{keep_last}
@@ -11,25 +12,51 @@ use Rattle.air_frames.specs.declared.frame.Departure.{Departure}
 use Rattle.air_frames.specs.Flown.{Flown}
 use Rattle.air_frames.specs.Frames.{FramesState, kept, putting, landing, next_of}
 use Rattle.air_frames.proofs.Counted.{keep_from}
+use Rattle.zw_text.specs.declared.line.Line.{Line}
 use Rattle.zw_text.specs.declared.entry.Entry.{Entry}
 use Rattle.zw_text.specs.declared.entry.Entry.TheVariants as entry
-use Rattle.zw_text.specs.Transcript.{AirFrame, frame_at, frames}
-use Rattle.zw_text.proofs.Views.{shown-append}
-use Rattle.proof_routes.specs.Forgetting.{Passage, passage_of, passage_by, passage_flown, passages, IsApartFrom, HasPassages}
+use Rattle.zw_text.specs.Transcript.{AirFrame, frame_at, frames, line_of}
+use Rattle.zw_text.proofs.Views.{shown-append, folded-append}
+use Rattle.law_transcript.specs.Fates.{mark_step, marks_left}
+use Rattle.law_transcript.specs.Lists.{shown_after}
+use Rattle.law_wire.specs.Networks.{links_after, air_links}
+use Rattle.proof_routes.specs.Forgetting.{Passage, passage_at, passage_by, passage_flown, passages, IsApartFrom, HasPassages}
+use Rattle.proof_routes.proofs.Books.{air_grows}
 
 -- ---- what a transcript shows
 
-pub passages_grow : (past told : List Entry) → passages (past ++ told) ≡ passages past ++ passages told
-passages_grow past told = ap (λ (l : List AirFrame). map passage_of l) (shown-append frame_at past told) ∙ map-append passage_of (frames past) (frames told)
+passages_both : (before xs ys : List Entry) → shown_after passage_at before (xs ++ ys) ≡ shown_after passage_at before xs ++ shown_after passage_at (before ++ xs) ys
+passages_both before [] ys = ap (λ (l : List Entry). shown_after passage_at l ys) (sym (append-nil before))
+passages_both before (x ∷ xs) ys =
+    ap (λ (l : List Passage). passage_at before x ++ l)
+    (passages_both (before ++ x ∷ []) xs ys ∙ ap (λ (l : List Entry). shown_after passage_at (before ++ x ∷ []) xs ++ shown_after passage_at l ys) (append_assoc before (x ∷ []) xs))
+    ∙ sym (append_assoc (passage_at before x) (shown_after passage_at (before ++ x ∷ []) xs) (shown_after passage_at (before ++ x ∷ xs) ys))
 
--- an entry that is no frame
+pub passages_grow : (past told : List Entry) → passages (past ++ told) ≡ passages past ++ shown_after passage_at past told
+passages_grow past told = passages_both [] past told
+
+-- an entry that is neither a frame nor words of a line
 abbrev pub IsNoFrame : Entry → Type 0
 IsNoFrame (entry.Air frame sender receiver repeaters payload) = ⊥
+IsNoFrame (entry.Said words) = ⊥
 IsNoFrame _ = Unit {0}
 
 one_none : (e : Entry) → IsNoFrame e → frame_at e ≡ []
 one_none (entry.Air frame sender receiver repeaters payload) none = absurd none
 one_none e none = refl
+
+one_passes : (past : List Entry) (e : Entry) → IsNoFrame e → passage_at past e ≡ []
+one_passes past (entry.Air frame sender receiver repeaters payload) none = absurd none
+one_passes past e none = refl
+
+one_line : (e : Entry) → IsNoFrame e → line_of e ≡ []
+one_line (entry.Said words) none = absurd none
+one_line e none = refl
+
+one_mark : (marks : ℕ) (e : Entry) → IsNoFrame e → mark_step marks e ≡ marks
+one_mark marks (entry.Air frame sender receiver repeaters payload) none = absurd none
+one_mark marks (entry.Said words) none = absurd none
+one_mark marks e none = refl
 
 none_shown : (told : List Entry) → AllByRecursion IsNoFrame told → frames told ≡ []
 none_shown [] none = refl
@@ -38,8 +65,30 @@ none_shown (e ∷ told) none = ap₂ (λ (a b : List AirFrame). a ++ b) (one_non
 pub frames_same : (past told : List Entry) → AllByRecursion IsNoFrame told → frames (past ++ told) ≡ frames past
 frames_same past told none = shown-append frame_at past told ∙ (ap (λ (l : List AirFrame). frames past ++ l) (none_shown told none) ∙ append-nil (frames past))
 
+none_pass : (past told : List Entry) → AllByRecursion IsNoFrame told → shown_after passage_at past told ≡ []
+none_pass past [] none = refl
+none_pass past (e ∷ told) none = ap₂ (λ (a b : List Passage). a ++ b) (one_passes past e none.0) (none_pass (past ++ e ∷ []) told none.1)
+
 pub passages_same : (past told : List Entry) → AllByRecursion IsNoFrame told → passages (past ++ told) ≡ passages past
-passages_same past told none = ap (λ (l : List AirFrame). map passage_of l) (frames_same past told none)
+passages_same past told none = passages_grow past told ∙ (ap (λ (l : List Passage). passages past ++ l) (none_pass past told none) ∙ append-nil (passages past))
+
+pub marks_grow : (past : List Entry) (e : Entry) → marks_left (past ++ e ∷ []) ≡ mark_step (marks_left past) e
+marks_grow past e = folded-append mark_step 0 past (e ∷ [])
+
+pub marks_same : (past told : List Entry) → AllByRecursion IsNoFrame told → marks_left (past ++ told) ≡ marks_left past
+marks_same past [] none = ap marks_left (append-nil past)
+marks_same past (e ∷ told) none =
+    ap marks_left (sym (append_assoc past (e ∷ []) told)) ∙ (marks_same (past ++ e ∷ []) told none.1 ∙ (marks_grow past e ∙ one_mark (marks_left past) e none.0))
+
+pub links_same : (past told : List Entry) → AllByRecursion IsNoFrame told → air_links (past ++ told) ≡ air_links past
+links_same past [] none = ap air_links (append-nil past)
+links_same past (e ∷ told) none =
+    ap air_links (sym (append_assoc past (e ∷ []) told))
+    ∙ (links_same (past ++ e ∷ []) told none.1 ∙ (air_grows past e ∙ ap (λ (l : List Line). links_after (air_links past) l) (one_line e none.0)))
+
+-- words are no frame either
+pub passages_said : (past : List Entry) (words : List ℕ) → passages (past ++ entry.Said words ∷ []) ≡ passages past
+passages_said past words = passages_grow past (entry.Said words ∷ []) ∙ append-nil (passages past)
 
 -- ---- what the air keeps
 
@@ -47,11 +96,14 @@ map_last : (count : ℕ) (all : List Flown) → map passage_flown (keep_last cou
 map_last count all = sym (drop-map passage_flown (length all - count) all) ∙ ap (λ (n : ℕ). drop (n - count) (map passage_flown all)) (sym (length-map all passage_flown))
 
 -- a frame goes on the air
-pub put_passage : (shown : List Passage) (state : FramesState) (departure : Departure) → IsApartFrom (passage_by departure.heading departure.node departure.route) → HasPassages shown state
-    → HasPassages (shown ++ passage_by departure.heading departure.node departure.route ∷ []) (putting state departure)
+abbrev pub passage_put : Departure → Passage
+passage_put departure = passage_by departure.heading departure.node departure.route departure.lost
+
+pub put_passage : (shown : List Passage) (state : FramesState) (departure : Departure) → IsApartFrom (passage_put departure) → HasPassages shown state
+    → HasPassages (shown ++ passage_put departure ∷ []) (putting state departure)
 unfolding putting
 put_passage shown state departure apart has =
-    let one : Passage = passage_by departure.heading departure.node departure.route in
+    let one : Passage = passage_put departure in
     let o = has.order in
     let s = has.sent in
     let m : ℕ = state.sent - kept state.sent state.landed in
@@ -107,3 +159,23 @@ next_passage shown state frame has next = by (nat_lt state.landed state.sent) re
         → (state.landed < state.sent) × (slice_get shown state.landed ≡ Some (passage_flown frame))
     by true below is = (ltb-true state.landed state.sent below, there (ltb-true state.landed state.sent below) is)
     by false below is = let none : None ≡ Some frame = is in absurd cc
+
+-- ---- the frame of the transcript at a place
+
+-- it goes so
+pub record GoesSo (frame : AirFrame) (passage : Passage) : Type 0 where
+  pub sender : frame.sender ≡ passage.sender
+  pub receiver : frame.receiver ≡ passage.receiver
+  pub over : frame.repeaters ≡ passage.over
+
+pub passage_got : (before rest : List Entry) (at : ℕ) (passage : Passage) → slice_get (shown_after passage_at before rest) at ≡ Some passage
+    → (frame : AirFrame) × (slice_get (frames rest) at ≡ Some frame) × GoesSo frame passage
+passage_got before [] at passage is = absurd (let none : None ≡ Some passage = is in cc)
+passage_got before (entry.Air frame sender receiver repeaters payload ∷ rest) zero passage is =
+    let from : Some sender ≡ Some passage.sender = ap (option_map (λ (p : Passage). p.sender)) is in
+    let to : Some receiver ≡ Some passage.receiver = ap (option_map (λ (p : Passage). p.receiver)) is in
+    let over : Some repeaters ≡ Some passage.over = ap (option_map (λ (p : Passage). p.over)) is in
+    (_, refl, record { sender = cc; receiver = cc; over = cc })
+passage_got before (entry.Air frame sender receiver repeaters payload ∷ rest) (suc at) passage is =
+    passage_got (before ++ entry.Air frame sender receiver repeaters payload ∷ []) rest at passage is
+passage_got before (e ∷ rest) at passage is = passage_got (before ++ e ∷ []) rest at passage is

@@ -28,7 +28,7 @@ use Rattle.proof_routes.proofs.Remembering.{remembers_shown, remembers_same}
 
 -- ---- entries without words
 
-wordless_line : (e : Entry) → HasNoWords e → line_of e ≡ []
+pub wordless_line : (e : Entry) → HasNoWords e → line_of e ≡ []
 wordless_line (entry.Said words) none = absurd none
 wordless_line e none = refl
 

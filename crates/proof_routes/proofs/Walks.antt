@@ -112,7 +112,7 @@ turned_all P xs all k d less =
     let within : k < length xs = subst (λ (n : ℕ). k < n) (length-reverse xs) less in
     subst P (sym (get_or-reverse xs k d within)) (all (length xs - 1 - k) d (omega (arith, within)))
 
-turned_nodes : (xs : List ℕ) → All (λ n. (1 ≤ n) × (n ≤ 232)) xs → filter is_node (reverse xs) ≡ reverse xs
+pub turned_nodes : (xs : List ℕ) → All (λ n. (1 ≤ n) × (n ≤ 232)) xs → filter is_node (reverse xs) ≡ reverse xs
 turned_nodes xs all = nodes_kept (reverse xs) (recursion_from_All (λ n. (1 ≤ n) × (n ≤ 232)) (reverse xs) (turned_all (λ n. (1 ≤ n) × (n ≤ 232)) xs all))
 
 -- a route walked from its other end shows its repeaters turned

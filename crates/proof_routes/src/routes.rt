@@ -1,13 +1,19 @@
 //! The way of each frame, and what the chip forgets of it.
 
-ghost use Rattle.std.specs.Prelude.{Some, List, ℕ};
+ghost use Rattle.std.specs.Prelude.{Some, List, [], ℕ, true};
 ghost use Rattle.s0_crypto.specs.declared.key_pair.Keys.{Keys};
 ghost use Rattle.device_sim.specs.State.{State};
 ghost use Rattle.law_wire.specs.Routes.{GoesByRoute};
 ghost use Rattle.law_wire.specs.Arriving.{ForgetsDeadHops};
+ghost use Rattle.law_wire.specs.Serial.{ended};
+ghost use Rattle.proof_routes.specs.Forgetting.{KnowPassages, MayForget};
+ghost use Rattle.proof_routes.specs.Knowing.{KnowNetworks};
+ghost use Rattle.proof_walk.specs.Phases.{Between};
+ghost use Rattle.proof_walk.specs.Walk.{WalkOver};
 ghost use Rattle.world_model.specs.State.{first_machine};
 ghost use Rattle.world_lines.specs.Spoken.{Spoken, transcript_of};
 ghost use Rattle.world_lines.specs.Done.{AreDone};
+ghost use Rattle.world_lines.specs.Whole.{AreWhole};
 
 use crate::networks_go_on;
 use chip_sim::rules_of_events;
@@ -22,6 +28,15 @@ pub fn frames_go_by_route()
     networks_go_on();
 }
 
+/// At each phase of a line, where the networks are known, the air has sent the frames that the transcript shows, over their ways; those arrive nowhere that
+/// use up a mark of `lose`, and those of devices that have no way. As many marks are left as the transcript says.
+pub fn frames_go_on()
+    ensures walk { (devices : List State) → WalkOver (KnowNetworks devices) MayForget KnowPassages }
+    ensures first { (keys : Keys) (texts : List (List ℕ)) (devices : List State) → KnowPassages Between [] (first_machine keys (Some texts) devices) }
+{
+    rules_of_events();
+}
+
 /// Over the same, directly after a frame of the controller that nobody heard the chip forgets the first hop of its way that is no link, where its table
 /// has it; and it forgets no other.
 pub fn dead_hops_are_forgotten()
@@ -29,5 +44,15 @@ pub fn dead_hops_are_forgotten()
         ForgetsDeadHops (transcript_of (first_machine keys (Some texts) devices) lines) }
 {
     networks_go_on();
-    rules_of_events();
+    frames_go_on();
+}
+
+/// Over lines that were all run whole so also in the end: no hop is left that the chip should have forgotten.
+pub fn dead_hops_are_forgotten_in_the_end()
+    ensures { (keys : Keys) (texts : List (List ℕ)) (devices : List State) (lines : List Spoken) → AreDone (first_machine keys (Some texts) devices) lines →
+        AreWhole (first_machine keys (Some texts) devices) lines →
+        ForgetsDeadHops (ended true (transcript_of (first_machine keys (Some texts) devices) lines)) }
+{
+    networks_go_on();
+    frames_go_on();
 }

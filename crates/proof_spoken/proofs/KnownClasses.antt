@@ -188,7 +188,7 @@ module _ (law : LeavesRecords) (listing : ℕ → List ℕ) where
   unfolding outcome
   note_knows past m entry foreign knows = foreign_knows past _ m.host.state (stamp_foreign m.outside.outer (entry ∷ []) (foreign, tt)) knows
 
-  machine_knows : (past : List Entry) (m : Machine) (event : Event) → May m event → Tells listing m event → KnowsListing listing past m.host.state
+  pub machine_knows : (past : List Entry) (m : Machine) (event : Event) → May m event → Tells listing m event → KnowsListing listing past m.host.state
       → KnowsListing listing (past ++ entries m event) (happens m event).host.state
   unfolding happens entries May
   machine_knows past m (Outside_does event) may tells knows = foreign_knows past (entries_outside m.outside event) m.host.state (own_foreign m.outside event may.0) knows

@@ -15,9 +15,8 @@ use Rattle.law_transcript.specs.Commands.{before_accepted, classes_for, numbers_
 use Rattle.law_transcript.specs.Lists.{EachAfter, Has}
 use Rattle.law_transcript.specs.Stores.{node_at}
 use Rattle.host_keep.specs.Kept.{Taken}
-use Rattle.host_orders.specs.Classes.{actuator_of}
 use Rattle.host_orders.specs.Settings.{settings}
-use Rattle.host_orders.specs.declared.actuator.Actuator.{Actuator}
+use Rattle.host_orders.specs.Wrapping.{carriage_of}
 use Rattle.host_orders.specs.declared.carriage.Carriage.{Carriage}
 use Rattle.host_model.specs.State.{Command, HostState, command_at}
 use Rattle.proof_host.specs.Facts.{Facts}
@@ -162,8 +161,16 @@ module _ (listing : ℕ → List ℕ) (past : List Entry) (h : HostState) (node 
   shown : AreOf listing h.commands (accepted node past) (numbers_for node past)
   shown = all_of_node listing h.commands node [] past not_accepting [] refl said (record { numbers_are = refl; orders = tt })
 
-  asked : (number : ℕ) → Has (numbers_for node past) number → settings_for listing past node number ≡ settings_taken (taken_at h.commands number)
-  asked number has =
+  -- a number that was accepted for the node: its order by the transcript and by the table, and how that is carried
+  record IsTakenAs (number : ℕ) : Type 0 where
+    pub order : Order
+    pub carriage : Carriage
+    pub is : order_of number (accepted node past) ≡ Some order
+    pub taken : taken_at h.commands number ≡ Some (record { order = order; carriage = carriage })
+    pub carried : carriage ≡ carriage_of (classes_for listing past node number) order
+
+  taken_as : (number : ℕ) → Has (numbers_for node past) number → IsTakenAs number
+  taken_as number has =
       let one = shown_has (number_for node) past number has in
       let first = first_of listing h.commands [] past number said (has_shown accepted_number past one.by number one.among (number_here node number one.by one.shows)) in
       let here : Has (accepted_for number past) node = has_shown (node_at number) past one.by node one.among (accepted_here node number one.by one.shows) in
@@ -171,10 +178,31 @@ module _ (listing : ℕ → List ℕ) (past : List Entry) (h : HostState) (node 
       let same : first.node ≡ node = one_node (command_at h.commands number) first.node node (subst (λ (l : List ℕ). Has l first.node) table first.among) (subst (λ (l : List ℕ). Has l node) table here) in
       let order = found listing h.commands (accepted node past) number shown.orders (subst (λ (l : List ℕ). Has l number) (sym shown.numbers_are) has) in
       let alike = same_order order.order first.is.order order.carriage first.is.carriage (taken_at h.commands number) order.taken first.is.taken in
-      ap (λ (o : Option Order). settings_by (classes_for listing past node number) o) (order.is ∙ ap Some alike)
-      ∙ ap (λ (a : Actuator). settings a first.is.order)
-      (ap (λ (n : ℕ). actuator_of (classes_for listing past n number)) (sym same) ∙ sym first.is.known)
-      ∙ ap settings_taken (sym first.is.taken)
+      record {
+        order = first.is.order;
+        carriage = first.is.carriage;
+        is = order.is ∙ ap Some alike;
+        taken = first.is.taken;
+        carried = subst (λ (n : ℕ). first.is.carriage ≡ carriage_of (classes_for listing past n number) first.is.order) same first.is.carried;
+      }
+
+  asked : (number : ℕ) → Has (numbers_for node past) number → settings_for listing past node number ≡ settings_taken (taken_at h.commands number)
+  asked number has =
+      let one = taken_as number has in
+      ap (λ (o : Option Order). settings_by (classes_for listing past node number) o) one.is
+      ∙ ap (λ (c : Carriage). settings c.actuator one.order) (sym one.carried)
+      ∙ ap settings_taken (sym one.taken)
+
+  some_taken : (a b : Taken) → Some a ≡ Some b → a ≡ b
+  some_taken a b e = cc
+
+  -- so whatever the table has of it
+  pub carried_is : (number : ℕ) (taken : Taken) → Has (numbers_for node past) number → taken_at h.commands number ≡ Some taken
+      → (order_of number (accepted node past) ≡ Some taken.order) × (taken.carriage ≡ carriage_of (classes_for listing past node number) taken.order)
+  carried_is number taken has at =
+      let one = taken_as number has in
+      subst (λ (t : Taken). (order_of number (accepted node past) ≡ Some t.order) × (t.carriage ≡ carriage_of (classes_for listing past node number) t.order))
+      (some_taken (record { order = one.order; carriage = one.carriage }) taken (sym one.taken ∙ at)) (one.is, one.carried)
 
   pub table_is : IsTable listing h.commands node past
   table_is = record {

@@ -12,7 +12,7 @@ use Rattle.zw_text.specs.Transcript.{accepted_number, accepted_numbers, intervie
 use Rattle.zw_text.proofs.Views.{folded-append, shown-append}
 use Rattle.law_transcript.specs.Nodes.{host_list, known_at_first, known_classes}
 use Rattle.host_keep.specs.Kept.{Taken}
-use Rattle.host_orders.specs.Classes.{actuator_of}
+use Rattle.host_orders.specs.Wrapping.{carriage_of}
 use Rattle.host_orders.specs.declared.carriage.Carriage.{Carriage}
 use Rattle.host_model.specs.State.{Command, HostState}
 use Rattle.host_model.specs.Events.{HostEvent, Accepts}
@@ -107,7 +107,7 @@ one_stays listing old new stays past (Accepted command node) is = record {
   said = is.said;
   of_node = is.of_node;
   taken = stays command (record { order = is.order; carriage = is.carriage }) is.taken;
-  known = is.known;
+  carried = is.carried;
 }
 one_stays listing old new stays past entry is = tt
 
@@ -158,12 +158,12 @@ abbrev pub AsidesKeep : Type 0
 AsidesKeep = (past : List Entry) (h : HostState) (entry : Entry) → Facts past h → IsAside entry → Facts (past ++ entry ∷ []) h
 
 -- the host goes on from what was said
-record IsSo (listing : ℕ → List ℕ) (past : List Entry) (m : Machine) : Type 0 where
+pub record IsSo (listing : ℕ → List ℕ) (past : List Entry) (m : Machine) : Type 0 where
   pub facts : Facts past m.host.state
   pub said : AreSaid listing m.host.state.commands past
 
 module _ (go_on : FactsGoOn) (listing : ℕ → List ℕ) where
-  plain_so : (past : List Entry) (m : Machine) (events : List Event) → ArePlain events → MayAll m events → AllStartWell m events → IsSo listing past m
+  pub plain_so : (past : List Entry) (m : Machine) (events : List Event) → ArePlain events → MayAll m events → AllStartWell m events → IsSo listing past m
       → IsSo listing (past ++ entries_all m events) (happens_all m events)
   plain_so past m events plain may well so =
       let old = m.host.state.commands in
@@ -174,7 +174,7 @@ module _ (go_on : FactsGoOn) (listing : ℕ → List ℕ) where
       record { facts = facts; said = said_stays listing old new (past ++ entries_all m events) (same_stays old new same) (said_more listing old past (entries_all m events) so.said none) }
 
   -- an order is accepted directly after its line
-  order_so : (past : List Entry) (m : Machine) (words : List ℕ) (order : Order) (carriage : Carriage)
+  pub order_so : (past : List Entry) (m : Machine) (words : List ℕ) (order : Order) (carriage : Carriage)
       → line_of (Said words) ≡ Commanded order ∷ [] → KnowsListing listing past m.host.state → MayAll m (Outside_does Begins_line ∷ Host_does (Accepts order carriage) ∷ [])
       → AllStartWell m (Outside_does Begins_line ∷ Host_does (Accepts order carriage) ∷ []) → IsSo listing (past ++ Said words ∷ []) m
       → IsSo listing ((past ++ Said words ∷ []) ++ entries_all m (Outside_does Begins_line ∷ Host_does (Accepts order carriage) ∷ []))
@@ -193,7 +193,7 @@ module _ (go_on : FactsGoOn) (listing : ℕ → List ℕ) where
         said = last_said past words ∙ read;
         of_node = refl;
         taken = push_is old one;
-        known = ap (λ (c : Carriage). c.actuator) is.carried ∙ ap actuator_of (sym classes);
+        carried = is.carried ∙ ap (λ (l : List ℕ). carriage_of l order) (sym classes);
       } in
       let said = each-append (MayAnswer listing (old ++ one ∷ [])) [] before (Accepted (length old + 1) order.node ∷ [])
       (said_stays listing old (old ++ one ∷ []) before (push_stays old one) so.said) (answer, tt) in

@@ -7,7 +7,7 @@ use Rattle.zw_text.specs.declared.entry.Entry.TheVariants.{Accepted}
 use Rattle.zw_text.specs.Transcript.{line_last}
 use Rattle.law_transcript.specs.Lists.{EachAfter}
 use Rattle.law_transcript.specs.Nodes.{host_list, known_classes}
-use Rattle.host_orders.specs.Classes.{actuator_of}
+use Rattle.host_orders.specs.Wrapping.{carriage_of}
 use Rattle.host_orders.specs.declared.carriage.Carriage.{Carriage}
 use Rattle.host_node.specs.TableState.{node_of}
 use Rattle.host_model.specs.State.{Command, HostState}
@@ -28,7 +28,7 @@ pub record IsSaid (listing : ℕ → List ℕ) (commands : List Command) (past :
   pub said : line_last past ≡ Commanded order ∷ []
   pub of_node : order.node ≡ node
   pub taken : taken_at commands command ≡ Some (record { order = order; carriage = carriage })
-  pub known : carriage.actuator ≡ actuator_of (host_list listing past node)
+  pub carried : carriage ≡ carriage_of (host_list listing past node) order
 
 abbrev pub MayAnswer : (ℕ → List ℕ) → List Command → List Entry → Entry → Type 0
 MayAnswer listing commands past (Accepted command node) = IsSaid listing commands past command node

@@ -4,7 +4,8 @@
 //! An interview that ends well concerns a joined node, and tells what the first device of that node lists. Each law is
 //! the contract of a function with an empty body, over lines that are said one after another (`world_lines`) and the
 //! events of the machine that each line is. `answers_stand_after_their_lines` is the induction over the lines.
-//! `tables_are_what_was_said` gives what `proof_once` asks of the table. `interviews_give_what_is_known` says which
+//! `tables_are_what_was_said` gives what `proof_once` asks of the table, and `orders_are_carried_as_said` how each of
+//! its orders is carried. `interviews_give_what_is_known` says which
 //! classes the host then knows, and `lines_tell_what_nodes_list` that they are those that the device lists: the list
 //! goes from the kind of a device to the chip (`proofs/ListsAtChip`), through the chip's frames (`proofs/Frames`,
 //! `proofs/NoticeLists`) and over the line to the host (`proofs/HeardLists`).
@@ -17,6 +18,6 @@ mod said;
 
 pub use interviews::{interviews_tell_what_nodes_list, lines_tell_what_nodes_list};
 pub use said::{
-    answers_stand_after_their_lines, interviews_give_what_is_known, runs_have_their_tables,
-    tables_are_what_was_said, tables_keep_orders,
+    answers_stand_after_their_lines, interviews_give_what_is_known, orders_are_carried_as_said,
+    runs_have_their_tables, tables_are_what_was_said, tables_keep_orders,
 };

@@ -1,21 +1,28 @@
 //! The laws of orders that were said.
 
-ghost use Rattle.std.specs.Prelude.{ℕ, Option, List, [], ◌++◌};
+ghost use Rattle.std.specs.Prelude.{◌≡◌, ℕ, Option, Some, List, [], ◌++◌};
 ghost use Rattle.s0_crypto.specs.declared.key_pair.Keys.{Keys};
 ghost use Rattle.device_sim.specs.State.{State};
 ghost use Rattle.zw_text.specs.declared.entry.Entry.{Entry};
+ghost use Rattle.zw_text.specs.Transcript.{accepted};
+ghost use Rattle.law_transcript.specs.Commands.{classes_for, order_of};
+ghost use Rattle.law_transcript.specs.Lists.{Has};
+ghost use Rattle.host_keep.specs.Kept.{Taken};
+ghost use Rattle.host_orders.specs.Wrapping.{carriage_of};
+ghost use Rattle.proof_host.specs.Laws.{numbers_for};
+ghost use Rattle.proof_host.specs.Tables.{taken_at};
 ghost use Rattle.host_model.specs.State.{HostState, first_host};
 ghost use Rattle.host_model.specs.Events.{HostEvent};
 ghost use Rattle.host_model.specs.After.{after as host_after};
 ghost use Rattle.proof_host.specs.Facts.{Facts};
 ghost use Rattle.world_model.specs.State.{Machine, first_machine};
-ghost use Rattle.world_model.specs.Events.{Event, happens};
+ghost use Rattle.world_model.specs.Events.{Event, happens, entries, May};
 ghost use Rattle.proof_world.specs.Restarts.{AreHeld, StartsWell};
 ghost use Rattle.proof_once.specs.Tied.{KeepsOrders};
 ghost use Rattle.proof_once.specs.ByTable.{IsTable};
 ghost use Rattle.world_lines.specs.Spoken.{Spoken, after, after_all, entries_of, transcript_of};
 ghost use Rattle.proof_spoken.specs.Spoken.{IsSpoken, AreSpoken};
-ghost use Rattle.proof_spoken.specs.Said.{AllKnow, AreSaid, KnowsAgain, KnowsListing, LinesTell};
+ghost use Rattle.proof_spoken.specs.Said.{AllKnow, AreSaid, KnowsAgain, KnowsListing, LinesTell, Tells};
 
 use host_keep::texts_give_one_thing;
 use host_node::a_restart_needs_the_records_alone;
@@ -51,10 +58,19 @@ pub fn tables_are_what_was_said()
         IsTable listing h.commands node past }
 {}
 
+/// And each order that was accepted is in the table as the transcript shows it, carried as the classes ask that the host knew of the node then.
+pub fn orders_are_carried_as_said()
+    ensures { (listing : ℕ → List ℕ) (past : List Entry) (h : HostState) (node number : ℕ) (taken : Taken) → Facts past h →
+        AreSaid listing h.commands past → Has (numbers_for node past) number → taken_at h.commands number ≡ Some taken →
+        (order_of number (accepted node past) ≡ Some taken.order) × (taken.carriage ≡ carriage_of (classes_for listing past node number) taken.order) }
+{}
+
 /// The host knows of each node the classes that the transcript shows, where each interview that ends well is of a joined node and tells what the node
 /// lists, and a host that starts again knows what the one before knew: so it is of two hosts that have the same records.
 pub fn interviews_give_what_is_known()
     ensures first { (listing : ℕ → List ℕ) (keys : Keys) → KnowsListing listing [] (first_host keys) }
+    ensures each { (listing : ℕ → List ℕ) (past : List Entry) (m : Machine) (event : Event) → May m event → Tells listing m event →
+        KnowsListing listing past m.host.state → KnowsListing listing (past ++ entries m event) (happens m event).host.state }
     ensures lines { (listing : ℕ → List ℕ) (past : List Entry) (m : Machine) (lines : List Spoken) → AreSpoken m lines →
         LinesTell listing m lines → KnowsListing listing past m.host.state →
         AllKnow listing past m lines }

@@ -5,3 +5,4 @@ pub mod Flights
 pub mod OutsideTraffic
 pub mod OnAir
 pub mod Course
+pub mod Links

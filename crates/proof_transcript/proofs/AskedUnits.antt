@@ -1,8 +1,17 @@
--- A unit that the host writes: what arrives of it by the transcript asks to be sent all that the item asks which is then on its way to the chip.
-use Rattle.std.proofs.Common.{◌≡◌, ℕ, Bool, true, false, if◌then◌else◌, List, [], ◌∷◌, ◌++◌, length, nat_lt, nat_le, ◌+◌, refl, sym, ap, subst, ◌∙◌, append_assoc}
+-- A unit that the host writes: what arrives of it by the transcript asks to be sent all that the item asks which is then on its way to the chip; and what units that
+-- came whole ask is picked of what all ask.
+use Rattle.std.proofs.Common.{◌≡◌, ◌≤◌, ℕ, ◌&&◌, Bool, true, false, if◌then◌else◌, List, [], ◌∷◌, ◌++◌, length, nat_lt, nat_le, ◌+◌, ◌-◌, refl, sym, ap, subst, ◌∙◌, append_assoc, append-nil, length-append, arith}
+use Rattle.std.specs.Prelude.{bytes_eq}
+use Rattle.std.proofs.lemmas.Bool.{and_from, and_parts, cond-true, le-leb}
 use Rattle.std.proofs.lemmas.Grind.{flat_map-append}
+use Rattle.std.proofs.lemmas.List.{take_at}
+use Rattle.std.proofs.lemmas.Slice.Eq.{bytes_eq-Decides}
 use Rattle.std.specs.List.{flat_map, AllByRecursion}
 use Rattle.zw_base.proofs.Each.{all-weaker}
+use Rattle.chip_functions.specs.Request.{request_of}
+use Rattle.serial_frame.specs.Frame.{checksum, framed, kind_code}
+use Rattle.serial_frame.specs.declared.frame.Kind.{Kind}
+use Rattle.serial_frame.specs.declared.frame.Kind.TheVariants.{Request as of_request, Response as of_response}
 use Rattle.serial_frame.specs.Items.{unit_text, IsUnit, ItemText}
 use Rattle.serial_frame.specs.declared.unit.Unit.{Unit as LineUnit}
 use Rattle.serial_frame.specs.declared.unit.Unit.TheVariants.{Ack, Nak, Can, Framed}
@@ -21,16 +30,18 @@ use Rattle.zw_text.specs.Transcript.{Unit_on, Way, folded, last_with, unit_step,
 use Rattle.zw_text.specs.Transcript.Way.{Whole, Missed, Changed}
 use Rattle.zw_text.proofs.Views.{folded-append}
 use Rattle.law_transcript.specs.Lists.{EachAfter}
-use Rattle.law_transcript.specs.Units.{Carried, arrived_of, sending_in, sendings}
+use Rattle.law_transcript.specs.Units.{Carried, arrived_of, function_in, read_well, sending_in, sending_of, sendings}
 use Rattle.law_transcript.specs.Carrying.{ArePicked, MaySend, sent_out}
+use Rattle.audit_rules.specs.PayloadRule.{asked, asked_by, asked_in, body_of, frame_text, is_request}
 use Rattle.proof_device.proofs.Entered.{IsMark, told_by_marks}
 use Rattle.proof_host.proofs.Lists.{each-anywhere}
 use Rattle.outside_model.specs.State.{OuterState}
 use Rattle.proof_serial.specs.Way.{changed_item, items_of, unit_item}
 use Rattle.proof_serial.proofs.ChangedUnits.{changed_text, garbled_long}
 use Rattle.proof_serial.proofs.Ways.{carries_more}
-use Rattle.proof_transcript.specs.Carrying.{Underway, sends_in, sends_of}
-use Rattle.proof_transcript.proofs.Picked.{IsNoFrame, asked-append, asked_by, picked_both, picked_same, same_sent}
+use Rattle.proof_air.proofs.Brought.{body_is}
+use Rattle.proof_transcript.specs.Carrying.{MaySendWhole, Underway, sends_in, sends_of}
+use Rattle.proof_transcript.proofs.Picked.{IsNoFrame, asked-append, picked_both, picked_of, picked_same, same_sent}
 
 -- ---- the last unit
 
@@ -42,25 +53,83 @@ last_is way (first ∷ (next ∷ us)) u = ap (λ (l : List Unit_on). first ∷ l
 
 -- From these units on the entries leave all that was asked for before, and more that the items are picked of.
 abbrev AsksMore : List Unit_on → List Unit_on → List Entry → List Item → Type 0
-AsksMore us now told items = (asked : List Carried) × (asked_by (folded (unit_step by_host) now told) ≡ asked_by us ++ asked) × ArePicked (sends_of items) asked
+AsksMore us now told items = (more : List Carried) × (asked_in (folded (unit_step by_host) now told) ≡ asked_in us ++ more) × ArePicked (sends_of items) more
+
+-- ---- a request frame, whole
+
+-- a request is read as its function and body say
+request_asks : (func : ℕ) (body : List ℕ) (sum : ℕ) → sending_in (framed (0 ∷ func ∷ body) sum) ≡ flat_map sending_of (read_well (request_of func body))
+request_asks func body sum = ap (λ (b : List ℕ). flat_map sending_of (read_well (request_of func b))) (body_is body func sum)
+
+-- the text of a request
+abbrev requested : ℕ → List ℕ → List ℕ
+requested func body = framed (0 ∷ func ∷ body) (checksum (0 ∷ func ∷ body))
+
+-- what is the whole text of a request asks what it is taken to ask
+whole_asks : (unit : List ℕ) → is_request unit ≡ true → asked_by unit ≡ sending_in unit
+whole_asks unit whole =
+    cond-true (is_request unit) (flat_map sending_of (read_well (request_of (function_in unit) (body_of unit)))) [] whole
+    ∙ (sym (request_asks (function_in unit) (body_of unit) (checksum (0 ∷ function_in unit ∷ body_of unit)))
+    ∙ ap sending_in ((bytes_eq-Decides (frame_text unit) unit).0 (equal_if (nat_le 5 (length unit)) (nat_le (length unit) 257) (bytes_eq (frame_text unit) unit) whole)))
+  where
+    equal_if : (a b c : Bool) → (a && (b && c)) ≡ true → c ≡ true
+    equal_if a b c all = (and_parts b c ((and_parts a (b && c) all).1)).1
+
+-- bytes that are no whole request ask nothing
+whole_picked : (unit : List ℕ) → ArePicked (asked_by unit) (sending_in unit)
+whole_picked unit = by (is_request unit) refl
+  where
+    by : (whole : Bool) → is_request unit ≡ whole → ArePicked (asked_by unit) (sending_in unit)
+    by true is = subst (λ (l : List Carried). ArePicked (asked_by unit) l) (whole_asks unit is) (picked_same (asked_by unit))
+    by false is =
+        subst (λ (whole : Bool). ArePicked (if whole then flat_map sending_of (read_well (request_of (function_in unit) (body_of unit))) else []) (sending_in unit)) (sym is) tt
+
+-- the text of a request is whole
+request_long : (func : ℕ) (body : List ℕ) → length (requested func body) ≡ length body + 5
+request_long func body =
+    let more : length (body ++ (checksum (0 ∷ func ∷ body) ∷ [])) ≡ length body + 1 = length-append body (checksum (0 ∷ func ∷ body) ∷ []) in
+    omega (arith, more)
+
+request_body : (func : ℕ) (body : List ℕ) → body_of (requested func body) ≡ body
+request_body func body = take_at body (checksum (0 ∷ func ∷ body) ∷ []) (length (requested func body) - 5) (omega (arith, request_long func body))
+
+request_whole : (func : ℕ) (body : List ℕ) → length body ≤ 252 → is_request (requested func body) ≡ true
+request_whole func body few =
+    let unit : List ℕ = requested func body in
+    and_from (nat_le 5 (length unit)) (nat_le (length unit) 257 && bytes_eq (frame_text unit) unit) (le-leb 5 (length unit) (omega (arith, request_long func body)))
+    (and_from (nat_le (length unit) 257) (bytes_eq (frame_text unit) unit) (le-leb (length unit) 257 (omega (arith, request_long func body, few)))
+    ((bytes_eq-Decides (frame_text unit) unit).1 (ap (λ (b : List ℕ). requested func b) (request_body func body))))
+
+frame_asks : (kind : Kind) (func : ℕ) (body : List ℕ) → length body ≤ 252
+    → ArePicked (sending_in (framed (kind_code kind ∷ func ∷ body) (checksum (kind_code kind ∷ func ∷ body)))) (asked_by (framed (kind_code kind ∷ func ∷ body) (checksum (kind_code kind ∷ func ∷ body))))
+frame_asks of_request func body few =
+    subst (λ (l : List Carried). ArePicked l (asked_by (requested func body))) (whole_asks (requested func body) (request_whole func body few)) (picked_same (asked_by (requested func body)))
+frame_asks of_response func body few = tt
+
+unit_asks_whole : (unit : LineUnit) → IsUnit unit → ArePicked (sending_in (unit_text unit)) (asked_by (unit_text unit))
+unit_asks_whole Ack is = tt
+unit_asks_whole Nak is = tt
+unit_asks_whole Can is = tt
+unit_asks_whole (Framed f) is = frame_asks f.kind f.func f.body is
 
 -- the item of a text asks what the text asks
-item_asks : (item : Item) (text : List ℕ) → ItemText item text → ArePicked (sends_in item) (sending_in text)
-item_asks (Good unit) text is = subst (λ (t : List ℕ). ArePicked (sending_in (unit_text unit)) (sending_in t)) (sym is.1) (picked_same (sending_in (unit_text unit)))
+item_asks : (item : Item) (text : List ℕ) → ItemText item text → ArePicked (sends_in item) (asked_by text)
+item_asks (Good unit) text is = subst (λ (t : List ℕ). ArePicked (sending_in (unit_text unit)) (asked_by t)) (sym is.1) (unit_asks_whole unit is.0)
 item_asks (Refused refusal) text is = tt
 
 -- nothing of it arrives
-misses : (us : List Unit_on) (u : Unit_on) → asked_by (last_with Missed (us ++ u ∷ [])) ≡ asked_by us ++ []
-misses us u = ap (λ (l : List Unit_on). asked_by l) (last_is Missed us u) ∙ asked-append us (record { bytes = u.bytes; way = Missed } ∷ [])
+misses : (us : List Unit_on) (u : Unit_on) → asked_in (last_with Missed (us ++ u ∷ [])) ≡ asked_in us ++ []
+misses us u = ap (λ (l : List Unit_on). asked_in l) (last_is Missed us u) ∙ asked-append us (record { bytes = u.bytes; way = Missed } ∷ [])
 
 -- a text that finds room, or none
 joins : (us : List Unit_on) (u : Unit_on) (text : List ℕ) (item : Item) (room : Bool) → arrived_of u.bytes u.way ≡ text ∷ [] → ItemText item text
     → AsksMore us (us ++ u ∷ []) (if room then [] else entry.Overrun by_host ∷ []) (if room then item ∷ [] else [])
 joins us u text item true arrives is = (
-  asked_by (u ∷ []),
+  asked_in (u ∷ []),
   asked-append us (u ∷ []),
-  subst (λ (l : List (List ℕ)). ArePicked (sends_of (item ∷ [])) (flat_map sending_in (l ++ []))) (sym arrives)
-      (picked_both (sends_in item) [] (sending_in text) [] (item_asks item text is) tt),
+  subst (λ (l : List (List ℕ)). ArePicked (sends_of (item ∷ [])) (flat_map asked_by l ++ [])) (sym arrives)
+      (picked_both (sends_in item) [] (asked_by text ++ []) []
+      (subst (λ (l : List Carried). ArePicked (sends_in item) l) (sym (append-nil (asked_by text))) (item_asks item text is)) tt),
 )
 joins us u text item false arrives is = ([], misses us u, tt)
 
@@ -101,7 +170,7 @@ unit_asks us w unit is = by (nat_lt 0 w.marks.drops)
 
 -- ---- what is on its way to the chip
 
-mark_free : (past : List Entry) (e : Entry) → IsMark e → MaySend past e
+mark_free : (past : List Entry) (e : Entry) → IsMark e → MaySendWhole past e
 mark_free past (entry.Air frame sender receiver repeaters payload) mark = absurd mark
 mark_free past e mark = tt
 
@@ -111,25 +180,45 @@ mark_no_frame e mark = tt
 
 -- with the unit more is on its way
 pub unit_goes : (o : OuterState) (unit : LineUnit) → IsUnit unit → (past : List Entry) → Underway past o
-    → EachAfter MaySend past (told by_host o.to_chip unit) × Underway (past ++ told by_host o.to_chip unit) (record o { to_chip = way.after o.to_chip (Writes unit) })
+    → EachAfter MaySendWhole past (told by_host o.to_chip unit) × Underway (past ++ told by_host o.to_chip unit) (record o { to_chip = way.after o.to_chip (Writes unit) })
 unit_goes o unit is past under =
     let entered : List Entry = told by_host o.to_chip unit in
     let marks : List Entry = told_by by_host o.to_chip.bytes (mark_for o.to_chip.marks unit) (unit_text unit) in
     let are_marks : AllByRecursion IsMark marks = told_by_marks by_host o.to_chip.bytes (mark_for o.to_chip.marks unit) (unit_text unit) in
     let items : List Item = items_of o.to_chip unit in
     let more = unit_asks (units by_host past) o.to_chip unit is in
-    let asked : sendings (past ++ entered) ≡ sendings past ++ more.0 = ap (λ (l : List Unit_on). asked_by l) (folded-append (unit_step by_host) [] past entered) ∙ more.1 in
+    let all_asked : asked (past ++ entered) ≡ asked past ++ more.0 = ap (λ (l : List Unit_on). asked_in l) (folded-append (unit_step by_host) [] past entered) ∙ more.1 in
     let sent : sent_out (past ++ entered) ≡ sent_out past = same_sent past entered (tt, all-weaker IsMark IsNoFrame mark_no_frame marks are_marks) in
-    let picked : ArePicked ((sent_out past ++ sends_of under.up) ++ sends_of items) (sendings past ++ more.0)
-    = picked_both (sent_out past ++ sends_of under.up) (sends_of items) (sendings past) more.0 under.picked more.2 in
+    let picked : ArePicked ((sent_out past ++ sends_of under.up) ++ sends_of items) (asked past ++ more.0)
+    = picked_both (sent_out past ++ sends_of under.up) (sends_of items) (asked past) more.0 under.picked more.2 in
     let joined : (sent_out past ++ sends_of under.up) ++ sends_of items ≡ sent_out (past ++ entered) ++ sends_of (under.up ++ items)
     = append_assoc (sent_out past) (sends_of under.up) (sends_of items)
     ∙ (ap (λ (l : List Carried). sent_out past ++ l) (sym (flat_map-append sends_in under.up items)) ∙ ap (λ (l : List Carried). l ++ sends_of (under.up ++ items)) (sym sent)) in (
-      (tt, each-anywhere MaySend IsMark mark_free (past ++ entry.Written by_host (unit_text unit) ∷ []) marks are_marks),
+      (tt, each-anywhere MaySendWhole IsMark mark_free (past ++ entry.Written by_host (unit_text unit) ∷ []) marks are_marks),
       record {
         up = under.up ++ items;
         carries = carries_more o.chip.decoder o.to_chip unit under.up under.carries is;
-        picked = subst (λ (l : List Carried). ArePicked (sent_out (past ++ entered) ++ sends_of (under.up ++ items)) l) (sym asked)
-            (subst (λ (l : List Carried). ArePicked l (sendings past ++ more.0)) joined picked);
+        picked = subst (λ (l : List Carried). ArePicked (sent_out (past ++ entered) ++ sends_of (under.up ++ items)) l) (sym all_asked)
+            (subst (λ (l : List Carried). ArePicked l (asked past ++ more.0)) joined picked);
       },
     )
+
+-- ---- all units
+
+-- what units that came whole ask is picked of what all ask
+asked_picked : (us : List Unit_on) → ArePicked (asked_in us) (flat_map sending_in (flat_map (λ (u : Unit_on). arrived_of u.bytes u.way) us))
+asked_picked [] = tt
+asked_picked (u ∷ us) =
+    subst (λ (l : List Carried). ArePicked (asked_in (u ∷ us)) l) (sym (flat_map-append sending_in (arrived_of u.bytes u.way) (flat_map (λ (v : Unit_on). arrived_of v.bytes v.way) us)))
+    (picked_both (flat_map asked_by (arrived_of u.bytes u.way)) (asked_in us) (flat_map sending_in (arrived_of u.bytes u.way))
+    (flat_map sending_in (flat_map (λ (v : Unit_on). arrived_of v.bytes v.way) us)) (one (arrived_of u.bytes u.way)) (asked_picked us))
+  where
+    one : (texts : List (List ℕ)) → ArePicked (flat_map asked_by texts) (flat_map sending_in texts)
+    one [] = tt
+    one (text ∷ texts) = picked_both (asked_by text) (flat_map asked_by texts) (sending_in text) (flat_map sending_in texts) (whole_picked text) (one texts)
+
+-- so what is asked by whole units is asked
+pub asked_so : (past : List Entry) (e : Entry) → MaySendWhole past e → MaySend past e
+asked_so past (entry.Air frame sender receiver repeaters payload) picked =
+    picked_of (sent_out (past ++ entry.Air frame sender receiver repeaters payload ∷ [])) (asked past) (sendings past) picked (asked_picked (units by_host past))
+asked_so past e picked = tt

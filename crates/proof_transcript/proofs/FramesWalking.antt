@@ -20,8 +20,9 @@ use Rattle.world_model.specs.Ticking.{Ticks}
 use Rattle.world_model.specs.Lines.{IsEffect, IsLineBegin, IsLineRest, IsLine}
 use Rattle.world_model.specs.Prefixes.{SettlesPrefix, TicksPrefix, EffectPrefix, LineRestPrefix, LinePrefix, LinePart}
 use Rattle.world_model.proofs.EventLists.{happens_all-append, entries_all-append}
-use Rattle.world_lines.specs.Spoken.{Spoken, after, entries_of, transcript_of}
+use Rattle.world_lines.specs.Spoken.{Spoken, after, after_all, entries_of, transcript_of}
 use Rattle.world_lines.specs.Done.{AreDone}
+use Rattle.world_lines.specs.Whole.{AreWhole}
 use Rattle.proof_transcript.proofs.KeptOverLists.{Keeps, keeps_none, keeps_both}
 use Rattle.proof_transcript.proofs.Events.{IsCalm}
 use Rattle.proof_transcript.proofs.Calm.{CalmlyAfter, Arriving, ArrivingPrefix, IsCalmLine, calm_settling, calm_settling_prefix, calm_effect, calm_effect_prefix, calm_restart_prefix, ticks_calmly, ticks_calmly_prefix}
@@ -273,3 +274,11 @@ module _ (Asks : List Entry → Entry → Type 0) (Known : List Entry → OuterS
   lines_stand m (spoken ∷ (next ∷ more)) are repeated =
       stands_both m.outside.outer (after m spoken).outside.outer (entries_of m spoken) (transcript_of (after m spoken) (next ∷ more))
       (line_goes m spoken.words spoken.line spoken.events are.0.read repeated.0 are.0.may are.0.is_line) (lines_stand (after m spoken) (next ∷ more) are.1 repeated.1)
+
+  -- and where all lines were run whole, what is known is known in the end
+  pub lines_lead : (m : Machine) (lines : List Spoken) → AreDone m lines → AreWhole m lines → AllByRecursion (λ (spoken : Spoken). RepeatsOnly Repeated spoken.line) lines
+      → Keeps Asks Known m.outside.outer (transcript_of m lines) (after_all m lines).outside.outer
+  lines_lead m [] are whole repeated = keeps_none Asks Known m.outside.outer
+  lines_lead m (spoken ∷ more) are whole repeated =
+      keeps_both Asks Known m.outside.outer (after m spoken).outside.outer (after_all (after m spoken) more).outside.outer (entries_of m spoken) (transcript_of (after m spoken) more)
+      (line_goes m spoken.words spoken.line spoken.events are.0.read repeated.0 are.0.may whole.0) (lines_lead (after m spoken) more are.1 whole.1 repeated.1)

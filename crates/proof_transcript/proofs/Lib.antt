@@ -19,8 +19,8 @@ mod Shown
 mod ToldState
 mod Over
 mod FirstMachine
-mod Ordered
-mod Values
+pub mod Ordered
+pub mod Values
 mod Nodes
 mod LastTable
 pub mod Plain

@@ -1,5 +1,5 @@
 -- Items picked of a list in order, and what entries show of what was sent and asked for.
-use Rattle.std.proofs.Common.{◌≡◌, ◌≢◌, ℕ, Bool, if◌then◌else◌, inl, inr, List, [], ◌∷◌, ◌++◌, refl, sym, ap, ap₂, subst, ◌∙◌, append_assoc, append-nil}
+use Rattle.std.proofs.Common.{◌≡◌, ◌≢◌, Bool, if◌then◌else◌, inl, inr, List, [], ◌∷◌, ◌++◌, refl, sym, ap, ap₂, subst, ◌∙◌, append_assoc, append-nil}
 use Rattle.std.proofs.lemmas.Bool.{ne_eqb}
 use Rattle.std.proofs.lemmas.Grind.{flat_map-append}
 use Rattle.std.specs.List.{flat_map, AllByRecursion}
@@ -11,8 +11,10 @@ use Rattle.zw_text.specs.Transcript.{AirFrame, Unit_on, folded, frame_at, frames
 use Rattle.zw_text.proofs.Views.{folded-append, shown-append}
 use Rattle.law_transcript.specs.Lists.{EachAfter}
 use Rattle.law_transcript.specs.Nodes.{controller}
-use Rattle.law_transcript.specs.Units.{Carried, arrived_of, sending_in, sendings}
-use Rattle.law_transcript.specs.Carrying.{ArePicked, MaySend, outward, sent_out}
+use Rattle.law_transcript.specs.Units.{Carried, arrived_of}
+use Rattle.law_transcript.specs.Carrying.{ArePicked, outward, sent_out}
+use Rattle.audit_rules.specs.PayloadRule.{asked, asked_by, asked_in}
+use Rattle.proof_transcript.specs.Carrying.{MaySendWhole}
 
 -- ---- items of a list, in order
 
@@ -99,14 +101,8 @@ same_sent past told none = sent-append past told ∙ (ap (λ (l : List Carried).
 
 -- ---- and of what was asked for
 
--- what these units ask to be sent, as they arrive
-abbrev pub asked_by : List Unit_on → List Carried
-asked_by us = flat_map sending_in (flat_map (λ (u : Unit_on). arrived_of u.bytes u.way) us)
-
-pub asked-append : (us vs : List Unit_on) → asked_by (us ++ vs) ≡ asked_by us ++ asked_by vs
-asked-append us vs =
-    ap (λ (l : List (List ℕ)). flat_map sending_in l) (flat_map-append (λ (u : Unit_on). arrived_of u.bytes u.way) us vs)
-    ∙ flat_map-append sending_in (flat_map (λ (u : Unit_on). arrived_of u.bytes u.way) us) (flat_map (λ (u : Unit_on). arrived_of u.bytes u.way) vs)
+pub asked-append : (us vs : List Unit_on) → asked_in (us ++ vs) ≡ asked_in us ++ asked_in vs
+asked-append us vs = flat_map-append (λ (u : Unit_on). flat_map asked_by (arrived_of u.bytes u.way)) us vs
 
 unit_same : (e : Entry) → IsNoUnit e → (us : List Unit_on) → unit_step by_host us e ≡ us
 unit_same (entry.Written by_host unit) none us = absurd none
@@ -123,39 +119,39 @@ units_same : (told : List Entry) → AllByRecursion IsNoUnit told → (us : List
 units_same [] none us = refl
 units_same (e ∷ told) none us = ap (λ (l : List Unit_on). folded (unit_step by_host) l told) (unit_same e none.0 us) ∙ units_same told none.1 us
 
-pub same_asked : (past told : List Entry) → AllByRecursion IsNoUnit told → sendings (past ++ told) ≡ sendings past
+pub same_asked : (past told : List Entry) → AllByRecursion IsNoUnit told → asked (past ++ told) ≡ asked past
 same_asked past told none =
-    ap (λ (l : List Unit_on). asked_by l) (folded-append (unit_step by_host) [] past told ∙ units_same told none (units by_host past))
+    ap (λ (l : List Unit_on). asked_in l) (folded-append (unit_step by_host) [] past told ∙ units_same told none (units by_host past))
 
 -- ---- what may stand
 
-may_send : (past : List Entry) (e : Entry) → ArePicked (sent_out (past ++ e ∷ [])) (sendings past) → MaySend past e
+may_send : (past : List Entry) (e : Entry) → ArePicked (sent_out (past ++ e ∷ [])) (asked past) → MaySendWhole past e
 may_send past (entry.Air frame sender receiver repeaters payload) picked = picked
 may_send past e picked = tt
 
-each_may : (past told : List Entry) (after : List Carried) → AllByRecursion IsNoUnit told → ArePicked (sent_out past ++ (sent_out told ++ after)) (sendings past) → EachAfter MaySend past told
+each_may : (past told : List Entry) (after : List Carried) → AllByRecursion IsNoUnit told → ArePicked (sent_out past ++ (sent_out told ++ after)) (asked past) → EachAfter MaySendWhole past told
 each_may past [] after none picked = tt
 each_may past (e ∷ told) after none picked =
     let rest : List Carried = sent_out told ++ after in
-    let here : ArePicked (sent_out (past ++ e ∷ []) ++ rest) (sendings past)
-    = subst (λ (l : List Carried). ArePicked l (sendings past))
+    let here : ArePicked (sent_out (past ++ e ∷ []) ++ rest) (asked past)
+    = subst (λ (l : List Carried). ArePicked l (asked past))
     (ap (λ (l : List Carried). sent_out past ++ (l ++ after)) (sent-append (e ∷ []) told)
     ∙ (ap (λ (l : List Carried). sent_out past ++ l) (append_assoc (sent_out (e ∷ [])) (sent_out told) after)
     ∙ (sym (append_assoc (sent_out past) (sent_out (e ∷ [])) rest) ∙ ap (λ (l : List Carried). l ++ rest) (sym (sent-append past (e ∷ [])))))) picked in (
-      may_send past e (picked_prefix (sent_out (past ++ e ∷ [])) rest (sendings past) here),
+      may_send past e (picked_prefix (sent_out (past ++ e ∷ [])) rest (asked past) here),
       each_may (past ++ e ∷ []) told after none.1
           (subst (λ (l : List Carried). ArePicked (sent_out (past ++ e ∷ []) ++ rest) l) (sym (same_asked past (e ∷ []) (none.0, tt))) here),
     )
 
 -- Entries without units of the host: what they send is picked of what was on its way before, and what is left of that follows it.
-pub told_goes : (past told : List Entry) (before after : List Carried) → AllByRecursion IsNoUnit told → ArePicked (sent_out told ++ after) before → ArePicked (sent_out past ++ before) (sendings past)
-    → EachAfter MaySend past told × ArePicked (sent_out (past ++ told) ++ after) (sendings (past ++ told))
+pub told_goes : (past told : List Entry) (before after : List Carried) → AllByRecursion IsNoUnit told → ArePicked (sent_out told ++ after) before → ArePicked (sent_out past ++ before) (asked past)
+    → EachAfter MaySendWhole past told × ArePicked (sent_out (past ++ told) ++ after) (asked (past ++ told))
 told_goes past told before after none fits picked =
-    let all : ArePicked (sent_out past ++ (sent_out told ++ after)) (sendings past)
-    = picked_of (sent_out past ++ (sent_out told ++ after)) (sent_out past ++ before) (sendings past)
+    let all : ArePicked (sent_out past ++ (sent_out told ++ after)) (asked past)
+    = picked_of (sent_out past ++ (sent_out told ++ after)) (sent_out past ++ before) (asked past)
     (picked_both (sent_out past) (sent_out told ++ after) (sent_out past) before (picked_same (sent_out past)) fits) picked in (
       each_may past told after none all,
       subst (λ (l : List Carried). ArePicked (sent_out (past ++ told) ++ after) l) (sym (same_asked past told none))
-          (subst (λ (l : List Carried). ArePicked l (sendings past))
+          (subst (λ (l : List Carried). ArePicked l (asked past))
           (sym (append_assoc (sent_out past) (sent_out told) after) ∙ ap (λ (l : List Carried). l ++ after) (sym (sent-append past told))) all),
     )

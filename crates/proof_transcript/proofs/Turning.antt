@@ -32,13 +32,14 @@ use Rattle.world_model.specs.Did.{happens_all, entries_all, MayAll}
 use Rattle.proof_transcript.proofs.Plain.{IsPlain}
 use Rattle.proof_transcript.proofs.KeptOverLists.{Keeps, Airs, IsAsAired, keeps_none}
 use Rattle.proof_transcript.proofs.Arrivals.{IsFate, Lands, arrives_lands}
-use Rattle.world_lines.specs.Spoken.{Spoken, transcript_of}
+use Rattle.world_lines.specs.Spoken.{Spoken, after_all, transcript_of}
 use Rattle.world_lines.specs.Done.{AreDone}
+use Rattle.world_lines.specs.Whole.{AreWhole}
 use Rattle.proof_transcript.specs.Lines.{IsNoRepeat, RepeatsNone}
 use Rattle.proof_transcript.specs.Fares.{IsHeardBy, MayFareBy}
 use Rattle.proof_transcript.proofs.Events.{Stamps, calm_keeps}
 use Rattle.proof_transcript.proofs.Calm.{Arriving, ArrivingPrefix}
-use Rattle.proof_transcript.proofs.FramesWalking.{Stands, Walks, RepeatsOnly, begun, lines_stand}
+use Rattle.proof_transcript.proofs.FramesWalking.{Stands, Walks, RepeatsOnly, begun, lines_lead, lines_stand}
 use Rattle.proof_transcript.proofs.Repeating.{repeat_keeps}
 use Rattle.proof_transcript.proofs.MarkedFrames.{shown_one}
 
@@ -490,6 +491,12 @@ module _ (IsAgain : List Entry → ℕ → Type 0) (Repeated : ℕ → Type 0) (
       → Stands (MayFareBy IsAgain) Rests m.outside.outer (transcript_of m lines)
   lines_fare m lines are repeated = lines_stand (MayFareBy IsAgain) Rests Repeated walks m lines are repeated
 
+  -- after whole lines all has landed, as before a further line
+  pub lines_land : (m : Machine) (lines : List Spoken) → AreDone m lines → AreWhole m lines → AllByRecursion (λ (spoken : Spoken). RepeatsOnly Repeated spoken.line) lines
+      → (past : List Entry) → Rests past m.outside.outer → AllLanded (past ++ transcript_of m lines)
+  lines_land m lines are whole repeated past rests =
+      landed_all (past ++ transcript_of m lines) (after_all m lines).outside.outer (lines_lead (MayFareBy IsAgain) Rests Repeated walks m lines are whole repeated past rests).1
+
 -- ---- lines that repeat no frame, and all lines
 
 none_fare : (past : List Entry) (e : Entry) → MayFareBy (λ heard frame. ⊥) past e → MayFare past e
@@ -521,16 +528,19 @@ lines_fare_once m lines are none past rests =
 abbrev pub IsNamed : List Entry → ℕ → Type 0
 IsNamed past frame = line_last past ≡ Repeat frame ∷ []
 
+any_line : (line : Line) → RepeatsOnly (λ number. Unit {0}) line
+any_line (Repeat number) = tt
+any_line line = tt
+
+all_any : (lines : List Spoken) → AllByRecursion (λ (spoken : Spoken). RepeatsOnly (λ number. Unit {0}) spoken.line) lines
+all_any [] = tt
+all_any (spoken ∷ more) = (any_line spoken.line, all_any more)
+
 pub lines_fare_named : (m : Machine) (lines : List Spoken) → AreDone m lines → Stands (MayFareBy IsNamed) Rests m.outside.outer (transcript_of m lines)
 lines_fare_named m lines are = lines_fare IsNamed (λ number. Unit {0}) (λ past number repeated said. said) m lines are (all_any lines)
-  where
-    any_line : (line : Line) → RepeatsOnly (λ number. Unit {0}) line
-    any_line (Repeat number) = tt
-    any_line line = tt
 
-    all_any : (lines : List Spoken) → AllByRecursion (λ (spoken : Spoken). RepeatsOnly (λ number. Unit {0}) spoken.line) lines
-    all_any [] = tt
-    all_any (spoken ∷ more) = (any_line spoken.line, all_any more)
+pub all_land : (m : Machine) (lines : List Spoken) → AreDone m lines → AreWhole m lines → (past : List Entry) → Rests past m.outside.outer → AllLanded (past ++ transcript_of m lines)
+all_land m lines are whole = lines_land IsNamed (λ number. Unit {0}) (λ past number repeated said. said) m lines are whole (all_any lines)
 
 -- and so each law of both is kept where the frames that are repeated are fresh
 named_fare : (past : List Entry) (e : Entry) → MayFareBy IsNamed past e → MayRepeat past e → MayFare past e

@@ -33,7 +33,7 @@ use Rattle.host_model.proofs.Values.{one_property, tie}
 use Rattle.world_model.specs.Table.{value_entry}
 use Rattle.proof_transcript.proofs.Ordered.{Agree, Sorted, in_order_has, in_order_sorted, same_shown}
 
-property_total : IsTotalOrder compare_properties
+pub property_total : IsTotalOrder compare_properties
 property_total = on_total rank_of nat_list_cmp_total
 
 -- ---- the keys of what is kept
@@ -184,7 +184,7 @@ module _ (store : Values) (node : ℕ) where
 
 -- ---- values that the transcript gives
 
-among_has : (settings : List Setting) (p : Property) (value : ℕ) → value_among settings p ≡ Some value → Has (properties_of settings) p
+pub among_has : (settings : List Setting) (p : Property) (value : ℕ) → value_among settings p ≡ Some value → Has (properties_of settings) p
 among_has [] p value is = absurd cc
 among_has (one ∷ settings) p value is = by (same_property one.property p) refl (among_has settings p value) is
   where
@@ -193,7 +193,7 @@ among_has (one ∷ settings) p value is = by (same_property one.property p) refl
     by true same more is = inl (one_property one.property p same)
     by false same more is = inr (more is)
 
-last_has : (before : Option ℕ) (settings : List Setting) (p : Property) (value : ℕ) → last_value before settings p ≡ Some value → (before ≡ Some value) ⊎ Has (properties_of settings) p
+pub last_has : (before : Option ℕ) (settings : List Setting) (p : Property) (value : ℕ) → last_value before settings p ≡ Some value → (before ≡ Some value) ⊎ Has (properties_of settings) p
 last_has before [] p value is = inl is
 last_has before (one ∷ settings) p value is = by (same_property one.property p) refl (last_has (if same_property one.property p then Some one.value else before) settings p value is)
   where
@@ -204,13 +204,13 @@ last_has before (one ∷ settings) p value is = by (same_property one.property p
     by false same (inl is) = inl (sym (ap (λ (t : Bool). if t then Some one.value else before) same) ∙ is)
 
 -- a number that gives what is given last
-record Gives (given : ℕ → Option ℕ) (numbers : List ℕ) : Type 0 where
+pub record Gives (given : ℕ → Option ℕ) (numbers : List ℕ) : Type 0 where
   pub number : ℕ
   pub among : Has numbers number
   pub value : ℕ
   pub gives : given number ≡ Some value
 
-last_gives : (given : ℕ → Option ℕ) (numbers : List ℕ) (value : ℕ) → last_given given numbers ≡ Some value → Gives given numbers
+pub last_gives : (given : ℕ → Option ℕ) (numbers : List ℕ) (value : ℕ) → last_given given numbers ≡ Some value → Gives given numbers
 last_gives given [] value is = absurd cc
 last_gives given (number ∷ numbers) value is = by (last_given given numbers) refl (last_gives given numbers) is
   where

@@ -1,14 +1,16 @@
 //! The laws of frames on the air.
 
-ghost use Rattle.std.specs.Prelude.{ℕ, Option, List};
+ghost use Rattle.std.specs.Prelude.{ℕ, Option, List, true};
 ghost use Rattle.std.specs.List.{AllByRecursion};
 ghost use Rattle.s0_crypto.specs.declared.key_pair.Keys.{Keys};
 ghost use Rattle.device_sim.specs.State.{State};
 ghost use Rattle.law_transcript.specs.Fates.{FaresInTurn, LosesMarked, NumbersFrames};
 ghost use Rattle.law_transcript.specs.Sessions.{KeepsSessions};
+ghost use Rattle.law_wire.specs.Serial.{ended};
 ghost use Rattle.world_model.specs.State.{first_machine};
 ghost use Rattle.world_lines.specs.Spoken.{Spoken, transcript_of};
 ghost use Rattle.world_lines.specs.Done.{AreDone};
+ghost use Rattle.world_lines.specs.Whole.{AreWhole};
 ghost use Rattle.proof_transcript.specs.Lines.{RepeatsNone};
 
 /// Over any lines from the first on, the last of which an allocation failure may have cut short, each frame that goes on the air has the
@@ -37,4 +39,17 @@ pub fn ticks_decide_each_frame()
 {
     lines_number_frames();
     proof_air::lines_repeat_what_is_fresh();
+}
+
+/// Over lines that were all run whole so also in the end: each frame that was on the air when the last tick began has its fate.
+pub fn all_frames_land_in_the_end()
+    ensures once { (keys : Keys) (records : Option (List (List ℕ))) (devices : List State) (lines : List Spoken) → AllByRecursion RepeatsNone lines →
+        AreDone (first_machine keys records devices) lines → AreWhole (first_machine keys records devices) lines →
+        FaresInTurn (ended true (transcript_of (first_machine keys records devices) lines)) }
+    ensures again { (keys : Keys) (records : Option (List (List ℕ))) (devices : List State) (lines : List Spoken) →
+        AreDone (first_machine keys records devices) lines → AreWhole (first_machine keys records devices) lines →
+        KeepsSessions (transcript_of (first_machine keys records devices) lines) →
+        FaresInTurn (ended true (transcript_of (first_machine keys records devices) lines)) }
+{
+    ticks_decide_each_frame();
 }

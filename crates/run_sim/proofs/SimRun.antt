@@ -6,6 +6,8 @@ use Rattle.zw_words.specs.declared.fault.LineFault.{LineFault}
 use Rattle.zw_words.specs.declared.fault.ReadLineFault.{ReadLineFault}
 use Rattle.zw_words.specs.declared.fault.ReadLineFault.TheVariants.{Bad as bad_text, NoMemory as no_text_memory}
 use Rattle.zw_text.specs.Line.{line_at}
+use Rattle.std.specs.List.{AllByRecursion}
+use Rattle.zw_text.specs.Fits.{EntryFits}
 use Rattle.zw_text.specs.declared.line.Line.{Line}
 use Rattle.zw_text.specs.declared.entry.Entry.{Entry}
 use Rattle.zw_text.specs.declared.entry.Entry.TheVariants.{Said}
@@ -80,14 +82,15 @@ begun_by text line {none} {items} {entry} empty pushed is = pushed ∙ ap (λ (e
 -- a line was entered and run, and what was entered is added to the pieces
 module _ (quiet : Bool) (text : List ℕ) (line : Line) (old new : Point) (first entries shown : List Entry) (sink out : List (List ℕ))
     (begun : first ≡ said (record { text = text; line = line })) (same : shown ≡ entries) (none : sink ≡ []) where
-  pub answers_line : Does (IsLine line) (at old first) (at new entries) → GoesOn old.number new.number old.reads new.reads → KeepsOrRefuses line first entries old.number new.number old.reads new.reads
+  pub answers_line : AllByRecursion EntryFits shown → Does (IsLine line) (at old first) (at new entries) → GoesOn old.number new.number old.reads new.reads → KeepsOrRefuses line first entries old.number new.number old.reads new.reads
       → out ≡ sink ++ pieces_of quiet shown → AnswersLine quiet text line old new out
-  answers_line d goes keeps is = (
+  answers_line fits d goes keeps is = (
     entries,
     record {
       does = subst (λ (es : List Entry). Does (IsLine line) (at old es) (at new entries)) begun d;
       goes_on = goes;
       keeps = subst (λ (es : List Entry). KeepsOrRefuses line es entries old.number new.number old.reads new.reads) begun keeps;
+      fits = subst (λ (es : List Entry). AllByRecursion EntryFits es) same fits;
     },
     is ∙ ap (λ (o : List (List ℕ)). o ++ pieces_of quiet shown) none ∙ ap (λ (es : List Entry). pieces_of quiet es) same,
   )
@@ -112,12 +115,16 @@ module _ (quiet : Bool) (text : List ℕ) (line : Line) (old new : Point) (first
 
 -- the table was listed, and its pieces were added
 pub is_table : (world : WorldState) (devices : List State) (none table shown : List Entry) (sink out : List (List ℕ)) → none ≡ [] → sink ≡ []
-    → ((records : Option (List (List ℕ))) → table ≡ none ++ table_entries (machine_of world devices records)) → shown ≡ table → out ≡ sink ++ pieces_of false shown
+    → ((records : Option (List (List ℕ))) → table ≡ none ++ table_entries (machine_of world devices records)) → shown ≡ table → AllByRecursion EntryFits shown
+    → out ≡ sink ++ pieces_of false shown
     → (records : Option (List (List ℕ))) (faults number reads : ℕ) → IsTable (point_of world devices records faults number reads) out
 unfolding IsTable
-is_table world devices none table shown sink out empty begun listed same is records faults number reads =
-    is ∙ ap (λ (o : List (List ℕ)). o ++ pieces_of false shown) begun ∙ ap (λ (es : List Entry). pieces_of false es) (same ∙ listed records)
-    ∙ ap (λ (es : List Entry). pieces_of false (es ++ table_entries (machine_of world devices records))) empty
+is_table world devices none table shown sink out empty begun listed same fits is records faults number reads =
+    let are : shown ≡ table_entries (machine_of world devices records) =
+    same ∙ listed records ∙ ap (λ (es : List Entry). es ++ table_entries (machine_of world devices records)) empty in (
+      is ∙ ap (λ (o : List (List ℕ)). o ++ pieces_of false shown) begun ∙ ap (λ (es : List Entry). pieces_of false es) are,
+      subst (λ (es : List Entry). AllByRecursion EntryFits es) are fits,
+    )
 
 -- what a fallible step says where it did not fail
 pub OnOk-is : {T E : Type 0} (r : Result T E) (P : Type 0) → is_err r ≡ false → OnOk r P → P

@@ -2,6 +2,8 @@
 use Rattle.std.specs.Prelude.{◌≡◌, ◌⊎◌, ℕ, Bool, List, [], ◌∷◌, Option, Some, Ok, false}
 use Rattle.zw_text.specs.Line.{line_at}
 use Rattle.zw_text.specs.Entry.{transcript_text}
+use Rattle.std.specs.List.{AllByRecursion}
+use Rattle.zw_text.specs.Fits.{EntryFits}
 use Rattle.zw_text.specs.declared.line.Line.{Line}
 use Rattle.zw_text.specs.declared.entry.Entry.{Entry}
 use Rattle.zw_text.specs.declared.entry.Entry.TheVariants.{Said}
@@ -40,21 +42,22 @@ at point entries = record { machine = point.machine; entries = entries; faults =
 abbrev pub said : TextLine Line → List Entry
 said line = Said (said_text line.text) ∷ []
 
--- A line was run: it is events that are its schedule, and these are all entries. The keeper lost no record; an order added one, and a restart read each,
--- unless the line was refused.
+-- A line was run: it is events that are its schedule, and these are all entries, each number of which is in its range. The keeper lost no record; an order
+-- added one, and a restart read each, unless the line was refused.
 pub record LineRan (line : TextLine Line) (old new : Point) (entries : List Entry) : Type 0 where
   pub does : Does (IsLine line.line) (at old (said line)) (at new entries)
   pub goes_on : GoesOn old.number new.number old.reads new.reads
   pub keeps : KeepsOrRefuses line.line (said line) entries old.number new.number old.reads new.reads
+  pub fits : AllByRecursion EntryFits entries
 
 -- there was no memory for all of it: it was not even entered, or a prefix of it was done
 abbrev pub PartRan : TextLine Line → Point → Point → List Entry → Type 0
 PartRan line old new entries =
     ((new ≡ old) × (entries ≡ [])) ⊎ (Stops (LinePart line.line) (at old (said line)) (at new entries) × GoesOn old.number new.number old.reads new.reads)
 
--- the last lines are those of the table
+-- the last lines are those of the table, each number of which is in its range
 unfoldable pub IsTable : Point → List (List ℕ) → Type 0
-IsTable point pieces = pieces ≡ pieces_of false (table_entries point.machine)
+IsTable point pieces = (pieces ≡ pieces_of false (table_entries point.machine)) × AllByRecursion EntryFits (table_entries point.machine)
 
 -- ---- one text
 

@@ -11,6 +11,7 @@ use host_keep::Keeper;
 use run_lines::{add_entries, said_entry};
 use std::alloc::Global;
 use zw_base::{Bytes, Draw, List, NoMemory};
+use zw_range::entries_in_range;
 use zw_text::{Line, read_line};
 use zw_words::ReadLineFault;
 use zw_world::World;
@@ -87,7 +88,9 @@ impl Simulation {
         let mut entries = List::new(self.alloc);
         entries.push(said_entry(self.alloc, text)?)?;
         let stepped = self.world.step(line, devices, draw, keeper, &mut entries);
-        let added = add_entries(self.alloc, self.quiet, entries.as_slice(), out);
+        let told = entries.as_slice();
+        entries_in_range(told);
+        let added = add_entries(self.alloc, self.quiet, told, out);
         stepped?;
         added
     }
@@ -105,6 +108,8 @@ impl Simulation {
     {
         let mut entries = List::new(self.alloc);
         self.world.table(devices, &mut entries)?;
-        add_entries(self.alloc, false, entries.as_slice(), out)
+        let told = entries.as_slice();
+        entries_in_range(told);
+        add_entries(self.alloc, false, told, out)
     }
 }

@@ -16,6 +16,6 @@ returns-in-Ok c =
     record {
       line = rw (← found) cut.0;
       feeds_none = rw (← found) cut.1;
-      is = record { fits = c.entry.ensures; shows = c.in-Ok.ensures.shows };
+      is = record { fits = c.entry_in_range.ensures; shows = c.in-Ok.ensures.shows };
       only = λ other is same. c.in-Ok.ensures.each other is (found ∙ same);
     }

@@ -14,24 +14,23 @@ use Rattle.zw_text.specs.declared.line.Line.{Line}
 use Rattle.zw_text.specs.declared.entry.Entry.{Entry}
 use Rattle.law_transcript.specs.Headline.{Headline, HeadlineOf, IsAsMade}
 use Rattle.law_transcript.specs.Nodes.{device_of, first_node, listing_of}
-use Rattle.world_model.specs.State.{Machine, first_machine}
+use Rattle.world_model.specs.State.{first_machine}
 use Rattle.world_model.specs.Events.{Event}
 use Rattle.world_model.specs.Did.{MayAll}
 use Rattle.proof_serial.specs.Line.{AreLines}
 use Rattle.run_lines.specs.Pieces.{said_text}
-use Rattle.run_lines.specs.Lines.{TextLine}
-use Rattle.world_lines.specs.Spoken.{after_all, transcript_of}
+use Rattle.world_lines.specs.Spoken.{after_all}
 use Rattle.world_lines.specs.Done.{AreDone, events_of as events_said}
 use Rattle.proof_headline.proofs.PlainTying.{was_there}
 use Rattle.proof_headline.specs.Truly.{IsAskable, SucceedsAfterChangeOf}
 use Rattle.proof_headline.specs.Supervised.{IsPlainOrLock, IsSupervisedNode}
 use Rattle.proof_commands.specs.Around.{Around}
-use Rattle.proof_commands.specs.Laws.{Ran, IsFairRun, IsReadAs, IsStory, events_of, first, transcript, with_last}
+use Rattle.proof_commands.specs.Laws.{Ran, IsFairRun, IsStory, events_of, first, transcript}
 use Rattle.proof_commands.specs.Generate.{plain_lines}
-use Rattle.proof_commands.proofs.Unentered.{same_lines, further_may, further_devices, further_host}
+use Rattle.proof_commands.proofs.Further.{devices_are, further, further_read, further_told, host_is, reads_as, told}
 use Rattle.proof_commands.proofs.Reading.{AreRead, story_lines}
-use Rattle.proof_commands.proofs.Speaking.{all_done, all_said, same_events, same_machine, same_transcript}
-use Rattle.proof_commands.proofs.Told.{ToldStory, fresh, same_restarts, story_told, told_story}
+use Rattle.proof_commands.proofs.Speaking.{all_done, all_said, same_events}
+use Rattle.proof_commands.proofs.Told.{ToldStory, fresh}
 use Rattle.proof_commands.proofs.laws.stories_have_the_headline.Goals as goal
 
 -- which nodes are plain or of a lock, by the keys of the network
@@ -75,40 +74,15 @@ module _ (laws : Laws) (key : List ℕ) (old : Around) (story : List Ran) (fair 
 
 module _ (key : List ℕ) (old new : Around) (story : List Ran) (unentered : List Event) (is : IsStory key old new story unentered)
     (fair : IsFairRun key old story) where
-  told : ToldStory key old story
-  told = story_told key old new story unentered is fair.told
-
   fairly : Fair key old story
-  fairly = record { told = told; read = is.read; made = fair.made }
+  fairly = record { told = told key old new story unentered is fair.told; read = is.read; made = fair.made }
 
-  abbrev further : List Ran
-  further = with_last is.rest.last story
-
-  further_told : ToldStory key old further
-  further_told = told_story key old further (same_restarts old further story (same_lines is.rest.last story) fair.told) is.rest.moved
-      (further_may (first key old) story unentered is.rest is.may)
-
-  further_fairly : Fair key old further
+  further_fairly : Fair key old (further key old new story unentered is fair.told)
   further_fairly = record {
-    told = further_told;
-    read = subst (λ (l : List (TextLine Line)). AllByRecursion IsReadAs l) (sym (same_lines is.rest.last story)) is.read;
+    told = further_told key old new story unentered is fair.told;
+    read = further_read key old new story unentered is fair.told;
     made = fair.made;
   }
-
-  reads_as : transcript_of (fresh key old) (all_said story) ≡ transcript key old story
-  reads_as = same_transcript (fresh key old) story ∙ told.entered
-
-  devices_are : new.devices ≡ (after_all (fresh key old) (all_said further)).outside.devices
-  devices_are =
-      is.devices
-      ∙ (further_devices (first key old) story unentered is.rest
-      ∙ sym (ap (λ (x : Machine). x.outside.devices) (same_machine (fresh key old) further ∙ further_told.leaves)))
-
-  host_is : (after_all (fresh key old) (all_said further)).host.state ≡ (after_all (fresh key old) (all_said story)).host.state
-  host_is =
-      ap (λ (x : Machine). x.host.state) (same_machine (fresh key old) further ∙ further_told.leaves)
-      ∙ (further_host (first key old) story unentered is.rest
-      ∙ sym (ap (λ (x : Machine). x.host.state) (same_machine (fresh key old) story ∙ told.leaves)))
 
 pub returns-clause-one : goal.returns-clause-one
 returns-clause-one c = λ key old new story unentered is fair node device found knows.
@@ -118,7 +92,7 @@ returns-clause-one c = λ key old new story unentered is fair node device found 
       are = c.supervised_nodes_are_plain_or_locks.ensures;
     } in
     let d = old.devices in
-    let on = further key old new story unentered is fair in
+    let on = further key old new story unentered is fair.told in
     let f = fairly key old new story unentered is fair in
     let g = further_fairly key old new story unentered is fair in
     let was = was_there node d new.devices device
@@ -126,11 +100,11 @@ returns-clause-one c = λ key old new story unentered is fair node device found 
     (c.runs_take_once.ensures.same (keys_of key) old.records d (events_of story ++ unentered))) found in
     let knew = ap (λ (k : Kind). lists k 0x6C) (sym was.kind) ∙ knows in
     let supervised : IsSupervisedNode d node = record { device = was.before; first = was.found; supervised = knew } in
-    subst (λ (l : List Entry). HeadlineOf (listing_of d) node l device) (reads_as key old new story unentered is fair)
+    subst (λ (l : List Entry). HeadlineOf (listing_of d) node l device) (reads_as key old new story unentered is fair.told)
     (c.nodes_have_the_headline.ensures (keys_of key) d (all_said story) (all_said on) node device (plain_or_lock laws key old on g node supervised)
     (laws.unchanged key d fair.made)
-    (done laws key old story f) (done laws key old on g) (host_is key old new story unentered is fair)
-    (subst (λ (l : List State). device_of node l ≡ Some device) (devices_are key old new story unentered is fair) found) knows)
+    (done laws key old story f) (done laws key old on g) (host_is key old new story unentered is fair.told)
+    (subst (λ (l : List State). device_of node l ≡ Some device) (devices_are key old new story unentered is fair.told) found) knows)
 
 pub returns-clause-after_change : goal.returns-clause-after_change
 returns-clause-after_change c = λ key old new story unentered is fair node supervised.
@@ -140,7 +114,7 @@ returns-clause-after_change c = λ key old new story unentered is fair node supe
       are = c.supervised_nodes_are_plain_or_locks.ensures;
     } in
     let f = fairly key old new story unentered is fair in
-    subst (λ (l : List Entry). SucceedsAfterChangeOf node l) (reads_as key old new story unentered is fair)
+    subst (λ (l : List Entry). SucceedsAfterChangeOf node l) (reads_as key old new story unentered is fair.told)
     (c.nodes_report_after_the_change.ensures (keys_of key) old.devices (all_said story) node (plain_or_lock laws key old story f node supervised)
     (laws.unchanged key old.devices fair.made)
     (done laws key old story f))
@@ -153,12 +127,12 @@ returns-clause-whole c = λ key old new story unentered is fair first_is.
       are = c.supervised_nodes_are_plain_or_locks.ensures;
     } in
     let d = old.devices in
-    let on = further key old new story unentered is fair in
+    let on = further key old new story unentered is fair.told in
     let f = fairly key old new story unentered is fair in
     let g = further_fairly key old new story unentered is fair in
-    subst (λ (l : List State). Headline d l (transcript key old story)) (sym (devices_are key old new story unentered is fair))
-    (subst (λ (l : List Entry). Headline d (after_all (fresh key old) (all_said on)).outside.devices l) (reads_as key old new story unentered is fair)
+    subst (λ (l : List State). Headline d l (transcript key old story)) (sym (devices_are key old new story unentered is fair.told))
+    (subst (λ (l : List Entry). Headline d (after_all (fresh key old) (all_said on)).outside.devices l) (reads_as key old new story unentered is fair.told)
     (c.askable_nodes_have_the_headline.ensures (keys_of key) d (all_said story) (all_said on) (λ node askable. plain_or_lock laws key old story f node
     (askable_supervised d node first_is askable))
     (λ node askable. plain_or_lock laws key old on g node (askable_supervised d node first_is askable)) (laws.unchanged key d fair.made)
-    (done laws key old story f) (done laws key old on g) (host_is key old new story unentered is fair)))
+    (done laws key old story f) (done laws key old on g) (host_is key old new story unentered is fair.told)))

@@ -1,16 +1,21 @@
 -- The lines of a story were said, and the laws of the air and of the serial line are of lines that were said.
-use Rattle.std.proofs.Common.{◌≡◌, ℕ, List, [], ◌∷◌, ◌⊎◌, inl, inr, Option, Some, ap, subst, sym, ◌∙◌}
+use Rattle.std.proofs.Common.{◌≡◌, ℕ, Bool, true, false, refl, List, [], ◌∷◌, ◌⊎◌, inl, inr, Option, Some, ap, subst, sym, ◌∙◌}
 use Rattle.std.specs.List.{AllByRecursion}
 use Rattle.zw_text.specs.declared.entry.Entry.{Entry}
 use Rattle.law_transcript.specs.Carrying.{BringsWhatWasHeard, CarriesUnits}
 use Rattle.law_transcript.specs.Fates.{FaresInTurn, LosesMarked, NumbersFrames}
 use Rattle.law_wire.specs.Marks.{CollidesWhenAsked, MarksUnits}
-use Rattle.law_wire.specs.Arriving.{ForgetsDeadHops}
+use Rattle.law_wire.specs.Arriving.{ForgetsDeadHops, LandsInTime, MeetsWhatIsDue, RepeatsWhatIsAsked}
+use Rattle.law_wire.specs.Pipes.{OverrunsWhenFull}
+use Rattle.law_wire.specs.Serial.{ended}
 use Rattle.law_wire.specs.Routes.{GoesByRoute}
 use Rattle.law_wire.specs.Times.{TellsTime}
+use Rattle.proof_line.specs.Arrivals.{ClearsWholeUnits}
+use Rattle.proof_line.specs.Rooms.{AnswersFrames}
 use Rattle.proof_line.specs.Pipes.{ClearsAtRestarts, ClearsNowhereElse, OverrunsOnlyWhenFull}
 use Rattle.world_model.specs.State.{Machine, first_machine}
 use Rattle.world_lines.specs.Done.{AreDone}
+use Rattle.world_lines.specs.Whole.{AreWhole}
 use Rattle.proof_host.specs.Laws.{HostLaws}
 use Rattle.world_lines.specs.Spoken.{transcript_of}
 use Rattle.proof_transcript.specs.Lines.{RepeatsNone}
@@ -18,6 +23,7 @@ use Rattle.host_core.specs.Network.{keys_of}
 use Rattle.proof_commands.specs.Around.{Around}
 use Rattle.proof_commands.specs.Laws.{Ran, RepeatsNothing, KeepsRecords, first, transcript, transcript_from}
 use Rattle.proof_commands.proofs.Speaking.{all_said, same_transcript, story_done}
+use Rattle.proof_commands.proofs.Tables.{whole_said}
 use Rattle.proof_commands.proofs.laws.stories_keep_air_laws.Goals as goal
 
 pub returns-clause-numbers : goal.returns-clause-numbers
@@ -40,14 +46,27 @@ none_said : (story : List Ran) → RepeatsNothing story → AllByRecursion Repea
 none_said [] none = tt
 none_said (ran ∷ more) none = (none.0, none_said more none.1)
 
+-- of what was cut short, and of what was run whole
+either_way : (whole : Bool) (Law : List Entry → Type 0) (told : List Entry) → (whole ≡ false → Law told) → (whole ≡ true → Law (ended true told)) → Law (ended whole told)
+either_way true Law told cut all = all refl
+either_way false Law told cut all = cut refl
+
 pub returns-clause-fares : goal.returns-clause-fares
-returns-clause-fares c = λ key old new story unentered is may.
-    subst (λ (l : List Entry). FaresInTurn l) (same_transcript (first key old) story)
-    (may_fare (transcript_of (first key old) (all_said story)) (RepeatsNothing story) (KeepsRecords key old story)
-    (λ none. c.ticks_decide_each_frame.ensures.once (keys_of key) old.records old.devices (all_said story) (none_said story none) (story_done c.lines_are_read_as_said.ensures key old new story unentered is))
-    (λ well. c.ticks_decide_each_frame.ensures.again (keys_of key) old.records old.devices (all_said story) (story_done c.lines_are_read_as_said.ensures key old new story unentered is)
-    (subst (λ (l : List Entry). HostLaws l) (sym (same_transcript (first key old) story)) (c.stories_keep_laws.ensures.orders key old new story unentered is well)).sessions_keep)
+returns-clause-fares c = λ key old new story unentered is may whole all.
+    let done = story_done c.lines_are_read_as_said.ensures key old new story unentered is in
+    let sessions = (λ (well : KeepsRecords key old story).
+    (subst (λ (l : List Entry). HostLaws l) (sym (same_transcript (first key old) story)) (c.stories_keep_laws.ensures.orders key old new story unentered is well)).sessions_keep) in
+    let told = transcript_of (first key old) (all_said story) in
+    subst (λ (l : List Entry). FaresInTurn (ended whole l)) (same_transcript (first key old) story)
+    (either_way whole FaresInTurn told
+    (λ cut. may_fare told (RepeatsNothing story) (KeepsRecords key old story)
+    (λ none. c.ticks_decide_each_frame.ensures.once (keys_of key) old.records old.devices (all_said story) (none_said story none) done)
+    (λ well. c.ticks_decide_each_frame.ensures.again (keys_of key) old.records old.devices (all_said story) done (sessions well))
     may)
+    (λ is_whole. may_fare (ended true told) (RepeatsNothing story) (KeepsRecords key old story)
+    (λ none. c.all_frames_land_in_the_end.ensures.once (keys_of key) old.records old.devices (all_said story) (none_said story none) done (whole_said (first key old) story (all is_whole)))
+    (λ well. c.all_frames_land_in_the_end.ensures.again (keys_of key) old.records old.devices (all_said story) done (whole_said (first key old) story (all is_whole)) (sessions well))
+    may))
 
 pub returns-clause-brings : goal.returns-clause-brings
 returns-clause-brings c = λ key old new story unentered is.
@@ -102,13 +121,56 @@ returns-clause-routes c = λ key old new story unentered is texts tells.
     (subst (λ (m : Machine). AreDone m (all_said story)) (same_first key old story texts tells) (story_done c.lines_are_read_as_said.ensures key old new story unentered is)))
 
 pub returns-clause-forgets : goal.returns-clause-forgets
-returns-clause-forgets c = λ key old new story unentered is texts tells.
-    subst (λ (l : List Entry). ForgetsDeadHops l) (same_told key old story texts tells)
-    (c.dead_hops_are_forgotten.ensures (keys_of key) texts old.devices (all_said story)
-    (subst (λ (m : Machine). AreDone m (all_said story)) (same_first key old story texts tells) (story_done c.lines_are_read_as_said.ensures key old new story unentered is)))
+returns-clause-forgets c = λ key old new story unentered is texts tells whole all.
+    let same = same_first key old story texts tells in
+    let done = subst (λ (m : Machine). AreDone m (all_said story)) same (story_done c.lines_are_read_as_said.ensures key old new story unentered is) in
+    subst (λ (l : List Entry). ForgetsDeadHops (ended whole l)) (same_told key old story texts tells)
+    (either_way whole ForgetsDeadHops (transcript_of (told_first key old story texts tells) (all_said story))
+    (λ cut. c.dead_hops_are_forgotten.ensures (keys_of key) texts old.devices (all_said story) done)
+    (λ is_whole. c.dead_hops_are_forgotten_in_the_end.ensures (keys_of key) texts old.devices (all_said story) done
+    (subst (λ (m : Machine). AreWhole m (all_said story)) same (whole_said (first key old) story (all is_whole)))))
 
 pub returns-clause-carries : goal.returns-clause-carries
 returns-clause-carries c = λ key old new story unentered is none.
     subst (λ (l : List Entry). CarriesUnits l) (same_told key old story [] none)
     (c.lines_carry_units.ensures (keys_of key) old.devices (all_said story)
+    (subst (λ (m : Machine). AreDone m (all_said story)) (same_first key old story [] none) (story_done c.lines_are_read_as_said.ensures key old new story unentered is)))
+
+pub returns-clause-lands : goal.returns-clause-lands
+returns-clause-lands c = λ key old new story unentered is whole all.
+    subst (λ (l : List Entry). LandsInTime (ended whole l)) (same_transcript (first key old) story)
+    (c.lines_land_in_time.ensures (keys_of key) old.records old.devices (all_said story) whole (story_done c.lines_are_read_as_said.ensures key old new story unentered is)
+    (λ is_whole. whole_said (first key old) story (all is_whole)))
+
+pub returns-clause-repeats : goal.returns-clause-repeats
+returns-clause-repeats c = λ key old new story unentered is well whole all.
+    let done = story_done c.lines_are_read_as_said.ensures key old new story unentered is in
+    let sessions = (subst (λ (l : List Entry). HostLaws l) (sym (same_transcript (first key old) story)) (c.stories_keep_laws.ensures.orders key old new story unentered is well)).sessions_keep in
+    subst (λ (l : List Entry). RepeatsWhatIsAsked old.devices (ended whole l)) (same_transcript (first key old) story)
+    (either_way whole (RepeatsWhatIsAsked old.devices) (transcript_of (first key old) (all_said story))
+    (λ cut. c.lines_repeat_what_is_asked.ensures.cut (keys_of key) old.records old.devices (all_said story) done sessions)
+    (λ is_whole. c.lines_repeat_what_is_asked.ensures.whole (keys_of key) old.records old.devices (all_said story) done (whole_said (first key old) story (all is_whole)) sessions))
+
+pub returns-clause-meets : goal.returns-clause-meets
+returns-clause-meets c = λ key old new story unentered is texts tells.
+    subst (λ (l : List Entry). MeetsWhatIsDue old.devices l) (same_told key old story texts tells)
+    (c.lines_meet_what_is_due.ensures (keys_of key) texts old.devices (all_said story)
+    (subst (λ (m : Machine). AreDone m (all_said story)) (same_first key old story texts tells) (story_done c.lines_are_read_as_said.ensures key old new story unentered is)))
+
+pub returns-clause-overrun : goal.returns-clause-overrun
+returns-clause-overrun c = λ key old new story unentered is none.
+    subst (λ (l : List Entry). OverrunsWhenFull l) (same_told key old story [] none)
+    (c.lines_overrun_when_full.ensures (keys_of key) old.devices (all_said story)
+    (subst (λ (m : Machine). AreDone m (all_said story)) (same_first key old story [] none) (story_done c.lines_are_read_as_said.ensures key old new story unentered is)))
+
+pub returns-clause-acknowledges : goal.returns-clause-acknowledges
+returns-clause-acknowledges c = λ key old new story unentered is none.
+    subst (λ (l : List Entry). AnswersFrames l) (same_told key old story [] none)
+    (c.lines_answer_frames.ensures (keys_of key) old.devices (all_said story)
+    (subst (λ (m : Machine). AreDone m (all_said story)) (same_first key old story [] none) (story_done c.lines_are_read_as_said.ensures key old new story unentered is)))
+
+pub returns-clause-clears_whole : goal.returns-clause-clears_whole
+returns-clause-clears_whole c = λ key old new story unentered is none.
+    subst (λ (l : List Entry). ClearsWholeUnits l) (same_told key old story [] none)
+    (c.lines_clear_whole_units.ensures (keys_of key) old.devices (all_said story)
     (subst (λ (m : Machine). AreDone m (all_said story)) (same_first key old story [] none) (story_done c.lines_are_read_as_said.ensures key old new story unentered is)))

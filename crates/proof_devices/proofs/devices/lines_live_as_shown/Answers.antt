@@ -1,25 +1,16 @@
 -- What the walk knows of the devices after whole lines, with what is known of time.
-use Rattle.std.proofs.Common.{List, [], arith}
-use Rattle.zw_text.specs.declared.entry.Entry.{Entry}
+use Rattle.std.proofs.Common.{[], arith}
 use Rattle.world_lines.specs.Spoken.{after_all, transcript_of}
 use Rattle.world_model.specs.State.{Machine, first_machine}
 use Rattle.proof_walk.specs.Time.{MayCount, KnowTime}
-use Rattle.proof_walk.specs.Phases.{Phase}
-use Rattle.proof_walk.specs.Walk.{Walk, WalkOver, both_know}
+use Rattle.proof_walk.specs.Walk.{Walk, both_know}
 use Rattle.proof_walk.proofs.Lines.{lines_lead}
 use Rattle.proof_walk.proofs.Over.{over}
+use Rattle.proof_devices.proofs.Together.{beside}
 use Rattle.proof_air.specs.Hearing.{MayHear, KnowAir}
 use Rattle.proof_devices.specs.Living.{MayAny, KnowDevices}
 use Rattle.proof_devices.proofs.Whole.{whole_lived}
 use Rattle.proof_devices.proofs.devices.lines_live_as_shown.Goals as goal
-
--- a walk needs no ground
-beside : (Asks : List Entry → Entry → Type 0) (Ground Know : Phase → List Entry → Machine → Type 0) → Walk Asks Know → WalkOver Ground Asks Know
-beside Asks Ground Know walk = record {
-  said = λ past m words line read ground known. walk.said past m words line read known;
-  event = λ here next past m event goes may ground known. walk.event here next past m event goes may known;
-  turn = λ here next past m turns ground known. walk.turn here next past m turns known;
-}
 
 pub returns : goal.returns
 returns c = λ keys records devices lines are whole.

@@ -4,7 +4,7 @@ use Rattle.law_transcript.specs.Nodes.{listing_of}
 use Rattle.world_model.specs.State.{first_machine}
 use Rattle.host_model.specs.State.{first_host}
 use Rattle.proof_spoken.proofs.Classes.{classes_of}
-use Rattle.proof_course_plain.specs.World.{OrdersPlain}
+use Rattle.proof_course_sealed.specs.Plain.{OrdersPlain}
 use Rattle.proof_headline.specs.Plain.{IsOpenList}
 use Rattle.proof_headline.proofs.Knowing.{all_hold}
 use Rattle.proof_headline.proofs.Opening.{event_plain, first_open, listing_open}

@@ -4,7 +4,7 @@ use Rattle.world_model.specs.State.{Machine, first_machine}
 use Rattle.world_lines.specs.Spoken.{after_all}
 use Rattle.world_lines.specs.Done.{events_of}
 use Rattle.proof_spoken.proofs.SpokenLines.{lines_of, all_read, all_lines, all_may, all_after}
-use Rattle.proof_course_plain.specs.World.{HasCourse}
+use Rattle.proof_course_sealed.specs.Plain.{HasCourse}
 use Rattle.proof_headline.proofs.PlainTying.{all_name, course_ties, lines_true, plain_at}
 use Rattle.proof_headline.proofs.plain_nodes.plain_nodes_are_tied.Goals as goal
 

@@ -1,0 +1,351 @@
+-- What devices do is entered of nodes that have a device, at each event outside the host, and so at each of the machine.
+use Rattle.std.proofs.Common.{◌≡◌, ℕ, zero, suc, ◌+◌, ◌==◌, ◌&&◌, not, Bool, true, false, if◌then◌else◌, List, [], ◌∷◌, ◌++◌, length, map, refl, sym, ap, subst, ◌∙◌, append-nil}
+use Rattle.std.proofs.lemmas.Bool.{eq-eqb}
+use Rattle.std.specs.Prelude.{Option, Some, None, slice_get, is_some}
+use Rattle.std.specs.Option.{option_map}
+use Rattle.std.specs.List.{AllByRecursion, flat_map}
+use Rattle.zw_base.proofs.Each.{all-append, all-weaker}
+use Rattle.zw_base.specs.declared.property.By.{By}
+use Rattle.zw_base.specs.declared.property.Setting.{Setting}
+use Rattle.serial_frame.specs.declared.unit.Unit.{Unit as LineUnit}
+use Rattle.serial_frame.specs.Items.{unit_text}
+use Rattle.serial_frame.specs.Stream.{after_tick}
+use Rattle.serial_pipes.specs.State.{WayState, mark_for}
+use Rattle.serial_pipes.specs.Events.{told, told_by}
+use Rattle.zw_words.specs.declared.side.Side.{Side}
+use Rattle.zw_words.specs.declared.side.Side.TheVariants.{Host as by_host, Chip as by_chip}
+use Rattle.route_table.specs.declared.route.Route.{Route}
+use Rattle.air_frames.specs.declared.frame.Heading.{Heading}
+use Rattle.air_frames.specs.declared.frame.Heading.TheVariants.{Outward, Homeward}
+use Rattle.air_frames.specs.Flown.{Flown}
+use Rattle.air_frames.specs.Frames.{next_of, remembered}
+use Rattle.chip_sim.specs.Events.{ChipEvent, Ticked, Judged, after, outs}
+use Rattle.chip_sim.specs.declared.out.ChipOut.{ChipOut}
+use Rattle.chip_sim.specs.declared.out.ChipOut.TheVariants.{Write, OnAir, NoRoute, AskInfo, Full}
+use Rattle.device_kinds.specs.declared.change.Change.{Change}
+use Rattle.device_sim.specs.State.{State}
+use Rattle.device_sim.specs.Event.{DeviceEvent, Hears, device_after, device_replies}
+use Rattle.mesh_sim.specs.declared.event.AirEvent.{AirEvent}
+use Rattle.mesh_sim.specs.declared.event.AirEvent.TheVariants as air_event
+use Rattle.mesh_sim.specs.declared.fate.Fate.{Fate}
+use Rattle.mesh_sim.specs.declared.fate.Fate.TheVariants as fate
+use Rattle.mesh_sim.specs.Air.{is_joined}
+use Rattle.mesh_sim.specs.Fates.{Mesh, dead_hop_of, fate_of, listener_of, place_of}
+use Rattle.mesh_sim.specs.Routes.{backwards}
+use Rattle.mesh_sim.specs.Steps.{AirStep, acknowledged, answers_if, arrival_outs, arrival_outs_as, arriving, arriving_as, done_of, heard_again, heard_at, landed, mesh_after, mesh_outs, outs_again, outs_at, repeat_outs, repeat_outs_by, repeating, repeating_by, status_of}
+use Rattle.mesh_sim.specs.Steps as mesh
+use Rattle.zw_text.specs.declared.entry.Entry.{Entry}
+use Rattle.zw_text.specs.declared.entry.Entry.TheVariants as entry
+use Rattle.law_transcript.specs.Nodes.{controller, device_of}
+use Rattle.law_wire.specs.Doings.{AreDevices, doers_of}
+use Rattle.proof_host.proofs.Lists.{each-anywhere}
+use Rattle.outside_model.specs.State.{OuterState, Outside, Outcome, outside, each, with_chip}
+use Rattle.outside_model.specs.Chip.{put_out, chip_does, chip_ticks, shown_via}
+use Rattle.outside_model.specs.Results.{device_at, gives}
+use Rattle.outside_model.specs.Air.{deals, sent_entries, change_at, change_entries}
+use Rattle.outside_model.specs.Devices.{acts, changes_entries, new_changes, shown_entries}
+use Rattle.outside_model.specs.Events.{OuterEvent, Host_writes, Host_takes, Host_notes, Shows, Joins, Discovers, Links, Loses, Loses_acks, Marks_loss, Marks_change, Clears_pipe, Collides_next, Stalls, Cuts, cleared_entries, mesh_of, outcome, ticked_entry}
+use Rattle.world_model.specs.State.{Machine}
+use Rattle.world_model.specs.Events.{Event, Outside_does}
+use Rattle.proof_device.proofs.ChangesOutside.{fate_listens, listener_is, place_set}
+use Rattle.proof_device.proofs.Entered.{IsMark, told_by_marks, IsCleared, all_cleared, IsShown, all_shown}
+use Rattle.proof_device.proofs.KeptKinds.{event_same}
+use Rattle.proof_device.proofs.Results.{Gives as GivesSo, ends_go, gives_go, to_chip_goes}
+use Rattle.proof_walk.specs.Outside.{Pending, Judging, nothing, Moves, Outer, CoversOuter, IsHearing, IsNote, IsSimple, session_begins}
+use Rattle.proof_walk.specs.Walk.{Walk}
+use Rattle.proof_walk.proofs.Machines.{machine_keeps}
+use Rattle.proof_air.specs.Doing.{AreOfDevices, HasDevice, IsOfDevice, KnownDoers, KnowsDoers, MayDo, TieDoers}
+use Rattle.proof_air.proofs.Fated.{answers_if_are, hearing, hearing_are}
+
+-- ---- devices of nodes
+
+-- where the first device of a node stands, there is one
+has_place : (node : ℕ) (devices : List State) (place : ℕ) → place_of node devices ≡ Some place → HasDevice devices node
+has_place node [] place is = absurd cc
+has_place node (first ∷ devices) place is = by (first.node == node) (place_of node devices) refl is (λ there stands. has_place node devices there stands)
+  where
+    by : (b : Bool) (found : Option ℕ) → place_of node devices ≡ found → (if b then Some 0 else option_map suc found) ≡ Some place
+        → ((there : ℕ) → place_of node devices ≡ Some there → HasDevice devices node) → is_some (if b then Some first else device_of node devices) ≡ true
+    by true found at is later = refl
+    by false None at is later = absurd cc
+    by false (Some there) at is later = later there at
+
+-- and each of a list is of a node that has a first one
+stands : (devices : List State) (place : ℕ) (device : State) → slice_get devices place ≡ Some device → (there : ℕ) × (place_of device.node devices ≡ Some there)
+stands [] place device is = absurd cc
+stands (first ∷ devices) zero device is =
+    let same : first ≡ device = cc in
+    (0, ap (λ (b : Bool). if b then Some 0 else option_map suc (place_of device.node devices)) (eq-eqb first.node device.node (ap (λ (d : State). d.node) same)))
+stands (first ∷ devices) (suc place) device is = by (first.node == device.node) refl (stands devices place device is)
+  where
+    by : (b : Bool) → (first.node == device.node) ≡ b → (there : ℕ) × (place_of device.node devices ≡ Some there) → (there : ℕ) × (place_of device.node (first ∷ devices) ≡ Some there)
+    by true own later = (0, ap (λ (b : Bool). if b then Some 0 else option_map suc (place_of device.node devices)) own)
+    by false own later =
+        (suc later.0, ap (λ (b : Bool). if b then Some 0 else option_map suc (place_of device.node devices)) own ∙ ap (option_map suc) later.1)
+
+module _ (olds : List State) where
+  abbrev IsDone : Entry → Type 0
+  IsDone e = AreDevices olds (doers_of e)
+
+  abbrev AreDone : List Entry → Type 0
+  AreDone entered = AllByRecursion IsDone entered
+
+  -- of a node whose first device stands somewhere now
+  has_now : (pending : Pending) (devices : List State) (node place : ℕ) → TieDoers olds pending devices → place_of node devices ≡ Some place → HasDevice olds node
+  has_now pending devices node place tie is = has_place node olds place (sym (tie.places node) ∙ is)
+
+  -- ---- entries
+
+  -- a kind of entry that no device does
+  module _ (Is : Entry → Type 0) (dev : (node : ℕ) (by : By) (setting : Setting) → Is (entry.Dev node by setting) → ⊥)
+      (air : (frame sender receiver : ℕ) (repeaters payload : List ℕ) → Is (entry.Air frame sender receiver repeaters payload) → ⊥) where
+    one_of : (e : Entry) → Is e → IsDone e
+    one_of (entry.Dev node by setting) is = absurd (dev node by setting is)
+    one_of (entry.Air frame sender receiver repeaters payload) is = absurd (air frame sender receiver repeaters payload is)
+    one_of e is = tt
+
+    all_of : (entered : List Entry) → AllByRecursion Is entered → AreDone entered
+    all_of entered are = all-weaker Is IsDone one_of entered are
+
+  note_done : (e : Entry) → IsNote e → IsDone e
+  note_done e note = one_of IsNote (λ node by setting is. is) (λ frame sender receiver repeaters payload is. is) e note
+
+  told_done : (side : Side) (way : WayState) (unit : LineUnit) → AreDone (told side way unit)
+  told_done side way unit = (
+    tt,
+    all_of IsMark (λ node by setting is. is) (λ frame sender receiver repeaters payload is. is) (told_by side way.bytes (mark_for way.marks unit) (unit_text unit))
+        (told_by_marks side way.bytes (mark_for way.marks unit) (unit_text unit)),
+  )
+
+  cleared_done : (side : Side) (count : ℕ) → AreDone (cleared_entries side count)
+  cleared_done side count = all_of IsCleared (λ node by setting is. is) (λ frame sender receiver repeaters payload is. is) (cleared_entries side count) (all_cleared side count)
+
+  number_done : (o : OuterState) → AreDone (ticked_entry o)
+  number_done o = by (o.in_tick && not o.stamped)
+    where
+      by : (b : Bool) → AreDone (if b then entry.Time o.clock ∷ [] else [])
+      by true = (tt, tt)
+      by false = tt
+
+  -- of a node that has a device
+  settings_done : (node : ℕ) (by : By) → HasDevice olds node → (settings : List Setting) → AreDone (map (λ (setting : Setting). entry.Dev node by setting) settings)
+  settings_done node by has [] = tt
+  settings_done node by has (setting ∷ settings) = ((has, tt), settings_done node by has settings)
+
+  change_done : (node : ℕ) (change : Option Change) → HasDevice olds node → AreDone (change_entries node change)
+  change_done node None has = tt
+  change_done node (Some change) has = settings_done node change.by has change.settings
+
+  changes_done : (node : ℕ) (changes : List Change) → HasDevice olds node → AreDone (changes_entries node changes)
+  changes_done node [] has = tt
+  changes_done node (change ∷ changes) has =
+      all-append IsDone (change_entries node (Some change)) (changes_entries node changes) (change_done node (Some change) has) (changes_done node changes has)
+
+  air_done : (frame sender receiver : ℕ) (repeaters payload : List ℕ) → HasDevice olds sender → IsDone (entry.Air frame sender receiver repeaters payload)
+  air_done frame sender receiver repeaters payload has = by (sender == controller)
+    where
+      by : (b : Bool) → AreDevices olds (if b then [] else sender ∷ [])
+      by true = tt
+      by false = (has, tt)
+
+  sent_done : (events : List AirEvent) → AllByRecursion (IsOfDevice olds) events → AreDone (flat_map sent_entries events)
+  sent_done [] are = tt
+  sent_done (air_event.Heard frame ∷ events) are = sent_done events are.1
+  sent_done (air_event.Lost frame ∷ events) are = sent_done events are.1
+  sent_done (air_event.Unheard frame ∷ events) are = sent_done events are.1
+  sent_done (air_event.Sent frame from to route payload ∷ events) are = (air_done frame from to (shown_via route) payload are.0, sent_done events are.1)
+  sent_done (air_event.Changed node at ∷ events) are = sent_done events are.1
+  sent_done (air_event.ToChip frame from payload ∷ events) are = sent_done events are.1
+  sent_done (air_event.Done frame status dead ∷ events) are = sent_done events are.1
+
+  -- ---- the chip
+
+  put_done : (o : OuterState) (out : ChipOut) → AreDone (put_out o out).entries
+  put_done o (Write unit) = told_done by_chip o.to_host unit
+  put_done o (OnAir to route payload) = (tt, tt)
+  put_done o NoRoute = tt
+  put_done o (AskInfo node) = tt
+  put_done o Full = (tt, tt)
+
+  puts_done : (puts : List ChipOut) (o : OuterState) → AreDone (each put_out o puts).entries
+  puts_done [] o = tt
+  puts_done (out ∷ puts) o = all-append IsDone (put_out o out).entries (each put_out (put_out o out).outer puts).entries (put_done o out) (puts_done puts (put_out o out).outer)
+
+  does_done : (o : OuterState) (event : ChipEvent) → AreDone (chip_does o event).entries
+  unfolding chip_does
+  does_done o event = puts_done (outs o.chip.state event) (with_chip o (after o.chip.state event))
+
+  abbrev Done_so : OuterState → Outcome → Type 0
+  Done_so o x = AreDone x.entries
+
+  results : GivesSo Done_so
+  results = record {
+    still = λ o p is. tt;
+    both = λ o first next before later. all-append IsDone first.entries (next first.outer).entries before (later first.outer);
+    later = λ o p x is are. are;
+    does = λ o event given. does_done o event;
+    forgotten = λ o a b. (tt, tt);
+  }
+
+  deals_done : (devices : List State) (o : OuterState) (event : AirEvent) → IsOfDevice olds event → AreDone (deals devices o event).entries
+  deals_done devices o (air_event.Heard frame) is = (tt, tt)
+  deals_done devices o (air_event.Lost frame) is = (tt, tt)
+  deals_done devices o (air_event.Unheard frame) is = (tt, tt)
+  deals_done devices o (air_event.Sent frame from to route payload) is = (air_done frame from to (shown_via route) payload is, tt)
+  deals_done devices o (air_event.Changed node at) is = change_done node (change_at (device_at devices (place_of node devices)) at) is
+  deals_done devices o (air_event.ToChip frame from payload) is = to_chip_goes Done_so results o from payload
+  deals_done devices o (air_event.Done frame status dead) is = ends_go Done_so results o status dead
+
+  simple_done : (w : Outside) (event : OuterEvent) → IsSimple event → AreDone (outcome w event).entries
+  unfolding outcome
+  simple_done w (Host_writes unit) simple = told_done by_host w.outer.to_chip unit
+  simple_done w (Host_takes count) simple = tt
+  simple_done w (Host_notes note) simple = (note_done note simple.0, tt)
+  simple_done w (Shows node) simple =
+      all_of IsShown (λ node by setting is. is) (λ frame sender receiver repeaters payload is. is) (shown_entries node (device_at w.devices (place_of node w.devices)))
+      (all_shown node (device_at w.devices (place_of node w.devices)))
+  simple_done w (Joins node) simple = tt
+  simple_done w Discovers simple = tt
+  simple_done w (Links a b live) simple = tt
+  simple_done w (Loses count) simple = tt
+  simple_done w (Loses_acks count) simple = tt
+  simple_done w (Marks_loss side) simple = tt
+  simple_done w (Marks_change side garble) simple = tt
+  simple_done w (Clears_pipe by_host) simple = cleared_done by_host (length w.outer.to_chip.bytes)
+  simple_done w (Clears_pipe by_chip) simple = cleared_done by_chip (length w.outer.to_host.bytes)
+  simple_done w Collides_next simple = tt
+  simple_done w (Stalls ticks) simple = tt
+  simple_done w (Cuts size) simple = tt
+  simple_done w event simple = absurd simple
+
+  -- ---- a frame arrives, or is heard again
+
+  -- the devices stay at their places, and what is told is of nodes that have one
+  record Told (devices : List State) (after : Mesh) (events : List AirEvent) : Type 0 where
+    places : (node : ℕ) → place_of node after.devices ≡ place_of node devices
+    are : AllByRecursion (IsOfDevice olds) events
+
+  done_told : (heading : Heading) (number status : ℕ) (dead : Option (ℕ × ℕ)) → AllByRecursion (IsOfDevice olds) (done_of heading number status dead)
+  done_told Outward number status dead = (tt, tt)
+  done_told Homeward number status dead = tt
+
+  hears : (m : Mesh) (place number node : ℕ) (found : Option State) (route : Option Route) (event : DeviceEvent) (end : List AirEvent) → slice_get m.devices place ≡ found → HasDevice olds node
+      → AllByRecursion (IsOfDevice olds) end → Told m.devices (heard_at m place found node route event) (outs_at m found number node route event ++ end)
+  hears m place number node None route event end is has none = record { places = λ one. refl; are = none }
+  hears m place number node (Some device) route event end is has none = record {
+    places = λ one. place_set one m.devices place device (device_after device event) is (event_same device event).node;
+    are = (
+      tt,
+      all-append (IsOfDevice olds) (hearing m.air node route device event) end (hearing_are (IsOfDevice olds) node (λ at. has) (λ frame over payload. has) m.air route device event) none,
+    );
+  }
+
+  module _ (w : Outside) (tie : TieDoers olds nothing w.devices) where
+    listens : (frame : Flown) (place : ℕ) → listener_of frame.node w.devices ≡ Some place → HasDevice olds frame.node
+    listens frame place is = has_now nothing w.devices frame.node place tie (listener_is frame.node w.devices place is)
+
+    arrives_as : (frame : Flown) (x : Fate) (drawn : List ℕ) (route : Option Route) → fate_of w.outer.air.network w.devices frame ≡ x
+        → Told w.devices (arriving_as (mesh_of w) frame x drawn route) (arrival_outs_as (mesh_of w) (w.outer.air.frames.landed + 1) frame x drawn route)
+    arrives_as frame fate.Lost drawn route is = record { places = λ node. refl; are = (tt, done_told frame.heading (w.outer.air.frames.landed + 1) 1 None) }
+    arrives_as frame (fate.Dead from to) drawn route is = record { places = λ node. refl; are = (tt, done_told frame.heading (w.outer.air.frames.landed + 1) 1 (Some (from, to))) }
+    arrives_as frame fate.Missed drawn route is = record { places = λ node. refl; are = (tt, done_told frame.heading (w.outer.air.frames.landed + 1) 1 None) }
+    arrives_as frame fate.AtChip drawn route is = record { places = λ node. refl; are = (tt, (tt, tt)) }
+    arrives_as frame (fate.AtDevice place) drawn route is =
+        hears (record { air = landed (acknowledged w.outer.air); devices = w.devices }) place (w.outer.air.frames.landed + 1) frame.node (slice_get w.devices place) route (Hears frame.payload drawn)
+        (air_event.Done (w.outer.air.frames.landed + 1) (status_of w.outer.air) None ∷ []) refl
+        (listens frame place (fate_listens frame.lost (dead_hop_of w.outer.air.network frame) frame.heading (listener_of frame.node w.devices) place is)) (tt, tt)
+
+    arrives_if : (found : Option Flown) (drawn : List ℕ) (route : Option Route) → Told w.devices (arriving (mesh_of w) found drawn route) (arrival_outs (mesh_of w) found drawn route)
+    arrives_if None drawn route = record { places = λ node. refl; are = tt }
+    arrives_if (Some frame) drawn route = arrives_as frame (fate_of w.outer.air.network w.devices frame) drawn route refl
+
+    again_at : (place : Option ℕ) (number : ℕ) (frame : Flown) (route : Option Route) (event : DeviceEvent) → listener_of frame.node w.devices ≡ place
+        → Told w.devices (heard_again (mesh_of w) place frame.node route event) (outs_again (mesh_of w) place number frame.node route event)
+    again_at None number frame route event is = record { places = λ node. refl; are = tt }
+    again_at (Some place) number frame route event is =
+        subst (λ (l : List AirEvent). Told w.devices (heard_at (mesh_of w) place (slice_get w.devices place) frame.node route event) l)
+        (append-nil (outs_at (mesh_of w) (slice_get w.devices place) number frame.node route event))
+        (hears (mesh_of w) place number frame.node (slice_get w.devices place) route event [] refl (listens frame place is) tt)
+
+    again_by : (heading : Heading) (number : ℕ) (frame : Flown) (drawn : List ℕ) (route : Option Route)
+        → Told w.devices (repeating_by heading (mesh_of w) frame drawn route) (repeat_outs_by heading (mesh_of w) number frame drawn route)
+    again_by Homeward number frame drawn route = record { places = λ node. refl; are = (tt, (tt, tt)) }
+    again_by Outward number frame drawn route = again_at (listener_of frame.node w.devices) number frame route (Hears frame.payload drawn) refl
+
+    again_if : (number : ℕ) (found : Option Flown) (drawn : List ℕ) (route : Option Route) → Told w.devices (repeating (mesh_of w) found drawn route) (repeat_outs (mesh_of w) number found drawn route)
+    again_if number None drawn route = record { places = λ node. refl; are = tt }
+    again_if number (Some frame) drawn route = again_by frame.heading number frame drawn route
+
+    step_told : (step : AirStep) → IsHearing step → Told w.devices (mesh_after (mesh_of w) step) (mesh_outs (mesh_of w) step)
+    unfolding mesh_after mesh_outs
+    step_told (mesh.Arrives drawn route) hearing = arrives_if (next_of w.outer.air.frames) drawn route
+    step_told (mesh.Repeats number drawn route) hearing = again_if number (remembered w.outer.air.frames number) drawn route
+    step_told step hearing = absurd hearing
+
+  -- ---- all of it
+
+  -- the devices stay as they are
+  moves : (before after : Pending) (w later : Outside) (entered : List Entry) → AreDone entered → later.devices ≡ w.devices → (AreOfDevices olds before → AreOfDevices olds after)
+      → Moves (MayDo olds) (KnowsDoers olds before) w entered (KnowsDoers olds after) later
+  moves before after w later entered are same goes awaits past silent tie = (
+    each-anywhere (MayDo olds) IsDone (λ past e is. is) past entered are,
+    record { places = λ node. ap (place_of node) same ∙ tie.places node; done = goes tie.done },
+  )
+
+  abbrev Any : OuterEvent → Type 0
+  Any event = Unit {0}
+
+  law : Outer (MayDo olds) (KnowsDoers olds) Any
+  law = record {
+    line = λ covers awaits past w tie. tie;
+    tick = λ covers awaits past w tie. (tt, tie);
+    number = λ past w tie. tie;
+    stamps = λ awaits stamped past w tie. tie;
+    simple = λ w event simple covers. moves nothing nothing w (outside (outcome w event).outer w.devices) (outcome w event).entries (simple_done w event simple) refl (λ are. are);
+    session = λ w node session command. moves nothing nothing w (outside (session_begins w.outer node session command).outer w.devices) (entry.Begin node session command ∷ []) (tt, tt) refl (λ are. are);
+    takes = λ w count rest ways may awaits past silent tie. (tt, record { places = tie.places; done = tt });
+    judges = λ w way ways may.
+        moves (Judging (way ∷ ways)) (Judging ways) w (outside (chip_does w.outer (Judged way.0 way.1)).outer w.devices) (chip_does w.outer (Judged way.0 way.1)).entries
+        (does_done w.outer (Judged way.0 way.1)) refl (λ are. tt);
+    judged = λ awaits past w tie. record { places = tie.places; done = tt };
+    ticks = λ w. moves nothing nothing w (outside (chip_ticks w.outer).outer w.devices) (chip_ticks w.outer).entries
+        (does_done (record w.outer { chip = record { decoder = after_tick w.outer.chip.decoder; state = w.outer.chip.state } }) Ticked) refl (λ are. are);
+    gives = λ w route may. moves nothing nothing w (outside (gives w.outer w.devices w.outer.due route).outer w.devices) (gives w.outer w.devices w.outer.due route).entries
+        (gives_go Done_so results w.outer w.devices w.outer.due route) refl (λ are. are);
+    steps = λ w step hearing may awaits past silent tie.
+        let said = step_told w tie step hearing in (tt, record { places = λ node. said.places node ∙ tie.places node; done = said.are });
+    deals = λ w event events awaits past silent tie. (
+      each-anywhere (MayDo olds) IsDone (λ past e is. is) past (deals w.devices w.outer event).entries (deals_done w.devices w.outer event tie.done.0),
+      record { places = tie.places; done = tie.done.1 },
+    );
+    acts = λ w place device event route found may awaits past silent tie.
+        let first = stands w.devices place device found in
+        let has : HasDevice olds device.node = has_now nothing w.devices device.node first.0 tie first.1 in
+        let over : Option Route = option_map backwards route in
+        let replies : List (List ℕ) = device_replies device event in
+        let events : List AirEvent = answers_if (is_joined w.outer.air device.node) w.outer.air device.node over replies in (
+          each-anywhere (MayDo olds) IsDone (λ past e is. is) past (acts w.outer device event route).entries
+              (all-append IsDone (changes_entries device.node (new_changes device event)) (flat_map sent_entries events) (changes_done device.node (new_changes device event) has)
+              (sent_done events (answers_if_are (IsOfDevice olds) device.node (λ at. has) (λ frame way payload. has) (is_joined w.outer.air device.node) w.outer.air over replies))),
+          record { places = λ node. place_set node w.devices place device (device_after device event) found (event_same device event).node ∙ tie.places node; done = tt },
+        );
+  }
+
+  -- ---- lines
+
+  covers_any : (event : Event) → CoversOuter Any event
+  covers_any (Outside_does event) = tt
+  covers_any event = tt
+
+  pub doers_walk : Walk (MayDo olds) (λ here past m. KnownDoers olds past m)
+  doers_walk = record {
+    said = λ past m words line read known. (tt, (known.0, each-anywhere (MayDo olds) IsDone (λ past e is. is) (past ++ entry.Said words ∷ []) (ticked_entry m.outside.outer) (number_done m.outside.outer)));
+    event = λ here next past m event goes may known. machine_keeps (MayDo olds) (KnowsDoers olds) Any law (λ event own. tt) m event (covers_any event) may past known;
+    turn = λ here next past m turns known. known;
+  }
+
+pub doers_first : (m : Machine) → KnownDoers m.outside.devices [] m
+doers_first m = (
+  record { places = λ node. refl; done = tt },
+  each-anywhere (MayDo m.outside.devices) (IsDone m.outside.devices) (λ past e is. is) [] (ticked_entry m.outside.outer) (number_done m.outside.devices m.outside.outer),
+)

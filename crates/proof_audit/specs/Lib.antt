@@ -1,0 +1,6 @@
+pub mod Legible
+pub mod Books
+pub mod Frames
+pub mod Tables
+pub mod Rules
+pub mod Whole

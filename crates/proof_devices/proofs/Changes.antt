@@ -1,0 +1,69 @@
+-- The changes that the devices have made are shown, at each phase of a line.
+use Rattle.std.proofs.Common.{◌≡◌, ◌≢◌, ℕ, zero, suc, List, [], ◌∷◌, ◌++◌, refl, sym, subst, ◌∙◌}
+use Rattle.std.specs.Prelude.{Some, slice_get}
+use Rattle.std.specs.List.{AllByRecursion}
+use Rattle.device_sim.specs.State.{State}
+use Rattle.zw_text.specs.declared.line.Line.{Line}
+use Rattle.zw_text.specs.declared.entry.Entry.{Entry}
+use Rattle.zw_text.specs.declared.entry.Entry.TheVariants.{Said}
+use Rattle.zw_text.specs.Transcript.{line_of}
+use Rattle.law_transcript.specs.Lists.{EachAfter}
+use Rattle.world_model.specs.State.{Machine}
+use Rattle.world_model.specs.Events.{Event, happens, entries, May}
+use Rattle.proof_device.specs.GoingOn.{GoOn, AreSame}
+use Rattle.proof_device.specs.Showing.{AllShow, AreApart, Shows}
+use Rattle.proof_device.proofs.DevicePlaces.{go_none, go_then, go_same, machine_goes}
+use Rattle.proof_device.proofs.ShownChanges.{show_none, show_then}
+use Rattle.proof_walk.specs.Phases.{Phase, Between, Said_line, Goes}
+use Rattle.proof_walk.specs.Walk.{Walk}
+use Rattle.proof_devices.specs.Living.{MayAny}
+use Rattle.proof_devices.proofs.Numbers.{each_any}
+
+-- the devices have gone on, and their changes are shown
+abbrev pub KnowChanges : List State → Phase → List Entry → Machine → Type 0
+KnowChanges olds here past m = GoOn olds m.outside.devices × AllShow past olds m.outside.devices
+
+none_has : (olds news : List State) (n now : ℕ) → now ≡ n → AreSame olds news → AllByRecursion (λ (s : State). s.node ≢ n) olds → AllByRecursion (λ (s : State). s.node ≢ now) news
+none_has [] [] n now is same all = tt
+none_has [] (new ∷ news) n now is same all = absurd same
+none_has (old ∷ olds) [] n now is same all = absurd same
+none_has (old ∷ olds) (new ∷ news) n now is same all = ((λ at. all.0 (sym same.0.node ∙ (at ∙ is))), none_has olds news n now is same.1 all.1)
+
+pub stays_apart : (olds news : List State) → AreSame olds news → AreApart olds → AreApart news
+stays_apart [] [] same apart = tt
+stays_apart [] (new ∷ news) same apart = absurd same
+stays_apart (old ∷ olds) [] same apart = absurd same
+stays_apart (old ∷ olds) (new ∷ news) same apart = (none_has olds news old.node new.node same.0.node same.1 apart.0, stays_apart olds news same.1 apart.1)
+
+module _ (olds : List State) (apart : AreApart olds) (shows : (m : Machine) (event : Event) → May m event → AreApart m.outside.devices → AllShow (entries m event) m.outside.devices (happens m event).outside.devices) where
+  said : (past : List Entry) (m : Machine) (words : List ℕ) (line : Line) → line_of (Said words) ≡ line ∷ [] → KnowChanges olds Between past m
+      → MayAny past (Said words) × KnowChanges olds (Said_line line) (past ++ Said words ∷ []) m
+  said past m words line read known =
+      (tt, (known.0, show_then past (Said words ∷ []) olds m.outside.devices m.outside.devices (go_same olds m.outside.devices known.0) known.1 (show_none (Said words ∷ []) m.outside.devices (λ n. refl))))
+
+  event_shows : (here next : Phase) (past : List Entry) (m : Machine) (event : Event) → Goes here m event next → May m event → KnowChanges olds here past m
+      → EachAfter MayAny past (entries m event) × KnowChanges olds next (past ++ entries m event) (happens m event)
+  event_shows here next past m event goes may known =
+      let same : AreSame olds m.outside.devices = go_same olds m.outside.devices known.0 in (
+        each_any past (entries m event),
+        (
+          go_then olds m.outside.devices (happens m event).outside.devices known.0 (machine_goes m event),
+          show_then past (entries m event) olds m.outside.devices (happens m event).outside.devices same known.1 (shows m event may (stays_apart olds m.outside.devices same apart)),
+        ),
+      )
+
+  pub changes_walk : Walk MayAny (KnowChanges olds)
+  changes_walk = record { said = said; event = event_shows; turn = λ here next past m turns known. known }
+
+pub changes_first : (m : Machine) → KnowChanges m.outside.devices Between [] m
+changes_first m = (go_none m.outside.devices, show_none [] m.outside.devices (λ n. refl))
+
+-- those of the device at a place
+pub show_at : (told : List Entry) (olds news : List State) (place : ℕ) (old new : State) → AllShow told olds news → slice_get olds place ≡ Some old → slice_get news place ≡ Some new → Shows told old new
+show_at told [] news place old new shows stood stands = absurd cc
+show_at told (o ∷ olds) [] place old new shows stood stands = absurd shows
+show_at told (o ∷ olds) (n ∷ news) zero old new shows stood stands =
+    let was : o ≡ old = cc in
+    let is : n ≡ new = cc in
+    subst (λ (s : State). Shows told s new) was (subst (λ (s : State). Shows told o s) is shows.0)
+show_at told (o ∷ olds) (n ∷ news) (suc place) old new shows stood stands = show_at told olds news place old new shows.1 stood stands

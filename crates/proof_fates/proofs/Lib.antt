@@ -1,0 +1,11 @@
+mod Wordless
+mod Fateless
+mod Shown
+mod Stamped
+mod Again
+mod Repeating
+mod Following
+mod Numbered
+mod Arriving
+mod Meeting
+mod Grounds

@@ -1,0 +1,16 @@
+mod Waiting
+mod Books
+mod Parts
+mod Reasoned
+mod SentUnits
+mod Dues
+mod AskedLines
+mod HeardNonces
+mod BroughtNodes
+mod Judged
+mod OutsideUnits
+mod HostUnits
+mod Grounds
+mod Steps
+mod Effects
+mod Walking

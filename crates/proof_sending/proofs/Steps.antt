@@ -1,0 +1,266 @@
+-- Each event of the machine keeps what the host has to send due, and what it writes is.
+use Rattle.std.proofs.Common.{◌≡◌, ℕ, ◌&&◌, not, Bool, true, false, if◌then◌else◌, List, [], ◌∷◌, ◌++◌, refl, sym, subst, ◌∙◌}
+use Rattle.std.specs.List.{AllByRecursion}
+use Rattle.serial_frame.specs.declared.item.Item.{Item}
+use Rattle.serial_frame.specs.declared.item.Item.TheVariants.{Good, Refused}
+use Rattle.serial_frame.specs.declared.item.Refusal.TheVariants.{Stray, BadLength, BadSum, BadKind, Aborted}
+use Rattle.serial_frame.specs.declared.unit.Unit.TheVariants.{Ack, Nak, Can, Framed}
+use Rattle.device_kinds.specs.Sealing.{keys_of}
+use Rattle.zw_text.specs.declared.entry.Entry.{Entry}
+use Rattle.zw_text.specs.declared.entry.Entry.TheVariants as entry
+use Rattle.law_transcript.specs.Lists.{EachAfter}
+use Rattle.law_transcript.specs.Restarts.{begins_refused}
+use Rattle.host_heard.specs.declared.told.Told.{Told}
+use Rattle.host_heard.specs.declared.told.Told.TheVariants.{NonceGet, NonceReport}
+use Rattle.host_requests.specs.Events.{RequestsEvent}
+use Rattle.host_node.specs.Steps.{tick_end}
+use Rattle.host_model.specs.State.{HostState, command_at, node_of}
+use Rattle.host_model.specs.Ends.{attempt_entries}
+use Rattle.host_model.specs.Sessions.{open_command, settings_with}
+use Rattle.host_model.specs.After.{after, is_full, is_held}
+use Rattle.host_model.specs.Did.{outs_all}
+use Rattle.host_model.specs.May.{May as MayHost}
+use Rattle.host_model.specs.Events.{HostEvent, Accepts, Cancels, Queues, Hears, Requests_do, Finishes, Offers, Gives, Takes_nonce, Resends, Line_ticks, Node_ticks, Submits_abort, Submits_front, Starts, Gives_text, Gives_segment}
+use Rattle.host_model.specs.Outs.{answer_to, answers, dropped_if, held_entries, noted, outs, request_entries, stored_entries}
+use Rattle.host_model.specs.declared.out.HostOut.{HostOut}
+use Rattle.host_model.specs.declared.out.HostOut.TheVariants.{Write, Note}
+use Rattle.host_model.proofs.Own.{IsOwn}
+use Rattle.host_model.proofs.Silence.{Silent}
+use Rattle.outside_model.specs.State.{OuterState}
+use Rattle.outside_model.specs.Events.{ticked_entry, entries as entries_outside}
+use Rattle.outside_model.specs.Did.{entries_all as entries_all_outside}
+use Rattle.world_model.specs.State.{Machine, host_does, host_entries}
+use Rattle.world_model.specs.Events.{Event, Outside_does, Host_does, Host_takes, Decoder_ticks, Refuses, Shows_values, Restarts, fed, happens, entries, notes, May}
+use Rattle.proof_device.proofs.Entered.{IsMark}
+use Rattle.proof_host.proofs.Lists.{each-append}
+use Rattle.proof_spoken.proofs.Orders.{IsNoOrder}
+use Rattle.proof_spoken.proofs.Plain.{IsPlain}
+use Rattle.proof_walk.specs.Outside.{IsHostNote, IsOfAir}
+use Rattle.proof_walk.specs.ByLine.{IsCommon}
+use Rattle.proof_walk.proofs.Alone.{KindsAre, common_are}
+use Rattle.proof_walk.proofs.Machines.{UnitsAre}
+use Rattle.proof_sending.specs.Reasons.{Reason, Asked_for, Wants_nonce, Gave_nonce, HasReason, IsReasoned, PushesNothing, WritesDue}
+use Rattle.proof_sending.specs.Asked.{IsAsked, MayAsk}
+use Rattle.proof_sending.specs.Heard.{AreHeardOf, HaveReasons, ItemTells, WritesNoFrame}
+use Rattle.proof_sending.specs.Knowing.{Grounded, IsMine, IsSound, IsWell}
+use Rattle.proof_sending.proofs.AskedLines.{asked_stays}
+use Rattle.proof_sending.proofs.Dues.{unit_due}
+use Rattle.proof_sending.proofs.Grounds.{WalkLaws, carried_so, ground_goes, ground_ticked}
+use Rattle.proof_sending.proofs.HostUnits.{FirstDue, IsShort, answers_stand, event_stands, none_stand, short_stand}
+use Rattle.proof_sending.proofs.Judged.{judged_goes, stands_all}
+use Rattle.proof_sending.proofs.OutsideUnits.{outside_not}
+use Rattle.proof_sending.proofs.Reasoned.{event_is, more_is, units_due}
+
+-- ---- entries that refuse no line
+
+abbrev IsNoRefusal : Entry → Type 0
+IsNoRefusal (entry.Refused refusal) = ⊥
+IsNoRefusal _ = Unit {0}
+
+mark_none : (e : Entry) → IsMark e → IsNoRefusal e
+mark_none (entry.Refused refusal) mark = absurd mark
+mark_none e mark = tt
+
+air_none : (e : Entry) → IsOfAir e → IsNoRefusal e
+air_none (entry.Refused refusal) of_air = absurd of_air
+air_none e of_air = tt
+
+note_none : (e : Entry) → IsHostNote e → IsNoRefusal e
+note_none (entry.Refused refusal) note = absurd note
+note_none e note = tt
+
+kinds : KindsAre IsNoRefusal
+kinds = record { unit = λ side text. tt; mark = mark_none; of_air = air_none; full = tt; time = λ tick. tt; note = note_none }
+
+none_refused : (told : List Entry) → AllByRecursion IsNoRefusal told → begins_refused told ≡ false
+none_refused [] none = refl
+none_refused (entry.Refused refusal ∷ told) none = absurd none.0
+none_refused (e ∷ told) none = refl
+
+ticked_none : (o : OuterState) → begins_refused (ticked_entry o) ≡ false
+ticked_none o = by (o.in_tick && not o.stamped)
+  where
+    by : (b : Bool) → begins_refused (if b then entry.Time o.clock ∷ [] else []) ≡ false
+    by true = refl
+    by false = refl
+
+-- ---- events that are no line's own
+
+own_silent : (event : HostEvent) → IsOwn event → Silent (event ∷ [])
+own_silent (Accepts order carriage) own = absurd own
+own_silent (Cancels command) own = absurd own
+own_silent event own = (λ h. refl, tt)
+
+mine_common : (event : Event) → IsMine event → IsCommon event
+mine_common (Outside_does event) mine = mine
+mine_common (Host_does event) own = own_silent event own
+mine_common (Host_takes count rest items events) mine = tt
+mine_common Decoder_ticks mine = tt
+mine_common event mine = absurd mine
+
+own_plain : (event : HostEvent) → IsOwn event → IsNoOrder event
+own_plain (Accepts order carriage) own = absurd own
+own_plain event own = tt
+
+mine_plain : (event : Event) → IsMine event → IsPlain event
+mine_plain (Host_does event) own = own_plain event own
+mine_plain event mine = tt
+
+mine_none : (m : Machine) (event : Event) → IsMine event → May m event → begins_refused (entries m event) ≡ false
+mine_none m event mine may = none_refused (entries m event) (common_are IsNoRefusal kinds m event (mine_common event mine) may)
+
+pub keys_stay : (m : Machine) (event : Event) → (happens m event).keys ≡ m.keys
+unfolding happens
+keys_stay m (Outside_does event) = refl
+keys_stay m (Host_does event) = refl
+keys_stay m (Host_takes count rest items events) = refl
+keys_stay m Decoder_ticks = refl
+keys_stay m (Refuses line refusal) = refl
+keys_stay m (Shows_values node) = refl
+keys_stay m (Restarts state) = refl
+
+-- ---- what a host writes as it judges
+
+notes_short : (es : List Entry) → UnitsAre IsShort (noted es)
+notes_short [] = tt
+notes_short (e ∷ es) = notes_short es
+
+units-append : (xs ys : List HostOut) → UnitsAre IsShort xs → UnitsAre IsShort ys → UnitsAre IsShort (xs ++ ys)
+units-append [] ys first later = later
+units-append (Write unit ∷ xs) ys first later = (first.0, units-append xs ys first.1 later)
+units-append (Note note ∷ xs) ys first later = units-append xs ys first later
+
+answer_short : (item : Item) → UnitsAre IsShort (answer_to item)
+answer_short (Good Ack) = tt
+answer_short (Good Nak) = tt
+answer_short (Good Can) = tt
+answer_short (Good (Framed f)) = (tt, tt)
+answer_short (Refused (Stray x)) = tt
+answer_short (Refused (BadLength n)) = tt
+answer_short (Refused (BadSum want got)) = (tt, tt)
+answer_short (Refused (BadKind x)) = (tt, tt)
+answer_short (Refused Aborted) = tt
+
+event_short : (h : HostState) (event : HostEvent) → WritesNoFrame event → UnitsAre IsShort (outs h event)
+event_short h (Hears item) none = answer_short item
+event_short h (Requests_do event moment) none = notes_short (request_entries h event)
+event_short h (Finishes n session id command status wake_request) none =
+    notes_short (stored_entries n (settings_with status (command_at h.commands command)) ++ held_entries n (is_held h n wake_request))
+event_short h (Offers n) none = notes_short (dropped_if (is_full h) n)
+event_short h (Gives n drawn) none = notes_short (dropped_if (is_full h) n)
+event_short h (Resends n payload) none = notes_short (dropped_if (is_full h) n)
+event_short h (Node_ticks n) none = notes_short (attempt_entries n (tick_end (node_of h n)) (open_command (node_of h n)))
+event_short h Line_ticks none = absurd none
+event_short h Submits_abort none = absurd none
+event_short h Submits_front none = absurd none
+event_short h (Starts n plan more payload) none = absurd none
+event_short h (Gives_text n payload) none = absurd none
+event_short h (Gives_segment n more payload) none = absurd none
+event_short h event none = tt
+
+-- ---- reasons
+
+module _ (listing : ℕ → List ℕ) (key : List ℕ) where
+  holds_more : (past told : List Entry) → begins_refused told ≡ false → (reason : Reason) → IsAsked listing past reason → IsAsked listing (past ++ told) reason
+  holds_more past told none (Asked_for node payload) asked = asked_stays listing [] past told (record { node = node; payload = payload }) none asked
+  holds_more past told none (Wants_nonce node) asked = tt
+  holds_more past told none (Gave_nonce node nonce) asked = tt
+
+  pub reasoned_more : (past told : List Entry) (h : HostState) → begins_refused told ≡ false → IsReasoned (IsAsked listing past) (keys_of key) h
+      → IsReasoned (IsAsked listing (past ++ told)) (keys_of key) h
+  reasoned_more past told h none is = more_is (IsAsked listing past) (IsAsked listing (past ++ told)) (holds_more past told none) (keys_of key) h is
+
+  own_reason : (past : List Entry) (h : HostState) (event : HostEvent) → IsOwn event → HasReason (IsAsked listing past) (keys_of key) h event
+  own_reason past h (Queues task) own = absurd own
+  own_reason past h (Requests_do event moment) own = subst (λ (e : RequestsEvent). PushesNothing e) (sym own) tt
+  own_reason past h (Offers n) own = absurd own
+  own_reason past h (Gives n drawn) own = absurd own
+  own_reason past h (Takes_nonce n seen text) own = absurd own
+  own_reason past h event own = tt
+
+  events_short : (past : List Entry) (h : HostState) (events : List HostEvent) → HaveReasons (IsAsked listing past) (keys_of key) h events → UnitsAre IsShort (outs_all h events)
+  events_short past h [] reasons = tt
+  events_short past h (event ∷ events) reasons =
+      units-append (outs h event) (outs_all (after h event) events) (event_short h event reasons.0.1) (events_short past (after h event) events reasons.1)
+
+  -- what nodes say is taken as said
+  heard_of : (past : List Entry) (node : ℕ) (messages : List Told) → AreHeardOf (IsAsked listing past) node messages
+  heard_of past node [] = tt
+  heard_of past node (NonceGet ∷ messages) = (tt, heard_of past node messages)
+  heard_of past node (NonceReport nonce ∷ messages) = (tt, heard_of past node messages)
+  heard_of past node (message ∷ messages) = (tt, heard_of past node messages)
+
+  item_tells : (past : List Entry) (item : Item) → ItemTells (IsAsked listing past) (keys_of key) item
+  item_tells past (Good (Framed f)) = λ status source payload is. record {
+    plainly = λ messages heard. heard_of past source messages;
+    sealed = λ nonce plain messages seals heard. heard_of past source messages;
+  }
+  item_tells past (Good Ack) = tt
+  item_tells past (Good Nak) = tt
+  item_tells past (Good Can) = tt
+  item_tells past (Refused refusal) = tt
+
+  items_tell : (past : List Entry) (items : List Item) → AllByRecursion (ItemTells (IsAsked listing past) (keys_of key)) items
+  items_tell past [] = tt
+  items_tell past (item ∷ items) = (item_tells past item, items_tell past items)
+
+-- ---- an event
+
+module _ (listing : ℕ → List ℕ) (key : List ℕ) (laws : WalkLaws) where
+  abbrev pub Stands : List Entry → Machine → Event → Type 0
+  Stands past m event = EachAfter (MayAsk listing key) past (entries m event) × IsSound listing key (past ++ entries m event) (happens m event)
+
+  first_of : (past : List Entry) (m : Machine) → Grounded listing past m → (puts : List HostOut) → WritesDue (IsAsked listing past) (keys_of key) m.host.state puts → FirstDue listing key past puts
+  first_of past m ground [] due = tt
+  first_of past m ground (Write unit ∷ puts) due =
+      unit_due (IsAsked listing past) listing key past m.host.state ground.facts.begun (carried_so laws listing past m.host.state ground.facts ground.said) laws.from laws.to unit due.0
+  first_of past m ground (Note note ∷ puts) due = tt
+
+  pub first_due : (past : List Entry) (m : Machine) (event : HostEvent) → Grounded listing past m → MayHost m.host.state event
+      → ((told : List Entry) → HasReason (IsAsked listing told) (keys_of key) m.host.state event) → IsReasoned (IsAsked listing past) (keys_of key) m.host.state
+      → FirstDue listing key (past ++ ticked_entry m.outside.outer) (outs m.host.state event)
+  first_due past m event ground may reason is =
+      let told : List Entry = ticked_entry m.outside.outer in
+      first_of (past ++ told) m (ground_ticked listing laws past m m.outside.outer ground) (outs m.host.state event)
+      (units_due laws.hosts (IsAsked listing (past ++ told)) (keys_of key) m.host.state event ground.facts.host may (reason (past ++ told))
+      (reasoned_more listing key past told m.host.state (ticked_none m.outside.outer) is))
+
+  pub host_stands : (past : List Entry) (m : Machine) (event : HostEvent) → FirstDue listing key (past ++ ticked_entry m.outside.outer) (outs m.host.state event)
+      → EachAfter (MayAsk listing key) past (entries m (Host_does event))
+  unfolding entries
+  host_stands past m event due =
+      let done : Machine = host_does m (event ∷ []) in
+      each-append (MayAsk listing key) past (host_entries m (event ∷ [])) (entries_all_outside done.outside (notes (answers m.host.state event)))
+      (event_stands listing key past m.outside m.host.state event due)
+      (answers_stand listing key (past ++ host_entries m (event ∷ [])) done.outside m.host.state event)
+
+  sound_after : (past : List Entry) (m : Machine) (event : Event) → IsMine event → May m event → IsWell listing m event → IsSound listing key past m
+      → IsReasoned (IsAsked listing past) (keys_of key) (happens m event).host.state → IsSound listing key (past ++ entries m event) (happens m event)
+  sound_after past m event mine may well is reasoned = record {
+    ground = ground_goes listing laws past m event (mine_plain event mine) may well.0.0 well.1 is.ground;
+    keys = keys_stay m event ∙ is.keys;
+    reasoned = reasoned_more listing key past (entries m event) (happens m event).host.state (mine_none m event mine may) reasoned;
+  }
+
+  pub mine_step : (past : List Entry) (m : Machine) (event : Event) → IsMine event → May m event → IsWell listing m event → IsSound listing key past m → Stands past m event
+  unfolding happens entries May
+  mine_step past m (Outside_does event) mine may well is = (
+    none_stand listing key past (entries_outside m.outside event) (outside_not m.outside event may.0 may.1),
+    sound_after past m (Outside_does event) mine may well is is.reasoned,
+  )
+  mine_step past m (Host_does event) own may well is =
+      let h : HostState = m.host.state in (
+        host_stands past m event (first_due past m event is.ground may.0 (λ told. own_reason listing key told h event own) is.reasoned),
+        sound_after past m (Host_does event) own may well is
+            (event_is laws.hosts (IsAsked listing past) (keys_of key) past h event is.ground.facts may.0 (own_reason listing key past h event own) is.reasoned),
+      )
+  mine_step past m (Host_takes count rest items events) mine may well is =
+      let h : HostState = m.host.state in
+      let reasons : HaveReasons (IsAsked listing past) (keys_of key) h events
+      = judged_goes laws.hosts (IsAsked listing past) (keys_of key) h items events (items_tell listing key past items) may.judged ((past, is.ground.facts), is.reasoned) may.may in (
+        short_stand listing key past (fed m count rest).outside h events (events_short listing key past h events reasons),
+        sound_after past m (Host_takes count rest items events) tt may well is
+            (stands_all laws.hosts (IsAsked listing past) (keys_of key) h events may.may reasons ((past, is.ground.facts), is.reasoned)).1,
+      )
+  mine_step past m Decoder_ticks mine may well is = (tt, sound_after past m Decoder_ticks tt may well is is.reasoned)
+  mine_step past m event mine may well is = absurd mine

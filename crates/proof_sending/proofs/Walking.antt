@@ -1,0 +1,161 @@
+-- So the walk goes along all lines: at each phase, what the host has to send is due, and what it writes is.
+use Rattle.std.proofs.Common.{◌≡◌, ℕ, zero, suc, ◌+◌, Bool, true, false, if◌then◌else◌, List, [], ◌∷◌, ◌++◌, refl, inl, inr, sym, subst, append-nil}
+use Rattle.std.specs.Prelude.{Option, Some, None}
+use Rattle.zw_text.specs.declared.line.Line.{Line}
+use Rattle.zw_text.specs.declared.entry.Entry.{Entry}
+use Rattle.zw_text.specs.declared.entry.Entry.TheVariants.{Said}
+use Rattle.zw_text.specs.Transcript.{line_of}
+use Rattle.law_transcript.specs.Lists.{EachAfter}
+use Rattle.host_requests.specs.declared.task.Task.{Task}
+use Rattle.host_node.specs.Search.{next_of}
+use Rattle.host_node.specs.declared.series.Series.{Series}
+use Rattle.host_node.specs.declared.series.Series.TheVariants.{Idle, Due, Running}
+use Rattle.host_model.specs.State.{HostState, node_of}
+use Rattle.host_model.specs.After.{is_full}
+use Rattle.host_model.specs.Events.{HostEvent, Drops_no_more, Queues_no_more}
+use Rattle.host_model.specs.Pumping.{no_more_event, GivesNext, IsServedBy, IsNextOf, IsNextOfNodes}
+use Rattle.host_model.specs.Ticking.{tick_events}
+use Rattle.host_model.proofs.Own.{IsOwn, tick_own}
+use Rattle.outside_model.specs.Events.{Begins_line}
+use Rattle.world_model.specs.State.{Machine}
+use Rattle.world_model.specs.Events.{Event, Outside_does, entries, happens, May}
+use Rattle.world_model.specs.Did.{AllAlong}
+use Rattle.proof_spoken.specs.Said.{AllTell}
+use Rattle.proof_walk.specs.ByLine.{begun}
+use Rattle.proof_walk.specs.Phases.{Phase, Between, Said_line, Begun, Doing, To_tick, Ticked, Arriving, Giving, Ticking_devices, Ticking_chip, Ticking_decoder, Ticking_host, Sleeping, Submitting, Moving, Moved, Turns, Goes, passes_after}
+use Rattle.proof_walk.specs.Walk.{WalkWhere}
+use Rattle.proof_walk.proofs.Stepping.{Steps, event_then}
+use Rattle.proof_world.specs.Restarts.{AllKeepWell, AllStartWell}
+use Rattle.proof_sending.specs.Asked.{MayAsk}
+use Rattle.proof_sending.specs.Knowing.{IsMine, IsSound, IsWell, KnowSending, Opened, Saying}
+use Rattle.proof_sending.proofs.Effects.{begins_none, effect_left, left_done, left_step, opened_sound}
+use Rattle.proof_sending.proofs.Grounds.{WalkLaws, ground_said}
+use Rattle.proof_sending.proofs.Steps.{mine_step}
+
+-- ---- what the host does of itself
+
+as_own : (event these : HostEvent) → event ≡ these → IsOwn these → IsOwn event
+as_own event these is own = subst IsOwn (sym is) own
+
+no_more_own : (h : HostState) (n : ℕ) → IsOwn (no_more_event h n)
+no_more_own h n = by (is_full h)
+  where
+    by : (full : Bool) → IsOwn (if full then Drops_no_more n else Queues_no_more n)
+    by true = tt
+    by false = tt
+
+gives_own : (h : HostState) (n : ℕ) (text : Option (List ℕ)) (event : HostEvent) → GivesNext h n text event → IsOwn event
+gives_own h n (Some text) event is = as_own event _ is tt
+gives_own h n None event (payload, there, is) = as_own event _ is tt
+
+served_own : (h : HostState) (n : ℕ) (series : Series) (event : HostEvent) → IsServedBy h n series event → IsOwn event
+served_own h n Running event is = gives_own h n (node_of h n).text event is
+served_own h n Due event (plan, more, payload, start, is) = as_own event _ is tt
+served_own h n Idle event (inl is) = as_own event _ is tt
+served_own h n Idle event (inr is) = as_own event _ is tt
+
+nodes_own : (h : HostState) (next : Option ℕ) (event : HostEvent) → IsNextOfNodes h next event → IsOwn event
+nodes_own h None event is = absurd is
+nodes_own h (Some n) event is = served_own h n (node_of h n).series event is
+
+next_own : (h : HostState) (owes : Bool) (queue : List Task) (event : HostEvent) → IsNextOf h owes queue event → IsOwn event
+next_own h true queue event is = as_own event _ is tt
+next_own h false (one ∷ more) event is = as_own event _ is tt
+next_own h false [] event is = nodes_own h (next_of h.nodes h.served) event is
+
+-- ---- the walk
+
+module _ (listing : ℕ → List ℕ) (key : List ℕ) (laws : WalkLaws) where
+  abbrev Know : Phase → List Entry → Machine → Type 0
+  Know = KnowSending listing key
+
+  abbrev Keeps : Phase → List Entry → Machine → Event → Type 0
+  Keeps = Steps (MayAsk listing key) Know
+
+  -- a line is said, and begins
+  said_keeps : (past : List Entry) (m : Machine) (words : List ℕ) (line : Line) → line_of (Said words) ≡ line ∷ [] → IsSound listing key past m
+      → MayAsk listing key past (Said words) × Saying listing key line (past ++ Said words ∷ []) m
+  said_keeps past m words line read sound = (
+    tt,
+    record {
+      before = past;
+      words = words;
+      is = refl;
+      read = read;
+      knew = sound.ground.knows;
+      ground = ground_said listing laws past m words sound.ground;
+      keys = sound.keys;
+      reasoned = sound.reasoned;
+    },
+  )
+
+  begins : (line : Line) (past : List Entry) (m : Machine) → Saying listing key line past m → Keeps (Begun line) past m (Outside_does Begins_line)
+  begins line past m saying =
+      let opened : Opened listing key line past (begun m) = (m, saying, refl) in (
+        subst (λ (told : List Entry). EachAfter (MayAsk listing key) past told) (sym (begins_none m)) tt,
+        subst (λ (told : List Entry). Opened listing key line (past ++ told) (begun m)) (sym (begins_none m)) (subst (λ (l : List Entry). Opened listing key line l (begun m)) (sym (append-nil past)) opened),
+      )
+
+  -- an event that is no line's own
+  mine : (next to : Phase) (event is : Event) (past : List Entry) (m : Machine) → event ≡ is → next ≡ to → IsMine is → May m event → IsWell listing m event → IsSound listing key past m
+      → ((later : List Entry) (n : Machine) → IsSound listing key later n → Know to later n) → Keeps next past m event
+  mine next to event is past m event_is next_is of_none may well sound there =
+      let got = mine_step listing key laws past m is of_none (subst (May m) event_is may) (subst (IsWell listing m) event_is well) sound in
+      event_then (MayAsk listing key) Know next to event is past m event_is next_is (got.0, there (past ++ entries m is) (happens m is) got.1)
+
+  event_keeps : (here next : Phase) (past : List Entry) (m : Machine) (event : Event) → Goes here m event next → May m event → IsWell listing m event → Know here past m → Keeps next past m event
+  event_keeps (Said_line line) next past m event (event_is, next_is) may well known =
+      event_then (MayAsk listing key) Know next (Begun line) event (Outside_does Begins_line) past m event_is next_is (begins line past m known)
+  event_keeps (Doing line (first ∷ left)) next past m event (event_is, next_is) may well known =
+      event_then (MayAsk listing key) Know next (Doing line left) event first past m event_is next_is
+      (left_step listing key laws past m first left (subst (May m) event_is may) (subst (IsWell listing m) event_is well) known)
+  event_keeps (To_tick (suc ticks)) next past m event (event_is, next_is) may well known = mine next (Ticked ticks) event _ past m event_is next_is tt may well known (λ p n k. k)
+  event_keeps (Arriving (suc frames) ticks) next past m event (drawn, route, event_is, next_is) may well known =
+      mine next (Arriving frames ticks) event _ past m event_is next_is tt may well known (λ p n k. k)
+  event_keeps (Giving (suc results) ticks) next past m event (route, event_is, next_is) may well known =
+      mine next (Giving results ticks) event _ past m event_is next_is tt may well known (λ p n k. k)
+  event_keeps (Ticking_devices place (suc count) ticks) next past m event (drawn, route, event_is, next_is) may well known =
+      mine next (Ticking_devices (place + 1) count ticks) event _ past m event_is next_is tt may well known (λ p n k. k)
+  event_keeps (Ticking_chip ticks) next past m event (event_is, next_is) may well known = mine next (Ticking_decoder ticks) event _ past m event_is next_is tt may well known (λ p n k. k)
+  event_keeps (Ticking_decoder ticks) next past m event (event_is, next_is) may well known =
+      mine next (Ticking_host (tick_events m.host.state) ticks) event _ past m event_is next_is tt may well known (λ p n k. (tick_own m.host.state, k))
+  event_keeps (Ticking_host (first ∷ events) ticks) next past m event (event_is, next_is) may well known =
+      mine next (Ticking_host events ticks) event _ past m event_is next_is known.0.0 may well known.1 (λ p n k. (known.0.1, k))
+  event_keeps (Sleeping passes ticks) next past m event (node, wants, event_is, next_is) may well known =
+      mine next (Sleeping passes ticks) event _ past m event_is next_is (no_more_own m.host.state node) may well known (λ p n k. k)
+  event_keeps (Submitting passes ticks) next past m event (asked, is, event_is, next_is) may well known =
+      mine next (Submitting passes ticks) event _ past m event_is next_is (next_own m.host.state m.host.state.requests.owes m.host.state.requests.queue asked is.1) may well known (λ p n k. k)
+  event_keeps (Moving passes ticks) next past m event (rest, ways, event_is, next_is) may well known =
+      mine next (Moved true passes ticks) event _ past m event_is next_is tt may well known (λ p n k. k)
+  event_keeps (Moved has_moved passes ticks) next past m event (rest, items, done, event_is, next_is) may well known =
+      mine next (Sleeping passes ticks) event _ past m event_is next_is tt may well known (λ p n k. k)
+  event_keeps here next past m event goes may well known = absurd goes
+
+  -- a part begins
+  to : (next phase : Phase) (past : List Entry) (m : Machine) → next ≡ phase → Know phase past m → Know next past m
+  to next phase past m is known = subst (λ (q : Phase). Know q past m) (sym is) known
+
+  turn_keeps : (here next : Phase) (past : List Entry) (m : Machine) → Turns here m next → Know here past m → Know next past m
+  turn_keeps (Begun line) next past m (inl (events, is, next_is)) known = to next (Doing line events) past m next_is (effect_left listing key laws line past m events is known)
+  turn_keeps (Begun line) next past m (inr (ticks, line_is, next_is)) known = to next (To_tick ticks) past m next_is (opened_sound listing key laws line past m known)
+  turn_keeps (Doing line []) next past m next_is known = to next (Sleeping 64 0) past m next_is (left_done listing key laws past m known)
+  turn_keeps (To_tick zero) next past m next_is known = to next Between past m next_is known
+  turn_keeps (Ticked ticks) next past m next_is known = to next _ past m next_is known
+  turn_keeps (Arriving zero ticks) next past m next_is known = to next _ past m next_is known
+  turn_keeps (Giving zero ticks) next past m next_is known = to next _ past m next_is known
+  turn_keeps (Ticking_devices place zero ticks) next past m next_is known = to next _ past m next_is known
+  turn_keeps (Ticking_host [] ticks) next past m next_is known = to next (Sleeping 64 ticks) past m next_is known.1
+  turn_keeps (Sleeping passes ticks) next past m (wants, next_is) known = to next (Submitting passes ticks) past m next_is known
+  turn_keeps (Submitting zero ticks) next past m (pumped, next_is) known = to next (To_tick ticks) past m next_is known
+  turn_keeps (Submitting (suc passes) ticks) next past m (pumped, next_is) known = to next (Moving passes ticks) past m next_is known
+  turn_keeps (Moving passes ticks) next past m (still, next_is) known = to next (Moved false passes ticks) past m next_is known
+  turn_keeps (Moved has_moved passes ticks) next past m (still, next_is) known = to next (Sleeping (passes_after has_moved passes) ticks) past m next_is known
+  turn_keeps here next past m turns known = absurd turns
+
+  pub sending_walk : WalkWhere (IsWell listing) (MayAsk listing key) (KnowSending listing key)
+  sending_walk = record { said = said_keeps; event = event_keeps; turn = turn_keeps }
+
+-- events one after another have what the walk asks of each
+pub all_well : (listing : ℕ → List ℕ) (m : Machine) (events : List Event) → AllStartWell m events → AllKeepWell m events → AllTell listing m events → AllAlong (IsWell listing) m events
+all_well listing m [] starts keeps tells = tt
+all_well listing m (event ∷ events) starts keeps tells = (((starts.0, keeps.0), tells.0), all_well listing (happens m event) events starts.1 keeps.1 tells.1)

@@ -1,0 +1,50 @@
+-- The walk goes along all lines, from a host that has nothing to send.
+use Rattle.std.proofs.Common.{[], Some, refl}
+use Rattle.device_kinds.specs.Sealing.{keys_of}
+use Rattle.law_transcript.specs.Nodes.{listing_of}
+use Rattle.world_model.specs.State.{first_machine}
+use Rattle.world_lines.specs.Done.{events_of}
+use Rattle.proof_spoken.proofs.SpokenLines.{all_lines, all_may, lines_of}
+use Rattle.proof_walk.proofs.Where.{where_stand}
+use Rattle.proof_sending.specs.Asked.{IsAsked, MayAsk}
+use Rattle.proof_sending.specs.Knowing.{IsWell, KnowSending}
+use Rattle.proof_sending.proofs.Reasoned.{first_is}
+use Rattle.proof_sending.proofs.Walking.{all_well, sending_walk}
+use Rattle.proof_sending.proofs.lines.lines_send_what_was_asked.Goals as goal
+
+pub returns : goal.returns
+returns c = λ key devices lines are.
+    let keys = keys_of key in
+    let m = first_machine keys (Some []) devices in
+    let listing = listing_of devices in
+    let events = events_of lines in
+    let these = all_lines m lines are in
+    let may = all_may m lines are in
+    let facts = c.the_machine_keeps_facts.ensures.first keys (Some []) devices in
+    let keeps = c.lines_keep_and_ask_well.ensures keys devices (lines_of lines) events these may in
+    let starts = c.restarts_go_on.ensures.all [] m events facts (c.restarts_go_on.ensures.first keys (Some []) refl) may keeps.0 in
+    let tells = c.interviews_tell_what_nodes_list.ensures.tell keys devices (lines_of lines) events these may in
+    where_stand (IsWell listing) (MayAsk listing key) (KnowSending listing key) (sending_walk listing key (record {
+      hosts = record {
+        event_keeps = c.events_keep_facts.ensures.each;
+        orders_stay = c.tables_keep_orders.ensures.host;
+        texts_left = record {
+          aside = c.hosts_leave_nonces.ensures.aside;
+          starts = c.hosts_leave_nonces.ensures.starts;
+          seals = c.hosts_leave_nonces.ensures.seals;
+          sends = c.hosts_leave_nonces.ensures.sends;
+        };
+      };
+      go_on = c.the_machine_keeps_facts.ensures.all;
+      aside = c.asides_keep_facts.ensures;
+      stand = c.laws_follow.ensures.laws;
+      knows = c.interviews_give_what_is_known.ensures.each;
+      carried = c.orders_are_carried_as_said.ensures;
+      from = c.callback_ids.ensures.from_one;
+      to = c.callback_ids.ensures.to_max;
+    })) [] m lines are (all_well listing m events starts.0 keeps.0 tells)
+    (record {
+      ground = record { facts = facts; knows = c.interviews_give_what_is_known.ensures.first listing keys; said = tt };
+      keys = refl;
+      reasoned = first_is (IsAsked listing []) keys;
+    })

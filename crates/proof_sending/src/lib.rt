@@ -1,0 +1,23 @@
+//! What a host asks its chip to send, and why: by its own tables, and by the transcript of a run.
+//!
+//! Of one host, `hosts_send_for_reasons` says that each payload that it asks to be sent has its reason;
+//! `what_is_judged_gives_reasons` has the reasons that nodes give, and `lines_ask_for_what_is_queued` those of lines;
+//! `frames_ask_for_their_purpose` says that a frame asks for what its purpose is, and nothing else. By
+//! `hosts_ask_what_is_due` the payload is due by the transcript, where that shows the reason.
+//! `lines_send_what_was_asked` says so of every run of lines, but for who asked for a nonce, or gave one. Each is the
+//! contract of a function with an empty body.
+//! The definitions are in `specs/`: `Reasons` (why a payload may be sent, by the tables of the host), `Heard` (what
+//! nodes say that is a reason), `Due` (the same as `Reasons`, by the transcript), `Asked` (the law of runs) and
+//! `Knowing` (what is known at each phase of a line).
+#![tactic(auto)]
+
+mod asked;
+mod lines;
+mod reasons;
+
+pub use asked::lines_ask_for_what_is_queued;
+pub use lines::lines_send_what_was_asked;
+pub use reasons::{
+    frames_ask_for_their_purpose, hosts_ask_what_is_due, hosts_send_for_reasons,
+    what_is_judged_gives_reasons,
+};

@@ -1,0 +1,41 @@
+//! What hosts send in the lines of a run.
+
+ghost use Rattle.std.specs.Prelude.{Some, ℕ, List, []};
+ghost use Rattle.device_sim.specs.State.{State};
+ghost use Rattle.device_kinds.specs.Sealing.{keys_of};
+ghost use Rattle.law_transcript.specs.Nodes.{listing_of};
+ghost use Rattle.world_model.specs.State.{first_machine};
+ghost use Rattle.world_lines.specs.Spoken.{Spoken, transcript_of};
+ghost use Rattle.world_lines.specs.Done.{AreDone};
+ghost use Rattle.proof_sending.specs.Asked.{SendsWhatWasAsked};
+
+use host_requests::callback_ids;
+use proof_host::{asides_keep_facts, events_keep_facts, laws_follow};
+use proof_messages::hosts_leave_nonces;
+use proof_spoken::{
+    interviews_give_what_is_known, interviews_tell_what_nodes_list, orders_are_carried_as_said,
+    tables_keep_orders,
+};
+use proof_world::{lines_keep_and_ask_well, restarts_go_on, the_machine_keeps_facts};
+
+/// In every run of lines over a keeper that tells its records and has none at first: each payload that the host asks its chip to send is the message of the
+/// last session of its node, as the transcript shows the order and the classes by which it is carried (plain, a segment of it, or sealed), a Nonce Get, a
+/// Nonce Report, a No More Information, or the Set or Get that a line asked for. That a node asked for the nonce that it is given, and gave the one that
+/// a message is sealed for, is left open here.
+pub fn lines_send_what_was_asked()
+    ensures { (key : List ℕ) (devices : List State) (lines : List Spoken) → AreDone (first_machine (keys_of key) (Some []) devices) lines →
+        SendsWhatWasAsked (listing_of devices) key (transcript_of (first_machine (keys_of key) (Some []) devices) lines) }
+{
+    events_keep_facts();
+    asides_keep_facts();
+    laws_follow();
+    hosts_leave_nonces();
+    tables_keep_orders();
+    interviews_give_what_is_known();
+    orders_are_carried_as_said();
+    interviews_tell_what_nodes_list();
+    the_machine_keeps_facts();
+    restarts_go_on();
+    lines_keep_and_ask_well();
+    callback_ids();
+}
