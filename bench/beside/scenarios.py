@@ -1,13 +1,15 @@
 #!/usr/bin/env python3
 """Random scenarios of an independent model of the program: its transcripts by the laws, and beside those of the program.
 
-  bench/beside/scenarios.py MODEL [--program PROGRAM] [--seed S] [--count N] [--seconds T] [--kinds KIND,..] [--without-laws] [--out FOLDER]
+  bench/beside/scenarios.py MODEL [--program PROGRAM] [--seed S] [--count N] [--seconds T] [--kinds KIND,..] [--without-laws] [--audited]
+                            [--out FOLDER]
 
 MODEL is the folder of the model, which is no part of this repository. Scenario number i, from S on, is of the kind at i in a list in which each
 kind stands as often as it weighs. The kinds of `sim` are the profiles of the model; with each second one calm stretches follow its random lines. The
 others are the commands `replay`, `events`, `include`, `check` and `audit`. What the model gives for `sim` and `replay` is judged by
 tools/laws_of_transcripts, and with --by-text that of `sim` also by the text of the laws; --most-lines makes scenarios short. With a program it is
-given the same input, and what it writes and its status are compared; drawn bytes are masked. A failing keeper is the model's alone.
+given the same input, and what it writes and its status are compared; drawn bytes are masked. A failing keeper is the model's alone. With --audited
+the program also judges, by its command `audit`, what it wrote for `sim`, and must say `yes`.
 
 Each violation or difference is told at once, with the file of a smaller input in FOLDER; every 100 scenarios, and at the end, a line tells the sums.
 """
@@ -193,6 +195,17 @@ class Runs:
         if found:
             self.tell("difference", kind, seed, smaller(lines, lambda fewer: self.model.differs(program, words, fewer)), found)
 
+    def audited(self, kind, seed, lines):
+        """Has the program judge what it writes for `sim`."""
+        program = self.options.program
+        self.counts["audited"] += 1
+
+        def said(fewer):
+            return self.model.program(program, ("audit",), self.model.program(program, ("sim",), fewer)[0])
+        told, status = said(lines)
+        if (told, status) != (["yes"], 0):
+            self.tell("not in order", kind, seed, smaller(lines, lambda fewer: said(fewer) != (["yes"], 0)), f"status {status}: {told}")
+
     def one(self, kind, seed):
         """A scenario."""
         self.kinds[kind] += 1
@@ -214,10 +227,12 @@ class Runs:
             self.by_text(kind, seed, lines, written)
         if self.options.program and not failing:
             self.beside(kind, seed, ("sim",), lines, (written, 0))
+            if self.options.audited:
+                self.audited(kind, seed, lines)
 
     def sums(self, seed):
         """The sums so far."""
-        names = ("judged", "entries", "stretches", "violation", "by text", "violation by text", "compared", "difference")
+        names = ("judged", "entries", "stretches", "violation", "by text", "violation by text", "compared", "difference", "audited", "not in order")
         told = ", ".join(f"{name} {self.counts[name]}" for name in names)
         each = " ".join(f"{kind} {count}" for kind, count in sorted(self.kinds.items()))
         print(f"up to seed {seed}, {time.process_time():.0f} s of processor: {told}; {each}", flush=True)
@@ -234,6 +249,7 @@ def main():
     parser.add_argument("--kinds")
     parser.add_argument("--without-laws", dest="laws", action="store_false")
     parser.add_argument("--by-text", action="store_true")
+    parser.add_argument("--audited", action="store_true")
     parser.add_argument("--most-lines", type=int, default=0)
     parser.add_argument("--out", default="/tmp/moundurn-beside")
     options = parser.parse_args()
@@ -251,7 +267,7 @@ def main():
         if (seed - options.seed) % 100 == 99:
             runs.sums(seed)
     runs.sums(seed)
-    return 1 if runs.counts["violation"] or runs.counts["violation by text"] or runs.counts["difference"] else 0
+    return 1 if runs.counts["violation"] or runs.counts["violation by text"] or runs.counts["difference"] or runs.counts["not in order"] else 0
 
 
 if __name__ == "__main__":

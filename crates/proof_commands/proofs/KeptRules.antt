@@ -17,6 +17,8 @@ use Rattle.world_model.specs.Events.{Event}
 use Rattle.world_model.specs.Did.{entries_all}
 use Rattle.world_lines.specs.Spoken.{Spoken, after_all, transcript_of}
 use Rattle.world_lines.specs.Done.{AreDone}
+use Rattle.world_lines.specs.Whole.{AreWhole}
+use Rattle.law_wire.specs.Shown.{ShowsDevices}
 use Rattle.run_lines.specs.declared.status.Status.TheVariants.{Ok as all_well}
 use Rattle.proof_device.specs.Showing.{AreApart, IsShown}
 use Rattle.proof_world.specs.Devices.{GroupsSessions}
@@ -30,13 +32,13 @@ use Rattle.proof_audit.specs.Tables.{StoresDirectly}
 use Rattle.proof_audit.specs.Whole.{KeepsRules}
 use Rattle.proof_audit.proofs.KindsStay.{kinds_stay}
 use Rattle.proof_commands.specs.Around.{Around}
-use Rattle.proof_commands.specs.Laws.{Ran, AreSchedules, StoriesKeepLaws, TellsAtRestarts, first, last, transcript}
+use Rattle.proof_commands.specs.Laws.{Ran, StoriesKeepLaws, TellsAtRestarts, first, last, transcript}
 use Rattle.proof_commands.specs.Sim.{IsAuditable, Tells, WritesInOrder}
 use Rattle.proof_commands.proofs.Further.{reads_as, told as story_of, whole_devices}
 use Rattle.proof_commands.proofs.ReadBack.{ReadingBack, entries_back, in_order}
 use Rattle.proof_commands.proofs.Speaking.{all_done, all_said}
-use Rattle.proof_commands.proofs.Tables.{ends_whole}
-use Rattle.proof_commands.proofs.Told.{fresh}
+use Rattle.proof_commands.proofs.Tables.{ends_whole, whole_said}
+use Rattle.proof_commands.proofs.Told.{ToldStory, fresh}
 
 -- a session that changed a device had begun before, where the keys of the network are these
 abbrev pub BegunBy : (List ℕ → Keys) → Type 0
@@ -54,6 +56,10 @@ pub record Keeping : Type 0 where
   pub back : ReadingBack
   pub stories : (key : List ℕ) (old new : Around) → StoriesKeepLaws key old new
   pub asked : (whole : Bool) (devices : List State) (T : List Entry) → AllByRecursion IsOfItsKind devices → AnswersLines whole devices T → AreAsked (listing_of devices) T
+  pub answered : (keys : Keys) (devices : List State) (lines : List Spoken) → AreDone (first_machine keys (Some []) devices) lines
+      → AreWhole (first_machine keys (Some []) devices) lines → AnswersLines true devices (transcript_of (first_machine keys (Some []) devices) lines)
+  pub shown : (keys : Keys) (devices : List State) (lines : List Spoken) → AreDone (first_machine keys (Some []) devices) lines → AreApart devices
+      → ShowsDevices devices (transcript_of (first_machine keys (Some []) devices) lines)
   pub whole : (m : Machine) (lines : List Spoken) → AreDone m lines → ArePieces (after_all m lines).outside.devices (transcript_of m lines)
   pub begun : BegunBy keys_of
   pub lines : (T : List Entry) → AreLegible T → ShowLines T
@@ -64,23 +70,24 @@ pub record Keeping : Type 0 where
   pub rules : (before after : List State) (ticks : ℕ) (T : List Entry) → KeepsLaws before after T → KeepsRules (T ++ table_of (listing_of before) ticks T after)
 
 module _ (laws : Keeping) (key : List ℕ) (old new : Around) (story : List Ran) (unentered : List Event) (tells : Tells all_well false key old new story unentered)
-    (good : IsAuditable key old) where
+    (good : IsAuditable key old story) where
   abbrev T : List Entry
   T = transcript key old story
 
   at_restarts : TellsAtRestarts old story
-  at_restarts = λ asked. good.fair.told
+  at_restarts = good.fair.told
 
   none : unentered ≡ []
   none = (ends_whole false key old new story unentered tells).all_entered
 
-  schedules : AreSchedules (first key old) story
-  schedules = (ends_whole false key old new story unentered tells).schedules
+  told : ToldStory key old story
+  told = story_of key old new story unentered tells.is at_restarts
 
   done : AreDone (fresh key old) (all_said story)
-  done =
-      let told = story_of key old new story unentered tells.is at_restarts in
-      all_done laws.back.again (fresh key old) story tells.is.read told.begun told.may
+  done = all_done laws.back.again (fresh key old) story tells.is.read told.begun told.may
+
+  whole : AreWhole (fresh key old) (all_said story)
+  whole = whole_said (fresh key old) story (told.schedules (ends_whole false key old new story unentered tells).schedules)
 
   as_read : transcript_of (fresh key old) (all_said story) ≡ T
   as_read = reads_as key old new story unentered tells.is at_restarts
@@ -100,23 +107,24 @@ module _ (laws : Keeping) (key : List ℕ) (old new : Around) (story : List Ran)
       let same = each.same story unentered is in
       record {
         host = each.orders story unentered is well;
-        asked = laws.asked true old.devices T good.kinds (each.answers story unentered is fair.told true (λ whole. schedules));
-        headline = each.whole_headline story unentered is (record { told = at_restarts; made = fair.made }) good.first;
-        changes = of_all IsShown (each.shown story unentered is fair.made fair.apart);
+        asked = laws.asked true old.devices T good.kinds
+            (subst (AnswersLines true old.devices) as_read (laws.answered (keys_of key) old.devices (all_said story) done whole));
+        headline = each.whole_headline story unentered is fair good.first;
+        changes = of_all IsShown (each.shown story unentered is fair.made good.apart);
         kinds = kinds_stay old.devices new.devices same good.kinds;
-        groups = of_all GroupsSessions (each.groups story unentered is fair.made fair.apart);
-        apart = stays_apart old.devices new.devices same fair.apart;
+        groups = of_all GroupsSessions (each.groups story unentered is fair.made good.apart);
+        apart = stays_apart old.devices new.devices same good.apart;
         whole = subst (λ (l : List State). ArePieces l T) (sym (whole_devices key old new story unentered is at_restarts none))
             (subst (ArePieces (after_all (fresh key old) (all_said story)).outside.devices) as_read (laws.whole (fresh key old) (all_said story) done));
         begun = subst ChangesBegun as_read
-            (laws.begun key old.devices (all_said story) fair.made fair.apart done);
+            (laws.begun key old.devices (all_said story) fair.made good.apart done);
         lines = laws.lines T (entries_back laws.back key old new false story unentered tells at_restarts);
         numbers = each.numbers story unentered is;
         fates = each.fares story unentered is (inr well) false (λ whole. absurd cc);
         ticks = each.ticks story unentered is;
         carries = subst CarriesWhole as_read (laws.carries (keys_of key) old.devices (all_said story) done);
         stores = subst (StoresDirectly (listing_of old.devices)) as_read (laws.stores (keys_of key) old.devices (all_said story) good.kinds done);
-        shows = each.shows story unentered is fair.told fair.apart;
+        shows = subst (ShowsDevices old.devices) as_read (laws.shown (keys_of key) old.devices (all_said story) done good.apart);
       }
 
   pub answers : WritesInOrder old new

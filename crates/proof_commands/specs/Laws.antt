@@ -43,6 +43,7 @@ use Rattle.law_host.specs.HostLegal.{ShowsValues}
 use Rattle.proof_line.specs.Arrivals.{ClearsWholeUnits}
 use Rattle.proof_line.specs.Rooms.{AnswersFrames}
 use Rattle.proof_line.specs.Pipes.{ClearsAtRestarts, ClearsNowhereElse, OverrunsOnlyWhenFull}
+use Rattle.proof_transcript.specs.Carrying.{CarriesWhole}
 use Rattle.proof_transcript.specs.Lines.{IsNoRepeat}
 use Rattle.proof_world.specs.Devices.{GroupsSessions}
 use Rattle.proof_world.specs.Restarts.{AllKeepWell, BeginsEmpty}
@@ -313,6 +314,10 @@ MarksAsAsked key old new = AlwaysOf key old new (λ story. MarksUnits (transcrip
 abbrev pub CarriesWhatWasAsked : List ℕ → Around → Around → Type 0
 CarriesWhatWasAsked key old new = AlwaysOf key old new (λ story. old.records ≡ Some [] → CarriesUnits (transcript key old story))
 
+-- and of these units only those count that arrive as the whole text of a request
+abbrev pub CarriesWhatWasWhole : List ℕ → Around → Around → Type 0
+CarriesWhatWasWhole key old new = AlwaysOf key old new (λ story. old.records ≡ Some [] → CarriesWhole (transcript key old story))
+
 -- each payload that the chip writes the host from a node was heard before
 abbrev pub BringsHeard : List ℕ → Around → Around → Type 0
 BringsHeard key old new = AlwaysOf key old new (λ story. BringsWhatWasHeard (transcript key old story))
@@ -410,6 +415,7 @@ pub record StoriesKeepLaws (key : List ℕ) (old new : Around) : Type 0 where
   pub done_by : DoneByNodes key old new
   pub devices : DoesAsShown key old new
   pub carries : CarriesWhatWasAsked key old new
+  pub carries_whole : CarriesWhatWasWhole key old new
   pub brings : BringsHeard key old new
   pub collides : CollidesAsAsked key old new
   pub marks : MarksAsAsked key old new

@@ -15,6 +15,7 @@ use Rattle.run_lines.specs.declared.status.Status.{Status}
 use Rattle.run_lines.specs.declared.status.Status.TheVariants.{Ok}
 use Rattle.run_lines.specs.Lines.{TextLine, lines_in}
 use Rattle.run_sim.specs.Sim.{SimRan, shown_text}
+use Rattle.proof_device.specs.Showing.{AreApart}
 use Rattle.law_transcript.specs.Nodes.{first_node, listing_of}
 use Rattle.law_transcript.specs.Restarts.{ticks_asked}
 use Rattle.law_transcript.specs.Table.{table_of}
@@ -22,7 +23,7 @@ use Rattle.proof_audit.specs.Books.{IsOfItsKind}
 use Rattle.proof_audit.specs.Whole.{AnswersYes}
 use Rattle.proof_headline.specs.Supervised.{IsSupervisedNode}
 use Rattle.proof_commands.specs.Around.{Around}
-use Rattle.proof_commands.specs.Laws.{AreSchedules, IsFairWorld, IsStory, Ran, TellsAtRestarts, events_of, first, lines_of, transcript}
+use Rattle.proof_commands.specs.Laws.{AreSchedules, IsFairRun, IsStory, Ran, TellsAtRestarts, events_of, first, lines_of, transcript}
 
 -- `sim` ran so, with what it was given and what it leaves
 abbrev pub RunsSim : Status → Bool → List ℕ → Around → Around → Type 0
@@ -84,17 +85,17 @@ EndsWithTable ended key old new =
 abbrev pub WritesInOrder : Around → Around → Type 0
 WritesInOrder old new = (text : List ℕ) × Appends old.written new.written text × AnswersYes text
 
--- Over a keeper that tells its records and had none at first, with devices as their makers left them, one a node, each of the kind that the number of its node tells, and node 2 among
--- those that take commands in sessions.
-pub record IsAuditable (key : List ℕ) (old : Around) : Type 0 where
-  pub fair : IsFairWorld key old
+-- In a fair run, with one device a node, each of the kind that the number of its node tells, and node 2 among those that take commands in sessions.
+pub record IsAuditable (key : List ℕ) (old : Around) (story : List Ran) : Type 0 where
+  pub fair : IsFairRun key old story
+  pub apart : AreApart old.devices
   pub kinds : AllByRecursion IsOfItsKind old.devices
   pub first : IsSupervisedNode old.devices first_node
 
 -- so ends every run without `--quiet` that ends well
 abbrev pub IsAudited : Status → List ℕ → Around → Around → Type 0
 IsAudited ended key old new =
-    ended ≡ Ok → (story : List Ran) (unentered : List Event) → Tells ended false key old new story unentered → IsAuditable key old
+    ended ≡ Ok → (story : List Ran) (unentered : List Event) → Tells ended false key old new story unentered → IsAuditable key old story
     → WritesInOrder old new
 
 -- ---- all of it

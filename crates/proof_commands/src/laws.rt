@@ -8,6 +8,7 @@ ghost use Rattle.proof_commands.specs.Laws.{
   AppliesOnce,
   BringsHeard,
   CarriesWhatWasAsked,
+  CarriesWhatWasWhole,
   ClearsNothingElse,
   ClearsUnits,
   ClearsWhenRestarted,
@@ -49,7 +50,7 @@ ghost use Rattle.proof_commands.specs.Laws.{
 
 use crate::lines_are_read_as_said;
 use proof_air::{lines_are_done_by_devices, lines_bring_what_was_heard, lines_land_in_time};
-use proof_devices::{devices_do_at_once, lines_run_as_far, lines_run_as_shown};
+use proof_devices::devices_did;
 use proof_fates::{lines_meet_what_is_due, lines_repeat_what_is_asked};
 use proof_headline::{
     askable_nodes_have_the_headline, devices_as_made_begin_courses, nodes_have_the_headline,
@@ -66,9 +67,9 @@ use proof_routes::{
 };
 use proof_transcript::{
     all_frames_land_in_the_end, commands_are_taken_back_when_asked, lines_are_answered,
-    lines_carry_units, lines_lose_marked_frames, lines_number_frames, lines_show_what_is_kept,
-    records_are_what_is_shown, sessions_begin_with_their_unit, ticks_decide_each_frame,
-    values_are_stored_as_asked,
+    lines_carry_units, lines_carry_whole_units, lines_lose_marked_frames, lines_number_frames,
+    lines_show_what_is_kept, records_are_what_is_shown, sessions_begin_with_their_unit,
+    ticks_decide_each_frame, values_are_stored_as_asked,
 };
 use proof_world::{
     lines_keep_and_ask_well, restarts_go_on, runs_take_once, the_machine_keeps_facts,
@@ -180,6 +181,7 @@ fn stories_keep_air_laws()
     ensures repeats { (key : List ℕ) (old new : Around) → RepeatsAsAsked key old new }
     ensures meets { (key : List ℕ) (old new : Around) → MeetsFates key old new }
     ensures carries { (key : List ℕ) (old new : Around) → CarriesWhatWasAsked key old new }
+    ensures carries_whole { (key : List ℕ) (old new : Around) → CarriesWhatWasWhole key old new }
     ensures brings { (key : List ℕ) (old new : Around) → BringsHeard key old new }
     ensures collides { (key : List ℕ) (old new : Around) → CollidesAsAsked key old new }
     ensures marks { (key : List ℕ) (old new : Around) → MarksAsAsked key old new }
@@ -204,6 +206,7 @@ fn stories_keep_air_laws()
     lines_repeat_what_is_asked();
     lines_meet_what_is_due();
     lines_carry_units();
+    lines_carry_whole_units();
     lines_bring_what_was_heard();
     lines_collide_when_asked();
     lines_mark_units();
@@ -231,8 +234,5 @@ fn stories_do_as_shown()
 {
     lines_are_read_as_said();
     lines_are_done_by_devices();
-    lines_run_as_shown();
-    lines_run_as_far();
-    devices_do_at_once();
-    stories_take_once();
+    devices_did();
 }

@@ -13,7 +13,9 @@ use proof_audit::{
     frames_keep_the_rule_of_the_air, kept_rules_answer_yes, laws_keep_every_rule, lines_show_texts,
     sessions_begin_before_changes, values_are_stored_directly,
 };
-use proof_transcript::{lines_carry_whole_units, tables_are_what_is_shown};
+use proof_transcript::{
+    lines_are_answered, lines_carry_whole_units, lines_show_what_is_kept, tables_are_what_is_shown,
+};
 
 /// Every run of `sim` has a story, and one that ends well writes its table, and is in order as `audit` judges.
 pub fn sim_keeps_laws()
@@ -53,6 +55,8 @@ fn runs_are_in_order()
     entries_are_legible();
     kept_rules_answer_yes();
     every_story_keeps_laws();
+    lines_are_answered();
+    lines_show_what_is_kept();
     accepted_orders_were_asked();
     changes_are_entered_whole();
     sessions_begin_before_changes();

@@ -34,6 +34,7 @@ returns c = λ key old new. record {
   done_by = c.stories_do_as_shown.ensures.done_by key old new;
   devices = c.stories_do_as_shown.ensures.devices key old new;
   carries = c.stories_keep_air_laws.ensures.carries key old new;
+  carries_whole = c.stories_keep_air_laws.ensures.carries_whole key old new;
   brings = c.stories_keep_air_laws.ensures.brings key old new;
   collides = c.stories_keep_air_laws.ensures.collides key old new;
   marks = c.stories_keep_air_laws.ensures.marks key old new;

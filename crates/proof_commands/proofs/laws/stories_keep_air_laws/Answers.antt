@@ -18,6 +18,7 @@ use Rattle.world_lines.specs.Done.{AreDone}
 use Rattle.world_lines.specs.Whole.{AreWhole}
 use Rattle.proof_host.specs.Laws.{HostLaws}
 use Rattle.world_lines.specs.Spoken.{transcript_of}
+use Rattle.proof_transcript.specs.Carrying.{CarriesWhole}
 use Rattle.proof_transcript.specs.Lines.{RepeatsNone}
 use Rattle.host_core.specs.Network.{keys_of}
 use Rattle.proof_commands.specs.Around.{Around}
@@ -136,6 +137,12 @@ returns-clause-carries c = λ key old new story unentered is none.
     (c.lines_carry_units.ensures (keys_of key) old.devices (all_said story)
     (subst (λ (m : Machine). AreDone m (all_said story)) (same_first key old story [] none) (story_done c.lines_are_read_as_said.ensures key old new story unentered is)))
 
+pub returns-clause-carries_whole : goal.returns-clause-carries_whole
+returns-clause-carries_whole c = λ key old new story unentered is none.
+    subst (λ (l : List Entry). CarriesWhole l) (same_told key old story [] none)
+    (c.lines_carry_whole_units.ensures (keys_of key) old.devices (all_said story)
+    (subst (λ (m : Machine). AreDone m (all_said story)) (same_first key old story [] none) (story_done c.lines_are_read_as_said.ensures key old new story unentered is)))
+
 pub returns-clause-lands : goal.returns-clause-lands
 returns-clause-lands c = λ key old new story unentered is whole all.
     subst (λ (l : List Entry). LandsInTime (ended whole l)) (same_transcript (first key old) story)
@@ -145,17 +152,19 @@ returns-clause-lands c = λ key old new story unentered is whole all.
 pub returns-clause-repeats : goal.returns-clause-repeats
 returns-clause-repeats c = λ key old new story unentered is well whole all.
     let done = story_done c.lines_are_read_as_said.ensures key old new story unentered is in
+    let numbers = c.lines_number_frames.ensures (keys_of key) old.records old.devices (all_said story) done in
     let sessions = (subst (λ (l : List Entry). HostLaws l) (sym (same_transcript (first key old) story)) (c.stories_keep_laws.ensures.orders key old new story unentered is well)).sessions_keep in
     subst (λ (l : List Entry). RepeatsWhatIsAsked old.devices (ended whole l)) (same_transcript (first key old) story)
     (either_way whole (RepeatsWhatIsAsked old.devices) (transcript_of (first key old) (all_said story))
-    (λ cut. c.lines_repeat_what_is_asked.ensures.cut (keys_of key) old.records old.devices (all_said story) done sessions)
-    (λ is_whole. c.lines_repeat_what_is_asked.ensures.whole (keys_of key) old.records old.devices (all_said story) done (whole_said (first key old) story (all is_whole)) sessions))
+    (λ cut. c.lines_repeat_what_is_asked.ensures.cut (keys_of key) old.records old.devices (all_said story) done numbers sessions)
+    (λ is_whole. c.lines_repeat_what_is_asked.ensures.whole (keys_of key) old.records old.devices (all_said story) done (whole_said (first key old) story (all is_whole)) numbers sessions))
 
 pub returns-clause-meets : goal.returns-clause-meets
 returns-clause-meets c = λ key old new story unentered is texts tells.
+    let done = subst (λ (m : Machine). AreDone m (all_said story)) (same_first key old story texts tells) (story_done c.lines_are_read_as_said.ensures key old new story unentered is) in
     subst (λ (l : List Entry). MeetsWhatIsDue old.devices l) (same_told key old story texts tells)
-    (c.lines_meet_what_is_due.ensures (keys_of key) texts old.devices (all_said story)
-    (subst (λ (m : Machine). AreDone m (all_said story)) (same_first key old story texts tells) (story_done c.lines_are_read_as_said.ensures key old new story unentered is)))
+    (c.lines_meet_what_is_due.ensures (keys_of key) texts old.devices (all_said story) done
+    (c.lines_number_frames.ensures (keys_of key) (Some texts) old.devices (all_said story) done))
 
 pub returns-clause-overrun : goal.returns-clause-overrun
 returns-clause-overrun c = λ key old new story unentered is none.

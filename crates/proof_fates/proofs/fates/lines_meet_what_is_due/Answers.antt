@@ -13,9 +13,9 @@ use Rattle.proof_fates.proofs.Numbered.{all_meet}
 use Rattle.proof_fates.proofs.fates.lines_meet_what_is_due.Goals as goal
 
 pub returns : goal.returns
-returns c = λ keys texts devices lines are.
+returns c = λ keys texts devices lines are numbered.
     let m : Machine = first_machine keys (Some texts) devices in
-    all_meet devices [] (transcript_of m lines) (c.lines_number_frames.ensures keys (Some texts) devices lines are)
+    all_meet devices [] (transcript_of m lines) numbered
     (lines_stand (MayMeetSo devices) (both_know (Ground devices) KnowNothing)
     (over MayForget (MayMeetSo devices) (Ground devices) KnowNothing
     (frames_walk devices (ground_walk devices c.history_goes_on.ensures.walk c.time_goes_on.ensures.walk (c.devices_live_on.ensures.walk devices))

@@ -16,9 +16,9 @@ use Rattle.proof_fates.proofs.Repeating.{answers_first, known_now}
 use Rattle.proof_fates.proofs.fates.lines_repeat_what_is_asked.Goals as goal
 
 pub returns-clause-cut : goal.returns-clause-cut
-returns-clause-cut c = λ keys records devices lines are begins.
+returns-clause-cut c = λ keys records devices lines are numbered begins.
     let m : Machine = first_machine keys records devices in
-    all_follow devices [] (transcript_of m lines) (c.lines_number_frames.ensures keys records devices lines are) begins
+    all_follow devices [] (transcript_of m lines) numbered begins
     (lines_stand (MayAnswer devices) (both_know (Ground devices) (KnowAnswers devices))
     (answering_walk devices (ground_walk devices c.history_goes_on.ensures.walk c.time_goes_on.ensures.walk (c.devices_live_on.ensures.walk devices))
     (λ past m frame left node apart time acts. c.devices_listen_as_shown.ensures.repeating devices past m frame left node apart time acts)) [] m lines are
@@ -26,7 +26,7 @@ returns-clause-cut c = λ keys records devices lines are begins.
 
 -- an empty line may be said too
 pub returns-clause-whole : goal.returns-clause-whole
-returns-clause-whole c = λ keys records devices lines are whole begins.
+returns-clause-whole c = λ keys records devices lines are whole numbered begins.
     let m : Machine = first_machine keys records devices in
     let told : List Entry = transcript_of m lines in
     let said : Entry = entry.Said [] in
@@ -34,6 +34,6 @@ returns-clause-whole c = λ keys records devices lines are whole begins.
     (answering_walk devices (ground_walk devices c.history_goes_on.ensures.walk c.time_goes_on.ensures.walk (c.devices_live_on.ensures.walk devices))
     (λ past m frame left node apart time acts. c.devices_listen_as_shown.ensures.repeating devices past m frame left node apart time acts)) [] m lines are whole
     (((c.history_goes_on.ensures.first keys records devices, c.time_goes_on.ensures.first keys records devices), c.devices_live_on.ensures.first keys records devices), answers_first devices m) in
-    all_follow devices [] (told ++ said ∷ []) (each-append MayAir [] told (said ∷ []) (c.lines_number_frames.ensures keys records devices lines are) (tt, tt))
+    all_follow devices [] (told ++ said ∷ []) (each-append MayAir [] told (said ∷ []) numbered (tt, tt))
     (each-append MayBegin [] told (said ∷ []) begins (tt, tt))
     (each-append (MayAnswer devices) [] told (said ∷ []) got.0 (known_now devices told (after_all m lines) got.1.1 said, tt))
