@@ -27,7 +27,7 @@ use Rattle.law_transcript.specs.Fates.{FaresInTurn, LosesMarked, NumbersFrames}
 use Rattle.law_transcript.specs.Lists.{EachAfter}
 use Rattle.law_transcript.specs.Headline.{Headline, HeadlineOf, IsAsMade}
 use Rattle.law_transcript.specs.Nodes.{device_of, first_node, is_supervised, listing_of}
-use Rattle.law_transcript.specs.Payloads.{BeginsWithUnit}
+use Rattle.law_transcript.specs.Payloads.{BeginsWithUnit, SendsWhatIsDue}
 use Rattle.law_transcript.specs.Restarts.{is_restart}
 use Rattle.law_transcript.specs.Stores.{StoresConfirmed}
 use Rattle.law_wire.specs.Marks.{CollidesWhenAsked, MarksUnits}
@@ -43,6 +43,7 @@ use Rattle.law_host.specs.HostLegal.{ShowsValues}
 use Rattle.proof_line.specs.Arrivals.{ClearsWholeUnits}
 use Rattle.proof_line.specs.Rooms.{AnswersFrames}
 use Rattle.proof_line.specs.Pipes.{ClearsAtRestarts, ClearsNowhereElse, OverrunsOnlyWhenFull}
+use Rattle.proof_sending.specs.Told.{BringsOpenly, SealsNoNonce, SendsWhatWasTold}
 use Rattle.proof_transcript.specs.Carrying.{CarriesWhole}
 use Rattle.proof_transcript.specs.Lines.{IsNoRepeat}
 use Rattle.proof_world.specs.Devices.{GroupsSessions}
@@ -318,6 +319,16 @@ CarriesWhatWasAsked key old new = AlwaysOf key old new (λ story. old.records �
 abbrev pub CarriesWhatWasWhole : List ℕ → Around → Around → Type 0
 CarriesWhatWasWhole key old new = AlwaysOf key old new (λ story. old.records ≡ Some [] → CarriesWhole (transcript key old story))
 
+-- What the host asks to be sent is due, where a node has told of nonces in what its payloads open to, too. Where none of these opens to what tells of a nonce, and so where the chip
+-- has brought nothing that is sealed, it is due by what was told openly.
+abbrev pub SendsAsTold : List ℕ → Around → Around → Type 0
+SendsAsTold key old new = AlwaysOf key old new (λ story. old.records ≡ Some [] → SendsWhatWasTold (listing_of old.devices) key (transcript key old story))
+
+abbrev pub SendsAsDue : List ℕ → Around → Around → Type 0
+SendsAsDue key old new = AlwaysOf key old new
+    (λ story. old.records ≡ Some [] → EachAfter (SealsNoNonce key) [] (transcript key old story) ⊎ EachAfter BringsOpenly [] (transcript key old story)
+    → SendsWhatIsDue (listing_of old.devices) key (transcript key old story))
+
 -- each payload that the chip writes the host from a node was heard before
 abbrev pub BringsHeard : List ℕ → Around → Around → Type 0
 BringsHeard key old new = AlwaysOf key old new (λ story. BringsWhatWasHeard (transcript key old story))
@@ -416,6 +427,8 @@ pub record StoriesKeepLaws (key : List ℕ) (old new : Around) : Type 0 where
   pub devices : DoesAsShown key old new
   pub carries : CarriesWhatWasAsked key old new
   pub carries_whole : CarriesWhatWasWhole key old new
+  pub sends : SendsAsTold key old new
+  pub sends_due : SendsAsDue key old new
   pub brings : BringsHeard key old new
   pub collides : CollidesAsAsked key old new
   pub marks : MarksAsAsked key old new

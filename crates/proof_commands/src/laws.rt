@@ -38,6 +38,8 @@ ghost use Rattle.proof_commands.specs.Laws.{
   RepeatsAsAsked,
   ReportsAfterChange,
   RoutesFrames,
+  SendsAsDue,
+  SendsAsTold,
   ShowsChanges,
   ShowsKeptDevices,
   ShowsStoredValues,
@@ -65,6 +67,7 @@ use proof_line::{
 use proof_routes::{
     dead_hops_are_forgotten, dead_hops_are_forgotten_in_the_end, frames_go_by_route,
 };
+use proof_sending::{lines_send_what_is_due, lines_send_what_was_told};
 use proof_transcript::{
     all_frames_land_in_the_end, commands_are_taken_back_when_asked, lines_are_answered,
     lines_carry_units, lines_carry_whole_units, lines_lose_marked_frames, lines_number_frames,
@@ -88,6 +91,7 @@ pub fn every_story_keeps_laws()
     stories_have_the_headline();
     stories_keep_air_laws();
     stories_are_legal_on_air();
+    stories_send_what_is_due();
     stories_do_as_shown();
 }
 
@@ -225,6 +229,16 @@ fn stories_are_legal_on_air()
 {
     stories_keep_records();
     stories_keep_air_laws();
+}
+
+/// What hosts send has its reason in lines that were said.
+fn stories_send_what_is_due()
+    ensures told { (key : List ℕ) (old new : Around) → SendsAsTold key old new }
+    ensures due { (key : List ℕ) (old new : Around) → SendsAsDue key old new }
+{
+    lines_are_read_as_said();
+    lines_send_what_was_told();
+    lines_send_what_is_due();
 }
 
 /// The devices did what lines that were said show.

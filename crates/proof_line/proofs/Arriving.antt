@@ -43,7 +43,7 @@ changed_same side unit [] told none = changed_none side unit told none
 changed_same side unit (entry.Garbled on bytes ∷ past) told none = refl
 changed_same side unit (e ∷ past) told none = refl
 
-arriving_same : (side : Side) (unit : List ℕ) (past told : List Entry) → NoMark told → arriving_of side unit (past ++ told) ≡ arriving_of side unit past
+pub arriving_same : (side : Side) (unit : List ℕ) (past told : List Entry) → NoMark told → arriving_of side unit (past ++ told) ≡ arriving_of side unit past
 arriving_same side unit past told none = ap₂ (λ (b : Bool) (t : List ℕ). if b then [] else t ∷ []) (lost_same side past told none) (changed_same side unit past told none)
 
 step_more : (side : Side) (texts : List (List ℕ)) (e next : Entry) (past told : List Entry) → NoMark told → arrived_step side texts e (next ∷ (past ++ told)) ≡ arrived_step side texts e (next ∷ past)
@@ -94,7 +94,7 @@ marks_pass side texts (e ∷ marks) all = absurd all.0
 -- ---- a unit
 
 -- what is told of it
-abbrev marks_of : Side → WayState → LineUnit → List Entry
+abbrev pub marks_of : Side → WayState → LineUnit → List Entry
 marks_of side way unit = told_by side way.bytes (mark_for way.marks unit) (unit_text unit)
 
 own_arrived : (side : Side) (way : WayState) (unit : LineUnit) (past : List Entry) → arrived side (past ++ told side way unit) ≡ arrived side past ++ arriving_of side (unit_text unit) (marks_of side way unit)
@@ -112,7 +112,7 @@ other_arrived side other apart way unit past =
     ∙ ap (λ (b : Bool). arrived other past ++ (if b then arriving_of side (unit_text unit) marks else [])) apart
     ∙ append-nil (arrived other past)
 
-texts_both : (xs ys : List Item) (ts us : List (List ℕ)) → AreTexts xs ts → AreTexts ys us → AreTexts (xs ++ ys) (ts ++ us)
+pub texts_both : (xs ys : List Item) (ts us : List (List ℕ)) → AreTexts xs ts → AreTexts ys us → AreTexts (xs ++ ys) (ts ++ us)
 texts_both [] ys [] us first later = later
 texts_both [] ys (t ∷ ts) us first later = absurd first
 texts_both (x ∷ xs) ys [] us first later = absurd first
@@ -157,7 +157,7 @@ change_is side way Can garbles is = free_is side way Can (Good Can) (tt, refl)
 change_is side way (Framed f) [] is = free_is side way (Framed f) (Good (Framed f)) (is, refl)
 change_is side way (Framed f) (garble ∷ garbles) is = changed_is side way (Framed f) garble (changed_item garble f) (changed_text f garble is)
 
-items_arrive : (side : Side) (way : WayState) (unit : LineUnit) → IsUnit unit → AreTexts (items_of way unit) (arriving_of side (unit_text unit) (marks_of side way unit))
+pub items_arrive : (side : Side) (way : WayState) (unit : LineUnit) → IsUnit unit → AreTexts (items_of way unit) (arriving_of side (unit_text unit) (marks_of side way unit))
 items_arrive side way unit is = by (nat_lt 0 way.marks.drops)
   where
     by : (b : Bool)
@@ -167,11 +167,11 @@ items_arrive side way unit is = by (nat_lt 0 way.marks.drops)
     by false = change_is side way unit way.marks.garbles is
 
 -- and its bytes are added to those on their way
-abbrev flat : List (List ℕ) → List ℕ
+abbrev pub flat : List (List ℕ) → List ℕ
 flat texts = flat_map (λ text. text) texts
 
 module _ (side : Side) (way : WayState) (unit : LineUnit) where
-  abbrev Joins_it : Mark → Type 0
+  abbrev pub Joins_it : Mark → Type 0
   Joins_it mark = (passing way mark (unit_text unit)).bytes ≡ way.bytes ++ flat (arriving_of side (unit_text unit) (told_by side way.bytes mark (unit_text unit)))
 
   none_joins : (lost : Bool) (t : List ℕ) → lost ≡ true → way.bytes ≡ way.bytes ++ flat (if lost then [] else t ∷ [])
@@ -180,7 +180,7 @@ module _ (side : Side) (way : WayState) (unit : LineUnit) where
   text_joins : (t u : List ℕ) → t ≡ u → way.bytes ++ t ≡ way.bytes ++ flat (u ∷ [])
   text_joins t u is = ap (λ (l : List ℕ). way.bytes ++ l) (is ∙ sym (append-nil u))
 
-  joins_by : (mark : Mark) → Joins_it mark
+  pub joins_by : (mark : Mark) → Joins_it mark
   joins_by Free = by (fits way.bytes (unit_text unit))
     where
       by : (b : Bool) → (if b then way.bytes ++ unit_text unit else way.bytes) ≡ way.bytes ++ flat (arriving_of side (unit_text unit) (if b then [] else entry.Overrun side ∷ []))

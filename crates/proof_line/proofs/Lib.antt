@@ -12,6 +12,14 @@ mod Hosting
 pub mod Piping
 pub mod Clearing
 mod Arriving
+mod Moments
+mod Serials
+mod LinkSteps
+mod LinkKnown
+mod LinkTold
+mod LinkGoes
+mod LinkLines
+mod LinkChip
 mod Fitting
 mod Tellings
 mod Numbering

@@ -3,4 +3,5 @@ pub mod Marks
 pub mod Times
 pub mod Pipes
 pub mod Arrivals
+pub mod Links
 pub mod Rooms

@@ -39,10 +39,13 @@ use Rattle.proof_spoken.proofs.Plain.{IsPlain}
 use Rattle.proof_spoken.proofs.SaidOrders.{IsSo, order_so}
 use Rattle.proof_walk.specs.ByLine.{begun}
 use Rattle.proof_sending.specs.Reasons.{Reason, HasReason, IsDueTask, IsReasoned}
-use Rattle.proof_sending.specs.Asked.{IsAsked, MayAsk}
+use Rattle.proof_sending.specs.Told.{IsTold, MaySend}
+use Rattle.proof_sending.specs.Arriving.{BringsMore}
 use Rattle.proof_sending.specs.Knowing.{Asking, Grounded, IsRest, IsSound, IsWell, Left, NeedsNone, Opened, Ordering, Resting, RestsHost, Saying}
+use Rattle.proof_sending.proofs.Arrivals.{brings_none, brings_then}
 use Rattle.proof_sending.proofs.AskedLines.{get_asks, send_asks}
 use Rattle.proof_sending.proofs.Grounds.{WalkLaws, ground_goes}
+use Rattle.proof_sending.proofs.Growing.{event_arrives, event_brings, one_brings}
 use Rattle.proof_sending.proofs.HostUnits.{FirstDue, entry_not, none_stand}
 use Rattle.proof_sending.proofs.OutsideUnits.{outside_not}
 use Rattle.proof_sending.proofs.Reasoned.{event_is, opened_is}
@@ -142,14 +145,19 @@ nil_cons a more e = cc
 
 module _ (listing : ℕ → List ℕ) (key : List ℕ) (laws : WalkLaws) where
   -- the reasons that stood before the words of a line still do
-  later_than : (before : List Entry) (words : List ℕ) (told past : List Entry) (h : HostState) → past ≡ before ++ entry.Said words ∷ told → IsReasoned (IsAsked listing before) (keys_of key) h
-      → IsReasoned (IsAsked listing past) (keys_of key) h
-  later_than before words told past h is reasoned =
-      subst (λ (l : List Entry). IsReasoned (IsAsked listing l) (keys_of key) h) (sym is) (reasoned_more listing key before (entry.Said words ∷ told) h refl reasoned)
+  later_than : (before : List Entry) (words : List ℕ) (told past : List Entry) (h : HostState) → past ≡ before ++ entry.Said words ∷ told → BringsMore before past → IsReasoned (IsTold listing key before) (keys_of key) h
+      → IsReasoned (IsTold listing key past) (keys_of key) h
+  later_than before words told past h is more reasoned =
+      subst (λ (l : List Entry). IsReasoned (IsTold listing key l) (keys_of key) h) (sym is)
+      (reasoned_more listing key before (entry.Said words ∷ told) h refl (subst (λ (l : List Entry). BringsMore before l) is more) reasoned)
+
+  -- its words tell nothing of what arrived
+  said_brings : (line : Line) (past : List Entry) (m : Machine) (saying : Saying listing key line past m) → BringsMore saying.before past
+  said_brings line past m saying = subst (λ (l : List Entry). BringsMore saying.before l) (sym saying.is) (one_brings saying.before (entry.Said saying.words) tt)
 
   begun_ground : (past : List Entry) (n : Machine) → Grounded listing past n → Grounded listing past (begun n)
   unfolding happens
-  begun_ground past n ground = record { facts = ground.facts; knows = ground.knows; said = ground.said }
+  begun_ground past n ground = record { facts = ground.facts; knows = ground.knows; said = ground.said; arrives = ground.arrives }
 
   resting : (line : Line) (past : List Entry) (m : Machine) (events : List Event) → Opened listing key line past m → AllByRecursion IsRest events → Resting listing key events past m
   unfolding happens
@@ -160,6 +168,7 @@ module _ (listing : ℕ → List ℕ) (key : List ℕ) (laws : WalkLaws) where
     is = saying.is;
     ground = begun_ground past n saying.ground;
     keys = keys_stay n (Outside_does Begins_line) ∙ saying.keys;
+    grows = said_brings line past n saying;
     reasoned = saying.reasoned;
     rests = rests;
   })
@@ -168,7 +177,7 @@ module _ (listing : ℕ → List ℕ) (key : List ℕ) (laws : WalkLaws) where
   left_done past m (inl done) = record {
     ground = done.ground;
     keys = done.keys;
-    reasoned = later_than done.before done.words done.told past m.host.state done.is done.reasoned;
+    reasoned = later_than done.before done.words done.told past m.host.state done.is done.grows done.reasoned;
   }
   left_done past m (inr (inl ordering)) = absurd (nil_cons _ _ ordering.are)
   left_done past m (inr (inr (inl asking))) = absurd (nil_cons _ _ asking.are)
@@ -224,7 +233,7 @@ module _ (listing : ℕ → List ℕ) (key : List ℕ) (laws : WalkLaws) where
   rest_first past h Queues_probe rests = tt
   rest_first past h event rests = absurd rests
 
-  rest_entries : (past : List Entry) (m : Machine) (event : Event) → IsRest event → May m event → EachAfter (MayAsk listing key) past (entries m event)
+  rest_entries : (past : List Entry) (m : Machine) (event : Event) → IsRest event → May m event → EachAfter (MaySend listing key) past (entries m event)
   unfolding entries May
   rest_entries past m (Outside_does event) rests may = none_stand listing key past (entries_outside m.outside event) (outside_not m.outside event may.0 may.1)
   rest_entries past m (Host_does event) rests may = host_stands listing key laws past m event (rest_first (past ++ _) m.host.state event rests)
@@ -236,21 +245,21 @@ module _ (listing : ℕ → List ℕ) (key : List ℕ) (laws : WalkLaws) where
   rest_entries past m (Restarts state) rests may = tt
 
   rest_reasoned : (before past : List Entry) (m : Machine) (event : Event) → IsRest event → May m event → IsWell listing m event → Grounded listing past m → m.keys ≡ keys_of key
-      → IsReasoned (IsAsked listing before) (keys_of key) m.host.state → IsReasoned (IsAsked listing before) (keys_of key) (happens m event).host.state
+      → IsReasoned (IsTold listing key before) (keys_of key) m.host.state → IsReasoned (IsTold listing key before) (keys_of key) (happens m event).host.state
   unfolding happens May
   rest_reasoned before past m (Outside_does event) rests may well ground keys is = is
   rest_reasoned before past m (Host_does event) rests may well ground keys is =
-      event_is laws.hosts (IsAsked listing before) (keys_of key) past m.host.state event ground.facts may.0 (rest_reason (IsAsked listing before) (keys_of key) m.host.state event rests) is
+      event_is laws.hosts (IsTold listing key before) (keys_of key) past m.host.state event ground.facts may.0 (rest_reason (IsTold listing key before) (keys_of key) m.host.state event rests) is
   rest_reasoned before past m (Host_takes count rest items events) rests may well ground keys is = absurd rests
   rest_reasoned before past m Decoder_ticks rests may well ground keys is = absurd rests
   rest_reasoned before past m (Refuses line refusal) rests may well ground keys is = is
   rest_reasoned before past m (Shows_values node) rests may well ground keys is = is
   rest_reasoned before past m (Restarts state) rests may well ground keys is =
-      opens_reasoned (IsAsked listing before) (keys_of key) m.records state well.0.1 (subst (λ (k : Keys). OpensFrom k m.records state) keys may)
+      opens_reasoned (IsTold listing key before) (keys_of key) m.records state well.0.1 (subst (λ (k : Keys). OpensFrom k m.records state) keys may)
 
   -- of the effect, this event and what is left after it
   abbrev Leaves : List Entry → Machine → Event → List Event → Type 0
-  Leaves past m event left = EachAfter (MayAsk listing key) past (entries m event) × Left listing key left (past ++ entries m event) (happens m event)
+  Leaves past m event left = EachAfter (MaySend listing key) past (entries m event) × Left listing key left (past ++ entries m event) (happens m event)
 
   rest_step : (past : List Entry) (m : Machine) (event : Event) (left : List Event) → May m event → IsWell listing m event → Resting listing key (event ∷ left) past m → Leaves past m event left
   rest_step past m event left may well is = (
@@ -262,6 +271,7 @@ module _ (listing : ℕ → List ℕ) (key : List ℕ) (laws : WalkLaws) where
       is = ap (λ (l : List Entry). l ++ entries m event) is.is ∙ append_assoc is.before (entry.Said is.words ∷ is.told) (entries m event);
       ground = ground_goes listing laws past m event (rest_plain event is.rests.0) may well.0.0 well.1 is.ground;
       keys = keys_stay m event ∙ is.keys;
+      grows = brings_then is.before past (past ++ entries m event) is.grows (event_brings past m event may is.ground.arrives);
       reasoned = rest_reasoned is.before past m event is.rests.0 may well is.ground is.keys is.reasoned;
       rests = is.rests.1;
     }),
@@ -291,11 +301,12 @@ module _ (listing : ℕ → List ℕ) (key : List ℕ) (laws : WalkLaws) where
           facts = subst (λ (l : List Entry). Facts l (happens (begun n) accepts).host.state) same so.facts;
           knows = laws.knows listing past (begun n) accepts may well.1 (begun_ground past n saying.ground).knows;
           said = subst (λ (l : List Entry). AreSaid listing (happens (begun n) accepts).host.state.commands l) same so.said;
+          arrives = event_arrives past (begun n) accepts may saying.ground.arrives;
         }
 
-    order_reasoned : May (begun n) accepts → IsReasoned (IsAsked listing saying.before) (keys_of key) (happens (begun n) accepts).host.state
+    order_reasoned : May (begun n) accepts → IsReasoned (IsTold listing key saying.before) (keys_of key) (happens (begun n) accepts).host.state
     unfolding happens May
-    order_reasoned may = event_is laws.hosts (IsAsked listing saying.before) (keys_of key) past n.host.state (Accepts order carriage) saying.ground.facts may.0 tt saying.reasoned
+    order_reasoned may = event_is laws.hosts (IsTold listing key saying.before) (keys_of key) past n.host.state (Accepts order carriage) saying.ground.facts may.0 tt saying.reasoned
 
     order_goes : May (begun n) accepts → IsWell listing (begun n) accepts → Stands listing key laws past (begun n) accepts
     order_goes may well = (
@@ -304,7 +315,8 @@ module _ (listing : ℕ → List ℕ) (key : List ℕ) (laws : WalkLaws) where
         ground = order_ground may well;
         keys = keys_stay (begun n) accepts ∙ keys_stay n (Outside_does Begins_line) ∙ saying.keys;
         reasoned = later_than saying.before saying.words told (past ++ told) (happens (begun n) accepts).host.state
-            (ap (λ (l : List Entry). l ++ told) saying.is ∙ append_assoc saying.before (entry.Said saying.words ∷ []) told) (order_reasoned may);
+            (ap (λ (l : List Entry). l ++ told) saying.is ∙ append_assoc saying.before (entry.Said saying.words ∷ []) told)
+            (brings_then saying.before past (past ++ told) (said_brings (lines.Command order) past n saying) (event_brings past (begun n) accepts may saying.ground.arrives)) (order_reasoned may);
       },
     )
 
@@ -332,8 +344,8 @@ module _ (listing : ℕ → List ℕ) (key : List ℕ) (laws : WalkLaws) where
     record {
       ground = ground_goes listing laws past m (Host_does (Queues (Plain node payload))) tt may well.0.0 well.1 sound.ground;
       keys = sound.keys;
-      reasoned = reasoned_more listing key past [] (happens m (Host_does (Queues (Plain node payload)))).host.state refl
-          (event_is laws.hosts (IsAsked listing past) (keys_of key) past m.host.state (Queues (Plain node payload)) sound.ground.facts may.0 asked sound.reasoned);
+      reasoned = reasoned_more listing key past [] (happens m (Host_does (Queues (Plain node payload)))).host.state refl (brings_none past)
+          (event_is laws.hosts (IsTold listing key past) (keys_of key) past m.host.state (Queues (Plain node payload)) sound.ground.facts may.0 asked sound.reasoned);
     },
   )
 
@@ -346,7 +358,7 @@ module _ (listing : ℕ → List ℕ) (key : List ℕ) (laws : WalkLaws) where
   -- ---- any of these
 
   pub left_step : (past : List Entry) (m : Machine) (event : Event) (left : List Event) → May m event → IsWell listing m event → Left listing key (event ∷ left) past m
-      → EachAfter (MayAsk listing key) past (entries m event) × Left listing key left (past ++ entries m event) (happens m event)
+      → EachAfter (MaySend listing key) past (entries m event) × Left listing key left (past ++ entries m event) (happens m event)
   left_step past m event left may well (inl is) = rest_step past m event left may well is
   left_step past m event left may well (inr (inl is)) = order_step past m event left may well is
   left_step past m event left may well (inr (inr (inl is))) = queue_step past m event left may well is

@@ -30,6 +30,8 @@ use Rattle.proof_spoken.proofs.SaidOrders.{AsidesKeep, FactsGoOn, plain_so}
 use Rattle.proof_world.specs.Restarts.{StartsWell}
 use Rattle.proof_sending.specs.Due.{AreCarried}
 use Rattle.proof_sending.specs.Knowing.{Grounded}
+use Rattle.proof_sending.proofs.Arrivals.{IsNoUnit}
+use Rattle.proof_sending.proofs.Growing.{event_arrives, one_arrives}
 use Rattle.proof_sending.proofs.Reasoned.{Laws}
 
 -- what is proved of hosts and of the machine
@@ -59,23 +61,24 @@ module _ (listing : ℕ → List ℕ) (laws : WalkLaws) where
   abbrev known_by : ℕ → List Bool → Option (List ℕ)
   known_by node succeeded = if list_any (λ one. one) succeeded then Some (listing node) else known_at_first node
 
-  ground_more : (past : List Entry) (m : Machine) (e : Entry) → IsAside e → ((node : ℕ) → interview_at node e ≡ []) → ((commands : List Command) → MayAnswer listing commands past e)
+  ground_more : (past : List Entry) (m : Machine) (e : Entry) → IsAside e → IsNoUnit e → ((node : ℕ) → interview_at node e ≡ []) → ((commands : List Command) → MayAnswer listing commands past e)
       → Grounded listing past m → Grounded listing (past ++ e ∷ []) m
-  ground_more past m e aside none answer ground = record {
+  ground_more past m e aside no_unit none answer ground = record {
     facts = laws.aside past m.host.state e ground.facts aside;
     knows = λ node. ground.knows node ∙ ap (known_by node) (sym (shown-append (interview_at node) past (e ∷ [])
         ∙ (ap (λ (l : List Bool). interviews node past ++ (l ++ [])) (none node) ∙ append-nil (interviews node past))));
     said = each-append (MayAnswer listing m.host.state.commands) [] past (e ∷ []) ground.said (answer m.host.state.commands, tt);
+    arrives = one_arrives past e no_unit ground.arrives;
   }
 
   pub ground_said : (past : List Entry) (m : Machine) (words : List ℕ) → Grounded listing past m → Grounded listing (past ++ Said words ∷ []) m
-  ground_said past m words ground = ground_more past m (Said words) tt (λ node. refl) (λ commands. tt) ground
+  ground_said past m words ground = ground_more past m (Said words) tt tt (λ node. refl) (λ commands. tt) ground
 
   pub ground_ticked : (past : List Entry) (m : Machine) (o : OuterState) → Grounded listing past m → Grounded listing (past ++ ticked_entry o) m
   ground_ticked past m o ground = by (o.in_tick && not o.stamped)
     where
       by : (b : Bool) → Grounded listing (past ++ (if b then Time o.clock ∷ [] else [])) m
-      by true = ground_more past m (Time o.clock) tt (λ node. refl) (λ commands. tt) ground
+      by true = ground_more past m (Time o.clock) tt tt (λ node. refl) (λ commands. tt) ground
       by false = subst (λ (l : List Entry). Grounded listing l m) (sym (append-nil past)) ground
 
   -- ---- an event that accepts no order
@@ -89,4 +92,5 @@ module _ (listing : ℕ → List ℕ) (laws : WalkLaws) where
         facts = subst (λ (l : List Entry). Facts l (happens m event).host.state) are so.facts;
         knows = laws.knows listing past m event may tells ground.knows;
         said = subst (λ (l : List Entry). AreSaid listing (happens m event).host.state.commands l) are so.said;
+        arrives = event_arrives past m event may ground.arrives;
       }

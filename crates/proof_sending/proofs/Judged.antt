@@ -1,6 +1,6 @@
 -- What the host judges gives its events their reasons.
-use Rattle.std.proofs.Common.{◌≡◌, ℕ, suc, ◌+◌, Bool, true, false, inl, inr, List, [], ◌∷◌, ◌++◌, length, refl, sym, ap, subst, ◌∙◌, arith, length-append}
-use Rattle.std.specs.Prelude.{Option, Some, None, Result, Ok, Err, nat_lt, if◌then◌else◌, slice_index}
+use Rattle.std.proofs.Common.{◌≡◌, ℕ, suc, ◌+◌, ◌-◌, ◌&&◌, nat_le, Bool, true, false, inl, inr, List, [], ◌∷◌, ◌++◌, length, refl, sym, ap, subst, ◌∙◌, arith, length-append}
+use Rattle.std.specs.Prelude.{Option, Some, None, Result, Ok, Err, nat_lt, ◌==◌, if◌then◌else◌, slice_index}
 use Rattle.std.specs.List.{AllByRecursion}
 use Rattle.std.proofs.lemmas.Bool.{cases_Bool}
 use Rattle.zw_base.proofs.Each.{all-both}
@@ -45,16 +45,19 @@ use Rattle.host_model.specs.Did.{after_all, MayAll}
 use Rattle.host_model.specs.May.{May}
 use Rattle.host_model.specs.Events.{HostEvent, Hears, Requests_do, Unreads, Is_unkept, Reports_old, Works, Finishes, Offers, Gives, Spends, Spends_unread, Takes_nonce, Notifies, Resends, Hears_value, Has_no_room}
 use Rattle.host_node.specs.declared.attempt.Moment.TheVariants.{BetweenTicks}
-use Rattle.host_model.specs.Taking.{IsKeptOr, is_secure, FinalEvents, ReportEvents, NonceGetEvents, NonceReportEvents, resent, value_event, value_events, told_if, ends_from, IsTaken, AreTaken, IsOpened, SealedEvents, PayloadEvents, InterviewEvents, ResponseEvents, NoticeEvents, FrameEvents, IsFollowed, AreJudged}
+use Rattle.host_model.specs.Taking.{IsKeptOr, is_secure, named_by, FinalEvents, ReportEvents, NonceGetEvents, NonceReportEvents, resent, value_event, value_events, told_if, ends_from, IsTaken, AreTaken, IsOpened, SealedEvents, PayloadEvents, InterviewEvents, ResponseEvents, NoticeEvents, FrameEvents, IsFollowed, AreJudged}
 use Rattle.proof_host.specs.Entries.{entries_at}
 use Rattle.proof_host.specs.Facts.{Facts}
 use Rattle.proof_messages.proofs.LockSessions.{some_same}
 use Rattle.proof_messages.proofs.Texts.{length-code}
 use Rattle.proof_world.proofs.Always.{one, none, either}
-use Rattle.proof_sending.specs.Reasons.{Reason, HasReason, IsReasoned}
+use Rattle.proof_sending.specs.Reasons.{Reason, HasEight, HasReason, IsEight, IsReasoned}
 use Rattle.proof_sending.specs.Heard.{AreHeardOf, HaveReasons, IsHeardOf, ItemTells, PayloadTells, WritesNoFrame}
 use Rattle.proof_sending.proofs.BroughtNodes.{brought_from}
 use Rattle.proof_sending.proofs.HeardNonces.{IsEightTold, heard_eight}
+use Rattle.proof_sending.proofs.Waiting.{live_eight}
+use Rattle.s0_session.specs.Nonces.{live_of, unused}
+use Rattle.proof_serial.proofs.HostFits.{all_at}
 use Rattle.proof_sending.proofs.Reasoned.{Laws, event_is}
 
 -- ---- the nonce under which a text is sealed
@@ -73,6 +76,15 @@ sealed_length keys own nonce ends plain bytes s =
     let text : length s.cipher_text ≡ suc (length plain) = ap length s.enciphers ∙ length-ofb_from keys.encrypt (own ++ nonce) 0 (0 ∷ plain) in
     let last : length code ≡ 8 = length-code keys (own ++ nonce) ends s.cipher_text in
     omega (arith, size, text, last)
+
+-- the host's own, where a payload names it, has eight bytes
+named_eight : (payload : List ℕ) (live : Option (List ℕ)) (nonce : List ℕ) → named_by payload live ≡ Some nonce → IsEight live → length nonce ≡ 8
+named_eight payload None nonce named eight = absurd (let bad : ◌≡◌ {A = Option (List ℕ)} None (Some nonce) = named in cc)
+named_eight payload (Some own) nonce named eight = by (nat_le 20 (length payload) && (slice_index payload (length payload - 9) == slice_index own 0)) named
+  where
+    by : (b : Bool) → (if b then Some own else None) ≡ Some nonce → length nonce ≡ 8
+    by true is = live_eight (Some own) nonce is eight
+    by false is = absurd (let bad : ◌≡◌ {A = Option (List ℕ)} None (Some nonce) = is in cc)
 
 -- it is as long as another under which the same is sealed
 own_eight : (n : NodeState) (keys : Keys) (own other nonce another text : List ℕ) → SealsText n keys own nonce text → SealsText n keys other another text → length other ≡ 8 → length own ≡ 8
@@ -217,22 +229,23 @@ module _ (laws : Laws) (Holds : Reason → Type 0) (keys : Keys) where
 
     -- ---- payloads
 
-    opened : (h : HostState) (nonce payload : List ℕ) (events : List HostEvent) → PayloadTells Holds keys n payload → IsOpened h n nonce payload events → Goes h events
-    opened h nonce payload events tells (inl are) = goes_free h events (one Free (Is_unkept n) events (λ h. tt, tt) are)
-    opened h nonce payload events tells (inr (inl vain)) = goes_free h events (one Free (Spends_unread n payload) events (λ h. tt, tt) vain.1)
-    opened h nonce payload events tells (inr (inr (messages, rest, to, are, taken_so))) = λ stands may.
+    opened : (h : HostState) (nonce payload : List ℕ) (events : List HostEvent) → named_by payload (live_of h.nonces n) ≡ Some nonce → PayloadTells Holds keys n payload
+        → IsOpened h n nonce payload events → Goes h events
+    opened h nonce payload events named tells (inl are) = goes_free h events (one Free (Is_unkept n) events (λ h. tt, tt) are)
+    opened h nonce payload events named tells (inr (inl vain)) = goes_free h events (one Free (Spends_unread n payload) events (λ h. tt, tt) vain.1)
+    opened h nonce payload events named tells (inr (inr (messages, rest, to, are, taken_so))) = λ stands may.
         let heard : AreHeardOf Holds n messages
-        = tells.sealed nonce to.plain messages (subst (λ (k : Keys). Seals k (nonce_in payload) nonce (ends_from n) to.plain payload) stands.1.waiting.same to.seals) to.tells in
+        = tells.sealed nonce to.plain messages (named_eight payload (live_of h.nonces n) nonce named (all_at HasEight h.nonces n unused stands.1.waiting.eight tt)) (subst (λ (k : Keys). Seals k (nonce_in payload) nonce (ends_from n) to.plain payload) stands.1.waiting.same to.seals) to.tells in
         goes_same h events (Spends n ∷ rest) are
         (goes_both h (Spends n ∷ []) rest (goes_free h (Spends n ∷ []) ((λ g. tt, tt), tt)) (all_taken (after h (Spends n)) payload true messages rest (said_all n to.plain messages to.tells heard) taken_so)) stands may
 
-    sealed_goes : (h : HostState) (payload : List ℕ) (nonce : Option (List ℕ)) (events : List HostEvent) → PayloadTells Holds keys n payload → SealedEvents h n payload nonce events → Goes h events
-    sealed_goes h payload None events tells is = goes_free h events (one Free (Unreads n payload) events (λ h. tt, tt) is)
-    sealed_goes h payload (Some nonce) events tells is = opened h nonce payload events tells is
+    sealed_goes : (h : HostState) (payload : List ℕ) (nonce : Option (List ℕ)) (events : List HostEvent) → named_by payload (live_of h.nonces n) ≡ nonce → PayloadTells Holds keys n payload → SealedEvents h n payload nonce events → Goes h events
+    sealed_goes h payload None events named tells is = goes_free h events (one Free (Unreads n payload) events (λ h. tt, tt) is)
+    sealed_goes h payload (Some nonce) events named tells is = opened h nonce payload events named tells is
 
     payload_goes : (h : HostState) (payload : List ℕ) (heard : Heard) (events : List HostEvent) → heard_at payload ≡ heard → PayloadTells Holds keys n payload → PayloadEvents h n payload heard events → Goes h events
     payload_goes h payload (Messages messages) events heard tells is = all_taken h payload false messages events (said_all n payload messages heard (tells.plainly messages heard)) is
-    payload_goes h payload Sealed events heard tells is = sealed_goes h payload _ events tells is
+    payload_goes h payload Sealed events heard tells is = sealed_goes h payload (named_by payload (live_of h.nonces n)) events refl tells is
     payload_goes h payload Unread events heard tells is = goes_free h events (one Free (Unreads n payload) events (λ h. tt, tt) is)
 
   -- ---- frames of the chip
@@ -261,10 +274,10 @@ module _ (laws : Laws) (Holds : Reason → Type 0) (keys : Keys) where
   notice_goes h r (Err fault) events read from tells is = goes_free h events (none Free events is)
 
   frame_goes : (h : HostState) (k : Kind) (function : ℕ) (body : List ℕ) (events : List HostEvent)
-      → ((status source : ℕ) (payload : List ℕ) → notice_of function body ≡ Ok (ApplicationCommandHandler status source payload) → PayloadTells Holds keys source payload)
+      → (k ≡ kind.Request → (status source : ℕ) (payload : List ℕ) → notice_of function body ≡ Ok (ApplicationCommandHandler status source payload) → PayloadTells Holds keys source payload)
       → FrameEvents h k function body events → Goes h events
   frame_goes h kind.Response function body events tells is = goes_free h events (response_free _ events is)
-  frame_goes h kind.Request function body events tells is = notice_goes h (notice_of function body) (notice_of function body) events refl (brought_from function body) tells is
+  frame_goes h kind.Request function body events tells is = notice_goes h (notice_of function body) (notice_of function body) events refl (brought_from function body) (tells refl) is
 
   followed_goes : (h : HostState) (turn : Turn) (item : Item) (events : List HostEvent) → ItemTells Holds keys item → IsFollowed h turn item events → Goes h events
   followed_goes h turn (Good Ack) events tells is = goes_free h events (told_free _ _ events (λ g. tt) is)

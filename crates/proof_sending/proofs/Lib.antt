@@ -10,7 +10,11 @@ mod BroughtNodes
 mod Judged
 mod OutsideUnits
 mod HostUnits
+mod Arrivals
+mod Growing
+mod Telling
 mod Grounds
 mod Steps
 mod Effects
 mod Walking
+mod Openly

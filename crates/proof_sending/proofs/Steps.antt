@@ -1,5 +1,5 @@
 -- Each event of the machine keeps what the host has to send due, and what it writes is.
-use Rattle.std.proofs.Common.{◌≡◌, ℕ, ◌&&◌, not, Bool, true, false, if◌then◌else◌, List, [], ◌∷◌, ◌++◌, refl, sym, subst, ◌∙◌}
+use Rattle.std.proofs.Common.{◌≡◌, ℕ, ◌&&◌, not, Bool, true, false, if◌then◌else◌, inl, inr, List, [], ◌∷◌, ◌++◌, refl, sym, subst, ◌∙◌}
 use Rattle.std.specs.List.{AllByRecursion}
 use Rattle.serial_frame.specs.declared.item.Item.{Item}
 use Rattle.serial_frame.specs.declared.item.Item.TheVariants.{Good, Refused}
@@ -9,7 +9,11 @@ use Rattle.device_kinds.specs.Sealing.{keys_of}
 use Rattle.zw_text.specs.declared.entry.Entry.{Entry}
 use Rattle.zw_text.specs.declared.entry.Entry.TheVariants as entry
 use Rattle.law_transcript.specs.Lists.{EachAfter}
+use Rattle.law_transcript.specs.Payloads.{messages_of}
 use Rattle.law_transcript.specs.Restarts.{begins_refused}
+use Rattle.law_transcript.specs.Units.{payloads_from}
+use Rattle.law_transcript.proofs.Having.{has_shown, shown_has}
+use Rattle.host_heard.specs.Telling.{heard_at}
 use Rattle.host_heard.specs.declared.told.Told.{Told}
 use Rattle.host_heard.specs.declared.told.Told.TheVariants.{NonceGet, NonceReport}
 use Rattle.host_requests.specs.Events.{RequestsEvent}
@@ -40,12 +44,14 @@ use Rattle.proof_walk.specs.ByLine.{IsCommon}
 use Rattle.proof_walk.proofs.Alone.{KindsAre, common_are}
 use Rattle.proof_walk.proofs.Machines.{UnitsAre}
 use Rattle.proof_sending.specs.Reasons.{Reason, Asked_for, Wants_nonce, Gave_nonce, HasReason, IsReasoned, PushesNothing, WritesDue}
-use Rattle.proof_sending.specs.Asked.{IsAsked, MayAsk}
-use Rattle.proof_sending.specs.Heard.{AreHeardOf, HaveReasons, ItemTells, WritesNoFrame}
+use Rattle.proof_sending.specs.Told.{IsTold, IsToldBy, MaySend}
+use Rattle.proof_sending.specs.Heard.{HaveReasons, ItemTells, WritesNoFrame}
+use Rattle.proof_sending.specs.Arriving.{BringsMore}
 use Rattle.proof_sending.specs.Knowing.{Grounded, IsMine, IsSound, IsWell}
 use Rattle.proof_sending.proofs.AskedLines.{asked_stays}
 use Rattle.proof_sending.proofs.Dues.{unit_due}
 use Rattle.proof_sending.proofs.Grounds.{WalkLaws, carried_so, ground_goes, ground_ticked}
+use Rattle.proof_sending.proofs.Growing.{event_brings, ticked_brings}
 use Rattle.proof_sending.proofs.HostUnits.{FirstDue, IsShort, answers_stand, event_stands, none_stand, short_stand}
 use Rattle.proof_sending.proofs.Judged.{judged_goes, stands_all}
 use Rattle.proof_sending.proofs.OutsideUnits.{outside_not}
@@ -161,16 +167,25 @@ event_short h event none = tt
 -- ---- reasons
 
 module _ (listing : ℕ → List ℕ) (key : List ℕ) where
-  holds_more : (past told : List Entry) → begins_refused told ≡ false → (reason : Reason) → IsAsked listing past reason → IsAsked listing (past ++ told) reason
-  holds_more past told none (Asked_for node payload) asked = asked_stays listing [] past told (record { node = node; payload = payload }) none asked
-  holds_more past told none (Wants_nonce node) asked = tt
-  holds_more past told none (Gave_nonce node nonce) asked = tt
+  told_more : (past later : List Entry) (node : ℕ) (message : Told) → BringsMore past later → IsToldBy key past node message → IsToldBy key later node message
+  told_more past later node message more (inl told) =
+      let tells : List ℕ → List Told = λ bytes. messages_of (heard_at bytes) in
+      let one = shown_has tells (payloads_from node past) message told in
+      inl (has_shown tells (payloads_from node later) one.by message (more node one.by one.among) one.shows)
+  told_more past later node message more (inr is) =
+      inr (record { payload = is.payload; brought = more node is.payload is.brought; nonce = is.nonce; plain = is.plain; eight = is.eight; opens = is.opens; tells = is.tells })
 
-  pub reasoned_more : (past told : List Entry) (h : HostState) → begins_refused told ≡ false → IsReasoned (IsAsked listing past) (keys_of key) h
-      → IsReasoned (IsAsked listing (past ++ told)) (keys_of key) h
-  reasoned_more past told h none is = more_is (IsAsked listing past) (IsAsked listing (past ++ told)) (holds_more past told none) (keys_of key) h is
+  holds_more : (past told : List Entry) → begins_refused told ≡ false → BringsMore past (past ++ told) → (reason : Reason) → IsTold listing key past reason
+      → IsTold listing key (past ++ told) reason
+  holds_more past told none more (Asked_for node payload) asked = asked_stays listing [] past told (record { node = node; payload = payload }) none asked
+  holds_more past told none more (Wants_nonce node) is = told_more past (past ++ told) node NonceGet more is
+  holds_more past told none more (Gave_nonce node nonce) is = told_more past (past ++ told) node (NonceReport nonce) more is
 
-  own_reason : (past : List Entry) (h : HostState) (event : HostEvent) → IsOwn event → HasReason (IsAsked listing past) (keys_of key) h event
+  pub reasoned_more : (past told : List Entry) (h : HostState) → begins_refused told ≡ false → BringsMore past (past ++ told) → IsReasoned (IsTold listing key past) (keys_of key) h
+      → IsReasoned (IsTold listing key (past ++ told)) (keys_of key) h
+  reasoned_more past told h none more is = more_is (IsTold listing key past) (IsTold listing key (past ++ told)) (holds_more past told none more) (keys_of key) h is
+
+  own_reason : (past : List Entry) (h : HostState) (event : HostEvent) → IsOwn event → HasReason (IsTold listing key past) (keys_of key) h event
   own_reason past h (Queues task) own = absurd own
   own_reason past h (Requests_do event moment) own = subst (λ (e : RequestsEvent). PushesNothing e) (sym own) tt
   own_reason past h (Offers n) own = absurd own
@@ -178,89 +193,73 @@ module _ (listing : ℕ → List ℕ) (key : List ℕ) where
   own_reason past h (Takes_nonce n seen text) own = absurd own
   own_reason past h event own = tt
 
-  events_short : (past : List Entry) (h : HostState) (events : List HostEvent) → HaveReasons (IsAsked listing past) (keys_of key) h events → UnitsAre IsShort (outs_all h events)
+  events_short : (past : List Entry) (h : HostState) (events : List HostEvent) → HaveReasons (IsTold listing key past) (keys_of key) h events → UnitsAre IsShort (outs_all h events)
   events_short past h [] reasons = tt
   events_short past h (event ∷ events) reasons =
       units-append (outs h event) (outs_all (after h event) events) (event_short h event reasons.0.1) (events_short past (after h event) events reasons.1)
 
-  -- what nodes say is taken as said
-  heard_of : (past : List Entry) (node : ℕ) (messages : List Told) → AreHeardOf (IsAsked listing past) node messages
-  heard_of past node [] = tt
-  heard_of past node (NonceGet ∷ messages) = (tt, heard_of past node messages)
-  heard_of past node (NonceReport nonce ∷ messages) = (tt, heard_of past node messages)
-  heard_of past node (message ∷ messages) = (tt, heard_of past node messages)
-
-  item_tells : (past : List Entry) (item : Item) → ItemTells (IsAsked listing past) (keys_of key) item
-  item_tells past (Good (Framed f)) = λ status source payload is. record {
-    plainly = λ messages heard. heard_of past source messages;
-    sealed = λ nonce plain messages seals heard. heard_of past source messages;
-  }
-  item_tells past (Good Ack) = tt
-  item_tells past (Good Nak) = tt
-  item_tells past (Good Can) = tt
-  item_tells past (Refused refusal) = tt
-
-  items_tell : (past : List Entry) (items : List Item) → AllByRecursion (ItemTells (IsAsked listing past) (keys_of key)) items
-  items_tell past [] = tt
-  items_tell past (item ∷ items) = (item_tells past item, items_tell past items)
+  -- what the host judges at it was told
+  abbrev pub HearsTold : List Entry → Event → Type 0
+  HearsTold past (Host_takes count rest items events) = AllByRecursion (ItemTells (IsTold listing key past) (keys_of key)) items
+  HearsTold past event = Unit {0}
 
 -- ---- an event
 
 module _ (listing : ℕ → List ℕ) (key : List ℕ) (laws : WalkLaws) where
   abbrev pub Stands : List Entry → Machine → Event → Type 0
-  Stands past m event = EachAfter (MayAsk listing key) past (entries m event) × IsSound listing key (past ++ entries m event) (happens m event)
+  Stands past m event = EachAfter (MaySend listing key) past (entries m event) × IsSound listing key (past ++ entries m event) (happens m event)
 
-  first_of : (past : List Entry) (m : Machine) → Grounded listing past m → (puts : List HostOut) → WritesDue (IsAsked listing past) (keys_of key) m.host.state puts → FirstDue listing key past puts
+  first_of : (past : List Entry) (m : Machine) → Grounded listing past m → (puts : List HostOut) → WritesDue (IsTold listing key past) (keys_of key) m.host.state puts → FirstDue listing key past puts
   first_of past m ground [] due = tt
   first_of past m ground (Write unit ∷ puts) due =
-      unit_due (IsAsked listing past) listing key past m.host.state ground.facts.begun (carried_so laws listing past m.host.state ground.facts ground.said) laws.from laws.to unit due.0
+      unit_due (IsTold listing key past) listing key past m.host.state ground.facts.begun (carried_so laws listing past m.host.state ground.facts ground.said) laws.from laws.to unit due.0
   first_of past m ground (Note note ∷ puts) due = tt
 
   pub first_due : (past : List Entry) (m : Machine) (event : HostEvent) → Grounded listing past m → MayHost m.host.state event
-      → ((told : List Entry) → HasReason (IsAsked listing told) (keys_of key) m.host.state event) → IsReasoned (IsAsked listing past) (keys_of key) m.host.state
+      → ((told : List Entry) → HasReason (IsTold listing key told) (keys_of key) m.host.state event) → IsReasoned (IsTold listing key past) (keys_of key) m.host.state
       → FirstDue listing key (past ++ ticked_entry m.outside.outer) (outs m.host.state event)
   first_due past m event ground may reason is =
       let told : List Entry = ticked_entry m.outside.outer in
       first_of (past ++ told) m (ground_ticked listing laws past m m.outside.outer ground) (outs m.host.state event)
-      (units_due laws.hosts (IsAsked listing (past ++ told)) (keys_of key) m.host.state event ground.facts.host may (reason (past ++ told))
-      (reasoned_more listing key past told m.host.state (ticked_none m.outside.outer) is))
+      (units_due laws.hosts (IsTold listing key (past ++ told)) (keys_of key) m.host.state event ground.facts.host may (reason (past ++ told))
+      (reasoned_more listing key past told m.host.state (ticked_none m.outside.outer) (ticked_brings past m.outside.outer) is))
 
   pub host_stands : (past : List Entry) (m : Machine) (event : HostEvent) → FirstDue listing key (past ++ ticked_entry m.outside.outer) (outs m.host.state event)
-      → EachAfter (MayAsk listing key) past (entries m (Host_does event))
+      → EachAfter (MaySend listing key) past (entries m (Host_does event))
   unfolding entries
   host_stands past m event due =
       let done : Machine = host_does m (event ∷ []) in
-      each-append (MayAsk listing key) past (host_entries m (event ∷ [])) (entries_all_outside done.outside (notes (answers m.host.state event)))
+      each-append (MaySend listing key) past (host_entries m (event ∷ [])) (entries_all_outside done.outside (notes (answers m.host.state event)))
       (event_stands listing key past m.outside m.host.state event due)
       (answers_stand listing key (past ++ host_entries m (event ∷ [])) done.outside m.host.state event)
 
   sound_after : (past : List Entry) (m : Machine) (event : Event) → IsMine event → May m event → IsWell listing m event → IsSound listing key past m
-      → IsReasoned (IsAsked listing past) (keys_of key) (happens m event).host.state → IsSound listing key (past ++ entries m event) (happens m event)
+      → IsReasoned (IsTold listing key past) (keys_of key) (happens m event).host.state → IsSound listing key (past ++ entries m event) (happens m event)
   sound_after past m event mine may well is reasoned = record {
     ground = ground_goes listing laws past m event (mine_plain event mine) may well.0.0 well.1 is.ground;
     keys = keys_stay m event ∙ is.keys;
-    reasoned = reasoned_more listing key past (entries m event) (happens m event).host.state (mine_none m event mine may) reasoned;
+    reasoned = reasoned_more listing key past (entries m event) (happens m event).host.state (mine_none m event mine may) (event_brings past m event may is.ground.arrives) reasoned;
   }
 
-  pub mine_step : (past : List Entry) (m : Machine) (event : Event) → IsMine event → May m event → IsWell listing m event → IsSound listing key past m → Stands past m event
+  pub mine_step : (past : List Entry) (m : Machine) (event : Event) → IsMine event → May m event → IsWell listing m event → HearsTold listing key past event → IsSound listing key past m → Stands past m event
   unfolding happens entries May
-  mine_step past m (Outside_does event) mine may well is = (
+  mine_step past m (Outside_does event) mine may well hears is = (
     none_stand listing key past (entries_outside m.outside event) (outside_not m.outside event may.0 may.1),
     sound_after past m (Outside_does event) mine may well is is.reasoned,
   )
-  mine_step past m (Host_does event) own may well is =
+  mine_step past m (Host_does event) own may well hears is =
       let h : HostState = m.host.state in (
         host_stands past m event (first_due past m event is.ground may.0 (λ told. own_reason listing key told h event own) is.reasoned),
         sound_after past m (Host_does event) own may well is
-            (event_is laws.hosts (IsAsked listing past) (keys_of key) past h event is.ground.facts may.0 (own_reason listing key past h event own) is.reasoned),
+            (event_is laws.hosts (IsTold listing key past) (keys_of key) past h event is.ground.facts may.0 (own_reason listing key past h event own) is.reasoned),
       )
-  mine_step past m (Host_takes count rest items events) mine may well is =
+  mine_step past m (Host_takes count rest items events) mine may well hears is =
       let h : HostState = m.host.state in
-      let reasons : HaveReasons (IsAsked listing past) (keys_of key) h events
-      = judged_goes laws.hosts (IsAsked listing past) (keys_of key) h items events (items_tell listing key past items) may.judged ((past, is.ground.facts), is.reasoned) may.may in (
+      let reasons : HaveReasons (IsTold listing key past) (keys_of key) h events
+      = judged_goes laws.hosts (IsTold listing key past) (keys_of key) h items events hears may.judged ((past, is.ground.facts), is.reasoned) may.may in (
         short_stand listing key past (fed m count rest).outside h events (events_short listing key past h events reasons),
         sound_after past m (Host_takes count rest items events) tt may well is
-            (stands_all laws.hosts (IsAsked listing past) (keys_of key) h events may.may reasons ((past, is.ground.facts), is.reasoned)).1,
+            (stands_all laws.hosts (IsTold listing key past) (keys_of key) h events may.may reasons ((past, is.ground.facts), is.reasoned)).1,
       )
-  mine_step past m Decoder_ticks mine may well is = (tt, sound_after past m Decoder_ticks tt may well is is.reasoned)
-  mine_step past m event mine may well is = absurd mine
+  mine_step past m Decoder_ticks mine may well hears is = (tt, sound_after past m Decoder_ticks tt may well is is.reasoned)
+  mine_step past m event mine may well hears is = absurd mine

@@ -1,6 +1,7 @@
 -- What a node says in a payload gives the host its reasons (Security 0 Command Class; what is taken in whatever wraps is this project's own rule).
-use Rattle.std.specs.Prelude.{◌≡◌, ℕ, List, [], ◌∷◌, Ok}
+use Rattle.std.specs.Prelude.{◌≡◌, ℕ, List, [], ◌∷◌, length, Ok}
 use Rattle.std.specs.List.{AllByRecursion}
+use Rattle.serial_frame.specs.declared.frame.Kind.TheVariants.{Request}
 use Rattle.serial_frame.specs.declared.item.Item.{Item}
 use Rattle.serial_frame.specs.declared.item.Item.TheVariants.{Good}
 use Rattle.serial_frame.specs.declared.unit.Unit.TheVariants.{Framed}
@@ -28,16 +29,17 @@ IsHeardOf Holds node message = Unit {0}
 abbrev pub AreHeardOf : (Reason → Type 0) → ℕ → List Told → Type 0
 AreHeardOf Holds node messages = AllByRecursion (IsHeardOf Holds node) messages
 
--- so for what a payload tells, and for what it opens to with these keys
+-- so for what a payload tells, and for what it opens to with these keys under a nonce of eight bytes
 pub record PayloadTells (Holds : Reason → Type 0) (keys : Keys) (node : ℕ) (payload : List ℕ) : Type 0 where
   pub plainly : (messages : List Told) → heard_at payload ≡ Messages messages → AreHeardOf Holds node messages
-  pub sealed : (nonce plain : List ℕ) (messages : List Told) → Seals keys (nonce_in payload) nonce (ends_from node) plain payload → heard_at plain ≡ Messages messages
-      → AreHeardOf Holds node messages
+  pub sealed : (nonce plain : List ℕ) (messages : List Told) → length nonce ≡ 8 → Seals keys (nonce_in payload) nonce (ends_from node) plain payload
+      → heard_at plain ≡ Messages messages → AreHeardOf Holds node messages
 
--- so where an item that is judged brings a payload
+-- so where an item that is judged brings a payload: a request of the chip
 abbrev pub ItemTells : (Reason → Type 0) → Keys → Item → Type 0
 ItemTells Holds keys (Good (Framed f)) =
-    (status source : ℕ) (payload : List ℕ) → notice_of f.func f.body ≡ Ok (ApplicationCommandHandler status source payload) → PayloadTells Holds keys source payload
+    f.kind ≡ Request → (status source : ℕ) (payload : List ℕ) → notice_of f.func f.body ≡ Ok (ApplicationCommandHandler status source payload)
+    → PayloadTells Holds keys source payload
 ItemTells Holds keys item = Unit {0}
 
 -- an event at which the host writes no frame of its own

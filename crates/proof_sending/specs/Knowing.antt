@@ -23,7 +23,8 @@ use Rattle.proof_walk.specs.ByLine.{IsOfTick, begun}
 use Rattle.proof_walk.specs.Phases.{Phase, Said_line, Begun, Doing, Ticking_host}
 use Rattle.proof_world.specs.Restarts.{KeepsWell, StartsWell}
 use Rattle.proof_sending.specs.Reasons.{IsReasoned}
-use Rattle.proof_sending.specs.Asked.{IsAsked}
+use Rattle.proof_sending.specs.Told.{IsTold}
+use Rattle.proof_sending.specs.Arriving.{ArrivesSo, BringsMore}
 
 -- ---- events
 
@@ -69,12 +70,13 @@ pub record Grounded (listing : ℕ → List ℕ) (past : List Entry) (m : Machin
   pub facts : Facts past m.host.state
   pub knows : KnowsListing listing past m.host.state
   pub said : AreSaid listing m.host.state.commands past
+  pub arrives : ArrivesSo past
 
 -- and all that it has to send is due
 pub record IsSound (listing : ℕ → List ℕ) (key : List ℕ) (past : List Entry) (m : Machine) : Type 0 where
   pub ground : Grounded listing past m
   pub keys : m.keys ≡ keys_of key
-  pub reasoned : IsReasoned (IsAsked listing past) (keys_of key) m.host.state
+  pub reasoned : IsReasoned (IsTold listing key past) (keys_of key) m.host.state
 
 -- the words of a line are the last entry: it is due by what stands before them
 pub record Saying (listing : ℕ → List ℕ) (key : List ℕ) (line : Line) (past : List Entry) (m : Machine) : Type 0 where
@@ -85,7 +87,7 @@ pub record Saying (listing : ℕ → List ℕ) (key : List ℕ) (line : Line) (p
   pub knew : KnowsListing listing before m.host.state
   pub ground : Grounded listing past m
   pub keys : m.keys ≡ keys_of key
-  pub reasoned : IsReasoned (IsAsked listing before) (keys_of key) m.host.state
+  pub reasoned : IsReasoned (IsTold listing key before) (keys_of key) m.host.state
 
 -- the line has begun
 abbrev pub Opened : (ℕ → List ℕ) → List ℕ → Line → List Entry → Machine → Type 0
@@ -101,7 +103,8 @@ pub record Resting (listing : ℕ → List ℕ) (key : List ℕ) (left : List Ev
   pub is : past ≡ before ++ Said words ∷ told
   pub ground : Grounded listing past m
   pub keys : m.keys ≡ keys_of key
-  pub reasoned : IsReasoned (IsAsked listing before) (keys_of key) m.host.state
+  pub grows : BringsMore before past
+  pub reasoned : IsReasoned (IsTold listing key before) (keys_of key) m.host.state
   pub rests : AllByRecursion IsRest left
 
 -- it is that an order is accepted

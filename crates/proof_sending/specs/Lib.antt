@@ -1,5 +1,6 @@
 pub mod Reasons
 pub mod Due
 pub mod Heard
-pub mod Asked
+pub mod Told
+pub mod Arriving
 pub mod Knowing

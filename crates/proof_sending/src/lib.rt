@@ -4,11 +4,12 @@
 //! `what_is_judged_gives_reasons` has the reasons that nodes give, and `lines_ask_for_what_is_queued` those of lines;
 //! `frames_ask_for_their_purpose` says that a frame asks for what its purpose is, and nothing else. By
 //! `hosts_ask_what_is_due` the payload is due by the transcript, where that shows the reason.
-//! `lines_send_what_was_asked` says so of every run of lines, but for who asked for a nonce, or gave one. Each is the
+//! `lines_send_what_was_told` says so of every run of lines, where what nodes told counts as it came or opened with the
+//! network key; by `lines_send_what_is_due` that is the law itself where nothing that opens tells of a nonce. Each is the
 //! contract of a function with an empty body.
 //! The definitions are in `specs/`: `Reasons` (why a payload may be sent, by the tables of the host), `Heard` (what
-//! nodes say that is a reason), `Due` (the same as `Reasons`, by the transcript), `Asked` (the law of runs) and
-//! `Knowing` (what is known at each phase of a line).
+//! nodes say that is a reason), `Due` (the same as `Reasons`, by the transcript), `Told` (the law of runs), `Arriving`
+//! (what arrives of the chip's units) and `Knowing` (what is known at each phase of a line).
 #![tactic(auto)]
 
 mod asked;
@@ -16,7 +17,7 @@ mod lines;
 mod reasons;
 
 pub use asked::lines_ask_for_what_is_queued;
-pub use lines::lines_send_what_was_asked;
+pub use lines::{lines_send_what_is_due, lines_send_what_was_told};
 pub use reasons::{
     frames_ask_for_their_purpose, hosts_ask_what_is_due, hosts_send_for_reasons,
     what_is_judged_gives_reasons,

@@ -6,11 +6,10 @@ use Rattle.world_model.specs.State.{first_machine}
 use Rattle.world_lines.specs.Done.{events_of}
 use Rattle.proof_spoken.proofs.SpokenLines.{all_lines, all_may, lines_of}
 use Rattle.proof_walk.proofs.Where.{where_stand}
-use Rattle.proof_sending.specs.Asked.{IsAsked, MayAsk}
-use Rattle.proof_sending.specs.Knowing.{IsWell, KnowSending}
+use Rattle.proof_sending.specs.Told.{IsTold, MaySend}
 use Rattle.proof_sending.proofs.Reasoned.{first_is}
-use Rattle.proof_sending.proofs.Walking.{all_well, sending_walk}
-use Rattle.proof_sending.proofs.lines.lines_send_what_was_asked.Goals as goal
+use Rattle.proof_sending.proofs.Walking.{KnowBoth, WritesToo, all_well, sending_walk}
+use Rattle.proof_sending.proofs.lines.lines_send_what_was_told.Goals as goal
 
 pub returns : goal.returns
 returns c = λ key devices lines are.
@@ -24,7 +23,8 @@ returns c = λ key devices lines are.
     let keeps = c.lines_keep_and_ask_well.ensures keys devices (lines_of lines) events these may in
     let starts = c.restarts_go_on.ensures.all [] m events facts (c.restarts_go_on.ensures.first keys (Some []) refl) may keeps.0 in
     let tells = c.interviews_tell_what_nodes_list.ensures.tell keys devices (lines_of lines) events these may in
-    where_stand (IsWell listing) (MayAsk listing key) (KnowSending listing key) (sending_walk listing key (record {
+    let writes = c.hosts_write_well.ensures.run keys (Some []) devices events may keeps.1 in
+    where_stand (WritesToo listing) (MaySend listing key) (KnowBoth listing key) (sending_walk listing key (record {
       hosts = record {
         event_keeps = c.events_keep_facts.ensures.each;
         orders_stay = c.tables_keep_orders.ensures.host;
@@ -42,9 +42,11 @@ returns c = λ key devices lines are.
       carried = c.orders_are_carried_as_said.ensures;
       from = c.callback_ids.ensures.from_one;
       to = c.callback_ids.ensures.to_max;
-    })) [] m lines are (all_well listing m events starts.0 keeps.0 tells)
-    (record {
-      ground = record { facts = facts; knows = c.interviews_give_what_is_known.ensures.first listing keys; said = tt };
-      keys = refl;
-      reasoned = first_is (IsAsked listing []) keys;
-    })
+    }) c.rooms_go_on.ensures.walk) [] m lines are (all_well listing m events starts.0 keeps.0 tells writes) (
+      c.rooms_go_on.ensures.first keys devices,
+      record {
+        ground = record { facts = facts; knows = c.interviews_give_what_is_known.ensures.first listing keys; said = tt; arrives = refl };
+        keys = refl;
+        reasoned = first_is (IsTold listing key []) keys;
+      },
+    )

@@ -1,0 +1,117 @@
+-- The chip at the line: what is known of both links goes on with its events, and with all items that it judges, one after another.
+use Rattle.std.proofs.Common.{◌≡◌, ℕ, ◌+◌, true, List, [], ◌∷◌, ◌++◌, map, refl, sym, ap, ◌∙◌, subst, append-nil, append_assoc, arith}
+use Rattle.std.specs.Prelude.{Option}
+use Rattle.serial_frame.specs.Frame.{FrameParts}
+use Rattle.serial_frame.specs.declared.unit.Unit.{Unit as LineUnit}
+use Rattle.serial_frame.specs.declared.item.Item.{Item}
+use Rattle.serial_link.specs.State.{Side as LinkSide}
+use Rattle.serial_link.specs.Rules.{Step, SideObeys, items_of, ticks_of}
+use Rattle.serial_link.specs.Calls.{submit_step}
+use Rattle.serial_link.proofs.Counting.{ticks_of-append}
+use Rattle.route_table.specs.declared.route.Route.{Route}
+use Rattle.chip_sim.specs.Link.{chip_units, link_steps}
+use Rattle.chip_sim.specs.State.{ChipState}
+use Rattle.chip_sim.specs.Events.{ChipEvent, Judged, after, outs}
+use Rattle.chip_sim.specs.Did.{after_all, judged_all}
+use Rattle.chip_sim.specs.Rules.{WaitsWell, begun_at}
+use Rattle.chip_sim.proofs.Histories.{well_all}
+use Rattle.chip_sim.proofs.Links.{units_event}
+use Rattle.zw_words.specs.declared.side.Side.{Side}
+use Rattle.zw_words.specs.declared.side.Side.TheVariants.{Host, Chip}
+use Rattle.zw_text.specs.declared.entry.Entry.{Entry}
+use Rattle.law_wire.specs.Serial.{SerialEvent}
+use Rattle.outside_model.specs.State.{OuterState, Outcome, each}
+use Rattle.outside_model.specs.Chip.{chip_does}
+use Rattle.proof_walk.proofs.Times.{does_chip}
+use Rattle.proof_line.specs.Links.{KnowsEvents, KnowsLink, LinkNow, MayHear, MayOfChip, gone, with_arriving}
+use Rattle.proof_line.proofs.Tellings.{IsBeside, Tells}
+use Rattle.proof_line.proofs.ChipTelling.{does_tell}
+use Rattle.proof_line.proofs.LinkTold.{arriving_all, none_first, others_known, steps_known, takes_split}
+use Rattle.proof_line.proofs.LinkGoes.{chip_goes}
+
+pub obeyed : (side : Side) (events waiting : List SerialEvent) (now : LinkNow) → KnowsEvents side events waiting now → SideObeys now.life now.link
+obeyed side events waiting now knows = subst (λ (l : List Step). SideObeys l now.link) knows.at.life knows.does.obeys
+
+-- ---- one event
+
+-- of its own link
+pub chip_event_known : (o : OuterState) (e : ChipEvent) (past : List Entry) (now : LinkNow) (left : List (List ℕ)) → KnowsLink Chip past 0 now → now.link ≡ o.chip.state.port.side
+    → WaitsWell o.chip.state.port → MayOfChip now e → MayHear now (items_of (link_steps o.chip.state e)) left
+    → KnowsLink Chip (past ++ (chip_does o e).entries) 0 (gone now (link_steps o.chip.state e) (after o.chip.state e).port.side left)
+chip_event_known o e past now left knows link waits may hears =
+    let s : ChipState = o.chip.state in
+    steps_known (link_steps s e) Chip past now (after s e).port.side left o.to_host (chip_does o e).entries knows
+    (chip_goes s e now (subst (λ (l : LinkSide). SideObeys now.life l) link (obeyed Chip _ _ now knows)) waits may) hears
+    (subst (λ (l : List LineUnit). Tells IsBeside Chip o.to_host l (chip_does o e).entries) (units_event s e) (does_tell o e).told)
+
+-- and of the host's: what arrives of the units that the chip writes
+pub chip_event_arrives : (o : OuterState) (e : ChipEvent) (past : List Entry) (now : LinkNow) → KnowsLink Host past 0 now
+    → KnowsLink Host (past ++ (chip_does o e).entries) 0 (with_arriving now (arriving_all Chip o.to_host (chip_units (outs o.chip.state e))))
+chip_event_arrives o e past now knows = others_known (chip_units (outs o.chip.state e)) Host past now o.to_host (chip_does o e).entries knows (does_tell o e).told
+
+-- ---- items that are judged, one after another
+
+submits_hear_none : (frames : List FrameParts) → items_of (map (λ (f : FrameParts). submit_step f) frames) ≡ []
+submits_hear_none [] = refl
+submits_hear_none (f ∷ frames) = submits_hear_none frames
+
+submits_tick_none : (frames : List FrameParts) → ticks_of (map (λ (f : FrameParts). submit_step f) frames) ≡ 0
+submits_tick_none [] = refl
+submits_tick_none (f ∷ frames) = let rest = submits_tick_none frames in omega (arith, rest)
+
+-- the round goes on with no tick of the side
+pub record StaysInRound (old new : LinkNow) : Type 0 where
+  pub is_tick : new.is_tick ≡ old.is_tick
+  pub brought : new.brought ≡ old.brought
+  pub clock : new.clock ≡ old.clock
+  pub until : new.until ≡ old.until
+  pub ticks : ticks_of new.round ≡ ticks_of old.round
+
+-- this is left on its way, and the link is that of the chip
+pub record Judges (past : List Entry) (now : LinkNow) (side : LinkSide) (rest : List (List ℕ)) : Type 0 where
+  pub later : LinkNow
+  pub knows : KnowsLink Chip past 0 later
+  pub link : later.link ≡ side
+  pub left : later.coming ≡ rest
+  pub stays : StaysInRound now later
+
+pub chip_judges_known : (ways : List (Item × Option Route)) (o : OuterState) (past : List Entry) (now : LinkNow) (left : List (List ℕ)) → KnowsLink Chip past 0 now → now.link ≡ o.chip.state.port.side
+    → WaitsWell o.chip.state.port → (now.is_tick ≡ true → ticks_of now.round ≡ 1) → MayHear now (map (λ (w : Item × Option Route). w.0) ways) left
+    → Judges (past ++ (each chip_does o (judged_all ways)).entries) now (after_all o.chip.state (judged_all ways)).port.side left
+chip_judges_known [] o past now left knows link waits may hears = record {
+  later = now;
+  knows = subst (λ (l : List Entry). KnowsLink Chip l 0 now) (sym (append-nil past)) knows;
+  link = link;
+  left = hears.0;
+  stays = record { is_tick = refl; brought = refl; clock = refl; until = refl; ticks = refl };
+}
+chip_judges_known (way ∷ ways) o past now left knows link waits may hears =
+    let s : ChipState = o.chip.state in
+    let e : ChipEvent = Judged way.0 way.1 in
+    let one : Outcome = chip_does o e in
+    let steps : List Step = link_steps s e in
+    let rest_items : List Item = map (λ (w : Item × Option Route). w.0) ways in
+    let (mid, takes, more) = takes_split (way.0 ∷ []) rest_items now.coming left hears.0 in
+    let heard : items_of steps ≡ way.0 ∷ [] = ap (λ (l : List Item). way.0 ∷ l) (submits_hear_none (begun_at s e)) in
+    let next : LinkNow = gone now steps (after s e).port.side mid in
+    let first : KnowsLink Chip (past ++ one.entries) 0 next =
+    chip_event_known o e past now mid knows link waits may
+    (subst (λ (l : List Item). MayHear now l mid) (sym heard) (takes, λ stalls. (none_first (way.0 ∷ []) rest_items (hears.1 stalls)).0)) in
+    let quiet : ticks_of steps ≡ 0 = judged_tick_none s in
+    let count : ticks_of (now.round ++ steps) ≡ ticks_of now.round + ticks_of steps = ticks_of-append now.round steps in
+    let same : ticks_of next.round ≡ ticks_of now.round = omega (arith, quiet, count) in
+    let is : one.outer.chip.state ≡ after s e = does_chip o e in
+    let later =
+    chip_judges_known ways one.outer (past ++ one.entries) next left first (sym (ap (λ (t : ChipState). t.port.side) is))
+    (subst (λ (t : ChipState). WaitsWell t.port) (sym is) (well_all s (e ∷ []) waits)) (λ tick. same ∙ may tick)
+    (more, λ stalls. (none_first (way.0 ∷ []) rest_items (hears.1 stalls)).1) in
+    record {
+      later = later.later;
+      knows = subst (λ (l : List Entry). KnowsLink Chip l 0 later.later) (append_assoc past one.entries (each chip_does one.outer (judged_all ways)).entries) later.knows;
+      link = later.link ∙ ap (λ (t : ChipState). (after_all t (judged_all ways)).port.side) is;
+      left = later.left;
+      stays = record { is_tick = later.stays.is_tick; brought = later.stays.brought; clock = later.stays.clock; until = later.stays.until; ticks = later.stays.ticks ∙ same };
+    }
+  where
+    judged_tick_none : (s : ChipState) → ticks_of (link_steps s (Judged way.0 way.1)) ≡ 0
+    judged_tick_none s = let none = submits_tick_none (begun_at s (Judged way.0 way.1)) in omega (arith, none)

@@ -1,0 +1,391 @@
+-- What is known of a link goes on with steps, units and events of the serial line, and in the end is the law.
+use Rattle.std.proofs.Common.{◌≡◌, ◌≤◌, ℕ, zero, suc, ◌+◌, ◌-◌, ◌&&◌, not, nat_lt, Bool, true, false, if◌then◌else◌, List, [], ◌∷◌, ◌++◌, length, take, replicate, refl, sym, ap, ◌∙◌, subst, append-nil, append_assoc, length-append, arith}
+use Rattle.std.specs.List.{flat_map, list_any}
+use Rattle.zw_base.proofs.Each.{all-append}
+use Rattle.serial_frame.specs.Items.{unit_text}
+use Rattle.serial_frame.specs.declared.unit.Unit.{Unit as LineUnit}
+use Rattle.serial_link.specs.State.{Side as LinkSide}
+use Rattle.serial_link.specs.declared.turn.Turn.TheVariants.{Idle}
+use Rattle.serial_link.specs.Rules.{Step, SideObeys, Event, heard, ticked, submitted, asked, item_of, ticks_of}
+use Rattle.serial_pipes.specs.State.{WayState}
+use Rattle.serial_pipes.specs.Events.{told}
+use Rattle.serial_pipes.specs.Events as way
+use Rattle.zw_words.specs.declared.side.Side.{Side}
+use Rattle.zw_words.specs.declared.side.Side.TheVariants.{Host, Chip}
+use Rattle.zw_text.specs.declared.entry.Entry.{Entry}
+use Rattle.zw_text.specs.declared.entry.Entry.TheVariants as entry
+use Rattle.zw_text.specs.declared.line.Line.{Line}
+use Rattle.law_transcript.specs.Restarts.{is_restart}
+use Rattle.law_wire.specs.Serial.{SerialEvent, arriving_of, serial_events}
+use Rattle.law_wire.specs.Serial.SerialEvent.{Line_begins, Tick_begins, Writes}
+use Rattle.law_wire.specs.Links.{HasTicked, KeepsLink, LeavesFew, Moment, Round, WriteLast, arrivals_of, ends_round, most_left, stall_by, MayDo, Obeys, WritesThere, arrival_of, clock_in, is_stalled, moments_of, other, round_of, steps_in, texts_of, unit_by}
+use Rattle.proof_line.specs.Links.{Does, Hears, IsAt, IsMute, KeepsSoFar, KnowsEvents, KnowsLink, LinkNow, MayEnd, MayEndNow, MayHear, MayStep, TakesTexts, begun_line, begun_tick, life_of, most_of, round_steps, stalls_in, stepped, tick_told, with_arriving}
+use Rattle.proof_line.proofs.Moments.{arrivals_one, moments_one, round_one}
+use Rattle.proof_line.proofs.Serials.{beside_serials, time_serials, unit_serials}
+use Rattle.proof_line.proofs.Standing.{same_itself}
+use Rattle.proof_line.proofs.Arriving.{marks_of}
+use Rattle.proof_line.proofs.Tellings.{IsBeside}
+use Rattle.proof_line.proofs.LinkSteps.{asks_by, clock_one, does_more, does_on, ends_part, hears_next, hears_on, hears_same, life_same, mute_last, round_same, stalls_one, unit_may_end, writes_last}
+
+-- ---- moments
+
+moments_first : (events more : List SerialEvent) (parts extra : List (List Step)) → length parts ≡ length (events ++ more) → moments_of events (parts ++ extra) ≡ moments_of events parts
+moments_first [] more parts extra same = refl
+moments_first (event ∷ events) more [] extra same = absurd (let none : zero ≡ suc (length (events ++ more)) = same in cc)
+moments_first (event ∷ events) more (part ∷ parts) extra same =
+    let fewer : suc (length parts) ≡ suc (length (events ++ more)) = same in
+    ap (λ (l : List Moment). record { event = event; steps = part } ∷ l) (moments_first events more parts extra (omega (arith, fewer)))
+
+moments_taken : (events more : List SerialEvent) (parts : List (List Step)) → length parts ≡ length (events ++ more)
+    → (moments_of events (take (length events) parts) ≡ moments_of events parts) × (length (take (length events) parts) ≡ length events)
+moments_taken [] more parts same = (refl, refl)
+moments_taken (event ∷ events) more [] same = absurd (let none : zero ≡ suc (length (events ++ more)) = same in cc)
+moments_taken (event ∷ events) more (part ∷ parts) same =
+    let fewer : suc (length parts) ≡ suc (length (events ++ more)) = same in
+    let rest = moments_taken events more parts (omega (arith, fewer)) in
+    (ap (λ (l : List Moment). record { event = event; steps = part } ∷ l) rest.0, ap (λ (n : ℕ). suc n) rest.1)
+
+pub one_more : (all : List SerialEvent) (parts : List (List Step)) (event : SerialEvent) (steps : List Step) → length parts ≡ length all → length (parts ++ steps ∷ []) ≡ length (all ++ event ∷ [])
+one_more all parts event steps same =
+    let left : length (parts ++ steps ∷ []) ≡ length parts + 1 = length-append parts (steps ∷ []) in
+    let right : length (all ++ event ∷ []) ≡ length all + 1 = length-append all (event ∷ []) in
+    omega (arith, left, right, same)
+
+-- ---- the law
+
+-- what is told keeps the law, also where the run was cut short
+pub keeps_link : (side : Side) (past : List Entry) (waiting : List SerialEvent) (now : LinkNow) → KnowsEvents side (serial_events past) waiting now → KeepsLink side past
+keeps_link side past waiting now knows =
+    let events : List SerialEvent = serial_events past in
+    let got = moments_taken events waiting knows.parts knows.each in
+    let keeps : KeepsSoFar side (moments_of events (take (length events) knows.parts)) = subst (λ (l : List Moment). KeepsSoFar side l) (sym got.0) knows.told in
+    record {
+      parts = take (length events) knows.parts;
+      each = got.1;
+      obeys = keeps.obeys;
+      writes = keeps.writes;
+      hears = keeps.hears;
+      ticks = keeps.ticks;
+      collides = keeps.collides;
+    }
+
+-- ---- a step
+
+at_step : (side : Side) (past : List Moment) (steps : List Step) (now : LinkNow) (step : Step) (new : LinkSide) (left : List (List ℕ)) → IsAt side past steps now
+    → IsAt side past (steps ++ step ∷ []) (stepped now step new left)
+at_step side past steps now step new left at = record {
+  is_tick = at.is_tick;
+  brought = at.brought;
+  clock = at.clock;
+  until = at.until;
+  life = sym (append_assoc (steps_in (life_of side past)) steps (step ∷ [])) ∙ ap (λ (l : List Step). l ++ step ∷ []) at.life;
+  round = sym (append_assoc (steps_in (round_of past).moments) steps (step ∷ [])) ∙ ap (λ (l : List Step). l ++ step ∷ []) at.round;
+}
+
+-- what it hears, if it hears, is the first of what comes
+hears_step : (side : Side) (past : List Moment) (steps : List Step) (coming left : List (List ℕ)) (step : Step) (event : Event) → step.event ≡ event → TakesTexts (item_of event) coming left
+    → (is_stalled past ≡ true → item_of event ≡ []) → Hears side past steps coming → Hears side past (steps ++ step ∷ []) left
+hears_step side past steps [] left step (heard item) is texts still hears = absurd texts
+hears_step side past steps (text ∷ coming) left step (heard item) is texts still hears =
+    subst (λ (l : List (List ℕ)). Hears side past (steps ++ step ∷ []) l) texts.1
+    (hears_next side past steps text coming step item (ap (λ (e : Event). item_of e) is) texts.0 (by (is_stalled past) still) hears)
+  where
+    by : (b : Bool) → (b ≡ true → item ∷ [] ≡ []) → b ≡ false
+    by true none = absurd (let is_none : item ∷ [] ≡ [] = none refl in cc)
+    by false none = refl
+hears_step side past steps coming left step ticked is texts still hears =
+    subst (λ (l : List (List ℕ)). Hears side past (steps ++ step ∷ []) l) texts (hears_same side past steps coming step (ap (λ (e : Event). item_of e) is) hears)
+hears_step side past steps coming left step (submitted f) is texts still hears =
+    subst (λ (l : List (List ℕ)). Hears side past (steps ++ step ∷ []) l) texts (hears_same side past steps coming step (ap (λ (e : Event). item_of e) is) hears)
+hears_step side past steps coming left step asked is texts still hears =
+    subst (λ (l : List (List ℕ)). Hears side past (steps ++ step ∷ []) l) texts (hears_same side past steps coming step (ap (λ (e : Event). item_of e) is) hears)
+
+stalled_at : (side : Side) (past : List Moment) (steps : List Step) (now : LinkNow) → IsAt side past steps now → is_stalled past ≡ nat_lt now.clock now.until
+stalled_at side past steps now at = at.until (clock_in past) ∙ ap (λ (n : ℕ). nat_lt n now.until) at.clock
+
+module _ (side : Side) (events waiting : List SerialEvent) (now : LinkNow) (knows : KnowsEvents side events waiting now) where
+  abbrev Past : List Moment
+  Past = moments_of (events ++ waiting) knows.parts
+
+  step_does : (new : LinkSide) (step : Step) → MayStep side now step new → Does side Past (knows.steps ++ step ∷ []) new
+  step_does new step goes =
+      does_more side Past knows.steps now.link new step knows.does (subst (λ (l : List Step). SideObeys (l ++ step ∷ []) new) (sym knows.at.life) goes.obeys)
+      (subst (λ (b : Bool). MayDo side b (round_steps Past knows.steps) step) (sym knows.at.is_tick) (subst (λ (l : List Step). MayDo side now.is_tick l step) (sym knows.at.round) goes.may)) goes.none
+
+  step_hears : (step : Step) (left : List (List ℕ)) → MayHear now (item_of step.event) left → Hears side Past (knows.steps ++ step ∷ []) left
+  step_hears step left hears =
+      hears_step side Past knows.steps now.coming left step step.event refl hears.0 (λ stalls. hears.1 (sym (stalled_at side Past knows.steps now knows.at) ∙ stalls)) knows.hears
+
+  -- that writes nothing
+  pub step_known : (new : LinkSide) (step : Step) (left : List (List ℕ)) → MayStep side now step new → MayHear now (item_of step.event) left → texts_of step ≡ []
+      → KnowsEvents side events waiting (stepped now step new left)
+  step_known new step left goes hears quiet = record {
+    parts = knows.parts;
+    steps = knows.steps ++ step ∷ [];
+    each = knows.each;
+    told = knows.told;
+    all = knows.all;
+    does = step_does new step goes;
+    mute = all-append IsMute knows.steps (step ∷ []) knows.mute (quiet, tt);
+    hears = step_hears step left hears;
+    at = at_step side Past knows.steps now step new left knows.at;
+  }
+
+-- the link may be told otherwise, where it obeyed all the same
+pub relinked : (side : Side) (events waiting : List SerialEvent) (now : LinkNow) (new : LinkSide) → SideObeys now.life new → KnowsEvents side events waiting now
+    → KnowsEvents side events waiting (record now { link = new })
+relinked side events waiting now new obeys knows = record {
+  parts = knows.parts;
+  steps = knows.steps;
+  each = knows.each;
+  told = knows.told;
+  all = knows.all;
+  does = record { obeys = subst (λ (l : List Step). SideObeys l new) (sym knows.at.life) obeys; may = knows.does.may; asks = knows.does.asks };
+  mute = knows.mute;
+  hears = knows.hears;
+  at = record { is_tick = knows.at.is_tick; brought = knows.at.brought; clock = knows.at.clock; until = knows.at.until; life = knows.at.life; round = knows.at.round };
+}
+
+-- ---- an event ends what is open
+
+pub no_steps : Obeys []
+no_steps = (
+  record { turn = Idle; collisions = 0 },
+  record { answers = tt; collisions = refl; turns = record { past = []; now = []; parts = refl; are_past = tt; stands = tt } },
+)
+
+-- nothing is open since the last of these events
+just_known : (side : Side) (events : List SerialEvent) (parts : List (List Step)) (now : LinkNow) → length parts ≡ length events → KeepsSoFar side (moments_of events parts)
+    → Does side (moments_of events parts) [] now.link → Hears side (moments_of events parts) [] now.coming → IsAt side (moments_of events parts) [] now → KnowsEvents side events [] now
+just_known side events parts now same keeps does hears at =
+    let all : events ≡ events ++ [] = sym (append-nil events) in
+    record {
+      parts = parts;
+      steps = [];
+      each = subst (λ (l : List SerialEvent). length parts ≡ length l) all same;
+      told = keeps;
+      all = subst (λ (l : List SerialEvent). KeepsSoFar side (moments_of l parts)) all keeps;
+      does = subst (λ (l : List SerialEvent). Does side (moments_of l parts) [] now.link) all does;
+      mute = tt;
+      hears = subst (λ (l : List SerialEvent). Hears side (moments_of l parts) [] now.coming) all hears;
+      at = subst (λ (l : List SerialEvent). IsAt side (moments_of l parts) [] now) all at;
+    }
+
+-- no collision is asked for by a unit
+units_ask_none : (side on : Side) (unit : List ℕ) (arriving : List (List ℕ)) → asks_by side (Writes on unit arriving) ≡ 0
+units_ask_none Host on unit arriving = refl
+units_ask_none Chip on unit arriving = refl
+
+-- where a unit is written
+at_unit : (side on : Side) (past : List Moment) (steps : List Step) (now : LinkNow) (unit : List ℕ) (arriving : List (List ℕ)) → IsAt side past steps now
+    → IsAt side (past ++ record { event = Writes on unit arriving; steps = steps } ∷ []) [] (with_arriving now (arrival_of (other side) (Writes on unit arriving)))
+at_unit side on past steps now unit arriving at =
+    let one : Moment = record { event = Writes on unit arriving; steps = steps } in
+    let more : List (List ℕ) = arrival_of (other side) (Writes on unit arriving) in
+    let all : arrivals_of (other side) (round_of (past ++ one ∷ [])).moments ≡ arrivals_of (other side) (round_of past).moments ++ more
+    = ap (λ (r : Round). arrivals_of (other side) r.moments) (round_one past one) ∙ arrivals_one (other side) (round_of past).moments one in
+    let same = round_same past on unit arriving steps in
+    let clock : clock_in (past ++ one ∷ []) ≡ clock_in past + 0 = clock_one past one in
+    let before : clock_in past ≡ now.clock = at.clock in
+    record {
+      is_tick = same.1 ∙ at.is_tick;
+      brought = ap (λ (l : List (List ℕ)). length l) all ∙ length-append (arrivals_of (other side) (round_of past).moments) more ∙ ap (λ (n : ℕ). n + length more) at.brought;
+      clock = omega (arith, clock, before);
+      until = λ time. ap (λ (l : List ℕ). list_any (nat_lt time) l) (stalls_one past one ∙ append-nil (stalls_in past)) ∙ at.until time;
+      life = life_same side past one refl ∙ at.life;
+      round = same.0 ∙ at.round;
+    }
+
+most_is : (side : Side) (past : List Moment) (brought : ℕ) → length (arrivals_of (other side) (round_of past).moments) ≡ brought → most_left side past ≡ most_of side brought
+most_is Host past brought is = refl
+most_is Chip past brought is = ap (λ (n : ℕ). n - 63) is
+
+module _ (side : Side) (events waiting : List SerialEvent) (now : LinkNow) (knows : KnowsEvents side events waiting now) where
+  abbrev pub Before : List Moment
+  Before = moments_of (events ++ waiting) knows.parts
+
+  -- with these steps at last, of which this link comes, and this is left on its way
+  pub event_known : (event : SerialEvent) (steps : List Step) (last : LinkSide) (left : List (List ℕ)) (next : LinkNow) → Does side Before steps last → Hears side Before steps left
+      → WritesThere side (record { event = event; steps = steps }) → MayEnd side Before steps left event
+      → Does side (Before ++ record { event = event; steps = steps } ∷ []) [] next.link → Hears side (Before ++ record { event = event; steps = steps } ∷ []) [] next.coming
+      → IsAt side (Before ++ record { event = event; steps = steps } ∷ []) [] next → KnowsEvents side ((events ++ waiting) ++ event ∷ []) [] next
+  event_known event steps last left next does hears writes may later_does later_hears at =
+      let all : List SerialEvent = events ++ waiting in
+      let one : Moment = record { event = event; steps = steps } in
+      let is : Before ++ one ∷ [] ≡ moments_of (all ++ event ∷ []) (knows.parts ++ steps ∷ []) = sym (moments_one all knows.parts event steps knows.each) in
+      just_known side (all ++ event ∷ []) (knows.parts ++ steps ∷ []) next (one_more all knows.parts event steps knows.each)
+      (subst (λ (l : List Moment). KeepsSoFar side l) is (ends_part side Before one last left no_steps knows.all does hears writes may))
+      (subst (λ (l : List Moment). Does side l [] next.link) is later_does)
+      (subst (λ (l : List Moment). Hears side l [] next.coming) is later_hears)
+      (subst (λ (l : List Moment). IsAt side l [] next) is at)
+
+  -- by where it is now
+  pub may_end : (event : SerialEvent) → ends_round event ≡ true → MayEndNow side now → MayEnd side Before knows.steps now.coming event
+  may_end event ends may = record {
+    few = by_few (ends_round event) (is_stalled Before) (λ moves. few_at (may.few (sym (stalled_at side Before knows.steps now knows.at) ∙ moves)));
+    ticked = by_tick (ends_round event) (round_of Before).is_tick
+        (λ ticks. ap (λ (l : List Step). ticks_of l) knows.at.round ∙ may.ticked (sym knows.at.is_tick ∙ ticks));
+  }
+    where
+      few_at : length now.coming ≤ most_of side now.brought → length now.coming ≤ most_left side Before
+      few_at few = subst (λ (n : ℕ). length now.coming ≤ n) (sym (most_is side Before now.brought knows.at.brought)) few
+
+      by_few : (ends stalled : Bool) → (stalled ≡ false → length now.coming ≤ most_left side Before) → LeavesFew (ends && not stalled) (length now.coming) (most_left side Before)
+      by_few true false few = few refl
+      by_few true true few = tt
+      by_few false stalled few = tt
+
+      by_tick : (ends ticks : Bool) → (ticks ≡ true → ticks_of (round_steps Before knows.steps) ≡ 1) → HasTicked (ends && ticks) (round_steps Before knows.steps)
+      by_tick true true once = once refl
+      by_tick true false once = tt
+      by_tick false ticks once = tt
+
+  -- a line that is no restart and asks for no collision, and what it stalls
+  pub line_known : (line : List Line) (until : ℕ) → is_restart line ≡ false → asks_by side (Line_begins line) ≡ 0
+      → ((time : ℕ) → list_any (nat_lt time) (stalls_in Before ++ flat_map (stall_by (clock_in Before)) line) ≡ nat_lt time until) → MayEndNow side now
+      → KnowsEvents side ((events ++ waiting) ++ Line_begins line ∷ []) [] (begun_line now until)
+  line_known line until plain none stalls may =
+      let event : SerialEvent = Line_begins line in
+      let steps : List Step = knows.steps in
+      let one : Moment = record { event = event; steps = steps } in
+      let next : LinkNow = begun_line now until in
+      let begins = round_one Before one in
+      let clock : clock_in (Before ++ one ∷ []) ≡ clock_in Before + 0 = clock_one Before one in
+      let before : clock_in Before ≡ now.clock = knows.at.clock in
+      event_known event steps now.link now.coming next knows.does knows.hears (mute_last steps knows.mute) (may_end event refl may) (does_on side Before one now.link plain none knows.does)
+      (subst (λ (l : List (List ℕ)). Hears side (Before ++ one ∷ []) [] l) (append-nil now.coming) (hears_on side Before one now.coming plain knows.hears))
+      (record {
+        is_tick = ap (λ (r : Round). r.is_tick) begins;
+        brought = ap (λ (r : Round). length (arrivals_of (other side) r.moments)) begins;
+        clock = omega (arith, clock, before);
+        until = λ time. ap (λ (l : List ℕ). list_any (nat_lt time) l) (stalls_one Before one) ∙ stalls time;
+        life = life_same side Before one plain ∙ knows.at.life;
+        round = ap (λ (r : Round). steps_in r.moments ++ []) begins;
+      })
+
+  -- a unit of either side
+  unit_ends : (on : Side) (unit : List ℕ) (arriving : List (List ℕ)) (steps : List Step) (later : LinkNow) → Does side Before steps later.link → Hears side Before steps later.coming
+      → IsAt side Before steps later → WritesThere side (record { event = Writes on unit arriving; steps = steps })
+      → KnowsEvents side ((events ++ waiting) ++ Writes on unit arriving ∷ []) [] (with_arriving later (arrival_of (other side) (Writes on unit arriving)))
+  unit_ends on unit arriving steps later does hears at writes =
+      let event : SerialEvent = Writes on unit arriving in
+      let one : Moment = record { event = event; steps = steps } in
+      event_known event steps later.link later.coming (with_arriving later (arrival_of (other side) event)) does hears writes (unit_may_end side on Before steps later.coming unit arriving)
+      (does_on side Before one later.link refl (units_ask_none side on unit arriving) does) (hears_on side Before one later.coming refl hears)
+      (at_unit side on Before steps later unit arriving at)
+
+  -- a tick, of which it is not told
+  pub tick_known : MayEndNow side now → KnowsEvents side events (waiting ++ Tick_begins ∷ []) (begun_tick now)
+  tick_known may =
+      let all : List SerialEvent = events ++ waiting in
+      let steps : List Step = knows.steps in
+      let one : Moment = record { event = Tick_begins; steps = steps } in
+      let parts : List (List Step) = knows.parts ++ steps ∷ [] in
+      let next : LinkNow = begun_tick now in
+      let is : Before ++ one ∷ [] ≡ moments_of (events ++ (waiting ++ Tick_begins ∷ [])) parts
+      = sym (moments_one all knows.parts Tick_begins steps knows.each) ∙ ap (λ (l : List SerialEvent). moments_of l parts) (append_assoc events waiting (Tick_begins ∷ [])) in
+      let begins = round_one Before one in
+      let at : IsAt side (Before ++ one ∷ []) [] next = record {
+        is_tick = ap (λ (r : Round). r.is_tick) begins;
+        brought = ap (λ (r : Round). length (arrivals_of (other side) r.moments)) begins;
+        clock = clock_one Before one ∙ ap (λ (n : ℕ). n + 1) knows.at.clock;
+        until = λ time. ap (λ (l : List ℕ). list_any (nat_lt time) l) (stalls_one Before one ∙ append-nil (stalls_in Before)) ∙ knows.at.until time;
+        life = life_same side Before one refl ∙ knows.at.life;
+        round = ap (λ (r : Round). steps_in r.moments ++ []) begins;
+      } in
+      record {
+        parts = parts;
+        steps = [];
+        each = one_more all knows.parts Tick_begins steps knows.each ∙ ap (λ (l : List SerialEvent). length l) (append_assoc events waiting (Tick_begins ∷ []));
+        told = subst (λ (l : List Moment). KeepsSoFar side l) (sym (moments_first events waiting knows.parts (steps ∷ []) knows.each)) knows.told;
+        all = subst (λ (l : List Moment). KeepsSoFar side l) is
+            (ends_part side Before one now.link now.coming no_steps knows.all knows.does knows.hears (mute_last steps knows.mute) (may_end Tick_begins refl may));
+        does = subst (λ (l : List Moment). Does side l [] now.link) is (does_on side Before one now.link refl (ticks_ask_none side) knows.does);
+        mute = tt;
+        hears = subst (λ (l : List Moment). Hears side l [] now.coming) is
+            (subst (λ (l : List (List ℕ)). Hears side (Before ++ one ∷ []) [] l) (append-nil now.coming) (hears_on side Before one now.coming refl knows.hears));
+        at = subst (λ (l : List Moment). IsAt side l [] next) is at;
+      }
+    where
+      ticks_ask_none : (side : Side) → asks_by side Tick_begins ≡ 0
+      ticks_ask_none Host = refl
+      ticks_ask_none Chip = refl
+
+-- ---- with entries
+
+-- nothing waits to be told
+none_waits : (events : List SerialEvent) (event : SerialEvent) → (events ++ []) ++ event ∷ [] ≡ events ++ event ∷ []
+none_waits events event = ap (λ (l : List SerialEvent). l ++ event ∷ []) (append-nil events)
+
+own_arrival : (side : Side) (unit : List ℕ) (arriving : List (List ℕ)) → arrival_of (other side) (Writes side unit arriving) ≡ []
+own_arrival Host unit arriving = refl
+own_arrival Chip unit arriving = refl
+
+none_arriving : (side : Side) (events : List SerialEvent) (now : LinkNow) → KnowsEvents side events [] (with_arriving now []) → KnowsEvents side events [] now
+none_arriving side events now knows =
+    subst (λ (n : ℕ). KnowsEvents side events [] (record now { brought = n })) plus_none
+    (subst (λ (l : List (List ℕ)). KnowsEvents side events [] (record now { coming = l; brought = now.brought + 0 })) (append-nil now.coming) knows)
+  where
+    plus_none : now.brought + 0 ≡ now.brought
+    plus_none = omega arith
+
+other_arrival : (side : Side) (unit : List ℕ) (arriving : List (List ℕ)) → (arrival_of (other side) (Writes (other side) unit arriving) ≡ arriving) × (unit_by side (Writes (other side) unit arriving) ≡ [])
+other_arrival Host unit arriving = (refl, refl)
+other_arrival Chip unit arriving = (refl, refl)
+
+-- a unit that a step of the side writes
+pub write_known : (side : Side) (past : List Entry) (now : LinkNow) (new : LinkSide) (left : List (List ℕ)) (step : Step) (way : WayState) (unit : LineUnit) → KnowsLink side past 0 now
+    → MayStep side now step new → MayHear now (item_of step.event) left → texts_of step ≡ unit_text unit ∷ [] → KnowsLink side (past ++ told side way unit) 0 (stepped now step new left)
+write_known side past now new left step way unit knows goes hears is =
+    let events : List SerialEvent = serial_events past in
+    let arriving : List (List ℕ) = arriving_of side (unit_text unit) (marks_of side way unit) in
+    let event : SerialEvent = Writes side (unit_text unit) arriving in
+    let later : LinkNow = stepped now step new left in
+    let got =
+    unit_ends side events [] now knows side (unit_text unit) arriving (knows.steps ++ step ∷ []) later (step_does side events [] now knows new step goes)
+    (step_hears side events [] now knows step left hears) (at_step side (moments_of (events ++ []) knows.parts) knows.steps now step new left knows.at)
+    (subst (λ (b : Bool). WriteLast (knows.steps ++ step ∷ []) (if b then unit_text unit ∷ [] else [])) (sym (same_itself side)) (writes_last knows.steps step (unit_text unit ∷ []) knows.mute is)) in
+    subst (λ (l : List SerialEvent). KnowsEvents side l [] later) (none_waits events event ∙ sym (unit_serials side way unit past).0)
+    (none_arriving side ((events ++ []) ++ event ∷ []) later
+    (subst (λ (l : List (List ℕ)). KnowsEvents side ((events ++ []) ++ event ∷ []) [] (with_arriving later l)) (own_arrival side (unit_text unit) arriving) got))
+
+-- a unit that the other side writes
+pub other_known : (side : Side) (past : List Entry) (now : LinkNow) (way : WayState) (unit : LineUnit) → KnowsLink side past 0 now
+    → KnowsLink side (past ++ told (other side) way unit) 0 (with_arriving now (arriving_of (other side) (unit_text unit) (marks_of (other side) way unit)))
+other_known side past now way unit knows =
+    let events : List SerialEvent = serial_events past in
+    let arriving : List (List ℕ) = arriving_of (other side) (unit_text unit) (marks_of (other side) way unit) in
+    let event : SerialEvent = Writes (other side) (unit_text unit) arriving in
+    let both = other_arrival side (unit_text unit) arriving in
+    let got =
+    unit_ends side events [] now knows (other side) (unit_text unit) arriving knows.steps now knows.does knows.hears knows.at
+    (subst (λ (l : List (List ℕ)). WriteLast knows.steps l) (sym both.1) (mute_last knows.steps knows.mute)) in
+    subst (λ (l : List SerialEvent). KnowsEvents side l [] (with_arriving now arriving)) (none_waits events event ∙ sym (unit_serials (other side) way unit past).0)
+    (subst (λ (l : List (List ℕ)). KnowsEvents side ((events ++ []) ++ event ∷ []) [] (with_arriving now l)) both.0 got)
+
+-- an entry beside the line
+pub beside_known : (side : Side) (past : List Entry) (waiting : ℕ) (now : LinkNow) (e : Entry) → IsBeside e → KnowsLink side past waiting now → KnowsLink side (past ++ e ∷ []) waiting now
+beside_known side past waiting now e is knows = subst (λ (l : List SerialEvent). KnowsEvents side l (replicate waiting Tick_begins) now) (sym (beside_serials past e is).0) knows
+
+-- what waits is told
+waiting_told : (side : Side) (events waiting : List SerialEvent) (now : LinkNow) → KnowsEvents side events waiting now → KnowsEvents side (events ++ waiting) [] now
+waiting_told side events waiting now knows =
+    let all : events ++ waiting ≡ (events ++ waiting) ++ [] = sym (append-nil (events ++ waiting)) in
+    record {
+      parts = knows.parts;
+      steps = knows.steps;
+      each = subst (λ (l : List SerialEvent). length knows.parts ≡ length l) all knows.each;
+      told = knows.all;
+      all = subst (λ (l : List SerialEvent). KeepsSoFar side (moments_of l knows.parts)) all knows.all;
+      does = subst (λ (l : List SerialEvent). Does side (moments_of l knows.parts) knows.steps now.link) all knows.does;
+      mute = knows.mute;
+      hears = subst (λ (l : List SerialEvent). Hears side (moments_of l knows.parts) knows.steps now.coming) all knows.hears;
+      at = subst (λ (l : List SerialEvent). IsAt side (moments_of l knows.parts) knows.steps now) all knows.at;
+    }
+
+-- the number of the tick is entered
+pub time_known : (side : Side) (past : List Entry) (waiting : ℕ) (now : LinkNow) (tick : ℕ) → tick - tick_told past ≡ waiting → KnowsLink side past waiting now
+    → KnowsLink side (past ++ entry.Time tick ∷ []) 0 now
+time_known side past waiting now tick is knows =
+    subst (λ (l : List SerialEvent). KnowsEvents side l [] now)
+    (ap (λ (n : ℕ). serial_events past ++ replicate n Tick_begins) (sym is) ∙ sym (time_serials past tick).0) (waiting_told side (serial_events past) (replicate waiting Tick_begins) now knows)
