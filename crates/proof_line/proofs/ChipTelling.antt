@@ -218,7 +218,7 @@ ended_back : (sending : Option Sending) (s : ChipState) (status : TransmitStatus
 ended_back None s status has = (has, tt)
 ended_back (Some sending) s status has = queued_back s.port.side.turn s.port (callback_frame sending status) refl has
 
-given_back : (s : ChipState) (event : ChipEvent) → IsGiven event → HasFrames (after s event).port → HasFrames s.port × Fit (chip_units (outs s event))
+pub given_back : (s : ChipState) (event : ChipEvent) → IsGiven event → HasFrames (after s event).port → HasFrames s.port × Fit (chip_units (outs s event))
 given_back s (chip_hears n payload) given has = queued_back s.port.side.turn s.port _ refl has
 given_back s (Done status) given has = by (s.aborted == 0) has
   where

@@ -20,6 +20,9 @@ mod LinkTold
 mod LinkGoes
 mod LinkLines
 mod LinkChip
+mod LinkGiven
+mod LinkHost
+mod LinkEnds
 mod Fitting
 mod Tellings
 mod Numbering

@@ -51,11 +51,11 @@ chip_event_arrives o e past now knows = others_known (chip_units (outs o.chip.st
 
 -- ---- items that are judged, one after another
 
-submits_hear_none : (frames : List FrameParts) → items_of (map (λ (f : FrameParts). submit_step f) frames) ≡ []
+pub submits_hear_none : (frames : List FrameParts) → items_of (map (λ (f : FrameParts). submit_step f) frames) ≡ []
 submits_hear_none [] = refl
 submits_hear_none (f ∷ frames) = submits_hear_none frames
 
-submits_tick_none : (frames : List FrameParts) → ticks_of (map (λ (f : FrameParts). submit_step f) frames) ≡ 0
+pub submits_tick_none : (frames : List FrameParts) → ticks_of (map (λ (f : FrameParts). submit_step f) frames) ≡ 0
 submits_tick_none [] = refl
 submits_tick_none (f ∷ frames) = let rest = submits_tick_none frames in omega (arith, rest)
 

@@ -220,7 +220,7 @@ tick_shows (Paused g copies count) waiting f busy some = absurd (by (count + 1 =
     by true some = let is : [] ≡ f ∷ [] = some in cc
     by false some = let is : [] ≡ f ∷ [] = some in cc
 
-may_tick : (side : Side) (now : LinkNow) (outs : List LinkOut) → now.is_tick ≡ true → ticks_of now.round ≡ 0 → MayDo side now.is_tick now.round (record { event = ticks; outs = outs })
+pub may_tick : (side : Side) (now : LinkNow) (outs : List LinkOut) → now.is_tick ≡ true → ticks_of now.round ≡ 0 → MayDo side now.is_tick now.round (record { event = ticks; outs = outs })
 may_tick side now outs tick none = subst (λ (b : Bool). MayDo side b now.round (record { event = ticks; outs = outs })) (sym tick) (by side)
   where
     by : (side : Side) → MayDoInTick side now.round ticks

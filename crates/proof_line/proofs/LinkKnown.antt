@@ -9,13 +9,14 @@ use Rattle.serial_link.specs.declared.turn.Turn.TheVariants.{Idle}
 use Rattle.serial_link.specs.Rules.{Step, SideObeys, Event, heard, ticked, submitted, asked, item_of, ticks_of}
 use Rattle.serial_pipes.specs.State.{WayState}
 use Rattle.serial_pipes.specs.Events.{told}
-use Rattle.serial_pipes.specs.Events as way
 use Rattle.zw_words.specs.declared.side.Side.{Side}
 use Rattle.zw_words.specs.declared.side.Side.TheVariants.{Host, Chip}
 use Rattle.zw_text.specs.declared.entry.Entry.{Entry}
 use Rattle.zw_text.specs.declared.entry.Entry.TheVariants as entry
 use Rattle.zw_text.specs.declared.line.Line.{Line}
 use Rattle.law_transcript.specs.Restarts.{is_restart}
+use Rattle.law_transcript.specs.Lists.{shown_after}
+use Rattle.law_wire.specs.Clearing.{lost_at, lost_by}
 use Rattle.law_wire.specs.Serial.{SerialEvent, arriving_of, serial_events}
 use Rattle.law_wire.specs.Serial.SerialEvent.{Line_begins, Tick_begins, Writes}
 use Rattle.law_wire.specs.Links.{HasTicked, KeepsLink, LeavesFew, Moment, Round, WriteLast, arrivals_of, ends_round, most_left, stall_by, MayDo, Obeys, WritesThere, arrival_of, clock_in, is_stalled, moments_of, other, round_of, steps_in, texts_of, unit_by}
@@ -25,7 +26,7 @@ use Rattle.proof_line.proofs.Serials.{beside_serials, time_serials, unit_serials
 use Rattle.proof_line.proofs.Standing.{same_itself}
 use Rattle.proof_line.proofs.Arriving.{marks_of}
 use Rattle.proof_line.proofs.Tellings.{IsBeside}
-use Rattle.proof_line.proofs.LinkSteps.{asks_by, clock_one, does_more, does_on, ends_part, hears_next, hears_on, hears_same, life_same, mute_last, round_same, stalls_one, unit_may_end, writes_last}
+use Rattle.proof_line.proofs.LinkSteps.{asks_by, clock_one, does_more, does_on, ends_part, hears_next, hears_on, hears_same, life_same, lost_same, mute_last, round_same, stalls_one, unit_may_end, writes_last}
 
 -- ---- moments
 
@@ -69,6 +70,13 @@ keeps_link side past waiting now knows =
       collides = keeps.collides;
     }
 
+-- and with these steps the bytes that each restart lost are those
+pub keeps_lost : (side : Side) (past : List Entry) (waiting : List SerialEvent) (now : LinkNow) (knows : KnowsEvents side (serial_events past) waiting now)
+    → lost_by side past (keeps_link side past waiting now knows).parts ≡ now.lost
+unfolding keeps_link
+keeps_lost side past waiting now knows =
+    ap (λ (l : List Moment). shown_after (lost_at side) [] l) (moments_taken (serial_events past) waiting knows.parts knows.each).0 ∙ knows.lost
+
 -- ---- a step
 
 at_step : (side : Side) (past : List Moment) (steps : List Step) (now : LinkNow) (step : Step) (new : LinkSide) (left : List (List ℕ)) → IsAt side past steps now
@@ -80,6 +88,7 @@ at_step side past steps now step new left at = record {
   until = at.until;
   life = sym (append_assoc (steps_in (life_of side past)) steps (step ∷ [])) ∙ ap (λ (l : List Step). l ++ step ∷ []) at.life;
   round = sym (append_assoc (steps_in (round_of past).moments) steps (step ∷ [])) ∙ ap (λ (l : List Step). l ++ step ∷ []) at.round;
+  lost = at.lost;
 }
 
 -- what it hears, if it hears, is the first of what comes
@@ -129,6 +138,7 @@ module _ (side : Side) (events waiting : List SerialEvent) (now : LinkNow) (know
     mute = all-append IsMute knows.steps (step ∷ []) knows.mute (quiet, tt);
     hears = step_hears step left hears;
     at = at_step side Past knows.steps now step new left knows.at;
+    lost = knows.lost;
   }
 
 -- the link may be told otherwise, where it obeyed all the same
@@ -143,7 +153,8 @@ relinked side events waiting now new obeys knows = record {
   does = record { obeys = subst (λ (l : List Step). SideObeys l new) (sym knows.at.life) obeys; may = knows.does.may; asks = knows.does.asks };
   mute = knows.mute;
   hears = knows.hears;
-  at = record { is_tick = knows.at.is_tick; brought = knows.at.brought; clock = knows.at.clock; until = knows.at.until; life = knows.at.life; round = knows.at.round };
+  at = record { is_tick = knows.at.is_tick; brought = knows.at.brought; clock = knows.at.clock; until = knows.at.until; life = knows.at.life; round = knows.at.round; lost = knows.at.lost };
+  lost = knows.lost;
 }
 
 -- ---- an event ends what is open
@@ -169,6 +180,7 @@ just_known side events parts now same keeps does hears at =
       mute = tt;
       hears = subst (λ (l : List SerialEvent). Hears side (moments_of l parts) [] now.coming) all hears;
       at = subst (λ (l : List SerialEvent). IsAt side (moments_of l parts) [] now) all at;
+      lost = at.lost;
     }
 
 -- no collision is asked for by a unit
@@ -194,6 +206,7 @@ at_unit side on past steps now unit arriving at =
       until = λ time. ap (λ (l : List ℕ). list_any (nat_lt time) l) (stalls_one past one ∙ append-nil (stalls_in past)) ∙ at.until time;
       life = life_same side past one refl ∙ at.life;
       round = same.0 ∙ at.round;
+      lost = lost_same side past one refl ∙ at.lost;
     }
 
 most_is : (side : Side) (past : List Moment) (brought : ℕ) → length (arrivals_of (other side) (round_of past).moments) ≡ brought → most_left side past ≡ most_of side brought
@@ -261,6 +274,7 @@ module _ (side : Side) (events waiting : List SerialEvent) (now : LinkNow) (know
         until = λ time. ap (λ (l : List ℕ). list_any (nat_lt time) l) (stalls_one Before one) ∙ stalls time;
         life = life_same side Before one plain ∙ knows.at.life;
         round = ap (λ (r : Round). steps_in r.moments ++ []) begins;
+        lost = lost_same side Before one plain ∙ knows.at.lost;
       })
 
   -- a unit of either side
@@ -292,6 +306,7 @@ module _ (side : Side) (events waiting : List SerialEvent) (now : LinkNow) (know
         until = λ time. ap (λ (l : List ℕ). list_any (nat_lt time) l) (stalls_one Before one ∙ append-nil (stalls_in Before)) ∙ knows.at.until time;
         life = life_same side Before one refl ∙ knows.at.life;
         round = ap (λ (r : Round). steps_in r.moments ++ []) begins;
+        lost = lost_same side Before one refl ∙ knows.at.lost;
       } in
       record {
         parts = parts;
@@ -305,6 +320,7 @@ module _ (side : Side) (events waiting : List SerialEvent) (now : LinkNow) (know
         hears = subst (λ (l : List Moment). Hears side l [] now.coming) is
             (subst (λ (l : List (List ℕ)). Hears side (Before ++ one ∷ []) [] l) (append-nil now.coming) (hears_on side Before one now.coming refl knows.hears));
         at = subst (λ (l : List Moment). IsAt side l [] next) is at;
+        lost = ap (λ (l : List Moment). shown_after (lost_at side) [] l) (moments_first events waiting knows.parts (steps ∷ []) knows.each) ∙ knows.lost;
       }
     where
       ticks_ask_none : (side : Side) → asks_by side Tick_begins ≡ 0
@@ -381,6 +397,7 @@ waiting_told side events waiting now knows =
       mute = knows.mute;
       hears = subst (λ (l : List SerialEvent). Hears side (moments_of l knows.parts) knows.steps now.coming) all knows.hears;
       at = subst (λ (l : List SerialEvent). IsAt side (moments_of l knows.parts) knows.steps now) all knows.at;
+      lost = knows.at.lost;
     }
 
 -- the number of the tick is entered

@@ -1,5 +1,5 @@
 -- Lines that begin: the words of a line, a restart, after which a new link of the host goes on, and a line that asks for a collision.
-use Rattle.std.proofs.Common.{◌≡◌, ℕ, ◌+◌, ◌-◌, nat_lt, List, [], ◌∷◌, ◌++◌, length, refl, sym, ap, ◌∙◌, subst, append-nil, append_assoc, arith}
+use Rattle.std.proofs.Common.{◌≡◌, ℕ, ◌+◌, nat_lt, List, [], ◌∷◌, ◌++◌, length, refl, sym, ap, ◌∙◌, subst, append-nil, append_assoc, arith}
 use Rattle.std.specs.List.{list_any}
 use Rattle.serial_link.specs.State.{Side as LinkSide}
 use Rattle.serial_link.specs.Rules.{Step, SideObeys, Event, asked, item_of}
@@ -9,13 +9,15 @@ use Rattle.zw_text.specs.declared.entry.Entry.{Entry}
 use Rattle.zw_text.specs.declared.entry.Entry.TheVariants as entry
 use Rattle.zw_text.specs.declared.entry.Refusal.{Refusal}
 use Rattle.zw_text.specs.Transcript.{line_of}
+use Rattle.law_transcript.specs.Lists.{shown_after}
+use Rattle.law_wire.specs.Clearing.{bytes_in, lost_at}
 use Rattle.law_wire.specs.Serial.{SerialEvent, beginning_of, serial_events, ticks_up_to}
 use Rattle.law_wire.specs.Serial.SerialEvent.{Line_begins}
 use Rattle.law_wire.specs.Links.{Moment, Round, arrivals_of, clock_in, moments_of, steps_in, texts_of}
 use Rattle.proof_line.specs.Links.{Does, Hears, IsAt, KeepsSoFar, KnowsEvents, LinkNow, MayEndNow, begun_line, due_from, stalls_in, tick_told}
 use Rattle.proof_line.proofs.Moments.{moments_one, round_one, steps_one}
 use Rattle.proof_line.proofs.Serials.{serials_grow}
-use Rattle.proof_line.proofs.LinkSteps.{asked_next, clock_one, does_again, does_asked, ends_part, hears_again, hears_on, hears_same, mute_last, stalls_one, start_again}
+use Rattle.proof_line.proofs.LinkSteps.{asked_next, clock_one, does_again, does_asked, ends_part, hears_again, hears_on, hears_same, lost_again, lost_same, mute_last, stalls_one, start_again}
 use Rattle.proof_line.proofs.LinkKnown.{event_known, may_end, no_steps, one_more}
 
 -- ---- the words of a line
@@ -40,7 +42,7 @@ refused_serials past words refusal =
 
 -- a side after it: nothing is on its way
 abbrev pub restarted : LinkNow → List Step → LinkSide → LinkNow
-restarted now life link = record (begun_line now now.until) { life = life; link = link; coming = [] }
+restarted now life link = record (begun_line now now.until) { life = life; link = link; coming = []; lost = now.lost ++ bytes_in now.coming ∷ [] }
 
 module _ (events waiting : List SerialEvent) (now : LinkNow) where
   abbrev Restart : SerialEvent
@@ -63,6 +65,7 @@ module _ (events waiting : List SerialEvent) (now : LinkNow) where
         until = λ time. ap (λ (l : List ℕ). list_any (nat_lt time) l) (stalls_one before one ∙ append-nil (stalls_in before)) ∙ knows.at.until time;
         life = ap (λ (l : List Moment). steps_in l ++ []) (start_again before one refl);
         round = ap (λ (r : Round). steps_in r.moments ++ []) begins;
+        lost = lost_again Host before one now.coming refl knows.hears ∙ ap (λ (l : List ℕ). l ++ bytes_in now.coming ∷ []) knows.at.lost;
       })
 
   -- the chip's goes on
@@ -85,6 +88,7 @@ module _ (events waiting : List SerialEvent) (now : LinkNow) where
         until = λ time. ap (λ (l : List ℕ). list_any (nat_lt time) l) (stalls_one before one ∙ append-nil (stalls_in before)) ∙ knows.at.until time;
         life = life ∙ knows.at.life;
         round = ap (λ (r : Round). steps_in r.moments ++ []) begins;
+        lost = lost_again Chip before one now.coming refl knows.hears ∙ ap (λ (l : List ℕ). l ++ bytes_in now.coming ∷ []) knows.at.lost;
       })
 
   -- ---- a collision
@@ -127,5 +131,7 @@ module _ (events waiting : List SerialEvent) (now : LinkNow) where
           until = λ time. ap (λ (l : List ℕ). list_any (nat_lt time) l) (stalls_one before one ∙ append-nil (stalls_in before)) ∙ knows.at.until time;
           life = ap (λ (l : List Step). l ++ step ∷ []) (steps_one before one ∙ knows.at.life);
           round = ap (λ (r : Round). steps_in r.moments ++ step ∷ []) begins;
+          lost = lost_same Chip before one refl ∙ knows.at.lost;
         });
+        lost = ap (λ (l : List Moment). shown_after (lost_at Chip) [] l) (sym is_one) ∙ lost_same Chip before one refl ∙ knows.at.lost;
       }

@@ -14,9 +14,10 @@ use Rattle.zw_text.specs.declared.line.Line.{Line}
 use Rattle.zw_text.specs.declared.line.Line.TheVariants as lines
 use Rattle.law_transcript.specs.Lists.{EachAfter, last_or, shown_after}
 use Rattle.law_wire.specs.Marks.{collision_of}
+use Rattle.law_wire.specs.Clearing.{bytes_in, lost_at}
 use Rattle.law_wire.specs.Serial.{SerialEvent}
 use Rattle.law_wire.specs.Serial.SerialEvent.{Line_begins, Writes}
-use Rattle.law_wire.specs.Links.{Moment, Round, AreFirst, CollidesAsTold, HearsInTime, LeavesFew, MayDo, Obeys, TicksInTime, WriteLast, WritesThere, ahead, arrival_of, arrivals_of, asked_for, clock_in, ends_round, is_stalled, line_in, lives, most_left, other, round_of, since_start, stall_by, steps_in, texts_of, tick_of}
+use Rattle.law_wire.specs.Links.{Moment, Round, AreFirst, CollidesAsTold, HearsInTime, LeavesFew, MayDo, Obeys, TicksInTime, WriteLast, WritesThere, ahead, arrival_of, arrivals_of, asked_for, clock_in, ends_round, is_stalled, left_ahead, line_in, lives, most_left, other, round_of, since_start, stall_by, steps_in, texts_of, tick_of}
 use Rattle.proof_host.proofs.Lists.{each-append}
 use Rattle.proof_line.specs.Arrivals.{AreTexts}
 use Rattle.proof_line.specs.Links.{Does, Hears, IsMute, KeepsSoFar, MayEnd, life_of, life_steps, round_steps, stalls_in}
@@ -78,6 +79,19 @@ hears_now side past steps coming hears =
     by : (b : Bool) → AreFirst (items_of steps) (ahead side past) → (b ≡ true → items_of steps ≡ []) → AreFirst (items_of steps) (if b then [] else ahead side past)
     by true first still = subst (λ (l : List Item). AreFirst l []) (sym (still refl)) tt
     by false first still = first
+
+-- ---- what restarts lost
+
+pub lost_same : (side : Side) (past : List Moment) (one : Moment) → restarts_at one ≡ false → shown_after (lost_at side) [] (past ++ one ∷ []) ≡ shown_after (lost_at side) [] past
+lost_same side past one plain =
+    shown_last (lost_at side) [] past one ∙ ap (λ (b : Bool). shown_after (lost_at side) [] past ++ (if b then bytes_in (left_ahead side past one) ∷ [] else [])) plain
+    ∙ append-nil (shown_after (lost_at side) [] past)
+
+pub lost_again : (side : Side) (past : List Moment) (one : Moment) (coming : List (List ℕ)) → restarts_at one ≡ true → Hears side past one.steps coming
+    → shown_after (lost_at side) [] (past ++ one ∷ []) ≡ shown_after (lost_at side) [] past ++ bytes_in coming ∷ []
+lost_again side past one coming restarts hears =
+    shown_last (lost_at side) [] past one ∙ ap (λ (b : Bool). shown_after (lost_at side) [] past ++ (if b then bytes_in (left_ahead side past one) ∷ [] else [])) restarts
+    ∙ ap (λ (l : List (List ℕ)). shown_after (lost_at side) [] past ++ bytes_in l ∷ []) (hears_now side past one.steps coming hears).1
 
 -- ---- a step
 

@@ -5,3 +5,4 @@ pub mod Pipes
 pub mod Arrivals
 pub mod Links
 pub mod Rooms
+pub mod Linked

@@ -19,6 +19,7 @@ use Rattle.zw_text.specs.declared.entry.Entry.TheVariants.{Said, Time}
 use Rattle.zw_text.specs.Transcript.{line_of}
 use Rattle.law_transcript.specs.Lists.{EachAfter, shown_after}
 use Rattle.law_transcript.specs.Restarts.{ticks_asked}
+use Rattle.law_wire.specs.Clearing.{lost_at}
 use Rattle.law_wire.specs.Serial.{SerialEvent, serial_events}
 use Rattle.law_wire.specs.Serial.SerialEvent.{Tick_begins}
 use Rattle.law_wire.specs.Links.{Moment, CollidesAsTold, HasTicked, HearsInTime, LeavesFew, MayDo, Obeys, TicksInTime, WritesThere, arrivals_of, asked_for, clock_in, ends_round, is_stalled, line_in, lives, moments_of, most_left, other, round_of, since_start, stall_by, steps_in, texts_of}
@@ -95,7 +96,7 @@ abbrev pub stalls_in : List Moment → List ℕ
 stalls_in past = shown_after (λ before one. flat_map (stall_by (clock_in before)) (line_in one.event)) [] past
 
 -- where a side is: whether the running round is a tick, and how many units of the other side arrived in it; how many ticks have begun, and until when bytes are stalled; what its
--- link did in this life and in this round; the link, and what is on its way to it
+-- link did in this life and in this round; the link, and what is on its way to it; and the bytes that each restart so far lost of that
 pub record LinkNow : Type 0 where
   pub is_tick : Bool
   pub brought : ℕ
@@ -105,6 +106,7 @@ pub record LinkNow : Type 0 where
   pub round : List Step
   pub link : LinkSide
   pub coming : List (List ℕ)
+  pub lost : List ℕ
 
 -- these moments and steps lead there
 pub record IsAt (side : Side) (past : List Moment) (steps : List Step) (now : LinkNow) : Type 0 where
@@ -114,6 +116,7 @@ pub record IsAt (side : Side) (past : List Moment) (steps : List Step) (now : Li
   pub until : (time : ℕ) → list_any (nat_lt time) (stalls_in past) ≡ nat_lt time now.until
   pub life : life_steps side past steps ≡ now.life
   pub round : round_steps past steps ≡ now.round
+  pub lost : shown_after (lost_at side) [] past ≡ now.lost
 
 -- The steps of a side up to each of these events and of those that wait to be told, and since. What is told keeps the laws by itself too, since a run may be cut short before what
 -- waits is told.
@@ -127,6 +130,7 @@ pub record KnowsEvents (side : Side) (events waiting : List SerialEvent) (now : 
   pub mute : AllByRecursion IsMute steps
   pub hears : Hears side (moments_of (events ++ waiting) parts) steps now.coming
   pub at : IsAt side (moments_of (events ++ waiting) parts) steps now
+  pub lost : shown_after (lost_at side) [] (moments_of events parts) ≡ now.lost
 
 abbrev pub KnowsLink : Side → List Entry → ℕ → LinkNow → Type 0
 KnowsLink side past waiting now = KnowsEvents side (serial_events past) (replicate waiting Tick_begins) now

@@ -5,8 +5,9 @@
 //! `collisions_go_on`, `pipes_go_on`, `rooms_go_on` and `numbers_go_on` tie the machine to the transcript at each phase of a line; from them follow
 //! `lines_mark_units`, `lines_collide_when_asked`, `lines_overrun_only_when_full`, `lines_overrun_when_full`, `lines_clear_at_restarts`,
 //! `lines_clear_nowhere_else`, `lines_clear_whole_units`, `lines_answer_frames` and `ticks_are_told`.
-//! The definitions are in `specs/`: `Collisions`, `Marks`, `Pipes`, `Rooms` and `Times` (what is known of each at each phase of a line), and `Arrivals`
-//! (what arrives of the units of a side since the host started).
+//! The definitions are in `specs/`: `Collisions`, `Marks`, `Pipes`, `Rooms` and `Times` (what is known of each at each phase of a line), `Arrivals`
+//! (what arrives of the units of a side since the host started), `Links` (what is known of the link of a side between two events of the line) and `Linked`
+//! (what is to be known of both at each phase; no function speaks of these two yet).
 #![tactic(auto)]
 
 mod marks;
