@@ -13,11 +13,11 @@ use Rattle.zw_text.specs.declared.entry.Entry.{Entry}
 use Rattle.zw_text.specs.declared.entry.Entry.TheVariants.{Written, Dropped, Garbled, Overrun, Air}
 use Rattle.zw_text.specs.Transcript.{Unit_on, Way, frame_at, frames, last_with, unit_step, units}
 use Rattle.zw_text.specs.Transcript.Way.{Whole, Missed, Changed}
-use Rattle.law_transcript.specs.Carrying.{outward, sent_out}
+use Rattle.law_transcript.specs.Carrying.{asked, asked_by, asked_in, body_of, is_request, outward, sent_out}
 use Rattle.law_transcript.specs.Lists.{listed}
 use Rattle.law_transcript.specs.Nodes.{controller}
 use Rattle.law_transcript.specs.Units.{Carried, arrived_of, function_in, read_well, sending_of}
-use Rattle.audit_rules.specs.PayloadRule.{are_picked, asked, asked_by, asked_in, body_of, breaks_payload, is_request, same_carried}
+use Rattle.audit_rules.specs.PayloadRule.{are_picked, breaks_payload, same_carried}
 use Rattle.audit_rules.specs.Sending.{Sendings, asked_for, following, breaks_sending, changed, first_of, is_that, kept_unmet, may_send, no_sendings, sendings_after, sent, sent_by, sent_found, settled, wrote}
 use Rattle.audit_rules.specs.KeepingPayloads.{AreSendingsOf, Picked, but_last, has_unit, last_unit, picking}
 use Rattle.zw_text.proofs.Views.{folded-append, shown-append}

@@ -3,10 +3,10 @@ use Rattle.std.specs.Prelude.{◌≡◌, Bool, true, false, if◌then◌else◌,
 use Rattle.zw_words.specs.declared.side.Side.TheVariants.{Host}
 use Rattle.zw_text.specs.declared.entry.Entry.{Entry}
 use Rattle.zw_text.specs.Transcript.{Unit_on, units}
-use Rattle.law_transcript.specs.Carrying.{sent_out}
+use Rattle.law_transcript.specs.Carrying.{asked_in, sent_out}
 use Rattle.law_transcript.specs.Lists.{listed}
 use Rattle.law_transcript.specs.Units.{Carried}
-use Rattle.audit_rules.specs.PayloadRule.{asked_in, same_carried}
+use Rattle.audit_rules.specs.PayloadRule.{same_carried}
 use Rattle.audit_rules.specs.Sending.{Sendings}
 
 -- the first of these that the items do not have in order, and the rest, and the items after the last that they have

@@ -3,9 +3,10 @@ use Rattle.std.specs.Prelude.{ℕ, ◌==◌, ◌&&◌, ◌||◌, not, Bool, true
 use Rattle.zw_words.specs.declared.side.Side.TheVariants.{Host}
 use Rattle.zw_text.specs.declared.entry.Entry.{Entry}
 use Rattle.zw_text.specs.declared.entry.Entry.TheVariants.{Written, Dropped, Garbled, Overrun, Air}
+use Rattle.law_transcript.specs.Carrying.{asked_by}
 use Rattle.law_transcript.specs.Nodes.{controller}
 use Rattle.law_transcript.specs.Units.{Carried}
-use Rattle.audit_rules.specs.PayloadRule.{asked_by, same_carried}
+use Rattle.audit_rules.specs.PayloadRule.{same_carried}
 
 -- what the units before the last one ask for, after the last that was sent; what the last one asks for; the last frame of the
 -- controller, where only the last unit can have asked for it; and whether there is a unit

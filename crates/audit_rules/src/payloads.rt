@@ -2,8 +2,9 @@
 
 ghost use Rattle.std.specs.Prelude.{◌≡◌, ◌+◌, ◌<◌, drop, length, None, Some, IfOk, OnOk, is_none, MatchOption};
 ghost use Rattle.chip_functions.specs.Request.{request_of as request_by};
+ghost use Rattle.law_transcript.specs.Carrying.{is_request};
 ghost use Rattle.law_transcript.specs.Units.{read_well, sending_of as carried_by};
-ghost use Rattle.audit_rules.specs.PayloadRule.{is_request, same_carried};
+ghost use Rattle.audit_rules.specs.PayloadRule.{same_carried};
 ghost use Rattle.audit_rules.specs.Sending.{
   asked_for,
   following,

@@ -42,3 +42,4 @@ pub use reading::{one_message, read};
 pub use small::{Mode, Seconds, SetpointKind};
 pub use switch::{LockMode, Switch};
 pub use writing::{head, put_fields, write};
+pub use zw_base::{Bytes, NoMemory, NodeId};

@@ -3,8 +3,7 @@
 use crate::battery_level::BatteryLevel;
 use crate::report_status::ReportStatus;
 use crate::session::{SegmentOffset, SessionId, TransportId};
-use class_core::{CoreMessage, Decimal, NodeList, Seconds, Switch};
-use zw_base::NodeId;
+use class_core::{CoreMessage, Decimal, NodeId, NodeList, Seconds, Switch};
 
 /// A message that asks or tells, with its fields, or one of an actuator.
 #[derive(Drop)]

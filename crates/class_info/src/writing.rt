@@ -23,8 +23,8 @@ use crate::transport::{
     SUPERVISION, SUPERVISION_REPORT, TRANSPORT,
 };
 use class_core::forms::{node_number, put_decimal, put_nodes, put_seconds, put_word};
+use class_core::{Bytes, NoMemory};
 use std::alloc::Global;
-use zw_base::{Bytes, NoMemory};
 
 /// The class and the command of a message.
 fn head(message: &InfoMessage) -> [u8; 2]

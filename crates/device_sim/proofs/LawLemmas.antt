@@ -22,20 +22,9 @@ use Rattle.transport_segments.specs.Taking.{is_segment, ends_its_datagram, taken
 use Rattle.transport_segments.specs.Kept.{Empty}
 use Rattle.transport_segments.specs.declared.assembler.Taken.{Taken as Segment}
 use Rattle.transport_segments.specs.declared.assembler.Taken.TheVariants.{Kept, Need, Whole}
-use Rattle.device_kinds.specs.declared.kind.Kind.{Kind}
-use Rattle.device_kinds.specs.declared.kind.Kind.TheVariants.{Relay, Switch, Dimmer, Lock, Sensor, Thermostat, Strip, Configurable}
-use Rattle.device_kinds.specs.declared.effect.Effect.{Effect}
-use Rattle.device_kinds.specs.declared.effect.Effect.TheVariants.{Ignores, Sleeps, Tells, Sets, Repeats, Takes}
-use Rattle.device_kinds.specs.declared.verdict.Verdict.{Verdict}
-use Rattle.device_kinds.specs.declared.verdict.Verdict.TheVariants.{NoSupport, Fails, Makes, Works}
-use Rattle.device_kinds.specs.Kind.{listens, lists, has_end}
+use Rattle.device_stack.specs.Kinds.{Kind, Relay, Switch, Dimmer, Lock, Sensor, Thermostat, Strip, Configurable, Effect, Ignores, Sleeps, Tells, Sets, Repeats, Takes, Verdict, NoSupport, Fails, Makes, Works, listens, lists, has_end, judged_set, told, keys_of, unsealed_at, end_of, set_plainly, effect_untold, telling, effect_alone, effect_in_session, effect_by, segment_session}
 use Rattle.device_stack.specs.State.{State, silent, value_of, last_level_of}
-use Rattle.device_kinds.specs.Judging.{judged_set}
-use Rattle.device_kinds.specs.Telling.{told}
-use Rattle.device_kinds.specs.Sealing.{keys_of, unsealed_at}
-use Rattle.device_kinds.specs.Effects.{end_of, set_plainly, effect_untold, telling, effect_alone, effect_in_session, effect_by}
 use Rattle.device_stack.specs.Effects.{effect_of, takes, after_effect}
-use Rattle.device_kinds.specs.Segments.{segment_session}
 use Rattle.device_stack.specs.Hearing.{Answered, answers, answers_opened, answers_bytes, hears_openly, nonce_named, sent_sealed, hears_inside, hears_plain, hears_for, hears_sealed, seals_for, hears_nonces, hears_securely, assembles, repeats_segment, hears_segment, hears_in_segments, hears_by, active, hears}
 use Rattle.zw_base.specs.declared.property.Setting.{Setting}
 use Rattle.device_sim.specs.Event.{Hears, Sets, outcome_of, device_after}

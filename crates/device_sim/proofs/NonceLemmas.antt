@@ -8,14 +8,8 @@ use Rattle.encap.specs.Wraps.{is_crc16}
 use Rattle.encap.specs.declared.plan.Plan.{Plan}
 use Rattle.encap.specs.declared.plan.Supervised.{Supervised}
 use Rattle.s0_session.specs.Nonces.{after_spend, nonce_spent}
-use Rattle.device_kinds.specs.declared.kind.Kind.{Kind}
-use Rattle.device_kinds.specs.declared.kind.Kind.TheVariants.{Lock}
-use Rattle.device_kinds.specs.declared.effect.Effect.{Effect}
-use Rattle.device_kinds.specs.declared.effect.Effect.TheVariants.{Ignores, Sleeps, Tells, Sets, Repeats, Takes}
-use Rattle.device_kinds.specs.declared.verdict.Verdict.{Verdict}
-use Rattle.device_kinds.specs.declared.verdict.Verdict.TheVariants.{NoSupport, Fails, Makes, Works}
+use Rattle.device_stack.specs.Kinds.{Kind, Lock, Effect, Ignores, Sleeps, Tells, Sets, Repeats, Takes, Verdict, NoSupport, Fails, Makes, Works, keys_of, unsealed_at}
 use Rattle.device_stack.specs.State.{State, silent}
-use Rattle.device_kinds.specs.Sealing.{keys_of, unsealed_at}
 use Rattle.device_stack.specs.Effects.{effect_of, takes, after_effect}
 use Rattle.device_stack.specs.Hearing.{Answered, answers, nonce_named, sent_sealed, hears_inside, hears_plain, hears_for, hears_sealed, hears_nonces, hears_securely, hears_by, active, hears}
 use Rattle.device_sim.specs.Event.{Hears, outcome_of, device_after}

@@ -8,13 +8,8 @@ use Rattle.zw_base.specs.declared.property.By.{By}
 use Rattle.zw_base.specs.declared.property.By.TheVariants.{Session, Plain, Local}
 use Rattle.zw_base.specs.declared.property.Setting.{Setting}
 use Rattle.supervision.specs.declared.session.TheConstants.{WORKING}
-use Rattle.device_kinds.specs.declared.change.Change.{Change}
-use Rattle.device_kinds.specs.declared.kind.Kind.{Kind}
-use Rattle.device_kinds.specs.declared.verdict.Verdict.{Verdict}
-use Rattle.device_kinds.specs.declared.verdict.Verdict.TheVariants.{NoSupport, Fails, Makes, Works}
-use Rattle.device_kinds.specs.Kind.{listens, main_name_of}
+use Rattle.device_stack.specs.Kinds.{Change, Kind, Verdict, NoSupport, Fails, Makes, Works, listens, main_name_of, setting_of, status_of}
 use Rattle.device_stack.specs.State.{State, silent, fresh}
-use Rattle.device_kinds.specs.Judging.{setting_of, status_of}
 use Rattle.device_stack.specs.Ticking.{aged, works_out, ticked, woken, by_hand, set_by_hand}
 use Rattle.device_sim.specs.Event.{DeviceEvent, Hears, Ticks, Wakes, Sets, outcome_of, device_after}
 use Rattle.device_sim.specs.Laws.{IsChanged, IsUntaken, IsMade, IsHeard, IsTicked, with_number, numbers, Rises, done, IsInOrder}

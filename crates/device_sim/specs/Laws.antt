@@ -5,12 +5,8 @@ use Rattle.zw_base.specs.declared.property.By.TheVariants.{Session, Plain, Local
 use Rattle.zw_base.specs.declared.property.Setting.{Setting}
 use Rattle.supervision.specs.declared.session.TheConstants.{WORKING}
 use Rattle.transport_segments.specs.Kept.{Empty}
-use Rattle.device_kinds.specs.declared.change.Change.{Change}
-use Rattle.device_kinds.specs.declared.verdict.Verdict.{Verdict}
-use Rattle.device_kinds.specs.declared.verdict.Verdict.TheVariants.{NoSupport, Fails, Makes, Works}
-use Rattle.device_kinds.specs.Kind.{lists}
+use Rattle.device_stack.specs.Kinds.{Change, Verdict, NoSupport, Fails, Makes, Works, lists, status_of}
 use Rattle.device_stack.specs.State.{State}
-use Rattle.device_kinds.specs.Judging.{status_of}
 use Rattle.device_stack.specs.Effects.{work_ticks}
 
 -- ---- what an event makes of journal and sessions

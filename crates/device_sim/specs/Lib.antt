@@ -1,4 +1,5 @@
 pub mod Kind
 pub mod State
 pub mod Event
+pub mod Stack
 pub mod Laws

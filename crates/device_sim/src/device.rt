@@ -4,7 +4,7 @@ ghost use Rattle.std.specs.Prelude.{◌≡◌, ◌+◌, ◌<◌, [], List, All, 
 ghost use Rattle.device_sim.specs.Kind.{listens, classes_of};
 ghost use Rattle.device_sim.specs.State.{State};
 ghost use Rattle.device_stack.specs.Showing.{shown_of};
-ghost use Rattle.device_kinds.specs.Worded.{IsPayload};
+ghost use Rattle.device_stack.specs.Kinds.{IsPayload};
 ghost use Rattle.device_sim.specs.Event.{Hears, Ticks, Wakes, Sets, device_after, device_replies};
 
 use crate::{Change, Profile};

@@ -1,7 +1,7 @@
 //! The eight kinds of devices, each a type with its maker.
 
 ghost use Rattle.std.specs.Prelude.{◌≡◌, IfOk};
-ghost use Rattle.device_kinds.specs.declared.kind.Kind.TheVariants as kinds;
+ghost use Rattle.device_stack.specs.Kinds as kinds;
 ghost use Rattle.device_stack.specs.State.{fresh};
 
 use crate::{Kind, Simulated};

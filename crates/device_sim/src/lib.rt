@@ -16,7 +16,7 @@ mod simulated;
 mod starved;
 
 pub use device::Device;
-pub use device_kinds::{Change, Kind};
+pub use device_stack::{Change, Kind};
 pub use kinds::{
     Configurable, Dimmer, Lock, Relay, Sensor, Strip, Switch, Thermostat, make_config, make_dimmer,
     make_lock, make_relay, make_sensor, make_strip, make_switch, make_thermostat,

@@ -2,7 +2,7 @@
 
 ghost use Rattle.std.specs.Prelude.{◌≡◌, [], ◌∷◌, ◌++◌, All, length, slice_get, OnOk, OnErr};
 ghost use Rattle.std.specs.Option.{option_copied};
-ghost use Rattle.device_kinds.specs.Worded.{IsPayload};
+ghost use Rattle.device_stack.specs.Kinds.{IsPayload};
 ghost use Rattle.device_sim.specs.Event.{Hears, device_after, device_replies};
 
 use crate::{Change, Device, Profile};

@@ -2,7 +2,7 @@
 
 ghost use Rattle.std.specs.Prelude.{◌≡◌, [], All, IsErr, OnOk, OnErr};
 ghost use Rattle.zw_base.specs.Faults.{raised};
-ghost use Rattle.device_kinds.specs.Worded.{IsPayload};
+ghost use Rattle.device_stack.specs.Kinds.{IsPayload};
 ghost use Rattle.device_sim.specs.Event.{Hears, device_after, device_replies};
 
 use crate::{Change, Device, Profile};

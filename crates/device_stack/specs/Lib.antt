@@ -4,3 +4,4 @@ pub mod Effects
 pub mod Hearing
 pub mod Ticking
 pub mod Showing
+pub mod Kinds

@@ -19,4 +19,5 @@ mod stack;
 mod ticking;
 mod work;
 
+pub use device_kinds::{Change, Kind};
 pub use stack::Stack;

@@ -19,7 +19,7 @@ use crate::pumping::pump;
 use crate::ticking::tick;
 use host_keep::Keeper;
 use host_model::HostOut;
-use host_step::HostCore;
+use host_step_kept::HostCore;
 use s0_crypto::keys;
 use std::alloc::Global;
 use std::marker::Model;

@@ -15,7 +15,7 @@ use host_keep::{
     KeepFault, Keeper, Record, RecordFault, a_text_is_of_one_record, read_record, records_go_on,
 };
 use host_model::{a_record_restores_what_it_says, legal_records_restore_the_host};
-use host_step::HostCore;
+use host_step_kept::HostCore;
 use s0_crypto::keys;
 use std::alloc::Global;
 use zw_base::NoMemory;

@@ -12,7 +12,7 @@ use crate::sleeping::let_sleep;
 use host_keep::Keeper;
 use host_model::{HostOut, a_pump_ends, attempts_have_what_they_give, turns_of_a_pump_go_on};
 use host_node::Series;
-use host_step::HostCore;
+use host_step_kept::HostCore;
 use zw_base::{List, NoMemory, NodeId, Payload, read_node};
 
 /// The controller's own node.

@@ -8,7 +8,7 @@ ghost use Rattle.host_model.specs.Pumping.{LetsSleep, no_more_event};
 ghost use Rattle.host_step_bytes.specs.Calls.{DoesAlone, StopsAlone};
 
 use host_model::{HostOut, nodes_are_told_in_few_turns, turns_of_a_pump_go_on};
-use host_step::HostCore;
+use host_step_kept::HostCore;
 use zw_base::{List, NoMemory, NodeId};
 
 /// Each node that is to be told that there is no more for it is told, the least first.

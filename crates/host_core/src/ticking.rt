@@ -7,7 +7,7 @@ ghost use Rattle.host_model.specs.Ticking.{tick_events, ticking_nodes};
 ghost use Rattle.host_step_bytes.specs.Calls.{Are, DoesAlone, StopsAlone};
 
 use host_model::{HostOut, ticks_of_nodes_go_on};
-use host_step::HostCore;
+use host_step_kept::HostCore;
 use zw_base::{List, NoMemory};
 
 /// A tick passes.

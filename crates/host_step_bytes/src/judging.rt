@@ -18,7 +18,7 @@ use crate::messages::take_payload;
 use chip_functions::{BodyFault, Notice, Update, read_notice, read_response};
 use host_keep::Keeper;
 use host_model::HostOut;
-use host_step::HostCore;
+use host_step_kept::HostCore;
 use serial_frame::{Frame, Item, Kind, Unit};
 use std::alloc::Global;
 use zw_base::{Bytes, Draw, List, NoMemory, NodeId};

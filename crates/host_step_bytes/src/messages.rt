@@ -14,8 +14,7 @@ use host_heard::{Heard, Told, read_payload};
 use host_keep::Keeper;
 use host_model::{HostOut, messages_go_on};
 use host_node::Node;
-use host_step::HostCore;
-use host_step_kept::Opened;
+use host_step_kept::{HostCore, Opened};
 use zw_base::{Draw, List, NoMemory, NodeId};
 
 /// Security 0.

@@ -10,7 +10,7 @@ ghost use Rattle.host_step_bytes.specs.Calls.{scene, Does, Stops};
 
 use host_keep::Keeper;
 use host_model::HostOut;
-use host_step::HostCore;
+use host_step_kept::HostCore;
 use zw_base::{Draw, List, NoMemory, NodeId};
 
 /// A node asks for a nonce: the live one is offered, or a new one is given.

@@ -12,7 +12,7 @@ ghost use Rattle.host_step_bytes.specs.Calls.{scene, Does, Stops};
 use class_info::ReportStatus;
 use host_keep::{FinalStatus, Keeper};
 use host_model::HostOut;
-use host_step::HostCore;
+use host_step_kept::HostCore;
 use supervision::Told;
 use zw_base::{List, NoMemory, NodeId};
 

@@ -7,7 +7,7 @@ ghost use Rattle.host_model.specs.Taking.{resent, value_events, wanted_segment};
 ghost use Rattle.host_step_bytes.specs.Calls.{Are, DoesAlone, StopsAlone};
 
 use host_model::{HostOut, messages_go_on};
-use host_step::HostCore;
+use host_step_kept::HostCore;
 use zw_base::{List, NoMemory, NodeId, Setting};
 
 /// The bytes of payload of each segment but the last (Transport Service).

@@ -13,6 +13,7 @@ mod reports;
 mod restoring;
 mod sessions;
 
+pub use host_step::HostCore;
 pub use nonces::{give, take_nonce};
 pub use opening::{Opened, open};
 pub use orders::{cancel, interviewed, join};

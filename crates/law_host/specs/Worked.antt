@@ -2,7 +2,12 @@
 -- host hears them.
 use Rattle.std.specs.Prelude.{ℕ, true, false, List, [], ◌∷◌, ◌++◌, codes, take, Some}
 use Rattle.std.specs.List.{flat_map, range_with_len}
+use Rattle.zw_base.specs.declared.order.Word.TheVariants.{On, Off}
+use Rattle.zw_base.specs.declared.order.What.TheVariants.{Value}
 use Rattle.zw_base.specs.declared.property.Name.TheVariants as names
+use Rattle.host_keep.specs.declared.final_status.FinalStatus.TheVariants.{Success}
+use Rattle.host_keep.specs.declared.record.Record.{Record}
+use Rattle.host_keep.specs.declared.record.Record.TheVariants as records
 use Rattle.host_orders.specs.Settings.{setting}
 use Rattle.zw_words.specs.declared.side.Side.TheVariants.{Host, Chip}
 use Rattle.zw_text.specs.declared.entry.Done.TheVariants as done
@@ -230,3 +235,25 @@ loss_untold =
 -- after the plain exchange, though the host goes on
 abbrev pub after_exchange : Start
 after_exchange = record { before = plain_exchange; books = [] }
+
+-- a first life: node 5 joined and was interviewed, a command of node 2 succeeded, and one more was accepted before the host started again
+abbrev pub first_life : List Entry
+first_life =
+    Said (codes "join 5") ∷ Interviewed 5 ∷ Said (codes "set 2 on") ∷ Accepted 1 2 ∷ Begin 2 1 1 ∷ Out 1 endings.Success
+    ∷ Store 2 (setting 0 names.Switch 255) ∷ Said (codes "set 2 off") ∷ Accepted 2 2 ∷ Said (codes "restart") ∷ []
+
+abbrev pub after_life : Start
+after_life = record { before = first_life; books = [] }
+
+-- what was kept of it
+abbrev pub life_records : List Record
+life_records =
+    records.Joined 5 ∷ records.Classes 5 false (0x31 ∷ 0x80 ∷ 0x84 ∷ 0x6C ∷ []) ∷ records.Accepted 1 (record { node = 2; end = 0; what = Value On })
+    ∷ records.Begun 2 1 1 ∷ records.Final 2 1 Success ∷ records.Accepted 2 (record { node = 2; end = 0; what = Value Off }) ∷ []
+
+-- the command that waits begins the next session, or the first one again
+abbrev pub next_session : List Entry
+next_session = Begin 2 2 2 ∷ by_host (codes "010E001302076C01020325010025018B") ∷ chip_acknowledges ∷ taken ∷ host_acknowledges ∷ []
+
+abbrev pub session_again : List Entry
+session_again = Begin 2 1 2 ∷ []

@@ -1,17 +1,17 @@
 //! What the laws of a legal host and of a legal run say of worked transcripts, and of others with one thing wrong.
 
-ghost use Rattle.std.specs.Prelude.{[], ◌∷◌, false, List, map, None, Some, true};
+ghost use Rattle.std.specs.Prelude.{[], ◌∷◌, false, ℕ, Bool, List, map, Option, None, Some, true};
 ghost use Rattle.device_stack.specs.State.{State};
 ghost use Rattle.host_keep.specs.RecordText.{record_text};
 ghost use Rattle.law_host.specs.Heard.{heard_by_host};
 ghost use Rattle.law_host.specs.HostLegal.{IsHostLegal};
 ghost use Rattle.law_host.specs.Legal.{IsLegal};
 ghost use Rattle.law_host.specs.Notes.{first_start};
-ghost use Rattle.law_host.specs.Starting.{StartsFrom};
-ghost use Rattle.law_host.specs.Worked.{after_exchange, loss_untold};
+ghost use Rattle.law_host.specs.Starting.{IsLegalFrom, StartsFrom};
+ghost use Rattle.law_host.specs.Worked.{after_exchange, life_records, loss_untold, next_session, session_again};
 ghost use Rattle.law_transcript.specs.Devices.{after_events};
 ghost use Rattle.law_transcript.specs.Nodes.{listing_of};
-ghost use Rattle.law_transcript.specs.Worked.{plain_exchange, refused_lines, the_switch};
+ghost use Rattle.law_transcript.specs.Worked.{plain_exchange, refused_lines, the_sensor, the_switch};
 ghost use Rattle.law_transcript.specs.WorkedDevices.{plain_records, switch_events};
 ghost use Rattle.law_wire.specs.WorkedRecords.{begun_records, ordered_otherwise};
 ghost use Rattle.law_wire.specs.WorkedWrong.{answered_nothing};
@@ -84,3 +84,14 @@ pub fn rejected_start()
 {
     rejected_records();
 }
+
+/// From the records of a first life a host goes on: the command that waits begins the next session of its node.
+pub fn worked_life()
+    ensures { IsLegalFrom [] (listing_of (the_switch ∷ the_sensor ∷ [])) (map record_text life_records) true next_session None }
+{}
+
+/// However it starts from them, it does not begin the first session again.
+pub fn rejected_life()
+    ensures { (key : List ℕ) (listing : ℕ → List ℕ) (whole : Bool) (told : Option (List (List ℕ))) →
+        IsLegalFrom key listing (map record_text life_records) whole session_again told → ⊥ }
+{}

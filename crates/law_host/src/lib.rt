@@ -17,6 +17,9 @@ mod nonces;
 mod notes;
 
 pub use heard::worked_heard;
-pub use legal::{rejected_run, rejected_start, worked_legal, worked_run, worked_start};
+pub use legal::{
+    rejected_life, rejected_run, rejected_start, worked_legal, worked_life, worked_run,
+    worked_start,
+};
 pub use nonces::{rejected_nonces, worked_nonces};
 pub use notes::{rejected_notes, worked_notes};

@@ -20,13 +20,13 @@ pub second_of : (a b : Bool) → (a && b) ≡ true → b ≡ true
 second_of true b both = both
 second_of false b both = cc
 
-each_after : (may : List Entry → Entry → Bool) (past rest : List Entry) → each_keeps may past rest ≡ true → AllKept may past rest
-each_after may past [] keeps = tt
-each_after may past (entry ∷ rest) keeps = (first_of _ _ keeps, each_after may (past ++ entry ∷ []) rest (second_of (may past entry) _ keeps))
+-- a law that is computed to hold holds, also after what stood before
+pub kept_after : (may : List Entry → Entry → Bool) (past rest : List Entry) → each_keeps may past rest ≡ true → AllKept may past rest
+kept_after may past [] keeps = tt
+kept_after may past (entry ∷ rest) keeps = (first_of _ _ keeps, kept_after may (past ++ entry ∷ []) rest (second_of (may past entry) _ keeps))
 
--- a law that is computed to hold holds
 pub kept : (may : List Entry → Entry → Bool) (transcript : List Entry) → each_keeps may [] transcript ≡ true → AllKept may [] transcript
-kept may transcript keeps = each_after may [] transcript keeps
+kept may transcript keeps = kept_after may [] transcript keeps
 
 both_true : (a b : Bool) → a ≡ true → b ≡ true → (a && b) ≡ true
 both_true true b first second = second

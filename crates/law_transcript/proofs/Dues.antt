@@ -1,13 +1,14 @@
 -- What is not due: a payload that is no message of a session, begins as no other text and was asked for by no line.
-use Rattle.std.proofs.Common.{◌≡◌, ◌⊎◌, ℕ, ◌+◌, ◌*◌, ◌==◌, Bool, false, List, [], ◌∷◌, ◌++◌, length, refl, inl, inr, ap, sym, subst, ◌∙◌, arith}
-use Rattle.std.specs.Prelude.{zero, suc, ◌<◌, ◌≤◌, true, take, drop, slice_index, if◌then◌else◌}
+use Rattle.std.proofs.Common.{◌≡◌, ◌⊎◌, ℕ, ◌+◌, ◌*◌, ◌/◌, ◌==◌, Bool, false, List, [], ◌∷◌, ◌++◌, length, refl, inl, inr, ap, sym, subst, ◌∙◌, arith}
+use Rattle.std.specs.Prelude.{zero, suc, ◌<◌, true, take, drop, slice_index, if◌then◌else◌}
 use Rattle.std.proofs.Math.Seq.{take-append_seam}
 use Rattle.std.proofs.lemmas.List.{length-append}
-use Rattle.std.proofs.lemmas.List.{length-take}
+use Rattle.std.proofs.lemmas.List.{length-take-le}
 use Rattle.std.proofs.lemmas.List.FromFn.{length-map-range_with_len}
+use Rattle.aes_block.specs.Cipher.{aes, add_round_key}
 use Rattle.s0_crypto.specs.declared.ends.SealEnds.{SealEnds}
 use Rattle.s0_crypto.specs.declared.key_pair.Keys.{Keys}
-use Rattle.s0_crypto.specs.Modes.{ofb, ofb_from, cbc_mac}
+use Rattle.s0_crypto.specs.Modes.{ofb, ofb_from, cbc_mac, chained}
 use Rattle.s0_crypto.specs.Seal.{code_of, covered}
 use Rattle.device_kinds.specs.Sealing.{keys_of, sealed_text}
 use Rattle.transport_segments.specs.Segment.{segment_text}
@@ -16,6 +17,7 @@ use Rattle.law_transcript.specs.Worked.{network_key}
 use Rattle.std.proofs.lemmas.Bool.Decides.{nat_tests}
 use Rattle.zw_text.specs.declared.entry.Entry.{Entry}
 use Rattle.zw_text.specs.Transcript.{sessions}
+use Rattle.law_transcript.specs.Lists.{Has}
 use Rattle.law_transcript.specs.Payloads.{IsDue, IsOfSession, IsAskedFor, IsNonceReport, nonce_get, no_more_information}
 use Rattle.law_transcript.specs.Units.{Carried}
 
@@ -34,7 +36,7 @@ unlike number one other differs is = differ (number one) (number other) differs 
 
 pub not_due : (listing : ℕ → List ℕ) (key : List ℕ) (past : List Entry) (carried : Carried)
     → (IsOfSession listing key past carried (length (sessions carried.node past)) → ⊥) → (carried.payload ≡ nonce_get → ⊥)
-    → (IsNonceReport past carried → ⊥) → (carried.payload ≡ no_more_information → ⊥) → (IsAskedFor listing past carried → ⊥)
+    → (IsNonceReport key past carried → ⊥) → (carried.payload ≡ no_more_information → ⊥) → (IsAskedFor listing past carried → ⊥)
     → IsDue listing key past carried → ⊥
 not_due listing key past carried message get report more asked due = elim due [
   | inl of ↦ message of
@@ -73,24 +75,62 @@ cipher_length : (key vector text : List ℕ) → length (ofb key vector text) �
 unfolding ofb_from
 cipher_length key vector text = length-map-range_with_len _ 0 (length text)
 
-code_length : (keys : Keys) (vector : List ℕ) (ends : SealEnds) (text : List ℕ) → length (code_of keys vector ends text) ≤ 8
-unfolding code_of
-code_length keys vector ends text = omega (arith, length-take 8 (cbc_mac keys.code (covered vector ends text)))
+chained_length : (key text : List ℕ) (count : ℕ) → length (chained key text count) ≡ 16
+unfolding chained aes add_round_key
+chained_length key text zero = refl
+chained_length key text (suc count) = refl
 
-all_lengths : (own text code : List ℕ) (byte : ℕ) → length own ≡ 8 → length text ≡ 8 → length code ≤ 8 → length (own ++ (text ++ byte ∷ code)) ≤ 25
-all_lengths own text code byte eight of_text of_code = omega (arith, eight, of_text, of_code, length-append own (text ++ byte ∷ code), length-append text (byte ∷ code))
+code_length : (keys : Keys) (vector : List ℕ) (ends : SealEnds) (text : List ℕ) → length (code_of keys vector ends text) ≡ 8
+unfolding code_of cbc_mac
+code_length keys vector ends text =
+    let count : ℕ = (length (covered vector ends text) + 15) / 16 in
+    let whole = chained_length keys.code (covered vector ends text) count in
+    length-take-le 8 (chained keys.code (covered vector ends text) count) (omega (arith, whole))
+
+all_lengths : (own text code plain : List ℕ) (byte : ℕ) → length own ≡ 8 → length text ≡ suc (length plain) → length code ≡ 8
+    → suc (suc (length (own ++ (text ++ byte ∷ code)))) ≡ length plain + 20
+all_lengths own text code plain byte eight of_text of_code = omega (arith, eight, of_text, of_code, length-append own (text ++ byte ∷ code), length-append text (byte ∷ code))
+
+sealed_size : (keys : Keys) (own nonce : List ℕ) (ends : SealEnds) (plain : List ℕ) → length own ≡ 8 → length (sealed_text keys own nonce ends plain) ≡ length plain + 20
+unfolding sealed_text
+sealed_size keys own nonce ends plain eight =
+    let cipher : List ℕ = ofb keys.encrypt (own ++ nonce) (0 ∷ plain) in
+    all_lengths own cipher (code_of keys (own ++ nonce) ends cipher) plain (slice_index nonce 0) eight (cipher_length keys.encrypt (own ++ nonce) (0 ∷ plain))
+    (code_length keys (own ++ nonce) ends cipher)
 
 -- so one of seven bytes has no 28 when sealed
 pub sealed_length : (own nonce plain payload : List ℕ) → length own ≡ 8 → length plain ≡ 7 → length payload ≡ 28
     → payload ≡ sealed_text (keys_of network_key) own nonce (record { sender = 1; receiver = 4 }) plain → ⊥
-unfolding sealed_text
 sealed_length own nonce plain payload eight seven long text =
-    let of_text : length (ofb (keys_of network_key).encrypt (own ++ nonce) (0 ∷ plain)) ≡ 8 = cipher_length _ _ _ ∙ ap suc seven in
-    let cipher = ofb (keys_of network_key).encrypt (own ++ nonce) (0 ∷ plain) in
     let ends : SealEnds = record { sender = 1; receiver = 4 } in
-    let bound = all_lengths own cipher (code_of (keys_of network_key) (own ++ nonce) ends cipher) (slice_index nonce 0) eight of_text (code_length (keys_of network_key) (own ++ nonce) ends cipher) in
-    let same = ap (λ p. length p) text in
-    omega (arith, long, same, bound)
+    let size = sealed_size (keys_of network_key) own nonce ends plain eight in
+    let same : length payload ≡ length (sealed_text (keys_of network_key) own nonce ends plain) = ap (λ (p : List ℕ). length p) text in
+    omega (arith, long, same, size, seven)
+
+-- ---- what a node has sealed
+
+-- what does not begin as a Security message was not sealed
+pub not_sealed : (one payload own nonce plain : List ℕ) → Has (one ∷ []) payload → (head_of one == 0x9881) ≡ false
+    → payload ≡ sealed_text (keys_of network_key) own nonce (record { sender = 4; receiver = 1 }) plain → ⊥
+unfolding sealed_text
+not_sealed one payload own nonce plain (inl same) other text = differ (head_of one) 0x9881 other (ap head_of same ∙ ap head_of text)
+not_sealed one payload own nonce plain (inr never) other text = never
+
+empty_is : (plain : List ℕ) → length plain ≡ 0 → plain ≡ []
+empty_is [] none = refl
+empty_is (byte ∷ more) none = absurd (omega (arith, none))
+
+-- and in twenty bytes nothing is
+pub sealed_nothing : (one payload own nonce plain : List ℕ) → Has (one ∷ []) payload → length one ≡ 20 → length own ≡ 8
+    → payload ≡ sealed_text (keys_of network_key) own nonce (record { sender = 4; receiver = 1 }) plain → plain ≡ []
+sealed_nothing one payload own nonce plain (inl same) twenty eight text =
+    let ends : SealEnds = record { sender = 4; receiver = 1 } in
+    let size = sealed_size (keys_of network_key) own nonce ends plain eight in
+    let is : length one ≡ length (sealed_text (keys_of network_key) own nonce ends plain) = ap (λ (p : List ℕ). length p) (same ∙ text) in
+    empty_is plain (omega (arith, twenty, is, size))
+sealed_nothing one payload own nonce plain (inr never) twenty eight text = absurd never
+
+-- ---- segments
 
 -- a segment begins with the class of Transport Service
 pub is_cut : (id size offset : ℕ) (payload : List ℕ) → slice_index (segment_text id size offset payload) 0 ≡ 85

@@ -1,4 +1,4 @@
--- The sealed messages of the worked lock: their keys, and of each the key stream and the code.
+-- The sealed messages of the worked host and lock: their keys, and of each the key stream and the code.
 use Rattle.std.proofs.Common.{◌≡◌, List, ℕ, [], ◌∷◌, ◌++◌, ◌+◌, ◌-◌, length, refl, ap, ◌∙◌, bit_xor}
 use Rattle.std.specs.Prelude.{Some, None, Option, take, replicate, slice_index, map, if◌then◌else◌, ◌&&◌, ◌==◌, ⊤}
 use Rattle.std.specs.List.{range_with_len}
@@ -158,3 +158,60 @@ opened_report =
     ap (λ (keys : Keys). unsealed_at keys report_nonce report_ends (report_with report_code)) keys_are
     ∙ ap (λ (code : List ℕ). opened_by report_text report_code code (aes encrypting (report_own ++ report_nonce))) report_code_is
     ∙ ap (λ (block : List ℕ). opened_by report_text report_code report_code block) report_stream_is
+
+-- ---- what else it seals under the same nonces
+
+abbrev pub by_lock : List ℕ → List ℕ → List ℕ
+by_lock text code = 0x98 ∷ 0x81 ∷ report_own ++ (text ++ 0x01 ∷ code)
+
+-- a Nonce Get
+abbrev pub get_plain : List ℕ
+get_plain = 0x98 ∷ 0x40 ∷ []
+
+abbrev pub get_text : List ℕ
+get_text = 0x2C ∷ 0xE9 ∷ 0x2B ∷ []
+
+abbrev pub get_code : List ℕ
+get_code = 0x3E ∷ 0x42 ∷ 0xAD ∷ 0x30 ∷ 0xFF ∷ 0xC0 ∷ 0x11 ∷ 0x80 ∷ []
+
+get_code_is : code_of the_keys (report_own ++ report_nonce) report_ends get_text ≡ get_code
+unfolding blocks code_of cbc_mac chained
+get_code_is =
+    let covers = covered (report_own ++ report_nonce) report_ends get_text in
+    ap (λ (block : List ℕ). take 8 (aes coding (sum_of_blocks block (block_at covers 1))))
+    (enciphered coding (sum_of_blocks (replicate 16 0) (block_at covers 0)) refl)
+    ∙ ap (λ (block : List ℕ). take 8 block) (enciphered coding _ refl) ∙ refl
+
+pub sealed_get : sealed_text (keys_of network_key) report_own report_nonce report_ends get_plain ≡ by_lock get_text get_code
+unfolding sealed_text ofb_from key_block
+sealed_get =
+    ap (λ (keys : Keys). sealed_text keys report_own report_nonce report_ends get_plain) keys_are
+    ∙ ap (λ (text : List ℕ). by_lock text (code_of the_keys (report_own ++ report_nonce) report_ends text))
+    (ap (λ (block : List ℕ). map (λ j. bit_xor (slice_index (0 ∷ get_plain) j) (slice_index block j)) (range_with_len 0 3)) report_stream_is)
+    ∙ ap (by_lock get_text) get_code_is
+
+-- a Nonce Report of the nonce for which the host seals
+abbrev pub given_plain : List ℕ
+given_plain = 0x98 ∷ 0x80 ∷ set_nonce
+
+abbrev pub given_text : List ℕ
+given_text = 0x2C ∷ 0xE9 ∷ 0xEB ∷ 0x45 ∷ 0xAD ∷ 0x9C ∷ 0xB0 ∷ 0xFA ∷ 0xB0 ∷ 0xFE ∷ 0x53 ∷ []
+
+abbrev pub given_code : List ℕ
+given_code = 0x0E ∷ 0x62 ∷ 0xD1 ∷ 0xA3 ∷ 0x91 ∷ 0xDF ∷ 0x66 ∷ 0xE0 ∷ []
+
+given_code_is : code_of the_keys (report_own ++ report_nonce) report_ends given_text ≡ given_code
+unfolding blocks code_of cbc_mac chained
+given_code_is =
+    let covers = covered (report_own ++ report_nonce) report_ends given_text in
+    ap (λ (block : List ℕ). take 8 (aes coding (sum_of_blocks block (block_at covers 1))))
+    (enciphered coding (sum_of_blocks (replicate 16 0) (block_at covers 0)) refl)
+    ∙ ap (λ (block : List ℕ). take 8 block) (enciphered coding _ refl) ∙ refl
+
+pub sealed_given : sealed_text (keys_of network_key) report_own report_nonce report_ends given_plain ≡ by_lock given_text given_code
+unfolding sealed_text ofb_from key_block
+sealed_given =
+    ap (λ (keys : Keys). sealed_text keys report_own report_nonce report_ends given_plain) keys_are
+    ∙ ap (λ (text : List ℕ). by_lock text (code_of the_keys (report_own ++ report_nonce) report_ends text))
+    (ap (λ (block : List ℕ). map (λ j. bit_xor (slice_index (0 ∷ given_plain) j) (slice_index block j)) (range_with_len 0 11)) report_stream_is)
+    ∙ ap (by_lock given_text) given_code_is

@@ -40,13 +40,29 @@ nonce_get = 0x98 ∷ 0x40 ∷ []
 abbrev pub no_more_information : List ℕ
 no_more_information = 0x84 ∷ 8 ∷ []
 
--- what the payloads of a node tell, in whatever wraps; what is sealed tells nothing here
+-- what the payloads of a node tell as they came, in whatever wraps but that of Security 0
 abbrev pub messages_of : Heard → List Told
 messages_of (Messages messages) = messages
 messages_of heard = []
 
 abbrev pub told_by : ℕ → List Entry → List Told
 told_by node past = flat_map (λ payload. messages_of (heard_at payload)) (payloads_from node past)
+
+-- the node has told this in a payload that it sealed for the host with the network key, under nonces of eight bytes
+pub record IsToldSealed (key : List ℕ) (past : List Entry) (node : ℕ) (message : Told) : Type 0 where
+  pub payload : List ℕ
+  pub brought : Has (payloads_from node past) payload
+  pub own : List ℕ
+  pub nonce : List ℕ
+  pub plain : List ℕ
+  pub own_eight : length own ≡ 8
+  pub eight : length nonce ≡ 8
+  pub text : payload ≡ sealed_text (keys_of key) own nonce (record { sender = node; receiver = controller }) plain
+  pub tells : Has (messages_of (heard_at plain)) message
+
+-- the node has told this, as it came or sealed
+abbrev pub IsToldBy : List ℕ → List Entry → ℕ → Told → Type 0
+IsToldBy key past node message = Has (told_by node past) message ⊎ IsToldSealed key past node message
 
 -- ---- of a session
 
@@ -60,7 +76,7 @@ pub record IsSegmentOf (message : List ℕ) (session : ℕ) (payload : List ℕ)
 pub record IsSealedFor (key : List ℕ) (past : List Entry) (node : ℕ) (message payload : List ℕ) : Type 0 where
   pub own : List ℕ
   pub nonce : List ℕ
-  pub given : Has (told_by node past) (NonceReport nonce)
+  pub given : IsToldBy key past node (NonceReport nonce)
   pub own_eight : length own ≡ 8
   pub eight : length nonce ≡ 8
   pub text : payload ≡ sealed_text (keys_of key) own nonce (record { sender = controller; receiver = node }) message
@@ -93,10 +109,10 @@ IsOfSession listing key past carried session = IsOfCommands (listed (command_at 
 -- ---- of nodes and lines
 
 -- the payload is a Nonce Report that a Nonce Get of the node asked for
-pub record IsNonceReport (past : List Entry) (carried : Carried) : Type 0 where
+pub record IsNonceReport (key : List ℕ) (past : List Entry) (carried : Carried) : Type 0 where
   pub nonce : List ℕ
   pub eight : length nonce ≡ 8
-  pub asked : Has (told_by carried.node past) NonceGet
+  pub asked : IsToldBy key past carried.node NonceGet
   pub text : carried.payload ≡ nonce_report nonce
 
 -- the texts that a line asked for of a node with these classes
@@ -125,7 +141,7 @@ abbrev pub IsDue : (ℕ → List ℕ) → List ℕ → List Entry → Carried �
 IsDue listing key past carried =
     IsOfSession listing key past carried (length (sessions carried.node past))
     ⊎ ((carried.payload ≡ nonce_get)
-    ⊎ (IsNonceReport past carried
+    ⊎ (IsNonceReport key past carried
     ⊎ ((carried.payload ≡ no_more_information) ⊎ IsAskedFor listing past carried)))
 
 abbrev pub MayRequest : (ℕ → List ℕ) → List ℕ → List Entry → Entry → Type 0

@@ -11,7 +11,7 @@ use Rattle.chip_functions.specs.declared.request.Request.TheVariants.{SendData}
 use Rattle.chip_functions.specs.Notice.{notice_of}
 use Rattle.chip_functions.specs.Request.{request_of}
 use Rattle.zw_words.specs.declared.side.Side.{Side}
-use Rattle.zw_words.specs.declared.side.Side.TheVariants.{Host, Chip}
+use Rattle.zw_words.specs.declared.side.Side.TheVariants.{Chip}
 use Rattle.zw_text.specs.declared.entry.Entry.{Entry}
 use Rattle.zw_text.specs.Transcript.{Way, units}
 use Rattle.zw_text.specs.Transcript.Way.{Whole, Missed, Changed}
@@ -76,10 +76,6 @@ arrived_of bytes (Changed other) = other ∷ []
 -- the units of a side that arrive, in order
 abbrev pub arrived : Side → List Entry → List (List ℕ)
 arrived side transcript = flat_map (λ unit. arrived_of unit.bytes unit.way) (units side transcript)
-
--- what the host asked to be sent, by the units that arrive
-abbrev pub sendings : List Entry → List Carried
-sendings transcript = flat_map sending_in (arrived Host transcript)
 
 -- what the chip brought the host, by the units that arrive; some of it the host may not have judged yet
 abbrev pub bringings : List Entry → List Carried

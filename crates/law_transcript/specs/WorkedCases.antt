@@ -122,3 +122,16 @@ abbrev pub nonces_wrapped : List Entry
 nonces_wrapped =
     Written Chip (bytes (codes "010C000400040656019840B204CC")) ∷ Written Host (bytes (codes "01110013040A988001B8E0ADA0F13D902501C7")) ∷
     Written Chip (bytes (codes "010900040004039840AA87")) ∷ Written Host (bytes (codes "01110013040A988001B8E0ADA0F13D902502C4")) ∷ []
+
+-- a lock asks in a message that it sealed for a nonce of before, and is given the next
+abbrev pub nonce_asked_sealed : List Entry
+nonce_asked_sealed =
+    Written Chip (bytes (codes "011C000400041698810AED115731C616E72CE92B013E42AD30FFC01180EB")) ∷
+    Written Host (bytes (codes "01110013040A988002010203040506072501CD")) ∷ []
+
+-- it gives a nonce of its own so, and a message is sealed for that
+abbrev pub nonce_given_sealed : List Entry
+nonce_given_sealed =
+    Written Chip (bytes (codes "010C004984040604000062986CAE")) ∷ Interviewed 4 ∷ Said (codes "set 4 on") ∷ Accepted 1 4 ∷ Begin 4 1 1 ∷
+    Written Chip (bytes (codes "0124000400041E98810AED115731C616E72CE9EB45AD9CB0FAB0FE53010E62D1A391DF66E0A1")) ∷
+    Written Host (bytes (codes "01220013041B98816B71E54E0F8EE3186CCEA9D132AB2C95018A573A88D6BE287E25018D")) ∷ []

@@ -116,6 +116,17 @@ nonce_of_another =
     Written Chip (bytes (codes "0108000400040298402D")) ∷
     Written Host (bytes (codes "011100130C0A9880019E0A1249BB594F2501A4")) ∷ []
 
+-- a Nonce Report is sent for a message that seals nothing, or to another node than the one that asked for it so
+abbrev pub nonce_for_nothing : List Entry
+nonce_for_nothing =
+    Written Chip (bytes (codes "011A000400041498810AED115731C616E72C01829AA826FC9B263F8A")) ∷
+    Written Host (bytes (codes "01110013040A988002010203040506072501CD")) ∷ []
+
+abbrev pub nonce_of_another_sealed : List Entry
+nonce_of_another_sealed =
+    Written Chip (bytes (codes "011C000400041698810AED115731C616E72CE92B013E42AD30FFC01180EB")) ∷
+    Written Host (bytes (codes "011100130C0A9880019E0A1249BB594F2501A4")) ∷ []
+
 -- a Nonce Report that was asked for has seven bytes
 abbrev pub nonce_shorter : List Entry
 nonce_shorter =

@@ -44,6 +44,12 @@ aired_as_written =
     Written Host (bytes (codes "010A001302032501FF250118")) ∷ Garbled Host (bytes (codes "010A001302032501002501E7")) ∷
     Air 1 1 2 [] (bytes (codes "2501FF")) ∷ []
 
+-- a unit is changed so that its checksum is wrong, and the controller sends what its bytes still say
+abbrev pub aired_as_garbled : List Entry
+aired_as_garbled =
+    Written Host (bytes (codes "010A001302032501FF250118")) ∷ Garbled Host (bytes (codes "010A00130203250100250118")) ∷
+    Air 1 1 2 [] (bytes (codes "250100")) ∷ []
+
 -- the chip brings a payload that it has not heard
 abbrev pub brought_unheard : List Entry
 brought_unheard =

@@ -25,6 +25,8 @@ ghost use Rattle.law_transcript.specs.WorkedCases.{
   get_asked,
   nonces_counted,
   nonces_wrapped,
+  nonce_asked_sealed,
+  nonce_given_sealed,
   sent_by_old_list,
   set_by_old_list,
   the_dimmer,
@@ -36,6 +38,7 @@ ghost use Rattle.law_transcript.specs.WorkedWrongWire.{
   aired_elsewhere,
   aired_for_lost,
   aired_as_written,
+  aired_as_garbled,
   brought_unheard,
   brought_otherwise,
   brought_of_another,
@@ -61,6 +64,8 @@ ghost use Rattle.law_transcript.specs.WorkedWrongPayloads.{
   cut_past_end,
   nonce_unasked,
   nonce_of_another,
+  nonce_of_another_sealed,
+  nonce_for_nothing,
   nonce_otherwise,
   nonce_shorter,
   set_unasked,
@@ -71,7 +76,8 @@ ghost use Rattle.law_transcript.specs.WorkedWrongPayloads.{
   get_unasked,
 };
 
-/// In worked transcripts the controller's frames are those that units asked for, as these arrived.
+/// In worked transcripts the controller's frames are those that units asked for, as these arrived: one that was changed asks for what it became where its
+/// checksum is right.
 pub fn worked_units()
     ensures plain { CarriesUnits plain_exchange }
     ensures repeated { CarriesUnits repeated_exchange }
@@ -109,7 +115,8 @@ pub fn worked_begins()
 {}
 
 /// In worked transcripts the host sends what is due: messages of sessions, segments of them, sealed ones and what these ask for, No More Information, the
-/// Set or Get of a line, and a message or a Set by the classes that were known when its command was accepted or its line was said.
+/// Set or Get of a line, and a message or a Set by the classes that were known when its command was accepted or its line was said. A node asks for a nonce,
+/// and gives one, openly or in a message that it sealed.
 pub fn worked_payloads()
     ensures plain { SendsWhatIsDue (listing_of (the_switch ∷ [])) [] plain_exchange }
     ensures repeated { SendsWhatIsDue (listing_of (the_switch ∷ [])) [] repeated_exchange }
@@ -124,6 +131,8 @@ pub fn worked_payloads()
     ensures old_list { SendsWhatIsDue (listing_of (the_dimmer ∷ [])) [] sent_by_old_list }
     ensures nonces { SendsWhatIsDue (listing_of (the_lock ∷ [])) network_key nonces_counted }
     ensures wrapped { SendsWhatIsDue (listing_of (the_lock ∷ [])) network_key nonces_wrapped }
+    ensures asked_sealed { SendsWhatIsDue (listing_of (the_lock ∷ [])) network_key nonce_asked_sealed }
+    ensures given_sealed { SendsWhatIsDue (listing_of (the_lock ∷ [])) network_key nonce_given_sealed }
     ensures set_old_list { SendsWhatIsDue (listing_of (the_dimmer ∷ [])) [] set_by_old_list }
 {}
 
@@ -131,7 +140,7 @@ pub fn worked_payloads()
 /// the classes that came to be known later; one that is sealed though its node lists no Security 0, or not though it does, sealed for no
 /// nonce that was given or for one of nine bytes, with another byte, or under a longer nonce; one that is not cut though its node lists
 /// Transport Service, a segment with another byte, of another session, or after the end; a Nonce Report that nobody asked for, or another
-/// node, of seven bytes, or another payload in its place; and a Set that no line asked
+/// node, openly or sealed, or for a message that seals nothing, of seven bytes, or another payload in its place; and a Set that no line asked
 /// for, or one that was refused, with another value, for another node, or by classes that came to be known later, and such a Get.
 pub fn rejected_payloads()
     ensures otherwise { SendsWhatIsDue (listing_of (the_switch ∷ [])) [] sent_otherwise → ⊥ }
@@ -150,6 +159,8 @@ pub fn rejected_payloads()
     ensures past_end { SendsWhatIsDue (listing_of (the_plug ∷ [])) [] cut_past_end → ⊥ }
     ensures nonce_unasked { SendsWhatIsDue (listing_of (the_lock ∷ [])) network_key nonce_unasked → ⊥ }
     ensures nonce_of_another { SendsWhatIsDue (listing_of (the_lock ∷ [])) network_key nonce_of_another → ⊥ }
+    ensures nonce_of_another_sealed { SendsWhatIsDue (listing_of (the_lock ∷ [])) network_key nonce_of_another_sealed → ⊥ }
+    ensures nonce_for_nothing { SendsWhatIsDue (listing_of (the_lock ∷ [])) network_key nonce_for_nothing → ⊥ }
     ensures nonce_otherwise { SendsWhatIsDue (listing_of (the_lock ∷ [])) network_key nonce_otherwise → ⊥ }
     ensures nonce_shorter { SendsWhatIsDue (listing_of (the_lock ∷ [])) network_key nonce_shorter → ⊥ }
     ensures set_unasked { SendsWhatIsDue (listing_of (the_switch ∷ [])) [] set_unasked → ⊥ }
@@ -161,13 +172,14 @@ pub fn rejected_payloads()
 {}
 
 /// Each of these breaks one part of the laws: a frame that no unit asked for, for another node, twice for one unit, in another order, for a unit that was
-/// lost, or as one was before it was changed; a payload brought that was not heard, or another, or of another node, or that the controller sent; and a
-/// session that begins without its unit, with one for another node, or one that sends nothing.
+/// lost, as one was before it was changed, or as it became with a wrong checksum; a payload brought that was not heard, or another, or of another node, or
+/// that the controller sent; and a session that begins without its unit, with one for another node, or one that sends nothing.
 pub fn rejected_wire()
     ensures aired { CarriesUnits aired_unasked → ⊥ }
     ensures aired_elsewhere { CarriesUnits aired_elsewhere → ⊥ }
     ensures lost { CarriesUnits aired_for_lost → ⊥ }
     ensures written { CarriesUnits aired_as_written → ⊥ }
+    ensures garbled { CarriesUnits aired_as_garbled → ⊥ }
     ensures twice { CarriesUnits aired_twice → ⊥ }
     ensures backwards { CarriesUnits aired_backwards → ⊥ }
     ensures brought { BringsWhatWasHeard brought_unheard → ⊥ }

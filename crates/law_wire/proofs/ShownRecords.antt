@@ -16,7 +16,7 @@ use Rattle.host_keep.specs.declared.final_status.FinalStatus.TheVariants.{Succes
 use Rattle.zw_text.specs.declared.line.Line.{Line}
 use Rattle.zw_text.specs.declared.entry.Entry.{Entry}
 use Rattle.zw_text.specs.declared.entry.Entry.TheVariants.{Accepted, Begin, Interviewed, InterviewFailed}
-use Rattle.zw_text.specs.Transcript.{Command, Accepting, shown, folded, accepting, not_accepting, accepted_at, numbered, order_for, session_at, interview_at, outcome, joined}
+use Rattle.zw_text.specs.Transcript.{Command, Accepting, shown, folded, accepting, not_accepting, accepted_at, numbered, order_for, session_at, sessions, interview_at, interviews, outcome, joined}
 use Rattle.law_transcript.specs.Commands.{numbers_of, is_waiting}
 use Rattle.law_transcript.specs.Records.{ShowsNode, final_of}
 use Rattle.law_transcript.specs.WorkedDevices.{plain_records}
@@ -68,7 +68,7 @@ all_below bound [] = true
 all_below bound (entry ∷ entries) = shows_below bound entry && all_below bound entries
 
 -- a node below the bound is none above it
-is_other : (bound more node : ℕ) → nat_lt node bound ≡ true → (node == above bound more) ≡ false
+pub is_other : (bound more node : ℕ) → nat_lt node bound ≡ true → (node == above bound more) ≡ false
 is_other bound more node low = let is = above_is bound more in grind (arith, nat_tests, low, is)
 
 pub others_are : (bound more node : ℕ) → nat_lt node bound ≡ true → (above bound more == node) ≡ false
@@ -109,17 +109,23 @@ none_shown bound f none [] low = refl
 none_shown {A} bound f none (entry ∷ entries) low =
     ap (λ (shows : List A). shows ++ shown f entries) (none entry (first_of _ _ low)) ∙ none_shown bound f none entries (second_of (shows_below bound entry) _ low)
 
+pub none_begun : (bound more : ℕ) (transcript : List Entry) → all_below bound transcript ≡ true → sessions (above bound more) transcript ≡ []
+none_begun bound more transcript low = none_shown bound (session_at (above bound more)) (none_begun_at bound more) transcript low
+
+pub none_asked : (bound more : ℕ) (transcript : List Entry) → all_below bound transcript ≡ true → interviews (above bound more) transcript ≡ []
+none_asked bound more transcript low = none_shown bound (interview_at (above bound more)) (none_asked_at bound more) transcript low
+
 -- what nothing was said of is shown as at first
 later_node : (transcript : List Entry) (kept : Kept) (bound more : ℕ) → node_of kept (above bound more) ≡ blank_node
     → nat_lt 2 bound ≡ true → are_below bound (joined transcript) ≡ true → all_below bound transcript ≡ true
     → ShowsNode transcript (above bound more) (node_of kept (above bound more))
 later_node transcript kept bound more blank first joins low =
     let node = above bound more in
-    let begins = none_shown bound (session_at node) (none_begun_at bound more) transcript low in
+    let begins = none_begun bound more transcript low in
     subst (λ (one : KeptNode). ShowsNode transcript node one) (sym blank) (record {
       joined = sym (none_joined bound more (joined transcript) joins);
       interviewed = sym (ap (λ (list : List Bool). list_any (λ succeeded. succeeded) list || (node == 2))
-          (none_shown bound (interview_at node) (none_asked_at bound more) transcript low) ∙ others_are bound more 2 first);
+          (none_asked bound more transcript low) ∙ others_are bound more 2 first);
       waits = sym (ap (λ (commands : List Command). filter (λ number. is_waiting (outcome number transcript)) (numbers_of commands))
           (none_accepted bound more not_accepting transcript low refl));
       begun = sym begins;
@@ -136,26 +142,26 @@ shows_nodes transcript kept bound below blank first joins low =
 -- ---- records
 
 -- numbers below 256 are bytes
-bytes_are : (numbers : List ℕ) → are_below 256 numbers ≡ true → AreBytes numbers
+pub bytes_are : (numbers : List ℕ) → are_below 256 numbers ≡ true → AreBytes numbers
 bytes_are [] low k within = absurd (omega (arith, within))
 bytes_are (number ∷ numbers) low zero within = let small = first_of (nat_lt number 256) _ low in grind (arith, nat_tests, small)
 bytes_are (number ∷ numbers) low (suc k) within = bytes_are numbers (second_of (nat_lt number 256) _ low) k (omega (arith, within))
 
 -- an order for a device itself is in its ranges
-order_in : (command node : ℕ) (what : What) → command < 2 ^ 32 → IsNode node → IsWhat what
+pub order_in : (command node : ℕ) (what : What) → command < 2 ^ 32 → IsNode node → IsWhat what
     → IsRecord (records.Accepted command (record { node = node; end = 0; what = what }))
 order_in command node what counts is well = (counts, record { node = is; end = omega arith; what = well })
 
-node_2 : IsNode 2
+pub node_2 : IsNode 2
 node_2 = (omega arith, omega arith)
 
-on_in : IsRecord (records.Accepted 1 (record { node = 2; end = 0; what = Value On }))
+pub on_in : IsRecord (records.Accepted 1 (record { node = 2; end = 0; what = Value On }))
 on_in = order_in 1 2 (Value On) (omega arith) node_2 tt
 
-begun_in : IsRecord (records.Begun 2 1 1)
+pub begun_in : IsRecord (records.Begun 2 1 1)
 begun_in = (node_2, omega arith, omega arith)
 
-ended_in : IsRecord (records.Final 2 1 Success)
+pub ended_in : IsRecord (records.Final 2 1 Success)
 ended_in = (node_2, omega arith)
 
 pub spent_well : IsTextOf (records.Spent 2) (record_text (records.Spent 2))
@@ -196,7 +202,7 @@ pub gives_cancelled : Give (map record_text cancelled_records) (kept_of cancelle
 unfolding reckoning first_illegal
 gives_cancelled = gives cancelled_records (on_in, (begun_in, (order_in 2 2 (Value Off) (omega arith) node_2 tt, (omega arith, (ended_in, tt))))) refl
 
-node_5 : IsNode 5
+pub node_5 : IsNode 5
 node_5 = (omega arith, omega arith)
 
 pub gives_sleeping : Give (map record_text sleeping_records) (kept_of sleeping_records)

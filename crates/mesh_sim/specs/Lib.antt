@@ -1,3 +1,4 @@
+pub mod Devices
 pub mod Faults
 pub mod Routes
 pub mod Air

@@ -1,8 +1,7 @@
 -- What happens on the air, as it is told and as the chip learns of it (this project's own rule, docs/MACHINE.md).
 use Rattle.std.specs.Prelude.{ℕ, ◌&&◌, nat_le, if◌then◌else◌, Option, Some, None, List, [], ◌∷◌, map, slice_get, length}
 use Rattle.zw_base.specs.declared.property.Setting.{Setting}
-use Rattle.device_kinds.specs.declared.change.Change.{Change}
-use Rattle.device_sim.specs.State.{State}
+use Rattle.mesh_sim.specs.Devices.{State, Change}
 use Rattle.chip_sim.specs.Events.{Heard as chip_hears}
 use Rattle.mesh_sim.specs.declared.event.AirEvent.{AirEvent}
 use Rattle.mesh_sim.specs.declared.event.AirEvent.TheVariants.{Heard, Lost, Unheard, Sent, Changed, ToChip, Done}

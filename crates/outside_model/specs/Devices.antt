@@ -4,10 +4,8 @@ use Rattle.std.specs.List.{flat_map}
 use Rattle.zw_base.specs.declared.property.Setting.{Setting}
 use Rattle.route_table.specs.declared.route.Route.{Route}
 use Rattle.route_table.specs.Network.{Network}
-use Rattle.device_kinds.specs.declared.change.Change.{Change}
-use Rattle.device_stack.specs.Showing.{shown_of}
-use Rattle.device_sim.specs.State.{State}
-use Rattle.device_sim.specs.Event.{DeviceEvent, device_after, device_replies}
+pub use Rattle.mesh_sim.specs.Devices.{State}
+use Rattle.mesh_sim.specs.Devices.{Change, DeviceEvent, device_after, device_replies, shown_of}
 use Rattle.mesh_sim.specs.Air.{is_joined}
 use Rattle.mesh_sim.specs.Fates.{place_of}
 use Rattle.mesh_sim.specs.Routes.{IsRoute, backwards}

@@ -1,6 +1,6 @@
 -- What calls did, as lists of events (this project's own).
 use Rattle.std.specs.Prelude.{◌≡◌, Option, Some, None, List, [], ◌∷◌, ◌++◌}
-use Rattle.device_sim.specs.State.{State}
+use Rattle.mesh_sim.specs.Devices.{State}
 use Rattle.zw_text.specs.declared.entry.Entry.{Entry}
 use Rattle.outside_model.specs.State.{OuterState, Outside, outside, Outcome}
 use Rattle.outside_model.specs.Events.{OuterEvent, happens, entries, May, stamp, has_entered, AreOwn}

@@ -7,8 +7,7 @@ use Rattle.serial_frame.specs.Stream.{Rest}
 use Rattle.route_table.specs.declared.route.Route.{Route}
 use Rattle.chip_sim.specs.Events.{Collides}
 use Rattle.chip_sim.specs.Events as chip
-use Rattle.device_sim.specs.State.{State}
-use Rattle.device_sim.specs.Event.{Ticks, Wakes, Sets}
+use Rattle.mesh_sim.specs.Devices.{State, Ticks, Wakes, Sets}
 use Rattle.air_frames.specs.Frames.{peer_of}
 use Rattle.air_frames.specs.Ages.{refusal_of}
 use Rattle.air_frames.specs.declared.ages.Refusal.{Refusal as RepeatRefusal}

@@ -4,8 +4,7 @@ use Rattle.std.specs.List.{range_with_len, flat_map}
 use Rattle.route_table.specs.Network.{linked}
 use Rattle.chip_sim.specs.Events.{ChipEvent, Joined, Linked}
 use Rattle.chip_sim.specs.Did.{after_all}
-use Rattle.device_sim.specs.Kind.{listens}
-use Rattle.device_sim.specs.State.{State}
+use Rattle.mesh_sim.specs.Devices.{State, listens}
 use Rattle.mesh_sim.specs.Air.{AirState, is_joined, joining}
 use Rattle.outside_model.specs.State.{OuterState, with_chip}
 

@@ -10,9 +10,7 @@ use Rattle.chip_functions.specs.declared.notice.TransmitStatus.{TransmitStatus}
 use Rattle.chip_functions.specs.declared.notice.TransmitStatus.TheVariants.{Fail, NoRoute}
 use Rattle.chip_sim.specs.State.{ChipState}
 use Rattle.chip_sim.specs.Events.{after, Done, Informed, Forgets}
-use Rattle.device_kinds.specs.declared.kind.Kind.{Kind}
-use Rattle.device_sim.specs.Kind.{listens, classes_of}
-use Rattle.device_sim.specs.State.{State}
+use Rattle.mesh_sim.specs.Devices.{State, Kind, listens, classes_of}
 use Rattle.mesh_sim.specs.Air.{AirState, is_joined}
 use Rattle.mesh_sim.specs.Fates.{place_of}
 use Rattle.mesh_sim.specs.Routes.{IsRoute}

@@ -4,7 +4,7 @@ use Rattle.std.specs.Prelude.{◌≡◌, ℕ, Bool, true, false, nat_lt, List, [
 use Rattle.serial_frame.specs.Stream.{no_rest}
 use Rattle.chip_sim.specs.State.{ChipState, ChipParts, fresh_chip}
 use Rattle.chip_sim.specs.Events.{after, Joined, Linked}
-use Rattle.device_sim.specs.State.{State}
+use Rattle.mesh_sim.specs.Devices.{State}
 use Rattle.mesh_sim.specs.Air.{AirState, first_air, linking, joining}
 use Rattle.serial_pipes.specs.State.{WayState, empty_way}
 use Rattle.zw_text.specs.declared.entry.Entry.{Entry}

@@ -11,7 +11,7 @@ use Rattle.host_model.specs.State.{HostParts, node_of}
 use Rattle.host_model.specs.Events.{Queues, Queues_interview, Queues_probe}
 use Rattle.host_model.specs.May.{known_of}
 use Rattle.host_model.specs.Asking.{interview_refusal, places_refusal}
-use Rattle.host_step_bytes.specs.Calls.{Are, DoesAlone}
+use Rattle.host_core.specs.Calls.{Are, DoesAlone}
 use Rattle.port_run.specs.declared.asking.Answer.TheVariants.{Taken}
 use Rattle.port_run.specs.Steps.{place, Asked}
 

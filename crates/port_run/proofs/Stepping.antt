@@ -8,7 +8,7 @@ use Rattle.run_lines.specs.declared.reader.TheConstants.{PIECE, MAX_INPUT}
 use Rattle.host_model.specs.State.{HostParts}
 use Rattle.host_model.specs.declared.out.HostOut.{HostOut}
 use Rattle.host_model.proofs.EventLists.{none_added, did_nothing}
-use Rattle.host_step_bytes.specs.Calls.{beside, Stops}
+use Rattle.host_core.specs.Calls.{beside, Stops}
 use Rattle.port_run.specs.declared.stop.Stop.{Stop}
 use Rattle.port_run.specs.declared.stop.Stop.TheVariants.{ReadFault, WriteFault, InputTooLong, NoMemory}
 use Rattle.port_run.specs.Steps.{Place, Step, Asks, Takes, Ticks, Pumps, Ran}
@@ -18,7 +18,7 @@ use Rattle.port_run.proofs.StepLists.{units-append, ran_one, went_one}
 use Rattle.port_run.proofs.Joining.{WentStill, BrokeStill}
 use Rattle.run_lines.proofs.Pieces.{AppendsPrefix-append, AppendsPrefix-more}
 use Rattle.serial_frame.specs.Stream.{after_tick}
-use Rattle.host_step_bytes.specs.Calls.{Does, Are, scene}
+use Rattle.host_core.specs.Calls.{Does, Are, scene}
 use Rattle.host_model.specs.Pumping.{Pumps as pump_events}
 use Rattle.host_model.specs.Ticking.{tick_events}
 use Rattle.host_model.specs.Taking.{Fed, FedPrefix}

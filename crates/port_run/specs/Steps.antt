@@ -18,7 +18,7 @@ use Rattle.host_model.specs.Pumping.{Pumps as pump_events}
 use Rattle.host_model.specs.Taking.{Fed}
 use Rattle.host_model.specs.Ticking.{tick_events}
 use Rattle.host_model.specs.declared.out.HostOut.{HostOut}
-use Rattle.host_step_bytes.specs.Calls.{beside, Are, Does}
+use Rattle.host_core.specs.Calls.{beside, Are, Does}
 use Rattle.port_run.specs.declared.asking.Answer.{Answer}
 use Rattle.port_run.specs.declared.asking.Answer.TheVariants.{Taken, Command as numbered, Refused as refused}
 

@@ -28,11 +28,12 @@ use Rattle.law_transcript.specs.Nodes.{controller}
 use Rattle.outside_model.specs.State.{OuterState, Outside, outside}
 use Rattle.outside_model.specs.Air.{sent_entries}
 use Rattle.outside_model.specs.Events.{begins}
-use Rattle.proof_walk.specs.Outside.{Pending, nothing, Moves, session_begins}
+use Rattle.proof_walk.specs.Outside.{Pending, nothing, Moves, session_begins, HasNoWords}
+use Rattle.proof_device.proofs.Entering.{flat_are}
 use Rattle.proof_air.specs.Logs.{departure_of, mark_step, log_of, plain, plain_mark, plain_log, sent_marks, pending_marks, IsApart, Tie}
 use Rattle.proof_air.specs.Hearing.{MayHear, Knows}
 use Rattle.proof_air.proofs.Logs.{log_grows, plain-append, plain-begins, plain_begun}
-use Rattle.proof_air.proofs.Silent.{IsNoLine, AreNoLines, AreSilent, silent_lines, silent_log, fresh_after, may_hear_all}
+use Rattle.proof_air.proofs.Silent.{AreNoLines, AreSilent, silent_lines, silent_log, fresh_after, may_hear_all}
 
 -- ---- what goes on
 
@@ -48,7 +49,7 @@ known before after w later told goes awaits past silent knows =
 
 pub both : (p q r : Pending) (w u v : Outside) (xs ys : List Entry) → Goes_on p w xs q u → Goes_on q u ys r v → Goes_on p w (xs ++ ys) r v
 both p q r w u v xs ys first later = record {
-  lines = all-append IsNoLine xs ys first.lines later.lines;
+  lines = all-append HasNoWords xs ys first.lines later.lines;
   ties = λ past tie. subst (λ (l : List Entry). Tie r l v) (append_assoc past xs ys) (later.ties (past ++ xs) (first.ties past tie));
 }
 
@@ -155,14 +156,11 @@ sent_enter log (air_event.ToChip frame from payload ∷ events) = sent_enter log
 sent_enter log (air_event.Done frame status dead ∷ events) = sent_enter log events
 
 pub sent_lines : (events : List AirEvent) → AreNoLines (flat_map sent_entries events)
-sent_lines [] = tt
-sent_lines (air_event.Heard frame ∷ events) = sent_lines events
-sent_lines (air_event.Lost frame ∷ events) = sent_lines events
-sent_lines (air_event.Unheard frame ∷ events) = sent_lines events
-sent_lines (air_event.Sent frame from to route payload ∷ events) = (tt, sent_lines events)
-sent_lines (air_event.Changed node at ∷ events) = sent_lines events
-sent_lines (air_event.ToChip frame from payload ∷ events) = sent_lines events
-sent_lines (air_event.Done frame status dead ∷ events) = sent_lines events
+sent_lines events = flat_are HasNoWords sent_entries one events
+  where
+    one : (event : AirEvent) → AreNoLines (sent_entries event)
+    one (air_event.Sent frame from to route payload) = (tt, tt)
+    one event = tt
 
 pub sent-append : (xs ys : List AirEvent) → sent_marks (xs ++ ys) ≡ sent_marks xs ++ sent_marks ys
 sent-append [] ys = refl

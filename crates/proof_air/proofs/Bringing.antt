@@ -1,8 +1,7 @@
 -- Each payload that the chip brings was heard: what happens outside the host goes on so, beside the history of the air.
-use Rattle.std.proofs.Common.{◌≡◌, ℕ, zero, suc, ◌+◌, ◌-◌, ◌&&◌, Bool, true, false, if◌then◌else◌, List, [], ◌∷◌, ◌++◌, length, map, filter, refl, sym, subst, append-nil, nat_le, inl}
+use Rattle.std.proofs.Common.{◌≡◌, ℕ, ◌+◌, ◌-◌, ◌&&◌, Bool, true, false, if◌then◌else◌, List, [], ◌∷◌, ◌++◌, length, map, filter, refl, sym, ap, subst, append-nil, nat_le, inl}
 use Rattle.std.proofs.lemmas.Bool.{leb-true}
 use Rattle.std.specs.Prelude.{Option, Some, None, slice_get, slice_set}
-use Rattle.std.specs.Option.{option_map}
 use Rattle.std.specs.List.{flat_map, range_with_len, AllByRecursion}
 use Rattle.zw_base.proofs.Each.{all-append, all-weaker}
 use Rattle.serial_frame.specs.Stream.{after_tick}
@@ -13,21 +12,19 @@ use Rattle.air_frames.specs.declared.frame.Heading.{Heading}
 use Rattle.air_frames.specs.declared.frame.Heading.TheVariants.{Outward, Homeward}
 use Rattle.air_frames.specs.Flown.{Flown}
 use Rattle.air_frames.specs.Frames.{next_of, remembered}
-use Rattle.chip_sim.specs.State.{ChipState}
+use Rattle.chip_sim.specs.State.{ChipState, ChipParts}
 use Rattle.chip_sim.specs.Events.{ChipEvent, Judged, Ticked, Heard as chip_hears, Joined, after}
 use Rattle.chip_sim.specs.Did.{after_all}
 use Rattle.device_sim.specs.State.{State}
-use Rattle.device_sim.specs.Event.{DeviceEvent, Hears, device_after, device_replies}
+use Rattle.device_sim.specs.Event.{DeviceEvent, Hears, device_after}
 use Rattle.mesh_sim.specs.declared.event.AirEvent.{AirEvent}
 use Rattle.mesh_sim.specs.declared.event.AirEvent.TheVariants as air_event
 use Rattle.mesh_sim.specs.declared.fate.Fate.{Fate}
 use Rattle.mesh_sim.specs.declared.fate.Fate.TheVariants as fate
-use Rattle.mesh_sim.specs.Air.{AirState, is_joined, joining, departing}
-use Rattle.mesh_sim.specs.Fates.{Mesh, dead_hop_of, fate_by, fate_of, listener_of, place_of}
-use Rattle.mesh_sim.specs.Routes.{backwards}
-use Rattle.mesh_sim.specs.Steps.{AirStep, landed, acknowledged, status_of as status_at, done_of, changed, answers, answers_if, outs_at, arrival_outs_as, arrival_outs, outs_again, repeat_outs_by, repeat_outs, mesh_after, mesh_outs}
+use Rattle.mesh_sim.specs.Air.{AirState, joining}
+use Rattle.mesh_sim.specs.Fates.{Mesh, dead_hop_of, fate_of, listener_of, place_of}
+use Rattle.mesh_sim.specs.Steps.{AirStep, landed, acknowledged, status_of as status_at, done_of, outs_at, arrival_outs_as, arrival_outs, outs_again, repeat_outs_by, repeat_outs, mesh_after, mesh_outs}
 use Rattle.mesh_sim.specs.Steps as mesh
-use Rattle.zw_words.specs.declared.side.Side.TheVariants.{Host as by_host, Chip as by_chip}
 use Rattle.zw_text.specs.declared.entry.Entry.{Entry}
 use Rattle.zw_text.specs.declared.entry.Entry.TheVariants as entry
 use Rattle.zw_text.specs.Transcript.{heard, heard_at}
@@ -39,12 +36,14 @@ use Rattle.outside_model.specs.State.{OuterState, Outside, outside, silent as si
 use Rattle.outside_model.specs.Chip.{chip_does, chip_ticks}
 use Rattle.outside_model.specs.Results.{frame_ends, device_at}
 use Rattle.outside_model.specs.Air.{deals, change_entries, change_at}
-use Rattle.outside_model.specs.Devices.{acts, shown_entries}
+use Rattle.outside_model.specs.Devices.{acts}
 use Rattle.outside_model.specs.Nodes.{joins, listens_at, links_of, pairs_of, is_known, discovers, all_pairs}
-use Rattle.outside_model.specs.Events.{OuterEvent, Host_writes, Host_takes, Host_notes, Shows, Joins, Discovers, Links, Loses, Loses_acks, Marks_loss, Marks_change, Clears_pipe, Collides_next, Stalls, Cuts, outcome, mesh_of, cleared_entries}
+use Rattle.outside_model.specs.Events.{OuterEvent, Host_notes, Joins, Discovers, Links, Loses, Loses_acks, Collides_next, outcome, mesh_of}
 use Rattle.proof_walk.specs.Outside.{Pending, Judging, Dealing, nothing, Moves, Outer, IsSimple, IsHearing, IsOfAir, session_begins}
 use Rattle.proof_walk.proofs.Linking.{acts_of_air}
-use Rattle.proof_device.proofs.Entered.{IsCleared, all_cleared, IsShown, all_shown, IsChange, change_entered}
+use Rattle.proof_device.proofs.ChangesOutside.{fate_home}
+use Rattle.proof_device.proofs.Entered.{IsChange, change_entered}
+use Rattle.proof_device.proofs.Entering.{outs_again_are, outs_at_are, pipes_leave}
 use Rattle.proof_device.proofs.Results.{gives_go}
 use Rattle.proof_air.specs.Logs.{Tie}
 use Rattle.proof_air.specs.Hearing.{JoinsNode}
@@ -55,7 +54,7 @@ use Rattle.proof_air.proofs.Outer.{same, same_tie, number_goes, takes_goes, tick
 use Rattle.proof_air.proofs.Homes.{port_stays, come_on, come_after, heard_picked, next_home, again_home}
 use Rattle.proof_air.proofs.Brought.{handler_brings}
 use Rattle.proof_air.proofs.Ports.{HearsSo, after_has}
-use Rattle.proof_air.proofs.Putting.{BringsNone, BringNone, cleared_none, shown_none, change_none, note_none, air_none, marks_none, Kept, quiet, Puts_on, chip_kept, still_on, posted, does_on, ends_on, gives_on}
+use Rattle.proof_air.proofs.Putting.{BringsNone, BringNone, pipes_none, change_none, note_none, air_none, Kept, quiet, Puts_on, chip_kept, still_on, posted, does_on, ends_on, gives_on}
 
 -- ---- beside the history of the air
 
@@ -129,34 +128,8 @@ done_none : (heading : Heading) (number status : ℕ) (dead : Option (ℕ × ℕ
 done_none Outward number status dead = (tt, tt)
 done_none Homeward number status dead = tt
 
-changed_none : (node first count : ℕ) → NoneCome (changed node first count)
-changed_none node first zero = tt
-changed_none node first (suc count) = (tt, changed_none node (first + 1) count)
-
-answers_none : (air : AirState) (node : ℕ) (way : Option Route) (replies : List (List ℕ)) → NoneCome (answers air node way replies)
-answers_none air node way [] = tt
-answers_none air node way (reply ∷ replies) = (tt, answers_none (departing air node Homeward way reply) node way replies)
-
-answers_if_none : (b : Bool) (air : AirState) (node : ℕ) (way : Option Route) (replies : List (List ℕ)) → NoneCome (answers_if b air node way replies)
-answers_if_none true air node way replies = answers_none air node way replies
-answers_if_none false air node way replies = tt
-
 device_none : (base : Mesh) (found : Option State) (number node : ℕ) (route : Option Route) (event : DeviceEvent) → NoneCome (outs_at base found number node route event)
-device_none base None number node route event = tt
-device_none base (Some device) number node route event = (
-  tt,
-  all-append NoneComes (changed node (length device.journal) (length (device_after device event).journal - length device.journal)) _
-      (changed_none node (length device.journal) (length (device_after device event).journal - length device.journal))
-      (answers_if_none (is_joined base.air node) base.air node (option_map backwards route) (device_replies device event)),
-)
-
--- a frame that comes to the chip heads for the controller
-fate_home : (lost : Bool) (dead : Option (ℕ × ℕ)) (heading : Heading) (listener : Option ℕ) → (if lost then fate.Lost else fate_by dead heading listener) ≡ fate.AtChip → heading ≡ Homeward
-fate_home true dead heading listener is = absurd cc
-fate_home false (Some hop) heading listener is = absurd cc
-fate_home false None Homeward listener is = refl
-fate_home false None Outward (Some place) is = absurd cc
-fate_home false None Outward None is = absurd cc
+device_none base found number node route event = outs_at_are NoneComes node (λ at. tt) (λ frame over payload. tt) number tt base found route event
 
 module _ (past : List Entry) (w : Outside) (tie : Tie nothing past w) where
   arrives_so : (frame : Flown) (x : Fate) (drawn : List ℕ) (route : Option Route) → next_of w.outer.air.frames ≡ Some frame → fate_of w.outer.air.network w.devices frame ≡ x
@@ -186,16 +159,12 @@ module _ (past : List Entry) (w : Outside) (tie : Tie nothing past w) where
   arrives_if None drawn route next = tt
   arrives_if (Some frame) drawn route next = arrives_so frame (fate_of w.outer.air.network w.devices frame) drawn route next refl
 
-  again_none : (place : Option ℕ) (number node : ℕ) (route : Option Route) (event : DeviceEvent) → NoneCome (outs_again (mesh_of w) place number node route event)
-  again_none None number node route event = tt
-  again_none (Some place) number node route event = device_none (mesh_of w) (slice_get w.devices place) number node route event
-
   again_so : (heading : Heading) (number : ℕ) (frame : Flown) (drawn : List ℕ) (route : Option Route) → remembered w.outer.air.frames number ≡ Some frame → frame.heading ≡ heading
       → Come past (heard past) (repeat_outs_by heading (mesh_of w) number frame drawn route)
   again_so Homeward number frame drawn route found heads = ((has_right (heard past) (number ∷ []) number (inl refl), again_home past w tie number frame found heads), tt)
   again_so Outward number frame drawn route found heads =
       none_come past (heard past) (outs_again (mesh_of w) (listener_of frame.node w.devices) number frame.node route (Hears frame.payload drawn))
-      (again_none (listener_of frame.node w.devices) number frame.node route (Hears frame.payload drawn))
+      (outs_again_are NoneComes frame.node (λ at. tt) (λ frame over payload. tt) number tt (mesh_of w) (listener_of frame.node w.devices) route (Hears frame.payload drawn))
 
   again_if : (number : ℕ) (found : Option Flown) (drawn : List ℕ) (route : Option Route) → remembered w.outer.air.frames number ≡ found
       → Come past (heard past) (repeat_outs (mesh_of w) number found drawn route)
@@ -267,30 +236,16 @@ module _ (w : Outside) where
 
   simple_kept : (event : OuterEvent) → IsSimple event → Keeps event
   unfolding outcome
-  simple_kept (Host_writes unit) simple = quiet nothing w _ (told by_host w.outer.to_chip unit) (tt, marks_none by_host w.outer.to_chip unit) refl
-  simple_kept (Host_takes count) simple = quiet nothing w _ [] tt refl
   simple_kept (Host_notes note) simple = quiet nothing w w (note ∷ []) (note_none note simple.0, tt) refl
-  simple_kept (Shows node) simple =
-      quiet nothing w w (shown_entries node (device_at w.devices (place_of node w.devices)))
-      (all-weaker IsShown BringsNone shown_none _ (all_shown node (device_at w.devices (place_of node w.devices)))) refl
   simple_kept (Joins node) simple =
       chip_kept nothing w.outer _ w.devices w.devices (joins_on w.outer node (listens_at (device_at w.devices (place_of node w.devices))))
   simple_kept Discovers simple = chip_kept nothing w.outer _ w.devices w.devices (discovers_on w.outer)
   simple_kept (Links a b live) simple = quiet nothing w _ [] tt refl
   simple_kept (Loses count) simple = quiet nothing w _ [] tt refl
   simple_kept (Loses_acks count) simple = quiet nothing w _ [] tt refl
-  simple_kept (Marks_loss by_host) simple = quiet nothing w _ [] tt refl
-  simple_kept (Marks_loss by_chip) simple = quiet nothing w _ [] tt refl
-  simple_kept (Marks_change by_host garble) simple = quiet nothing w _ [] tt refl
-  simple_kept (Marks_change by_chip garble) simple = quiet nothing w _ [] tt refl
-  simple_kept (Clears_pipe by_host) simple =
-      quiet nothing w _ (cleared_entries by_host (length w.outer.to_chip.bytes)) (all-weaker IsCleared BringsNone cleared_none _ (all_cleared by_host (length w.outer.to_chip.bytes))) refl
-  simple_kept (Clears_pipe by_chip) simple =
-      quiet nothing w _ (cleared_entries by_chip (length w.outer.to_host.bytes)) (all-weaker IsCleared BringsNone cleared_none _ (all_cleared by_chip (length w.outer.to_host.bytes))) refl
   simple_kept Collides_next simple = chip_kept nothing w.outer _ w.devices w.devices (collides_on w.outer)
-  simple_kept (Stalls ticks) simple = quiet nothing w _ [] tt refl
-  simple_kept (Cuts size) simple = quiet nothing w _ [] tt refl
-  simple_kept event simple = absurd simple
+  simple_kept event simple =
+      quiet nothing w (outside (outcome w event).outer w.devices) (outcome w event).entries (pipes_none w event simple) (ap (λ (c : ChipParts). c.state.port) (pipes_leave w event simple).0)
 
 -- ---- all of it
 

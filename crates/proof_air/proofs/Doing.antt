@@ -1,5 +1,5 @@
 -- What devices do is entered of nodes that have a device, at each event outside the host, and so at each of the machine.
-use Rattle.std.proofs.Common.{◌≡◌, ℕ, zero, suc, ◌+◌, ◌==◌, ◌&&◌, not, Bool, true, false, if◌then◌else◌, List, [], ◌∷◌, ◌++◌, length, map, refl, sym, ap, subst, ◌∙◌, append-nil}
+use Rattle.std.proofs.Common.{◌≡◌, ℕ, zero, suc, ◌+◌, ◌==◌, Bool, true, false, if◌then◌else◌, List, [], ◌∷◌, ◌++◌, map, refl, sym, ap, subst, ◌∙◌, append-nil, inl, inr}
 use Rattle.std.proofs.lemmas.Bool.{eq-eqb}
 use Rattle.std.specs.Prelude.{Option, Some, None, slice_get, is_some}
 use Rattle.std.specs.Option.{option_map}
@@ -7,21 +7,13 @@ use Rattle.std.specs.List.{AllByRecursion, flat_map}
 use Rattle.zw_base.proofs.Each.{all-append, all-weaker}
 use Rattle.zw_base.specs.declared.property.By.{By}
 use Rattle.zw_base.specs.declared.property.Setting.{Setting}
-use Rattle.serial_frame.specs.declared.unit.Unit.{Unit as LineUnit}
-use Rattle.serial_frame.specs.Items.{unit_text}
 use Rattle.serial_frame.specs.Stream.{after_tick}
-use Rattle.serial_pipes.specs.State.{WayState, mark_for}
-use Rattle.serial_pipes.specs.Events.{told, told_by}
-use Rattle.zw_words.specs.declared.side.Side.{Side}
-use Rattle.zw_words.specs.declared.side.Side.TheVariants.{Host as by_host, Chip as by_chip}
 use Rattle.route_table.specs.declared.route.Route.{Route}
 use Rattle.air_frames.specs.declared.frame.Heading.{Heading}
 use Rattle.air_frames.specs.declared.frame.Heading.TheVariants.{Outward, Homeward}
 use Rattle.air_frames.specs.Flown.{Flown}
 use Rattle.air_frames.specs.Frames.{next_of, remembered}
-use Rattle.chip_sim.specs.Events.{ChipEvent, Ticked, Judged, after, outs}
-use Rattle.chip_sim.specs.declared.out.ChipOut.{ChipOut}
-use Rattle.chip_sim.specs.declared.out.ChipOut.TheVariants.{Write, OnAir, NoRoute, AskInfo, Full}
+use Rattle.chip_sim.specs.Events.{ChipEvent, Ticked, Judged, after}
 use Rattle.device_kinds.specs.declared.change.Change.{Change}
 use Rattle.device_sim.specs.State.{State}
 use Rattle.device_sim.specs.Event.{DeviceEvent, Hears, device_after, device_replies}
@@ -39,23 +31,21 @@ use Rattle.zw_text.specs.declared.entry.Entry.TheVariants as entry
 use Rattle.law_transcript.specs.Nodes.{controller, device_of}
 use Rattle.law_wire.specs.Doings.{AreDevices, doers_of}
 use Rattle.proof_host.proofs.Lists.{each-anywhere}
-use Rattle.outside_model.specs.State.{OuterState, Outside, Outcome, outside, each, with_chip}
-use Rattle.outside_model.specs.Chip.{put_out, chip_does, chip_ticks, shown_via}
+use Rattle.outside_model.specs.State.{OuterState, Outside, outside}
+use Rattle.outside_model.specs.Chip.{chip_does, chip_ticks, shown_via}
 use Rattle.outside_model.specs.Results.{device_at, gives}
 use Rattle.outside_model.specs.Air.{deals, sent_entries, change_at, change_entries}
-use Rattle.outside_model.specs.Devices.{acts, changes_entries, new_changes, shown_entries}
-use Rattle.outside_model.specs.Events.{OuterEvent, Host_writes, Host_takes, Host_notes, Shows, Joins, Discovers, Links, Loses, Loses_acks, Marks_loss, Marks_change, Clears_pipe, Collides_next, Stalls, Cuts, cleared_entries, mesh_of, outcome, ticked_entry}
+use Rattle.outside_model.specs.Devices.{acts, changes_entries, new_changes}
+use Rattle.outside_model.specs.Events.{OuterEvent, Host_notes, mesh_of, outcome, ticked_entry}
 use Rattle.world_model.specs.State.{Machine}
-use Rattle.world_model.specs.Events.{Event, Outside_does}
 use Rattle.proof_device.proofs.ChangesOutside.{fate_listens, listener_is, place_set}
-use Rattle.proof_device.proofs.Entered.{IsMark, told_by_marks, IsCleared, all_cleared, IsShown, all_shown}
 use Rattle.proof_device.proofs.KeptKinds.{event_same}
-use Rattle.proof_device.proofs.Results.{Gives as GivesSo, ends_go, gives_go, to_chip_goes}
-use Rattle.proof_walk.specs.Outside.{Pending, Judging, nothing, Moves, Outer, CoversOuter, IsHearing, IsNote, IsSimple, session_begins}
+use Rattle.proof_walk.specs.Outside.{Pending, Judging, nothing, Moves, Outer, IsHearing, IsNote, IsSimple, session_begins}
 use Rattle.proof_walk.specs.Walk.{Walk}
+use Rattle.proof_walk.proofs.Alone.{Any, covers_any, simple_acts}
 use Rattle.proof_walk.proofs.Machines.{machine_keeps}
 use Rattle.proof_air.specs.Doing.{AreOfDevices, HasDevice, IsOfDevice, KnownDoers, KnowsDoers, MayDo, TieDoers}
-use Rattle.proof_air.proofs.Fated.{answers_if_are, hearing, hearing_are}
+use Rattle.proof_device.proofs.Entering.{answers_if_are, hearing, hearing_are, Acts, Enters, IsOfChip, IsOfEnd, does_of_chip, due_of_chip, ends_of_end, number_are, outcome_enters, payload_of_chip, flat_all, flat_are}
 
 -- ---- devices of nodes
 
@@ -96,36 +86,29 @@ module _ (olds : List State) where
 
   -- ---- entries
 
-  -- a kind of entry that no device does
-  module _ (Is : Entry → Type 0) (dev : (node : ℕ) (by : By) (setting : Setting) → Is (entry.Dev node by setting) → ⊥)
-      (air : (frame sender receiver : ℕ) (repeaters payload : List ℕ) → Is (entry.Air frame sender receiver repeaters payload) → ⊥) where
-    one_of : (e : Entry) → Is e → IsDone e
-    one_of (entry.Dev node by setting) is = absurd (dev node by setting is)
-    one_of (entry.Air frame sender receiver repeaters payload) is = absurd (air frame sender receiver repeaters payload is)
-    one_of e is = tt
-
-    all_of : (entered : List Entry) → AllByRecursion Is entered → AreDone entered
-    all_of entered are = all-weaker Is IsDone one_of entered are
-
   note_done : (e : Entry) → IsNote e → IsDone e
-  note_done e note = one_of IsNote (λ node by setting is. is) (λ frame sender receiver repeaters payload is. is) e note
+  note_done (entry.Dev node by setting) note = absurd note
+  note_done (entry.Air frame sender receiver repeaters payload) note = absurd note
+  note_done e note = tt
 
-  told_done : (side : Side) (way : WayState) (unit : LineUnit) → AreDone (told side way unit)
-  told_done side way unit = (
-    tt,
-    all_of IsMark (λ node by setting is. is) (λ frame sender receiver repeaters payload is. is) (told_by side way.bytes (mark_for way.marks unit) (unit_text unit))
-        (told_by_marks side way.bytes (mark_for way.marks unit) (unit_text unit)),
-  )
+  -- the controller is no device
+  controllers_done : (frame sender receiver : ℕ) (repeaters payload : List ℕ) → sender ≡ controller → IsDone (entry.Air frame sender receiver repeaters payload)
+  controllers_done frame sender receiver repeaters payload is = subst (λ (b : Bool). AreDevices olds (if b then [] else sender ∷ [])) (sym (eq-eqb sender controller is)) tt
 
-  cleared_done : (side : Side) (count : ℕ) → AreDone (cleared_entries side count)
-  cleared_done side count = all_of IsCleared (λ node by setting is. is) (λ frame sender receiver repeaters payload is. is) (cleared_entries side count) (all_cleared side count)
+  chip_done : (e : Entry) → IsOfChip e → IsDone e
+  chip_done (entry.Dev node by setting) of_chip = absurd of_chip
+  chip_done (entry.Air frame sender receiver repeaters payload) of_chip = controllers_done frame sender receiver repeaters payload of_chip
+  chip_done e of_chip = tt
 
-  number_done : (o : OuterState) → AreDone (ticked_entry o)
-  number_done o = by (o.in_tick && not o.stamped)
-    where
-      by : (b : Bool) → AreDone (if b then entry.Time o.clock ∷ [] else [])
-      by true = (tt, tt)
-      by false = tt
+  end_done : (e : Entry) → IsOfEnd e → IsDone e
+  end_done (entry.Forget a b) of_end = tt
+  end_done e of_end = chip_done e of_end
+
+  enters_done : (event : OuterEvent) → (Acts event → ⊥) → (e : Entry) → Enters event e → IsDone e
+  enters_done event none (entry.Dev node by setting) enters = absurd (none enters)
+  enters_done event none (entry.Air frame sender receiver repeaters payload) (inl of_chip) = controllers_done frame sender receiver repeaters payload of_chip
+  enters_done event none (entry.Air frame sender receiver repeaters payload) (inr acting) = absurd (none acting)
+  enters_done event none e enters = tt
 
   -- of a node that has a device
   settings_done : (node : ℕ) (by : By) → HasDevice olds node → (settings : List Setting) → AreDone (map (λ (setting : Setting). entry.Dev node by setting) settings)
@@ -137,9 +120,7 @@ module _ (olds : List State) where
   change_done node (Some change) has = settings_done node change.by has change.settings
 
   changes_done : (node : ℕ) (changes : List Change) → HasDevice olds node → AreDone (changes_entries node changes)
-  changes_done node [] has = tt
-  changes_done node (change ∷ changes) has =
-      all-append IsDone (change_entries node (Some change)) (changes_entries node changes) (change_done node (Some change) has) (changes_done node changes has)
+  changes_done node changes has = flat_are IsDone (λ (change : Change). change_entries node (Some change)) (λ change. change_done node (Some change) has) changes
 
   air_done : (frame sender receiver : ℕ) (repeaters payload : List ℕ) → HasDevice olds sender → IsDone (entry.Air frame sender receiver repeaters payload)
   air_done frame sender receiver repeaters payload has = by (sender == controller)
@@ -149,43 +130,16 @@ module _ (olds : List State) where
       by false = (has, tt)
 
   sent_done : (events : List AirEvent) → AllByRecursion (IsOfDevice olds) events → AreDone (flat_map sent_entries events)
-  sent_done [] are = tt
-  sent_done (air_event.Heard frame ∷ events) are = sent_done events are.1
-  sent_done (air_event.Lost frame ∷ events) are = sent_done events are.1
-  sent_done (air_event.Unheard frame ∷ events) are = sent_done events are.1
-  sent_done (air_event.Sent frame from to route payload ∷ events) are = (air_done frame from to (shown_via route) payload are.0, sent_done events are.1)
-  sent_done (air_event.Changed node at ∷ events) are = sent_done events are.1
-  sent_done (air_event.ToChip frame from payload ∷ events) are = sent_done events are.1
-  sent_done (air_event.Done frame status dead ∷ events) are = sent_done events are.1
+  sent_done events are = flat_all IsDone (IsOfDevice olds) sent_entries one events are
+    where
+      one : (event : AirEvent) → IsOfDevice olds event → AreDone (sent_entries event)
+      one (air_event.Sent frame from to route payload) is = (air_done frame from to (shown_via route) payload is, tt)
+      one event is = tt
 
-  -- ---- the chip
-
-  put_done : (o : OuterState) (out : ChipOut) → AreDone (put_out o out).entries
-  put_done o (Write unit) = told_done by_chip o.to_host unit
-  put_done o (OnAir to route payload) = (tt, tt)
-  put_done o NoRoute = tt
-  put_done o (AskInfo node) = tt
-  put_done o Full = (tt, tt)
-
-  puts_done : (puts : List ChipOut) (o : OuterState) → AreDone (each put_out o puts).entries
-  puts_done [] o = tt
-  puts_done (out ∷ puts) o = all-append IsDone (put_out o out).entries (each put_out (put_out o out).outer puts).entries (put_done o out) (puts_done puts (put_out o out).outer)
+  -- ---- what chip, line and air do
 
   does_done : (o : OuterState) (event : ChipEvent) → AreDone (chip_does o event).entries
-  unfolding chip_does
-  does_done o event = puts_done (outs o.chip.state event) (with_chip o (after o.chip.state event))
-
-  abbrev Done_so : OuterState → Outcome → Type 0
-  Done_so o x = AreDone x.entries
-
-  results : GivesSo Done_so
-  results = record {
-    still = λ o p is. tt;
-    both = λ o first next before later. all-append IsDone first.entries (next first.outer).entries before (later first.outer);
-    later = λ o p x is are. are;
-    does = λ o event given. does_done o event;
-    forgotten = λ o a b. (tt, tt);
-  }
+  does_done o event = all-weaker IsOfChip IsDone chip_done (chip_does o event).entries (does_of_chip o event)
 
   deals_done : (devices : List State) (o : OuterState) (event : AirEvent) → IsOfDevice olds event → AreDone (deals devices o event).entries
   deals_done devices o (air_event.Heard frame) is = (tt, tt)
@@ -193,30 +147,13 @@ module _ (olds : List State) where
   deals_done devices o (air_event.Unheard frame) is = (tt, tt)
   deals_done devices o (air_event.Sent frame from to route payload) is = (air_done frame from to (shown_via route) payload is, tt)
   deals_done devices o (air_event.Changed node at) is = change_done node (change_at (device_at devices (place_of node devices)) at) is
-  deals_done devices o (air_event.ToChip frame from payload) is = to_chip_goes Done_so results o from payload
-  deals_done devices o (air_event.Done frame status dead) is = ends_go Done_so results o status dead
+  deals_done devices o (air_event.ToChip frame from payload) is = all-weaker IsOfChip IsDone chip_done _ (payload_of_chip o from payload)
+  deals_done devices o (air_event.Done frame status dead) is = all-weaker IsOfEnd IsDone end_done _ (ends_of_end o status dead)
 
   simple_done : (w : Outside) (event : OuterEvent) → IsSimple event → AreDone (outcome w event).entries
   unfolding outcome
-  simple_done w (Host_writes unit) simple = told_done by_host w.outer.to_chip unit
-  simple_done w (Host_takes count) simple = tt
   simple_done w (Host_notes note) simple = (note_done note simple.0, tt)
-  simple_done w (Shows node) simple =
-      all_of IsShown (λ node by setting is. is) (λ frame sender receiver repeaters payload is. is) (shown_entries node (device_at w.devices (place_of node w.devices)))
-      (all_shown node (device_at w.devices (place_of node w.devices)))
-  simple_done w (Joins node) simple = tt
-  simple_done w Discovers simple = tt
-  simple_done w (Links a b live) simple = tt
-  simple_done w (Loses count) simple = tt
-  simple_done w (Loses_acks count) simple = tt
-  simple_done w (Marks_loss side) simple = tt
-  simple_done w (Marks_change side garble) simple = tt
-  simple_done w (Clears_pipe by_host) simple = cleared_done by_host (length w.outer.to_chip.bytes)
-  simple_done w (Clears_pipe by_chip) simple = cleared_done by_chip (length w.outer.to_host.bytes)
-  simple_done w Collides_next simple = tt
-  simple_done w (Stalls ticks) simple = tt
-  simple_done w (Cuts size) simple = tt
-  simple_done w event simple = absurd simple
+  simple_done w event simple = all-weaker (Enters event) IsDone (enters_done event (simple_acts event simple)) (outcome w event).entries (outcome_enters w event tt)
 
   -- ---- a frame arrives, or is heard again
 
@@ -292,9 +229,6 @@ module _ (olds : List State) where
     record { places = λ node. ap (place_of node) same ∙ tie.places node; done = goes tie.done },
   )
 
-  abbrev Any : OuterEvent → Type 0
-  Any event = Unit {0}
-
   law : Outer (MayDo olds) (KnowsDoers olds) Any
   law = record {
     line = λ covers awaits past w tie. tie;
@@ -311,7 +245,7 @@ module _ (olds : List State) where
     ticks = λ w. moves nothing nothing w (outside (chip_ticks w.outer).outer w.devices) (chip_ticks w.outer).entries
         (does_done (record w.outer { chip = record { decoder = after_tick w.outer.chip.decoder; state = w.outer.chip.state } }) Ticked) refl (λ are. are);
     gives = λ w route may. moves nothing nothing w (outside (gives w.outer w.devices w.outer.due route).outer w.devices) (gives w.outer w.devices w.outer.due route).entries
-        (gives_go Done_so results w.outer w.devices w.outer.due route) refl (λ are. are);
+        (all-weaker IsOfChip IsDone chip_done _ (due_of_chip w.outer w.devices w.outer.due route)) refl (λ are. are);
     steps = λ w step hearing may awaits past silent tie.
         let said = step_told w tie step hearing in (tt, record { places = λ node. said.places node ∙ tie.places node; done = said.are });
     deals = λ w event events awaits past silent tie. (
@@ -333,13 +267,9 @@ module _ (olds : List State) where
 
   -- ---- lines
 
-  covers_any : (event : Event) → CoversOuter Any event
-  covers_any (Outside_does event) = tt
-  covers_any event = tt
-
   pub doers_walk : Walk (MayDo olds) (λ here past m. KnownDoers olds past m)
   doers_walk = record {
-    said = λ past m words line read known. (tt, (known.0, each-anywhere (MayDo olds) IsDone (λ past e is. is) (past ++ entry.Said words ∷ []) (ticked_entry m.outside.outer) (number_done m.outside.outer)));
+    said = λ past m words line read known. (tt, (known.0, each-anywhere (MayDo olds) IsDone (λ past e is. is) (past ++ entry.Said words ∷ []) (ticked_entry m.outside.outer) (number_are IsDone (λ tick. tt) m.outside.outer)));
     event = λ here next past m event goes may known. machine_keeps (MayDo olds) (KnowsDoers olds) Any law (λ event own. tt) m event (covers_any event) may past known;
     turn = λ here next past m turns known. known;
   }
@@ -347,5 +277,5 @@ module _ (olds : List State) where
 pub doers_first : (m : Machine) → KnownDoers m.outside.devices [] m
 doers_first m = (
   record { places = λ node. refl; done = tt },
-  each-anywhere (MayDo m.outside.devices) (IsDone m.outside.devices) (λ past e is. is) [] (ticked_entry m.outside.outer) (number_done m.outside.devices m.outside.outer),
+  each-anywhere (MayDo m.outside.devices) (IsDone m.outside.devices) (λ past e is. is) [] (ticked_entry m.outside.outer) (number_are (IsDone m.outside.devices) (λ tick. tt) m.outside.outer),
 )

@@ -1,9 +1,8 @@
 -- A frame that arrives has its fate, which is entered first of all that it brings about; one that is heard again had its fate before.
-use Rattle.std.proofs.Common.{◌≡◌, ℕ, zero, suc, ◌+◌, ◌-◌, ◌&&◌, not, ◌⊎◌, inl, inr, Bool, true, false, if◌then◌else◌, List, [], ◌∷◌, ◌++◌, length, refl, sym, ap, subst, ◌∙◌, append-nil, append_assoc}
+use Rattle.std.proofs.Common.{◌≡◌, ℕ, ◌+◌, ◌-◌, ◌&&◌, not, ◌⊎◌, inl, inr, Bool, true, false, if◌then◌else◌, List, [], ◌∷◌, ◌++◌, length, refl, sym, ap, subst, ◌∙◌, append-nil, append_assoc}
 use Rattle.std.proofs.lemmas.List.{length-append}
 use Rattle.std.specs.Prelude.{Option, Some, None, slice_get, slice_set}
-use Rattle.std.specs.Option.{option_map, unwrap_or}
-use Rattle.std.specs.List.{AllByRecursion}
+use Rattle.std.specs.Option.{option_map}
 use Rattle.zw_base.proofs.Each.{all-append}
 use Rattle.route_table.specs.declared.route.Route.{Route}
 use Rattle.air_frames.specs.declared.frame.Heading.{Heading}
@@ -19,10 +18,10 @@ use Rattle.mesh_sim.specs.declared.event.AirEvent.{AirEvent}
 use Rattle.mesh_sim.specs.declared.event.AirEvent.TheVariants as air_event
 use Rattle.mesh_sim.specs.declared.fate.Fate.{Fate}
 use Rattle.mesh_sim.specs.declared.fate.Fate.TheVariants as fate
-use Rattle.mesh_sim.specs.Air.{AirState, departing, is_joined, no_route}
+use Rattle.mesh_sim.specs.Air.{AirState, is_joined}
 use Rattle.mesh_sim.specs.Fates.{Mesh, awake_at, dead_hop_of, fate_of, is_awake, listener_of, place_of}
 use Rattle.mesh_sim.specs.Routes.{backwards}
-use Rattle.mesh_sim.specs.Steps.{MayArriveIf, MayHappen, acknowledged, air_hearing, answers, answers_if, arrival_outs, arrival_outs_as, arriving, arriving_as, changed, done_of, heard_again, heard_at, landed, mesh_after, mesh_outs, outs_again, outs_at, repeat_outs, repeat_outs_by, repeating, repeating_by, status_of}
+use Rattle.mesh_sim.specs.Steps.{MayArriveIf, MayHappen, acknowledged, air_hearing, arrival_outs, arrival_outs_as, arriving, arriving_as, done_of, heard_again, heard_at, landed, mesh_after, mesh_outs, outs_again, outs_at, repeat_outs, repeat_outs_by, repeating, repeating_by, status_of}
 use Rattle.mesh_sim.specs.Steps as mesh
 use Rattle.zw_text.specs.declared.entry.Entry.{Entry}
 use Rattle.zw_text.specs.declared.entry.Entry.TheVariants as entry
@@ -33,9 +32,10 @@ use Rattle.outside_model.specs.State.{OuterState, Outside, Outcome, and_then, ea
 use Rattle.outside_model.specs.Air.{deals}
 use Rattle.outside_model.specs.Events.{Arrives, Repeats, May as MayOutside, entries as entries_outside, happens as happens_outside, has_entered, mesh_of, outcome, repeats, stamp, steps, ticked_entry}
 use Rattle.proof_device.proofs.ChangesOutside.{fate_listens}
-use Rattle.proof_walk.proofs.Times.{IsSameTime, outcome_time}
-use Rattle.proof_air.proofs.SentBefore.{shown_both}
-use Rattle.proof_air.proofs.Fateless.{IsFateless, AreFateless, Rests, TellsNoFate, all_deals_rest, answered_if_landed, entered_landed, landed_in, number_fateless, stamp_fateless}
+use Rattle.proof_device.proofs.Entering.{hearing, hearing_are, number_are, stamp_are}
+use Rattle.proof_walk.proofs.Times.{IsSameTime, outcome_time, same_number}
+use Rattle.proof_walk.proofs.Shown.{shown_both}
+use Rattle.proof_air.proofs.Fateless.{IsFateless, AreFateless, Rests, TellNoFate, TellsNoFate, all_deals_rest, answered_if_landed, entered_landed, landed_in}
 
 -- ---- what entries show
 
@@ -93,7 +93,7 @@ record Becomes (Is : Entry → Type 0) (lands : ℕ) (x : Outcome) : Type 0 wher
   now : landed_in x.outer ≡ lands
 
 becomes : (Is : Entry → Type 0) (lands : ℕ) (devices : List State) (o : OuterState) (event : AirEvent) (first : Entry) (events : List AirEvent) → deals devices o event ≡ tells o (first ∷ []) → Is first
-    → AllByRecursion TellsNoFate events → landed_in o ≡ lands → Becomes Is lands (each (deals devices) o (event ∷ events))
+    → TellNoFate events → landed_in o ≡ lands → Becomes Is lands (each (deals devices) o (event ∷ events))
 becomes Is lands devices o event first events deal is none now =
     let rests = all_deals_rest devices events o none in
     subst (λ (x : Outcome). Becomes Is lands (and_then x (λ later. each (deals devices) later events))) (sym deal) (record {
@@ -107,37 +107,11 @@ becomes Is lands devices o event first events deal is none now =
 
 -- ---- what is told after it
 
-done_none : (heading : Heading) (number status : ℕ) (dead : Option (ℕ × ℕ)) → AllByRecursion TellsNoFate (done_of heading number status dead)
+pub done_none : (heading : Heading) (number status : ℕ) (dead : Option (ℕ × ℕ)) → TellNoFate (done_of heading number status dead)
 done_none Outward number status dead = (tt, tt)
 done_none Homeward number status dead = tt
 
--- what a device that hears it does, one thing after another
-abbrev pub hearing : AirState → ℕ → Option Route → State → DeviceEvent → List AirEvent
-hearing air node route device event =
-    changed node (length device.journal) (length (device_after device event).journal - length device.journal)
-    ++ answers_if (is_joined air node) air node (option_map backwards route) (device_replies device event)
-
-module _ (Is : AirEvent → Type 0) (node : ℕ) (changes : (at : ℕ) → Is (air_event.Changed node at))
-    (sends : (frame : ℕ) (route : Route) (payload : List ℕ) → Is (air_event.Sent frame node 1 route payload)) where
-  changed_are : (first count : ℕ) → AllByRecursion Is (changed node first count)
-  changed_are first zero = tt
-  changed_are first (suc count) = (changes first, changed_are (first + 1) count)
-
-  answers_are : (air : AirState) (over : Option Route) (replies : List (List ℕ)) → AllByRecursion Is (answers air node over replies)
-  answers_are air over [] = tt
-  answers_are air over (reply ∷ replies) = (sends (air.frames.sent + 1) (unwrap_or over no_route) reply, answers_are (departing air node Homeward over reply) over replies)
-
-  pub answers_if_are : (joined : Bool) (air : AirState) (over : Option Route) (replies : List (List ℕ)) → AllByRecursion Is (answers_if joined air node over replies)
-  answers_if_are true air over replies = answers_are air over replies
-  answers_if_are false air over replies = tt
-
-  pub hearing_are : (air : AirState) (route : Option Route) (device : State) (event : DeviceEvent) → AllByRecursion Is (hearing air node route device event)
-  hearing_are air route device event =
-      all-append Is (changed node (length device.journal) (length (device_after device event).journal - length device.journal)) _
-      (changed_are (length device.journal) (length (device_after device event).journal - length device.journal))
-      (answers_if_are (is_joined air node) air (option_map backwards route) (device_replies device event))
-
-hearing_none : (air : AirState) (node : ℕ) (route : Option Route) (device : State) (event : DeviceEvent) → AllByRecursion TellsNoFate (hearing air node route device event)
+pub hearing_none : (air : AirState) (node : ℕ) (route : Option Route) (device : State) (event : DeviceEvent) → TellNoFate (hearing air node route device event)
 hearing_none air node route device event = hearing_are TellsNoFate node (λ at. tt) (λ frame over payload. tt) air route device event
 
 hearing_landed : (air : AirState) (node : ℕ) (route : Option Route) (device : State) (event : DeviceEvent) → (air_hearing air node route device event).frames.landed ≡ air.frames.landed
@@ -256,9 +230,6 @@ module _ (w : Outside) where
 
 -- ---- both, with the number of the tick
 
-same_number : (o p : OuterState) → IsSameTime o p → ticked_entry p ≡ ticked_entry o
-same_number o p same = ap (λ (t : Bool × Bool × ℕ). if t.0 && not t.1 then entry.Time t.2 ∷ [] else []) same
-
 -- one more has its fate
 arrives_so : (past : List Entry) (w : Outside) (x : Outcome) → IsSameTime w.outer x.outer → answers_repeat (past ++ ticked_entry w.outer) ≡ false → Becomes IsFate (landed_in w.outer + 1) x
     → (length (first_fates (past ++ stamp x.outer x.entries)) ≡ length (first_fates past) + 1) × (landed_in (has_entered x.outer x.entries) ≡ landed_in w.outer + 1)
@@ -270,7 +241,7 @@ arrives_so past w x time apart fated =
     ap (λ (l : List Entry). first_fates (past ++ l)) told
     ∙ (ap first_fates (sym (append_assoc past number (fated.first ∷ fated.rest)))
     ∙ (one_fate (past ++ number) fated.first fated.rest fated.once
-    ∙ ap (λ (l : List ℕ). l ++ first_fate (past ++ number) fated.first) (same_fates past number (number_fateless w.outer)))) in (
+    ∙ ap (λ (l : List ℕ). l ++ first_fate (past ++ number) fated.first) (same_fates past number (number_are IsFateless (λ tick. tt) w.outer)))) in (
       ap length fates ∙ (length-append (first_fates past) (first_fate (past ++ number) fated.first) ∙ ap (λ (n : ℕ). length (first_fates past) + n) (counts (past ++ number) fated.first fated.is apart)),
       entered_landed x.outer x.entries ∙ fated.now,
     )
@@ -285,7 +256,7 @@ again_so : (past : List Entry) (w : Outside) (x : Outcome) → IsSameTime w.oute
     → Rests (landed_in w.outer) x ⊎ Becomes IsHeard (landed_in w.outer) x
     → (first_fates (past ++ stamp x.outer x.entries) ≡ first_fates past) × (landed_in (has_entered x.outer x.entries) ≡ landed_in w.outer)
 again_so past w x time again out (inl rests) =
-    (same_fates past (stamp x.outer x.entries) (stamp_fateless x.outer x.entries rests.fateless), entered_landed x.outer x.entries ∙ rests.lands)
+    (same_fates past (stamp x.outer x.entries) (stamp_are IsFateless (λ tick. tt) x.outer x.entries rests.fateless), entered_landed x.outer x.entries ∙ rests.lands)
 again_so past w x time again out (inr heard) =
     let number : ticked_entry x.outer ≡ [] =
     same_number w.outer x.outer time ∙ ap (λ (b : Bool). if b && not w.outer.stamped then entry.Time w.outer.clock ∷ [] else []) out in

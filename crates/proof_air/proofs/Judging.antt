@@ -8,7 +8,7 @@ use Rattle.serial_frame.specs.Frame.{FrameParts}
 use Rattle.serial_frame.specs.declared.item.Item.{Item}
 use Rattle.route_table.specs.declared.route.Route.{Route}
 use Rattle.chip_functions.specs.declared.request.Request.{Request}
-use Rattle.chip_functions.specs.declared.request.Request.TheVariants.{GetInitData, GetCapabilities, SendData, GetVersion, SendDataAbort, MemoryGetId, GetNodeProtocolInfo, AddNode, RequestNodeInfo, IsFailedNode, GetRoutingInfo}
+use Rattle.chip_functions.specs.declared.request.Request.TheVariants.{SendData, SendDataAbort}
 use Rattle.chip_sim.specs.State.{ChipState}
 use Rattle.chip_sim.specs.declared.out.Sending.{Sending}
 use Rattle.chip_sim.specs.Did.{after_all}
@@ -67,17 +67,8 @@ module _ (s : ChipState) (many : length s.joined ≡ 233) where
 
   request_well : (request : Option Request) (way : Option Route) → HasWay request s way → AllGoWell (requested_starts request s way)
   request_well None way has = tt
-  request_well (Some GetInitData) way has = tt
-  request_well (Some GetCapabilities) way has = tt
   request_well (Some (SendData n payload options id)) way has = data_well (takes s n payload) n payload way refl has
-  request_well (Some GetVersion) way has = tt
-  request_well (Some SendDataAbort) way has = tt
-  request_well (Some MemoryGetId) way has = tt
-  request_well (Some (GetNodeProtocolInfo n)) way has = tt
-  request_well (Some (AddNode mode id)) way has = tt
-  request_well (Some (RequestNodeInfo n)) way has = tt
-  request_well (Some (IsFailedNode n)) way has = tt
-  request_well (Some (GetRoutingInfo n x y z)) way has = tt
+  request_well (Some request) way has = tt
 
   frame_well : (found : Option FrameParts) (way : Option Route) → JudgedWay found s way → AllGoWell (judged_starts found s way)
   frame_well None way has = tt
@@ -108,14 +99,7 @@ module _ (rules : StartsSo) where
 
   starts_none : (s : ChipState) (event : ChipEvent) → JudgesNone event → starts s event ≡ []
   starts_none s (Judged item way) none = absurd none
-  starts_none s Ticked none = refl
-  starts_none s (Heard n payload) none = refl
-  starts_none s (Done status) none = refl
-  starts_none s (Informed n profile) none = refl
-  starts_none s (Joined n listening) none = refl
-  starts_none s (Linked a b live) none = refl
-  starts_none s (Forgets a b) none = refl
-  starts_none s Collides none = refl
+  starts_none s event none = refl
 
   no_frames : (puts : List ChipOut) → filter is_start puts ≡ [] → AllByRecursion NoFrame puts
   no_frames [] none = tt
@@ -131,25 +115,17 @@ module _ (rules : StartsSo) where
 -- ---- the nodes that the chip knows
 
 performed_joined : (request : Request) (s : ChipState) → length (performed request s).joined ≡ length s.joined
-performed_joined GetInitData s = refl
-performed_joined GetCapabilities s = refl
 performed_joined (SendData n payload options id) s = by (takes s n payload)
   where
     by : (b : Bool) → length (if b then record s { sending = Some (record { node = n; callback_id = id }) } else s).joined ≡ length s.joined
     by true = refl
     by false = refl
-performed_joined GetVersion s = refl
 performed_joined SendDataAbort s = by s.sending
   where
     by : (sending : Option Sending) → length (stopped sending s).joined ≡ length s.joined
     by None = refl
     by (Some sending) = refl
-performed_joined MemoryGetId s = refl
-performed_joined (GetNodeProtocolInfo n) s = refl
-performed_joined (AddNode mode id) s = refl
-performed_joined (RequestNodeInfo n) s = refl
-performed_joined (IsFailedNode n) s = refl
-performed_joined (GetRoutingInfo n x y z) s = refl
+performed_joined request s = refl
 
 given_joined : (reply : Option FrameParts) (s : ChipState) → length (given_if s reply).joined ≡ length s.joined
 given_joined None s = refl

@@ -26,7 +26,7 @@ use Rattle.proof_walk.specs.Phases.{Phase, Between, Said_line, Begun, Doing, To_
 use Rattle.proof_walk.specs.ByLine.{CoversLine}
 use Rattle.proof_walk.specs.Time.{KnowTime}
 use Rattle.proof_walk.specs.Walk.{WalkOver, both_know}
-use Rattle.proof_walk.proofs.ByLine.{effect_covered}
+use Rattle.proof_walk.proofs.ByLine.{effect_covered, last_is}
 use Rattle.proof_walk.proofs.Linking.{of_link}
 use Rattle.proof_walk.proofs.Machines.{machine_keeps}
 use Rattle.proof_walk.proofs.Stepping.{Steps, event_then}
@@ -37,11 +37,11 @@ use Rattle.proof_air.specs.Logs.{Tie, log_of}
 use Rattle.proof_air.specs.Landing.{KnowLanding, KnownSent, Landed, Landing, LandsNone, Opened, Repeating, Saying, Sent, TieSent}
 use Rattle.proof_air.proofs.Counting.{frames_sent, no_frame}
 use Rattle.proof_air.proofs.Fated.{again_fates, arrival_fates, same_fates}
-use Rattle.proof_air.proofs.Fateless.{machine_stays}
+use Rattle.proof_air.proofs.Fateless.{machine_fateless, machine_landed}
 use Rattle.proof_air.proofs.Handling.{tie_here}
 use Rattle.proof_air.proofs.Logs.{plain_sent}
 use Rattle.proof_air.proofs.SentBefore.{number_clock, said_clock, same_clock, same_sent, still_all, still_earlier}
-use Rattle.proof_air.proofs.Silent.{last_is, words_last}
+use Rattle.proof_air.proofs.Silent.{words_last}
 
 -- ---- the last entry
 
@@ -173,13 +173,13 @@ rest_kept : (past : List Entry) (m : Machine) (event : Event) → CoversOuter La
     → EachAfter MayLand past (entries m event) × Landed (past ++ entries m event) (happens m event)
 rest_kept past m event none may known =
     let got = sent_kept known.before false past m event (within event none) may known.sent in
-    let stays = machine_stays m event none may in (
+    let lands = machine_landed m event none may in (
       got.0,
       record {
         before = known.before;
         sent = got.1;
-        fated = ap length (same_fates past (entries m event) stays.fateless) ∙ (known.fated ∙ sym stays.lands);
-        due = ap (λ (n : ℕ). n + 0) stays.lands ∙ known.due;
+        fated = ap length (same_fates past (entries m event) (machine_fateless m event none may)) ∙ (known.fated ∙ sym lands);
+        due = ap (λ (n : ℕ). n + 0) lands ∙ known.due;
       },
     )
 

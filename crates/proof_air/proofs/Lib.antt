@@ -12,8 +12,8 @@ mod Ports
 mod Putting
 mod Bringing
 pub mod Handling
-mod SentBefore
-mod Fateless
-mod Fated
+pub mod SentBefore
+pub mod Fateless
+pub mod Fated
 mod LandingWalk
 mod Doing

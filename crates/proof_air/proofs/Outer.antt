@@ -4,7 +4,7 @@ use Rattle.std.proofs.lemmas.Bool.{ne_eqb, ltb-true}
 use Rattle.std.specs.Prelude.{Option, Some, None, slice_get, slice_set, slice_index_or}
 use Rattle.std.specs.Option.{option_map}
 use Rattle.std.specs.List.{flat_map, AllByRecursion}
-use Rattle.zw_base.proofs.Each.{all-append}
+use Rattle.zw_base.proofs.Each.{all-append, all-weaker}
 use Rattle.serial_frame.specs.Stream.{after_tick}
 use Rattle.serial_frame.specs.declared.item.Item.{Item}
 use Rattle.route_table.specs.declared.route.Route.{Route}
@@ -16,11 +16,11 @@ use Rattle.air_frames.specs.Frames.{FramesState, next_of, remembered}
 use Rattle.air_frames.specs.History.{Mark, Goes, IsOf}
 use Rattle.air_frames.proofs.Counted.{IsOf-lands}
 use Rattle.serial_pipes.specs.Events.{told}
-use Rattle.zw_words.specs.declared.side.Side.TheVariants.{Host as by_host, Chip as by_chip}
+use Rattle.zw_words.specs.declared.side.Side.TheVariants.{Chip as by_chip}
 use Rattle.zw_text.specs.declared.entry.Entry.{Entry}
 use Rattle.zw_text.specs.declared.entry.Entry.TheVariants as entry
 use Rattle.law_transcript.specs.Nodes.{controller}
-use Rattle.chip_sim.specs.State.{ChipState}
+use Rattle.chip_sim.specs.State.{ChipState, ChipParts}
 use Rattle.chip_sim.specs.Events.{ChipEvent, Judged, Ticked, Done, Heard as chip_hears, Informed, Forgets, Joined, after, outs, May as MayOfChip}
 use Rattle.chip_sim.specs.declared.out.ChipOut.{ChipOut}
 use Rattle.chip_sim.specs.declared.out.ChipOut.TheVariants.{Write, OnAir, NoRoute, AskInfo, Full}
@@ -41,13 +41,14 @@ use Rattle.outside_model.specs.Results.{device_at}
 use Rattle.outside_model.specs.Air.{deals, sent_entries, change_entries, change_at}
 use Rattle.outside_model.specs.Devices.{acts, changes_entries, new_changes}
 use Rattle.outside_model.specs.Nodes.{joins, listens_at, links_of, all_pairs}
-use Rattle.outside_model.specs.Events.{OuterEvent, Host_writes, Host_takes, Host_notes, Shows, Joins, Discovers, Links, Loses, Loses_acks, Marks_loss, Marks_change, Clears_pipe, Collides_next, Stalls, Cuts, mesh_of, outcome}
-use Rattle.proof_walk.specs.Outside.{Pending, Judging, Dealing, nothing, Outer, IsSimple, IsHearing}
+use Rattle.outside_model.specs.Events.{OuterEvent, Host_notes, Joins, Discovers, Links, Loses, Loses_acks, Collides_next, mesh_of, outcome}
+use Rattle.proof_walk.specs.Outside.{Pending, Judging, Dealing, nothing, Outer, IsSimple, IsHearing, HasNoWords}
 use Rattle.proof_device.proofs.Results.{IsGiven, Gives, ends_go, gives_go, to_chip_goes}
+use Rattle.proof_device.proofs.Entering.{IsOfChip, IsOfPipes, does_of_chip, pipes_leave}
 use Rattle.proof_air.specs.Logs.{departure_of, log_of, plain, sent_marks, IsApart, Tie}
 use Rattle.proof_air.specs.Hearing.{MayHear, Knows, JoinsNode}
 use Rattle.proof_air.proofs.Logs.{log_grows, plain-append}
-use Rattle.proof_air.proofs.Silent.{AreSilent, IsNoLine, AreNoLines, silent_lines, fresh_after, note_silent, told_silent, cleared_silent, shown_silent, change_silent, changes_silent}
+use Rattle.proof_air.proofs.Silent.{AreSilent, AreNoLines, fresh_after, note_silent, told_silent, pipes_silent, change_silent, changes_silent}
 use Rattle.proof_air.proofs.Airing.{Goes_on, known, both, IsSameAir, silent, IsPlace, flown, flies, one_apart, entered, Answered, answers_if_all, sent_enter, sent_lines, sent-append, changed_sends, session_goes}
 use Rattle.proof_air.proofs.Judging.{AllGoWell, StartsSo, judged_well, JudgesNone, NoFrame, none_flies, after_joined, all_joined}
 
@@ -113,10 +114,7 @@ module _ (devices : List State) where
 
   put_goes : (o : OuterState) (out : ChipOut) → AllGoWell (out ∷ []) → Puts nothing o (put_out o out)
   put_goes o (OnAir to route payload) well = flies_out o to route payload well.0
-  put_goes o (Write unit) well = silent_put nothing o (Write unit) tt
-  put_goes o NoRoute well = silent_put nothing o NoRoute tt
-  put_goes o (AskInfo node) well = silent_put nothing o (AskInfo node) tt
-  put_goes o Full well = silent_put nothing o Full tt
+  put_goes o out well = silent_put nothing o out tt
 
   puts_go : (puts : List ChipOut) (o : OuterState) → AllGoWell puts → Puts nothing o (each put_out o puts)
   puts_go [] o well = none_put nothing o
@@ -404,30 +402,21 @@ joins_goes w node listening apart = record {
 
 -- ---- simple events
 
+pipes_same : (w : Outside) (event : OuterEvent) → IsOfPipes event → IsSameAir w.outer (outcome w event).outer
+pipes_same w event is =
+    let left = pipes_leave w event is in
+    same w.outer (outcome w event).outer (ap (λ (a : AirState). a.frames) left.1) (ap (λ (a : AirState). a.joined) left.1) (ap (λ (c : ChipParts). c.state.joined) left.0)
+
 pub simple_goes : (w : Outside) (event : OuterEvent) → IsSimple event → JoinsNode event → Goes_on nothing w (outcome w event).entries nothing (outside (outcome w event).outer w.devices)
 unfolding outcome
-simple_goes w (Host_writes unit) simple joins = silent nothing w _ (told by_host w.outer.to_chip unit) (told_silent by_host w.outer.to_chip unit) (same w.outer (outcome w (Host_writes unit)).outer refl refl refl)
-simple_goes w (Host_takes count) simple joins = silent nothing w _ [] tt (same w.outer (outcome w (Host_takes count)).outer refl refl refl)
 simple_goes w (Host_notes note) simple joins = silent nothing w w (note ∷ []) (note_silent note simple.0 simple.1, tt) (same w.outer w.outer refl refl refl)
-simple_goes w (Shows node) simple joins =
-    silent nothing w w (outcome w (Shows node)).entries (shown_silent node (device_at w.devices (place_of node w.devices))) (same w.outer w.outer refl refl refl)
 simple_goes w (Joins node) simple apart = joins_goes w node (listens_at (device_at w.devices (place_of node w.devices))) apart
 simple_goes w Discovers simple joins = silent nothing w _ [] tt (record { frames = refl; joined = refl; chip = all_joined (all_pairs w.outer.air) w.outer.chip.state })
 simple_goes w (Links a b live) simple joins = silent nothing w _ [] tt (same w.outer (outcome w (Links a b live)).outer refl refl refl)
 simple_goes w (Loses count) simple joins = silent nothing w _ [] tt (same w.outer (outcome w (Loses count)).outer refl refl refl)
 simple_goes w (Loses_acks count) simple joins = silent nothing w _ [] tt (same w.outer (outcome w (Loses_acks count)).outer refl refl refl)
-simple_goes w (Marks_loss by_host) simple joins = silent nothing w _ [] tt (same w.outer (outcome w (Marks_loss by_host)).outer refl refl refl)
-simple_goes w (Marks_loss by_chip) simple joins = silent nothing w _ [] tt (same w.outer (outcome w (Marks_loss by_chip)).outer refl refl refl)
-simple_goes w (Marks_change by_host garble) simple joins = silent nothing w _ [] tt (same w.outer (outcome w (Marks_change by_host garble)).outer refl refl refl)
-simple_goes w (Marks_change by_chip garble) simple joins = silent nothing w _ [] tt (same w.outer (outcome w (Marks_change by_chip garble)).outer refl refl refl)
-simple_goes w (Clears_pipe by_host) simple joins =
-    silent nothing w _ (outcome w (Clears_pipe by_host)).entries (cleared_silent by_host (length w.outer.to_chip.bytes)) (same w.outer (outcome w (Clears_pipe by_host)).outer refl refl refl)
-simple_goes w (Clears_pipe by_chip) simple joins =
-    silent nothing w _ (outcome w (Clears_pipe by_chip)).entries (cleared_silent by_chip (length w.outer.to_host.bytes)) (same w.outer (outcome w (Clears_pipe by_chip)).outer refl refl refl)
 simple_goes w Collides_next simple joins = silent nothing w _ [] tt (same w.outer (outcome w Collides_next).outer refl refl refl)
-simple_goes w (Stalls ticks) simple joins = silent nothing w _ [] tt (same w.outer (outcome w (Stalls ticks)).outer refl refl refl)
-simple_goes w (Cuts size) simple joins = silent nothing w _ [] tt (same w.outer (outcome w (Cuts size)).outer refl refl refl)
-simple_goes w event simple joins = absurd simple
+simple_goes w event simple joins = silent nothing w (outside (outcome w event).outer w.devices) (outcome w event).entries (pipes_silent w event simple) (pipes_same w event simple)
 
 -- ---- all of it
 
@@ -439,20 +428,12 @@ same_knows : (w later : Outside) → IsSameAir w.outer later.outer → (past : L
 same_knows w later is past knows = (same_tie w later is past knows.0, knows.1)
 
 -- what the chip puts out has no words
-put_lines : (o : OuterState) (out : ChipOut) → AreNoLines (put_out o out).entries
-put_lines o (Write unit) = silent_lines (told by_chip o.to_host unit) (told_silent by_chip o.to_host unit)
-put_lines o (OnAir to route payload) = (tt, tt)
-put_lines o NoRoute = tt
-put_lines o (AskInfo node) = tt
-put_lines o Full = (tt, tt)
-
-puts_lines : (puts : List ChipOut) (o : OuterState) → AreNoLines (each put_out o puts).entries
-puts_lines [] o = tt
-puts_lines (out ∷ puts) o = all-append IsNoLine (put_out o out).entries (each put_out (put_out o out).outer puts).entries (put_lines o out) (puts_lines puts (put_out o out).outer)
+chip_lines : (e : Entry) → IsOfChip e → HasNoWords e
+chip_lines (entry.Said words) of_chip = absurd of_chip
+chip_lines e of_chip = tt
 
 does_lines : (o : OuterState) (event : ChipEvent) → AreNoLines (chip_does o event).entries
-unfolding chip_does
-does_lines o event = puts_lines (outs o.chip.state event) (with_chip o (after o.chip.state event))
+does_lines o event = all-weaker IsOfChip HasNoWords chip_lines (chip_does o event).entries (does_of_chip o event)
 
 pub number_goes : (w : Outside) → Goes_on nothing w (entry.Time w.outer.clock ∷ []) nothing w
 number_goes w = silent nothing w w (entry.Time w.outer.clock ∷ []) (tt, tt) (same w.outer w.outer refl refl refl)

@@ -1,5 +1,5 @@
 -- What holds of each frame that the chip gives its link holds of the frames that its port has, and of those that it writes.
-use Rattle.std.proofs.Common.{◌≡◌, ℕ, ◌+◌, ◌-◌, ◌==◌, Bool, true, false, if◌then◌else◌, List, [], ◌∷◌, ◌++◌, refl, sym, subst}
+use Rattle.std.proofs.Common.{ℕ, ◌+◌, ◌-◌, ◌==◌, Bool, true, false, if◌then◌else◌, List, [], ◌∷◌, ◌++◌, sym, subst}
 use Rattle.std.specs.Prelude.{Option, Some, None}
 use Rattle.std.specs.List.{AllByRecursion}
 use Rattle.zw_base.proofs.Each.{all-append}
@@ -20,11 +20,12 @@ use Rattle.chip_functions.specs.declared.notice.Notice.TheVariants.{ApplicationC
 use Rattle.chip_functions.specs.declared.notice.Update.{Update}
 use Rattle.chip_functions.specs.declared.notice.TransmitStatus.{TransmitStatus}
 use Rattle.chip_functions.specs.declared.notice.TransmitStatus.TheVariants.{Fail}
+use Rattle.chip_sim.proofs.Steps.{port_performed}
 use Rattle.chip_sim.specs.Waiting.{PortState, is_full, queued_at, queued_outs_at, next_at, served_at, written, ticked}
 use Rattle.chip_sim.specs.State.{ChipState}
 use Rattle.chip_sim.specs.Answers.{notice_frame, takes}
-use Rattle.chip_sim.specs.Requests.{passed, answer_outs, asked, given_if, given_outs, callback_frame, abort_frame, stopped, reply_to, sent, performed, performed_outs, requested, requested_outs, heard, judged_frame, judged_outs}
-use Rattle.chip_sim.specs.Events.{ChipEvent, Judged, Ticked, Heard, Done, Informed, Joined, Linked, Forgets, Collides, collides, update_of, ended, ended_outs, after, outs}
+use Rattle.chip_sim.specs.Requests.{passed, answer_outs, asked, given_if, given_outs, callback_frame, abort_frame, reply_to, sent, performed_outs, requested, requested_outs, heard, judged_frame, judged_outs}
+use Rattle.chip_sim.specs.Events.{ChipEvent, Judged, Ticked, Heard, Done, Informed, Collides, collides, update_of, ended, ended_outs, after, outs}
 use Rattle.chip_sim.specs.declared.out.Sending.{Sending}
 use Rattle.chip_sim.specs.declared.out.ChipOut.{ChipOut}
 use Rattle.chip_sim.specs.declared.out.ChipOut.TheVariants.{Write, Full}
@@ -166,52 +167,23 @@ module _ (Is : FrameParts → Type 0) where
     given_puts None s is = tt
     given_puts (Some f) s is = queued_puts s.port.side.turn s.port f is
 
-    performed_port : (request : Request) (s : ChipState) → (performed request s).port ≡ s.port
-    performed_port GetInitData s = refl
-    performed_port GetCapabilities s = refl
-    performed_port (SendData n payload options id) s = by (takes s n payload)
-      where
-        by : (b : Bool) → (if b then record s { sending = Some (record { node = n; callback_id = id }) } else s).port ≡ s.port
-        by true = refl
-        by false = refl
-    performed_port GetVersion s = refl
-    performed_port SendDataAbort s = by s.sending
-      where
-        by : (sending : Option Sending) → (stopped sending s).port ≡ s.port
-        by None = refl
-        by (Some sending) = refl
-    performed_port MemoryGetId s = refl
-    performed_port (GetNodeProtocolInfo n) s = refl
-    performed_port (AddNode mode id) s = refl
-    performed_port (RequestNodeInfo n) s = refl
-    performed_port (IsFailedNode n) s = refl
-    performed_port (GetRoutingInfo n x y z) s = refl
-
     sent_puts : (n : ℕ) (payload : List ℕ) (way : Option Route) → PutsHave Is (sent n payload way)
     sent_puts n payload None = (tt, tt)
     sent_puts n payload (Some route) = (tt, tt)
 
     performed_puts : (request : Request) (s : ChipState) (way : Option Route) → PutsHave Is (performed_outs request s way)
-    performed_puts GetInitData s way = tt
-    performed_puts GetCapabilities s way = tt
     performed_puts (SendData n payload options id) s way = by (takes s n payload)
       where
         by : (b : Bool) → PutsHave Is (if b then sent n payload way else [])
         by true = sent_puts n payload way
         by false = tt
-    performed_puts GetVersion s way = tt
-    performed_puts SendDataAbort s way = tt
-    performed_puts MemoryGetId s way = tt
-    performed_puts (GetNodeProtocolInfo n) s way = tt
-    performed_puts (AddNode mode id) s way = tt
     performed_puts (RequestNodeInfo n) s way = (tt, tt)
-    performed_puts (IsFailedNode n) s way = tt
-    performed_puts (GetRoutingInfo n x y z) s way = tt
+    performed_puts request s way = tt
 
     requested_has : (request : Option Request) (s : ChipState) → PortHas Is s.port → PortHas Is (requested request s).port
     requested_has None s has = has
     requested_has (Some request) s has =
-        subst (PortHas Is) (sym (performed_port request (given_if s (reply_to s request)))) (given_has (reply_to s request) s (reply_has s request) has)
+        subst (PortHas Is) (sym (port_performed request (given_if s (reply_to s request)))) (given_has (reply_to s request) s (reply_has s request) has)
 
     requested_puts : (request : Option Request) (s : ChipState) (way : Option Route) → PutsHave Is (requested_outs request s way)
     requested_puts None s way = tt
@@ -270,10 +242,8 @@ module _ (Is : FrameParts → Type 0) where
     after_has s (Heard node payload) hears has = queued_has s.port.side.turn s.port (notice_frame (ApplicationCommandHandler 0 node payload)) has hears
     after_has s (Done status) hears has = done_has (s.aborted == 0) s status has
     after_has s (Informed node profile) hears has = queued_has s.port.side.turn s.port (notice_frame (ApplicationUpdate (update_of node profile))) has (posted.update (update_of node profile))
-    after_has s (Joined node listening) hears has = has
-    after_has s (Linked a b live) hears has = has
-    after_has s (Forgets a b) hears has = has
     after_has s Collides hears has = record { turn = has.turn; waiting = has.waiting }
+    after_has s event hears has = has
 
     pub outs_have : (s : ChipState) (event : ChipEvent) → HearsSo Is event → PortHas Is s.port → PutsHave Is (outs s event)
     outs_have s (Judged item way) hears has =
@@ -286,7 +256,4 @@ module _ (Is : FrameParts → Type 0) where
     outs_have s (Heard node payload) hears has = queued_puts s.port.side.turn s.port (notice_frame (ApplicationCommandHandler 0 node payload)) hears
     outs_have s (Done status) hears has = done_puts (s.aborted == 0) s status
     outs_have s (Informed node profile) hears has = queued_puts s.port.side.turn s.port (notice_frame (ApplicationUpdate (update_of node profile))) (posted.update (update_of node profile))
-    outs_have s (Joined node listening) hears has = tt
-    outs_have s (Linked a b live) hears has = tt
-    outs_have s (Forgets a b) hears has = tt
-    outs_have s Collides hears has = tt
+    outs_have s event hears has = tt

@@ -1,7 +1,6 @@
 -- What the chip writes brings what was heard, or nothing, where it holds of the frames that its port has; and so does all that it is given but payloads.
-use Rattle.std.proofs.Common.{◌≡◌, ℕ, zero, suc, Bool, true, false, if◌then◌else◌, List, [], ◌∷◌, ◌++◌, drop, refl, sym, subst, append_assoc, append-nil}
-use Rattle.std.specs.Prelude.{Option, Some, None}
-use Rattle.std.specs.Option.{unwrap_or}
+use Rattle.std.proofs.Common.{◌≡◌, ℕ, List, [], ◌∷◌, ◌++◌, refl, sym, ap, subst, append_assoc, append-nil}
+use Rattle.std.specs.Prelude.{Option}
 use Rattle.std.specs.List.{AllByRecursion}
 use Rattle.zw_base.proofs.Each.{all-weaker}
 use Rattle.serial_frame.specs.Items.{unit_text}
@@ -10,10 +9,7 @@ use Rattle.serial_frame.specs.declared.unit.Unit.TheVariants.{Ack, Nak, Can, Fra
 use Rattle.serial_pipes.specs.State.{WayState, mark_for}
 use Rattle.serial_pipes.specs.Events.{told, told_by}
 use Rattle.route_table.specs.declared.route.Route.{Route}
-use Rattle.route_table.specs.Network.{linked}
-use Rattle.chip_functions.specs.Notice.{status_of}
-use Rattle.chip_functions.specs.declared.notice.TransmitStatus.{TransmitStatus}
-use Rattle.chip_functions.specs.declared.notice.TransmitStatus.TheVariants.{Fail, NoRoute as no_route_status}
+use Rattle.chip_sim.specs.State.{ChipParts, ChipState}
 use Rattle.chip_sim.specs.Events.{ChipEvent, Done, Informed, Forgets, after, outs}
 use Rattle.chip_sim.specs.declared.out.ChipOut.{ChipOut}
 use Rattle.chip_sim.specs.declared.out.ChipOut.TheVariants.{Write, OnAir, NoRoute, AskInfo, Full}
@@ -27,12 +23,15 @@ use Rattle.law_transcript.specs.Units.{bringing_in}
 use Rattle.law_transcript.specs.Carrying.{heard_home, WereHeard, MayBring}
 use Rattle.proof_host.proofs.Lists.{each-append, each-anywhere}
 use Rattle.outside_model.specs.declared.waits.Due.{Due}
-use Rattle.outside_model.specs.declared.waits.Due.TheVariants.{Info, NoRoute as no_route_due}
 use Rattle.outside_model.specs.State.{OuterState, Outside, outside, Outcome, silent as silently, tells, each, and_then, with_chip}
 use Rattle.outside_model.specs.Chip.{put_out, chip_does}
-use Rattle.outside_model.specs.Results.{owes_call, call_back, no_route, no_routes, leading, forgets, frame_ends, gives, without_no_route, profile_for}
+use Rattle.outside_model.specs.Results.{frame_ends, gives}
+use Rattle.outside_model.specs.Events.{OuterEvent, outcome}
 use Rattle.proof_walk.specs.Outside.{Pending, Judging, Dealing, IsNote, IsOfAir}
-use Rattle.proof_device.proofs.Entered.{IsMark, told_by_marks, IsCleared, IsShown, IsChange}
+use Rattle.proof_walk.proofs.Times.{puts_chip}
+use Rattle.proof_device.proofs.Entered.{IsMark, told_by_marks, IsChange}
+use Rattle.proof_device.proofs.Results.{IsResult, Calls, due_goes, end_goes}
+use Rattle.proof_device.proofs.Entering.{IsOfPipe, IsOfPipes, pipes_enter}
 use Rattle.proof_air.specs.Carrying.{Brings, PortHas, PendingCome, Holds}
 use Rattle.proof_air.proofs.Homes.{brings_stays, port_stays, come_after}
 use Rattle.proof_air.proofs.Brought.{response_brings, callback_brings, update_brings}
@@ -59,17 +58,17 @@ may_stand past e none = tt
 pub all_stand : (past told : List Entry) → BringNone told → EachAfter MayBring past told
 all_stand past told none = each-anywhere MayBring BringsNone may_stand past told none
 
+pipe_none : (e : Entry) → IsOfPipe by_host e → BringsNone e
+pipe_none (entry.Written by_host unit) of_pipe = tt
+pipe_none (entry.Written by_chip unit) of_pipe = absurd (let bad : by_host ≡ by_chip = of_pipe in cc)
+pipe_none e of_pipe = tt
+
+pub pipes_none : (w : Outside) (event : OuterEvent) → IsOfPipes event → BringNone (outcome w event).entries
+pipes_none w event is = all-weaker (IsOfPipe by_host) BringsNone pipe_none (outcome w event).entries (pipes_enter w event is)
+
 mark_none : (e : Entry) → IsMark e → BringsNone e
 mark_none (entry.Written side unit) mark = absurd mark
 mark_none e mark = tt
-
-pub cleared_none : (e : Entry) → IsCleared e → BringsNone e
-cleared_none (entry.Written side unit) cleared = absurd cleared
-cleared_none e cleared = tt
-
-pub shown_none : (e : Entry) → IsShown e → BringsNone e
-shown_none (entry.Written side unit) shown = absurd shown
-shown_none e shown = tt
 
 pub change_none : (e : Entry) → IsChange e → BringsNone e
 change_none (entry.Written side unit) change = absurd change
@@ -139,11 +138,7 @@ put_on past o (AskInfo node) has = tt
 put_on past o Full has = (tt, tt)
 
 put_port : (o : OuterState) (out : ChipOut) → (put_out o out).outer.chip.state.port ≡ o.chip.state.port
-put_port o (Write unit) = refl
-put_port o (OnAir to route payload) = refl
-put_port o NoRoute = refl
-put_port o (AskInfo node) = refl
-put_port o Full = refl
+put_port o out = ap (λ (c : ChipParts). c.state.port) (puts_chip o out)
 
 unit_stays : (past told : List Entry) (unit : LineUnit) → UnitHas (Brings past) unit → UnitHas (Brings (past ++ told)) unit
 unit_stays past told Ack has = tt
@@ -179,39 +174,25 @@ does_on o event past hears has =
 
 -- ---- results, of which none is a payload
 
-call_on : (o : OuterState) (status : TransmitStatus) → Puts_on o (call_back o status)
-call_on o status = by (owes_call o.chip.state)
-  where
-    by : (b : Bool) → Puts_on o (if b then chip_does (record o { calls = drop 1 o.calls }) (Done status) else silently (record o { calls = drop 1 o.calls }))
-    by true = λ past has. does_on (record o { calls = drop 1 o.calls }) (Done status) past tt has
-    by false = still_on o (record o { calls = drop 1 o.calls }) refl
-
-no_route_on : (o : OuterState) → Puts_on o (no_route o)
-no_route_on o = call_on (record o { due = without_no_route o.due }) no_route_status
-
-no_routes_on : (count : ℕ) (o : OuterState) → Puts_on o (no_routes count o)
-no_routes_on zero o = still_on o o refl
-no_routes_on (suc count) o = then_on o (no_route o) (λ later. no_routes count later) (no_route_on o) (λ later. no_routes_on count later)
-
 -- only an entry, and the port stays
 tells_on : (o q : OuterState) (told : List Entry) → BringNone told → q.chip.state.port ≡ o.chip.state.port → Puts_on o (tells q told)
 tells_on o q told none is past has = (all_stand past told none, subst (PortHas (Brings (past ++ told))) (sym is) (port_stays past told o.chip.state.port has))
 
-forgets_on : (o : OuterState) (dead : Option (ℕ × ℕ)) → Puts_on o (forgets o dead)
-forgets_on o None = still_on o o refl
-forgets_on o (Some hop) = by (linked o.chip.state.table hop.0 hop.1)
-  where
-    by : (b : Bool) → Puts_on o (if b then tells (with_chip o (after o.chip.state (Forgets hop.0 hop.1))) (entry.Forget hop.0 hop.1 ∷ []) else silently o)
-    by true = tells_on o (with_chip o (after o.chip.state (Forgets hop.0 hop.1))) (entry.Forget hop.0 hop.1 ∷ []) (tt, tt) refl
-    by false = still_on o o refl
+result_on : (o : OuterState) (event : ChipEvent) → IsResult event → Puts_on o (chip_does o event)
+result_on o (Done status) is past has = does_on o (Done status) past tt has
+result_on o (Informed node profile) is past has = does_on o (Informed node profile) past tt has
+result_on o event is past has = absurd is
+
+calls : Calls Puts_on
+calls = record {
+  still = λ o p is. still_on o p (ap (λ (s : ChipState). s.port) is.chip);
+  both = then_on;
+  later = λ o p x is goes past has. goes past (subst (PortHas (Brings past)) (sym (ap (λ (s : ChipState). s.port) is.chip)) has);
+  result = result_on;
+}
 
 pub ends_on : (o : OuterState) (status : ℕ) (dead : Option (ℕ × ℕ)) → Puts_on o (frame_ends o status dead)
-ends_on o status dead =
-    then_on o (forgets o dead) (λ forgot. and_then (no_routes (leading forgot.calls) forgot) (λ later. call_back later (unwrap_or (status_of status) Fail))) (forgets_on o dead)
-    (λ forgot. then_on forgot (no_routes (leading forgot.calls) forgot) (λ later. call_back later (unwrap_or (status_of status) Fail)) (no_routes_on (leading forgot.calls) forgot)
-    (λ later. call_on later (unwrap_or (status_of status) Fail)))
+ends_on o status dead = end_goes Puts_on calls (λ o a b. tells_on o (with_chip o (after o.chip.state (Forgets a b))) (entry.Forget a b ∷ []) (tt, tt) refl) o status dead
 
 pub gives_on : (o : OuterState) (devices : List State) (due : List Due) (route : Option Route) → Puts_on o (gives o devices due route)
-gives_on o devices [] route = still_on o o refl
-gives_on o devices (no_route_due ∷ due) route = no_route_on o
-gives_on o devices (Info node ∷ due) route = λ past has. does_on (record o { due = due }) (Informed node (profile_for o.air devices node route)) past tt has
+gives_on o devices due route = due_goes Puts_on calls o devices due route

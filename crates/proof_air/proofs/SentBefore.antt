@@ -1,5 +1,5 @@
 -- How the clock that a transcript shows, and the frames that were sent before a time, grow with it.
-use Rattle.std.proofs.Common.{◌≡◌, ◌≤◌, ◌<◌, ℕ, ◌+◌, ◌-◌, Bool, true, false, if◌then◌else◌, List, [], ◌∷◌, ◌++◌, length, take, max, refl, sym, ap, ap₂, ◌∙◌, append-nil, append_assoc, arith, nat_lt}
+use Rattle.std.proofs.Common.{◌≡◌, ◌≤◌, ◌<◌, ℕ, ◌+◌, ◌-◌, Bool, true, false, if◌then◌else◌, List, [], ◌∷◌, ◌++◌, length, take, max, refl, sym, ap, ap₂, ◌∙◌, append-nil, arith, nat_lt}
 use Rattle.std.proofs.lemmas.Bool.Decides.{nat_tests}
 use Rattle.std.proofs.lemmas.List.{length-append, take_at}
 use Rattle.zw_text.specs.declared.line.Line.{Line}
@@ -12,14 +12,8 @@ use Rattle.law_transcript.specs.Restarts.{ticks_asked}
 use Rattle.law_wire.specs.Asked.{clock_of, lines_before}
 use Rattle.law_wire.specs.Arriving.{sent_at, sent_before}
 use Rattle.proof_walk.proofs.Untimed.{AreUntimed, same_lines, same_time}
-
--- what is shown of lists one after another
-pub shown_both : {A B : Type 0} (shows : List A → A → List B) (before xs ys : List A) → shown_after shows before (xs ++ ys) ≡ shown_after shows before xs ++ shown_after shows (before ++ xs) ys
-shown_both {A} {B} shows before [] ys = ap (λ (l : List A). shown_after shows l ys) (sym (append-nil before))
-shown_both {A} {B} shows before (x ∷ xs) ys =
-    ap (λ (l : List B). shows before x ++ l)
-    (shown_both shows (before ++ x ∷ []) xs ys ∙ ap (λ (l : List A). shown_after shows (before ++ x ∷ []) xs ++ shown_after shows l ys) (append_assoc before (x ∷ []) xs))
-    ∙ sym (append_assoc (shows before x) (shown_after shows (before ++ x ∷ []) xs) (shown_after shows (before ++ x ∷ xs) ys))
+use Rattle.proof_walk.proofs.Clock.{last_of_more}
+use Rattle.proof_walk.proofs.Shown.{shown_both}
 
 -- ---- the clock
 
@@ -28,10 +22,6 @@ same_clock past told untimed =
     ap₂ (λ (a b : ℕ). max a b) (same_time past told untimed) (ap (λ (l : List Line). ticks_asked (take (length l - 1) l)) (same_lines past told untimed))
 
 -- after the number of a tick that is not below it, it is that number
-last_of_more : (before : ℕ) (ns : List ℕ) (n : ℕ) → last_number before (ns ++ n ∷ []) ≡ n
-last_of_more before [] n = refl
-last_of_more before (first ∷ ns) n = last_of_more first ns n
-
 no_more : (time asked n : ℕ) → max time asked ≤ n → max n asked ≡ n
 no_more time asked n most = omega (arith, most)
 
@@ -42,7 +32,7 @@ number_clock past n most =
     ∙ no_more (time_of past) (ticks_asked (lines_before past)) n most
 
 -- after the words of a line it is as many ticks as the lines before asked for, where none later was shown
-but_last : (lines : List Line) (line : Line) → take (length (lines ++ line ∷ []) - 1) (lines ++ line ∷ []) ≡ lines
+pub but_last : (lines : List Line) (line : Line) → take (length (lines ++ line ∷ []) - 1) (lines ++ line ∷ []) ≡ lines
 but_last lines line = take_at lines (line ∷ []) (length (lines ++ line ∷ []) - 1) (one_less (length-append lines (line ∷ [])))
   where
     one_less : length (lines ++ line ∷ []) ≡ length lines + 1 → length lines ≡ length (lines ++ line ∷ []) - 1

@@ -4,27 +4,28 @@ use Rattle.std.specs.Prelude.{Option, Some, None}
 use Rattle.std.specs.List.{AllByRecursion}
 use Rattle.zw_base.proofs.Each.{all-weaker}
 use Rattle.serial_frame.specs.declared.unit.Unit.{Unit as LineUnit}
-use Rattle.serial_frame.specs.Items.{unit_text}
-use Rattle.serial_pipes.specs.State.{WayState, mark_for}
-use Rattle.serial_pipes.specs.Events.{told, told_by}
+use Rattle.serial_pipes.specs.State.{WayState}
+use Rattle.serial_pipes.specs.Events.{told}
 use Rattle.device_kinds.specs.declared.change.Change.{Change}
-use Rattle.device_sim.specs.State.{State}
 use Rattle.air_frames.specs.History.{Mark}
 use Rattle.zw_words.specs.declared.side.Side.{Side}
+use Rattle.zw_words.specs.declared.side.Side.TheVariants.{Host as by_host}
 use Rattle.zw_text.specs.declared.line.Line.{Line}
 use Rattle.zw_text.specs.declared.line.Line.TheVariants.{Repeat}
 use Rattle.zw_text.specs.declared.entry.Entry.{Entry}
 use Rattle.zw_text.specs.declared.entry.Entry.TheVariants as entry
-use Rattle.zw_text.specs.Transcript.{folded, line_of, line_after, line_last}
-use Rattle.zw_text.proofs.Views.{folded-append}
+use Rattle.zw_text.specs.Transcript.{folded, line_of, line_last}
 use Rattle.law_transcript.specs.Lists.{EachAfter}
 use Rattle.outside_model.specs.Air.{change_entries}
-use Rattle.outside_model.specs.Devices.{changes_entries, shown_entries}
-use Rattle.outside_model.specs.Events.{cleared_entries, ticked_entry}
-use Rattle.outside_model.specs.State.{OuterState}
+use Rattle.outside_model.specs.Devices.{changes_entries}
+use Rattle.outside_model.specs.Events.{ticked_entry, OuterEvent, outcome}
+use Rattle.outside_model.specs.State.{OuterState, Outside}
 use Rattle.world_model.specs.State.{begun_in}
-use Rattle.proof_walk.specs.Outside.{IsNote}
-use Rattle.proof_device.proofs.Entered.{IsMark, told_by_marks, IsCleared, all_cleared, IsShown, all_shown, IsChange, change_entered, changes_entered}
+use Rattle.proof_walk.specs.Outside.{IsNote, HasNoWords}
+use Rattle.proof_walk.proofs.ByLine.{last_is}
+use Rattle.proof_walk.proofs.Alone.{wordless_line}
+use Rattle.proof_device.proofs.Entered.{IsChange, change_entered, changes_entered}
+use Rattle.proof_device.proofs.Entering.{IsOfPipe, IsOfPipes, pipes_enter, told_of_pipe}
 use Rattle.proof_air.specs.Logs.{mark_step, log_of}
 use Rattle.proof_air.specs.Hearing.{MayHear, FreshHere}
 use Rattle.proof_air.proofs.Logs.{log_grows}
@@ -32,12 +33,8 @@ use Rattle.proof_air.proofs.Logs.{log_grows}
 -- ---- which they are
 
 -- no words of a line
-abbrev pub IsNoLine : Entry → Type 0
-IsNoLine (entry.Said words) = ⊥
-IsNoLine _ = Unit {0}
-
 abbrev pub AreNoLines : List Entry → Type 0
-AreNoLines entries = AllByRecursion IsNoLine entries
+AreNoLines entries = AllByRecursion HasNoWords entries
 
 -- and neither a frame nor a session
 abbrev pub IsSilent : Entry → Type 0
@@ -49,12 +46,12 @@ IsSilent _ = Unit {0}
 abbrev pub AreSilent : List Entry → Type 0
 AreSilent entries = AllByRecursion IsSilent entries
 
-silent_line : (e : Entry) → IsSilent e → IsNoLine e
+silent_line : (e : Entry) → IsSilent e → HasNoWords e
 silent_line (entry.Said words) silent = absurd silent
 silent_line e silent = tt
 
 pub silent_lines : (told : List Entry) → AreSilent told → AreNoLines told
-silent_lines told silent = all-weaker IsSilent IsNoLine silent_line told silent
+silent_lines told silent = all-weaker IsSilent HasNoWords silent_line told silent
 
 -- ---- what they show
 
@@ -73,15 +70,8 @@ silent_log past told silent = log_grows past told ∙ silent_steps (log_of past)
 
 -- ---- what stands after entries that are no lines
 
-pub last_is : (past : List Entry) (e : Entry) → line_last (past ++ e ∷ []) ≡ line_of e
-last_is past e = folded-append line_after [] past (e ∷ [])
-
-no_line : (e : Entry) → IsNoLine e → line_of e ≡ []
-no_line (entry.Said words) none = absurd none
-no_line e none = refl
-
-pub fresh_one : (past : List Entry) (e : Entry) → IsNoLine e → FreshHere (past ++ e ∷ [])
-fresh_one past e none number is = let nothing : [] ≡ Repeat number ∷ [] = sym (last_is past e ∙ no_line e none) ∙ is in absurd cc
+pub fresh_one : (past : List Entry) (e : Entry) → HasNoWords e → FreshHere (past ++ e ∷ [])
+fresh_one past e none number is = let nothing : [] ≡ Repeat number ∷ [] = sym (last_is past e ∙ wordless_line e none) ∙ is in absurd cc
 
 pub fresh_after : (past told : List Entry) → AreNoLines told → FreshHere past → FreshHere (past ++ told)
 fresh_after past [] none fresh = subst FreshHere (sym (append-nil past)) fresh
@@ -110,30 +100,17 @@ note_silent (entry.Air frame sender receiver repeaters payload) note none = absu
 note_silent (entry.Begin node session command) note none = absurd (let begun : Some (node, session) ≡ None = none in cc)
 note_silent e note none = tt
 
-mark_silent : (e : Entry) → IsMark e → IsSilent e
-mark_silent (entry.Dropped side) mark = tt
-mark_silent (entry.Garbled side unit) mark = tt
-mark_silent (entry.Overrun side) mark = tt
-mark_silent e mark = absurd mark
+pipe_silent : (side : Side) (e : Entry) → IsOfPipe side e → IsSilent e
+pipe_silent side (entry.Said words) of_pipe = absurd of_pipe
+pipe_silent side (entry.Air frame sender receiver repeaters payload) of_pipe = absurd of_pipe
+pipe_silent side (entry.Begin node session command) of_pipe = absurd of_pipe
+pipe_silent side e of_pipe = tt
 
 pub told_silent : (side : Side) (way : WayState) (unit : LineUnit) → AreSilent (told side way unit)
-told_silent side way unit =
-    (tt, all-weaker IsMark IsSilent mark_silent (told_by side way.bytes (mark_for way.marks unit) (unit_text unit)) (told_by_marks side way.bytes (mark_for way.marks unit) (unit_text unit)))
+told_silent side way unit = all-weaker (IsOfPipe side) IsSilent (pipe_silent side) (told side way unit) (told_of_pipe side way unit)
 
-pub cleared_silent : (side : Side) (count : ℕ) → AreSilent (cleared_entries side count)
-cleared_silent side count = all-weaker IsCleared IsSilent one (cleared_entries side count) (all_cleared side count)
-  where
-    one : (e : Entry) → IsCleared e → IsSilent e
-    one (entry.Cleared side count) cleared = tt
-    one e cleared = absurd cleared
-
-pub shown_silent : (node : ℕ) (device : Option State) → AreSilent (shown_entries node device)
-shown_silent node device = all-weaker IsShown IsSilent one (shown_entries node device) (all_shown node device)
-  where
-    one : (e : Entry) → IsShown e → IsSilent e
-    one (entry.Device node setting) shown = tt
-    one (entry.Refused refusal) shown = tt
-    one e shown = absurd shown
+pub pipes_silent : (w : Outside) (event : OuterEvent) → IsOfPipes event → AreSilent (outcome w event).entries
+pipes_silent w event is = all-weaker (IsOfPipe by_host) IsSilent (pipe_silent by_host) (outcome w event).entries (pipes_enter w event is)
 
 dev_silent : (e : Entry) → IsChange e → IsSilent e
 dev_silent (entry.Dev node by setting) change = tt

@@ -19,7 +19,6 @@ use Rattle.law_transcript.specs.Once.{HasBegun, sessions_by}
 use Rattle.law_transcript.proofs.Having.{all_has, has_shown}
 use Rattle.proof_device.specs.Showing.{AreApart}
 use Rattle.proof_device.proofs.Others.{IsOther}
-use Rattle.proof_device.proofs.ShownChanges.{Adds}
 use Rattle.proof_host.specs.Entries.{IsAside}
 use Rattle.proof_host.proofs.Lists.{each-anywhere, each-append}
 use Rattle.proof_world.proofs.Aside.{own_aside}
@@ -98,7 +97,7 @@ module _ (first : Machine) where
 
 -- ---- each event
 
-module _ (first : Machine) (listing : ℕ → List ℕ) (adds : Adds)
+module _ (first : Machine) (listing : ℕ → List ℕ)
     (headline : (lines : List Spoken) (node : ℕ) (device : State) → AreDone first lines → device_of node (after_all first lines).outside.devices ≡ Some device → is_supervised device ≡ true
     → HeadlineOf listing node (transcript_of first lines) device)
     (pieces : (lines : List Spoken) → AreDone first lines → ArePieces (after_all first lines).outside.devices (transcript_of first lines))
@@ -167,7 +166,7 @@ module _ (first : Machine) (listing : ℕ → List ℕ) (adds : Adds)
 
   event-begun : (past now : List Entry) (m : Machine) (spoken : Spoken) (more : List Spoken) (a : List Event) (event : Event) (b : List Event) → AllLead first past m → IsDone more m spoken → LinePart spoken.line m spoken.events
       → spoken.events ≡ a ++ event ∷ b → now ≡ (past ++ Said spoken.words ∷ []) ++ entries_all m a → May (happens_all m a) event → EachAfter MayChange now (entries (happens_all m a) event)
-  event-begun past now m spoken more a event b lead is part events_are now_is may = elim (moves-or-others adds (happens_all m a) event may) [
+  event-begun past now m spoken more a event b lead is part events_are now_is may = elim (moves-or-others (happens_all m a) event may) [
     | inl moving ↦ moving-begun past now m spoken more a event b lead is part events_are now_is moving (own-asides (happens_all m a) event moving may)
     | inr others ↦ each-anywhere MayChange IsOther other-may now (entries (happens_all m a) event) others
   ]

@@ -1,6 +1,6 @@
 -- No line breaks the rule of the air where frames are numbered and have each its fate in turn, and ticks are told: a fate in ticks is the first of its frame, and where
 -- no ticks are run no frame waits for one.
-use Rattle.std.proofs.Common.{◌≡◌, ℕ, ◌<◌, ◌≤◌, ◌+◌, ◌-◌, cond, eqb, leb, ltb, not, Bool, true, false, List, [], ◌∷◌, ◌++◌, length, take, max, Option, Some, None, is_none, Result, Ok, Err, arith, ap, refl, sym, subst, ◌∙◌, append_assoc, append-nil, length-append}
+use Rattle.std.proofs.Common.{◌≡◌, ℕ, ◌<◌, ◌≤◌, ◌+◌, ◌-◌, cond, eqb, leb, ltb, not, Bool, true, false, List, [], ◌∷◌, ◌++◌, length, take, max, Option, Some, None, is_none, Result, Ok, Err, arith, ap, refl, sym, subst, ◌∙◌, append-nil, length-append}
 use Rattle.std.specs.Prelude.{◌||◌, ◌&&◌, slice_get}
 use Rattle.std.specs.List.{flat_map, list_any}
 use Rattle.std.proofs.lemmas.Bool.{false≢true, and_from, and_left, and_right, eq-eqb, le-leb, lt-ltb, leb-false, ne_eqb, not_from_true, or_from, or_left, or_right, true_from_ne_false}
@@ -19,7 +19,7 @@ use Rattle.zw_text.specs.declared.entry.Entry.TheVariants.{Said, Air, Heard, Los
 use Rattle.zw_text.specs.Transcript.{AirFrame, folded, frame_at, frames, last_number, line_after, line_last, line_of, lines_run, read_as, tick_at, ticks, time_of}
 use Rattle.zw_text.proofs.TextLaws.{line_again}
 use Rattle.law_transcript.specs.Fates.{Flying, IsHeardSo, IsNextFate, MayAir, MayFare, FaresInTurn, NumbersFrames, first_fate, first_fates, flying, flying_step}
-use Rattle.law_transcript.specs.Lists.{EachAfter, listed, shown_after}
+use Rattle.law_transcript.specs.Lists.{EachAfter, listed}
 use Rattle.law_transcript.specs.Repeats.{frame_of, later_nonces, later_sessions, refused_repeat, refusal_to_repeat, repeat_entry}
 use Rattle.law_transcript.specs.Restarts.{is_repeat, repeats, ticks_asked, ticks_of}
 use Rattle.law_wire.specs.Asked.{clock_of, lines_before}
@@ -29,6 +29,7 @@ use Rattle.audit_books.specs.SessionRule.{EachKeeps}
 use Rattle.audit_books.proofs.Views.{folded-more, shown-more}
 use Rattle.audit_rules.specs.AirRule.{asks_for, breaks_air, breaks_fate, has_landed, is_fresh, is_sent, landed, landed_at, may_hear}
 use Rattle.audit_rules.specs.Ticks.{runs_ticks, ticks_following}
+use Rattle.proof_walk.proofs.Shown.{shown_one}
 use Rattle.proof_audit.specs.Frames.{ShowLines, ShowsLine}
 use Rattle.proof_audit.specs.Legible.{AreLegible, IsLegible}
 use Rattle.proof_audit.specs.Tables.{IsOfTable}
@@ -64,14 +65,6 @@ repeats_tick_none past is = by (runs_ticks past) refl
     by false resting = resting
 
 -- ---- one entry more
-
-shown_one : {B : Type 0} (shows : List Entry → Entry → List B) (before past : List Entry) (e : Entry)
-    → shown_after shows before (past ++ (e ∷ [])) ≡ shown_after shows before past ++ shows (before ++ past) e
-shown_one shows before [] e = append-nil (shows before e) ∙ ap (λ (l : List Entry). shows l e) (sym (append-nil before))
-shown_one shows before (first ∷ past) e =
-    ap (λ (l : List _). shows before first ++ l) (shown_one shows (before ++ (first ∷ [])) past e)
-    ∙ (sym (append_assoc (shows before first) (shown_after shows (before ++ (first ∷ [])) past) (shows ((before ++ (first ∷ [])) ++ past) e))
-    ∙ ap (λ (l : List Entry). shown_after shows before (first ∷ past) ++ shows l e) (append_assoc before (first ∷ []) past))
 
 flying_more : (past : List Entry) (e : Entry) → flying (past ++ (e ∷ [])) ≡ flying_step (flying past) e
 flying_more past e = folded-more flying_step (record { sent = 0; due = 0 }) past e

@@ -28,3 +28,4 @@ mod Texts
 mod UnsupervisedDevices
 mod WholeChanges
 mod WithTable
+pub use Rattle.proof_headline.proofs.PlainTying

@@ -9,14 +9,13 @@ use Rattle.std.proofs.lemmas.Slice.Eq.{bytes_eq-Decides}
 use Rattle.zw_text.specs.declared.entry.Entry.{Entry}
 use Rattle.zw_text.specs.declared.entry.Entry.TheVariants.{Air, Device, TableEnd, TableNode, TableValue}
 use Rattle.zw_text.specs.Transcript.{frame_at, frames}
-use Rattle.law_transcript.specs.Carrying.{ArePicked, outward, sent_out}
+use Rattle.law_transcript.specs.Carrying.{ArePicked, CarriesUnits, MaySend, asked, outward, sent_out}
 use Rattle.law_transcript.specs.Lists.{EachAfter}
 use Rattle.law_transcript.specs.Nodes.{controller}
 use Rattle.law_transcript.specs.Units.{Carried}
 use Rattle.audit_books.specs.SessionRule.{EachKeeps}
 use Rattle.audit_books.proofs.Views.{shown-more}
-use Rattle.audit_rules.specs.PayloadRule.{are_picked, asked, breaks_payload, same_carried}
-use Rattle.proof_transcript.specs.Carrying.{CarriesWhole, MaySendWhole}
+use Rattle.audit_rules.specs.PayloadRule.{are_picked, breaks_payload, same_carried}
 use Rattle.proof_audit.specs.Tables.{IsOfTable}
 
 -- ---- items of a list, in order
@@ -56,7 +55,7 @@ sent_more past frame sender receiver repeaters payload own =
     c : Carried
     c = record { node = receiver; payload = payload }
 
-entry_keeps : (past : List Entry) (e : Entry) → MaySendWhole past e → breaks_payload past e ≡ false
+entry_keeps : (past : List Entry) (e : Entry) → MaySend past e → breaks_payload past e ≡ false
 entry_keeps past (Air frame sender receiver repeaters payload) may = by (eqb sender controller) refl
   where
     found : List Carried
@@ -70,11 +69,11 @@ entry_keeps past (Air frame sender receiver repeaters payload) may = by (eqb sen
         (picked_first found (asked past) (subst (λ (l : List Carried). ArePicked l (asked past)) (sent_more past frame sender receiver repeaters payload own) may)))
 entry_keeps past e may = refl
 
-each_keeps : (past rest : List Entry) → EachAfter MaySendWhole past rest → EachKeeps breaks_payload past rest
+each_keeps : (past rest : List Entry) → EachAfter MaySend past rest → EachKeeps breaks_payload past rest
 each_keeps past [] may = tt
 each_keeps past (e ∷ rest) may = (entry_keeps past e may.0, each_keeps (past ++ (e ∷ [])) rest may.1)
 
-pub payloads_keep : (transcript : List Entry) → CarriesWhole transcript → EachKeeps breaks_payload [] transcript
+pub payloads_keep : (transcript : List Entry) → CarriesUnits transcript → EachKeeps breaks_payload [] transcript
 payloads_keep transcript may = each_keeps [] transcript may
 
 pub table_free : (past : List Entry) (e : Entry) → IsOfTable e → breaks_payload past e ≡ false

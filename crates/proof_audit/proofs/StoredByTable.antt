@@ -21,7 +21,7 @@ use Rattle.proof_host.specs.Laws.{HostLaws, IsUnderWay, MayAccept, MayCarry, May
 use Rattle.proof_host.specs.Stores.{stores_by as stored_by}
 use Rattle.proof_host.specs.Tables.{taken_at}
 use Rattle.proof_host.proofs.Views.{outcome-accepted, outcome-begun_other, outcome-other, outcome-silent}
-use Rattle.proof_spoken.specs.Said.{AreSaid, IsSaid, MayAnswer}
+use Rattle.proof_transcript.specs.Said.{AreSaid, IsSaid, MayAnswer}
 use Rattle.audit_books.specs.Asking.{actuator_by, kind_at}
 use Rattle.audit_table.specs.OrdersGiven.{order_of}
 use Rattle.proof_audit.specs.Books.{AreAsked, MayBeAsked}

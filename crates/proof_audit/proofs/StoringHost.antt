@@ -26,7 +26,7 @@ use Rattle.proof_host.specs.Facts.{Facts}
 use Rattle.proof_host.specs.Stores.{stores_at, stores_by}
 use Rattle.proof_host.specs.Tables.{taken_at, taken_by}
 use Rattle.proof_once.specs.Tied.{KeepsOrders}
-use Rattle.proof_spoken.proofs.RoutineNotes.{IsRoutine, event_routine}
+use Rattle.proof_transcript.proofs.RoutineNotes.{IsRoutine, event_routine}
 use Rattle.proof_audit.specs.Tables.{IsToStore}
 
 -- ---- values in their place, by what each command asks for

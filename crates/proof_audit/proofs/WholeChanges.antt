@@ -1,34 +1,28 @@
 -- What is entered is whole changes of devices, each in one piece, and entries that show none.
-use Rattle.std.proofs.Common.{◌≡◌, ◌⊎◌, ℕ, zero, suc, cond, Bool, List, [], ◌∷◌, ◌++◌, length, drop, Option, Some, None, inl, inr, refl, sym, ap, ap₂, subst, ◌∙◌, append-nil}
-use Rattle.std.specs.Prelude.{option_map, slice_get, slice_set}
-use Rattle.std.specs.List.{AllByRecursion, flat_map}
-use Rattle.std.proofs.Math.Seq.{drop-length}
-use Rattle.std.proofs.lemmas.Bool.{cases_eq, eq-eqb}
+use Rattle.std.proofs.Common.{◌≡◌, ◌⊎◌, ℕ, zero, suc, List, [], ◌∷◌, ◌++◌, length, drop, Option, Some, None, inl, inr, refl, sym, ap, ap₂, subst, ◌∙◌, append-nil}
+use Rattle.std.specs.Prelude.{slice_get, slice_set}
+use Rattle.std.specs.List.{AllByRecursion}
 use Rattle.std.proofs.lemmas.Grind.{flat_map-append}
 use Rattle.zw_base.proofs.Each.{all-append, all-weaker}
 use Rattle.device_kinds.specs.declared.change.Change.{Change}
 use Rattle.device_sim.specs.State.{State}
 use Rattle.device_sim.specs.Event.{DeviceEvent, device_after, device_replies}
 use Rattle.route_table.specs.declared.route.Route.{Route}
-use Rattle.mesh_sim.specs.Air.{is_joined}
 use Rattle.mesh_sim.specs.Fates.{place_of}
-use Rattle.mesh_sim.specs.Routes.{backwards}
-use Rattle.mesh_sim.specs.Steps.{answers_if}
 use Rattle.mesh_sim.specs.declared.event.AirEvent.{AirEvent}
 use Rattle.mesh_sim.specs.declared.event.AirEvent.TheVariants as air_event
 use Rattle.zw_text.specs.declared.entry.Entry.{Entry}
 use Rattle.zw_text.specs.declared.entry.Entry.TheVariants as entry
 use Rattle.zw_text.specs.Transcript.{Made, made}
-use Rattle.law_transcript.specs.Devices.{made_by}
 use Rattle.law_transcript.specs.Lists.{Has}
 use Rattle.law_transcript.proofs.Having.{has_left}
 use Rattle.outside_model.specs.State.{OuterState, each, tells}
-use Rattle.outside_model.specs.Air.{change_at, change_entries, deals, sent_entries}
+use Rattle.outside_model.specs.Air.{change_at, change_entries, deals}
 use Rattle.outside_model.specs.Devices.{acts, acts_at, acts_by_hand, changes_entries, device_set, new_changes, sends, set_by_hand}
 use Rattle.outside_model.specs.Results.{device_at}
 use Rattle.proof_device.proofs.ChangesOutside.{TellsOne, get_set, place_is}
 use Rattle.proof_device.proofs.KeptKinds.{event_same}
-use Rattle.proof_device.proofs.Others.{IsOther, Others, ends_other, flat_other, sent_other, to_chip_other}
+use Rattle.proof_device.proofs.Others.{IsOther, Others, ends_other, sends_other, to_chip_other}
 use Rattle.proof_audit.specs.Books.{ArePieces, IsChangeOf, IsNoChange, IsPiece, Piece, piece_entries}
 use Rattle.proof_audit.specs.Books.Piece.{Loose, Whole}
 
@@ -86,7 +80,7 @@ deal-pieces devices o (air_event.Heard frame) = loose devices (deals devices o (
 deal-pieces devices o (air_event.Lost frame) = loose devices (deals devices o (air_event.Lost frame)).entries (tt, tt)
 deal-pieces devices o (air_event.Unheard frame) = loose devices (deals devices o (air_event.Unheard frame)).entries (tt, tt)
 deal-pieces devices o (air_event.Sent frame from to route payload) =
-    loose devices (deals devices o (air_event.Sent frame from to route payload)).entries (sent_other (air_event.Sent frame from to route payload))
+    loose devices (deals devices o (air_event.Sent frame from to route payload)).entries (tt, tt)
 deal-pieces devices o (air_event.Changed node at) =
     one-change devices node (change_at (device_at devices (place_of node devices)) at) (λ change there.
     change-there devices node at (place_of node devices) (device_at devices (place_of node devices)) change (λ k device found is. place_is node devices k device found is) refl there)
@@ -113,7 +107,7 @@ acts-pieces devices o device event route there =
     (all-changes devices device.node (new_changes device event)
     (all-dropped (IsChangeOf devices device.node) (length device.journal) (device_after device event).journal (λ change has.
     record { device = device_after device event; among = there; of_node = (event_same device event).node; made = has })))
-    (loose devices (sends o device.node route (device_replies device event)).entries (flat_other sent_entries sent_other (answers_if (is_joined o.air device.node) o.air device.node (option_map backwards route) (device_replies device event))))
+    (loose devices (sends o device.node route (device_replies device event)).entries (sends_other o device.node route (device_replies device event)))
 
 pub at-pieces : (o : OuterState) (devices : List State) (place : ℕ) (found : Option State) (event : DeviceEvent) (route : Option Route) → slice_get devices place ≡ found
     → ArePieces (device_set devices place found event) (acts_at o found event route).entries
@@ -176,39 +170,4 @@ tells-grow grow says old new (inr tells) node change is = grown old new on node 
             (has_left tells.device.journal (new_changes tells.device tells.event) one (subst (λ (d : State). Has d.journal one) same made_it))),
       )
       | inr stays ↦ (device, subst (λ (l : List State). Has l device) (sym tells.stands) stays, refl, (λ one made_it. made_it))
-    ]
-
--- ---- entries that show no change
-
--- where no node shows any, there is none
-pub others-by : (entries : List Entry) → ((n : ℕ) → made n entries ≡ []) → Others entries
-others-by [] none = tt
-others-by (entry.Dev node by setting ∷ entries) none = absurd (never (none node))
-  where
-    never : made node (entry.Dev node by setting ∷ entries) ≡ [] → ⊥
-    never is =
-        let one : Made = record { by = by; setting = setting } in
-        let some : one ∷ made node entries ≡ [] = sym (ap (λ (b : Bool). cond b (one ∷ []) [] ++ made node entries) (eq-eqb node node refl)) ∙ is in cc
-others-by (other ∷ entries) none = (tt, others-by entries none)
-
--- an event that leaves the devices shows no change
-pub still-others : (entries : List Entry) (old new : List State) → new ≡ old → TellsOne (λ n. made n entries) old new → Others entries
-still-others entries old new still (inl (same, none)) = others-by entries none
-still-others entries old new still (inr tells) = others-by entries none
-  where
-    later : State
-    later = device_after tells.device tells.event
-
-    as_before : later ≡ tells.device
-    as_before =
-        let both : Some later ≡ Some tells.device =
-        sym (get_set old tells.place tells.device later tells.stood) ∙ (ap (λ (l : List State). slice_get l tells.place) (sym tells.stands ∙ still) ∙ tells.stood) in cc
-
-    here : made tells.device.node entries ≡ []
-    here = tells.here ∙ ap (flat_map made_by) (ap (λ (d : State). drop (length tells.device.journal) d.journal) as_before ∙ drop-length tells.device.journal)
-
-    none : (n : ℕ) → made n entries ≡ []
-    none n = elim (cases_eq n tells.device.node) [
-      | inl same ↦ ap (λ (k : ℕ). made k entries) same ∙ here
-      | inr apart ↦ tells.elsewhere n apart
     ]

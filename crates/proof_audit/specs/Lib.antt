@@ -4,3 +4,5 @@ pub mod Frames
 pub mod Tables
 pub mod Rules
 pub mod Whole
+pub mod Headline
+pub mod Transcript

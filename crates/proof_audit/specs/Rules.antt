@@ -3,6 +3,7 @@ use Rattle.std.specs.Prelude.{List}
 use Rattle.std.specs.List.{AllByRecursion}
 use Rattle.device_stack.specs.State.{State}
 use Rattle.zw_text.specs.declared.entry.Entry.{Entry}
+use Rattle.law_transcript.specs.Carrying.{CarriesUnits}
 use Rattle.law_transcript.specs.Fates.{FaresInTurn, NumbersFrames}
 use Rattle.law_transcript.specs.Headline.{Headline}
 use Rattle.law_transcript.specs.Nodes.{listing_of}
@@ -11,7 +12,6 @@ use Rattle.law_wire.specs.Times.{TellsTime}
 use Rattle.proof_device.specs.Showing.{AreApart, IsShown}
 use Rattle.proof_host.specs.Laws.{HostLaws}
 use Rattle.proof_world.specs.Devices.{GroupsSessions}
-use Rattle.proof_transcript.specs.Carrying.{CarriesWhole}
 use Rattle.proof_audit.specs.Books.{AreAsked, ArePieces, ChangesBegun, IsOfItsKind}
 use Rattle.proof_audit.specs.Frames.{ShowLines}
 use Rattle.proof_audit.specs.Tables.{StoresDirectly}
@@ -33,7 +33,7 @@ pub record KeepsLaws (before after : List State) (transcript : List Entry) : Typ
   pub numbers : NumbersFrames transcript
   pub fates : FaresInTurn transcript
   pub ticks : TellsTime transcript
-  pub carries : CarriesWhole transcript
+  pub carries : CarriesUnits transcript
   -- what is confirmed, and what is shown of devices
   pub stores : StoresDirectly (listing_of before) transcript
   pub shows : ShowsDevices before transcript

@@ -22,6 +22,8 @@ pub use books::{
 };
 pub use frames::frames_keep_the_rule_of_the_air;
 pub use payloads::{carried_payloads_keep_their_rule, garbled_units_ask_nothing};
+pub use proof_headline as headline;
+pub use proof_transcript as transcript;
 pub use rules::laws_keep_every_rule;
 pub use tables::{
     a_table_is_its_lines, tables_are_as_due, values_are_stored_directly, values_stand_after_success,

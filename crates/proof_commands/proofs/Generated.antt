@@ -24,7 +24,7 @@ use Rattle.world_model.specs.Did.{Scene, Stops, happens_all, entries_all, MayAll
 use Rattle.world_model.specs.Lines.{IsLine}
 use Rattle.world_model.specs.Prefixes.{LinePart, LinePrefix}
 use Rattle.world_model.specs.Table.{table_entries}
-use Rattle.zw_world.specs.World.{first_world, scene}
+use Rattle.run_sim.specs.World.{first_world, scene}
 use Rattle.run_lines.specs.Lines.{TextLine}
 use Rattle.run_lines.specs.Pieces.{said_text}
 use Rattle.run_lines.specs.declared.running.LinesEnd.TheVariants.{NoMemory}

@@ -8,6 +8,7 @@ use Rattle.device_sim.specs.State.{State}
 use Rattle.host_core.specs.Network.{keys_of}
 use Rattle.device_kinds.specs.Sealing.{keys_of as device_keys}
 use Rattle.law_transcript.specs.Answers.{AnswersLines}
+use Rattle.law_transcript.specs.Carrying.{CarriesUnits}
 use Rattle.law_transcript.specs.Headline.{IsAsMade}
 use Rattle.law_transcript.specs.Nodes.{listing_of}
 use Rattle.law_transcript.specs.Restarts.{ticks_asked}
@@ -22,8 +23,7 @@ use Rattle.law_wire.specs.Shown.{ShowsDevices}
 use Rattle.run_lines.specs.declared.status.Status.TheVariants.{Ok as all_well}
 use Rattle.proof_device.specs.Showing.{AreApart, IsShown}
 use Rattle.proof_world.specs.Devices.{GroupsSessions}
-use Rattle.proof_devices.proofs.Changes.{stays_apart}
-use Rattle.proof_transcript.specs.Carrying.{CarriesWhole}
+use Rattle.proof_fates.proofs.Changes.{stays_apart}
 use Rattle.proof_audit.specs.Books.{AreAsked, ArePieces, ChangesBegun, IsOfItsKind}
 use Rattle.proof_audit.specs.Frames.{ShowLines}
 use Rattle.proof_audit.specs.Legible.{AreLegible}
@@ -64,7 +64,7 @@ pub record Keeping : Type 0 where
   pub begun : BegunBy keys_of
   pub lines : (T : List Entry) → AreLegible T → ShowLines T
   pub carries : (keys : Keys) (devices : List State) (lines : List Spoken) → AreDone (first_machine keys (Some []) devices) lines
-      → CarriesWhole (transcript_of (first_machine keys (Some []) devices) lines)
+      → CarriesUnits (transcript_of (first_machine keys (Some []) devices) lines)
   pub stores : (keys : Keys) (devices : List State) (lines : List Spoken) → AllByRecursion IsOfItsKind devices → AreDone (first_machine keys (Some []) devices) lines
       → StoresDirectly (listing_of devices) (transcript_of (first_machine keys (Some []) devices) lines)
   pub rules : (before after : List State) (ticks : ℕ) (T : List Entry) → KeepsLaws before after T → KeepsRules (T ++ table_of (listing_of before) ticks T after)
@@ -75,7 +75,7 @@ module _ (laws : Keeping) (key : List ℕ) (old new : Around) (story : List Ran)
   T = transcript key old story
 
   at_restarts : TellsAtRestarts old story
-  at_restarts = good.fair.told
+  at_restarts = good.world.run.told
 
   none : unentered ≡ []
   none = (ends_whole false key old new story unentered tells).all_entered
@@ -103,28 +103,28 @@ module _ (laws : Keeping) (key : List ℕ) (old new : Around) (story : List Ran)
       let each = laws.stories key old new in
       let is = tells.is in
       let well = each.kept story unentered is at_restarts in
-      let fair = good.fair in
+      let fair = good.world.run in
       let same = each.same story unentered is in
       record {
         host = each.orders story unentered is well;
         asked = laws.asked true old.devices T good.kinds
             (subst (AnswersLines true old.devices) as_read (laws.answered (keys_of key) old.devices (all_said story) done whole));
         headline = each.whole_headline story unentered is fair good.first;
-        changes = of_all IsShown (each.shown story unentered is fair.made good.apart);
+        changes = of_all IsShown (each.shown story unentered is fair.made good.world.apart);
         kinds = kinds_stay old.devices new.devices same good.kinds;
-        groups = of_all GroupsSessions (each.groups story unentered is fair.made good.apart);
-        apart = stays_apart old.devices new.devices same good.apart;
+        groups = of_all GroupsSessions (each.groups story unentered is fair.made good.world.apart);
+        apart = stays_apart old.devices new.devices same good.world.apart;
         whole = subst (λ (l : List State). ArePieces l T) (sym (whole_devices key old new story unentered is at_restarts none))
             (subst (ArePieces (after_all (fresh key old) (all_said story)).outside.devices) as_read (laws.whole (fresh key old) (all_said story) done));
         begun = subst ChangesBegun as_read
-            (laws.begun key old.devices (all_said story) fair.made good.apart done);
+            (laws.begun key old.devices (all_said story) fair.made good.world.apart done);
         lines = laws.lines T (entries_back laws.back key old new false story unentered tells at_restarts);
         numbers = each.numbers story unentered is;
         fates = each.fares story unentered is (inr well) false (λ whole. absurd cc);
         ticks = each.ticks story unentered is;
-        carries = subst CarriesWhole as_read (laws.carries (keys_of key) old.devices (all_said story) done);
+        carries = subst CarriesUnits as_read (laws.carries (keys_of key) old.devices (all_said story) done);
         stores = subst (StoresDirectly (listing_of old.devices)) as_read (laws.stores (keys_of key) old.devices (all_said story) good.kinds done);
-        shows = subst (ShowsDevices old.devices) as_read (laws.shown (keys_of key) old.devices (all_said story) done good.apart);
+        shows = subst (ShowsDevices old.devices) as_read (laws.shown (keys_of key) old.devices (all_said story) done good.world.apart);
       }
 
   pub answers : WritesInOrder old new

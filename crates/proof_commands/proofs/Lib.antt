@@ -11,6 +11,7 @@ pub mod Told
 pub mod Unentered
 pub mod Further
 pub mod Tables
+pub mod AsSaid
 pub mod ReadBack
 mod KeptRules
 pub mod Generated

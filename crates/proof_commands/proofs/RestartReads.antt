@@ -11,8 +11,8 @@ use Rattle.world_model.specs.State.{Machine}
 use Rattle.world_model.specs.Events.{Event}
 use Rattle.world_model.specs.Did.{happens_all, entries_all, MayAll}
 use Rattle.world_model.specs.Lines.{IsLine}
-use Rattle.zw_world.specs.Keeping.{GoesOn, Keeps, KeepsOrRefuses, RefusesNext}
-use Rattle.zw_world.specs.World.{first_world}
+use Rattle.run_sim.specs.Keeping.{GoesOn, Keeps, KeepsOrRefuses, RefusesNext}
+use Rattle.run_sim.specs.World.{first_world}
 use Rattle.run_lines.specs.declared.running.LinesEnd.{LinesEnd}
 use Rattle.run_lines.specs.declared.running.LinesEnd.TheVariants.{All, Bad, ReadFailed, TooMuch, WriteFailed, NoMemory}
 use Rattle.run_lines.specs.declared.status.Status.{Status}

@@ -13,7 +13,7 @@ use Rattle.world_model.specs.Did.{happens_all, entries_all, MayAll, last_of, IsO
 use Rattle.world_model.specs.Lines.{IsLine}
 use Rattle.world_model.specs.Prefixes.{LinePart, IsLineBefore}
 use Rattle.world_model.proofs.EventLists.{happens_all-append, may_all-append}
-use Rattle.zw_world.specs.World.{first_world}
+use Rattle.run_sim.specs.World.{first_world}
 use Rattle.run_lines.specs.declared.running.LinesEnd.{LinesEnd}
 use Rattle.run_lines.specs.declared.running.LinesEnd.TheVariants.{All, Bad, ReadFailed, TooMuch, WriteFailed, NoMemory}
 use Rattle.run_lines.specs.declared.status.Status.{Status}

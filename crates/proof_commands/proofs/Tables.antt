@@ -27,7 +27,7 @@ use Rattle.run_lines.specs.declared.status.Status.TheVariants.{Ok}
 use Rattle.run_lines.proofs.Shown.{pieces_text}
 use Rattle.run_lines.specs.Lines.{AllRan, RanLines, TextLine, lines_in}
 use Rattle.run_sim.specs.Sim.{IsTable, LineRan, PartRan, Point, point_of, shown_text}
-use Rattle.zw_world.specs.World.{first_world}
+use Rattle.run_sim.specs.World.{first_world}
 use Rattle.world_lines.specs.Spoken.{Spoken, after_all, transcript_of}
 use Rattle.world_lines.specs.Done.{AreDone}
 use Rattle.world_lines.specs.Whole.{AreWhole}

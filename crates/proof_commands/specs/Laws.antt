@@ -30,6 +30,8 @@ use Rattle.law_transcript.specs.Nodes.{device_of, first_node, is_supervised, lis
 use Rattle.law_transcript.specs.Payloads.{BeginsWithUnit, SendsWhatIsDue}
 use Rattle.law_transcript.specs.Restarts.{is_restart}
 use Rattle.law_transcript.specs.Stores.{StoresConfirmed}
+use Rattle.law_wire.specs.Clearing.{ClearsLine}
+use Rattle.law_wire.specs.Links.{KeepsLinks}
 use Rattle.law_wire.specs.Marks.{CollidesWhenAsked, MarksUnits}
 use Rattle.law_wire.specs.Arriving.{ForgetsDeadHops, LandsInTime, MeetsWhatIsDue, RepeatsWhatIsAsked}
 use Rattle.law_wire.specs.Doings.{DoneByDevices}
@@ -40,17 +42,11 @@ use Rattle.law_wire.specs.Routes.{GoesByRoute}
 use Rattle.law_wire.specs.Shown.{ShowsDevices}
 use Rattle.law_wire.specs.Times.{TellsTime}
 use Rattle.law_host.specs.HostLegal.{ShowsValues}
-use Rattle.proof_line.specs.Arrivals.{ClearsWholeUnits}
-use Rattle.proof_line.specs.Rooms.{AnswersFrames}
-use Rattle.proof_line.specs.Pipes.{ClearsAtRestarts, ClearsNowhereElse, OverrunsOnlyWhenFull}
-use Rattle.proof_sending.specs.Told.{BringsOpenly, SealsNoNonce, SendsWhatWasTold}
-use Rattle.proof_transcript.specs.Carrying.{CarriesWhole}
-use Rattle.proof_transcript.specs.Lines.{IsNoRepeat}
+use Rattle.proof_sending.specs.Line.{AnswersFrames, ClearsAtRestarts, ClearsNowhereElse, OverrunsOnlyWhenFull}
+use Rattle.proof_audit.specs.Transcript.{IsNoRepeat, HasRecords}
 use Rattle.proof_world.specs.Devices.{GroupsSessions}
 use Rattle.proof_world.specs.Restarts.{AllKeepWell, BeginsEmpty}
-use Rattle.proof_headline.specs.Truly.{SucceedsAfterChangeOf}
-use Rattle.proof_headline.specs.Supervised.{IsSupervisedNode}
-use Rattle.proof_transcript.specs.Records.{HasRecords}
+use Rattle.proof_audit.specs.Headline.{SucceedsAfterChangeOf, IsSupervisedNode}
 use Rattle.proof_commands.specs.Around.{Around}
 
 -- ---- stories
@@ -139,15 +135,30 @@ pub record IsStory (key : List ℕ) (old new : Around) (story : List Ran) (unent
 abbrev pub has_restart : List Ran → Bool
 has_restart story = list_any (λ (one : TextLine Line). is_restart (one.line ∷ [])) (lines_of story)
 
--- The keeper tells its records and had none at first, where a line is `restart`. Where none is, nothing is asked of the keeper.
+-- The keeper is new: it tells its records and had none at first, where a line is `restart`. Where none is, nothing is asked of the keeper.
 abbrev pub TellsAtRestarts : Around → List Ran → Type 0
 TellsAtRestarts old story = has_restart story ≡ true → old.records ≡ Some []
+
+-- The keeper tells its records, where a line is `restart`: it may have had some.
+abbrev pub TellsItsRecords : Around → List Ran → Type 0
+TellsItsRecords old story = has_restart story ≡ true → (texts : List (List ℕ)) × (old.records ≡ Some texts)
 
 -- Where a line is `restart`, the keeper began without records; it tells them where a host starts from them; and an interview that ends well is of a node that
 -- is joined.
 pub record KeepsRecords (key : List ℕ) (old : Around) (story : List Ran) : Type 0 where
   pub empty : has_restart story ≡ true → BeginsEmpty old.records
   pub well : AllKeepWell (first key old) (events_of story)
+
+-- What the headline assumes of a run: the keeper is new, and the devices are as their makers left them. Where several are of one node, the first of
+-- them is the device of that node.
+pub record IsFairRun (key : List ℕ) (old : Around) (story : List Ran) : Type 0 where
+  pub told : TellsAtRestarts old story
+  pub made : AllByRecursion (IsAsMade key) old.devices
+
+-- and no two of them are of one node
+pub record IsFairWorld (key : List ℕ) (old : Around) (story : List Ran) : Type 0 where
+  pub run : IsFairRun key old story
+  pub apart : AreApart old.devices
 
 -- ---- what every story keeps
 
@@ -159,7 +170,7 @@ Always key old new Law = (story : List Ran) (unentered : List Event) → IsStory
 abbrev pub AlwaysOf : List ℕ → Around → Around → (List Ran → Type 0) → Type 0
 AlwaysOf key old new Law = Always key old new (λ story unentered. Law story)
 
--- over a keeper that tells its records and had none, and over any where no line is `restart`, the laws that follow have what they assume
+-- over a new keeper the laws that follow have what they assume
 abbrev pub KeepsWell : List ℕ → Around → Around → Type 0
 KeepsWell key old new = AlwaysOf key old new (λ story. TellsAtRestarts old story → KeepsRecords key old story)
 
@@ -187,23 +198,23 @@ StoresValues key old new = AlwaysOf key old new (λ story. TellsAtRestarts old s
 abbrev pub WritesSessions : List ℕ → Around → Around → Type 0
 WritesSessions key old new = AlwaysOf key old new (λ story. KeepsRecords key old story → BeginsWithUnit (transcript key old story))
 
--- Over a keeper that tells its records and had none at first, each line has the one answer that the transcript before it demands, and no answer stands
--- elsewhere; the last line too, where it was run whole.
+-- Over a new keeper each line has the one answer that the transcript before it demands, and no answer stands elsewhere; the last line too, where it was run
+-- whole.
 abbrev pub AnswersAsDue : List ℕ → Around → Around → Type 0
 AnswersAsDue key old new = AlwaysOf key old new
-    (λ story. old.records ≡ Some [] → (whole : Bool) → (whole ≡ true → AreSchedules (first key old) story) → AnswersLines whole old.devices (transcript key old story))
+    (λ story. TellsAtRestarts old story → (whole : Bool) → (whole ≡ true → AreSchedules (first key old) story) → AnswersLines whole old.devices (transcript key old story))
 
 -- and no restart meets an invalid record
 abbrev pub ReadsWhatItKept : List ℕ → Around → Around → Type 0
-ReadsWhatItKept key old new = AlwaysOf key old new (λ story. old.records ≡ Some [] → ReadsItsRecords (transcript key old story))
+ReadsWhatItKept key old new = AlwaysOf key old new (λ story. TellsAtRestarts old story → ReadsItsRecords (transcript key old story))
 
--- Over such a keeper, directly after a `show` stand the values of the device of its node, as the changes entered so far leave it, where no two devices are of one node, and
+-- Over a new keeper, directly after a `show` stand the values of the device of its node, as the changes entered so far leave it, where no two devices are of one node, and
 -- directly after a `store` those of its node; and neither elsewhere.
 abbrev pub ShowsKeptDevices : List ℕ → Around → Around → Type 0
-ShowsKeptDevices key old new = AlwaysOf key old new (λ story. old.records ≡ Some [] → AreApart old.devices → ShowsDevices old.devices (transcript key old story))
+ShowsKeptDevices key old new = AlwaysOf key old new (λ story. TellsAtRestarts old story → AreApart old.devices → ShowsDevices old.devices (transcript key old story))
 
 abbrev pub ShowsStoredValues : List ℕ → Around → Around → Type 0
-ShowsStoredValues key old new = AlwaysOf key old new (λ story. old.records ≡ Some [] → EachAfter (ShowsValues (listing_of old.devices)) [] (transcript key old story))
+ShowsStoredValues key old new = AlwaysOf key old new (λ story. TellsAtRestarts old story → EachAfter (ShowsValues (listing_of old.devices)) [] (transcript key old story))
 
 -- Where every line was run whole and all that was done is entered, over a keeper that tells its records and had none at first: the records at exit are legal, and
 -- give exactly what the transcript shows.
@@ -250,14 +261,14 @@ abbrev pub FaresFrames : List ℕ → Around → Around → Type 0
 FaresFrames key old new = AlwaysOf key old new
     (λ story. RepeatsNothing story ⊎ KeepsRecords key old story → (whole : Bool) → (whole ≡ true → AreSchedules (first key old) story) → FaresInTurn (ended whole (transcript key old story)))
 
--- over a keeper that tells its records, each frame goes over the route of its moment
+-- over a keeper that tells its records at restarts, each frame goes over the route of its moment
 abbrev pub RoutesFrames : List ℕ → Around → Around → Type 0
-RoutesFrames key old new = AlwaysOf key old new (λ story. (texts : List (List ℕ)) → old.records ≡ Some texts → GoesByRoute old.devices (transcript key old story))
+RoutesFrames key old new = AlwaysOf key old new (λ story. TellsItsRecords old story → GoesByRoute old.devices (transcript key old story))
 
 -- and of a frame that nobody heard the chip forgets the first dead hop, and no other link
 abbrev pub ForgetsHops : List ℕ → Around → Around → Type 0
 ForgetsHops key old new = AlwaysOf key old new
-    (λ story. (texts : List (List ℕ)) → old.records ≡ Some texts → (whole : Bool) → (whole ≡ true → AreSchedules (first key old) story) → ForgetsDeadHops (ended whole (transcript key old story)))
+    (λ story. TellsItsRecords old story → (whole : Bool) → (whole ≡ true → AreSchedules (first key old) story) → ForgetsDeadHops (ended whole (transcript key old story)))
 
 -- a frame has its fate in the tick after, also one that is owed at the end of a story that was run whole
 abbrev pub LandsFrames : List ℕ → Around → Around → Type 0
@@ -269,26 +280,20 @@ abbrev pub RepeatsAsAsked : List ℕ → Around → Around → Type 0
 RepeatsAsAsked key old new = AlwaysOf key old new
     (λ story. KeepsRecords key old story → (whole : Bool) → (whole ≡ true → AreSchedules (first key old) story) → RepeatsWhatIsAsked old.devices (ended whole (transcript key old story)))
 
--- over a keeper that tells its records, each frame meets the fate that is due
+-- over such a keeper, each frame meets the fate that is due
 abbrev pub MeetsFates : List ℕ → Around → Around → Type 0
-MeetsFates key old new = AlwaysOf key old new (λ story. (texts : List (List ℕ)) → old.records ≡ Some texts → MeetsWhatIsDue old.devices (transcript key old story))
+MeetsFates key old new = AlwaysOf key old new (λ story. TellsItsRecords old story → MeetsWhatIsDue old.devices (transcript key old story))
 
--- all of this as one law, over a keeper that tells its records and had none at first
+-- all of this as one law, over a new keeper
 abbrev pub KeepsAir : List ℕ → Around → Around → Type 0
 KeepsAir key old new = AlwaysOf key old new
-    (λ story. old.records ≡ Some [] → (whole : Bool) → (whole ≡ true → AreSchedules (first key old) story) → IsLegalOnAir whole old.devices (transcript key old story))
+    (λ story. TellsAtRestarts old story → (whole : Bool) → (whole ≡ true → AreSchedules (first key old) story) → IsLegalOnAir whole old.devices (transcript key old story))
 
 -- ---- the devices
 
 -- no change and no frame is of a node that has no device
 abbrev pub DoneByNodes : List ℕ → Around → Around → Type 0
 DoneByNodes key old new = AlwaysOf key old new (λ story. DoneByDevices old.devices (transcript key old story))
-
--- the keeper tells its records and had none at first, and the devices are as their makers left them, one a node
-pub record IsFairWorld (key : List ℕ) (old : Around) : Type 0 where
-  pub told : old.records ≡ Some []
-  pub made : AllByRecursion (IsAsMade key) old.devices
-  pub apart : AreApart old.devices
 
 -- each line was run whole, and all is entered
 pub record IsWhole (key : List ℕ) (old : Around) (story : List Ran) (unentered : List Event) : Type 0 where
@@ -299,7 +304,7 @@ pub record IsWhole (key : List ℕ) (old : Around) (story : List Ran) (unentered
 -- a node without a device. Where the last line was cut short, something of that may lack.
 abbrev pub DoesAsShown : List ℕ → Around → Around → Type 0
 DoesAsShown key old new = Always key old new
-    (λ story unentered. IsFairWorld key old → (whole : Bool) → (whole ≡ true → IsWhole key old story unentered) → DevicesDid whole old.devices new.devices (transcript key old story))
+    (λ story unentered. IsFairWorld key old story → (whole : Bool) → (whole ≡ true → IsWhole key old story unentered) → DevicesDid whole old.devices new.devices (transcript key old story))
 
 -- ---- the serial line
 
@@ -311,23 +316,13 @@ CollidesAsAsked key old new = AlwaysOf key old new (λ story. CollidesWhenAsked 
 abbrev pub MarksAsAsked : List ℕ → Around → Around → Type 0
 MarksAsAsked key old new = AlwaysOf key old new (λ story. MarksUnits (transcript key old story))
 
--- over a keeper that tells its records and had none at first, each frame of the controller carries what a unit that came before asked to be sent, one each and in order
+-- over a new keeper, each frame of the controller carries what a unit that came before asked to be sent, one each and in order
 abbrev pub CarriesWhatWasAsked : List ℕ → Around → Around → Type 0
-CarriesWhatWasAsked key old new = AlwaysOf key old new (λ story. old.records ≡ Some [] → CarriesUnits (transcript key old story))
+CarriesWhatWasAsked key old new = AlwaysOf key old new (λ story. TellsAtRestarts old story → CarriesUnits (transcript key old story))
 
--- and of these units only those count that arrive as the whole text of a request
-abbrev pub CarriesWhatWasWhole : List ℕ → Around → Around → Type 0
-CarriesWhatWasWhole key old new = AlwaysOf key old new (λ story. old.records ≡ Some [] → CarriesWhole (transcript key old story))
-
--- What the host asks to be sent is due, where a node has told of nonces in what its payloads open to, too. Where none of these opens to what tells of a nonce, and so where the chip
--- has brought nothing that is sealed, it is due by what was told openly.
-abbrev pub SendsAsTold : List ℕ → Around → Around → Type 0
-SendsAsTold key old new = AlwaysOf key old new (λ story. old.records ≡ Some [] → SendsWhatWasTold (listing_of old.devices) key (transcript key old story))
-
+-- and what it asks to be sent is due by what lines and nodes told, openly or sealed
 abbrev pub SendsAsDue : List ℕ → Around → Around → Type 0
-SendsAsDue key old new = AlwaysOf key old new
-    (λ story. old.records ≡ Some [] → EachAfter (SealsNoNonce key) [] (transcript key old story) ⊎ EachAfter BringsOpenly [] (transcript key old story)
-    → SendsWhatIsDue (listing_of old.devices) key (transcript key old story))
+SendsAsDue key old new = AlwaysOf key old new (λ story. TellsAtRestarts old story → SendsWhatIsDue (listing_of old.devices) key (transcript key old story))
 
 -- each payload that the chip writes the host from a node was heard before
 abbrev pub BringsHeard : List ℕ → Around → Around → Type 0
@@ -337,17 +332,23 @@ BringsHeard key old new = AlwaysOf key old new (λ story. BringsWhatWasHeard (tr
 abbrev pub OverrunsWithoutRoom : List ℕ → Around → Around → Type 0
 OverrunsWithoutRoom key old new = AlwaysOf key old new (λ story. OverrunsOnlyWhenFull (transcript key old story))
 
--- and over a keeper that tells its records and had none at first, each unit that has no room is
+-- and over a new keeper, each unit that has no room is
 abbrev pub OverrunsAsDue : List ℕ → Around → Around → Type 0
-OverrunsAsDue key old new = AlwaysOf key old new (λ story. old.records ≡ Some [] → OverrunsWhenFull (transcript key old story))
+OverrunsAsDue key old new = AlwaysOf key old new (λ story. TellsAtRestarts old story → OverrunsWhenFull (transcript key old story))
 
--- an answer stands only where a data frame of the other side has arrived and has none yet, over such a keeper
+-- an answer stands only where a data frame of the other side has arrived and has none yet, over a new keeper
 abbrev pub AnswersData : List ℕ → Around → Around → Type 0
-AnswersData key old new = AlwaysOf key old new (λ story. old.records ≡ Some [] → AnswersFrames (transcript key old story))
+AnswersData key old new = AlwaysOf key old new (λ story. TellsAtRestarts old story → AnswersFrames (transcript key old story))
 
--- and what a restart clears of a side is all bytes of the units of it that arrived last
-abbrev pub ClearsUnits : List ℕ → Around → Around → Type 0
-ClearsUnits key old new = AlwaysOf key old new (λ story. old.records ≡ Some [] → ClearsWholeUnits (transcript key old story))
+-- over a new keeper, both sides keep the rules of the link in time
+abbrev pub KeepsBothLinks : List ℕ → Around → Around → Type 0
+KeepsBothLinks key old new = AlwaysOf key old new
+    (λ story. TellsAtRestarts old story → (whole : Bool) → (whole ≡ true → AreSchedules (first key old) story) → KeepsLinks whole (transcript key old story))
+
+-- and with links that do, just what was on its way is told at each restart, and nowhere else
+abbrev pub ClearsWhatIsLost : List ℕ → Around → Around → Type 0
+ClearsWhatIsLost key old new = AlwaysOf key old new
+    (λ story. TellsAtRestarts old story → (whole : Bool) → (whole ≡ true → AreSchedules (first key old) story) → ClearsLine whole (transcript key old story))
 
 -- Bytes are cleared only directly after the words of a `restart`, no more than the pipe may hold; and what stands directly after those that were not refused is all
 -- that is told of them.
@@ -364,12 +365,6 @@ abbrev pub NumbersTicks : List ℕ → Around → Around → Type 0
 NumbersTicks key old new = AlwaysOf key old new (λ story. TellsTime (transcript key old story))
 
 -- ---- the headline
-
--- What the headline assumes of a run: where a line is `restart`, the keeper tells its records and had none at first; and the devices are as their makers left
--- them. Where several are of one node, the first of them is the device of that node.
-pub record IsFairRun (key : List ℕ) (old : Around) (story : List Ran) : Type 0 where
-  pub told : TellsAtRestarts old story
-  pub made : AllByRecursion (IsAsMade key) old.devices
 
 -- a law of such runs
 abbrev pub InFairRuns : List ℕ → Around → Around → (List Ran → Type 0) → Type 0
@@ -426,9 +421,7 @@ pub record StoriesKeepLaws (key : List ℕ) (old new : Around) : Type 0 where
   pub done_by : DoneByNodes key old new
   pub devices : DoesAsShown key old new
   pub carries : CarriesWhatWasAsked key old new
-  pub carries_whole : CarriesWhatWasWhole key old new
-  pub sends : SendsAsTold key old new
-  pub sends_due : SendsAsDue key old new
+  pub sends : SendsAsDue key old new
   pub brings : BringsHeard key old new
   pub collides : CollidesAsAsked key old new
   pub marks : MarksAsAsked key old new
@@ -436,6 +429,7 @@ pub record StoriesKeepLaws (key : List ℕ) (old new : Around) : Type 0 where
   pub overrun : OverrunsAsDue key old new
   pub acknowledges : AnswersData key old new
   pub clears : ClearsWhenRestarted key old new
-  pub clears_whole : ClearsUnits key old new
+  pub links : KeepsBothLinks key old new
+  pub clears_line : ClearsWhatIsLost key old new
   pub clears_only : ClearsNothingElse key old new
   pub ticks : NumbersTicks key old new

@@ -15,15 +15,14 @@ use Rattle.run_lines.specs.declared.status.Status.{Status}
 use Rattle.run_lines.specs.declared.status.Status.TheVariants.{Ok}
 use Rattle.run_lines.specs.Lines.{TextLine, lines_in}
 use Rattle.run_sim.specs.Sim.{SimRan, shown_text}
-use Rattle.proof_device.specs.Showing.{AreApart}
 use Rattle.law_transcript.specs.Nodes.{first_node, listing_of}
 use Rattle.law_transcript.specs.Restarts.{ticks_asked}
 use Rattle.law_transcript.specs.Table.{table_of}
 use Rattle.proof_audit.specs.Books.{IsOfItsKind}
 use Rattle.proof_audit.specs.Whole.{AnswersYes}
-use Rattle.proof_headline.specs.Supervised.{IsSupervisedNode}
+use Rattle.proof_audit.specs.Headline.{IsSupervisedNode}
 use Rattle.proof_commands.specs.Around.{Around}
-use Rattle.proof_commands.specs.Laws.{AreSchedules, IsFairRun, IsStory, Ran, TellsAtRestarts, events_of, first, lines_of, transcript}
+use Rattle.proof_commands.specs.Laws.{AreSchedules, IsFairWorld, IsStory, Ran, TellsAtRestarts, events_of, first, lines_of, transcript}
 
 -- `sim` ran so, with what it was given and what it leaves
 abbrev pub RunsSim : Status → Bool → List ℕ → Around → Around → Type 0
@@ -73,7 +72,7 @@ pub record WritesTable (quiet : Bool) (key : List ℕ) (old new : Around) (story
   pub table : Appends between new.written
       (transcript_text (table_of (listing_of old.devices) (ticks_asked (lines_run (transcript key old story))) (transcript key old story) new.devices))
 
--- so ends every run that ends well; where a line is `restart`, over a keeper that tells its records and had none at first
+-- so ends every run that ends well, over a new keeper
 abbrev pub EndsWithTable : Status → List ℕ → Around → Around → Type 0
 EndsWithTable ended key old new =
     ended ≡ Ok → (quiet : Bool) (story : List Ran) (unentered : List Event) → Tells ended quiet key old new story unentered → TellsAtRestarts old story
@@ -85,10 +84,9 @@ EndsWithTable ended key old new =
 abbrev pub WritesInOrder : Around → Around → Type 0
 WritesInOrder old new = (text : List ℕ) × Appends old.written new.written text × AnswersYes text
 
--- In a fair run, with one device a node, each of the kind that the number of its node tells, and node 2 among those that take commands in sessions.
+-- In a fair world each device is of the kind that the number of its node tells, and node 2 is among those that take commands in sessions.
 pub record IsAuditable (key : List ℕ) (old : Around) (story : List Ran) : Type 0 where
-  pub fair : IsFairRun key old story
-  pub apart : AreApart old.devices
+  pub world : IsFairWorld key old story
   pub kinds : AllByRecursion IsOfItsKind old.devices
   pub first : IsSupervisedNode old.devices first_node
 

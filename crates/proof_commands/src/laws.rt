@@ -8,9 +8,8 @@ ghost use Rattle.proof_commands.specs.Laws.{
   AppliesOnce,
   BringsHeard,
   CarriesWhatWasAsked,
-  CarriesWhatWasWhole,
   ClearsNothingElse,
-  ClearsUnits,
+  ClearsWhatIsLost,
   ClearsWhenRestarted,
   CollidesAsAsked,
   ConfirmsValues,
@@ -22,6 +21,7 @@ ghost use Rattle.proof_commands.specs.Laws.{
   HasHeadline,
   HasWholeHeadline,
   KeepsAir,
+  KeepsBothLinks,
   KeepsDevices,
   KeepsOrders,
   KeepsWell,
@@ -39,7 +39,6 @@ ghost use Rattle.proof_commands.specs.Laws.{
   ReportsAfterChange,
   RoutesFrames,
   SendsAsDue,
-  SendsAsTold,
   ShowsChanges,
   ShowsKeptDevices,
   ShowsStoredValues,
@@ -51,29 +50,29 @@ ghost use Rattle.proof_commands.specs.Laws.{
 };
 
 use crate::lines_are_read_as_said;
-use proof_air::{lines_are_done_by_devices, lines_bring_what_was_heard, lines_land_in_time};
-use proof_devices::devices_did;
-use proof_fates::{lines_meet_what_is_due, lines_repeat_what_is_asked};
-use proof_headline::{
+use proof_audit::headline::{
     askable_nodes_have_the_headline, devices_as_made_begin_courses, nodes_have_the_headline,
     nodes_report_after_the_change, supervised_nodes_are_plain_or_locks,
 };
-use proof_host::{asides_keep_facts, laws_follow};
-use proof_line::{
-    lines_answer_frames, lines_clear_at_restarts, lines_clear_nowhere_else,
-    lines_clear_whole_units, lines_collide_when_asked, lines_mark_units,
-    lines_overrun_only_when_full, lines_overrun_when_full, ticks_are_told,
+use proof_audit::transcript::{
+    all_frames_land_in_the_end, commands_are_taken_back_when_asked, lines_are_answered,
+    lines_carry_units, lines_lose_marked_frames, lines_number_frames, lines_show_what_is_kept,
+    records_are_what_is_shown, sessions_begin_with_their_unit, ticks_decide_each_frame,
+    values_are_stored_as_asked,
 };
-use proof_routes::{
+use proof_fates::air::{lines_are_done_by_devices, lines_bring_what_was_heard, lines_land_in_time};
+use proof_fates::devices::devices_did;
+use proof_fates::routes::{
     dead_hops_are_forgotten, dead_hops_are_forgotten_in_the_end, frames_go_by_route,
 };
-use proof_sending::{lines_send_what_is_due, lines_send_what_was_told};
-use proof_transcript::{
-    all_frames_land_in_the_end, commands_are_taken_back_when_asked, lines_are_answered,
-    lines_carry_units, lines_carry_whole_units, lines_lose_marked_frames, lines_number_frames,
-    lines_show_what_is_kept, records_are_what_is_shown, sessions_begin_with_their_unit,
-    ticks_decide_each_frame, values_are_stored_as_asked,
+use proof_fates::{lines_meet_what_is_due, lines_repeat_what_is_asked};
+use proof_host::{asides_keep_facts, laws_follow};
+use proof_sending::line::{
+    lines_answer_frames, lines_clear_at_restarts, lines_clear_nowhere_else, lines_clear_the_line,
+    lines_collide_when_asked, lines_keep_links, lines_mark_units, lines_overrun_only_when_full,
+    lines_overrun_when_full, ticks_are_told,
 };
+use proof_sending::lines_send_what_is_due;
 use proof_world::{
     lines_keep_and_ask_well, restarts_go_on, runs_take_once, the_machine_keeps_facts,
 };
@@ -185,7 +184,6 @@ fn stories_keep_air_laws()
     ensures repeats { (key : List ℕ) (old new : Around) → RepeatsAsAsked key old new }
     ensures meets { (key : List ℕ) (old new : Around) → MeetsFates key old new }
     ensures carries { (key : List ℕ) (old new : Around) → CarriesWhatWasAsked key old new }
-    ensures carries_whole { (key : List ℕ) (old new : Around) → CarriesWhatWasWhole key old new }
     ensures brings { (key : List ℕ) (old new : Around) → BringsHeard key old new }
     ensures collides { (key : List ℕ) (old new : Around) → CollidesAsAsked key old new }
     ensures marks { (key : List ℕ) (old new : Around) → MarksAsAsked key old new }
@@ -193,7 +191,8 @@ fn stories_keep_air_laws()
     ensures overrun { (key : List ℕ) (old new : Around) → OverrunsAsDue key old new }
     ensures clears { (key : List ℕ) (old new : Around) → ClearsWhenRestarted key old new }
     ensures acknowledges { (key : List ℕ) (old new : Around) → AnswersData key old new }
-    ensures clears_whole { (key : List ℕ) (old new : Around) → ClearsUnits key old new }
+    ensures links { (key : List ℕ) (old new : Around) → KeepsBothLinks key old new }
+    ensures clears_line { (key : List ℕ) (old new : Around) → ClearsWhatIsLost key old new }
     ensures nowhere { (key : List ℕ) (old new : Around) → ClearsNothingElse key old new }
     ensures ticks { (key : List ℕ) (old new : Around) → NumbersTicks key old new }
 {
@@ -210,7 +209,6 @@ fn stories_keep_air_laws()
     lines_repeat_what_is_asked();
     lines_meet_what_is_due();
     lines_carry_units();
-    lines_carry_whole_units();
     lines_bring_what_was_heard();
     lines_collide_when_asked();
     lines_mark_units();
@@ -218,7 +216,8 @@ fn stories_keep_air_laws()
     lines_overrun_when_full();
     lines_clear_at_restarts();
     lines_clear_nowhere_else();
-    lines_clear_whole_units();
+    lines_keep_links();
+    lines_clear_the_line();
     lines_answer_frames();
     ticks_are_told();
 }
@@ -231,13 +230,11 @@ fn stories_are_legal_on_air()
     stories_keep_air_laws();
 }
 
-/// What hosts send has its reason in lines that were said.
+/// What hosts send has its reason in lines that were said, and in what nodes told.
 fn stories_send_what_is_due()
-    ensures told { (key : List ℕ) (old new : Around) → SendsAsTold key old new }
-    ensures due { (key : List ℕ) (old new : Around) → SendsAsDue key old new }
+    ensures { (key : List ℕ) (old new : Around) → SendsAsDue key old new }
 {
     lines_are_read_as_said();
-    lines_send_what_was_told();
     lines_send_what_is_due();
 }
 

@@ -16,7 +16,7 @@ use Rattle.device_sim.specs.State.{State}
 use Rattle.device_sim.specs.Event.{DeviceEvent, device_after, device_replies}
 use Rattle.air_frames.specs.declared.frame.Heading.{Heading}
 use Rattle.air_frames.specs.declared.frame.Heading.TheVariants.{Outward, Homeward}
-use Rattle.mesh_sim.specs.declared.fate.Fate.TheVariants.{Lost, AtDevice}
+use Rattle.mesh_sim.specs.declared.fate.Fate.TheVariants.{Lost, AtChip, AtDevice}
 use Rattle.mesh_sim.specs.declared.event.AirEvent.{AirEvent}
 use Rattle.mesh_sim.specs.declared.event.AirEvent.TheVariants as air_event
 use Rattle.mesh_sim.specs.Air.{AirState, is_joined, departing}
@@ -24,12 +24,12 @@ use Rattle.mesh_sim.specs.Fates.{place_of, is_awake, awake_at, listener_of, fate
 use Rattle.mesh_sim.specs.Routes.{backwards}
 use Rattle.mesh_sim.specs.Steps.{changed, answers as air_answers, answers_if, outs_hearing}
 use Rattle.outside_model.specs.State.{OuterState, each}
-use Rattle.outside_model.specs.Air.{change_entries, change_at, deals, sent_entries}
+use Rattle.outside_model.specs.Air.{change_entries, change_at, deals}
 use Rattle.outside_model.specs.Results.{device_at}
 use Rattle.outside_model.specs.Devices.{changes_entries, new_changes, sends, acts}
 use Rattle.law_transcript.specs.Devices.{made_by}
 use Rattle.proof_device.proofs.KeptKinds.{event_same}
-use Rattle.proof_device.proofs.Others.{Others, flat_other, sent_other, to_chip_other, ends_other, none_made, made_both}
+use Rattle.proof_device.proofs.Others.{to_chip_other, ends_other, sends_other, none_made, made_both}
 
 -- ---- who moved, and what was shown
 
@@ -105,21 +105,18 @@ changes_apart n node (change ∷ changes) apart =
 
 -- ---- a device acts
 
-sends_others : (o : OuterState) (node : ℕ) (route : Option Route) (replies : List (List ℕ)) → Others (sends o node route replies).entries
-sends_others o node route replies = flat_other sent_entries sent_other (answers_if (is_joined o.air node) o.air node (option_map backwards route) replies)
-
 acts_here : (o : OuterState) (device : State) (event : DeviceEvent) (route : Option Route) → made device.node (acts o device event route).entries ≡ flat_map made_by (new_changes device event)
 acts_here o device event route =
     made_both device.node (changes_entries device.node (new_changes device event)) (sends o device.node route (device_replies device event)).entries
     ∙ (ap (λ (l : List Made). made device.node (changes_entries device.node (new_changes device event)) ++ l)
-    (none_made device.node (sends o device.node route (device_replies device event)).entries (sends_others o device.node route (device_replies device event)))
+    (none_made device.node (sends o device.node route (device_replies device event)).entries (sends_other o device.node route (device_replies device event)))
     ∙ (append-nil (made device.node (changes_entries device.node (new_changes device event))) ∙ changes_here device.node (new_changes device event)))
 
 acts_apart : (n : ℕ) (o : OuterState) (device : State) (event : DeviceEvent) (route : Option Route) → n ≢ device.node → made n (acts o device event route).entries ≡ []
 acts_apart n o device event route apart =
     made_both n (changes_entries device.node (new_changes device event)) (sends o device.node route (device_replies device event)).entries
     ∙ (ap (λ (l : List Made). l ++ made n (sends o device.node route (device_replies device event)).entries) (changes_apart n device.node (new_changes device event) apart)
-    ∙ none_made n (sends o device.node route (device_replies device event)).entries (sends_others o device.node route (device_replies device event)))
+    ∙ none_made n (sends o device.node route (device_replies device event)).entries (sends_other o device.node route (device_replies device event)))
 
 pub acts_told : (devices : List State) (o : OuterState) (place : ℕ) (device : State) (event : DeviceEvent) (route : Option Route) → slice_get devices place ≡ Some device
     → TellsOne (λ n. made n (acts o device event route).entries) devices (slice_set devices place (device_after device event))
@@ -183,13 +180,25 @@ awake_found devices (Some place) there e = by (is_awake (slice_get devices place
 pub listener_is : (node : ℕ) (devices : List State) (place : ℕ) → listener_of node devices ≡ Some place → place_of node devices ≡ Some place
 listener_is node devices place e = awake_found devices (place_of node devices) place e
 
+-- what its fate says of its way
+pub fate_home : (lost : Bool) (dead : Option (ℕ × ℕ)) (heading : Heading) (listener : Option ℕ) → (if lost then Lost else fate_by dead heading listener) ≡ AtChip → heading ≡ Homeward
+fate_home true dead heading listener is = absurd cc
+fate_home false (Some hop) heading listener is = absurd cc
+fate_home false None Homeward listener is = refl
+fate_home false None Outward (Some place) is = absurd cc
+fate_home false None Outward None is = absurd cc
+
+pub fate_out : (lost : Bool) (dead : Option (ℕ × ℕ)) (heading : Heading) (listener : Option ℕ) (place : ℕ)
+    → (if lost then Lost else fate_by dead heading listener) ≡ AtDevice place → (heading ≡ Outward) × (listener ≡ Some place)
+fate_out true dead heading listener place is = absurd cc
+fate_out false (Some hop) heading listener place is = absurd cc
+fate_out false None Homeward listener place is = absurd cc
+fate_out false None Outward (Some at) place is = let same : at ≡ place = cc in (refl, ap (λ (k : ℕ). Some k) same)
+fate_out false None Outward None place is = absurd cc
+
 pub fate_listens : (lost : Bool) (dead : Option (ℕ × ℕ)) (heading : Heading) (listener : Option ℕ) (place : ℕ)
     → (if lost then Lost else fate_by dead heading listener) ≡ AtDevice place → listener ≡ Some place
-fate_listens true dead heading listener place e = absurd cc
-fate_listens false (Some hop) heading listener place e = absurd cc
-fate_listens false None Homeward listener place e = absurd cc
-fate_listens false None Outward None place e = absurd cc
-fate_listens false None Outward (Some there) place e = let same : there ≡ place = cc in ap (λ (i : ℕ). Some i) same
+fate_listens lost dead heading listener place is = (fate_out lost dead heading listener place is).1
 
 -- ---- events of the air
 

@@ -1,6 +1,9 @@
 -- What a host puts out speaks of no change of a device either.
 use Rattle.std.proofs.Common.{ℕ, Option, Some, None, List, [], ◌∷◌, sym, subst}
-use Rattle.zw_base.proofs.Each.{all-append}
+use Rattle.zw_base.proofs.Each.{all-append, all-weaker}
+use Rattle.serial_frame.specs.declared.unit.Unit.{Unit as LineUnit}
+use Rattle.serial_pipes.specs.Events.{told}
+use Rattle.zw_words.specs.declared.side.Side.TheVariants.{Host as by_host}
 use Rattle.zw_text.specs.declared.entry.Entry.{Entry}
 use Rattle.host_model.specs.State.{HostState}
 use Rattle.host_model.specs.Events.{HostEvent, Accepts}
@@ -14,7 +17,8 @@ use Rattle.outside_model.specs.Did.{happens_all, entries_all}
 use Rattle.outside_model.proofs.EventLists.{entries_all-append}
 use Rattle.world_model.specs.State.{begun_in, noted_by, routed, routed_one}
 use Rattle.world_model.specs.Events.{notes}
-use Rattle.proof_device.proofs.Others.{IsOther, Others, stamp_other, write_other}
+use Rattle.proof_device.proofs.Entering.{IsOfChip, stamp_are, told_of_chip}
+use Rattle.proof_device.proofs.Others.{IsOther, Others, chip_other}
 use Rattle.proof_device.proofs.HostOuts.{OutIs, OutsAre, OwnIs, SharedAre, all_outs_are, answers_are}
 
 shared_other : SharedAre IsOther
@@ -38,7 +42,13 @@ own_other _ = tt
 
 pub note_other : (w : Outside) (e : Entry) → IsOther e → Others (entries w (Host_notes e))
 unfolding outcome
-note_other w e other = stamp_other w.outer (e ∷ []) (other, tt)
+note_other w e other = stamp_are IsOther (λ tick. tt) w.outer (e ∷ []) (other, tt)
+
+write_other : (w : Outside) (unit : LineUnit) → Others (entries w (Host_writes unit))
+unfolding outcome
+write_other w unit =
+    stamp_are IsOther (λ tick. tt) (outcome w (Host_writes unit)).outer (told by_host w.outer.to_chip unit)
+    (all-weaker IsOfChip IsOther chip_other (told by_host w.outer.to_chip unit) (told_of_chip by_host w.outer.to_chip unit))
 
 noted_other : (w : Outside) (begun : Option (ℕ × ℕ)) (e : Entry) → IsOther e → Others (entries_all w (noted_by begun e))
 unfolding outcome

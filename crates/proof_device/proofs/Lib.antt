@@ -4,6 +4,7 @@ pub mod DevicePlaces
 pub mod Once
 pub mod Entered
 pub mod Results
+pub mod Entering
 pub mod Others
 pub mod HostOuts
 mod HostOthers

@@ -13,11 +13,11 @@ use Rattle.air_frames.specs.declared.ages.Refusal.{Refusal}
 use Rattle.mesh_sim.specs.declared.fate.Fate.{Fate}
 use Rattle.mesh_sim.specs.declared.fate.Fate.TheVariants.{Lost, Dead, Missed, AtChip, AtDevice}
 use Rattle.mesh_sim.specs.Fates.{Mesh, place_of, listener_of, fate_of}
-use Rattle.mesh_sim.specs.Steps.{AirStep, heard_at, heard_again, landed, acknowledged, arriving_as, arriving, repeating_by, repeating, mesh_after}
+use Rattle.mesh_sim.specs.Steps.{heard_at, heard_again, landed, acknowledged, arriving_as, arriving, repeating_by, repeating, mesh_after}
 use Rattle.mesh_sim.specs.Steps as mesh
 use Rattle.outside_model.specs.State.{Outside}
 use Rattle.outside_model.specs.Devices.{device_set, set_by_hand}
-use Rattle.outside_model.specs.Events.{OuterEvent, Begins_line, Begins_tick, Host_writes, Host_takes, Host_notes, Host_begins, Chip_takes, Arrives, Gives, Device_ticks, Chip_ticks, Repeats, Wakes_device, Sets_device, Shows, Joins, Discovers, Links, Loses, Loses_acks, Marks_loss, Marks_change, Clears_pipe, Collides_next, Stalls, Cuts, mesh_of, devices_repeated, devices_after}
+use Rattle.outside_model.specs.Events.{OuterEvent, Arrives, Device_ticks, Repeats, Wakes_device, Sets_device, mesh_of, devices_repeated, devices_after}
 use Rattle.proof_device.specs.GoingOn.{MovesOne}
 
 stays : (devices : List State) → MovesOne devices devices
@@ -75,24 +75,4 @@ one_moves w (Repeats number drawn route) = repeats_moves w (refusal_of w.outer.a
 one_moves w (Device_ticks place drawn route) = set_moves w.devices place (slice_get w.devices place) (Ticks drawn) refl
 one_moves w (Wakes_device node route) = hand_moves w.devices (place_of node w.devices) Wakes
 one_moves w (Sets_device node value route) = hand_moves w.devices (place_of node w.devices) (Sets value)
-one_moves w Begins_line = stays w.devices
-one_moves w Begins_tick = stays w.devices
-one_moves w (Host_writes unit) = stays w.devices
-one_moves w (Host_takes count) = stays w.devices
-one_moves w (Host_notes entry) = stays w.devices
-one_moves w (Host_begins node sessions) = stays w.devices
-one_moves w (Chip_takes count rest ways) = stays w.devices
-one_moves w (Gives route) = stays w.devices
-one_moves w Chip_ticks = stays w.devices
-one_moves w (Shows node) = stays w.devices
-one_moves w (Joins node) = stays w.devices
-one_moves w Discovers = stays w.devices
-one_moves w (Links a b live) = stays w.devices
-one_moves w (Loses count) = stays w.devices
-one_moves w (Loses_acks count) = stays w.devices
-one_moves w (Marks_loss side) = stays w.devices
-one_moves w (Marks_change side garble) = stays w.devices
-one_moves w (Clears_pipe side) = stays w.devices
-one_moves w Collides_next = stays w.devices
-one_moves w (Stalls ticks) = stays w.devices
-one_moves w (Cuts size) = stays w.devices
+one_moves w event = stays w.devices

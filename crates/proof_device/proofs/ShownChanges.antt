@@ -136,17 +136,17 @@ show_set T (d ∷ devices) (suc place) device other apart at shows elsewhere = (
   show_set T devices place device other apart.1 at shows elsewhere,
 )
 
-apart_node : (old new : List State) (n n' : ℕ) → n' ≡ n → AreSame old new → AllByRecursion (λ (s : State). s.node ≢ n) old → AllByRecursion (λ (s : State). s.node ≢ n') new
+pub apart_node : (old new : List State) (n n' : ℕ) → n' ≡ n → AreSame old new → AllByRecursion (λ (s : State). s.node ≢ n) old → AllByRecursion (λ (s : State). s.node ≢ n') new
 apart_node [] [] n n' e same all = tt
 apart_node [] (y ∷ new) n n' e same all = absurd same
 apart_node (x ∷ old) [] n n' e same all = absurd same
 apart_node (x ∷ old) (y ∷ new) n n' e same all = ((λ at. all.0 (sym same.0.node ∙ (at ∙ e))), apart_node old new n n' e same.1 all.1)
 
-stay_apart : (old new : List State) → AreSame old new → AreApart old → AreApart new
-stay_apart [] [] same apart = tt
-stay_apart [] (y ∷ new) same apart = absurd same
-stay_apart (x ∷ old) [] same apart = absurd same
-stay_apart (x ∷ old) (y ∷ new) same apart = (apart_node old new x.node y.node same.0.node same.1 apart.0, stay_apart old new same.1 apart.1)
+pub stays_apart : (old new : List State) → AreSame old new → AreApart old → AreApart new
+stays_apart [] [] same apart = tt
+stays_apart [] (y ∷ new) same apart = absurd same
+stays_apart (x ∷ old) [] same apart = absurd same
+stays_apart (x ∷ old) (y ∷ new) same apart = (apart_node old new x.node y.node same.0.node same.1 apart.0, stays_apart old new same.1 apart.1)
 
 -- ---- events of the machine
 
@@ -201,7 +201,7 @@ module _ (adds : Adds) (goes : (m : Machine) (event : Event) → GoOn m.outside.
       let are = same m.outside.devices (happens m e).outside.devices (goes m e) in
       show_then (entries m e) (entries_all (happens m e) events) m.outside.devices (happens m e).outside.devices (happens_all (happens m e) events).outside.devices are
       (event_shows m e may.0 apart)
-      (run_shows (happens m e) events may.1 (stay_apart m.outside.devices (happens m e).outside.devices are apart))
+      (run_shows (happens m e) events may.1 (stays_apart m.outside.devices (happens m e).outside.devices are apart))
 
 -- ---- from the first change on
 

@@ -5,7 +5,6 @@ use Rattle.std.specs.List.{flat_map}
 use Rattle.zw_text.specs.declared.entry.Entry.{Entry}
 use Rattle.zw_text.specs.Transcript.{Made, made}
 use Rattle.route_table.specs.declared.route.Route.{Route}
-use Rattle.chip_sim.specs.Did.{judged_all}
 use Rattle.device_sim.specs.State.{State}
 use Rattle.device_sim.specs.Event.{DeviceEvent, Hears, Ticks, Wakes, Sets, device_after}
 use Rattle.air_frames.specs.declared.frame.Heading.{Heading}
@@ -23,10 +22,9 @@ use Rattle.mesh_sim.specs.Fates.{Mesh, place_of, listener_of, fate_of, dead_hop_
 use Rattle.mesh_sim.specs.Steps.{AirStep, done_of, status_of, heard_at, outs_at, landed, acknowledged, arriving_as, arriving, arrival_outs_as, arrival_outs, heard_again, outs_again, repeating_by, repeating, repeat_outs_by, repeat_outs, mesh_after, mesh_outs}
 use Rattle.mesh_sim.specs.Steps as mesh
 use Rattle.outside_model.specs.State.{OuterState, Outside}
-use Rattle.outside_model.specs.Chip.{chip_does}
 use Rattle.outside_model.specs.Devices.{acts_at, device_set, acts_by_hand, set_by_hand}
-use Rattle.outside_model.specs.Events.{OuterEvent, Begins_line, Begins_tick, Host_writes, Host_takes, Host_notes, Host_begins, Chip_takes, Arrives, Gives, Device_ticks, Chip_ticks, Repeats, Wakes_device, Sets_device, Shows, Joins, Discovers, Links, Loses, Loses_acks, Marks_loss, Marks_change, Clears_pipe, Collides_next, Stalls, Cuts, is_own, mesh_of, steps, repeats, devices_repeated, outcome, devices_after, entries}
-use Rattle.proof_device.proofs.Others.{Others, each_other, does_other, gives_other, shown_other, cleared_other, told_other, none_made, made_stamped}
+use Rattle.outside_model.specs.Events.{OuterEvent, Host_notes, Arrives, Device_ticks, Repeats, Wakes_device, Sets_device, is_own, mesh_of, steps, repeats, devices_repeated, outcome, devices_after, entries}
+use Rattle.proof_device.proofs.Others.{Others, none_made, made_stamped, outcome_other}
 use Rattle.proof_device.proofs.ChangesOutside.{TellsOne, tells_as, acts_told, of_event, each_made, hearing_told, Grows, listener_is, fate_listens}
 
 still : (devices : List State) (told : List Entry) → Others told → TellsOne (λ n. made n told) devices devices
@@ -120,35 +118,16 @@ module _ (grows : Grows) where
 
   outcome_told : (w : Outside) (event : OuterEvent) → is_own event ≡ true → TellsOne (λ n. made n (outcome w event).entries) w.devices (devices_after w event)
   unfolding outcome devices_after
-  outcome_told w Begins_line own = still w.devices (outcome w Begins_line).entries tt
-  outcome_told w Begins_tick own = still w.devices (outcome w Begins_tick).entries tt
-  outcome_told w (Host_writes unit) own = still w.devices (outcome w (Host_writes unit)).entries (told_other _ w.outer.to_chip unit)
-  outcome_told w (Host_takes count) own = still w.devices (outcome w (Host_takes count)).entries tt
   outcome_told w (Host_notes entry) own = absurd (none own)
     where
       none : false ≡ true → ⊥
       none e = cc
-  outcome_told w (Host_begins node sessions) own = still w.devices (outcome w (Host_begins node sessions)).entries tt
-  outcome_told w (Chip_takes count rest ways) own = still w.devices (outcome w (Chip_takes count rest ways)).entries (each_other chip_does does_other _ (judged_all ways))
   outcome_told w (Arrives drawn route) own = arrival_told w drawn route
-  outcome_told w (Gives route) own = still w.devices (outcome w (Gives route)).entries (gives_other w.outer w.devices w.outer.due route)
   outcome_told w (Device_ticks place drawn route) own = at_told w.outer w.devices place (slice_get w.devices place) (Ticks drawn) route refl
-  outcome_told w Chip_ticks own = still w.devices (outcome w Chip_ticks).entries (does_other _ _)
   outcome_told w (Repeats number drawn route) own = repeats_told w (refusal_of w.outer.air.frames number) number drawn route
   outcome_told w (Wakes_device node route) own = hand_told w.outer w.devices (place_of node w.devices) Wakes route
   outcome_told w (Sets_device node value route) own = hand_told w.outer w.devices (place_of node w.devices) (Sets value) route
-  outcome_told w (Shows node) own = still w.devices (outcome w (Shows node)).entries (shown_other node _)
-  outcome_told w (Joins node) own = still w.devices (outcome w (Joins node)).entries tt
-  outcome_told w Discovers own = still w.devices (outcome w Discovers).entries tt
-  outcome_told w (Links a b live) own = still w.devices (outcome w (Links a b live)).entries tt
-  outcome_told w (Loses count) own = still w.devices (outcome w (Loses count)).entries tt
-  outcome_told w (Loses_acks count) own = still w.devices (outcome w (Loses_acks count)).entries tt
-  outcome_told w (Marks_loss side) own = still w.devices (outcome w (Marks_loss side)).entries tt
-  outcome_told w (Marks_change side garble) own = still w.devices (outcome w (Marks_change side garble)).entries tt
-  outcome_told w (Clears_pipe side) own = still w.devices (outcome w (Clears_pipe side)).entries (cleared_other side _)
-  outcome_told w Collides_next own = still w.devices (outcome w Collides_next).entries tt
-  outcome_told w (Stalls ticks) own = still w.devices (outcome w (Stalls ticks)).entries tt
-  outcome_told w (Cuts size) own = still w.devices (outcome w (Cuts size)).entries tt
+  outcome_told w event own = still w.devices (outcome w event).entries (outcome_other w event tt (λ acts. acts))
 
   -- an event that is not the host's
   pub own_told : (w : Outside) (event : OuterEvent) → is_own event ≡ true → TellsOne (λ n. made n (entries w event)) w.devices (devices_after w event)

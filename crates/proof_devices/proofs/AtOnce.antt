@@ -1,6 +1,6 @@
 -- Before each entry that shows no doing, each device has done all that came to it, and all of that is shown.
 use Rattle.std.proofs.Common.{◌≡◌, ◌≢◌, ◌⊎◌, inl, inr, ℕ, zero, suc, ◌==◌, ◌&&◌, not, Bool, true, false, if◌then◌else◌, List, [], ◌∷◌, ◌++◌, refl, sym, ap, subst, ◌∙◌, append-nil, append_assoc}
-use Rattle.std.proofs.lemmas.Bool.{eq-eqb, eqb-true, ne_eqb}
+use Rattle.std.proofs.lemmas.Bool.{eqb-true}
 use Rattle.std.specs.Option.{option_map}
 use Rattle.std.specs.Prelude.{Option, Some, None, slice_get}
 use Rattle.std.specs.List.{AllByRecursion}
@@ -11,7 +11,7 @@ use Rattle.zw_text.specs.declared.entry.Entry.TheVariants as entry
 use Rattle.law_transcript.specs.Lists.{EachAfter}
 use Rattle.law_transcript.specs.Nodes.{controller, device_of}
 use Rattle.law_wire.specs.Asked.{clock_of}
-use Rattle.law_wire.specs.Doings.{HasDone, doers_of}
+use Rattle.law_wire.specs.Doings.{HasDone}
 use Rattle.outside_model.specs.State.{OuterState}
 use Rattle.outside_model.specs.Events.{stamp, ticked_entry}
 use Rattle.world_model.specs.State.{Machine}
@@ -21,27 +21,13 @@ use Rattle.proof_walk.specs.Outside.{nothing}
 use Rattle.proof_device.specs.GoingOn.{GoOn}
 use Rattle.proof_device.proofs.DevicePlaces.{go_same}
 use Rattle.proof_air.specs.Logs.{Tie as TieAir}
-use Rattle.proof_devices.proofs.Quiet.{IsIdle, AreIdle, IsOwn, AreOwn, number_idle}
+use Rattle.proof_device.proofs.Entering.{AreOwn}
+use Rattle.proof_devices.proofs.Quiet.{IsIdle, AreIdle, number_idle}
 use Rattle.proof_devices.proofs.Telling.{IsHearing, TellsOf, event_tells}
 use Rattle.proof_devices.proofs.Hearing.{ToHome, Enters, EntersDevice}
 use Rattle.proof_devices.proofs.Replies.{was_there}
-use Rattle.proof_devices.proofs.Had.{Asks, Had, had_back, had_on, did_so}
+use Rattle.proof_devices.proofs.Had.{Asks, Had, had_back, had_on, did_so, idle_doers, own_doers}
 use Rattle.proof_devices.proofs.Clocks.{MayAt, OfAll}
-
--- ---- entries
-
-idle_doers : (e : Entry) → IsIdle e → doers_of e ≡ []
-idle_doers (entry.Air frame sender receiver repeaters payload) idle = ap (λ (b : Bool). if b then [] else sender ∷ []) (eq-eqb sender controller idle)
-idle_doers (entry.Dev at by setting) idle = absurd idle
-idle_doers (entry.Said words) idle = absurd idle
-idle_doers (entry.Heard frame) idle = absurd idle
-idle_doers e idle = refl
-
-own_doers : (node : ℕ) → node ≢ controller → (e : Entry) → IsOwn node e → doers_of e ≡ node ∷ []
-own_doers node apart (entry.Dev at by setting) own = ap (λ (n : ℕ). n ∷ []) own
-own_doers node apart (entry.Air frame sender receiver repeaters payload) own =
-    ap (λ (b : Bool). if b then [] else sender ∷ []) (ne_eqb sender controller (λ is. apart (sym own ∙ is))) ∙ ap (λ (n : ℕ). n ∷ []) own
-own_doers node apart e own = absurd own
 
 -- in the ticks that have begun, but perhaps the running one
 pub record HadBy (clock : ℕ) (past : List Entry) (node : ℕ) (old : State) : Type 0 where

@@ -1,7 +1,6 @@
 -- The changes that the devices have made are shown, at each phase of a line.
-use Rattle.std.proofs.Common.{◌≡◌, ◌≢◌, ℕ, zero, suc, List, [], ◌∷◌, ◌++◌, refl, sym, subst, ◌∙◌}
+use Rattle.std.proofs.Common.{◌≡◌, ℕ, zero, suc, List, [], ◌∷◌, ◌++◌, refl, subst}
 use Rattle.std.specs.Prelude.{Some, slice_get}
-use Rattle.std.specs.List.{AllByRecursion}
 use Rattle.device_sim.specs.State.{State}
 use Rattle.zw_text.specs.declared.line.Line.{Line}
 use Rattle.zw_text.specs.declared.entry.Entry.{Entry}
@@ -14,6 +13,7 @@ use Rattle.proof_device.specs.GoingOn.{GoOn, AreSame}
 use Rattle.proof_device.specs.Showing.{AllShow, AreApart, Shows}
 use Rattle.proof_device.proofs.DevicePlaces.{go_none, go_then, go_same, machine_goes}
 use Rattle.proof_device.proofs.ShownChanges.{show_none, show_then}
+pub use Rattle.proof_device.proofs.ShownChanges.{stays_apart}
 use Rattle.proof_walk.specs.Phases.{Phase, Between, Said_line, Goes}
 use Rattle.proof_walk.specs.Walk.{Walk}
 use Rattle.proof_devices.specs.Living.{MayAny}
@@ -22,18 +22,6 @@ use Rattle.proof_devices.proofs.Numbers.{each_any}
 -- the devices have gone on, and their changes are shown
 abbrev pub KnowChanges : List State → Phase → List Entry → Machine → Type 0
 KnowChanges olds here past m = GoOn olds m.outside.devices × AllShow past olds m.outside.devices
-
-none_has : (olds news : List State) (n now : ℕ) → now ≡ n → AreSame olds news → AllByRecursion (λ (s : State). s.node ≢ n) olds → AllByRecursion (λ (s : State). s.node ≢ now) news
-none_has [] [] n now is same all = tt
-none_has [] (new ∷ news) n now is same all = absurd same
-none_has (old ∷ olds) [] n now is same all = absurd same
-none_has (old ∷ olds) (new ∷ news) n now is same all = ((λ at. all.0 (sym same.0.node ∙ (at ∙ is))), none_has olds news n now is same.1 all.1)
-
-pub stays_apart : (olds news : List State) → AreSame olds news → AreApart olds → AreApart news
-stays_apart [] [] same apart = tt
-stays_apart [] (new ∷ news) same apart = absurd same
-stays_apart (old ∷ olds) [] same apart = absurd same
-stays_apart (old ∷ olds) (new ∷ news) same apart = (none_has olds news old.node new.node same.0.node same.1 apart.0, stays_apart olds news same.1 apart.1)
 
 module _ (olds : List State) (apart : AreApart olds) (shows : (m : Machine) (event : Event) → May m event → AreApart m.outside.devices → AllShow (entries m event) m.outside.devices (happens m event).outside.devices) where
   said : (past : List Entry) (m : Machine) (words : List ℕ) (line : Line) → line_of (Said words) ≡ line ∷ [] → KnowChanges olds Between past m

@@ -18,9 +18,10 @@ use Rattle.proof_walk.specs.Outside.{Moves, Link, CoversOuter, Known}
 use Rattle.proof_walk.proofs.Linking.{of_link}
 use Rattle.proof_walk.proofs.Machines.{machine_keeps}
 use Rattle.proof_walk.proofs.Untimed.{IsUntimed, AreUntimed, same_lines, untimed_law}
+use Rattle.proof_air.proofs.SentBefore.{same_clock}
 use Rattle.proof_devices.specs.Living.{GoesWithin}
 use Rattle.proof_devices.proofs.Numbers.{hosts, number_is}
-use Rattle.proof_devices.proofs.Had.{Asks, Had, same_clock_of}
+use Rattle.proof_devices.proofs.Had.{Asks, Had}
 
 -- of the first device of each node but the controller's
 abbrev pub OfAll : List State → (ℕ → State → Type 0) → Type 0
@@ -51,7 +52,7 @@ module _ (olds : List State) (clock : ℕ) where
 
   all_may : (past told : List Entry) → AreUntimed told → clock_of past ≡ clock → EachAfter (MayAt olds clock) past told
   all_may past [] untimed at = tt
-  all_may past (e ∷ told) untimed at = (untimed_may past e untimed.0 at, all_may (past ++ e ∷ []) told untimed.1 (same_clock_of past (e ∷ []) (untimed.0, tt) ∙ at))
+  all_may past (e ∷ told) untimed at = (untimed_may past e untimed.0 at, all_may (past ++ e ∷ []) told untimed.1 (same_clock past (e ∷ []) (untimed.0, tt) ∙ at))
 
   goes : (w later : Outside) (told : List Entry) → AreUntimed told → later.outer.clock ≡ w.outer.clock → Moves (MayAt olds clock) (Waits olds clock) w told (Waits olds clock) later
   goes w later told untimed same awaits past silent known = (
@@ -61,7 +62,7 @@ module _ (olds : List State) (clock : ℕ) where
       had = λ is node old apart found.
           let had = known.had is node old apart found in
           (had.0, had.1, subst (Had had.0 node old) (sym (ap (λ (l : List Entry). past ++ l) (silent is) ∙ append-nil past)) had.2);
-      at = λ is. same_clock_of past told untimed ∙ known.at is;
+      at = λ is. same_clock past told untimed ∙ known.at is;
       before = subst (λ (l : List Line). ticks_asked (take (length l - 1) l) ≤ clock) (sym (same_lines past told untimed)) known.before;
     },
   )

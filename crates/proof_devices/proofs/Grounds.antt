@@ -9,10 +9,10 @@ use Rattle.zw_text.specs.Transcript.{line_last}
 use Rattle.world_model.specs.State.{Machine}
 use Rattle.world_model.specs.Events.{Event}
 use Rattle.proof_walk.specs.Phases.{Phase}
+use Rattle.proof_walk.proofs.ByLine.{last_is}
 use Rattle.proof_routes.specs.Knowing.{Else, IsPlain, Left, KnowNetworks}
 use Rattle.proof_devices.specs.Living.{Keeping, Simply, IsActing, ActsWith}
 use Rattle.proof_devices.proofs.Joined.{asleep_joins}
-use Rattle.proof_devices.proofs.Numbers.{last_is}
 use Rattle.proof_devices.proofs.Keeping.{Grounds}
 use Rattle.proof_devices.proofs.Replies.{JoinsAs, JoinsAny}
 

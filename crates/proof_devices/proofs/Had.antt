@@ -1,20 +1,17 @@
 -- What a device has had and done so far, by the transcript so far alone: it is the same over entries of which no device did anything.
-use Rattle.std.proofs.Common.{◌≡◌, ◌≢◌, ◌⊎◌, ℕ, suc, Bool, if◌then◌else◌, List, [], ◌∷◌, ◌++◌, max, take, length, ◌-◌, refl, sym, ap, ap₂, subst, ◌∙◌, append-nil}
+use Rattle.std.proofs.Common.{◌≡◌, ◌≢◌, ◌⊎◌, ℕ, suc, Bool, if◌then◌else◌, List, [], ◌∷◌, ◌++◌, ◌-◌, refl, sym, ap, subst, ◌∙◌, append-nil}
 use Rattle.std.proofs.lemmas.Bool.{eq-eqb, ne_eqb}
 use Rattle.device_sim.specs.State.{State}
 use Rattle.device_sim.specs.Event.{DeviceEvent}
-use Rattle.zw_text.specs.declared.line.Line.{Line}
 use Rattle.zw_text.specs.declared.entry.Entry.{Entry}
 use Rattle.zw_text.specs.declared.entry.Entry.TheVariants as entry
 use Rattle.zw_text.specs.Transcript.{Made, made, made_at}
 use Rattle.zw_text.proofs.Views.{shown-append}
 use Rattle.law_transcript.specs.Devices.{ChangedAsShown, after_events, brought, comings, events_unjoined, replies_joined, sent_from, ticks_lived}
 use Rattle.law_transcript.specs.Nodes.{controller}
-use Rattle.law_transcript.specs.Restarts.{ticks_asked}
-use Rattle.law_wire.specs.Asked.{clock_of}
 use Rattle.law_wire.specs.Doings.{DidSoFar, HasDone, IsAge, doers_of}
-use Rattle.proof_walk.proofs.Untimed.{AreUntimed, same_lines, same_time}
-use Rattle.proof_devices.proofs.Quiet.{IsIdle, AreIdle, IsOwn, idle_quiet}
+use Rattle.proof_device.proofs.Entering.{IsOwn}
+use Rattle.proof_devices.proofs.Quiet.{IsIdle, AreIdle, idle_quiet}
 use Rattle.proof_devices.proofs.Shown.{still_brought}
 use Rattle.proof_devices.proofs.Joined.{are_unsaid, none_unjoined, unjoined_same}
 use Rattle.proof_devices.proofs.Replies.{replies_from}
@@ -80,19 +77,15 @@ pub record HadBy (clock node : ℕ) (old : State) (past : List Entry) : Type 0 w
 abbrev pub Asks : ℕ → State → List Entry → Entry → Type 0
 Asks node old past e = HasDone node old past e (doers_of e)
 
-idle_doers : (e : Entry) → IsIdle e → doers_of e ≡ []
+pub idle_doers : (e : Entry) → IsIdle e → doers_of e ≡ []
 idle_doers (entry.Air frame sender receiver repeaters payload) idle = ap (λ (b : Bool). if b then [] else sender ∷ []) (eq-eqb sender controller idle)
 idle_doers (entry.Dev at by setting) idle = absurd idle
 idle_doers (entry.Said words) idle = absurd idle
 idle_doers (entry.Heard frame) idle = absurd idle
 idle_doers e idle = refl
 
-own_doers : (node : ℕ) → node ≢ controller → (e : Entry) → IsOwn node e → doers_of e ≡ node ∷ []
+pub own_doers : (node : ℕ) → node ≢ controller → (e : Entry) → IsOwn node e → doers_of e ≡ node ∷ []
 own_doers node apart (entry.Dev at by setting) own = ap (λ (n : ℕ). n ∷ []) own
 own_doers node apart (entry.Air frame sender receiver repeaters payload) own =
     ap (λ (b : Bool). if b then [] else sender ∷ []) (ne_eqb sender controller (λ is. apart (sym own ∙ is))) ∙ ap (λ (n : ℕ). n ∷ []) own
 own_doers node apart e own = absurd own
-
-pub same_clock_of : (past told : List Entry) → AreUntimed told → clock_of (past ++ told) ≡ clock_of past
-same_clock_of past told untimed =
-    ap₂ (λ (n : ℕ) (l : List Line). max n (ticks_asked (take (length l - 1) l))) (same_time past told untimed) (same_lines past told untimed)

@@ -23,7 +23,7 @@ use Rattle.world_model.specs.Events.{Event, entries, May}
 use Rattle.world_model.specs.Did.{MayAll, entries_all}
 use Rattle.proof_device.specs.Showing.{AreApart}
 use Rattle.proof_device.proofs.DevicePlaces.{go_same}
-use Rattle.proof_walk.specs.Outside.{nothing}
+use Rattle.proof_walk.specs.Outside.{HasNoWords, nothing}
 use Rattle.proof_walk.specs.Phases.{Phase, Said_line, Begun, Doing, Ticked, Arriving, Giving, Ticking_devices}
 use Rattle.proof_air.specs.Logs.{Tie as TieAir}
 use Rattle.proof_devices.specs.Living.{Answers, InTick, Keeping, KnowLives, LivedWith, RestedWith, SayingWith, Tie, lived_in}
@@ -34,7 +34,6 @@ use Rattle.proof_devices.proofs.Joined.{IsUnsaid, are_unsaid, no_lines, none_unj
 use Rattle.proof_devices.proofs.Sent.{sent_both}
 use Rattle.proof_devices.proofs.Keeping.{Keeps}
 use Rattle.proof_devices.proofs.Places.{same_place}
-use Rattle.proof_devices.proofs.Wordless.{IsNoWords}
 use Rattle.proof_devices.proofs.Hearing.{ToHome, Enters, EntersDevice, enters_by, heard_came, heard_unsaid}
 use Rattle.proof_devices.proofs.Replies.{JoinsAs, answers_keep, from_none, replies_from}
 use Rattle.proof_devices.proofs.Changes.{show_at}
@@ -230,15 +229,15 @@ events_few node past m (event ∷ (next ∷ more)) few air may = absurd (omega (
 
 -- ---- the entries before the last line
 
-skips : (found past : List Entry) (e : Entry) (rest : List Entry) → IsNoWords e → before_line_from found past (e ∷ rest) ≡ before_line_from found (past ++ e ∷ []) rest
+skips : (found past : List Entry) (e : Entry) (rest : List Entry) → HasNoWords e → before_line_from found past (e ∷ rest) ≡ before_line_from found (past ++ e ∷ []) rest
 skips found past (entry.Said words) rest none = absurd none
 skips found past e rest none = refl
 
-none_said : (found past told : List Entry) → AllByRecursion IsNoWords told → before_line_from found past told ≡ found
+none_said : (found past told : List Entry) → AllByRecursion HasNoWords told → before_line_from found past told ≡ found
 none_said found past [] none = refl
 none_said found past (e ∷ told) none = skips found past e told none.0 ∙ none_said found (past ++ e ∷ []) told none.1
 
-last_said : (found past front : List Entry) (words : List ℕ) (told : List Entry) → AllByRecursion IsNoWords told → before_line_from found past (front ++ entry.Said words ∷ told) ≡ past ++ front
+last_said : (found past front : List Entry) (words : List ℕ) (told : List Entry) → AllByRecursion HasNoWords told → before_line_from found past (front ++ entry.Said words ∷ told) ≡ past ++ front
 last_said found past [] words told none = none_said past (past ++ entry.Said words ∷ []) told none ∙ sym (append-nil past)
 last_said found past (e ∷ front) words told none = by e (λ f p. last_said f p front words told none) ∙ append_assoc past (e ∷ []) front
   where
@@ -251,7 +250,7 @@ last_said found past (e ∷ front) words told none = by e (λ f p. last_said f p
 
 module _ (olds : List State) (apart : AreApart olds) (front : List Entry) (words : List ℕ) (told more : List Entry) (n0 n : Machine) (here0 here : Phase)
     (known0 : KnowTogether (AnswersFrom front) olds here0 (front ++ entry.Said words ∷ told) n0) (known : KnowTogether (AnswersFrom front) olds here ((front ++ entry.Said words ∷ told) ++ more) n)
-    (none : AllByRecursion IsNoWords told) (node : ℕ) (old new0 new : State) (other : node ≢ controller) (before : device_of node olds ≡ Some old)
+    (none : AllByRecursion HasNoWords told) (node : ℕ) (old new0 new : State) (other : node ≢ controller) (before : device_of node olds ≡ Some old)
     (after0 : device_of node n0.outside.devices ≡ Some new0) (after : device_of node n.outside.devices ≡ Some new)
     (few : Few old.node (front ++ entry.Said words ∷ told) more) where
   abbrev entered : List Entry

@@ -1,5 +1,5 @@
 -- A frame that arrives, or is heard again: the first device of its node hears it where it goes to a node, and no device where it goes to the controller; that it was heard is entered first.
-use Rattle.std.proofs.Common.{◌≡◌, ◌≢◌, ℕ, zero, suc, ◌+◌, ◌-◌, ◌==◌, ◌≤◌, Bool, true, false, if◌then◌else◌, List, [], ◌∷◌, ◌++◌, length, refl, sym, ap, subst, ◌∙◌, append-nil, append_assoc, inl, inr, ◌⊎◌, arith}
+use Rattle.std.proofs.Common.{◌≡◌, ◌≢◌, ℕ, ◌+◌, ◌-◌, ◌==◌, ◌≤◌, Bool, true, false, if◌then◌else◌, List, [], ◌∷◌, ◌++◌, length, refl, sym, ap, subst, ◌∙◌, append-nil, append_assoc, inl, inr, ◌⊎◌, arith}
 use Rattle.std.proofs.lemmas.Bool.{ne_eqb, eq-eqb}
 use Rattle.std.specs.Prelude.{Option, Some, None, slice_get, slice_set}
 use Rattle.std.specs.Option.{option_map}
@@ -20,11 +20,11 @@ use Rattle.mesh_sim.specs.declared.event.AirEvent.{AirEvent}
 use Rattle.mesh_sim.specs.declared.event.AirEvent.TheVariants as air_event
 use Rattle.mesh_sim.specs.declared.fate.Fate.{Fate}
 use Rattle.mesh_sim.specs.declared.fate.Fate.TheVariants as fate
-use Rattle.mesh_sim.specs.Air.{AirState, is_joined, departing}
-use Rattle.mesh_sim.specs.Fates.{Mesh, dead_hop_of, fate_by, fate_of, listener_of, place_of}
+use Rattle.mesh_sim.specs.Air.{AirState, is_joined}
+use Rattle.mesh_sim.specs.Fates.{Mesh, dead_hop_of, fate_of, listener_of, place_of}
 use Rattle.chip_sim.specs.Nodes.{is_marked}
 use Rattle.mesh_sim.specs.Routes.{backwards}
-use Rattle.mesh_sim.specs.Steps.{landed, acknowledged, status_of, done_of, changed, answers, answers_if, outs_at, heard_at, arriving_as, arriving, arrival_outs_as, arrival_outs, heard_again, outs_again, repeating_by, repeating, repeat_outs_by, repeat_outs, mesh_after, mesh_outs}
+use Rattle.mesh_sim.specs.Steps.{landed, acknowledged, status_of, done_of, changed, answers_if, outs_at, heard_at, arriving_as, arriving, arrival_outs_as, arrival_outs, heard_again, outs_again, repeating_by, repeating, repeat_outs_by, repeat_outs, mesh_after, mesh_outs}
 use Rattle.mesh_sim.specs.Steps as mesh
 use Rattle.zw_text.specs.declared.entry.Entry.{Entry}
 use Rattle.zw_text.specs.declared.entry.Entry.TheVariants as entry
@@ -39,12 +39,13 @@ use Rattle.outside_model.specs.State.{OuterState, Outside, each}
 use Rattle.outside_model.specs.Air.{deals, sent_entries}
 use Rattle.outside_model.specs.Events.{Arrives, Repeats, mesh_of, outcome, refusal_entries, repeats, devices_repeated, devices_after, entries, stamp, ticked_entry}
 use Rattle.proof_walk.specs.Outside.{nothing}
-use Rattle.proof_device.proofs.ChangesOutside.{listener_is}
+use Rattle.proof_device.proofs.ChangesOutside.{fate_home, fate_out, listener_is}
 use Rattle.proof_air.specs.Logs.{Tie as TieAir}
 use Rattle.proof_air.specs.Carrying.{IsHome}
 use Rattle.proof_air.proofs.Homes.{next_home, again_home}
 use Rattle.proof_devices.specs.Living.{Keeping, Tie}
-use Rattle.proof_devices.proofs.Quiet.{AreQuiet, IsBy, AreBy, AreOwn, AreIdle, IsMute, IsOwnEvent, are_by, are_quiet, idle_quiet, own_are_by, all_deals_idle, all_deals_own, each_both, stamp_idle}
+use Rattle.proof_device.proofs.Entering.{AreOwn, hearing_are}
+use Rattle.proof_devices.proofs.Quiet.{AreQuiet, IsBy, AreBy, AreIdle, IsMute, IsOwnEvent, are_by, are_quiet, idle_quiet, own_are_by, all_deals_idle, all_deals_own, each_both, stamp_idle}
 use Rattle.proof_devices.proofs.Joined.{IsUnsaid, are_unsaid, both_none, heard_unjoined}
 use Rattle.proof_devices.proofs.Sent.{all_deals_sent, answers_if_sent, changed_sent, none_sent, others_sent, replied, sent_both}
 use Rattle.proof_devices.proofs.Keeping.{Keeps, Resting, Replying, idle_rests}
@@ -103,18 +104,6 @@ done_mute : (heading : Heading) (number status : ℕ) (dead : Option (ℕ × ℕ
 done_mute Outward number status dead = (tt, tt)
 done_mute Homeward number status dead = tt
 
-changed_own : (node first count : ℕ) → AllByRecursion (IsOwnEvent node) (changed node first count)
-changed_own node first zero = tt
-changed_own node first (suc count) = (refl, changed_own node (first + 1) count)
-
-answers_own : (air : AirState) (node : ℕ) (way : Option Route) (replies : List (List ℕ)) → AllByRecursion (IsOwnEvent node) (answers air node way replies)
-answers_own air node way [] = tt
-answers_own air node way (reply ∷ replies) = (refl, answers_own (departing air node Homeward way reply) node way replies)
-
-answers_if_own : (b : Bool) (air : AirState) (node : ℕ) (way : Option Route) (replies : List (List ℕ)) → AllByRecursion (IsOwnEvent node) (answers_if b air node way replies)
-answers_if_own true air node way replies = answers_own air node way replies
-answers_if_own false air node way replies = tt
-
 -- ---- the device at a place
 
 at_place : (past : List Entry) (base : Mesh) (place number node : ℕ) (payload drawn : List ℕ) (found : Option State) (route : Option Route) (end : List AirEvent) → slice_get base.devices place ≡ found
@@ -134,8 +123,7 @@ at_place past base place number node payload drawn (Some device) route end stood
         mine = changes ++ replies;
         end = end;
         are = refl;
-        own = all-append (IsOwnEvent node) changes replies (changed_own node (length device.journal) (length (device_after device event).journal - length device.journal))
-            (answers_if_own (is_joined base.air node) base.air node (option_map backwards route) (device_replies device event));
+        own = hearing_are (IsOwnEvent node) node (λ at. refl) (λ frame over payload. refl) base.air route device event;
         mute = mute;
         sent = ap (sent_from node)
             (flat_map-append sent_entries changes replies
@@ -145,22 +133,6 @@ at_place past base place number node payload drawn (Some device) route end stood
     })
 
 -- ---- a frame arrives
-
--- what its fate says of its way
-fate_home : (lost : Bool) (dead : Option (ℕ × ℕ)) (heading : Heading) (listener : Option ℕ) → (if lost then fate.Lost else fate_by dead heading listener) ≡ fate.AtChip → heading ≡ Homeward
-fate_home true dead heading listener is = absurd cc
-fate_home false (Some hop) heading listener is = absurd cc
-fate_home false None Homeward listener is = refl
-fate_home false None Outward (Some place) is = absurd cc
-fate_home false None Outward None is = absurd cc
-
-fate_out : (lost : Bool) (dead : Option (ℕ × ℕ)) (heading : Heading) (listener : Option ℕ) (place : ℕ) → (if lost then fate.Lost else fate_by dead heading listener) ≡ fate.AtDevice place
-    → (heading ≡ Outward) × (listener ≡ Some place)
-fate_out true dead heading listener place is = absurd cc
-fate_out false (Some hop) heading listener place is = absurd cc
-fate_out false None Homeward listener place is = absurd cc
-fate_out false None Outward (Some at) place is = let same : at ≡ place = cc in (refl, ap (λ (k : ℕ). Some k) same)
-fate_out false None Outward None place is = absurd cc
 
 module _ (past : List Entry) (w : Outside) (tie : TieAir nothing past w) where
   abbrev Tells_of : List AirEvent → List State → Type 0

@@ -15,8 +15,10 @@ use Rattle.law_transcript.specs.Restarts.{ticks_of, ticks_asked}
 use Rattle.law_transcript.specs.Devices.{ComingAt, coming_of, ticks_in, ticks_lived, comings, lived_by, brought_by, asked_by, brought_at, brought, brought_unjoined_at, lines_unjoined_at, events_unjoined}
 use Rattle.law_transcript.specs.Repeats.{frame_of}
 use Rattle.law_transcript.proofs.Comings.{came_after}
+use Rattle.proof_walk.proofs.Clock.{asked-append}
+use Rattle.proof_walk.proofs.Shown.{shown_both}
 use Rattle.proof_devices.proofs.Quiet.{IsQuiet, AreQuiet}
-use Rattle.proof_devices.proofs.Shown.{shown_both, quiet_at}
+use Rattle.proof_devices.proofs.Shown.{quiet_at}
 
 -- ---- nodes that are joined
 
@@ -133,10 +135,6 @@ heard_unjoined node past before number rest quiet quiet_rest =
     ∙ (ap (λ (l : List ComingAt). l ++ (at ++ shown_after (brought_unjoined_at node) ((past ++ before) ++ entry.Heard number ∷ []) rest)) (none_unjoined node past before quiet)
     ∙ (ap (λ (l : List ComingAt). at ++ l) (none_unjoined node ((past ++ before) ++ entry.Heard number ∷ []) rest quiet_rest) ∙ append-nil at))
 
-asked_both : (xs ys : List Line) → ticks_asked (xs ++ ys) ≡ ticks_asked xs + ticks_asked ys
-asked_both [] ys = omega arith
-asked_both (line ∷ xs) ys = let rest = asked_both xs ys in omega (arith, rest)
-
 lines_none : (node : ℕ) (past told : List Entry) → AllByRecursion IsUnsaid told → shown_after (lines_unjoined_at node) past told ≡ []
 lines_none node past [] none = refl
 lines_none node past (e ∷ told) none =
@@ -151,7 +149,7 @@ unjoined_grown node past told =
     let said : List Line = shown_after (lines_unjoined_at node) [] past in
     let says : List Line = shown_after (lines_unjoined_at node) past told in
     let both = ap length (shown_both (brought_unjoined_at node) [] past told) ∙ length-append came more in
-    let asked = ap ticks_asked (shown_both (lines_unjoined_at node) [] past told) ∙ asked_both said says in
+    let asked = ap ticks_asked (shown_both (lines_unjoined_at node) [] past told) ∙ asked-append said says in
     omega (arith, both, asked)
 
 -- where nothing comes to a node that is not joined, and no line is said
@@ -190,7 +188,7 @@ all_grown : (node : ℕ) (past : List Entry) (e : Entry) → all_so_far node (pa
 all_grown node past e =
     let both = ap length (shown_both (brought_at node) [] past (e ∷ []) ∙ ap (λ (l : List ComingAt). brought node past ++ l) (append-nil (brought_at node past e)))
     ∙ length-append (brought node past) (brought_at node past e) in
-    let asked = ap ticks_asked (shown-append line_of past (e ∷ []) ∙ ap (λ (l : List Line). lines_run past ++ l) (append-nil (line_of e))) ∙ asked_both (lines_run past) (line_of e) in
+    let asked = ap ticks_asked (shown-append line_of past (e ∷ []) ∙ ap (λ (l : List Line). lines_run past ++ l) (append-nil (line_of e))) ∙ asked-append (lines_run past) (line_of e) in
     omega (arith, both, asked)
 
 one_unjoined : (node : ℕ) (past : List Entry) (e : Entry)

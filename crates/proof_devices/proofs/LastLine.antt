@@ -1,15 +1,13 @@
 -- Lines the last of which was cut short, with what is known of the devices where it was.
 use Rattle.std.proofs.Common.{◌≡◌, ◌≢◌, ◌≤◌, ℕ, inl, true, false, List, [], ◌∷◌, ◌++◌, length, refl, sym, ap, subst, ◌∙◌, append-nil, append_assoc, Bool, if◌then◌else◌, ◌==◌}
 use Rattle.std.specs.Prelude.{Option, Some, None, is_some}
-use Rattle.std.specs.List.{AllByRecursion}
 use Rattle.device_sim.specs.State.{State}
 use Rattle.zw_text.specs.declared.entry.Entry.{Entry}
 use Rattle.zw_text.specs.declared.entry.Entry.TheVariants.{Said}
-use Rattle.law_transcript.specs.Lists.{EachAfter}
 use Rattle.law_transcript.specs.Nodes.{controller, device_of}
 use Rattle.law_wire.specs.Halted.{RanAsFar}
 use Rattle.world_model.specs.State.{Machine}
-use Rattle.world_model.specs.Events.{Event, happens, entries, May}
+use Rattle.world_model.specs.Events.{Event, happens}
 use Rattle.world_model.specs.Did.{MayAll, entries_all, happens_all}
 use Rattle.world_model.proofs.EventLists.{entries_all-append, happens_all-append}
 use Rattle.world_lines.specs.Spoken.{Spoken, after, after_all, entries_of, transcript_of}
@@ -18,15 +16,14 @@ use Rattle.world_lines.specs.Whole.{AreWhole}
 use Rattle.proof_device.specs.GoingOn.{AreSame, GoOn}
 use Rattle.proof_device.specs.Showing.{AreApart}
 use Rattle.proof_device.proofs.DevicePlaces.{go_none, go_same, go_then, run_goes}
-use Rattle.proof_walk.specs.Phases.{Phase, Between, Said_line, Goes}
+use Rattle.proof_walk.specs.Phases.{Phase, Between, Said_line}
 use Rattle.proof_walk.specs.Walk.{Walk}
-use Rattle.proof_walk.proofs.Alone.{each_alone}
+use Rattle.proof_walk.proofs.Alone.{all_wordless}
 use Rattle.proof_walk.proofs.Joining.{along}
 use Rattle.proof_walk.proofs.Lines.{line_part}
 use Rattle.proof_air.proofs.Handling.{tie_here}
 use Rattle.proof_devices.specs.LastLine.{with_last}
 use Rattle.proof_devices.specs.Living.{MayAny}
-use Rattle.proof_devices.proofs.Wordless.{IsNoWords, all_each, event_wordless}
 use Rattle.proof_devices.proofs.Halting.{AnswersFrom, events_few, ran_as_far}
 use Rattle.proof_devices.proofs.Together.{KnowTogether}
 use Rattle.proof_devices.proofs.Whole.{StandsAt, stands_at}
@@ -124,23 +121,6 @@ module _ (olds : List State) (front : List Entry) (walk : Walk MayAny (KnowToget
             (along MayAny (KnowTogether (AnswersFrom front) olds) walk.event walk.turn part.1 done.may (front ++ Said line.words ∷ []) (begins line done)).1,
       )
 
-  abbrev WordlessAt : List Entry → Entry → Type 0
-  WordlessAt past e = IsNoWords e
-
-  wordless_event : (here next : Phase) (past : List Entry) (n : Machine) (event : Event) → Goes here n event next → May n event → KnowTogether (AnswersFrom front) olds here past n
-      → EachAfter WordlessAt past (entries n event) × KnowTogether (AnswersFrom front) olds next (past ++ entries n event) (happens n event)
-  wordless_event here next past n event goes may is = (
-    all_each IsNoWords past (entries n event) (event_wordless past n event (tie_here here past n is.0.0.0.0) may),
-    (walk.event here next past n event goes may is).1,
-  )
-
-  -- its events enter no words
-  wordless : (line : Spoken) → IsDone [] m line → AllByRecursion IsNoWords (entries_all m line.events)
-  wordless line done =
-      let part = line_part line.line m line.events done.is_line in
-      each_alone IsNoWords (front ++ Said line.words ∷ []) (entries_all m line.events)
-      (along WordlessAt (KnowTogether (AnswersFrom front) olds) wordless_event walk.turn part.1 done.may (front ++ Said line.words ∷ []) (begins line done)).0
-
   -- with at most one event that was not entered
   pub line_far : AreApart olds → (line : Spoken) (more : List Event) → IsDone [] m line → IsDone [] m (record { words = line.words; line = line.line; events = line.events ++ more }) → length more ≤ 1
       → (node : ℕ) (old new : State) → node ≢ controller → device_of node olds ≡ Some old → device_of node (happens_all m (line.events ++ more)).outside.devices ≡ Some new
@@ -159,6 +139,6 @@ module _ (olds : List State) (front : List Entry) (walk : Walk MayAny (KnowToget
       = subst (λ (l : List Entry). KnowTogether (AnswersFrom front) olds at.0 l (happens_all n0 more)) entered
       (subst (λ (n : Machine). KnowTogether (AnswersFrom front) olds at.0 (front ++ Said line.words ∷ entries_all m (line.events ++ more)) n) end at.1) in
       subst (λ (k : ℕ). RanAsFar k (front ++ entries_of m line) old new) was.own
-      (ran_as_far olds apart front line.words told (entries_all n0 more) n0 (happens_all n0 more) at0.0 at.0 at0.1 known_so (wordless line done) node old new0.0 new other before new0.1
+      (ran_as_far olds apart front line.words told (entries_all n0 more) n0 (happens_all n0 more) at0.0 at.0 at0.1 known_so (all_wordless m line.events done.may) node old new0.0 new other before new0.1
       (subst (λ (n : Machine). device_of node n.outside.devices ≡ Some new) end after_it)
       (events_few old.node (front ++ Said line.words ∷ told) n0 more few (tie_here at0.0 (front ++ Said line.words ∷ told) n0 at0.1.0.0.0.0) (may_later m line.events more done_more.may)))

@@ -1,5 +1,4 @@
 mod Quiet
-mod Machines
 mod Shown
 mod Joined
 mod Sent
@@ -18,7 +17,6 @@ mod Awake
 mod Now
 mod Listening
 mod Together
-mod Wordless
 mod Had
 mod Clocks
 mod AtOnce

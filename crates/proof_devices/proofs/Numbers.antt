@@ -18,6 +18,8 @@ use Rattle.proof_walk.specs.Outside.{Moves, Link, CoversOuter, awaits_number}
 use Rattle.proof_walk.proofs.Linking.{of_link}
 use Rattle.proof_walk.proofs.Machines.{machine_keeps}
 use Rattle.proof_walk.proofs.Untimed.{AreUntimed, untimed_line, same_time, untimed_law}
+use Rattle.proof_walk.proofs.ByLine.{last_is}
+use Rattle.proof_walk.proofs.Clock.{last_of_more}
 use Rattle.proof_devices.specs.Living.{MayAny, Numbered, KnownNumber, GoesWithin}
 
 pub each_any : (past told : List Entry) → EachAfter MayAny past told
@@ -26,19 +28,12 @@ each_any past (e ∷ told) = (tt, each_any (past ++ e ∷ []) told)
 
 -- ---- the last entry
 
-pub last_is : (past : List Entry) (e : Entry) → line_last (past ++ e ∷ []) ≡ line_of e
-last_is past e = folded-append line_after [] past (e ∷ [])
-
 folded_last : (before : List Line) (told : List Entry) → AreUntimed told → is_repeat before ≡ false → is_repeat (folded line_after before told) ≡ false
 folded_last before [] untimed none = none
 folded_last before (e ∷ told) untimed none = folded_last (line_of e) told untimed.1 (ap is_repeat (untimed_line e untimed.0))
 
 still_apart : (past told : List Entry) → AreUntimed told → repeats past ≡ false → repeats (past ++ told) ≡ false
 still_apart past told untimed none = ap is_repeat (folded-append line_after [] past told) ∙ folded_last (line_last past) told untimed none
-
-last_of_more : (before : ℕ) (ns : List ℕ) (n : ℕ) → last_number before (ns ++ n ∷ []) ≡ n
-last_of_more before [] n = refl
-last_of_more before (first ∷ ns) n = last_of_more first ns n
 
 pub number_is : (past : List Entry) (n : ℕ) → time_of (past ++ entry.Time n ∷ []) ≡ n
 number_is past n = ap (last_number 0) (shown-append tick_at past (entry.Time n ∷ [])) ∙ last_of_more 0 (ticks past) n

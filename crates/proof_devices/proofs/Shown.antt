@@ -1,5 +1,5 @@
 -- What a transcript shows to have come to a node grows with what is heard and with the words of lines, and with nothing else.
-use Rattle.std.proofs.Common.{◌≡◌, ◌≢◌, ℕ, ◌+◌, ◌==◌, Bool, true, false, if◌then◌else◌, List, [], ◌∷◌, ◌++◌, refl, sym, ap, ◌∙◌, append-nil, append_assoc, arith}
+use Rattle.std.proofs.Common.{◌≡◌, ◌≢◌, ℕ, ◌+◌, ◌==◌, Bool, true, false, if◌then◌else◌, List, [], ◌∷◌, ◌++◌, refl, sym, ap, ◌∙◌, append-nil, arith}
 use Rattle.std.proofs.lemmas.Bool.{ne_eqb, eqb-true}
 use Rattle.std.specs.Prelude.{Option, Some, None}
 use Rattle.zw_text.specs.declared.line.Line.{Line}
@@ -16,17 +16,9 @@ use Rattle.law_transcript.specs.Restarts.{ticks_asked}
 use Rattle.law_transcript.specs.Units.{Carried}
 use Rattle.law_transcript.specs.Carrying.{homeward}
 use Rattle.law_transcript.specs.Devices.{ComingAt, coming_of, ticks_in, ticks_lived, comings, after_events, lived_by, brought_by, asked_by, brought_at, brought}
+use Rattle.proof_walk.proofs.Shown.{shown_both}
 use Rattle.proof_devices.specs.Living.{LivedWith, IsActing}
 use Rattle.proof_devices.proofs.Quiet.{IsQuiet, AreQuiet}
-
--- ---- lists that are shown
-
-pub shown_both : {A B : Type 0} (shows : List A → A → List B) (before xs ys : List A) → shown_after shows before (xs ++ ys) ≡ shown_after shows before xs ++ shown_after shows (before ++ xs) ys
-shown_both {A} {B} shows before [] ys = ap (λ (l : List A). shown_after shows l ys) (sym (append-nil before))
-shown_both {A} {B} shows before (x ∷ xs) ys =
-    ap (λ (l : List B). shows before x ++ l)
-    (shown_both shows (before ++ x ∷ []) xs ys ∙ ap (λ (l : List A). shown_after shows (before ++ x ∷ []) xs ++ shown_after shows l ys) (append_assoc before (x ∷ []) xs))
-    ∙ sym (append_assoc (shows before x) (shown_after shows (before ++ x ∷ []) xs) (shown_after shows (before ++ x ∷ xs) ys))
 
 -- ---- what comes to a node
 

@@ -1,5 +1,5 @@
 -- What stands between what came to a device and what it made of that, at each phase of a line: nothing.
-use Rattle.std.proofs.Common.{◌≡◌, ◌≢◌, ◌≤◌, ◌⊎◌, inl, inr, ℕ, zero, suc, ◌+◌, ◌-◌, nat_lt, if◌then◌else◌, Bool, true, false, List, [], ◌∷◌, ◌++◌, length, length-append, map, take, refl, sym, ap, subst, ◌∙◌, append-nil, arith}
+use Rattle.std.proofs.Common.{◌≡◌, ◌≢◌, ◌≤◌, ◌⊎◌, inl, inr, ℕ, zero, suc, ◌+◌, ◌-◌, nat_lt, if◌then◌else◌, Bool, true, false, List, [], ◌∷◌, ◌++◌, length, map, take, refl, sym, ap, subst, ◌∙◌, append-nil, arith}
 use Rattle.std.specs.Prelude.{Some}
 use Rattle.std.specs.List.{AllByRecursion}
 use Rattle.device_sim.specs.State.{State}
@@ -29,6 +29,7 @@ use Rattle.proof_walk.specs.Walk.{Walk, WalkOver}
 use Rattle.proof_walk.proofs.ByLine.{effect_covered}
 use Rattle.proof_walk.proofs.Stepping.{Steps, event_then}
 use Rattle.proof_air.proofs.Handling.{tie_here}
+use Rattle.proof_air.proofs.SentBefore.{but_last}
 use Rattle.proof_devices.specs.Living.{Answers, Tie, RestedWith, lived_in, InTick, MayAny, GoesWithin, IsActing, ActsWith, KnowLives}
 use Rattle.proof_devices.proofs.Whole.{StandsAt, stands_at}
 use Rattle.proof_devices.proofs.Listening.{stands_there}
@@ -96,13 +97,6 @@ covers_line (lines.Wake node) = λ route. tt
 covers_line (lines.Local node value) = λ route. tt
 covers_line lines.Restart = (tt, tt)
 covers_line line = tt
-
-but_last : (xs : List Line) (x : Line) → take (length (xs ++ x ∷ []) - 1) (xs ++ x ∷ []) ≡ xs
-but_last [] x = refl
-but_last (y ∷ xs) x =
-    let long = length-append xs (x ∷ []) in
-    let count : length (y ∷ (xs ++ x ∷ [])) - 1 ≡ suc (length (xs ++ x ∷ []) - 1) = omega (arith, long) in
-    ap (λ (k : ℕ). take k (y ∷ (xs ++ x ∷ []))) count ∙ ap (λ (l : List Line). y ∷ l) (but_last xs x)
 
 -- ---- phases
 

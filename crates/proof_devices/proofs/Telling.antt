@@ -15,8 +15,8 @@ use Rattle.world_model.specs.State.{Machine}
 use Rattle.world_model.specs.Events.{Event, Outside_does, entries, May}
 use Rattle.proof_walk.specs.Outside.{nothing}
 use Rattle.proof_air.specs.Logs.{Tie as TieAir}
-use Rattle.proof_devices.proofs.Quiet.{AreIdle, AreOwn, acts_own, stamp_idle}
-use Rattle.proof_devices.proofs.Machines.{machine_still}
+use Rattle.proof_device.proofs.Entering.{AreOwn, acts_own}
+use Rattle.proof_devices.proofs.Quiet.{AreIdle, stamp_idle, machine_still}
 use Rattle.proof_devices.proofs.Hearing.{Enters, arrives_enters, again_enters}
 
 -- a device that stands in the list did all of it, but for the number of the tick

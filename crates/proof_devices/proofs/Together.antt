@@ -8,8 +8,8 @@ use Rattle.law_wire.specs.Routes.{MayGo}
 use Rattle.proof_device.specs.Showing.{AllShow, AreApart}
 use Rattle.proof_walk.specs.Phases.{Phase}
 use Rattle.proof_walk.specs.Time.{MayCount, KnowTime}
-use Rattle.proof_walk.specs.Walk.{Walk, WalkOver, both_know}
-use Rattle.proof_walk.proofs.Over.{over}
+use Rattle.proof_walk.specs.Walk.{Walk, both_know}
+use Rattle.proof_walk.proofs.Over.{over, beside}
 use Rattle.proof_air.specs.Hearing.{MayHear, KnowAir}
 use Rattle.proof_routes.specs.Knowing.{KnowNetworks}
 use Rattle.proof_devices.specs.Living.{Keeping, MayAny, KnowLives}
@@ -18,14 +18,6 @@ use Rattle.proof_devices.proofs.Grounds.{networks_ground}
 use Rattle.proof_devices.proofs.Keeping.{Keeps}
 use Rattle.proof_devices.proofs.Replies.{JoinsAs}
 use Rattle.proof_devices.proofs.Walking.{devices_walk}
-
--- a walk needs no ground
-pub beside : (Asks : List Entry → Entry → Type 0) (Ground Know : Phase → List Entry → Machine → Type 0) → Walk Asks Know → WalkOver Ground Asks Know
-beside Asks Ground Know walk = record {
-  said = λ past m words line read ground known. walk.said past m words line read known;
-  event = λ here next past m event goes may ground known. walk.event here next past m event goes may known;
-  turn = λ here next past m turns ground known. walk.turn here next past m turns known;
-}
 
 -- with the joined nodes known, and the changes shown
 abbrev pub KnowTogether : Keeping → List State → Phase → List Entry → Machine → Type 0

@@ -34,15 +34,14 @@ use Rattle.proof_walk.specs.Time.{KnowTime}
 use Rattle.proof_walk.specs.Walk.{WalkOver, both_know}
 use Rattle.proof_walk.proofs.ByLine.{effect_covered}
 use Rattle.proof_walk.proofs.Stepping.{Steps, event_then}
-use Rattle.proof_walk.proofs.Times.{time_of, outcome_time}
+use Rattle.proof_walk.proofs.Times.{outcome_time, same_number}
 use Rattle.proof_device.proofs.ChangesOutside.{place_is}
 use Rattle.proof_device.proofs.DevicePlaces.{go_none, go_same}
 use Rattle.proof_air.specs.Hearing.{KnowAir}
 use Rattle.proof_air.specs.Logs.{Tie as TieAir}
 use Rattle.proof_air.proofs.Handling.{tie_here}
 use Rattle.proof_devices.specs.Living.{Keeping, Tie, RestedWith, lived_in, InTick, MayAny, KnownNumber, MovesNone, IsActing, SayingWith, Opened, ActsWith, KnowLives}
-use Rattle.proof_devices.proofs.Quiet.{AreQuiet, AreBy, AreIdle, are_quiet, idle_quiet, number_idle, stamp_idle, acts_by, same_clock}
-use Rattle.proof_devices.proofs.Machines.{machine_still}
+use Rattle.proof_devices.proofs.Quiet.{AreQuiet, AreBy, AreIdle, are_quiet, idle_quiet, number_idle, stamp_idle, acts_by, same_clock, machine_still}
 use Rattle.proof_devices.proofs.Shown.{lived_as, still_brought, said_brought, asks_none}
 use Rattle.proof_devices.proofs.Joined.{time_joins}
 use Rattle.proof_devices.proofs.Sent.{acts_sent, replied}
@@ -259,9 +258,6 @@ module _ (olds : List State) (Also : Keeping) (Joins : List Entry → AirState �
       (tt, subst (λ (l : List Entry). Know (Ticked ticks) l later) (sym (append-nil past)) (in_tick, number))
 
   -- ---- a frame arrives
-
-  same_number : (o p : OuterState) → time_of p ≡ time_of o → ticked_entry p ≡ ticked_entry o
-  same_number o p same = ap (λ (t : Bool × Bool × ℕ). if t.0 && not t.1 then entry.Time t.2 ∷ [] else []) same
 
   arrives : (frames ticks : ℕ) (past : List Entry) (m : Machine) (drawn : List ℕ) (route : Option Route) → Ground (Arriving (suc frames) ticks) past m → May m (Outside_does (Arrives drawn route))
       → InTick Also olds 0 past m → KnownNumber past m → InTick Also olds 0 (past ++ entries m (Outside_does (Arrives drawn route))) (happens m (Outside_does (Arrives drawn route)))

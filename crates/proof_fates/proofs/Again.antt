@@ -29,9 +29,11 @@ use Rattle.outside_model.specs.Air.{deals}
 use Rattle.outside_model.specs.Events.{Repeats, mesh_of, outcome, repeats}
 use Rattle.world_model.specs.State.{Machine}
 use Rattle.world_model.specs.Events.{Outside_does, entries}
+use Rattle.proof_device.proofs.Entering.{hearing}
 use Rattle.proof_walk.specs.Outside.{nothing}
 use Rattle.proof_air.specs.Logs.{Tie}
-use Rattle.proof_fates.proofs.Fateless.{AreFateless, heard_of, heard_fateless}
+use Rattle.proof_air.proofs.Fated.{hearing_none}
+use Rattle.proof_air.proofs.Fateless.{TellNoFate}
 use Rattle.proof_fates.proofs.Shown.{IsShown, again_shown, listener_stands}
 use Rattle.proof_fates.proofs.Stamped.{enters_first, number_none}
 
@@ -50,7 +52,7 @@ is_out false heads = refl
 
 -- by whether somebody is there
 abbrev pub Again : ℕ → Bool → List AirEvent → Type 0
-Again number true events = (rest : List AirEvent) × (events ≡ air_event.Heard number ∷ rest) × AreFateless rest
+Again number true events = (rest : List AirEvent) × (events ≡ air_event.Heard number ∷ rest) × TellNoFate rest
 Again number false events = events ≡ []
 
 module _ (devices : List State) (past : List Entry) (w : Outside) (number : ℕ) (tie : Tie nothing past w)
@@ -84,7 +86,7 @@ module _ (devices : List State) (past : List Entry) (w : Outside) (number : ℕ)
   at_place : (node place : ℕ) (payload drawn : List ℕ) (route : Option Route) (found : Option State) → listener_of node w.devices ≡ Some place → slice_get w.devices place ≡ found
       → Again number true (outs_at (mesh_of w) found number node route (Hears payload drawn))
   at_place node place payload drawn route (Some device) listener stands =
-      (heard_of w.outer.air node route device (Hears payload drawn), refl, heard_fateless w.outer.air node route device (Hears payload drawn))
+      (hearing w.outer.air node route device (Hears payload drawn), refl, hearing_none w.outer.air node route device (Hears payload drawn))
   at_place node place payload drawn route None listener stands = absurd (listener_stands w.devices node place listener stands)
 
   again_at : (place : Option ℕ) (frame : Flown) (drawn : List ℕ) (route : Option Route) → listener_of frame.node w.devices ≡ place

@@ -35,13 +35,15 @@ use Rattle.outside_model.specs.Air.{deals}
 use Rattle.outside_model.specs.Events.{Arrives, mesh_of, outcome, ticked_entry, entries}
 use Rattle.proof_host.proofs.Lists.{each-append, each-anywhere}
 use Rattle.proof_device.proofs.ChangesOutside.{fate_listens}
+use Rattle.proof_device.proofs.Entering.{hearing}
+use Rattle.proof_air.proofs.Fated.{done_none, hearing_none}
+use Rattle.proof_air.proofs.Fateless.{IsFateless, AreFateless, TellsNoFate, TellNoFate, all_deals_rest}
 use Rattle.proof_routes.specs.Networks.{HasLinks}
 use Rattle.proof_routes.specs.Forgetting.{Passage, passages, passage_by, passage_flown, IsApartFrom, HasPassages}
 use Rattle.proof_routes.proofs.Arriving.{apart_got}
 use Rattle.proof_routes.proofs.Passages.{IsNoFrame, passages_same, links_same, next_passage}
 use Rattle.proof_routes.proofs.Turned.{live_is}
 use Rattle.proof_fates.specs.Meeting.{fate_over, Meets, IsHeardSo, MayMeetSo}
-use Rattle.proof_fates.proofs.Fateless.{IsUnfated, AreUnfated, IsFateless, AreFateless, each_unfated, heard_of, heard_fateless, done_fateless}
 use Rattle.proof_fates.proofs.Shown.{listener_stands}
 use Rattle.proof_fates.proofs.Stamped.{enters_first}
 
@@ -93,10 +95,10 @@ told_so false None Outward None = refl
 
 -- ---- entries that tell no fate
 
-pub unfated_stand : (devices : List State) (past told : List Entry) → AreUnfated told → EachAfter (MayMeetSo devices) past told
-unfated_stand devices past told none = each-anywhere (MayMeetSo devices) IsUnfated (λ before e is. one before e is) past told none
+pub fateless_stand : (devices : List State) (past told : List Entry) → AreFateless told → EachAfter (MayMeetSo devices) past told
+fateless_stand devices past told none = each-anywhere (MayMeetSo devices) IsFateless (λ before e is. one before e is) past told none
   where
-    one : (before : List Entry) (e : Entry) → IsUnfated e → MayMeetSo devices before e
+    one : (before : List Entry) (e : Entry) → IsFateless e → MayMeetSo devices before e
     one before (entry.Heard frame) none = absurd none
     one before (entry.Lost frame) none = absurd none
     one before (entry.Unheard frame) none = absurd none
@@ -168,7 +170,7 @@ module _ (devices : List State) (past : List Entry) (w : Outside) where
 
     -- its fate first, and no other
     abbrev Tells : AirFate → List AirEvent → Type 0
-    Tells x events = (rest : List AirEvent) × (events ≡ event_of x (w.outer.air.frames.landed + 1) ∷ rest) × AreFateless rest
+    Tells x events = (rest : List AirEvent) × (events ≡ event_of x (w.outer.air.frames.landed + 1) ∷ rest) × TellNoFate rest
 
     at_place : (frame : Flown) (place : ℕ) (found : Option State) (drawn : List ℕ) (route : Option Route) → listener_of frame.node w.devices ≡ Some place → slice_get w.devices place ≡ found
         → Tells (fate.AtDevice place)
@@ -177,15 +179,15 @@ module _ (devices : List State) (past : List Entry) (w : Outside) where
     at_place frame place None drawn route listener stands = absurd (listener_stands w.devices frame.node place listener stands)
     at_place frame place (Some device) drawn route listener stands =
         let air : AirState = landed (acknowledged w.outer.air) in
-        let heard : List AirEvent = heard_of air frame.node route device (Hears frame.payload drawn) in
+        let heard : List AirEvent = hearing air frame.node route device (Hears frame.payload drawn) in
         let end : List AirEvent = air_event.Done (w.outer.air.frames.landed + 1) (status_of w.outer.air) None ∷ [] in
-        (heard ++ end, refl, all-append IsFateless heard end (heard_fateless air frame.node route device (Hears frame.payload drawn)) (tt, tt))
+        (heard ++ end, refl, all-append TellsNoFate heard end (hearing_none air frame.node route device (Hears frame.payload drawn)) (tt, tt))
 
     tells_as : (frame : Flown) (x : AirFate) (drawn : List ℕ) (route : Option Route) → fate_of w.outer.air.network w.devices frame ≡ x
         → Tells x (arrival_outs_as (mesh_of w) (w.outer.air.frames.landed + 1) frame x drawn route)
-    tells_as frame fate.Lost drawn route is = (_, refl, done_fateless frame.heading (w.outer.air.frames.landed + 1) 1 None)
-    tells_as frame (fate.Dead from to) drawn route is = (_, refl, done_fateless frame.heading (w.outer.air.frames.landed + 1) 1 (Some (from, to)))
-    tells_as frame fate.Missed drawn route is = (_, refl, done_fateless frame.heading (w.outer.air.frames.landed + 1) 1 None)
+    tells_as frame fate.Lost drawn route is = (_, refl, done_none frame.heading (w.outer.air.frames.landed + 1) 1 None)
+    tells_as frame (fate.Dead from to) drawn route is = (_, refl, done_none frame.heading (w.outer.air.frames.landed + 1) 1 (Some (from, to)))
+    tells_as frame fate.Missed drawn route is = (_, refl, done_none frame.heading (w.outer.air.frames.landed + 1) 1 None)
     tells_as frame fate.AtChip drawn route is = (_, refl, (tt, tt))
     tells_as frame (fate.AtDevice place) drawn route is =
         at_place frame place (slice_get w.devices place) drawn route
@@ -216,12 +218,12 @@ module _ (devices : List State) (past : List Entry) (w : Outside) where
         by true = (tt, tt)
         by false = tt
 
-    first_stands : (x : AirFate) (rest : List Entry) → Meets devices before (w.outer.air.frames.landed + 1) (told_as x) → AreUnfated rest
+    first_stands : (x : AirFate) (rest : List Entry) → Meets devices before (w.outer.air.frames.landed + 1) (told_as x) → AreFateless rest
         → EachAfter (MayMeetSo devices) past (ticked_entry w.outer ++ entry_of x (w.outer.air.frames.landed + 1) ∷ rest)
     first_stands x rest due none =
         let this : Entry = entry_of x (w.outer.air.frames.landed + 1) in
         each-append (MayMeetSo devices) past (ticked_entry w.outer) (this ∷ rest) number_stands
-        (may_stand x (w.outer.air.frames.landed + 1) due, unfated_stand devices (before ++ this ∷ []) rest none)
+        (may_stand x (w.outer.air.frames.landed + 1) due, fateless_stand devices (before ++ this ∷ []) rest none)
 
     pub arrives_meet : (drawn : List ℕ) (route : Option Route) → MayHappen (mesh_of w) (mesh.Arrives drawn route) → EachAfter (MayMeetSo devices) past (entries w (Arrives drawn route))
     arrives_meet drawn route may =
@@ -233,4 +235,4 @@ module _ (devices : List State) (past : List Entry) (w : Outside) where
         subst (EachAfter (MayMeetSo devices) past)
         (sym (enters_first w (Arrives drawn route) (entry_of x (w.outer.air.frames.landed + 1)) told tt
         (arrival_is w drawn route ∙ (ap (λ (l : List AirEvent). (each (deals later.devices) o l).entries) got.tells.1 ∙ entered_first x (w.outer.air.frames.landed + 1) later.devices o got.tells.0))))
-        (first_stands x told (meets got.frame got.next) (each_unfated later.devices got.tells.0 o got.tells.2))
+        (first_stands x told (meets got.frame got.next) (all_deals_rest later.devices got.tells.0 o got.tells.2).fateless)

@@ -1,5 +1,3 @@
-mod Wordless
-mod Fateless
 mod Shown
 mod Stamped
 mod Again
@@ -9,3 +7,4 @@ mod Numbered
 mod Arriving
 mod Meeting
 mod Grounds
+pub use Rattle.proof_devices.proofs.Changes

@@ -22,20 +22,20 @@ use Rattle.outside_model.specs.Events.{OuterEvent, Arrives, Repeats, Wakes_devic
 use Rattle.outside_model.specs.Events as outside
 use Rattle.world_model.specs.State.{Machine}
 use Rattle.world_model.specs.Events.{Event, Outside_does, entries, May}
+use Rattle.proof_device.proofs.Entering.{HearsNone, stamp_are}
 use Rattle.proof_walk.specs.Outside.{nothing, CoversOuter, awaits_number}
 use Rattle.proof_walk.specs.Phases.{Phase, Said_line, Doing, To_tick, Arriving, Giving, Ticking_devices, Ticking_chip, Ticking_decoder, Ticking_host, Sleeping, Submitting, Moving, Moved, Goes}
 use Rattle.proof_walk.specs.Walk.{WalkOver}
 use Rattle.proof_walk.proofs.ByLine.{last_is}
 use Rattle.proof_air.specs.Logs.{Tie}
+use Rattle.proof_air.proofs.Fateless.{IsFateless, AreFateless, all_deals_rest, event_fateless}
 use Rattle.proof_air.proofs.Handling.{tie_here}
 use Rattle.proof_devices.specs.Living.{Acts, KnowDevices, MovesNone, Numbered}
-use Rattle.proof_routes.proofs.Entering.{HearsNone, NoHearing, stamp_are}
 use Rattle.proof_routes.proofs.Saying.{tie_of}
 use Rattle.proof_fates.specs.Answering.{Listens}
 use Rattle.proof_fates.specs.Meeting.{IsHeardSo, MayMeetSo, Ground, KnowNothing}
 use Rattle.proof_fates.proofs.Again.{Again, again_tells, dealt, dealt_is, heard_first}
-use Rattle.proof_fates.proofs.Arriving.{arrives_meet, unfated_stand}
-use Rattle.proof_fates.proofs.Fateless.{IsUnfated, AreUnfated, kinds, each_unfated, event_unfated}
+use Rattle.proof_fates.proofs.Arriving.{arrives_meet, fateless_stand}
 use Rattle.proof_fates.proofs.Repeating.{may_repeat, saying_last}
 
 -- who listens where a frame arrives is who does by the transcript (`devices_listen_as_shown` of proof_devices)
@@ -60,7 +60,7 @@ moves_none (Arrives drawn route) none = absurd none
 moves_none (Repeats number drawn route) none = absurd none
 moves_none event none = tt
 
-covers_none : (event : Event) → CoversOuter MovesNone event → NoHearing event
+covers_none : (event : Event) → CoversOuter MovesNone event → CoversOuter HearsNone event
 covers_none (Outside_does event) none = moves_none event none
 covers_none event none = tt
 
@@ -68,8 +68,8 @@ module _ (devices : List State) where
   abbrev Asks : List Entry → Entry → Type 0
   Asks = MayMeetSo devices
 
-  quietly : (past : List Entry) (m : Machine) (event is : Event) → event ≡ is → NoHearing is → May m event → EachAfter Asks past (entries m event)
-  quietly past m event is same none may = unfated_stand devices past (entries m event) (event_unfated m event may (subst NoHearing (sym same) none))
+  quietly : (past : List Entry) (m : Machine) (event is : Event) → event ≡ is → CoversOuter HearsNone is → May m event → EachAfter Asks past (entries m event)
+  quietly past m event is same none may = fateless_stand devices past (entries m event) (event_fateless m event (subst (CoversOuter HearsNone) (sym same) none) may)
 
   -- ---- a frame arrives
 
@@ -91,10 +91,10 @@ module _ (devices : List State) where
     tie = tie_here (Doing (lines.Repeat frame) left) past m ground.0.0.0
 
     -- it is refused
-    refusal_unfated : (refused : Refusal) → AreUnfated (refusal_entries refused)
-    refusal_unfated NeverSent = (tt, tt)
-    refusal_unfated Forgotten = (tt, tt)
-    refusal_unfated (Stale later) = (tt, tt)
+    refusal_fateless : (refused : Refusal) → AreFateless (refusal_entries refused)
+    refusal_fateless NeverSent = (tt, tt)
+    refusal_fateless Forgotten = (tt, tt)
+    refusal_fateless (Stale later) = (tt, tt)
 
     refused_enters : (refused : Refusal) → refusal_of m.outside.outer.air.frames frame ≡ Some refused → entries m this ≡ stamp m.outside.outer (refusal_entries refused)
     unfolding entries outcome
@@ -104,25 +104,25 @@ module _ (devices : List State) where
     refused_stands : (refused : Refusal) → refusal_of m.outside.outer.air.frames frame ≡ Some refused → EachAfter Asks past (entries m this)
     refused_stands refused is =
         subst (EachAfter Asks past) (sym (refused_enters refused is))
-        (unfated_stand devices past (stamp m.outside.outer (refusal_entries refused)) (stamp_are IsUnfated kinds m.outside.outer (refusal_entries refused) (refusal_unfated refused)))
+        (fateless_stand devices past (stamp m.outside.outer (refusal_entries refused)) (stamp_are IsFateless (λ tick. tt) m.outside.outer (refusal_entries refused) (refusal_fateless refused)))
 
     -- nobody hears it
     unheard_enters : refusal_of m.outside.outer.air.frames frame ≡ None → mesh_outs (mesh_of m.outside) (mesh.Repeats frame drawn route) ≡ [] → entries m this ≡ []
     unfolding entries
     unheard_enters fresh is = ap (stamp (outcome m.outside (Repeats frame drawn route)).outer) (dealt_is m.outside frame drawn route fresh ∙ ap (dealt m.outside frame drawn route) is)
 
-    heard_stands : (rest : List Entry) → hears_again devices past frame ≡ true → entries m this ≡ entry.Heard frame ∷ rest → AreUnfated rest → EachAfter Asks past (entries m this)
+    heard_stands : (rest : List Entry) → hears_again devices past frame ≡ true → entries m this ≡ entry.Heard frame ∷ rest → AreFateless rest → EachAfter Asks past (entries m this)
     heard_stands rest hears is none =
         subst (EachAfter Asks past) (sym is) (
           subst (λ (b : Bool). IsHeardSo b devices past frame) (sym (ap is_repeat (saying_last devices (lines.Repeat frame) past m acts.0.0))) hears,
-          unfated_stand devices (past ++ entry.Heard frame ∷ []) rest none,
+          fateless_stand devices (past ++ entry.Heard frame ∷ []) rest none,
         )
 
     by_hearing : (b : Bool) → refusal_of m.outside.outer.air.frames frame ≡ None → hears_again devices past frame ≡ b → Again frame b (mesh_outs (mesh_of m.outside) (mesh.Repeats frame drawn route))
         → EachAfter Asks past (entries m this)
     by_hearing true fresh hears (rest, is, none) =
         heard_stands (dealt m.outside frame drawn route rest) hears (heard_first m frame drawn route rest acts.0.1 fresh is)
-        (each_unfated (mesh_after (mesh_of m.outside) (mesh.Repeats frame drawn route)).devices rest (record m.outside.outer { air = (mesh_after (mesh_of m.outside) (mesh.Repeats frame drawn route)).air }) none)
+        (all_deals_rest (mesh_after (mesh_of m.outside) (mesh.Repeats frame drawn route)).devices rest (record m.outside.outer { air = (mesh_after (mesh_of m.outside) (mesh.Repeats frame drawn route)).air }) none).fateless
     by_hearing false fresh hears is = subst (EachAfter Asks past) (sym (unheard_enters fresh is)) tt
 
     by_refusal : (refused : Option Refusal) → refusal_of m.outside.outer.air.frames frame ≡ refused → EachAfter Asks past (entries m this)

@@ -23,7 +23,8 @@ use Rattle.outside_model.specs.Events.{OuterEvent, Begins_line, Repeats, MayRepe
 use Rattle.world_model.specs.State.{Machine}
 use Rattle.world_model.specs.Events.{Event, Outside_does, entries, May}
 use Rattle.world_model.specs.Lines.{IsEffect}
-use Rattle.proof_walk.specs.Outside.{nothing, CoversOuter}
+use Rattle.proof_walk.proofs.Alone.{event_wordless, wordless_line}
+use Rattle.proof_walk.specs.Outside.{HasNoWords, nothing, CoversOuter}
 use Rattle.proof_walk.specs.Phases.{Phase, Between, Said_line, Begun, Doing, Turns, Goes}
 use Rattle.proof_walk.specs.Walk.{WalkOver}
 use Rattle.proof_walk.proofs.ByLine.{last_is}
@@ -31,12 +32,9 @@ use Rattle.proof_walk.proofs.Stepping.{Steps, event_then}
 use Rattle.proof_air.specs.Logs.{mark_step, plain_log, log_of, IsApart, Tie}
 use Rattle.proof_air.proofs.Handling.{tie_here}
 use Rattle.proof_air.proofs.Hearing.{same_refusal}
-use Rattle.proof_routes.specs.Knowing.{HasNoWords}
-use Rattle.proof_routes.proofs.Saying.{wordless_line}
 use Rattle.proof_devices.specs.Living.{Acts, MovesNone, KnowDevices, Saying}
 use Rattle.proof_fates.specs.Answering.{MayAnswer, Answered, IsAwaited, KnowAnswers, Ground, Listens}
 use Rattle.proof_fates.proofs.Again.{Again, again_tells, heard_first}
-use Rattle.proof_fates.proofs.Wordless.{AreWordless, wordless}
 
 -- what stands before the last entry
 pub before_is : (before : List Entry) (e : Entry) → before_last (before ++ e ∷ []) ≡ before
@@ -77,7 +75,7 @@ module _ (devices : List State) where
       let same : line ≡ lines.Repeat number = cc in
       absurd (subst IsOther same other)
 
-  answers_on : (past told : List Entry) → AreWordless told → Answered devices past → EachAfter Asks past told × Answered devices (past ++ told)
+  answers_on : (past told : List Entry) → AllByRecursion HasNoWords told → Answered devices past → EachAfter Asks past told × Answered devices (past ++ told)
   answers_on past [] none answered = (tt, subst (Answered devices) (sym (append-nil past)) answered)
   answers_on past (e ∷ told) none answered =
       let rest = answers_on (past ++ e ∷ []) told none.1 (after_one past e none.0) in
@@ -156,11 +154,11 @@ module _ (devices : List State) where
       refusals = same_refusal past m number tie ∙ ap (λ (l : List Mark). refusal_in l number) (sym logs)
 
       none_due : (refusal_in (log_of (before_last past)) number ≡ None → hears_again devices past number ≡ true → ⊥) → Goes_on
-      none_due never = answers_on past (entries m this) (wordless m this may) (none_asked past number last apart never)
+      none_due never = answers_on past (entries m this) (event_wordless m this may) (none_asked past number last apart never)
 
       heard_due : (rest : List Entry) → entries m this ≡ entry.Heard number ∷ rest → Goes_on
       heard_due rest is =
-          let none : AreWordless (entry.Heard number ∷ rest) = subst AreWordless is (wordless m this may) in
+          let none : AllByRecursion HasNoWords (entry.Heard number ∷ rest) = subst (AllByRecursion HasNoWords) is (event_wordless m this may) in
           let later = answers_on (past ++ entry.Heard number ∷ []) rest none.1 (after_one past (entry.Heard number) tt) in
           subst (λ (l : List Entry). EachAfter Asks past l × Answered devices (past ++ l)) (sym is)
           ((heard_stands past number last apart, later.0), subst (Answered devices) (append_assoc past (entry.Heard number ∷ []) rest) later.1)
@@ -206,7 +204,7 @@ module _ (devices : List State) where
     event_keeps : (here next : Phase) (past : List Entry) (m : Machine) (event : Event) → Goes here m event next → May m event → Ground devices here past m → Know here past m → Keeps next past m event
     event_keeps here next past m event goes may ground (inl awaits) = awaited_keeps here next past m event goes may ground awaits
     event_keeps here next past m event goes may ground (inr answered) =
-        let got = answers_on past (entries m event) (wordless m event may) answered in (got.0, inr got.1)
+        let got = answers_on past (entries m event) (event_wordless m event may) answered in (got.0, inr got.1)
 
     -- ---- each part that begins
 

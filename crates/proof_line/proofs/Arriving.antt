@@ -1,8 +1,7 @@
 -- What arrives of the units of a side, by the transcript, goes on with entries; and what is judged and on its way is that.
-use Rattle.std.proofs.Common.{◌≡◌, ℕ, ◌&&◌, not, nat_lt, nat_le, ◌+◌, Bool, true, false, if◌then◌else◌, List, [], ◌∷◌, ◌++◌, length, drop, refl, sym, ap, ap₂, subst, ◌∙◌, append-nil, append_assoc}
+use Rattle.std.proofs.Common.{◌≡◌, ℕ, ◌&&◌, not, nat_lt, nat_le, ◌+◌, Bool, true, false, if◌then◌else◌, List, [], ◌∷◌, ◌++◌, length, refl, sym, ap, ap₂, subst, ◌∙◌, append-nil, append_assoc}
 use Rattle.std.specs.List.{AllByRecursion, flat_map}
 use Rattle.std.proofs.lemmas.Grind.{flat_map-append}
-use Rattle.std.proofs.lemmas.List.{drop_at}
 use Rattle.serial_frame.specs.Items.{unit_text, IsUnit, ItemText}
 use Rattle.serial_frame.specs.Stream.{no_rest, Feeds}
 use Rattle.serial_frame.specs.declared.item.Item.{Item}
@@ -20,7 +19,6 @@ use Rattle.zw_text.specs.declared.entry.Entry.{Entry}
 use Rattle.zw_text.specs.declared.entry.Entry.TheVariants as entry
 use Rattle.zw_text.specs.Transcript.{line_of, same_side}
 use Rattle.law_transcript.specs.Restarts.{is_restart, begins_refused}
-use Rattle.law_wire.specs.Clearing.{bytes_in}
 use Rattle.law_wire.specs.Serial.{arriving_of, changed_or_not}
 use Rattle.proof_device.proofs.Entered.{IsMark, told_by_marks}
 use Rattle.proof_serial.specs.Way.{items_of, unit_item, changed_item}
@@ -226,7 +224,7 @@ comes_same way later texts same comes = record {
 }
 
 -- nothing is on its way
-none_carries : (way : WayState) → way.bytes ≡ [] → Feeds no_rest way.bytes no_rest []
+pub none_carries : (way : WayState) → way.bytes ≡ [] → Feeds no_rest way.bytes no_rest []
 none_carries way none = subst (λ (l : List ℕ). Feeds no_rest l no_rest []) (sym none) (record { reads = (tt, refl); ticks = refl })
 
 -- all of it is judged
@@ -250,9 +248,3 @@ comes_none way none = record { earlier = []; ahead = []; parts = refl; judged = 
 -- these are the same texts
 pub comes_at : (way : WayState) (old new : List (List ℕ)) → new ≡ old → Comes way old → Comes way new
 comes_at way old new same comes = subst (λ (l : List (List ℕ)). Comes way l) (sym same) comes
-
--- the bytes on their way are those of the last that arrived
-pub comes_lost : (way : WayState) (texts : List (List ℕ)) (comes : Comes way texts) → length way.bytes ≡ bytes_in (drop (length comes.earlier) texts)
-comes_lost way texts comes =
-    ap (λ (l : List ℕ). length l) comes.bytes
-    ∙ ap (λ (l : List (List ℕ)). bytes_in l) (sym (ap (λ (l : List (List ℕ)). drop (length comes.earlier) l) comes.parts ∙ drop_at comes.earlier comes.ahead (length comes.earlier) refl))

@@ -38,6 +38,7 @@ use Rattle.air_frames.specs.declared.ages.Refusal.{Refusal as RepeatRefusal}
 use Rattle.air_frames.specs.declared.ages.Refusal.TheVariants.{NeverSent, Forgotten, Stale}
 use Rattle.mesh_sim.specs.declared.event.AirEvent.{AirEvent}
 use Rattle.mesh_sim.specs.declared.event.AirEvent.TheVariants as air_event
+use Rattle.mesh_sim.specs.Air.{AirState}
 use Rattle.mesh_sim.specs.Fates.{place_of}
 use Rattle.mesh_sim.specs.Steps.{AirStep, mesh_after, mesh_outs}
 use Rattle.mesh_sim.specs.Steps as mesh
@@ -47,7 +48,7 @@ use Rattle.zw_text.specs.declared.entry.Entry.TheVariants as entry
 use Rattle.law_transcript.specs.Restarts.{begins_refused}
 use Rattle.outside_model.specs.State.{OuterState, Outside, Outcome, silent, tells, each, with_chip}
 use Rattle.outside_model.specs.Chip.{put_out, chip_does, chip_ticks}
-use Rattle.outside_model.specs.Results.{gives, device_at}
+use Rattle.outside_model.specs.Results.{device_at}
 use Rattle.outside_model.specs.Air.{deals, sent_entries, change_entries, change_at}
 use Rattle.outside_model.specs.Devices.{acts_at, acts_by_hand, shown_entries}
 use Rattle.outside_model.specs.Events.{OuterEvent, Chip_takes, Arrives, Gives, Device_ticks, Chip_ticks, Repeats, Wakes_device, Sets_device, Shows, Joins, Discovers, Links, Loses, Loses_acks, Marks_loss, Marks_change, Collides_next, Stalls, Cuts, mesh_of, outcome, steps, repeats}
@@ -285,45 +286,65 @@ results = record {
 
 -- ---- the air and the devices
 
-air_tells : (o : OuterState) (told : List Entry) → AllByRecursion IsOfAir told → Telling o (tells o told)
-air_tells o told of_air = still_tells o (tells o told) (all-weaker IsOfAir IsBeside beside_air told of_air) refl refl refl
-
 change_beside : (e : Entry) → IsChange e → IsBeside e
 change_beside (entry.Dev node by setting) change = (tt, refl)
 change_beside e change = absurd change
 
-deals_tell : (devices : List State) (o : OuterState) (event : AirEvent) → Telling o (deals devices o event)
-deals_tell devices o (air_event.Heard frame) = air_tells o (entry.Heard frame ∷ []) (tt, tt)
-deals_tell devices o (air_event.Lost frame) = air_tells o (entry.Lost frame ∷ []) (tt, tt)
-deals_tell devices o (air_event.Unheard frame) = air_tells o (entry.Unheard frame ∷ []) (tt, tt)
-deals_tell devices o (air_event.Sent frame from to route payload) = air_tells o (sent_entries (air_event.Sent frame from to route payload)) (tt, tt)
-deals_tell devices o (air_event.Changed node at) =
-    let change = change_at (device_at devices (place_of node devices)) at in
-    still_tells o (deals devices o (air_event.Changed node at)) (all-weaker IsChange IsBeside change_beside (change_entries node change) (change_entered node change)) refl refl refl
-deals_tell devices o (air_event.ToChip frame from payload) = to_chip_goes Telling results o from payload
-deals_tell devices o (air_event.Done frame status dead) = ends_go Telling results o status dead
+-- an event there
+abbrev pub IsArriving : OuterEvent → Type 0
+IsArriving (Arrives drawn route) = Unit {0}
+IsArriving (Gives route) = Unit {0}
+IsArriving (Device_ticks place drawn route) = Unit {0}
+IsArriving event = ⊥
 
-all_deal : (devices : List State) (events : List AirEvent) (o : OuterState) → Telling o (each (deals devices) o events)
-all_deal devices [] o = still_tells o (silent o) tt refl refl refl
-all_deal devices (event ∷ events) o =
-    both_telling o (deals devices o event) (each (deals devices) (deals devices o event).outer events) (deals_tell devices o event) (all_deal devices events (deals devices o event).outer)
+-- What goes on through all that the chip may be given, where nothing but such entries is told, and whatever the air is, goes on through what happens there.
+module _ (Goes : OuterState → Outcome → Type 0) (law : GivesSo Goes)
+    (beside : (o : OuterState) (x : Outcome) → AllByRecursion IsBeside x.entries → x.outer.to_host ≡ o.to_host → x.outer.to_chip ≡ o.to_chip → x.outer.chip.state.port ≡ o.chip.state.port → Goes o x)
+    (in_air : (o : OuterState) (air : AirState) (x : Outcome) → Goes (record o { air = air }) x → Goes o x) where
+  air_goes : (o : OuterState) (told : List Entry) → AllByRecursion IsOfAir told → Goes o (tells o told)
+  air_goes o told of_air = beside o (tells o told) (all-weaker IsOfAir IsBeside beside_air told of_air) refl refl refl
 
--- the same from another that differs in nothing of the line
-steps_tell : (w : Outside) (step : AirStep) → Telling w.outer (steps w step)
-steps_tell w step =
-    let o : OuterState = record w.outer { air = (mesh_after (mesh_of w) step).air } in
-    let got = all_deal (mesh_after (mesh_of w) step).devices (mesh_outs (mesh_of w) step) o in
-    record {
-      units = got.units;
-      puts = record { told = got.puts.told; to_host = got.puts.to_host; to_chip = got.puts.to_chip };
-      frames = got.frames;
-      fit = got.fit;
-    }
+  deals_go : (devices : List State) (o : OuterState) (event : AirEvent) → Goes o (deals devices o event)
+  deals_go devices o (air_event.Heard frame) = air_goes o (entry.Heard frame ∷ []) (tt, tt)
+  deals_go devices o (air_event.Lost frame) = air_goes o (entry.Lost frame ∷ []) (tt, tt)
+  deals_go devices o (air_event.Unheard frame) = air_goes o (entry.Unheard frame ∷ []) (tt, tt)
+  deals_go devices o (air_event.Sent frame from to route payload) = air_goes o (sent_entries (air_event.Sent frame from to route payload)) (tt, tt)
+  deals_go devices o (air_event.Changed node at) =
+      let change = change_at (device_at devices (place_of node devices)) at in
+      beside o (deals devices o (air_event.Changed node at)) (all-weaker IsChange IsBeside change_beside (change_entries node change) (change_entered node change)) refl refl refl
+  deals_go devices o (air_event.ToChip frame from payload) = to_chip_goes Goes law o from payload
+  deals_go devices o (air_event.Done frame status dead) = ends_go Goes law o status dead
 
-at_tells : (o : OuterState) (found : Option State) (event : DeviceEvent) (route : Option Route) → Telling o (acts_at o found event route)
-at_tells o None event route = still_tells o (silent o) tt refl refl refl
-at_tells o (Some device) event route =
-    still_tells o (acts_at o (Some device) event route) (all-weaker IsOfAir IsBeside beside_air (acts_at o (Some device) event route).entries (acts_of_air o device event route)) refl refl refl
+  all_deal : (devices : List State) (events : List AirEvent) (o : OuterState) → Goes o (each (deals devices) o events)
+  all_deal devices [] o = beside o (silent o) tt refl refl refl
+  all_deal devices (event ∷ events) o =
+      law.both o (deals devices o event) (λ later. each (deals devices) later events) (deals_go devices o event) (λ later. all_deal devices events later)
+
+  pub steps_go : (w : Outside) (step : AirStep) → Goes w.outer (steps w step)
+  steps_go w step =
+      in_air w.outer (mesh_after (mesh_of w) step).air (steps w step)
+      (all_deal (mesh_after (mesh_of w) step).devices (mesh_outs (mesh_of w) step) (record w.outer { air = (mesh_after (mesh_of w) step).air }))
+
+  pub at_goes : (o : OuterState) (found : Option State) (event : DeviceEvent) (route : Option Route) → Goes o (acts_at o found event route)
+  at_goes o None event route = beside o (silent o) tt refl refl refl
+  at_goes o (Some device) event route =
+      beside o (acts_at o (Some device) event route) (all-weaker IsOfAir IsBeside beside_air (acts_at o (Some device) event route).entries (acts_of_air o device event route)) refl refl refl
+
+  -- in a tick, before the chip
+  pub arriving_goes : (w : Outside) (event : OuterEvent) → IsArriving event → Goes w.outer (outcome w event)
+  unfolding outcome
+  arriving_goes w (Arrives drawn route) arriving = steps_go w (mesh.Arrives drawn route)
+  arriving_goes w (Gives route) arriving = gives_go Goes law w.outer w.devices w.outer.due route
+  arriving_goes w (Device_ticks place drawn route) arriving = at_goes w.outer (slice_get w.devices place) (Ticks drawn) route
+  arriving_goes w event arriving = absurd arriving
+
+in_air_tells : (o : OuterState) (air : AirState) (x : Outcome) → Telling (record o { air = air }) x → Telling o x
+in_air_tells o air x got = record {
+  units = got.units;
+  puts = record { told = got.puts.told; to_host = got.puts.to_host; to_chip = got.puts.to_chip };
+  frames = got.frames;
+  fit = got.fit;
+}
 
 -- ---- events outside the host
 
@@ -362,22 +383,13 @@ loosely o x telling =
 pub quietly : (o : OuterState) (x : Outcome) → AllByRecursion TellsNothing x.entries → x.outer.to_host.bytes ≡ o.to_host.bytes → x.outer.to_chip.bytes ≡ o.to_chip.bytes → OutcomeTells TellsNothing o x
 quietly o x told to_host to_chip = record { units = []; told = told; to_host = to_host; to_chip = to_chip; frames = refl; fit = λ has. tt }
 
--- in a tick, before the chip
-abbrev pub IsArriving : OuterEvent → Type 0
-IsArriving (Arrives drawn route) = Unit {0}
-IsArriving (Gives route) = Unit {0}
-IsArriving (Device_ticks place drawn route) = Unit {0}
-IsArriving event = ⊥
-
 pub arriving_tells : (w : Outside) (event : OuterEvent) → IsArriving event → OutcomeTells IsBeside w.outer (outcome w event)
-unfolding outcome
-arriving_tells w (Arrives drawn route) arriving = strictly w.outer (steps w (mesh.Arrives drawn route)) (steps_tell w (mesh.Arrives drawn route))
-arriving_tells w (Gives route) arriving = strictly w.outer (gives w.outer w.devices w.outer.due route) (gives_go Telling results w.outer w.devices w.outer.due route)
-arriving_tells w (Device_ticks place drawn route) arriving =
-    strictly w.outer (acts_at w.outer (slice_get w.devices place) (Ticks drawn) route) (at_tells w.outer (slice_get w.devices place) (Ticks drawn) route)
-arriving_tells w event arriving = absurd arriving
+arriving_tells w event arriving = strictly w.outer (outcome w event) (arriving_goes Telling results still_tells in_air_tells w event arriving)
 
 -- a tick of the chip
+pub tick_fit : (s : ChipState) → HasFrames s.port → Fit (chip_units (outs s Ticked))
+tick_fit s has = subst (λ (l : List ChipOut). Fit (chip_units l)) (append-nil (outs s Ticked)) (events_fit s (Ticked ∷ []) has (tt, tt))
+
 ticks_tell : (o : OuterState) → HasFrames o.chip.state.port → OutcomeTells IsBeside o (chip_ticks o)
 ticks_tell o has =
     let s : ChipState = o.chip.state in
@@ -389,7 +401,7 @@ ticks_tell o has =
       to_host = ap (λ (x : WayState). x.bytes) got.to_host;
       to_chip = ap (λ (x : WayState). x.bytes) got.to_chip;
       frames = put_unanswered (outs s Ticked) (fed_put s Ticked tt);
-      fit = λ later. subst (λ (l : List ChipOut). Fit (chip_units l)) (append-nil (outs s Ticked)) (events_fit s (Ticked ∷ []) has (tt, tt));
+      fit = λ later. tick_fit s has;
     }
 
 pub tick_tells : (w : Outside) → HasFrames w.outer.chip.state.port → OutcomeTells IsBeside w.outer (outcome w Chip_ticks)
@@ -398,14 +410,14 @@ tick_tells w has = ticks_tell w.outer has
 
 -- by hand
 repeats_tell : (w : Outside) (refused : Option RepeatRefusal) (step : AirStep) → OutcomeTells TellsNothing w.outer (repeats w refused step)
-repeats_tell w None step = loosely w.outer (steps w step) (steps_tell w step)
+repeats_tell w None step = loosely w.outer (steps w step) (steps_go Telling results still_tells in_air_tells w step)
 repeats_tell w (Some NeverSent) step = quietly w.outer (repeats w (Some NeverSent) step) (tt, tt) refl refl
 repeats_tell w (Some Forgotten) step = quietly w.outer (repeats w (Some Forgotten) step) (tt, tt) refl refl
 repeats_tell w (Some (Stale later)) step = quietly w.outer (repeats w (Some (Stale later)) step) (tt, tt) refl refl
 
 hand_tells : (w : Outside) (place : Option ℕ) (event : DeviceEvent) (route : Option Route) → OutcomeTells TellsNothing w.outer (acts_by_hand w.outer w.devices place event route)
 hand_tells w None event route = quietly w.outer (acts_by_hand w.outer w.devices None event route) (tt, tt) refl refl
-hand_tells w (Some place) event route = loosely w.outer (acts_at w.outer (slice_get w.devices place) event route) (at_tells w.outer (slice_get w.devices place) event route)
+hand_tells w (Some place) event route = loosely w.outer (acts_at w.outer (slice_get w.devices place) event route) (at_goes Telling results still_tells in_air_tells w.outer (slice_get w.devices place) event route)
 
 pub line_tells : (w : Outside) (event : OuterEvent) → IsByHand event → OutcomeTells TellsNothing w.outer (outcome w event)
 unfolding outcome

@@ -15,6 +15,7 @@ use Rattle.zw_words.specs.declared.side.Side.TheVariants.{Host as by_host, Chip 
 use Rattle.zw_text.specs.declared.entry.Entry.{Entry}
 use Rattle.zw_text.specs.declared.entry.Entry.TheVariants as entry
 use Rattle.law_wire.specs.Marks.{collisions, cans, MayCollide}
+use Rattle.chip_sim.specs.Waiting.{PortState}
 use Rattle.chip_sim.specs.State.{ChipState}
 use Rattle.chip_sim.specs.Requests.{passed, heard, answer_outs, judged_outs}
 use Rattle.chip_sim.specs.Events.{ChipEvent, Judged, Ticked, Heard, Done, Informed, Joined, Linked, Forgets, Collides, after, outs, collides}
@@ -168,10 +169,10 @@ abbrev IsLinked : ChipEvent → Type 0
 IsLinked (Linked a b live) = Unit {0}
 IsLinked _ = ⊥
 
-linked_left : (events : List ChipEvent) (s : ChipState) → AllByRecursion IsLinked events → (after_all s events).port.side.collisions ≡ s.port.side.collisions
-linked_left [] s linked = refl
-linked_left (Linked a b live ∷ events) s linked = linked_left events (after s (Linked a b live)) linked.1
-linked_left (event ∷ events) s linked = absurd linked.0
+linked_port : (events : List ChipEvent) (s : ChipState) → AllByRecursion IsLinked events → (after_all s events).port ≡ s.port
+linked_port [] s linked = refl
+linked_port (Linked a b live ∷ events) s linked = linked_port events (after s (Linked a b live)) linked.1
+linked_port (event ∷ events) s linked = absurd linked.0
 
 all_linked : (links : ℕ → ChipEvent) → ((n : ℕ) → IsLinked (links n)) → (l : List ℕ) → AllByRecursion IsLinked (map links l)
 all_linked links are [] = tt
@@ -181,12 +182,13 @@ pairs_linked : (air : AirState) (l : List ℕ) → AllByRecursion IsLinked (flat
 pairs_linked air [] = tt
 pairs_linked air (node ∷ l) = all-append IsLinked (pairs_of air node) (flat_map (λ (n : ℕ). pairs_of air n) l) (all_linked _ (λ n. tt) _) (pairs_linked air l)
 
-joins_left : (o : OuterState) (node : ℕ) (listening : Bool) → link_collisions (joins o node listening) ≡ link_collisions o
-joins_left o node listening = linked_left (links_of (joining o.air node listening) node) (after o.chip.state (Joined node listening)) (all_linked _ (λ n. tt) _)
+-- its port stays
+pub joins_port : (o : OuterState) (node : ℕ) (listening : Bool) → (joins o node listening).chip.state.port ≡ o.chip.state.port
+joins_port o node listening = linked_port (links_of (joining o.air node listening) node) (after o.chip.state (Joined node listening)) (all_linked _ (λ n. tt) _)
 
-discovers_left : (o : OuterState) → link_collisions (discovers o) ≡ link_collisions o
+pub discovers_port : (o : OuterState) → (discovers o).chip.state.port ≡ o.chip.state.port
 unfolding all_pairs
-discovers_left o = linked_left (all_pairs o.air) o.chip.state (pairs_linked o.air (filter (λ (node : ℕ). is_known o.air node) (range_with_len 1 232)))
+discovers_port o = linked_port (all_pairs o.air) o.chip.state (pairs_linked o.air (filter (λ (node : ℕ). is_known o.air node) (range_with_len 1 232)))
 
 -- ---- simple events
 
@@ -199,8 +201,8 @@ simple_comes w (Host_notes note) simple none = unchanged 0 w w (note ∷ []) (no
 simple_comes w (Shows node) simple none =
     unchanged 0 w w (outcome w (Shows node)).entries (shown_uncounted node (device_at w.devices (place_of node w.devices))) refl
 simple_comes w (Joins node) simple none =
-    unchanged 0 w (outside (outcome w (Joins node)).outer w.devices) [] tt (joins_left w.outer node (listens_at (device_at w.devices (place_of node w.devices))))
-simple_comes w Discovers simple none = unchanged 0 w (outside (outcome w Discovers).outer w.devices) [] tt (discovers_left w.outer)
+    unchanged 0 w (outside (outcome w (Joins node)).outer w.devices) [] tt (ap (λ (p : PortState). p.side.collisions) (joins_port w.outer node (listens_at (device_at w.devices (place_of node w.devices)))))
+simple_comes w Discovers simple none = unchanged 0 w (outside (outcome w Discovers).outer w.devices) [] tt (ap (λ (p : PortState). p.side.collisions) (discovers_port w.outer))
 simple_comes w (Links a b live) simple none = unchanged 0 w (outside (outcome w (Links a b live)).outer w.devices) [] tt refl
 simple_comes w (Loses count) simple none = unchanged 0 w (outside (outcome w (Loses count)).outer w.devices) [] tt refl
 simple_comes w (Loses_acks count) simple none = unchanged 0 w (outside (outcome w (Loses_acks count)).outer w.devices) [] tt refl

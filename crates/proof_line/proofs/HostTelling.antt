@@ -1,9 +1,9 @@
 -- What is told of the units that the host writes, with its notes; and which units these are: answers where it takes bytes, one for each item that is due one, and else frames.
-use Rattle.std.proofs.Common.{◌≡◌, ℕ, ◌+◌, Bool, true, false, List, [], ◌∷◌, ◌++◌, refl, ap, ap₂, subst, ◌∙◌, append-nil, arith}
+use Rattle.std.proofs.Common.{◌≡◌, ℕ, ◌+◌, Bool, true, false, List, [], ◌∷◌, ◌++◌, refl, sym, ap, ap₂, subst, ◌∙◌, append-nil, append_assoc, arith}
 use Rattle.std.proofs.lemmas.Grind.{flat_map-append}
 use Rattle.std.specs.Prelude.{Option, Some, None, Result, Ok, Err}
 use Rattle.std.specs.List.{AllByRecursion}
-use Rattle.zw_base.proofs.Each.{all-weaker}
+use Rattle.zw_base.proofs.Each.{all-append, all-weaker}
 use Rattle.serial_frame.specs.Stream.{Rest}
 use Rattle.serial_frame.specs.declared.frame.Kind.{Kind}
 use Rattle.serial_frame.specs.declared.frame.Kind.TheVariants as kind
@@ -12,6 +12,8 @@ use Rattle.serial_frame.specs.declared.item.Item.TheVariants.{Good, Refused}
 use Rattle.serial_frame.specs.declared.item.Refusal.TheVariants.{Stray, BadLength, BadSum, BadKind, Aborted}
 use Rattle.serial_frame.specs.declared.unit.Unit.{Unit as LineUnit}
 use Rattle.serial_frame.specs.declared.unit.Unit.TheVariants.{Ack, Nak, Can, Framed}
+use Rattle.serial_link.specs.Rules.{Step, items_of}
+use Rattle.serial_link.specs.Calls.{tick_step}
 use Rattle.serial_link.specs.declared.turn.Turn.{Turn}
 use Rattle.chip_functions.specs.declared.fault.BodyFault.{BodyFault}
 use Rattle.chip_functions.specs.declared.response.Response.{Response}
@@ -28,7 +30,7 @@ use Rattle.host_requests.specs.Events.RequestsEvent.{CallsBack as request_calls_
 use Rattle.host_node.specs.declared.attempt.Moment.TheVariants.{BetweenTicks}
 use Rattle.host_model.specs.State.{HostState, command_at}
 use Rattle.host_model.specs.Sessions.{settings_with}
-use Rattle.host_model.specs.Events.{HostEvent, Accepts, Cancels, Hears, Requests_do, Finishes, Offers, Gives, Spends, Spends_unread, Takes_nonce, Unreads, Is_unkept, Reports_old, Works, Notifies, Resends, Hears_value, Has_no_room}
+use Rattle.host_model.specs.Events.{HostEvent, Accepts, Cancels, Hears, Line_ticks, Requests_do, Finishes, Offers, Gives, Spends, Spends_unread, Takes_nonce, Unreads, Is_unkept, Reports_old, Works, Notifies, Resends, Hears_value, Has_no_room}
 use Rattle.host_model.specs.After.{after, is_full, is_held}
 use Rattle.host_model.specs.Did.{after_all, outs_all}
 use Rattle.host_model.specs.Outs.{answer_to, noted, request_entries, dropped_if, stored_entries, held_entries, ended_of, outs, answers}
@@ -36,31 +38,39 @@ use Rattle.host_model.specs.Taking.{told_requests, told_if, InterviewEvents, Res
 use Rattle.host_model.specs.declared.out.HostOut.{HostOut}
 use Rattle.host_model.specs.declared.out.HostOut.TheVariants.{Write, Note}
 use Rattle.host_model.proofs.EventLists.{outs_all-append}
-use Rattle.outside_model.specs.State.{Outside}
+use Rattle.outside_model.specs.State.{OuterState, Outside}
 use Rattle.outside_model.specs.Events.{OuterEvent, Host_writes, Host_notes, Host_begins, outcome, happens as happens_outside, entries as entries_outside}
 use Rattle.outside_model.specs.Did.{happens_all as happens_all_outside, entries_all as entries_all_outside}
 use Rattle.world_model.specs.State.{Machine, begun_in, noted_by, routed, host_does}
 use Rattle.world_model.specs.Events.{Host_does, Host_takes, fed, notes, happens, entries}
 use Rattle.proof_serial.specs.Way.{written_all}
 use Rattle.proof_serial.specs.Line.{host_unit, host_units, host_writes}
-use Rattle.proof_walk.specs.Outside.{IsHostNote, awaits_number}
+use Rattle.proof_walk.specs.Outside.{IsHostNote}
 use Rattle.proof_walk.proofs.HostNotes.{NoteOuts, is_note, all_outs_note}
 use Rattle.proof_walk.proofs.Machines.{UnitsAre}
+use Rattle.proof_traffic.specs.Links.{host_link_steps, host_link_steps_all}
+use Rattle.proof_line.specs.Links.{TicksNot}
 use Rattle.proof_world.proofs.Always.{one, none, either}
 use Rattle.proof_world.proofs.Heard.{IsOfPayload, payload_of}
 use Rattle.proof_line.specs.Rooms.{answer_due, answers_due}
 use Rattle.proof_line.proofs.Chipping.{IsFrame}
 use Rattle.proof_line.proofs.Hosting.{note_apart}
 use Rattle.proof_line.proofs.Tellings.{Tells, IsBeside, tells_both, tells_one, answers_all, answers_both}
-use Rattle.proof_line.proofs.Numbering.{Numbered, numbered_both, numbered_none, numbered}
+use Rattle.proof_line.proofs.Numbering.{Enters, enters_both, enters_none, outer_enters}
 
 -- ---- what is told
 
--- the units of these events outside, and the number of the tick
+-- whether a tick runs, its number, and until when bytes are stalled
+abbrev pub hosts_time : OuterState → Bool × ℕ × ℕ
+hosts_time o = (o.in_tick, o.clock, o.stalled_until)
+
+-- the units of these events outside, and the number of the tick; the chip and time stay
 pub record HostTells (w later : Outside) (units : List LineUnit) (entries : List Entry) : Type 0 where
   pub told : List Entry
   pub tells : Tells IsBeside by_host w.outer.to_chip units told
-  pub numbers : Numbered (awaits_number w.outer) (awaits_number later.outer) entries told
+  pub enters : Enters w.outer later.outer entries told
+  pub time : hosts_time later.outer ≡ hosts_time w.outer
+  pub chip : later.outer.chip ≡ w.outer.chip
   pub to_chip : later.outer.to_chip ≡ written_all w.outer.to_chip units
   pub to_host : later.outer.to_host ≡ w.outer.to_host
 
@@ -82,9 +92,11 @@ noted_tell w e beside events units more =
     record {
       told = (e ∷ []) ++ rest.told;
       tells = tells_both IsBeside by_host w.outer.to_chip [] units (e ∷ []) rest.told (beside, tt) rest.tells;
-      numbers =
-          numbered_both (awaits_number w.outer) (awaits_number v.outer) (awaits_number (happens_all_outside v events).outer) (entries_outside w (Host_notes e)) (entries_all_outside v events) (e ∷ []) rest.told
-          (numbered w.outer w.outer (e ∷ []) refl) rest.numbers;
+      enters =
+          enters_both w.outer v.outer (happens_all_outside v events).outer (entries_outside w (Host_notes e)) (entries_all_outside v events) (e ∷ []) rest.told refl
+          (outer_enters w.outer w.outer (e ∷ []) refl) rest.enters;
+      time = rest.time;
+      chip = rest.chip;
       to_chip = rest.to_chip;
       to_host = rest.to_host;
     }
@@ -98,20 +110,22 @@ begun_tell w None e beside events units more = noted_tell w e beside events unit
 begun_tell w (Some begun) e beside events units more =
     let v : Outside = happens_outside w (Host_begins begun.0 begun.1) in
     let rest = noted_tell v e beside events units more in
-    record { told = rest.told; tells = rest.tells; numbers = rest.numbers; to_chip = rest.to_chip; to_host = rest.to_host }
+    record { told = rest.told; tells = rest.tells; enters = rest.enters; time = rest.time; chip = rest.chip; to_chip = rest.to_chip; to_host = rest.to_host }
 
 pub outs_tell : (outs : List HostOut) → NoteOuts outs → (w : Outside) → HostTells w (happens_all_outside w (routed outs)) (host_units outs) (entries_all_outside w (routed outs))
 unfolding outcome
-outs_tell [] are w = record { told = []; tells = tt; numbers = numbered_none (awaits_number w.outer); to_chip = refl; to_host = refl }
+outs_tell [] are w = record { told = []; tells = tt; enters = enters_none w.outer w.outer refl; time = refl; chip = refl; to_chip = refl; to_host = refl }
 outs_tell (Write unit ∷ outs) are w =
     let v : Outside = happens_outside w (Host_writes unit) in
     let rest = outs_tell outs are.1 v in
     record {
       told = (outcome w (Host_writes unit)).entries ++ rest.told;
       tells = tells_both IsBeside by_host w.outer.to_chip (unit ∷ []) (host_units outs) (outcome w (Host_writes unit)).entries rest.told (tells_one IsBeside by_host w.outer.to_chip unit) rest.tells;
-      numbers =
-          numbered_both (awaits_number w.outer) (awaits_number v.outer) (awaits_number (happens_all_outside v (routed outs)).outer) (entries_outside w (Host_writes unit)) (entries_all_outside v (routed outs))
-          (outcome w (Host_writes unit)).entries rest.told (numbered w.outer (outcome w (Host_writes unit)).outer (outcome w (Host_writes unit)).entries refl) rest.numbers;
+      enters =
+          enters_both w.outer v.outer (happens_all_outside v (routed outs)).outer (entries_outside w (Host_writes unit)) (entries_all_outside v (routed outs)) (outcome w (Host_writes unit)).entries rest.told refl
+          (outer_enters w.outer (outcome w (Host_writes unit)).outer (outcome w (Host_writes unit)).entries refl) rest.enters;
+      time = rest.time;
+      chip = rest.chip;
       to_chip = rest.to_chip;
       to_host = rest.to_host;
     }
@@ -119,7 +133,7 @@ outs_tell (Note e ∷ outs) are w = begun_tell w (begun_in e) e (beside_note e a
 
 -- notes alone
 pub notes_tell : (es : List Entry) → AllByRecursion IsBeside es → (w : Outside) → HostTells w (happens_all_outside w (notes es)) [] (entries_all_outside w (notes es))
-notes_tell [] are w = record { told = []; tells = tt; numbers = numbered_none (awaits_number w.outer); to_chip = refl; to_host = refl }
+notes_tell [] are w = record { told = []; tells = tt; enters = enters_none w.outer w.outer refl; time = refl; chip = refl; to_chip = refl; to_host = refl }
 notes_tell (e ∷ es) are w = noted_tell w e are.0 (notes es) [] (λ v. notes_tell es are.1 v)
 
 pub answers_beside : (h : HostState) (event : HostEvent) → AllByRecursion IsBeside (answers h event)
@@ -136,7 +150,9 @@ module _ (w v later : Outside) (units : List LineUnit) (xs ys : List Entry) wher
         told = first.told ++ second.told;
         tells = subst (λ (us : List LineUnit). Tells IsBeside by_host w.outer.to_chip us (first.told ++ second.told)) both
             (tells_both IsBeside by_host w.outer.to_chip units [] first.told second.told first.tells second.tells);
-        numbers = numbered_both (awaits_number w.outer) (awaits_number v.outer) (awaits_number later.outer) xs ys first.told second.told first.numbers second.numbers;
+        enters = enters_both w.outer v.outer later.outer xs ys first.told second.told (ap (λ (t : Bool × ℕ × ℕ). t.1) first.time) first.enters second.enters;
+        time = second.time ∙ first.time;
+        chip = second.chip ∙ first.chip;
         to_chip = second.to_chip ∙ first.to_chip;
         to_host = second.to_host ∙ first.to_host;
       }
@@ -174,47 +190,47 @@ frames_unanswered (Write Can ∷ outs) are = absurd are.0
 frames_unanswered (Write (Framed f) ∷ outs) are = let rest = frames_unanswered outs are.1 in omega (arith, rest)
 frames_unanswered (Note e ∷ outs) are = frames_unanswered outs are
 
--- an event that writes nothing
+-- an event that writes nothing, and at which the link does nothing
 abbrev IsMute : HostEvent → Type 0
-IsMute event = (h : HostState) → host_units (outs h event) ≡ []
+IsMute event = (h : HostState) → (host_units (outs h event) ≡ []) × (host_link_steps h event ≡ [])
 
 all_mute : (events : List HostEvent) → AllByRecursion IsMute events → (h : HostState) → answers_all (host_units (outs_all h events)) ≡ 0
 all_mute [] all h = refl
 all_mute (event ∷ events) all h =
-    ap (λ (l : List LineUnit). answers_all l) (units_both (outs h event) (outs_all (after h event) events) ∙ ap (λ (l : List LineUnit). l ++ host_units (outs_all (after h event) events)) (all.0 h))
+    ap (λ (l : List LineUnit). answers_all l) (units_both (outs h event) (outs_all (after h event) events) ∙ ap (λ (l : List LineUnit). l ++ host_units (outs_all (after h event) events)) (all.0 h).0)
     ∙ all_mute events all.1 (after h event)
 
 pub payload_mute : (n : ℕ) (event : HostEvent) → IsOfPayload n event → IsMute event
 payload_mute n (Finishes other session id command status wake_request) of_it h =
-    noted_none (entry.Out command (ended_of status) ∷ (stored_entries other (settings_with status (command_at h.commands command)) ++ held_entries other (is_held h other wake_request)))
-payload_mute n (Gives other drawn) of_it h = noted_none (dropped_if (is_full h) other)
-payload_mute n (Spends other) of_it h = refl
-payload_mute n (Spends_unread other payload) of_it h = refl
-payload_mute n (Takes_nonce other seen text) of_it h = refl
-payload_mute n (Unreads other payload) of_it h = refl
-payload_mute n (Is_unkept other) of_it h = refl
-payload_mute n (Reports_old other id) of_it h = refl
-payload_mute n (Works other id) of_it h = refl
-payload_mute n (Offers other) of_it h = noted_none (dropped_if (is_full h) other)
-payload_mute n (Notifies other) of_it h = refl
-payload_mute n (Resends other payload) of_it h = noted_none (dropped_if (is_full h) other)
-payload_mute n (Hears_value other setting) of_it h = refl
-payload_mute n (Has_no_room other property) of_it h = refl
+    (noted_none (entry.Out command (ended_of status) ∷ (stored_entries other (settings_with status (command_at h.commands command)) ++ held_entries other (is_held h other wake_request))), refl)
+payload_mute n (Gives other drawn) of_it h = (noted_none (dropped_if (is_full h) other), refl)
+payload_mute n (Spends other) of_it h = (refl, refl)
+payload_mute n (Spends_unread other payload) of_it h = (refl, refl)
+payload_mute n (Takes_nonce other seen text) of_it h = (refl, refl)
+payload_mute n (Unreads other payload) of_it h = (refl, refl)
+payload_mute n (Is_unkept other) of_it h = (refl, refl)
+payload_mute n (Reports_old other id) of_it h = (refl, refl)
+payload_mute n (Works other id) of_it h = (refl, refl)
+payload_mute n (Offers other) of_it h = (noted_none (dropped_if (is_full h) other), refl)
+payload_mute n (Notifies other) of_it h = (refl, refl)
+payload_mute n (Resends other payload) of_it h = (noted_none (dropped_if (is_full h) other), refl)
+payload_mute n (Hears_value other setting) of_it h = (refl, refl)
+payload_mute n (Has_no_room other property) of_it h = (refl, refl)
 payload_mute n event of_it h = absurd of_it
 
 told_if_mute : (b : Bool) (event : RequestsEvent) (events : List HostEvent) → events ≡ told_if b event → AllByRecursion IsMute events
-told_if_mute true event events is = one IsMute (Requests_do event BetweenTicks) events (λ h. noted_none (request_entries h event)) is
+told_if_mute true event events is = one IsMute (Requests_do event BetweenTicks) events (λ h. (noted_none (request_entries h event), refl)) is
 told_if_mute false event events is = none IsMute events is
 
 response_mute : (r : Result Response BodyFault) (events : List HostEvent) → ResponseEvents r events → AllByRecursion IsMute events
-response_mute (Ok r) events is = one IsMute (Requests_do (request_responds r) BetweenTicks) events (λ h. noted_none (request_entries h (request_responds r))) is
+response_mute (Ok r) events is = one IsMute (Requests_do (request_responds r) BetweenTicks) events (λ h. (noted_none (request_entries h (request_responds r)), refl)) is
 response_mute (Err fault) events is = none IsMute events is
 
 update_mute : (update : Update) (events : List HostEvent) → events ≡ told_requests (request_updates update) → AllByRecursion IsMute events
-update_mute update events is = one IsMute (Requests_do (request_updates update) BetweenTicks) events (λ h. noted_none (request_entries h (request_updates update))) is
+update_mute update events is = one IsMute (Requests_do (request_updates update) BetweenTicks) events (λ h. (noted_none (request_entries h (request_updates update)), refl)) is
 
 interview_mute : (update : Update) (brought : Option ℕ) (events : List HostEvent) → InterviewEvents update brought events → AllByRecursion IsMute events
-interview_mute (Received n basic generic specific classes) (Some capability) events is = either IsMute _ _ events (λ h. refl) (λ h. refl) is
+interview_mute (Received n basic generic specific classes) (Some capability) events is = either IsMute _ _ events (λ h. (refl, refl)) (λ h. (refl, refl)) is
 interview_mute RequestFailed (Some capability) events is = none IsMute events is
 interview_mute (Received n basic generic specific classes) None events is = update_mute (Received n basic generic specific classes) events is
 interview_mute RequestFailed None events is = update_mute RequestFailed events is
@@ -223,7 +239,7 @@ notice_mute : (h : HostState) (notice : Result Notice BodyFault) (events : List 
 notice_mute h (Ok (ApplicationCommandHandler rx_status source payload)) events is =
     all-weaker (IsOfPayload source) IsMute (payload_mute source) events (payload_of source h payload _ events is)
 notice_mute h (Ok (SendData callback_id status)) events is =
-    one IsMute (Requests_do (request_calls_back callback_id status) BetweenTicks) events (λ g. noted_none (request_entries g (request_calls_back callback_id status))) is
+    one IsMute (Requests_do (request_calls_back callback_id status) BetweenTicks) events (λ g. (noted_none (request_entries g (request_calls_back callback_id status)), refl)) is
 notice_mute h (Ok (ApplicationUpdate update)) events is = interview_mute update _ events is
 notice_mute h (Ok (AddNode callback_id status information)) events is = none IsMute events is
 notice_mute h (Err fault) events is = none IsMute events is
@@ -270,3 +286,38 @@ judged_answers h (item ∷ items) events (first, rest, are, (more, first_are, fo
   where
     plus_none : (n : ℕ) → n + 0 ≡ n
     plus_none n = omega arith
+
+-- ---- what the link does as it takes bytes
+
+steps_muted : (events : List HostEvent) → AllByRecursion IsMute events → (h : HostState) → host_link_steps_all h events ≡ []
+steps_muted [] all h = refl
+steps_muted (event ∷ events) all h = ap₂ (λ (a b : List Step). a ++ b) (all.0 h).1 (steps_muted events all.1 (after h event))
+
+steps_both : (events more : List HostEvent) (h : HostState) → host_link_steps_all h (events ++ more) ≡ host_link_steps_all h events ++ host_link_steps_all (after_all h events) more
+steps_both [] more h = refl
+steps_both (event ∷ events) more h =
+    ap (λ (l : List Step). host_link_steps h event ++ l) (steps_both events more (after h event))
+    ∙ sym (append_assoc (host_link_steps h event) (host_link_steps_all (after h event) events) (host_link_steps_all (after_all h (event ∷ events)) more))
+
+-- it hears the items, in their order
+pub judged_items : (h : HostState) (items : List Item) (events : List HostEvent) → AreJudged h items events → items_of (host_link_steps_all h events) ≡ items
+judged_items h [] events is = ap (λ (l : List HostEvent). items_of (host_link_steps_all h l)) is
+judged_items h (item ∷ items) events (first, rest, are, (more, first_are, followed), others) =
+    let heard : HostState = after h (Hears item) in
+    let one : List Step = host_link_steps h (Hears item) in
+    let firsts : host_link_steps_all h first ≡ one =
+    ap (λ (l : List HostEvent). host_link_steps_all h l) first_are ∙ ap (λ (l : List Step). one ++ l) (steps_muted more (followed_mute heard h.side.turn item more followed) heard) in
+    ap (λ (l : List HostEvent). items_of (host_link_steps_all h l)) are ∙ ap (λ (l : List Step). items_of l) (steps_both first rest h)
+    ∙ ap (λ (l : List Step). items_of (l ++ host_link_steps_all (after_all h first) rest)) firsts ∙ ap (λ (l : List Item). item ∷ l) (judged_items (after_all h first) items rest others)
+
+-- and ticks at none of them
+mute_ticks : (h : HostState) (event : HostEvent) → IsMute event → TicksNot event
+mute_ticks h Line_ticks mute = absurd (let none : tick_step h.side ∷ [] ≡ [] = (mute h).1 in cc)
+mute_ticks h event mute = tt
+
+pub judged_ticks : (h : HostState) (items : List Item) (events : List HostEvent) → AreJudged h items events → AllByRecursion TicksNot events
+judged_ticks h [] events is = none TicksNot events is
+judged_ticks h (item ∷ items) events (first, rest, are, (more, first_are, followed), others) =
+    let later : AllByRecursion TicksNot more = all-weaker IsMute TicksNot (mute_ticks h) more (followed_mute (after h (Hears item)) h.side.turn item more followed) in
+    let firsts : AllByRecursion TicksNot first = subst (λ (l : List HostEvent). AllByRecursion TicksNot l) (sym first_are) (tt, later) in
+    subst (λ (l : List HostEvent). AllByRecursion TicksNot l) (sym are) (all-append TicksNot first rest firsts (judged_ticks (after_all h first) items rest others))

@@ -40,6 +40,7 @@ use Rattle.proof_walk.specs.Outside.{Moves, IsNote, session_begins}
 use Rattle.proof_walk.specs.ByLine.{IsAsked}
 use Rattle.proof_walk.proofs.Stamping.{stamped}
 use Rattle.proof_walk.proofs.Machines.{UnitsAre, any_told, outs_keep, answers_keep}
+use Rattle.proof_line.specs.Links.{TicksNot}
 use Rattle.proof_line.specs.Pipes.{MayTell, Mode, most, Held, HearsNothing}
 use Rattle.proof_line.proofs.Holding.{TellsNothing, Grown}
 use Rattle.proof_line.proofs.Filling.{Up, Down, HoldsEmpty, held_same, held_turn, host_writes}
@@ -117,27 +118,34 @@ ticks_nothing (node ∷ nodes) = (tt, ticks_nothing nodes)
 pub tick_nothing : (h : HostState) → AllByRecursion HearsNothing (tick_events h)
 tick_nothing h = all-append HearsNothing first_ticks (map Node_ticks (ticking_nodes (after_all h first_ticks))) (tt, (tt, tt)) (ticks_nothing (ticking_nodes (after_all h first_ticks)))
 
-gives_nothing : (h : HostState) (n : ℕ) (text : Option (List ℕ)) (event : HostEvent) → GivesNext h n text event → HearsNothing event
-gives_nothing h n (Some text) event is = subst HearsNothing (sym is) tt
-gives_nothing h n None event (payload, opens, is) = subst HearsNothing (sym is) tt
+-- what is submitted neither hears nor ticks
+abbrev IsAlone : HostEvent → Type 0
+IsAlone event = HearsNothing event × TicksNot event
 
-served_nothing : (h : HostState) (n : ℕ) (series : Series) (event : HostEvent) → IsServedBy h n series event → HearsNothing event
-served_nothing h n Running event is = gives_nothing h n (node_of h n).text event is
-served_nothing h n Due event (plan, more, payload, start, is) = subst HearsNothing (sym is) tt
-served_nothing h n Idle event (inl is) = subst HearsNothing (sym is) tt
-served_nothing h n Idle event (inr is) = subst HearsNothing (sym is) tt
+gives_alone : (h : HostState) (n : ℕ) (text : Option (List ℕ)) (event : HostEvent) → GivesNext h n text event → IsAlone event
+gives_alone h n (Some text) event is = subst IsAlone (sym is) (tt, tt)
+gives_alone h n None event (payload, opens, is) = subst IsAlone (sym is) (tt, tt)
 
-nodes_nothing : (h : HostState) (node : Option ℕ) (event : HostEvent) → IsNextOfNodes h node event → HearsNothing event
-nodes_nothing h None event is = absurd is
-nodes_nothing h (Some n) event is = served_nothing h n (node_of h n).series event is
+served_alone : (h : HostState) (n : ℕ) (series : Series) (event : HostEvent) → IsServedBy h n series event → IsAlone event
+served_alone h n Running event is = gives_alone h n (node_of h n).text event is
+served_alone h n Due event (plan, more, payload, start, is) = subst IsAlone (sym is) (tt, tt)
+served_alone h n Idle event (inl is) = subst IsAlone (sym is) (tt, tt)
+served_alone h n Idle event (inr is) = subst IsAlone (sym is) (tt, tt)
 
-next_of_nothing : (h : HostState) (owes : Bool) (queue : List Task) (event : HostEvent) → IsNextOf h owes queue event → HearsNothing event
-next_of_nothing h true queue event is = subst HearsNothing (sym is) tt
-next_of_nothing h false (task ∷ more) event is = subst HearsNothing (sym is) tt
-next_of_nothing h false [] event is = nodes_nothing h (next_of h.nodes h.served) event is
+nodes_alone : (h : HostState) (node : Option ℕ) (event : HostEvent) → IsNextOfNodes h node event → IsAlone event
+nodes_alone h None event is = absurd is
+nodes_alone h (Some n) event is = served_alone h n (node_of h n).series event is
+
+next_of_alone : (h : HostState) (owes : Bool) (queue : List Task) (event : HostEvent) → IsNextOf h owes queue event → IsAlone event
+next_of_alone h true queue event is = subst IsAlone (sym is) (tt, tt)
+next_of_alone h false (task ∷ more) event is = subst IsAlone (sym is) (tt, tt)
+next_of_alone h false [] event is = nodes_alone h (next_of h.nodes h.served) event is
 
 pub next_nothing : (h : HostState) (event : HostEvent) → IsNext h event → HearsNothing event
-next_nothing h event is = next_of_nothing h h.requests.owes h.requests.queue event is.1
+next_nothing h event is = (next_of_alone h h.requests.owes h.requests.queue event is.1).0
+
+pub next_apart : (h : HostState) (event : HostEvent) → IsNext h event → TicksNot event
+next_apart h event is = (next_of_alone h h.requests.owes h.requests.queue event is.1).1
 
 -- ---- what the host puts out
 

@@ -12,17 +12,6 @@ mod Hosting
 pub mod Piping
 pub mod Clearing
 mod Arriving
-mod Moments
-mod Serials
-mod LinkSteps
-mod LinkKnown
-mod LinkTold
-mod LinkGoes
-mod LinkLines
-mod LinkChip
-mod LinkGiven
-mod LinkHost
-mod LinkEnds
 mod Fitting
 mod Tellings
 mod Numbering
@@ -31,3 +20,32 @@ mod ChipTelling
 mod Goings
 mod Roomy
 pub mod Rooming
+mod Moments
+mod Serials
+mod LinkSteps
+mod LinkKnown
+mod LinkUntil
+mod LinkTime
+mod LinkTold
+mod LinkGoes
+mod LinkLines
+mod LinkChip
+mod LinkGiven
+mod LinkHost
+mod LinkEnds
+mod LinkEvents
+mod LinkTicks
+mod LinkWants
+mod LinkSettles
+mod LinkBegins
+mod LinkEffects
+mod LinkPlain
+mod LinkRestarts
+mod LinkOnes
+mod LinkSome
+mod LinkWalk
+pub use Rattle.proof_spoken.proofs.Orders
+pub use Rattle.proof_spoken.proofs.Plain
+pub use Rattle.proof_spoken.proofs.RoutineNotes
+pub use Rattle.proof_spoken.proofs.SaidOrders
+pub use Rattle.proof_spoken.proofs.SpokenLines

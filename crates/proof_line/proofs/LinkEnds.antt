@@ -1,16 +1,61 @@
--- What is known of both links gives the law of links, also of a run that was cut short.
-use Rattle.std.proofs.Common.{false, List, replicate}
+-- What is known of both links gives the laws of links and of what restarts lose, of a run that was cut short, and of a whole one.
+use Rattle.std.proofs.Common.{◌≡◌, ℕ, Bool, true, false, List, [], ◌∷◌, ◌++◌, map, refl, sym, ◌∙◌, subst, append-nil}
 use Rattle.zw_words.specs.declared.side.Side.TheVariants.{Host, Chip}
 use Rattle.zw_text.specs.declared.entry.Entry.{Entry}
-use Rattle.law_wire.specs.Serial.SerialEvent.{Tick_begins}
-use Rattle.law_wire.specs.Links.{KeepsLinks}
-use Rattle.world_model.specs.State.{Machine}
-use Rattle.proof_line.specs.Links.{LinkNow}
-use Rattle.proof_line.specs.Linked.{KnowsBoth}
-use Rattle.proof_line.proofs.LinkKnown.{keeps_link}
+use Rattle.zw_text.specs.declared.entry.Entry.TheVariants.{Said}
+use Rattle.law_wire.specs.Clearing.{AreTold, Cleared_there, ClearsLine, IsTold, clears, lost_by, to_clear}
+use Rattle.law_wire.specs.Links.{KeepsLink}
+use Rattle.outside_model.specs.State.{OuterState}
+use Rattle.proof_line.specs.Pipes.{ClearsNowhereElse}
+use Rattle.proof_line.specs.Links.{AtLine, KnowsLink, LinkNow}
+use Rattle.proof_line.specs.Linked.{Cuts}
+use Rattle.proof_line.proofs.LinkKnown.{keeps_link, keeps_lost}
 
-pub cut_keeps : (is_tick : _) (past : List Entry) (m : Machine) (up down : LinkNow) → KnowsBoth is_tick past m up down → KeepsLinks false past
-cut_keeps is_tick past m up down knows = record {
-  chip = keeps_link Chip past (replicate knows.waiting Tick_begins) up knows.chip;
-  host = keeps_link Host past (replicate knows.waiting Tick_begins) down knows.host;
-}
+-- ---- a run that was cut short
+
+pub cuts_of : (past : List Entry) (up down : LinkNow) → KnowsLink Chip past up → KnowsLink Host past down → AreTold (clears past) (to_clear up.lost down.lost) → Cuts past
+cuts_of past up down chip host told =
+    let of_chip : KeepsLink Chip past = keeps_link Chip past up chip in
+    let of_host : KeepsLink Host past = keeps_link Host past down host in
+    let chip_lost : up.lost ≡ lost_by Chip past (keeps_link Chip past up chip).parts = sym (keeps_lost Chip past up chip) in
+    let host_lost : down.lost ≡ lost_by Host past (keeps_link Host past down host).parts = sym (keeps_lost Host past down host) in
+    record {
+      links = record { chip = of_chip; host = of_host };
+      each = subst (λ (l : List ℕ). AreTold (clears past) (to_clear (lost_by Chip past of_chip.parts) l)) host_lost (subst (λ (l : List ℕ). AreTold (clears past) (to_clear l down.lost)) chip_lost told);
+    }
+
+one_told : (over : Bool) (entries due : List Entry) → entries ≡ due → IsTold over entries due
+one_told true entries due is = is
+one_told false entries due is = ([], sym is ∙ sym (append-nil entries))
+
+pub all_told : (there : List Cleared_there) (dues : List (List Entry)) → map (λ (one : Cleared_there). one.entries) there ≡ dues → AreTold there dues
+all_told [] [] is = tt
+all_told [] (due ∷ dues) is = absurd cc
+all_told (one ∷ there) [] is = absurd cc
+all_told (one ∷ there) (due ∷ dues) is =
+    let first : one.entries ≡ due = cc in
+    let rest : map (λ (one : Cleared_there). one.entries) there ≡ dues = cc in
+    (one_told one.is_over one.entries due first, all_told there dues rest)
+
+-- all is told
+pub line_cuts : (past : List Entry) (o : OuterState) (up down : LinkNow) → AtLine past o up down → Cuts past
+line_cuts past o up down line = cuts_of past up down line.chip line.host (all_told (clears past) (to_clear up.lost down.lost) line.clears)
+
+-- and of the last restart a prefix
+pub some_told : (there : List Cleared_there) (dues : List (List Entry)) (told more : List Entry) → map (λ (one : Cleared_there). one.entries) there ≡ dues
+    → AreTold (there ++ record { entries = told; is_over = false } ∷ []) (dues ++ (told ++ more) ∷ [])
+some_told [] [] told more is = ((more, refl), tt)
+some_told [] (due ∷ dues) told more is = absurd cc
+some_told (one ∷ there) [] told more is = absurd cc
+some_told (one ∷ there) (due ∷ dues) told more is =
+    let first : one.entries ≡ due = cc in
+    let rest : map (λ (one : Cleared_there). one.entries) there ≡ dues = cc in
+    (one_told one.is_over one.entries due first, some_told there dues told more rest)
+
+-- ---- with nothing else told
+
+pub cut_clears : (past : List Entry) → Cuts past → ClearsNowhereElse false past → ClearsLine false past
+cut_clears past cuts only = record { links = cuts.links; each = cuts.each; only = only }
+
+pub whole_clears : (past : List Entry) → Cuts (past ++ Said [] ∷ []) → ClearsNowhereElse true past → ClearsLine true past
+whole_clears past cuts only = record { links = record { chip = cuts.links.chip; host = cuts.links.host }; each = cuts.each; only = only }

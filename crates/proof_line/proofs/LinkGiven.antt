@@ -1,48 +1,67 @@
 -- What the chip is given, in a line or before its own tick: what is known of both links goes on with it.
-use Rattle.std.proofs.Common.{◌≡◌, ◌+◌, true, List, [], ◌∷◌, ◌++◌, map, refl, sym, ap, ◌∙◌, subst, append-nil, append_assoc, arith}
+use Rattle.std.proofs.Common.{◌≡◌, ◌⊎◌, inl, inr, ℕ, ◌+◌, true, List, [], ◌∷◌, ◌++◌, map, refl, sym, ap, ◌∙◌, subst, append_assoc, arith}
+use Rattle.std.specs.Prelude.{Option, Some, None, slice_get}
+use Rattle.std.specs.List.{AllByRecursion}
+use Rattle.zw_base.specs.declared.property.Setting.{Setting}
 use Rattle.serial_frame.specs.Frame.{FrameParts}
+use Rattle.serial_frame.specs.Stream.{Feeds, no_rest}
 use Rattle.serial_frame.specs.declared.unit.Unit.{Unit as LineUnit}
 use Rattle.serial_frame.specs.declared.item.Item.{Item}
 use Rattle.serial_link.specs.Rules.{Step, items_of, ticks_of}
 use Rattle.serial_link.specs.Calls.{submit_step}
 use Rattle.serial_link.proofs.Counting.{ticks_of-append}
+use Rattle.route_table.specs.declared.route.Route.{Route}
 use Rattle.serial_pipes.specs.State.{WayState}
 use Rattle.chip_sim.specs.Link.{chip_units, link_event, link_steps}
+use Rattle.chip_sim.specs.Waiting.{PortState}
 use Rattle.chip_sim.specs.State.{ChipState}
 use Rattle.chip_sim.specs.Events.{ChipEvent, Heard, Done, Informed, after, outs}
 use Rattle.chip_sim.specs.Rules.{WaitsWell, begun_at}
 use Rattle.chip_sim.proofs.Histories.{well_all}
+use Rattle.device_sim.specs.State.{State}
+use Rattle.device_sim.specs.Event.{DeviceEvent, Wakes, Sets}
+use Rattle.air_frames.specs.Ages.{refusal_of}
+use Rattle.air_frames.specs.declared.ages.Refusal.{Refusal as RepeatRefusal}
+use Rattle.air_frames.specs.declared.ages.Refusal.TheVariants.{NeverSent, Forgotten, Stale}
+use Rattle.mesh_sim.specs.Air.{AirState}
+use Rattle.mesh_sim.specs.Fates.{place_of}
+use Rattle.mesh_sim.specs.Steps.{AirStep}
+use Rattle.mesh_sim.specs.Steps as mesh
 use Rattle.zw_words.specs.declared.side.Side.TheVariants.{Host, Chip}
 use Rattle.zw_text.specs.declared.entry.Entry.{Entry}
 use Rattle.zw_text.specs.declared.entry.Entry.TheVariants as entry
-use Rattle.outside_model.specs.State.{OuterState, Outcome}
+use Rattle.zw_text.specs.declared.entry.Refusal.{Refusal}
+use Rattle.zw_text.specs.declared.entry.Refusal.TheVariants as refusal
+use Rattle.outside_model.specs.State.{OuterState, Outside, Outcome, silent, tells}
 use Rattle.outside_model.specs.Chip.{chip_does}
+use Rattle.outside_model.specs.Nodes.{listens_at}
+use Rattle.outside_model.specs.Results.{device_at}
+use Rattle.outside_model.specs.Devices.{acts_by_hand, shown_entries}
+use Rattle.outside_model.specs.Events.{OuterEvent, Repeats, Wakes_device, Sets_device, Shows, Joins, Discovers, Links, Loses, Loses_acks, Marks_loss, Marks_change, Cuts, outcome, repeats}
 use Rattle.proof_device.proofs.Results.{Gives as GivesSo, IsGiven}
 use Rattle.proof_serial.specs.Chip.{HasFrames}
 use Rattle.proof_walk.proofs.Times.{does_chip}
-use Rattle.proof_line.specs.Links.{Brings, KnowsLink, LinkNow, MayOfChip, TakesTexts}
-use Rattle.proof_line.proofs.ChipTelling.{does_tell, given_back}
+use Rattle.proof_line.specs.Links.{AtLine, Brings, LinkNow, MayOfChip, TakesTexts}
+use Rattle.proof_line.specs.Linked.{IsHandPlain}
+use Rattle.proof_line.proofs.Colliding.{discovers_port, joins_port}
+use Rattle.proof_line.proofs.ChipTelling.{IsArriving, arriving_goes, at_goes, does_tell, given_back, steps_go}
+use Rattle.proof_line.proofs.LinkTime.{Apart, tells_apart}
 use Rattle.proof_line.proofs.LinkTold.{arriving_all, besides_known, brings_more}
 use Rattle.proof_line.proofs.LinkChip.{chip_event_arrives, chip_event_known, submits_hear_none, submits_tick_none}
+use Rattle.proof_line.proofs.Tellings.{IsBeside}
 
 -- ---- what is known
 
 pub record AtChip (past : List Entry) (o : OuterState) (up down : LinkNow) : Type 0 where
-  pub chip : KnowsLink Chip past 0 up
-  pub host : KnowsLink Host past 0 down
-  pub link : up.link ≡ o.chip.state.port.side
-  pub waits : WaitsWell o.chip.state.port
+  pub line : AtLine past o up down
   pub early : up.is_tick ≡ true → ticks_of up.round ≡ 0
-  pub way : Brings o.to_host down.coming
 
 -- of the chip's, only what it did grows; of the host's, what is on its way
 pub record GrowsChip (old new : LinkNow) : Type 0 where
   pub is_tick : new.is_tick ≡ old.is_tick
-  pub brought : new.brought ≡ old.brought
   pub clock : new.clock ≡ old.clock
   pub until : new.until ≡ old.until
   pub coming : new.coming ≡ old.coming
-  pub lost : new.lost ≡ old.lost
   pub ticks : ticks_of new.round ≡ ticks_of old.round
 
 pub record GrowsHost (old new : LinkNow) : Type 0 where
@@ -52,7 +71,6 @@ pub record GrowsHost (old new : LinkNow) : Type 0 where
   pub life : new.life ≡ old.life
   pub round : new.round ≡ old.round
   pub link : new.link ≡ old.link
-  pub lost : new.lost ≡ old.lost
 
 pub record AfterGiven (all : List Entry) (o : OuterState) (up down : LinkNow) : Type 0 where
   pub up_later : LinkNow
@@ -68,26 +86,55 @@ pub record GoesGiven (o : OuterState) (x : Outcome) : Type 0 where
 
 -- ---- lists
 
+-- what is on its way is a matter of bytes
+pub brings_same : (way later : WayState) (coming : List (List ℕ)) → later.bytes ≡ way.bytes → Brings way coming → Brings later coming
+brings_same way later coming same brings = record {
+  items = brings.items;
+  carries = subst (λ (l : List ℕ). Feeds no_rest l no_rest brings.items) (sym same) brings.carries;
+  texts = brings.texts;
+  bytes = same ∙ brings.bytes;
+}
+
 module _ (past : List Entry) (o : OuterState) (up down : LinkNow) where
-  -- it is at another, of the same link and the same way to the host
-  at_other : (p : OuterState) → p.chip.state ≡ o.chip.state → p.to_host ≡ o.to_host → AtChip past o up down → AtChip past p up down
-  at_other p chip to_host at = record {
-    chip = at.chip;
-    host = at.host;
-    link = at.link ∙ sym (ap (λ (s : ChipState). s.port.side) chip);
-    waits = subst (λ (s : ChipState). WaitsWell s.port) (sym chip) at.waits;
-    early = at.early;
-    way = subst (λ (w : WayState). Brings w down.coming) (sym to_host) at.way;
+  -- it is at another, of the same port and with the same bytes on their way to the host
+  pub line_other : (p : OuterState) → p.chip.state.port ≡ o.chip.state.port → p.to_host.bytes ≡ o.to_host.bytes → AtLine past o up down → AtLine past p up down
+  line_other p port to_host line = record {
+    chip = line.chip;
+    host = line.host;
+    link = line.link ∙ sym (ap (λ (q : PortState). q.side) port);
+    waits = subst WaitsWell (sym port) line.waits;
+    way = brings_same o.to_host p.to_host down.coming to_host line.way;
+    time = line.time;
+    many = line.many;
+    clears = line.clears;
   }
 
+  at_other : (p : OuterState) → p.chip.state.port ≡ o.chip.state.port → p.to_host.bytes ≡ o.to_host.bytes → AtChip past o up down → AtChip past p up down
+  at_other p port to_host at = record { line = line_other p port to_host at.line; early = at.early }
+
+  -- entries beside the line
+  pub line_beside : (told : List Entry) → AllByRecursion IsBeside told → AtLine past o up down → AtLine (past ++ told) o up down
+  line_beside told beside line =
+      let apart : Apart past (past ++ told) = tells_apart [] Chip o.to_host past told beside in
+      record {
+        chip = besides_known Chip past up told beside line.chip;
+        host = besides_known Host past down told beside line.host;
+        link = line.link;
+        waits = line.waits;
+        way = line.way;
+        time = apart.time ∙ line.time;
+        many = line.many;
+        clears = apart.clears ∙ line.clears;
+      }
+
   -- nothing grows
-  just : AtChip past o up down → AfterGiven past o up down
-  just at = record {
+  just : (told : List Entry) → AtChip (past ++ told) o up down → AfterGiven (past ++ told) o up down
+  just told at = record {
     up_later = up;
     down_later = down;
     at = at;
-    chip_grows = record { is_tick = refl; brought = refl; clock = refl; until = refl; coming = refl; lost = refl; ticks = refl };
-    host_grows = record { is_tick = refl; clock = refl; until = refl; life = refl; round = refl; link = refl; lost = refl };
+    chip_grows = record { is_tick = refl; clock = refl; until = refl; coming = refl; ticks = refl };
+    host_grows = record { is_tick = refl; clock = refl; until = refl; life = refl; round = refl; link = refl };
   }
 
 -- one after the other
@@ -103,11 +150,9 @@ then_given middle all p q up down first later =
       at = later.at;
       chip_grows = record {
         is_tick = b.is_tick ∙ a.is_tick;
-        brought = b.brought ∙ a.brought;
         clock = b.clock ∙ a.clock;
         until = b.until ∙ a.until;
         coming = b.coming ∙ a.coming;
-        lost = b.lost ∙ a.lost;
         ticks = b.ticks ∙ a.ticks;
       };
       host_grows = record {
@@ -117,9 +162,16 @@ then_given middle all p q up down first later =
         life = d.life ∙ c.life;
         round = d.round ∙ c.round;
         link = d.link ∙ c.link;
-        lost = d.lost ∙ c.lost;
       };
     }
+
+-- entries beside the line, where the chip's port and the bytes on their way to the host stay
+pub beside_given : (o : OuterState) (x : Outcome) → AllByRecursion IsBeside x.entries → x.outer.to_host.bytes ≡ o.to_host.bytes → x.outer.chip.state.port ≡ o.chip.state.port → GoesGiven o x
+beside_given o x beside to_host port = record {
+  back = λ has. subst HasFrames port has;
+  goes = λ past up down has at.
+      just past x.outer up down x.entries (at_other (past ++ x.entries) o up down x.outer port to_host (record { line = line_beside past o up down x.entries beside at.line; early = at.early }));
+}
 
 -- ---- an event that it is given
 
@@ -137,24 +189,31 @@ event_given o e given none may =
     record {
       back = λ has. (given_back s e given (subst (λ (t : ChipState). HasFrames t.port) is has)).0;
       goes = λ past up down has at.
+          let line = at.line in
           let fit = (given_back s e given (subst (λ (t : ChipState). HasFrames t.port) is has)).1 in
-          let chip = chip_event_known o e past up up.coming at.chip at.link at.waits (may up at.early) (hears_none up (items_of steps) mute, λ stalls. mute) in
-          let host = chip_event_arrives o e past down at.host in
+          let chip = chip_event_known o e past up up.coming line.chip line.link line.waits (may up at.early) (hears_none up (items_of steps) mute, λ stalls. mute) in
+          let host = chip_event_arrives o e past down line.host in
+          let apart : Apart past (past ++ x.entries) = tells_apart units Chip o.to_host past x.entries (does_tell o e).told in
           let count : ticks_of (up.round ++ steps) ≡ ticks_of up.round + ticks_of steps = ticks_of-append up.round steps in
           let same : ticks_of (up.round ++ steps) ≡ ticks_of up.round = omega (arith, quiet, count) in
           record {
             up_later = _;
             down_later = _;
             at = record {
-              chip = chip;
-              host = host;
-              link = sym (ap (λ (t : ChipState). t.port.side) is);
-              waits = subst (λ (t : ChipState). WaitsWell t.port) (sym is) (well_all s (e ∷ []) at.waits);
+              line = record {
+                chip = chip;
+                host = host;
+                link = sym (ap (λ (t : ChipState). t.port.side) is);
+                waits = subst (λ (t : ChipState). WaitsWell t.port) (sym is) (well_all s (e ∷ []) line.waits);
+                way = subst (λ (w : WayState). Brings w (down.coming ++ arriving_all Chip o.to_host units)) (sym (does_tell o e).to_host) (brings_more Chip units o.to_host down.coming fit line.way);
+                time = apart.time ∙ line.time;
+                many = line.many;
+                clears = apart.clears ∙ line.clears;
+              };
               early = λ tick. same ∙ at.early tick;
-              way = subst (λ (w : WayState). Brings w (down.coming ++ arriving_all Chip o.to_host units)) (sym (does_tell o e).to_host) (brings_more Chip units o.to_host down.coming fit at.way);
             };
-            chip_grows = record { is_tick = refl; brought = refl; clock = refl; until = refl; coming = refl; lost = refl; ticks = same };
-            host_grows = record { is_tick = refl; clock = refl; until = refl; life = refl; round = refl; link = refl; lost = refl };
+            chip_grows = record { is_tick = refl; clock = refl; until = refl; coming = refl; ticks = same };
+            host_grows = record { is_tick = refl; clock = refl; until = refl; life = refl; round = refl; link = refl };
           };
     }
   where
@@ -169,12 +228,9 @@ given_goes o event given = absurd given
 
 -- ---- all that it may be given
 
-pub given_known : GivesSo GoesGiven
+given_known : GivesSo GoesGiven
 given_known = record {
-  still = λ o p is. record {
-    back = λ has. subst (λ (t : ChipState). HasFrames t.port) is.chip has;
-    goes = λ past up down has at. subst (λ (l : List Entry). AfterGiven l p up down) (sym (append-nil past)) (just past p up down (at_other past o up down p is.chip is.to_host at));
-  };
+  still = λ o p is. beside_given o (silent p) tt (ap (λ (w : WayState). w.bytes) is.to_host) (ap (λ (s : ChipState). s.port) is.chip);
   both = λ o first next one later. record {
     back = λ has. one.back ((later first.outer).back has);
     goes = λ past up down has at.
@@ -184,20 +240,68 @@ given_known = record {
         (subst (λ (l : List Entry). AfterGiven l (next first.outer).outer before.up_later before.down_later) (append_assoc past first.entries (next first.outer).entries) after_it);
   };
   later = λ o p x is goes. record {
-    back = λ has. subst (λ (t : ChipState). HasFrames t.port) is.chip (goes.back has);
-    goes = λ past up down has at. goes.goes past up down has (at_other past o up down p is.chip is.to_host at);
+    back = λ has. subst HasFrames (ap (λ (s : ChipState). s.port) is.chip) (goes.back has);
+    goes = λ past up down has at. goes.goes past up down has (at_other past o up down p (ap (λ (s : ChipState). s.port) is.chip) (ap (λ (w : WayState). w.bytes) is.to_host) at);
   };
   does = given_goes;
-  forgotten = λ o a b. record {
-    back = λ has. has;
-    goes = λ past up down has at.
-        just (past ++ entry.Forget a b ∷ []) _ up down (record {
-          chip = besides_known Chip past 0 up (entry.Forget a b ∷ []) ((tt, refl), tt) at.chip;
-          host = besides_known Host past 0 down (entry.Forget a b ∷ []) ((tt, refl), tt) at.host;
-          link = at.link;
-          waits = at.waits;
-          early = at.early;
-          way = at.way;
-        });
-  };
+  forgotten = λ o a b. beside_given o _ ((tt, refl), tt) refl refl;
 }
+
+still_given : (o : OuterState) (x : Outcome) → AllByRecursion IsBeside x.entries → x.outer.to_host ≡ o.to_host → x.outer.to_chip ≡ o.to_chip → x.outer.chip.state.port ≡ o.chip.state.port → GoesGiven o x
+still_given o x beside to_host to_chip port = beside_given o x beside (ap (λ (w : WayState). w.bytes) to_host) port
+
+in_air_given : (o : OuterState) (air : AirState) (x : Outcome) → GoesGiven (record o { air = air }) x → GoesGiven o x
+in_air_given o air x goes = record {
+  back = λ has. goes.back has;
+  goes = λ past up down has at. goes.goes past up down has (at_other past o up down (record o { air = air }) refl refl at);
+}
+
+-- in a tick
+pub arriving_given : (w : Outside) (event : OuterEvent) → IsArriving event → GoesGiven w.outer (outcome w event)
+arriving_given w event arriving = arriving_goes GoesGiven given_known still_given in_air_given w event arriving
+
+-- ---- by hand
+
+-- what happens is refused, and nothing else; or it goes on
+abbrev pub HandGoes : OuterState → Outcome → Type 0
+HandGoes o x = ((refused : Refusal) × (x ≡ tells o (entry.Refused refused ∷ []))) ⊎ GoesGiven o x
+
+repeats_go : (w : Outside) (refused : Option RepeatRefusal) (step : AirStep) → HandGoes w.outer (repeats w refused step)
+repeats_go w None step = inr (steps_go GoesGiven given_known still_given in_air_given w step)
+repeats_go w (Some NeverSent) step = inl (refusal.NeverSent, refl)
+repeats_go w (Some Forgotten) step = inl (refusal.Forgotten, refl)
+repeats_go w (Some (Stale later)) step = inl (refusal.Stale later, refl)
+
+hand_acts : (w : Outside) (place : Option ℕ) (event : DeviceEvent) (route : Option Route) → HandGoes w.outer (acts_by_hand w.outer w.devices place event route)
+hand_acts w None event route = inl (refusal.NoDevice, refl)
+hand_acts w (Some place) event route = inr (at_goes GoesGiven given_known still_given in_air_given w.outer (slice_get w.devices place) event route)
+
+shows : (o : OuterState) (node : ℕ) (device : Option State) → HandGoes o (tells o (shown_entries node device))
+shows o node None = inl (refusal.NoDevice, refl)
+shows o node (Some device) = inr (beside_given o (tells o (shown_entries node (Some device))) (settings _) refl refl)
+  where
+    settings : (l : List Setting) → AllByRecursion IsBeside (map (λ (setting : Setting). entry.Device node setting) l)
+    settings [] = tt
+    settings (one ∷ l) = ((tt, refl), settings l)
+
+pub joins_given : (w : Outside) (node : ℕ) → GoesGiven w.outer (outcome w (Joins node))
+unfolding outcome
+joins_given w node = beside_given w.outer (outcome w (Joins node)) tt refl (joins_port w.outer node (listens_at (device_at w.devices (place_of node w.devices))))
+
+pub hand_goes : (w : Outside) (event : OuterEvent) → IsHandPlain event → HandGoes w.outer (outcome w event)
+unfolding outcome
+hand_goes w (Repeats number drawn route) plain = repeats_go w (refusal_of w.outer.air.frames number) (mesh.Repeats number drawn route)
+hand_goes w (Wakes_device node route) plain = hand_acts w (place_of node w.devices) Wakes route
+hand_goes w (Sets_device node value route) plain = hand_acts w (place_of node w.devices) (Sets value) route
+hand_goes w (Shows node) plain = shows w.outer node (device_at w.devices (place_of node w.devices))
+hand_goes w (Joins node) plain = inr (joins_given w node)
+hand_goes w Discovers plain = inr (beside_given w.outer (outcome w Discovers) tt refl (discovers_port w.outer))
+hand_goes w (Links a b live) plain = inr (beside_given w.outer (outcome w (Links a b live)) tt refl refl)
+hand_goes w (Loses count) plain = inr (beside_given w.outer (outcome w (Loses count)) tt refl refl)
+hand_goes w (Loses_acks count) plain = inr (beside_given w.outer (outcome w (Loses_acks count)) tt refl refl)
+hand_goes w (Marks_loss Host) plain = inr (beside_given w.outer (outcome w (Marks_loss Host)) tt refl refl)
+hand_goes w (Marks_loss Chip) plain = inr (beside_given w.outer (outcome w (Marks_loss Chip)) tt refl refl)
+hand_goes w (Marks_change Host garble) plain = inr (beside_given w.outer (outcome w (Marks_change Host garble)) tt refl refl)
+hand_goes w (Marks_change Chip garble) plain = inr (beside_given w.outer (outcome w (Marks_change Chip garble)) tt refl refl)
+hand_goes w (Cuts size) plain = inr (beside_given w.outer (outcome w (Cuts size)) tt refl refl)
+hand_goes w event plain = absurd plain

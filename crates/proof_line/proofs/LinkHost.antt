@@ -26,7 +26,7 @@ use Rattle.host_model.specs.Did.{after_all, outs_all, MayAll}
 use Rattle.law_wire.specs.Links.{MayDo}
 use Rattle.proof_serial.specs.Line.{host_units}
 use Rattle.proof_traffic.specs.Links.{KeepsItsLink, host_link_steps, host_link_steps_all}
-use Rattle.proof_line.specs.Links.{KnowsLink, LinkNow, MayGo, MayHear, MayOfHost, gone, stepped}
+use Rattle.proof_line.specs.Links.{KnowsLink, LinkNow, MayGo, MayHear, MayOfHost, TicksNot, gone, stepped}
 use Rattle.proof_line.proofs.HostTelling.{units_both}
 use Rattle.proof_line.proofs.Tellings.{IsBeside, Tells}
 use Rattle.proof_line.proofs.LinkTold.{steps_known}
@@ -85,15 +85,19 @@ go_both side now (step ∷ first) later mid new (next, may, one, go) more = (
       (sym (append_assoc now.round (step ∷ []) first)) more),
 )
 
--- an event that is no tick of the line
-abbrev pub TicksNot : HostEvent → Type 0
-TicksNot Line_ticks = ⊥
-TicksNot event = Unit {0}
-
 quiet_steps : (h : HostState) (event : HostEvent) → TicksNot event → ticks_of (host_link_steps h event) ≡ 0
 quiet_steps h Line_ticks apart = absurd apart
 quiet_steps h (Hears item) apart = refl
 quiet_steps h event apart = refl
+
+pub all_quiet : (events : List HostEvent) (h : HostState) → AllByRecursion TicksNot events → ticks_of (host_link_steps_all h events) ≡ 0
+all_quiet [] h apart = refl
+all_quiet (event ∷ events) h apart =
+    let here : ticks_of (host_link_steps h event) ≡ 0 = quiet_steps h event apart.0 in
+    let rest : ticks_of (host_link_steps_all (after h event) events) ≡ 0 = all_quiet events (after h event) apart.1 in
+    let both : ticks_of (host_link_steps_all h (event ∷ events)) ≡ ticks_of (host_link_steps h event) + ticks_of (host_link_steps_all (after h event) events)
+    = ticks_of-append (host_link_steps h event) (host_link_steps_all (after h event) events) in
+    omega (arith, here, rest, both)
 
 may_of : (now : LinkNow) (event : HostEvent) → TicksNot event → (now.is_tick ≡ true → ticks_of now.round ≡ 1) → MayOfHost now event
 may_of now Line_ticks apart may = absurd apart
@@ -132,17 +136,17 @@ module _ (each : (h : HostState) (event : HostEvent) (steps : List Step) → Kee
       (all_keep events (after h event) (steps ++ host_link_steps h event) (each h event steps keeps may.0) may.1)
 
   -- events that are no tick of the line, with what is told of them
-  pub host_known : (events : List HostEvent) (h : HostState) (past : List Entry) (now : LinkNow) (left : List (List ℕ)) (way : WayState) (told : List Entry) → KnowsLink Host past 0 now
+  pub host_known : (events : List HostEvent) (h : HostState) (past : List Entry) (now : LinkNow) (left : List (List ℕ)) (way : WayState) (told : List Entry) → KnowsLink Host past now
       → KeepsItsLink now.life h → MayAll h events → AllByRecursion TicksNot events → (now.is_tick ≡ true → ticks_of now.round ≡ 1) → MayHear now (items_of (host_link_steps_all h events)) left
-      → Tells IsBeside Host way (host_units (outs_all h events)) told → KnowsLink Host (past ++ told) 0 (gone now (host_link_steps_all h events) (after_all h events).side left)
+      → Tells IsBeside Host way (host_units (outs_all h events)) told → KnowsLink Host (past ++ told) (gone now (host_link_steps_all h events) (after_all h events).side left)
   host_known events h past now left way told knows keeps may quiet once hears tells =
       steps_known (host_link_steps_all h events) Host past now (after_all h events).side left way told knows (all_go events h now keeps may quiet once) hears
       (subst (λ (l : List LineUnit). Tells IsBeside Host way l told) (all_units events h now.life keeps may) tells)
 
   -- a tick of the line
-  pub host_tick_known : (h : HostState) (past : List Entry) (now : LinkNow) (way : WayState) (told : List Entry) → KnowsLink Host past 0 now → KeepsItsLink now.life h → MayHost h Line_ticks
+  pub host_tick_known : (h : HostState) (past : List Entry) (now : LinkNow) (way : WayState) (told : List Entry) → KnowsLink Host past now → KeepsItsLink now.life h → MayHost h Line_ticks
       → now.is_tick ≡ true → ticks_of now.round ≡ 0 → Tells IsBeside Host way (host_units (outs h Line_ticks)) told
-      → KnowsLink Host (past ++ told) 0 (gone now (host_link_steps h Line_ticks) (after h Line_ticks).side now.coming)
+      → KnowsLink Host (past ++ told) (gone now (host_link_steps h Line_ticks) (after h Line_ticks).side now.coming)
   host_tick_known h past now way told knows keeps may tick none tells =
       steps_known (host_link_steps h Line_ticks) Host past now (after h Line_ticks).side now.coming way told knows
       (host_goes h Line_ticks now (each h Line_ticks now.life keeps may).obeys (tick, none)) (refl, λ stalls. refl)

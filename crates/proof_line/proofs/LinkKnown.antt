@@ -1,5 +1,5 @@
 -- What is known of a link goes on with steps, units and events of the serial line, and in the end is the law.
-use Rattle.std.proofs.Common.{◌≡◌, ◌≤◌, ℕ, zero, suc, ◌+◌, ◌-◌, ◌&&◌, not, nat_lt, Bool, true, false, if◌then◌else◌, List, [], ◌∷◌, ◌++◌, length, take, replicate, refl, sym, ap, ◌∙◌, subst, append-nil, append_assoc, length-append, arith}
+use Rattle.std.proofs.Common.{◌≡◌, ◌≤◌, ℕ, ◌+◌, ◌-◌, ◌&&◌, not, nat_lt, Bool, true, false, if◌then◌else◌, List, [], ◌∷◌, ◌++◌, length, refl, sym, ap, ◌∙◌, subst, append-nil, append_assoc, length-append, arith}
 use Rattle.std.specs.List.{flat_map, list_any}
 use Rattle.zw_base.proofs.Each.{all-append}
 use Rattle.serial_frame.specs.Items.{unit_text}
@@ -12,39 +12,21 @@ use Rattle.serial_pipes.specs.Events.{told}
 use Rattle.zw_words.specs.declared.side.Side.{Side}
 use Rattle.zw_words.specs.declared.side.Side.TheVariants.{Host, Chip}
 use Rattle.zw_text.specs.declared.entry.Entry.{Entry}
-use Rattle.zw_text.specs.declared.entry.Entry.TheVariants as entry
 use Rattle.zw_text.specs.declared.line.Line.{Line}
 use Rattle.law_transcript.specs.Restarts.{is_restart}
-use Rattle.law_transcript.specs.Lists.{shown_after}
-use Rattle.law_wire.specs.Clearing.{lost_at, lost_by}
+use Rattle.law_wire.specs.Clearing.{lost_by}
 use Rattle.law_wire.specs.Serial.{SerialEvent, arriving_of, serial_events}
 use Rattle.law_wire.specs.Serial.SerialEvent.{Line_begins, Tick_begins, Writes}
 use Rattle.law_wire.specs.Links.{HasTicked, KeepsLink, LeavesFew, Moment, Round, WriteLast, arrivals_of, ends_round, most_left, stall_by, MayDo, Obeys, WritesThere, arrival_of, clock_in, is_stalled, moments_of, other, round_of, steps_in, texts_of, unit_by}
-use Rattle.proof_line.specs.Links.{Does, Hears, IsAt, IsMute, KeepsSoFar, KnowsEvents, KnowsLink, LinkNow, MayEnd, MayEndNow, MayHear, MayStep, TakesTexts, begun_line, begun_tick, life_of, most_of, round_steps, stalls_in, stepped, tick_told, with_arriving}
+use Rattle.proof_line.specs.Links.{Does, Hears, IsAt, IsMute, KeepsSoFar, KnowsEvents, KnowsLink, LinkNow, MayEnd, MayEndNow, MayHear, MayStep, TakesTexts, begun_line, begun_tick, life_of, most_of, round_steps, stalls_in, stepped, with_arriving}
 use Rattle.proof_line.proofs.Moments.{arrivals_one, moments_one, round_one}
-use Rattle.proof_line.proofs.Serials.{beside_serials, time_serials, unit_serials}
+use Rattle.proof_line.proofs.Serials.{beside_serials, unit_serials}
 use Rattle.proof_line.proofs.Standing.{same_itself}
 use Rattle.proof_line.proofs.Arriving.{marks_of}
 use Rattle.proof_line.proofs.Tellings.{IsBeside}
 use Rattle.proof_line.proofs.LinkSteps.{asks_by, clock_one, does_more, does_on, ends_part, hears_next, hears_on, hears_same, life_same, lost_same, mute_last, round_same, stalls_one, unit_may_end, writes_last}
 
 -- ---- moments
-
-moments_first : (events more : List SerialEvent) (parts extra : List (List Step)) → length parts ≡ length (events ++ more) → moments_of events (parts ++ extra) ≡ moments_of events parts
-moments_first [] more parts extra same = refl
-moments_first (event ∷ events) more [] extra same = absurd (let none : zero ≡ suc (length (events ++ more)) = same in cc)
-moments_first (event ∷ events) more (part ∷ parts) extra same =
-    let fewer : suc (length parts) ≡ suc (length (events ++ more)) = same in
-    ap (λ (l : List Moment). record { event = event; steps = part } ∷ l) (moments_first events more parts extra (omega (arith, fewer)))
-
-moments_taken : (events more : List SerialEvent) (parts : List (List Step)) → length parts ≡ length (events ++ more)
-    → (moments_of events (take (length events) parts) ≡ moments_of events parts) × (length (take (length events) parts) ≡ length events)
-moments_taken [] more parts same = (refl, refl)
-moments_taken (event ∷ events) more [] same = absurd (let none : zero ≡ suc (length (events ++ more)) = same in cc)
-moments_taken (event ∷ events) more (part ∷ parts) same =
-    let fewer : suc (length parts) ≡ suc (length (events ++ more)) = same in
-    let rest = moments_taken events more parts (omega (arith, fewer)) in
-    (ap (λ (l : List Moment). record { event = event; steps = part } ∷ l) rest.0, ap (λ (n : ℕ). suc n) rest.1)
 
 pub one_more : (all : List SerialEvent) (parts : List (List Step)) (event : SerialEvent) (steps : List Step) → length parts ≡ length all → length (parts ++ steps ∷ []) ≡ length (all ++ event ∷ [])
 one_more all parts event steps same =
@@ -54,28 +36,21 @@ one_more all parts event steps same =
 
 -- ---- the law
 
--- what is told keeps the law, also where the run was cut short
-pub keeps_link : (side : Side) (past : List Entry) (waiting : List SerialEvent) (now : LinkNow) → KnowsEvents side (serial_events past) waiting now → KeepsLink side past
-keeps_link side past waiting now knows =
-    let events : List SerialEvent = serial_events past in
-    let got = moments_taken events waiting knows.parts knows.each in
-    let keeps : KeepsSoFar side (moments_of events (take (length events) knows.parts)) = subst (λ (l : List Moment). KeepsSoFar side l) (sym got.0) knows.told in
-    record {
-      parts = take (length events) knows.parts;
-      each = got.1;
-      obeys = keeps.obeys;
-      writes = keeps.writes;
-      hears = keeps.hears;
-      ticks = keeps.ticks;
-      collides = keeps.collides;
-    }
+pub keeps_link : (side : Side) (past : List Entry) (now : LinkNow) → KnowsLink side past now → KeepsLink side past
+keeps_link side past now knows = record {
+  parts = knows.parts;
+  each = knows.each;
+  obeys = knows.keeps.obeys;
+  writes = knows.keeps.writes;
+  hears = knows.keeps.hears;
+  ticks = knows.keeps.ticks;
+  collides = knows.keeps.collides;
+}
 
 -- and with these steps the bytes that each restart lost are those
-pub keeps_lost : (side : Side) (past : List Entry) (waiting : List SerialEvent) (now : LinkNow) (knows : KnowsEvents side (serial_events past) waiting now)
-    → lost_by side past (keeps_link side past waiting now knows).parts ≡ now.lost
+pub keeps_lost : (side : Side) (past : List Entry) (now : LinkNow) (knows : KnowsLink side past now) → lost_by side past (keeps_link side past now knows).parts ≡ now.lost
 unfolding keeps_link
-keeps_lost side past waiting now knows =
-    ap (λ (l : List Moment). shown_after (lost_at side) [] l) (moments_taken (serial_events past) waiting knows.parts knows.each).0 ∙ knows.lost
+keeps_lost side past now knows = knows.at.lost
 
 -- ---- a step
 
@@ -112,9 +87,9 @@ hears_step side past steps coming left step asked is texts still hears =
 stalled_at : (side : Side) (past : List Moment) (steps : List Step) (now : LinkNow) → IsAt side past steps now → is_stalled past ≡ nat_lt now.clock now.until
 stalled_at side past steps now at = at.until (clock_in past) ∙ ap (λ (n : ℕ). nat_lt n now.until) at.clock
 
-module _ (side : Side) (events waiting : List SerialEvent) (now : LinkNow) (knows : KnowsEvents side events waiting now) where
+module _ (side : Side) (events : List SerialEvent) (now : LinkNow) (knows : KnowsEvents side events now) where
   abbrev Past : List Moment
-  Past = moments_of (events ++ waiting) knows.parts
+  Past = moments_of events knows.parts
 
   step_does : (new : LinkSide) (step : Step) → MayStep side now step new → Does side Past (knows.steps ++ step ∷ []) new
   step_does new step goes =
@@ -127,34 +102,30 @@ module _ (side : Side) (events waiting : List SerialEvent) (now : LinkNow) (know
 
   -- that writes nothing
   pub step_known : (new : LinkSide) (step : Step) (left : List (List ℕ)) → MayStep side now step new → MayHear now (item_of step.event) left → texts_of step ≡ []
-      → KnowsEvents side events waiting (stepped now step new left)
+      → KnowsEvents side events (stepped now step new left)
   step_known new step left goes hears quiet = record {
     parts = knows.parts;
     steps = knows.steps ++ step ∷ [];
     each = knows.each;
-    told = knows.told;
-    all = knows.all;
+    keeps = knows.keeps;
     does = step_does new step goes;
     mute = all-append IsMute knows.steps (step ∷ []) knows.mute (quiet, tt);
     hears = step_hears step left hears;
     at = at_step side Past knows.steps now step new left knows.at;
-    lost = knows.lost;
   }
 
 -- the link may be told otherwise, where it obeyed all the same
-pub relinked : (side : Side) (events waiting : List SerialEvent) (now : LinkNow) (new : LinkSide) → SideObeys now.life new → KnowsEvents side events waiting now
-    → KnowsEvents side events waiting (record now { link = new })
-relinked side events waiting now new obeys knows = record {
+pub relinked : (side : Side) (events : List SerialEvent) (now : LinkNow) (new : LinkSide) → SideObeys now.life new → KnowsEvents side events now
+    → KnowsEvents side events (record now { link = new })
+relinked side events now new obeys knows = record {
   parts = knows.parts;
   steps = knows.steps;
   each = knows.each;
-  told = knows.told;
-  all = knows.all;
+  keeps = knows.keeps;
   does = record { obeys = subst (λ (l : List Step). SideObeys l new) (sym knows.at.life) obeys; may = knows.does.may; asks = knows.does.asks };
   mute = knows.mute;
   hears = knows.hears;
   at = record { is_tick = knows.at.is_tick; brought = knows.at.brought; clock = knows.at.clock; until = knows.at.until; life = knows.at.life; round = knows.at.round; lost = knows.at.lost };
-  lost = knows.lost;
 }
 
 -- ---- an event ends what is open
@@ -167,21 +138,8 @@ no_steps = (
 
 -- nothing is open since the last of these events
 just_known : (side : Side) (events : List SerialEvent) (parts : List (List Step)) (now : LinkNow) → length parts ≡ length events → KeepsSoFar side (moments_of events parts)
-    → Does side (moments_of events parts) [] now.link → Hears side (moments_of events parts) [] now.coming → IsAt side (moments_of events parts) [] now → KnowsEvents side events [] now
-just_known side events parts now same keeps does hears at =
-    let all : events ≡ events ++ [] = sym (append-nil events) in
-    record {
-      parts = parts;
-      steps = [];
-      each = subst (λ (l : List SerialEvent). length parts ≡ length l) all same;
-      told = keeps;
-      all = subst (λ (l : List SerialEvent). KeepsSoFar side (moments_of l parts)) all keeps;
-      does = subst (λ (l : List SerialEvent). Does side (moments_of l parts) [] now.link) all does;
-      mute = tt;
-      hears = subst (λ (l : List SerialEvent). Hears side (moments_of l parts) [] now.coming) all hears;
-      at = subst (λ (l : List SerialEvent). IsAt side (moments_of l parts) [] now) all at;
-      lost = at.lost;
-    }
+    → Does side (moments_of events parts) [] now.link → Hears side (moments_of events parts) [] now.coming → IsAt side (moments_of events parts) [] now → KnowsEvents side events now
+just_known side events parts now same keeps does hears at = record { parts = parts; steps = []; each = same; keeps = keeps; does = does; mute = tt; hears = hears; at = at }
 
 -- no collision is asked for by a unit
 units_ask_none : (side on : Side) (unit : List ℕ) (arriving : List (List ℕ)) → asks_by side (Writes on unit arriving) ≡ 0
@@ -213,21 +171,20 @@ most_is : (side : Side) (past : List Moment) (brought : ℕ) → length (arrival
 most_is Host past brought is = refl
 most_is Chip past brought is = ap (λ (n : ℕ). n - 63) is
 
-module _ (side : Side) (events waiting : List SerialEvent) (now : LinkNow) (knows : KnowsEvents side events waiting now) where
+module _ (side : Side) (events : List SerialEvent) (now : LinkNow) (knows : KnowsEvents side events now) where
   abbrev pub Before : List Moment
-  Before = moments_of (events ++ waiting) knows.parts
+  Before = moments_of events knows.parts
 
   -- with these steps at last, of which this link comes, and this is left on its way
   pub event_known : (event : SerialEvent) (steps : List Step) (last : LinkSide) (left : List (List ℕ)) (next : LinkNow) → Does side Before steps last → Hears side Before steps left
       → WritesThere side (record { event = event; steps = steps }) → MayEnd side Before steps left event
       → Does side (Before ++ record { event = event; steps = steps } ∷ []) [] next.link → Hears side (Before ++ record { event = event; steps = steps } ∷ []) [] next.coming
-      → IsAt side (Before ++ record { event = event; steps = steps } ∷ []) [] next → KnowsEvents side ((events ++ waiting) ++ event ∷ []) [] next
+      → IsAt side (Before ++ record { event = event; steps = steps } ∷ []) [] next → KnowsEvents side (events ++ event ∷ []) next
   event_known event steps last left next does hears writes may later_does later_hears at =
-      let all : List SerialEvent = events ++ waiting in
       let one : Moment = record { event = event; steps = steps } in
-      let is : Before ++ one ∷ [] ≡ moments_of (all ++ event ∷ []) (knows.parts ++ steps ∷ []) = sym (moments_one all knows.parts event steps knows.each) in
-      just_known side (all ++ event ∷ []) (knows.parts ++ steps ∷ []) next (one_more all knows.parts event steps knows.each)
-      (subst (λ (l : List Moment). KeepsSoFar side l) is (ends_part side Before one last left no_steps knows.all does hears writes may))
+      let is : Before ++ one ∷ [] ≡ moments_of (events ++ event ∷ []) (knows.parts ++ steps ∷ []) = sym (moments_one events knows.parts event steps knows.each) in
+      just_known side (events ++ event ∷ []) (knows.parts ++ steps ∷ []) next (one_more events knows.parts event steps knows.each)
+      (subst (λ (l : List Moment). KeepsSoFar side l) is (ends_part side Before one last left no_steps knows.keeps does hears writes may))
       (subst (λ (l : List Moment). Does side l [] next.link) is later_does)
       (subst (λ (l : List Moment). Hears side l [] next.coming) is later_hears)
       (subst (λ (l : List Moment). IsAt side l [] next) is at)
@@ -256,7 +213,7 @@ module _ (side : Side) (events waiting : List SerialEvent) (now : LinkNow) (know
   -- a line that is no restart and asks for no collision, and what it stalls
   pub line_known : (line : List Line) (until : ℕ) → is_restart line ≡ false → asks_by side (Line_begins line) ≡ 0
       → ((time : ℕ) → list_any (nat_lt time) (stalls_in Before ++ flat_map (stall_by (clock_in Before)) line) ≡ nat_lt time until) → MayEndNow side now
-      → KnowsEvents side ((events ++ waiting) ++ Line_begins line ∷ []) [] (begun_line now until)
+      → KnowsEvents side (events ++ Line_begins line ∷ []) (begun_line now until)
   line_known line until plain none stalls may =
       let event : SerialEvent = Line_begins line in
       let steps : List Step = knows.steps in
@@ -280,7 +237,7 @@ module _ (side : Side) (events waiting : List SerialEvent) (now : LinkNow) (know
   -- a unit of either side
   unit_ends : (on : Side) (unit : List ℕ) (arriving : List (List ℕ)) (steps : List Step) (later : LinkNow) → Does side Before steps later.link → Hears side Before steps later.coming
       → IsAt side Before steps later → WritesThere side (record { event = Writes on unit arriving; steps = steps })
-      → KnowsEvents side ((events ++ waiting) ++ Writes on unit arriving ∷ []) [] (with_arriving later (arrival_of (other side) (Writes on unit arriving)))
+      → KnowsEvents side (events ++ Writes on unit arriving ∷ []) (with_arriving later (arrival_of (other side) (Writes on unit arriving)))
   unit_ends on unit arriving steps later does hears at writes =
       let event : SerialEvent = Writes on unit arriving in
       let one : Moment = record { event = event; steps = steps } in
@@ -288,18 +245,16 @@ module _ (side : Side) (events waiting : List SerialEvent) (now : LinkNow) (know
       (does_on side Before one later.link refl (units_ask_none side on unit arriving) does) (hears_on side Before one later.coming refl hears)
       (at_unit side on Before steps later unit arriving at)
 
-  -- a tick, of which it is not told
-  pub tick_known : MayEndNow side now → KnowsEvents side events (waiting ++ Tick_begins ∷ []) (begun_tick now)
+  -- a tick
+  pub tick_known : MayEndNow side now → KnowsEvents side (events ++ Tick_begins ∷ []) (begun_tick now)
   tick_known may =
-      let all : List SerialEvent = events ++ waiting in
       let steps : List Step = knows.steps in
       let one : Moment = record { event = Tick_begins; steps = steps } in
-      let parts : List (List Step) = knows.parts ++ steps ∷ [] in
-      let next : LinkNow = begun_tick now in
-      let is : Before ++ one ∷ [] ≡ moments_of (events ++ (waiting ++ Tick_begins ∷ [])) parts
-      = sym (moments_one all knows.parts Tick_begins steps knows.each) ∙ ap (λ (l : List SerialEvent). moments_of l parts) (append_assoc events waiting (Tick_begins ∷ [])) in
       let begins = round_one Before one in
-      let at : IsAt side (Before ++ one ∷ []) [] next = record {
+      event_known Tick_begins steps now.link now.coming (begun_tick now) knows.does knows.hears (mute_last steps knows.mute) (may_end Tick_begins refl may)
+      (does_on side Before one now.link refl (ticks_ask_none side) knows.does)
+      (subst (λ (l : List (List ℕ)). Hears side (Before ++ one ∷ []) [] l) (append-nil now.coming) (hears_on side Before one now.coming refl knows.hears))
+      (record {
         is_tick = ap (λ (r : Round). r.is_tick) begins;
         brought = ap (λ (r : Round). length (arrivals_of (other side) r.moments)) begins;
         clock = clock_one Before one ∙ ap (λ (n : ℕ). n + 1) knows.at.clock;
@@ -307,21 +262,7 @@ module _ (side : Side) (events waiting : List SerialEvent) (now : LinkNow) (know
         life = life_same side Before one refl ∙ knows.at.life;
         round = ap (λ (r : Round). steps_in r.moments ++ []) begins;
         lost = lost_same side Before one refl ∙ knows.at.lost;
-      } in
-      record {
-        parts = parts;
-        steps = [];
-        each = one_more all knows.parts Tick_begins steps knows.each ∙ ap (λ (l : List SerialEvent). length l) (append_assoc events waiting (Tick_begins ∷ []));
-        told = subst (λ (l : List Moment). KeepsSoFar side l) (sym (moments_first events waiting knows.parts (steps ∷ []) knows.each)) knows.told;
-        all = subst (λ (l : List Moment). KeepsSoFar side l) is
-            (ends_part side Before one now.link now.coming no_steps knows.all knows.does knows.hears (mute_last steps knows.mute) (may_end Tick_begins refl may));
-        does = subst (λ (l : List Moment). Does side l [] now.link) is (does_on side Before one now.link refl (ticks_ask_none side) knows.does);
-        mute = tt;
-        hears = subst (λ (l : List Moment). Hears side l [] now.coming) is
-            (subst (λ (l : List (List ℕ)). Hears side (Before ++ one ∷ []) [] l) (append-nil now.coming) (hears_on side Before one now.coming refl knows.hears));
-        at = subst (λ (l : List Moment). IsAt side l [] next) is at;
-        lost = ap (λ (l : List Moment). shown_after (lost_at side) [] l) (moments_first events waiting knows.parts (steps ∷ []) knows.each) ∙ knows.lost;
-      }
+      })
     where
       ticks_ask_none : (side : Side) → asks_by side Tick_begins ≡ 0
       ticks_ask_none Host = refl
@@ -329,18 +270,14 @@ module _ (side : Side) (events waiting : List SerialEvent) (now : LinkNow) (know
 
 -- ---- with entries
 
--- nothing waits to be told
-none_waits : (events : List SerialEvent) (event : SerialEvent) → (events ++ []) ++ event ∷ [] ≡ events ++ event ∷ []
-none_waits events event = ap (λ (l : List SerialEvent). l ++ event ∷ []) (append-nil events)
-
 own_arrival : (side : Side) (unit : List ℕ) (arriving : List (List ℕ)) → arrival_of (other side) (Writes side unit arriving) ≡ []
 own_arrival Host unit arriving = refl
 own_arrival Chip unit arriving = refl
 
-none_arriving : (side : Side) (events : List SerialEvent) (now : LinkNow) → KnowsEvents side events [] (with_arriving now []) → KnowsEvents side events [] now
+none_arriving : (side : Side) (events : List SerialEvent) (now : LinkNow) → KnowsEvents side events (with_arriving now []) → KnowsEvents side events now
 none_arriving side events now knows =
-    subst (λ (n : ℕ). KnowsEvents side events [] (record now { brought = n })) plus_none
-    (subst (λ (l : List (List ℕ)). KnowsEvents side events [] (record now { coming = l; brought = now.brought + 0 })) (append-nil now.coming) knows)
+    subst (λ (n : ℕ). KnowsEvents side events (record now { brought = n })) plus_none
+    (subst (λ (l : List (List ℕ)). KnowsEvents side events (record now { coming = l; brought = now.brought + 0 })) (append-nil now.coming) knows)
   where
     plus_none : now.brought + 0 ≡ now.brought
     plus_none = omega arith
@@ -350,59 +287,35 @@ other_arrival Host unit arriving = (refl, refl)
 other_arrival Chip unit arriving = (refl, refl)
 
 -- a unit that a step of the side writes
-pub write_known : (side : Side) (past : List Entry) (now : LinkNow) (new : LinkSide) (left : List (List ℕ)) (step : Step) (way : WayState) (unit : LineUnit) → KnowsLink side past 0 now
-    → MayStep side now step new → MayHear now (item_of step.event) left → texts_of step ≡ unit_text unit ∷ [] → KnowsLink side (past ++ told side way unit) 0 (stepped now step new left)
+pub write_known : (side : Side) (past : List Entry) (now : LinkNow) (new : LinkSide) (left : List (List ℕ)) (step : Step) (way : WayState) (unit : LineUnit) → KnowsLink side past now
+    → MayStep side now step new → MayHear now (item_of step.event) left → texts_of step ≡ unit_text unit ∷ [] → KnowsLink side (past ++ told side way unit) (stepped now step new left)
 write_known side past now new left step way unit knows goes hears is =
     let events : List SerialEvent = serial_events past in
     let arriving : List (List ℕ) = arriving_of side (unit_text unit) (marks_of side way unit) in
     let event : SerialEvent = Writes side (unit_text unit) arriving in
     let later : LinkNow = stepped now step new left in
     let got =
-    unit_ends side events [] now knows side (unit_text unit) arriving (knows.steps ++ step ∷ []) later (step_does side events [] now knows new step goes)
-    (step_hears side events [] now knows step left hears) (at_step side (moments_of (events ++ []) knows.parts) knows.steps now step new left knows.at)
+    unit_ends side events now knows side (unit_text unit) arriving (knows.steps ++ step ∷ []) later (step_does side events now knows new step goes)
+    (step_hears side events now knows step left hears) (at_step side (moments_of events knows.parts) knows.steps now step new left knows.at)
     (subst (λ (b : Bool). WriteLast (knows.steps ++ step ∷ []) (if b then unit_text unit ∷ [] else [])) (sym (same_itself side)) (writes_last knows.steps step (unit_text unit ∷ []) knows.mute is)) in
-    subst (λ (l : List SerialEvent). KnowsEvents side l [] later) (none_waits events event ∙ sym (unit_serials side way unit past).0)
-    (none_arriving side ((events ++ []) ++ event ∷ []) later
-    (subst (λ (l : List (List ℕ)). KnowsEvents side ((events ++ []) ++ event ∷ []) [] (with_arriving later l)) (own_arrival side (unit_text unit) arriving) got))
+    subst (λ (l : List SerialEvent). KnowsEvents side l later) (sym (unit_serials side way unit past).0)
+    (none_arriving side (events ++ event ∷ []) later
+    (subst (λ (l : List (List ℕ)). KnowsEvents side (events ++ event ∷ []) (with_arriving later l)) (own_arrival side (unit_text unit) arriving) got))
 
 -- a unit that the other side writes
-pub other_known : (side : Side) (past : List Entry) (now : LinkNow) (way : WayState) (unit : LineUnit) → KnowsLink side past 0 now
-    → KnowsLink side (past ++ told (other side) way unit) 0 (with_arriving now (arriving_of (other side) (unit_text unit) (marks_of (other side) way unit)))
+pub other_known : (side : Side) (past : List Entry) (now : LinkNow) (way : WayState) (unit : LineUnit) → KnowsLink side past now
+    → KnowsLink side (past ++ told (other side) way unit) (with_arriving now (arriving_of (other side) (unit_text unit) (marks_of (other side) way unit)))
 other_known side past now way unit knows =
     let events : List SerialEvent = serial_events past in
     let arriving : List (List ℕ) = arriving_of (other side) (unit_text unit) (marks_of (other side) way unit) in
     let event : SerialEvent = Writes (other side) (unit_text unit) arriving in
     let both = other_arrival side (unit_text unit) arriving in
     let got =
-    unit_ends side events [] now knows (other side) (unit_text unit) arriving knows.steps now knows.does knows.hears knows.at
+    unit_ends side events now knows (other side) (unit_text unit) arriving knows.steps now knows.does knows.hears knows.at
     (subst (λ (l : List (List ℕ)). WriteLast knows.steps l) (sym both.1) (mute_last knows.steps knows.mute)) in
-    subst (λ (l : List SerialEvent). KnowsEvents side l [] (with_arriving now arriving)) (none_waits events event ∙ sym (unit_serials (other side) way unit past).0)
-    (subst (λ (l : List (List ℕ)). KnowsEvents side ((events ++ []) ++ event ∷ []) [] (with_arriving now l)) both.0 got)
+    subst (λ (l : List SerialEvent). KnowsEvents side l (with_arriving now arriving)) (sym (unit_serials (other side) way unit past).0)
+    (subst (λ (l : List (List ℕ)). KnowsEvents side (events ++ event ∷ []) (with_arriving now l)) both.0 got)
 
 -- an entry beside the line
-pub beside_known : (side : Side) (past : List Entry) (waiting : ℕ) (now : LinkNow) (e : Entry) → IsBeside e → KnowsLink side past waiting now → KnowsLink side (past ++ e ∷ []) waiting now
-beside_known side past waiting now e is knows = subst (λ (l : List SerialEvent). KnowsEvents side l (replicate waiting Tick_begins) now) (sym (beside_serials past e is).0) knows
-
--- what waits is told
-waiting_told : (side : Side) (events waiting : List SerialEvent) (now : LinkNow) → KnowsEvents side events waiting now → KnowsEvents side (events ++ waiting) [] now
-waiting_told side events waiting now knows =
-    let all : events ++ waiting ≡ (events ++ waiting) ++ [] = sym (append-nil (events ++ waiting)) in
-    record {
-      parts = knows.parts;
-      steps = knows.steps;
-      each = subst (λ (l : List SerialEvent). length knows.parts ≡ length l) all knows.each;
-      told = knows.all;
-      all = subst (λ (l : List SerialEvent). KeepsSoFar side (moments_of l knows.parts)) all knows.all;
-      does = subst (λ (l : List SerialEvent). Does side (moments_of l knows.parts) knows.steps now.link) all knows.does;
-      mute = knows.mute;
-      hears = subst (λ (l : List SerialEvent). Hears side (moments_of l knows.parts) knows.steps now.coming) all knows.hears;
-      at = subst (λ (l : List SerialEvent). IsAt side (moments_of l knows.parts) knows.steps now) all knows.at;
-      lost = knows.at.lost;
-    }
-
--- the number of the tick is entered
-pub time_known : (side : Side) (past : List Entry) (waiting : ℕ) (now : LinkNow) (tick : ℕ) → tick - tick_told past ≡ waiting → KnowsLink side past waiting now
-    → KnowsLink side (past ++ entry.Time tick ∷ []) 0 now
-time_known side past waiting now tick is knows =
-    subst (λ (l : List SerialEvent). KnowsEvents side l [] now)
-    (ap (λ (n : ℕ). serial_events past ++ replicate n Tick_begins) (sym is) ∙ sym (time_serials past tick).0) (waiting_told side (serial_events past) (replicate waiting Tick_begins) now knows)
+pub beside_known : (side : Side) (past : List Entry) (now : LinkNow) (e : Entry) → IsBeside e → KnowsLink side past now → KnowsLink side (past ++ e ∷ []) now
+beside_known side past now e is knows = subst (λ (l : List SerialEvent). KnowsEvents side l now) (sym (beside_serials past e is).0) knows

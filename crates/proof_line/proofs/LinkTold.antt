@@ -1,9 +1,9 @@
 -- What is known of a link goes on with the steps of an event and what is told of the units that they write, and with the units of the other side.
-use Rattle.std.proofs.Common.{◌≡◌, ℕ, ◌+◌, List, [], ◌∷◌, ◌++◌, length, map, inl, inr, refl, sym, ap, ◌∙◌, subst, append-nil, append_assoc, length-append, arith}
+use Rattle.std.proofs.Common.{◌≡◌, ℕ, ◌+◌, List, [], ◌∷◌, ◌++◌, length, map, take, inl, inr, refl, sym, ap, ◌∙◌, subst, append-nil, append_assoc, length-append, arith}
 use Rattle.std.specs.List.{AllByRecursion, flat_map}
 use Rattle.std.proofs.lemmas.Grind.{flat_map-append}
 use Rattle.serial_frame.specs.Items.{IsUnit, unit_text}
-use Rattle.serial_frame.specs.Stream.{no_rest}
+use Rattle.serial_frame.specs.Stream.{Rest, Feeds, no_rest}
 use Rattle.serial_frame.specs.declared.item.Item.{Item}
 use Rattle.serial_frame.specs.declared.unit.Unit.{Unit as LineUnit}
 use Rattle.serial_link.specs.State.{Side as LinkSide}
@@ -18,20 +18,21 @@ use Rattle.zw_text.specs.declared.entry.Entry.{Entry}
 use Rattle.law_wire.specs.Serial.{arriving_of, serial_events}
 use Rattle.law_wire.specs.Links.{other, text_of, texts_of}
 use Rattle.proof_serial.specs.Way.{items_of as way_items, written_all}
+use Rattle.proof_serial.proofs.EndedItems.{feeds_all}
 use Rattle.proof_serial.proofs.Ways.{carries_more}
 use Rattle.proof_line.specs.Arrivals.{AreTexts}
 use Rattle.proof_line.specs.Links.{Brings, IsOne, KnowsLink, LinkNow, MayGo, MayHear, TakesTexts, gone, stepped, with_arriving}
-use Rattle.proof_line.proofs.Arriving.{flat, items_arrive, joins_by, marks_of, texts_both}
+use Rattle.proof_line.proofs.Arriving.{none_carries, flat, items_arrive, joins_by, marks_of, texts_both}
 use Rattle.proof_line.proofs.Tellings.{IsBeside, Tells}
 use Rattle.proof_line.proofs.LinkKnown.{beside_known, other_known, relinked, step_known, write_known}
 
 -- ---- entries beside the line
 
-pub besides_known : (side : Side) (past : List Entry) (waiting : ℕ) (now : LinkNow) (es : List Entry) → AllByRecursion IsBeside es → KnowsLink side past waiting now → KnowsLink side (past ++ es) waiting now
-besides_known side past waiting now [] all knows = subst (λ (l : List Entry). KnowsLink side l waiting now) (sym (append-nil past)) knows
-besides_known side past waiting now (e ∷ es) all knows =
-    subst (λ (l : List Entry). KnowsLink side l waiting now) (append_assoc past (e ∷ []) es)
-    (besides_known side (past ++ e ∷ []) waiting now es all.1 (beside_known side past waiting now e all.0 knows))
+pub besides_known : (side : Side) (past : List Entry) (now : LinkNow) (es : List Entry) → AllByRecursion IsBeside es → KnowsLink side past now → KnowsLink side (past ++ es) now
+besides_known side past now [] all knows = subst (λ (l : List Entry). KnowsLink side l now) (sym (append-nil past)) knows
+besides_known side past now (e ∷ es) all knows =
+    subst (λ (l : List Entry). KnowsLink side l now) (append_assoc past (e ∷ []) es)
+    (besides_known side (past ++ e ∷ []) now es all.1 (beside_known side past now e all.0 knows))
 
 -- ---- what steps write and hear
 
@@ -60,22 +61,22 @@ go_same side now (step ∷ steps) new coming (next, may, one, more) =
 
 -- ---- the steps of an event
 
-no_more : (side : Side) (past : List Entry) (now : LinkNow) (new : LinkSide) (left : List (List ℕ)) → SideObeys now.life new → now.coming ≡ left → KnowsLink side past 0 now
-    → KnowsLink side past 0 (gone now [] new left)
+no_more : (side : Side) (past : List Entry) (now : LinkNow) (new : LinkSide) (left : List (List ℕ)) → SideObeys now.life new → now.coming ≡ left → KnowsLink side past now
+    → KnowsLink side past (gone now [] new left)
 no_more side past now new left obeys coming knows =
-    subst (λ (l : List (List ℕ)). KnowsLink side past 0 (gone now [] new l)) coming
-    (subst (λ (l : List Step). KnowsLink side past 0 (record now { life = l; round = now.round ++ []; link = new })) (sym (append-nil now.life))
-    (subst (λ (l : List Step). KnowsLink side past 0 (record now { round = l; link = new })) (sym (append-nil now.round)) (relinked side (serial_events past) [] now new obeys knows)))
+    subst (λ (l : List (List ℕ)). KnowsLink side past (gone now [] new l)) coming
+    (subst (λ (l : List Step). KnowsLink side past (record now { life = l; round = now.round ++ []; link = new })) (sym (append-nil now.life))
+    (subst (λ (l : List Step). KnowsLink side past (record now { round = l; link = new })) (sym (append-nil now.round)) (relinked side (serial_events past) now new obeys knows)))
 
 one_before : (side : Side) (past : List Entry) (now : LinkNow) (step : Step) (steps : List Step) (next new : LinkSide) (mid left : List (List ℕ))
-    → KnowsLink side past 0 (gone (stepped now step next mid) steps new left) → KnowsLink side past 0 (gone now (step ∷ steps) new left)
+    → KnowsLink side past (gone (stepped now step next mid) steps new left) → KnowsLink side past (gone now (step ∷ steps) new left)
 one_before side past now step steps next new mid left knows =
-    subst (λ (l : List Step). KnowsLink side past 0 (record now { life = now.life ++ step ∷ steps; round = l; link = new; coming = left })) (append_assoc now.round (step ∷ []) steps)
-    (subst (λ (l : List Step). KnowsLink side past 0 (record now { life = l; round = (now.round ++ step ∷ []) ++ steps; link = new; coming = left })) (append_assoc now.life (step ∷ []) steps) knows)
+    subst (λ (l : List Step). KnowsLink side past (record now { life = now.life ++ step ∷ steps; round = l; link = new; coming = left })) (append_assoc now.round (step ∷ []) steps)
+    (subst (λ (l : List Step). KnowsLink side past (record now { life = l; round = (now.round ++ step ∷ []) ++ steps; link = new; coming = left })) (append_assoc now.life (step ∷ []) steps) knows)
 
-pub steps_known : (steps : List Step) (side : Side) (past : List Entry) (now : LinkNow) (new : LinkSide) (left : List (List ℕ)) (way : WayState) (entries : List Entry) → KnowsLink side past 0 now
-    → MayGo side now steps new → MayHear now (items_of steps) left → Tells IsBeside side way (link_units steps) entries → KnowsLink side (past ++ entries) 0 (gone now steps new left)
-steps_known [] side past now new left way entries knows go hears tells = no_more side (past ++ entries) now new left go hears.0 (besides_known side past 0 now entries tells knows)
+pub steps_known : (steps : List Step) (side : Side) (past : List Entry) (now : LinkNow) (new : LinkSide) (left : List (List ℕ)) (way : WayState) (entries : List Entry) → KnowsLink side past now
+    → MayGo side now steps new → MayHear now (items_of steps) left → Tells IsBeside side way (link_units steps) entries → KnowsLink side (past ++ entries) (gone now steps new left)
+steps_known [] side past now new left way entries knows go hears tells = no_more side (past ++ entries) now new left go hears.0 (besides_known side past now entries tells knows)
 steps_known (step ∷ steps) side past now new left way entries knows (next, may, one, more) hears tells =
     by one
     (λ known. steps_known steps side past (stepped now step next mid) new left way entries known go later)
@@ -103,19 +104,19 @@ steps_known (step ∷ steps) side past now new left way entries knows (next, may
     texts units is = text_is step.outs ∙ ap (λ (l : List LineUnit). map (λ (unit : LineUnit). unit_text unit) l) is
 
     by : IsOne (flat_map link_unit step.outs)
-        → (KnowsLink side past 0 (stepped now step next mid) → Tells IsBeside side way (link_units steps) entries → KnowsLink side (past ++ entries) 0 (gone (stepped now step next mid) steps new left))
-        → ((unit : LineUnit) (before rest : List Entry) → KnowsLink side ((past ++ before) ++ told side way unit) 0 (stepped now step next mid) → Tells IsBeside side (after way (Writes unit)) (link_units steps) rest
-        → KnowsLink side (((past ++ before) ++ told side way unit) ++ rest) 0 (gone (stepped now step next mid) steps new left))
-        → KnowsLink side (past ++ entries) 0 (gone now (step ∷ steps) new left)
+        → (KnowsLink side past (stepped now step next mid) → Tells IsBeside side way (link_units steps) entries → KnowsLink side (past ++ entries) (gone (stepped now step next mid) steps new left))
+        → ((unit : LineUnit) (before rest : List Entry) → KnowsLink side ((past ++ before) ++ told side way unit) (stepped now step next mid) → Tells IsBeside side (after way (Writes unit)) (link_units steps) rest
+        → KnowsLink side (((past ++ before) ++ told side way unit) ++ rest) (gone (stepped now step next mid) steps new left))
+        → KnowsLink side (past ++ entries) (gone now (step ∷ steps) new left)
     by (inl none) mute writes =
         one_before side (past ++ entries) now step steps next new mid left
-        (mute (step_known side (serial_events past) [] now knows next step mid may first (texts [] none))
+        (mute (step_known side (serial_events past) now knows next step mid may first (texts [] none))
         (subst (λ (l : List LineUnit). Tells IsBeside side way l entries) (parted ∙ ap (λ (l : List LineUnit). l ++ link_units steps) none) tells))
     by (inr (unit, is)) mute writes =
         let (before, rest, are, beside, others) = subst (λ (l : List LineUnit). Tells IsBeside side way l entries) (parted ∙ ap (λ (l : List LineUnit). l ++ link_units steps) is) tells in
-        let wrote = write_known side (past ++ before) now next mid step way unit (besides_known side past 0 now before beside knows) may first (texts (unit ∷ []) is) in
+        let wrote = write_known side (past ++ before) now next mid step way unit (besides_known side past now before beside knows) may first (texts (unit ∷ []) is) in
         one_before side (past ++ entries) now step steps next new mid left
-        (subst (λ (l : List Entry). KnowsLink side l 0 (gone (stepped now step next mid) steps new left))
+        (subst (λ (l : List Entry). KnowsLink side l (gone (stepped now step next mid) steps new left))
         (append_assoc (past ++ before) (told side way unit) rest ∙ append_assoc past before (told side way unit ++ rest) ∙ ap (λ (l : List Entry). past ++ l) (sym are))
         (writes unit before rest wrote others))
 
@@ -126,32 +127,32 @@ abbrev pub arriving_all : Side → WayState → List LineUnit → List (List ℕ
 arriving_all side way [] = []
 arriving_all side way (unit ∷ units) = arriving_of side (unit_text unit) (marks_of side way unit) ++ arriving_all side (after way (Writes unit)) units
 
-nothing_arrives : (side : Side) (past : List Entry) (now : LinkNow) → KnowsLink side past 0 now → KnowsLink side past 0 (with_arriving now [])
+nothing_arrives : (side : Side) (past : List Entry) (now : LinkNow) → KnowsLink side past now → KnowsLink side past (with_arriving now [])
 nothing_arrives side past now knows =
-    subst (λ (n : ℕ). KnowsLink side past 0 (record now { coming = now.coming ++ []; brought = n })) plus_none
-    (subst (λ (l : List (List ℕ)). KnowsLink side past 0 (record now { coming = l })) (sym (append-nil now.coming)) knows)
+    subst (λ (n : ℕ). KnowsLink side past (record now { coming = now.coming ++ []; brought = n })) plus_none
+    (subst (λ (l : List (List ℕ)). KnowsLink side past (record now { coming = l })) (sym (append-nil now.coming)) knows)
   where
     plus_none : now.brought ≡ now.brought + 0
     plus_none = omega arith
 
-both_arrive : (side : Side) (past : List Entry) (now : LinkNow) (first later : List (List ℕ)) → KnowsLink side past 0 (with_arriving (with_arriving now first) later)
-    → KnowsLink side past 0 (with_arriving now (first ++ later))
+both_arrive : (side : Side) (past : List Entry) (now : LinkNow) (first later : List (List ℕ)) → KnowsLink side past (with_arriving (with_arriving now first) later)
+    → KnowsLink side past (with_arriving now (first ++ later))
 both_arrive side past now first later knows =
-    subst (λ (n : ℕ). KnowsLink side past 0 (record now { coming = now.coming ++ (first ++ later); brought = n })) plus_both
-    (subst (λ (l : List (List ℕ)). KnowsLink side past 0 (record now { coming = l; brought = (now.brought + length first) + length later })) (append_assoc now.coming first later) knows)
+    subst (λ (n : ℕ). KnowsLink side past (record now { coming = now.coming ++ (first ++ later); brought = n })) plus_both
+    (subst (λ (l : List (List ℕ)). KnowsLink side past (record now { coming = l; brought = (now.brought + length first) + length later })) (append_assoc now.coming first later) knows)
   where
     plus_both : (now.brought + length first) + length later ≡ now.brought + length (first ++ later)
     plus_both = let long : length (first ++ later) ≡ length first + length later = length-append first later in omega (arith, long)
 
-pub others_known : (units : List LineUnit) (side : Side) (past : List Entry) (now : LinkNow) (way : WayState) (entries : List Entry) → KnowsLink side past 0 now
-    → Tells IsBeside (other side) way units entries → KnowsLink side (past ++ entries) 0 (with_arriving now (arriving_all (other side) way units))
-others_known [] side past now way entries knows tells = nothing_arrives side (past ++ entries) now (besides_known side past 0 now entries tells knows)
+pub others_known : (units : List LineUnit) (side : Side) (past : List Entry) (now : LinkNow) (way : WayState) (entries : List Entry) → KnowsLink side past now
+    → Tells IsBeside (other side) way units entries → KnowsLink side (past ++ entries) (with_arriving now (arriving_all (other side) way units))
+others_known [] side past now way entries knows tells = nothing_arrives side (past ++ entries) now (besides_known side past now entries tells knows)
 others_known (unit ∷ units) side past now way entries knows (before, rest, are, beside, others) =
     let here : List (List ℕ) = arriving_of (other side) (unit_text unit) (marks_of (other side) way unit) in
-    let wrote = other_known side (past ++ before) now way unit (besides_known side past 0 now before beside knows) in
+    let wrote = other_known side (past ++ before) now way unit (besides_known side past now before beside knows) in
     let all = others_known units side ((past ++ before) ++ told (other side) way unit) (with_arriving now here) (after way (Writes unit)) rest wrote others in
     both_arrive side (past ++ entries) now here (arriving_all (other side) (after way (Writes unit)) units)
-    (subst (λ (l : List Entry). KnowsLink side l 0 (with_arriving (with_arriving now here) (arriving_all (other side) (after way (Writes unit)) units)))
+    (subst (λ (l : List Entry). KnowsLink side l (with_arriving (with_arriving now here) (arriving_all (other side) (after way (Writes unit)) units)))
     (append_assoc (past ++ before) (told (other side) way unit) rest ∙ append_assoc past before (told (other side) way unit ++ rest) ∙ ap (λ (l : List Entry). past ++ l) (sym are)) all)
 
 -- ---- what is on its way
@@ -175,3 +176,12 @@ texts_taken [] [] texts = refl
 texts_taken [] (text ∷ coming) texts = absurd texts
 texts_taken (item ∷ items) [] texts = absurd texts
 texts_taken (item ∷ items) (text ∷ coming) texts = (texts.0, texts_taken items coming texts.1)
+
+pub brings_taken : (way : WayState) (coming : List (List ℕ)) (rest : Rest) (judged : List Item) → Brings way coming → Feeds no_rest (take (length way.bytes) way.bytes) rest judged
+    → TakesTexts judged coming []
+brings_taken way coming rest judged brings taken =
+    subst (λ (l : List Item). TakesTexts l coming []) (sym (feeds_all no_rest rest way.bytes brings.items judged taken brings.carries).all) (texts_taken brings.items coming brings.texts)
+
+-- and then nothing is on its way
+pub brings_none : (way : WayState) → way.bytes ≡ [] → Brings way []
+brings_none way none = record { items = []; carries = none_carries way none; texts = tt; bytes = none }

@@ -1,21 +1,14 @@
--- How what the laws of links look at grows with one moment; and what arrives by the moments since the host started is what arrives by the transcript.
-use Rattle.std.proofs.Common.{◌≡◌, ℕ, zero, suc, ◌+◌, ◌-◌, ◌&&◌, not, Bool, true, false, if◌then◌else◌, List, [], ◌∷◌, ◌++◌, length, map, replicate, refl, sym, ap, ◌∙◌, subst, append-nil, append_assoc, arith}
+-- How what the laws of links look at grows with one moment.
+use Rattle.std.proofs.Common.{◌≡◌, ℕ, zero, suc, Bool, true, false, if◌then◌else◌, List, [], ◌∷◌, ◌++◌, length, map, refl, sym, ap, ◌∙◌, subst, append-nil, arith}
 use Rattle.std.specs.List.{AllByRecursion}
 use Rattle.std.proofs.lemmas.List.{map-append}
 use Rattle.std.proofs.lemmas.Grind.{flat_map-append}
 use Rattle.serial_link.specs.Rules.{Step}
 use Rattle.zw_words.specs.declared.side.Side.{Side}
-use Rattle.zw_text.specs.declared.line.Line.{Line}
-use Rattle.zw_text.specs.declared.line.Line.TheVariants as lines
-use Rattle.zw_text.specs.declared.entry.Entry.{Entry}
-use Rattle.zw_text.specs.declared.entry.Entry.TheVariants as entry
-use Rattle.zw_text.specs.Transcript.{line_of, same_side}
 use Rattle.law_transcript.specs.Lists.{last_or}
-use Rattle.law_transcript.specs.Restarts.{is_restart, begins_refused, ticks_asked}
-use Rattle.law_wire.specs.Serial.{SerialEvent, arriving_of, beginning_of, done_line, serial_events, serial_events_from}
-use Rattle.law_wire.specs.Serial.SerialEvent.{Tick_begins}
+use Rattle.law_transcript.specs.Restarts.{is_restart}
+use Rattle.law_wire.specs.Serial.{SerialEvent}
 use Rattle.law_wire.specs.Links.{Moment, Round, Obeys, arrival_of, arrivals_of, between_restarts, joined, line_in, moments_of, round_from, round_of, round_step, since_start, steps_in}
-use Rattle.proof_line.specs.Arrivals.{arrived, arrived_from, arrived_step}
 
 -- ---- lives
 
@@ -108,87 +101,3 @@ moments_one (first ∷ events) [] event part same = absurd (let none : zero ≡ 
 moments_one (first ∷ events) (other ∷ parts) event part same =
     let fewer : suc (length parts) ≡ suc (length events) = same in
     ap (λ (l : List Moment). record { event = first; steps = other } ∷ l) (moments_one events parts event part (omega (arith, fewer)))
-
--- ---- what has arrived, event by event: a restart empties both ways
-
-abbrev landed : Side → List (List ℕ) → List SerialEvent → List (List ℕ)
-landed side texts [] = texts
-landed side texts (event ∷ events) = landed side (if is_restart (line_in event) then [] else texts ++ arrival_of side event) events
-
-abbrev events_in : List Moment → List SerialEvent
-events_in past = map (λ (m : Moment). m.event) past
-
-life_lands : (side : Side) (life past : List Moment) → arrivals_of side (last_or [] (between_restarts life past)) ≡ landed side (arrivals_of side life) (events_in past)
-life_lands side life [] = refl
-life_lands side life (one ∷ past) = by (restarts_at one) (life_lands side [] past) (life_lands side (life ++ one ∷ []) past)
-  where
-    by : (b : Bool) → arrivals_of side (last_or [] (between_restarts [] past)) ≡ landed side [] (events_in past)
-        → arrivals_of side (last_or [] (between_restarts (life ++ one ∷ []) past)) ≡ landed side (arrivals_of side (life ++ one ∷ [])) (events_in past)
-        → arrivals_of side (last_or [] (if b then (life ++ one ∷ []) ∷ between_restarts [] past else between_restarts (life ++ one ∷ []) past))
-        ≡ landed side (if b then [] else arrivals_of side life ++ arrival_of side one.event) (events_in past)
-    by true again on = ap (λ (l : List Moment). arrivals_of side l) (last_life (life ++ one ∷ []) [] past) ∙ again
-    by false again on = on ∙ ap (λ (t : List (List ℕ)). landed side t (events_in past)) (arrivals_one side life one)
-
-events_are : (events : List SerialEvent) (parts : List (List Step)) → length parts ≡ length events → events_in (moments_of events parts) ≡ events
-events_are [] parts same = refl
-events_are (event ∷ events) [] same = absurd (let none : zero ≡ suc (length events) = same in cc)
-events_are (event ∷ events) (part ∷ parts) same =
-    let fewer : suc (length parts) ≡ suc (length events) = same in
-    ap (λ (l : List SerialEvent). event ∷ l) (events_are events parts (omega (arith, fewer)))
-
--- ticks bring nothing
-ticks_pass : (side : Side) (texts : List (List ℕ)) (count : ℕ) (events : List SerialEvent) → landed side texts (replicate count Tick_begins ++ events) ≡ landed side texts events
-ticks_pass side texts zero events = refl
-ticks_pass side texts (suc count) events =
-    ap (λ (t : List (List ℕ)). landed side t (replicate count Tick_begins ++ events)) (append-nil texts) ∙ ticks_pass side texts count events
-
-ticks_last : (side : Side) (texts : List (List ℕ)) (events : List SerialEvent) (count : ℕ) → landed side texts (events ++ replicate count Tick_begins) ≡ landed side texts events
-ticks_last side texts [] count = ap (λ (l : List SerialEvent). landed side texts l) (sym (append-nil (replicate count Tick_begins))) ∙ ticks_pass side texts count []
-ticks_last side texts (event ∷ events) count = ticks_last side (if is_restart (line_in event) then [] else texts ++ arrival_of side event) events count
-
-line_lands : (side : Side) (texts : List (List ℕ)) (line : List Line) (events : List SerialEvent)
-    → landed side texts (beginning_of line ++ events) ≡ landed side (if is_restart line then [] else texts) events
-line_lands side texts [] events = ap (λ (t : List (List ℕ)). landed side t events) (append-nil texts)
-line_lands side texts (lines.Tick count ∷ more) events = refl
-line_lands side texts (lines.Restart ∷ more) events = refl
-line_lands side texts (line ∷ more) events = ap (λ (t : List (List ℕ)). landed side t events) (append-nil texts)
-
--- a line that is refused empties nothing
-said_lands : (side : Side) (texts : List (List ℕ)) (line : List Line) (rest : List Entry) (events : List SerialEvent)
-    → landed side texts (beginning_of (done_line line rest) ++ events) ≡ landed side (if is_restart line && not (begins_refused rest) then [] else texts) events
-said_lands side texts line rest events = by (begins_refused rest)
-  where
-    never : (r : Bool) → texts ≡ (if r && not true then [] else texts)
-    never true = refl
-    never false = refl
-
-    plain : (r : Bool) → (if r then [] else texts) ≡ (if r && not false then [] else texts)
-    plain true = refl
-    plain false = refl
-
-    by : (b : Bool) → landed side texts (beginning_of (if b then [] else line) ++ events) ≡ landed side (if is_restart line && not b then [] else texts) events
-    by true = ap (λ (t : List (List ℕ)). landed side t events) (append-nil texts ∙ never (is_restart line))
-    by false = line_lands side texts line events ∙ ap (λ (t : List (List ℕ)). landed side t events) (plain (is_restart line))
-
-entries_land : (side : Side) (texts : List (List ℕ)) (now due : ℕ) (past : List Entry) → landed side texts (serial_events_from now due past) ≡ arrived_from side texts past
-entries_land side texts now due [] = refl
-entries_land side texts now due (entry.Said words ∷ rest) =
-    let line : List Line = line_of (entry.Said words) in
-    let later : List SerialEvent = serial_events_from due (due + ticks_asked line) rest in
-    ap (λ (l : List SerialEvent). landed side texts l) (append_assoc (replicate (due - now) Tick_begins) (beginning_of (done_line line rest)) later)
-    ∙ ticks_pass side texts (due - now) (beginning_of (done_line line rest) ++ later)
-    ∙ said_lands side texts line rest later
-    ∙ entries_land side (arrived_step side texts (entry.Said words) rest) due (due + ticks_asked line) rest
-entries_land side texts now due (entry.Time tick ∷ rest) = ticks_pass side texts (tick - now) (serial_events_from tick due rest) ∙ entries_land side texts tick due rest
-entries_land side texts now due (entry.Written on unit ∷ rest) = entries_land side (texts ++ (if same_side side on then arriving_of on unit rest else [])) now due rest
-entries_land side texts now due (e ∷ rest) = entries_land side texts now due rest
-
--- also where ticks have begun whose number is not entered yet
-pub arrives_since : (side : Side) (past : List Entry) (count : ℕ) (parts : List (List Step)) → length parts ≡ length (serial_events past ++ replicate count Tick_begins)
-    → arrivals_of side (since_start (moments_of (serial_events past ++ replicate count Tick_begins) parts)) ≡ arrived side past
-arrives_since side past count parts same =
-    let events : List SerialEvent = serial_events past ++ replicate count Tick_begins in
-    life_lands side [] (moments_of events parts)
-    ∙ ap (λ (l : List SerialEvent). landed side [] l) (events_are events parts same)
-    ∙ ticks_last side [] (serial_events past) count
-    ∙ entries_land side [] 0 0 past

@@ -43,7 +43,7 @@ use Rattle.proof_walk.proofs.Machines.{UnitsAre}
 use Rattle.proof_walk.proofs.Stepping.{Steps, event_then}
 use Rattle.proof_walk.proofs.Times.{IsWithin}
 use Rattle.proof_line.specs.Pipes.{IsByHand, MayLack}
-use Rattle.proof_line.specs.Arrivals.{arrived_from, arrived, Comes, ClearsUnits, MayLose}
+use Rattle.proof_line.specs.Arrivals.{arrived_from, arrived, Comes}
 use Rattle.proof_line.specs.Rooms.{MayFit, MayAnswer, LastFits, Fills, Shown, ShownBefore, BegunShown, IsClearing, StartsClearing, EndsClearing, LeftClearing, LeftShown, HasGone, InTickShown, SettlingShown, KnowRooms}
 use Rattle.proof_line.proofs.Standing.{line_then}
 use Rattle.proof_line.proofs.Holding.{TellsNothing, pipe_grows}
@@ -52,7 +52,7 @@ use Rattle.proof_line.proofs.Hosting.{NoUnit, frames_alone, asked_none, tick_not
 use Rattle.proof_line.proofs.Chipping.{IsFrame}
 use Rattle.proof_line.proofs.Piping.{covers_line, entered_same, stamp_quiet}
 use Rattle.proof_line.proofs.Fitting.{apart_fits}
-use Rattle.proof_line.proofs.Arriving.{arrived_grows, comes_same, comes_lost, comes_at, comes_none}
+use Rattle.proof_line.proofs.Arriving.{arrived_grows, comes_same, comes_at, comes_none}
 use Rattle.proof_line.proofs.Tellings.{IsBeside}
 use Rattle.proof_line.proofs.HostTelling.{does_tells, frames_unanswered}
 use Rattle.proof_line.proofs.ChipTelling.{OutcomeTells, IsArriving, arriving_tells, tick_tells, line_tells, quietly}
@@ -86,11 +86,11 @@ nothing_more : (P : List Entry → Type 0) (past : List Entry) → P past → P 
 nothing_more P past known = subst P (sym (append-nil past)) known
 
 -- outside a tick no number is to be entered
-not_awaited : (o : OuterState) → o.in_tick ≡ false → awaits_number o ≡ false
+pub not_awaited : (o : OuterState) → o.in_tick ≡ false → awaits_number o ≡ false
 not_awaited o quiet = ap (λ (b : Bool). b && not o.stamped) quiet
 
 -- what is told of bytes that are lost then, and that no tick runs
-quiet_cleared : (side : Side) (m : Machine) → m.outside.outer.in_tick ≡ false
+pub quiet_cleared : (side : Side) (m : Machine) → m.outside.outer.in_tick ≡ false
     → AllByRecursion IsCleared (entries m (Outside_does (Clears_pipe side))) × ((happens m (Outside_does (Clears_pipe side))).outside.outer.in_tick ≡ false)
     × (entries m (Outside_does (Clears_pipe side)) ≡ cleared_entries side (length (way_of m.outside.outer side).bytes))
 unfolding happens entries outcome
@@ -104,7 +104,7 @@ quiet_cleared by_chip m quiet =
     (subst (AllByRecursion IsCleared) (sym (stamp_quiet x told quiet)) (all_cleared by_chip (length m.outside.outer.to_host.bytes)), ap (λ (l : List ℕ × List ℕ × Bool). l.2) (entered_same x told) ∙ quiet, stamp_quiet x told quiet)
 
 -- the bytes that are then on their way
-host_cleared : (m : Machine)
+pub host_cleared : (m : Machine)
     → ((happens m (Outside_does (Clears_pipe by_host))).outside.outer.to_chip.bytes ≡ [])
     × ((happens m (Outside_does (Clears_pipe by_host))).outside.outer.to_host.bytes ≡ m.outside.outer.to_host.bytes)
 unfolding happens outcome
@@ -112,7 +112,7 @@ host_cleared m =
     let same = entered_same (outcome m.outside (Clears_pipe by_host)).outer (outcome m.outside (Clears_pipe by_host)).entries in
     (ap (λ (l : List ℕ × List ℕ × Bool). l.0) same, ap (λ (l : List ℕ × List ℕ × Bool). l.1) same)
 
-chip_cleared : (m : Machine)
+pub chip_cleared : (m : Machine)
     → ((happens m (Outside_does (Clears_pipe by_chip))).outside.outer.to_host.bytes ≡ [])
     × ((happens m (Outside_does (Clears_pipe by_chip))).outside.outer.to_chip.bytes ≡ m.outside.outer.to_chip.bytes)
 unfolding happens outcome
@@ -203,11 +203,11 @@ none_frames [] are = tt
 none_frames (Write unit ∷ outs) are = absurd are.0
 none_frames (Note e ∷ outs) are = none_frames outs are
 
-hand_whole : (m : Machine) (event : OuterEvent) → IsByHand event → OuterTakesAll m event
+pub hand_whole : (m : Machine) (event : OuterEvent) → IsByHand event → OuterTakesAll m event
 hand_whole m (Chip_takes count rest ways) by_hand = absurd by_hand
 hand_whole m event by_hand = tt
 
-hand_within : (event : OuterEvent) → IsByHand event → IsWithin event
+pub hand_within : (event : OuterEvent) → IsByHand event → IsWithin event
 hand_within Begins_line by_hand = absurd by_hand
 hand_within Begins_tick by_hand = absurd by_hand
 hand_within event by_hand = tt
@@ -330,11 +330,11 @@ starts_again past m state left is may well known =
     )
 
 -- bytes that were lost
-cleared_stand : (past : List Entry) (side : Side) (count : ℕ) → LastFits past → ClearsUnits past side count → EachAfter MayFit past (cleared_entries side count) × LastFits (past ++ cleared_entries side count)
-cleared_stand past side count fits clears = by (nat_lt 0 count)
+cleared_stand : (past : List Entry) (side : Side) (count : ℕ) → LastFits past → EachAfter MayFit past (cleared_entries side count) × LastFits (past ++ cleared_entries side count)
+cleared_stand past side count fits = by (nat_lt 0 count)
   where
     by : (b : Bool) → EachAfter MayFit past (if b then entry.Cleared side count ∷ [] else []) × LastFits (past ++ (if b then entry.Cleared side count ∷ [] else []))
-    by true = (((fits, clears), tt), apart_fits past (entry.Cleared side count) refl)
+    by true = ((fits, tt), apart_fits past (entry.Cleared side count) refl)
     by false = (tt, subst LastFits (sym (append-nil past)) fits)
 
 cleared_passes : (side : Side) (pipe : Pipe) (told : List Entry) → AllByRecursion IsCleared told → pipe_from side pipe told ≡ pipe
@@ -347,7 +347,7 @@ cleared_arrive side texts [] all = refl
 cleared_arrive side texts (entry.Cleared on count ∷ told) all = cleared_arrive side texts told all.1
 cleared_arrive side texts (e ∷ told) all = absurd all.0
 
-unrefused : (told : List Entry) → AllByRecursion IsCleared told → begins_refused told ≡ false
+pub unrefused : (told : List Entry) → AllByRecursion IsCleared told → begins_refused told ≡ false
 unrefused [] all = refl
 unrefused (entry.Cleared side count ∷ told) all = refl
 unrefused (e ∷ told) all = absurd all.0
@@ -359,16 +359,7 @@ clears_one side past m known comes may well =
     let event : Event = Outside_does (Clears_pipe side) in
     let told = quiet_cleared side m known.quiet in
     let count : ℕ = length (way_of m.outside.outer side).bytes in
-    let clears : ClearsUnits past side count = record {
-      before = known.before;
-      words = known.words;
-      told = known.told;
-      is = known.is;
-      restarts = known.restarts;
-      kept = length comes.earlier;
-      lost = comes_lost (way_of m.outside.outer side) (arrived side known.before) comes;
-    } in
-    let stand = subst (λ (l : List Entry). EachAfter MayFit past l × LastFits (past ++ l)) (sym told.2) (cleared_stand past side count known.fits clears) in (
+    let stand = subst (λ (l : List Entry). EachAfter MayFit past l × LastFits (past ++ l)) (sym told.2) (cleared_stand past side count known.fits) in (
       stand.0,
       record {
         before = known.before;
@@ -505,12 +496,12 @@ begins_tick ticks past m shown =
       ),
     )
 
-arriving_within : (event : OuterEvent) → IsArriving event → IsWithin event
+pub arriving_within : (event : OuterEvent) → IsArriving event → IsWithin event
 arriving_within Begins_line arriving = absurd arriving
 arriving_within Begins_tick arriving = absurd arriving
 arriving_within event arriving = tt
 
-arriving_whole : (m : Machine) (event : OuterEvent) → IsArriving event → OuterTakesAll m event
+pub arriving_whole : (m : Machine) (event : OuterEvent) → IsArriving event → OuterTakesAll m event
 arriving_whole m (Chip_takes count rest ways) arriving = absurd arriving
 arriving_whole m event arriving = tt
 
@@ -624,7 +615,6 @@ rooms_first keys devices = record {
 one_overruns : (past : List Entry) (e : Entry) → MayLack past e → MayFit past e → may_overrun past e ≡ true
 one_overruns past (entry.Overrun side) lack fit = lack
 one_overruns past (entry.Written side unit) lack fit = fit.0
-one_overruns past (entry.Cleared side count) lack fit = fit.0
 one_overruns past e lack fit = fit
 
 pub overruns : (past told : List Entry) → EachAfter MayLack past told → EachAfter MayFit past told → EachAfter (λ before e. may_overrun before e ≡ true) past told
@@ -634,11 +624,6 @@ overruns past (e ∷ told) lack fit = (one_overruns past e lack.0 fit.0, overrun
 pub all_write : (m : Machine) (events : List Event) → AllWriteWell m events → AllAlong WritesWell m events
 all_write m [] well = tt
 all_write m (event ∷ events) well = (well.0, all_write (happens m event) events well.1)
-
--- and what a restart loses
-pub loses : (past : List Entry) (e : Entry) → MayFit past e → MayLose past e
-loses past (entry.Cleared side count) fit = fit.1
-loses past e fit = tt
 
 -- and which answers are given
 pub answers : (past : List Entry) (e : Entry) → MayFit past e → MayAnswer past e

@@ -51,7 +51,7 @@ use Rattle.proof_line.proofs.Filling.{never, unsaid}
 use Rattle.proof_line.proofs.Chipping.{drop_whole}
 use Rattle.proof_line.proofs.Arriving.{comes_same, comes_taken, comes_at}
 use Rattle.proof_line.proofs.Tellings.{IsBeside, answers_all, bytes_all}
-use Rattle.proof_line.proofs.Numbering.{numbered}
+use Rattle.proof_line.proofs.Numbering.{numbered, numbered_of}
 use Rattle.proof_line.proofs.HostTelling.{HostTells, does_tells, takes_tells, judged_answers as host_answers}
 use Rattle.proof_line.proofs.ChipTelling.{OutcomeTells, TakesTell, takes_tell}
 use Rattle.proof_line.proofs.Goings.{fills_as, fills_same, fills_none, HasRoom, went, frames_go}
@@ -170,7 +170,7 @@ module _ (Good : List Entry → Type 0) (stays : (past : List Entry) (e : Entry)
   host_goes w v units told tells frames fit past kept =
       let all : List Entry = past ++ told in
       let got =
-      frames_go IsBeside beside_nothing Good stays (beside_joins Good) by_host by_chip refl w.outer.to_chip w.outer.to_host (awaits_number w.outer) (awaits_number v.outer) told tells.told units tells.numbers tells.tells fit frames past
+      frames_go IsBeside beside_nothing Good stays (beside_joins Good) by_host by_chip refl w.outer.to_chip w.outer.to_host (awaits_number w.outer) (awaits_number v.outer) told tells.told units (numbered_of w.outer v.outer told tells.told tells.enters) tells.tells fit frames past
       (record { own = kept.up; oth = kept.down; own_comes = kept.up_comes; oth_comes = kept.down_comes; fits = kept.fits; good = kept.good }) (λ is. let none = kept.unanswered is in (none.of_host, none.of_chip)) in (
         got.each,
         record {
@@ -196,7 +196,7 @@ unanswered_settles h up down to_chip to_host fills one two = record {
 }
 
 -- no bytes end no item
-none_carried : (way : WayState) (items : List Item) → way.bytes ≡ [] → Carries no_rest way items → items ≡ []
+pub none_carried : (way : WayState) (items : List Item) → way.bytes ≡ [] → Carries no_rest way items → items ≡ []
 none_carried way items none carries =
     sym (feeds_all no_rest no_rest [] items [] (record { reads = (tt, refl); ticks = refl }) (subst (λ (l : List ℕ). Feeds no_rest l no_rest items) none carries)).all
 
@@ -373,7 +373,7 @@ module _ (past : List Entry) (m : Machine) (rest : Rest) (items : List Item) (ev
       let answered : answers_all units ≡ answers_due items = host_answers m.host.state items events may.judged in
       let got =
       went IsBeside beside_nothing Any any_stays (beside_joins Any) by_host by_chip refl o.to_chip o.to_host HostKnown IsNone host_turns (awaits_number o) (awaits_number n) told tells.told units
-      tells.numbers tells.tells well (host_room shown.rests.host may.feeds may.judged) past (record { own = shown.up; oth = shown.down; own_comes = shown.up_comes; oth_comes = shown.down_comes; fits = shown.fits; good = tt }) known.1 in
+      (numbered_of f.outer n told tells.told tells.enters) tells.tells well (host_room shown.rests.host may.feeds may.judged) past (record { own = shown.up; oth = shown.down; own_comes = shown.up_comes; oth_comes = shown.down_comes; fits = shown.fits; good = tt }) known.1 in
       let from = got.1 in
       let w = from.written in
       let after_it = later past m feeds_host shown may refl well in
@@ -480,7 +480,7 @@ module _ (past : List Entry) (m : Machine) (event : HostEvent) where
       let tells = does_tells m event in
       let got =
       went IsBeside beside_nothing Any any_stays (beside_joins Any) by_host by_chip refl o.to_chip o.to_host PumpKnown AnyMore pump_turns (awaits_number o) (awaits_number n) told tells.told pumped_units
-      tells.numbers tells.tells well (pump_room pumped.zero pumped.start) past (record { own = shown.up; oth = shown.down; own_comes = shown.up_comes; oth_comes = shown.down_comes; fits = shown.fits; good = tt }) known.1 in
+      (numbered_of o n told tells.told tells.enters) tells.tells well (pump_room pumped.zero pumped.start) past (record { own = shown.up; oth = shown.down; own_comes = shown.up_comes; oth_comes = shown.down_comes; fits = shown.fits; good = tt }) known.1 in
       let from = got.1 in
       let w = from.written in
       let after_it = later past m (Host_does event) shown may tt well in

@@ -21,7 +21,7 @@ use Rattle.proof_line.proofs.Tellings.{IsBeside}
 
 -- ---- what stands next says neither what became of the last unit nor that the last line was refused
 
-refused_same : (past told : List Entry) → begins_refused told ≡ false → begins_refused (past ++ told) ≡ begins_refused past
+pub refused_same : (past told : List Entry) → begins_refused told ≡ false → begins_refused (past ++ told) ≡ begins_refused past
 refused_same [] told plain = plain
 refused_same (e ∷ past) told plain = refused_then e (past ++ told) past
 
@@ -43,7 +43,7 @@ serials_grow now due (entry.Written side unit ∷ past) told none plain =
     ∙ ap (λ (l : List SerialEvent). Writes side unit (arriving_of side unit past) ∷ l) (serials_grow now due past told none plain)
 serials_grow now due (e ∷ past) told none plain = serials_grow now due past told none plain
 
-told_grows : (now due : ℕ) (past told : List Entry) → told_from now due (past ++ told) ≡ told_from (told_from now due past) (due_from due past) told
+pub told_grows : (now due : ℕ) (past told : List Entry) → told_from now due (past ++ told) ≡ told_from (told_from now due past) (due_from due past) told
 told_grows now due [] told = refl
 told_grows now due (entry.Said words ∷ past) told = told_grows due (due + ticks_asked (line_of (entry.Said words))) past told
 told_grows now due (entry.Time tick ∷ past) told = told_grows tick due past told
@@ -51,7 +51,7 @@ told_grows now due (e ∷ past) told = told_grows now due past told
 
 -- ---- entries of no event
 
-marks_none : (now due : ℕ) (marks : List Entry) → AllByRecursion IsMark marks → (serial_events_from now due marks ≡ []) × (told_from now due marks ≡ now)
+pub marks_none : (now due : ℕ) (marks : List Entry) → AllByRecursion IsMark marks → (serial_events_from now due marks ≡ []) × (told_from now due marks ≡ now)
 marks_none now due [] all = (refl, refl)
 marks_none now due (entry.Dropped side ∷ marks) all = marks_none now due marks all.1
 marks_none now due (entry.Garbled side unit ∷ marks) all = marks_none now due marks all.1

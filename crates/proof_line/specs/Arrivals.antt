@@ -1,20 +1,17 @@
 -- What arrives of the units of a side since the host started, by the transcript so far (this project's own rule): what the other side has judged since then, and after it what is on
 -- its way, is that, in order and by all bytes.
-use Rattle.std.specs.Prelude.{◌≡◌, not, ◌&&◌, if◌then◌else◌, ℕ, List, [], ◌∷◌, ◌++◌, drop, ⊤}
+use Rattle.std.specs.Prelude.{◌≡◌, not, ◌&&◌, if◌then◌else◌, ℕ, List, [], ◌∷◌, ◌++◌}
 use Rattle.std.specs.List.{flat_map}
 use Rattle.serial_frame.specs.Items.{ItemText}
 use Rattle.serial_frame.specs.Stream.{no_rest}
 use Rattle.serial_frame.specs.declared.item.Item.{Item}
 use Rattle.serial_pipes.specs.State.{WayState}
 use Rattle.zw_words.specs.declared.side.Side.{Side}
-use Rattle.zw_text.specs.declared.line.Line.TheVariants as lines
 use Rattle.zw_text.specs.declared.entry.Entry.{Entry}
-use Rattle.zw_text.specs.declared.entry.Entry.TheVariants.{Said, Written, Cleared}
+use Rattle.zw_text.specs.declared.entry.Entry.TheVariants.{Said, Written}
 use Rattle.zw_text.specs.Transcript.{line_of, same_side}
-use Rattle.law_transcript.specs.Lists.{EachAfter}
 use Rattle.law_transcript.specs.Restarts.{is_restart, begins_refused}
 use Rattle.law_wire.specs.Serial.{arriving_of}
-use Rattle.law_wire.specs.Clearing.{bytes_in}
 use Rattle.proof_serial.specs.Way.{Carries}
 
 -- one entry, with those after it: a restart that is not refused empties both ways
@@ -49,21 +46,3 @@ pub record Comes (way : WayState) (texts : List (List ℕ)) : Type 0 where
   pub heard : AreTexts judged earlier
   pub coming : AreTexts items ahead
   pub bytes : way.bytes ≡ flat_map (λ text. text) ahead
-
--- so many bytes are lost at a `restart`: all those of the units of the side that arrived last
-pub record ClearsUnits (past : List Entry) (side : Side) (count : ℕ) : Type 0 where
-  pub before : List Entry
-  pub words : List ℕ
-  pub told : List Entry
-  pub is : past ≡ before ++ Said words ∷ told
-  pub restarts : line_of (Said words) ≡ lines.Restart ∷ []
-  pub kept : ℕ
-  pub lost : count ≡ bytes_in (drop kept (arrived side before))
-
--- bytes are cleared only at restarts, and are those of whole units
-abbrev pub MayLose : List Entry → Entry → Type 0
-MayLose past (Cleared side count) = ClearsUnits past side count
-MayLose past entry = ⊤
-
-abbrev pub ClearsWholeUnits : List Entry → Type 0
-ClearsWholeUnits transcript = EachAfter MayLose [] transcript

@@ -6,3 +6,4 @@ pub mod Arrivals
 pub mod Links
 pub mod Rooms
 pub mod Linked
+pub use Rattle.proof_spoken.specs.Said

@@ -1,6 +1,6 @@
 -- What is known of both links beside the machine at each phase of a line (this project's own rule): where each side is, what is on its way to it, whether it has ticked in the running
--- tick, and that nothing, or little, is left where a line or tick ends. A line that has not done anything yet is not counted: whether it is refused is shown by what stands after it.
-use Rattle.std.specs.Prelude.{◌≡◌, ◌≤◌, ◌<◌, ◌⊎◌, ℕ, ◌+◌, ◌-◌, Bool, true, false, None, List, [], ◌∷◌, ◌++◌, length}
+-- tick, and that nothing, or little, is left where a line or tick ends. A line that has entered nothing yet is not counted: whether it is refused is shown by what stands after it.
+use Rattle.std.specs.Prelude.{◌≡◌, ◌≤◌, ◌<◌, ◌⊎◌, ℕ, suc, ◌+◌, ◌-◌, Bool, true, false, None, List, [], ◌∷◌, ◌++◌, length}
 use Rattle.std.specs.List.{AllByRecursion}
 use Rattle.serial_link.specs.Rules.{ticks_of}
 use Rattle.chip_sim.specs.Rules.{WaitsWell}
@@ -10,24 +10,47 @@ use Rattle.zw_text.specs.declared.line.Line.TheVariants as lines
 use Rattle.zw_text.specs.declared.entry.Entry.{Entry}
 use Rattle.zw_text.specs.declared.entry.Entry.TheVariants.{Said}
 use Rattle.zw_text.specs.Transcript.{line_of}
+use Rattle.law_wire.specs.Clearing.{AreTold, cleared, clears, lost_by, to_clear}
+use Rattle.law_wire.specs.Links.{KeepsLinks}
 use Rattle.host_model.specs.Events.{HostEvent, Line_ticks}
 use Rattle.host_node.specs.Search.{first_wanting}
 use Rattle.host_model.specs.State.{HostState}
 use Rattle.host_model.specs.May.{IsFree}
 use Rattle.host_model.specs.Pumping.{HasNothing}
 use Rattle.outside_model.specs.State.{OuterState, is_stalled}
-use Rattle.outside_model.specs.Events.{Clears_pipe}
+use Rattle.outside_model.specs.Events.{OuterEvent, Clears_pipe, Collides_next, Discovers, Joins, Stalls, Chip_takes, ticked_entry}
 use Rattle.world_model.specs.State.{Machine}
-use Rattle.world_model.specs.Events.{Event, Outside_does, Restarts, May, happens, entries}
+use Rattle.world_model.specs.Events.{Event, Outside_does, Host_does, Host_takes, Decoder_ticks, Restarts}
 use Rattle.world_model.specs.Lines.{IsEffect}
-use Rattle.proof_serial.specs.Line.{AreAtRest}
+use Rattle.proof_serial.specs.Line.{AreAtRest, IsWhole, WritesWell}
 use Rattle.proof_serial.specs.Chip.{HasFrames}
-use Rattle.proof_walk.specs.Outside.{awaits_number}
+use Rattle.proof_serial.specs.Host.{AsksWell}
 use Rattle.proof_walk.specs.Phases.{Phase, Between, Said_line, Begun, Doing, To_tick, Ticked, Arriving, Giving, Ticking_devices, Ticking_chip, Ticking_decoder, Ticking_host, Sleeping, Submitting, Moving, Moved}
-use Rattle.proof_walk.specs.ByLine.{KnownOf, OfEffect}
+use Rattle.proof_walk.specs.ByLine.{KnownOf, IsAsked}
 use Rattle.proof_traffic.specs.Links.{KeepsItsLink}
-use Rattle.proof_line.specs.Pipes.{IsByHand}
-use Rattle.proof_line.specs.Links.{Brings, KnowsLink, LinkNow, MayEndNow, due_from, tick_told}
+use Rattle.proof_line.specs.Pipes.{IsByHand, HearsNothing}
+use Rattle.proof_line.specs.Links.{AtLine, Brings, KnowsLink, LinkNow, MayEndNow, TicksNot, cleared_in, due_from, tick_told}
+
+-- ---- what is asked of each event
+
+-- who takes bytes takes some
+abbrev pub TakesSome : Machine → Event → Type 0
+TakesSome m (Outside_does (Chip_takes count rest ways)) = m.outside.outer.to_chip.bytes ≡ [] → ⊥
+TakesSome m (Host_takes count rest items events) = m.outside.outer.to_host.bytes ≡ [] → ⊥
+TakesSome m event = Unit {0}
+
+-- the format carries what the host writes, where a host starts again the keeper tells its records, and bytes are taken where there are some
+pub record IsOrderly (m : Machine) (event : Event) : Type 0 where
+  pub writes : WritesWell m event
+  pub asks : AsksWell m event
+  pub takes : TakesSome m event
+
+-- ---- the laws of a run that is cut short here
+
+-- both sides kept the rules, and so far it is told what restarts lost
+pub record Cuts (past : List Entry) : Type 0 where
+  pub links : KeepsLinks false past
+  pub each : AreTold (clears past) (to_clear (lost_by Chip past links.chip.parts) (lost_by Host past links.host.parts))
 
 -- ---- beside the machine
 
@@ -36,24 +59,17 @@ pub record IsTimed (o : OuterState) (now : LinkNow) : Type 0 where
   pub clock : now.clock ≡ o.clock
   pub until : now.until ≡ o.stalled_until
 
--- Both sides, the chip's first, in a round that is a tick or none. So many ticks wait to be told: none in a line, and none where the number of the running tick is entered.
+-- Both sides, the chip's first, in a round that is a tick or none: as they are once the number of the running tick is entered, where it is still to be.
 pub record KnowsBoth (is_tick : Bool) (past : List Entry) (m : Machine) (up down : LinkNow) : Type 0 where
-  pub waiting : ℕ
-  pub chip : KnowsLink Chip past waiting up
-  pub host : KnowsLink Host past waiting down
+  pub line : AtLine (past ++ ticked_entry m.outside.outer) m.outside.outer up down
+  pub behind : tick_told past ≤ m.outside.outer.clock
   pub chip_way : Brings m.outside.outer.to_chip up.coming
-  pub host_way : Brings m.outside.outer.to_host down.coming
   pub chip_time : IsTimed m.outside.outer up
   pub host_time : IsTimed m.outside.outer down
   pub chip_round : up.is_tick ≡ is_tick
   pub host_round : down.is_tick ≡ is_tick
-  pub chip_link : up.link ≡ m.outside.outer.chip.state.port.side
   pub host_link : down.link ≡ m.host.state.side
   pub keeps : KeepsItsLink down.life m.host.state
-  pub waits : WaitsWell m.outside.outer.chip.state.port
-  pub told : waiting + tick_told past ≡ m.outside.outer.clock
-  pub entered : is_tick ≡ true → awaits_number m.outside.outer ≡ false → waiting ≡ 0
-  pub quiet : is_tick ≡ false → waiting ≡ 0
   pub frames : HasFrames m.outside.outer.chip.state.port
   pub rests : AreAtRest m
 
@@ -80,6 +96,10 @@ HaveTickedOnce up down = (up.is_tick ≡ true → ticks_of up.round ≡ 1) × (d
 abbrev pub IsQuiet : HostState → Type 0
 IsQuiet h = (IsFree h → ⊥) ⊎ (HasNothing h × (first_wanting h.nodes ≡ None))
 
+-- unless a request is under way or the line is busy, it lets no node sleep
+abbrev pub WantsNone : HostState → Type 0
+WantsNone h = (IsFree h → ⊥) ⊎ (first_wanting h.nodes ≡ None)
+
 -- With so many passes to come of 64, the first one over, and bytes that move: the host has heard all; and the chip has heard one unit of this round in each pass but the first, or all of it
 -- and a pump writes nothing.
 abbrev pub HaveHeard : ℕ → Machine → LinkNow → LinkNow → Type 0
@@ -92,12 +112,12 @@ Settling passes past m = Round (λ up down. HaveTickedOnce up down × HaveHeard 
 
 -- where bytes are about to move, after a pump
 abbrev pub Passing : ℕ → KnownOf
-Passing passes past m = Settling (passes + 1) past m × IsQuiet m.host.state
+Passing passes past m = Settling (suc passes) past m × IsQuiet m.host.state
 
--- and where those to the chip have, or none did
+-- And where those to the chip have; or none did, and then it has heard all, and in all passes but the first so has the host.
 abbrev pub HaveMoved : Bool → ℕ → Machine → LinkNow → LinkNow → Type 0
 HaveMoved true passes m up down = (63 - passes) + length up.coming ≤ up.brought
-HaveMoved false passes m up down = is_stalled m.outside.outer ≡ false → up.coming ≡ []
+HaveMoved false passes m up down = IsQuiet m.host.state × (is_stalled m.outside.outer ≡ false → (up.coming ≡ []) × (passes < 63 → down.coming ≡ []))
 
 -- ---- a line
 
@@ -111,27 +131,105 @@ pub record LinksBefore (line : Line) (past : List Entry) (m : Machine) : Type 0 
   pub both : Both is_tick MayBothEnd before m
   pub due : due_from 0 before ≡ m.outside.outer.clock
 
+-- of a machine at which it has begun, or that the chip only knows otherwise: all else that concerns the links is the same
+pub record IsBegun (first m : Machine) : Type 0 where
+  pub quiet : m.outside.outer.in_tick ≡ false
+  pub clock : m.outside.outer.clock ≡ first.outside.outer.clock
+  pub until : m.outside.outer.stalled_until ≡ first.outside.outer.stalled_until
+  pub to_chip : m.outside.outer.to_chip ≡ first.outside.outer.to_chip
+  pub to_host : m.outside.outer.to_host ≡ first.outside.outer.to_host
+  pub port : m.outside.outer.chip.state.port ≡ first.outside.outer.chip.state.port
+  pub decoder : m.outside.outer.chip.decoder ≡ first.outside.outer.chip.decoder
+  pub host : m.host ≡ first.host
+
 -- so once it has begun
 abbrev pub LinksBegun : Line → KnownOf
-LinksBegun line past m = LinksBefore line past m × (m.outside.outer.in_tick ≡ false)
+LinksBegun line past m = (first : Machine) × LinksBefore line past first × IsBegun first m
 
--- the host has started again, and no pipe is cleared; the one to the chip is
-abbrev pub LinksRestarted : List Event → KnownOf
-LinksRestarted left past m =
-    (old : Machine) × (state : HostState) × LinksBegun lines.Restart past old × May old (Restarts state) × (m ≡ happens old (Restarts state))
-    × (left ≡ Outside_does (Clears_pipe Host) ∷ Outside_does (Clears_pipe Chip) ∷ [])
+-- where the line is counted
+abbrev pub LinksDone : KnownOf
+LinksDone past m = Round HaveTickedOnce past m × (m.outside.outer.in_tick ≡ false)
 
-abbrev pub LinksHalfCleared : List Event → KnownOf
-LinksHalfCleared left past m =
-    (first : List Entry) × (old : Machine) × LinksRestarted (Outside_does (Clears_pipe Host) ∷ Outside_does (Clears_pipe Chip) ∷ []) first old
-    × (past ≡ first ++ entries old (Outside_does (Clears_pipe Host))) × (m ≡ happens old (Outside_does (Clears_pipe Host))) × (left ≡ Outside_does (Clears_pipe Chip) ∷ [])
+-- The host has started again: no pipe is cleared yet, or that to the chip is. So many bytes were on their way to the chip, and to the host.
+abbrev pub AreCleared : Bool → ℕ → List ℕ → Type 0
+AreCleared false lost bytes = length bytes ≡ lost
+AreCleared true lost bytes = bytes ≡ []
 
--- of its effect these are to come: nothing is done yet, or something is; of a restart, not all
+abbrev pub told_cleared : Bool → ℕ → List Entry
+told_cleared false lost = []
+told_cleared true lost = cleared Host lost
+
+pub record LinksClearing (has_cleared : Bool) (past : List Entry) (m : Machine) : Type 0 where
+  pub before : List Entry
+  pub words : List ℕ
+  pub read : line_of (Said words) ≡ lines.Restart ∷ []
+  pub up : LinkNow
+  pub down : LinkNow
+  pub ups : List ℕ
+  pub downs : List ℕ
+  pub to_chip : ℕ
+  pub to_host : ℕ
+  pub is : past ≡ before ++ Said words ∷ told_cleared has_cleared to_chip
+  pub chip : KnowsLink Chip past up
+  pub host : KnowsLink Host past down
+  pub chip_is : (up.is_tick ≡ false) × (up.coming ≡ []) × (up.lost ≡ ups ++ to_chip ∷ [])
+  pub host_is : (down.is_tick ≡ false) × (down.coming ≡ []) × (down.lost ≡ downs ++ to_host ∷ [])
+  pub many : length ups ≡ length downs
+  pub clears : cleared_in before ≡ to_clear ups downs
+  pub time : tick_told past ≡ up.clock
+  pub chip_bytes : AreCleared has_cleared to_chip m.outside.outer.to_chip.bytes
+  pub host_bytes : length m.outside.outer.to_host.bytes ≡ to_host
+  pub chip_time : IsTimed m.outside.outer up
+  pub host_time : IsTimed m.outside.outer down
+  pub chip_link : up.link ≡ m.outside.outer.chip.state.port.side
+  pub host_link : down.link ≡ m.host.state.side
+  pub keeps : KeepsItsLink down.life m.host.state
+  pub waits : WaitsWell m.outside.outer.chip.state.port
+  pub whole : IsWhole m
+  pub rests : AreAtRest m
+  pub quiet : m.outside.outer.in_tick ≡ false
+
+-- an event of a line that neither restarts nor stalls nor asks for a collision; one after that enters nothing
+abbrev pub IsHandPlain : OuterEvent → Type 0
+IsHandPlain (Stalls ticks) = ⊥
+IsHandPlain Collides_next = ⊥
+IsHandPlain event = IsByHand event
+
+abbrev pub IsPlain : Event → Type 0
+IsPlain (Outside_does event) = IsHandPlain event
+IsPlain (Host_does event) = IsAsked event
+IsPlain (Host_takes count rest items events) = ⊥
+IsPlain Decoder_ticks = ⊥
+IsPlain (Restarts state) = ⊥
+IsPlain event = Unit {0}
+
+abbrev pub IsLater : Event → Type 0
+IsLater (Outside_does (Joins node)) = Unit {0}
+IsLater event = ⊥
+
+abbrev pub ArePlain : List Event → Type 0
+ArePlain [] = Unit {0}
+ArePlain (Outside_does Discovers ∷ left) = ArePlain left
+ArePlain (first ∷ left) = IsPlain first × AllByRecursion IsLater left
+
+-- the event of its effect is to come, or was
+abbrev pub LinksOne : Event → Line → List Event → KnownOf
+LinksOne event line left past m = ((left ≡ event ∷ []) × LinksBegun line past m) ⊎ ((left ≡ []) × LinksDone past m)
+
+-- a restart: nothing is done yet; the host has started again; the pipe to the chip is cleared; all is done
+abbrev pub LinksRestarting : List Event → KnownOf
+LinksRestarting left past m =
+    (IsEffect lines.Restart m left × LinksBegun lines.Restart past m)
+    ⊎ (((left ≡ Outside_does (Clears_pipe Host) ∷ Outside_does (Clears_pipe Chip) ∷ []) × LinksClearing false past m)
+    ⊎ (((left ≡ Outside_does (Clears_pipe Chip) ∷ []) × LinksClearing true past m) ⊎ ((left ≡ []) × LinksDone past m)))
+
+-- of its effect these are to come; a `tick` has none
 abbrev pub LinksLeft : Line → List Event → KnownOf
-LinksLeft line left past m =
-    (IsEffect line m left × LinksBegun line past m)
-    ⊎ ((AllByRecursion (OfEffect IsByHand) left × Round HaveTickedOnce past m × (m.outside.outer.in_tick ≡ false))
-    ⊎ ((line ≡ lines.Restart) × (LinksRestarted left past m ⊎ LinksHalfCleared left past m)))
+LinksLeft (lines.Tick count) left past m = ⊥
+LinksLeft lines.Restart left past m = LinksRestarting left past m
+LinksLeft lines.Collide left past m = LinksOne (Outside_does Collides_next) lines.Collide left past m
+LinksLeft (lines.Stall ticks) left past m = LinksOne (Outside_does (Stalls ticks)) (lines.Stall ticks) left past m
+LinksLeft line left past m = (ArePlain left × LinksBegun line past m) ⊎ (AllByRecursion IsLater left × LinksDone past m)
 
 -- where a line or tick is over, also after the words of a `tick`, which begin no round
 abbrev pub LinksEnded : KnownOf
@@ -143,10 +241,14 @@ LinksEnded past m = (is_tick : Bool) × Both is_tick MayBothEnd past m
 abbrev pub InTick : ℕ → ℕ → KnownOf
 InTick chip host past m = Round (HaveTicked chip host) past m × (m.outside.outer.in_tick ≡ true)
 
--- the host ticks first of all it does then
+-- the host's link ticks first of all that the host does then
 abbrev pub host_ticked : List HostEvent → ℕ
 host_ticked (Line_ticks ∷ events) = 0
 host_ticked events = 1
+
+abbrev pub TicksFirst : List HostEvent → Type 0
+TicksFirst (Line_ticks ∷ events) = AllByRecursion TicksNot events
+TicksFirst events = AllByRecursion TicksNot events
 
 abbrev pub KnowLinks : Phase → KnownOf
 KnowLinks Between past m = LinksEnded past m
@@ -160,8 +262,12 @@ KnowLinks (Giving results ticks) past m = InTick 0 0 past m
 KnowLinks (Ticking_devices place count ticks) past m = InTick 0 0 past m
 KnowLinks (Ticking_chip ticks) past m = InTick 0 0 past m
 KnowLinks (Ticking_decoder ticks) past m = InTick 1 0 past m
-KnowLinks (Ticking_host events ticks) past m = InTick 1 (host_ticked events) past m
+KnowLinks (Ticking_host events ticks) past m = InTick 1 (host_ticked events) past m × AllByRecursion HearsNothing events × TicksFirst events
 KnowLinks (Sleeping passes ticks) past m = Settling passes past m
-KnowLinks (Submitting passes ticks) past m = Settling passes past m
+KnowLinks (Submitting passes ticks) past m = Settling passes past m × WantsNone m.host.state
 KnowLinks (Moving passes ticks) past m = Passing passes past m
 KnowLinks (Moved has_moved passes ticks) past m = Round (λ up down. HaveTickedOnce up down × HaveMoved has_moved passes m up down) past m
+
+-- with the laws of a run that is cut short there
+abbrev pub KnowCuts : Phase → KnownOf
+KnowCuts here past m = Cuts past × KnowLinks here past m

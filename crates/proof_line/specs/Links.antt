@@ -1,6 +1,6 @@
 -- What is known of the link of a side between two events of the serial line (this project's own rule): what it did up to the last of them keeps the laws of links, and so does, so
 -- far, what it did since then.
-use Rattle.std.specs.Prelude.{◌≡◌, ◌≤◌, ℕ, ◌+◌, ◌-◌, ◌&&◌, ◌⊎◌, not, nat_lt, Bool, true, false, List, [], ◌∷◌, ◌++◌, length, replicate}
+use Rattle.std.specs.Prelude.{◌≡◌, ◌≤◌, ℕ, ◌+◌, ◌-◌, ◌&&◌, ◌⊎◌, not, nat_lt, Bool, true, false, List, [], ◌∷◌, ◌++◌, length, map}
 use Rattle.std.specs.List.{AllByRecursion, flat_map, list_any}
 use Rattle.serial_frame.specs.Items.{ItemText}
 use Rattle.serial_frame.specs.Stream.{no_rest}
@@ -10,6 +10,8 @@ use Rattle.serial_link.specs.Rules.{Step, SideObeys, items_of, ticks_of, ask_cou
 use Rattle.serial_frame.specs.declared.unit.Unit.{Unit as LineUnit}
 use Rattle.chip_sim.specs.Link.{link_unit}
 use Rattle.chip_sim.specs.Events.{ChipEvent, Judged, Ticked, Collides}
+use Rattle.chip_sim.specs.Rules.{WaitsWell}
+use Rattle.outside_model.specs.State.{OuterState}
 use Rattle.host_model.specs.Events.{HostEvent, Line_ticks}
 use Rattle.serial_pipes.specs.State.{WayState}
 use Rattle.zw_words.specs.declared.side.Side.{Side}
@@ -19,9 +21,8 @@ use Rattle.zw_text.specs.declared.entry.Entry.TheVariants.{Said, Time}
 use Rattle.zw_text.specs.Transcript.{line_of}
 use Rattle.law_transcript.specs.Lists.{EachAfter, shown_after}
 use Rattle.law_transcript.specs.Restarts.{ticks_asked}
-use Rattle.law_wire.specs.Clearing.{lost_at}
+use Rattle.law_wire.specs.Clearing.{Cleared_there, clears, lost_at, to_clear}
 use Rattle.law_wire.specs.Serial.{SerialEvent, serial_events}
-use Rattle.law_wire.specs.Serial.SerialEvent.{Tick_begins}
 use Rattle.law_wire.specs.Links.{Moment, CollidesAsTold, HasTicked, HearsInTime, LeavesFew, MayDo, Obeys, TicksInTime, WritesThere, arrivals_of, asked_for, clock_in, ends_round, is_stalled, line_in, lives, moments_of, most_left, other, round_of, since_start, stall_by, steps_in, texts_of}
 use Rattle.proof_serial.specs.Way.{Carries}
 use Rattle.proof_line.specs.Arrivals.{AreTexts}
@@ -118,22 +119,19 @@ pub record IsAt (side : Side) (past : List Moment) (steps : List Step) (now : Li
   pub round : round_steps past steps ≡ now.round
   pub lost : shown_after (lost_at side) [] past ≡ now.lost
 
--- The steps of a side up to each of these events and of those that wait to be told, and since. What is told keeps the laws by itself too, since a run may be cut short before what
--- waits is told.
-pub record KnowsEvents (side : Side) (events waiting : List SerialEvent) (now : LinkNow) : Type 0 where
+-- the steps of a side up to each of these events, and since
+pub record KnowsEvents (side : Side) (events : List SerialEvent) (now : LinkNow) : Type 0 where
   pub parts : List (List Step)
   pub steps : List Step
-  pub each : length parts ≡ length (events ++ waiting)
-  pub told : KeepsSoFar side (moments_of events parts)
-  pub all : KeepsSoFar side (moments_of (events ++ waiting) parts)
-  pub does : Does side (moments_of (events ++ waiting) parts) steps now.link
+  pub each : length parts ≡ length events
+  pub keeps : KeepsSoFar side (moments_of events parts)
+  pub does : Does side (moments_of events parts) steps now.link
   pub mute : AllByRecursion IsMute steps
-  pub hears : Hears side (moments_of (events ++ waiting) parts) steps now.coming
-  pub at : IsAt side (moments_of (events ++ waiting) parts) steps now
-  pub lost : shown_after (lost_at side) [] (moments_of events parts) ≡ now.lost
+  pub hears : Hears side (moments_of events parts) steps now.coming
+  pub at : IsAt side (moments_of events parts) steps now
 
-abbrev pub KnowsLink : Side → List Entry → ℕ → LinkNow → Type 0
-KnowsLink side past waiting now = KnowsEvents side (serial_events past) (replicate waiting Tick_begins) now
+abbrev pub KnowsLink : Side → List Entry → LinkNow → Type 0
+KnowsLink side past now = KnowsEvents side (serial_events past) now
 
 -- the link after a step, with this left on its way
 abbrev pub stepped : LinkNow → Step → LinkSide → List (List ℕ) → LinkNow
@@ -194,6 +192,24 @@ MayGo side now [] new = SideObeys now.life new
 MayGo side now (step ∷ steps) new =
     (next : LinkSide) × MayStep side now step next × IsOne (flat_map link_unit step.outs) × MayGo side (stepped now step next now.coming) steps new
 
+-- ---- both sides beside what is outside
+
+-- what stands directly after each restart that was not refused
+abbrev pub cleared_in : List Entry → List (List Entry)
+cleared_in past = map (λ (one : Cleared_there). one.entries) (clears past)
+
+-- of the chip's and the host's after these entries, where what is outside is so: the chip's link is its own; what is on its way to the host comes to it; the running tick is the last
+-- of which they tell; and what restarts lost is told
+pub record AtLine (past : List Entry) (o : OuterState) (up down : LinkNow) : Type 0 where
+  pub chip : KnowsLink Chip past up
+  pub host : KnowsLink Host past down
+  pub link : up.link ≡ o.chip.state.port.side
+  pub waits : WaitsWell o.chip.state.port
+  pub way : Brings o.to_host down.coming
+  pub time : tick_told past ≡ up.clock
+  pub many : length up.lost ≡ length down.lost
+  pub clears : cleared_in past ≡ to_clear up.lost down.lost
+
 -- ---- where host and chip may act
 
 -- the chip hears after its own tick, and is given frames before it; it ticks once
@@ -202,6 +218,11 @@ MayOfChip now (Judged item way) = now.is_tick ≡ true → ticks_of now.round �
 MayOfChip now Ticked = (now.is_tick ≡ true) × (ticks_of now.round ≡ 0)
 MayOfChip now Collides = ⊥
 MayOfChip now event = now.is_tick ≡ true → ticks_of now.round ≡ 0
+
+-- an event of the host that is no tick of the line
+abbrev pub TicksNot : HostEvent → Type 0
+TicksNot Line_ticks = ⊥
+TicksNot event = Unit {0}
 
 -- the host hears and submits after its own tick
 abbrev pub MayOfHost : LinkNow → HostEvent → Type 0

@@ -14,7 +14,7 @@ use Rattle.zw_text.specs.declared.line.Line.{Line}
 use Rattle.zw_text.specs.declared.line.Line.TheVariants as lines
 use Rattle.zw_text.specs.declared.entry.Entry.{Entry}
 use Rattle.zw_text.specs.declared.entry.Refusal.{Refusal}
-use Rattle.zw_text.specs.declared.entry.Entry.TheVariants.{Said, Written, Overrun, Cleared}
+use Rattle.zw_text.specs.declared.entry.Entry.TheVariants.{Said, Written, Overrun}
 use Rattle.zw_text.specs.Transcript.{line_of, line_last}
 use Rattle.law_transcript.specs.Lists.{EachAfter}
 use Rattle.law_transcript.specs.Restarts.{is_restart}
@@ -35,7 +35,7 @@ use Rattle.proof_walk.specs.Outside.{awaits_number}
 use Rattle.proof_walk.specs.Phases.{Phase, Said_line, Begun, Doing, Ticked, Arriving, Giving, Ticking_devices, Ticking_chip, Ticking_decoder, Ticking_host, Sleeping, Submitting, Moving, Moved}
 use Rattle.proof_walk.specs.ByLine.{KnownOf, OfEffect}
 use Rattle.proof_line.specs.Pipes.{IsByHand, HearsNothing}
-use Rattle.proof_line.specs.Arrivals.{arrived, Comes, ClearsUnits}
+use Rattle.proof_line.specs.Arrivals.{arrived, Comes}
 
 -- ---- the law
 
@@ -47,12 +47,10 @@ LastFits past = list_all may_fit (unit_last past) ≡ true
 abbrev pub HasUnanswered : Side → List Entry → Type 0
 HasUnanswered side past = 0 < length (pipe_from (other side) empty_pipe past).frames
 
--- a unit that is neither lost nor overrun fits, by what stands before it; bytes are cleared only at restarts, and are those of whole units; and each answer, a unit of one byte, is
--- given where a data frame of the other side has none
+-- a unit that is neither lost nor overrun fits, by what stands before it; and each answer, a unit of one byte, is given where a data frame of the other side has none
 abbrev pub MayFit : List Entry → Entry → Type 0
 MayFit past (Written side unit) = LastFits past × (length unit ≡ 1 → HasUnanswered side past)
 MayFit past (Overrun side) = ⊤
-MayFit past (Cleared side count) = LastFits past × ClearsUnits past side count
 MayFit past entry = is_marked entry || list_all may_fit (unit_last past) ≡ true
 
 abbrev pub MayAnswer : List Entry → Entry → Type 0

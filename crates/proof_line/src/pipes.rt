@@ -7,7 +7,6 @@ ghost use Rattle.law_wire.specs.Pipes.{OverrunsWhenFull};
 ghost use Rattle.world_model.specs.State.{first_machine};
 ghost use Rattle.world_lines.specs.Spoken.{Spoken, transcript_of};
 ghost use Rattle.world_lines.specs.Done.{AreDone};
-ghost use Rattle.proof_line.specs.Arrivals.{ClearsWholeUnits};
 ghost use Rattle.proof_line.specs.Pipes.{ClearsAtRestarts, ClearsNowhereElse, OverrunsOnlyWhenFull};
 ghost use Rattle.proof_line.specs.Rooms.{AnswersFrames};
 
@@ -52,18 +51,6 @@ pub fn lines_overrun_when_full()
         OverrunsWhenFull (transcript_of (first_machine keys (Some []) devices) lines) }
 {
     lines_overrun_only_when_full();
-    rooms_go_on();
-    hosts_write_well();
-    lines_keep_and_ask_well();
-}
-
-/// Over any such lines, over a keeper that tells its records and has none at first, what a `restart` loses of a side is all bytes of the units of that side
-/// that arrived last: no unit is lost in part.
-pub fn lines_clear_whole_units()
-    ensures { (keys : Keys) (devices : List State) (lines : List Spoken) →
-        AreDone (first_machine keys (Some []) devices) lines →
-        ClearsWholeUnits (transcript_of (first_machine keys (Some []) devices) lines) }
-{
     rooms_go_on();
     hosts_write_well();
     lines_keep_and_ask_well();

@@ -6,7 +6,7 @@ use Rattle.std.proofs.lemmas.Bool.{ne_eqb, lt-ltb}
 use Rattle.std.specs.Prelude.{Option, Some, None, nat_lt}
 use Rattle.std.specs.Option.{unwrap_or}
 use Rattle.std.specs.List.{AllByRecursion, flat_map}
-use Rattle.zw_base.proofs.Each.{all-append}
+use Rattle.zw_base.proofs.Each.{all-append, all-weaker}
 use Rattle.route_table.specs.Network.{Network, Link, linked}
 use Rattle.route_table.specs.Route.{via}
 use Rattle.route_table.specs.declared.route.Route.{Route}
@@ -41,8 +41,8 @@ use Rattle.proof_routes.specs.Networks.{HasLinks, Tie}
 use Rattle.proof_routes.specs.Forgetting.{MayForget, Passage, passage_by, passage_flown, passages, IsApartFrom, HasPassages}
 use Rattle.proof_routes.proofs.Books.{SameShown, same_shown, same_then, still_shown}
 use Rattle.proof_routes.proofs.Passages.{GoesSo, frames_same, next_passage, passage_got}
-use Rattle.proof_routes.proofs.Entering.{rest_are}
-use Rattle.proof_routes.proofs.Mute.{IsMute, AreMute, kinds, AreMuteEvents, IsMuteEvent, each_mute, at_mute}
+use Rattle.proof_device.proofs.Entering.{IsOfChip, calls_of_chip}
+use Rattle.proof_routes.proofs.Mute.{IsMute, AreMute, chip_mute, AreMuteEvents, IsMuteEvent, each_mute, at_mute}
 
 -- ---- what is to be forgotten next
 
@@ -201,7 +201,7 @@ module _ (devices : List State) (past : List Entry) (w : Outside) (tie : Tie dev
         rest later = (and_then (no_routes (leading later.calls) later) (λ last. call_back last (unwrap_or (transmit_status 1) Fail))).entries
 
         after_it : (later : OuterState) → AreMute (rest later ++ [])
-        after_it later = all-append IsMute (rest later) [] (rest_are IsMute kinds 1 later) tt
+        after_it later = all-append IsMute (rest later) [] (all-weaker IsOfChip IsMute chip_mute (rest later) (calls_of_chip later 1)) tt
 
         by : (b : Bool) → forgets p ≡ (if b then record { from = hop.0; to = hop.1 } ∷ [] else [])
             → ForgetsOn p ((and_then (if b then tells (with_chip o (after o.chip.state (Forgets hop.0 hop.1))) (entry.Forget hop.0 hop.1 ∷ []) else silent o)

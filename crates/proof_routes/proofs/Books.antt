@@ -10,19 +10,17 @@ use Rattle.zw_text.specs.declared.line.Line.TheVariants as lines
 use Rattle.zw_text.specs.declared.entry.Entry.{Entry}
 use Rattle.zw_text.specs.declared.entry.Entry.TheVariants as entry
 use Rattle.zw_text.specs.declared.entry.Refusal.{Refusal}
-use Rattle.zw_text.specs.Transcript.{line_of, line_after, line_last, lines_run, folded, Doing, doing_lines, doing_step, join_of, joined}
+use Rattle.zw_text.specs.Transcript.{line_of, line_after, lines_run, folded, Doing, doing_lines, doing_step, join_of, joined}
 use Rattle.zw_text.proofs.Views.{folded-append, shown-append}
 use Rattle.law_transcript.specs.Nodes.{controller, is_joined}
 use Rattle.law_transcript.specs.Restarts.{begins_refused}
 use Rattle.law_wire.specs.Networks.{first_links, with_link, links_after, air_links, learned_of, learned, table_by, table_step, table_after, chip_links}
+use Rattle.proof_walk.proofs.ByLine.{last_is}
 use Rattle.proof_routes.specs.Knowing.{joins_in, NoJoin}
 
 -- the next entry refuses no `join`
 abbrev pub Keeps : List Entry → Entry → Type 0
 Keeps past e = (begins_refused (e ∷ []) ≡ false) ⊎ NoJoin past
-
-pub last_is : (past : List Entry) (e : Entry) → line_last (past ++ e ∷ []) ≡ line_of e
-last_is past e = folded-append line_after [] past (e ∷ [])
 
 -- ---- the air
 

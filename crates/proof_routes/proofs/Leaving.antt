@@ -2,19 +2,15 @@
 use Rattle.std.proofs.Common.{◌≡◌, ℕ, ◌+◌, ◌-◌, ◌==◌, ◌&&◌, ◌||◌, Bool, true, false, if◌then◌else◌, List, [], ◌∷◌, ◌++◌, filter, refl, sym, ap, subst, ◌∙◌, inl, append-nil}
 use Rattle.std.specs.Prelude.{Option, Some, None}
 use Rattle.std.specs.List.{AllByRecursion, list_any}
-use Rattle.zw_base.proofs.Each.{all-weaker}
 use Rattle.serial_frame.specs.Frame.{FrameParts}
-use Rattle.serial_frame.specs.Items.{unit_text}
 use Rattle.serial_frame.specs.declared.item.Item.{Item}
-use Rattle.serial_frame.specs.declared.unit.Unit.{Unit as LineUnit}
-use Rattle.serial_pipes.specs.State.{WayState, mark_for}
-use Rattle.serial_pipes.specs.Events.{told, told_by}
+use Rattle.serial_pipes.specs.Events.{told}
 use Rattle.route_table.specs.Network.{Network, Link, linked}
 use Rattle.route_table.specs.declared.route.Route.{Route}
 use Rattle.chip_functions.specs.declared.request.Request.{Request}
-use Rattle.chip_functions.specs.declared.request.Request.TheVariants.{GetInitData, GetCapabilities, SendData, GetVersion, SendDataAbort, MemoryGetId, GetNodeProtocolInfo, AddNode, RequestNodeInfo, IsFailedNode, GetRoutingInfo}
+use Rattle.chip_functions.specs.declared.request.Request.TheVariants.{SendData, SendDataAbort}
 use Rattle.chip_functions.specs.declared.notice.TransmitStatus.{TransmitStatus}
-use Rattle.chip_sim.specs.State.{ChipState}
+use Rattle.chip_sim.specs.State.{ChipState, ChipParts}
 use Rattle.chip_sim.specs.declared.out.Sending.{Sending}
 use Rattle.chip_sim.specs.Answers.{takes}
 use Rattle.chip_sim.specs.Requests.{IsRoute as is_way, IsWayIf, HasWay, JudgedWay, asked, heard, passed, sent, given_if, stopped, reply_to, performed, requested, judged_frame}
@@ -24,7 +20,6 @@ use Rattle.chip_sim.specs.declared.out.ChipOut.{ChipOut}
 use Rattle.chip_sim.specs.declared.out.ChipOut.TheVariants.{Write, OnAir, NoRoute, AskInfo, Full}
 use Rattle.device_sim.specs.State.{State}
 use Rattle.mesh_sim.specs.Air.{AirState, with_link as net_link}
-use Rattle.zw_words.specs.declared.side.Side.{Side}
 use Rattle.zw_words.specs.declared.side.Side.TheVariants.{Chip as by_chip}
 use Rattle.zw_text.specs.declared.entry.Entry.{Entry}
 use Rattle.zw_text.specs.declared.entry.Entry.TheVariants as entry
@@ -33,13 +28,13 @@ use Rattle.law_transcript.specs.Nodes.{controller, is_joined}
 use Rattle.law_wire.specs.Networks.{are_linked, chip_links, listens_at}
 use Rattle.outside_model.specs.State.{OuterState, Outside, outside, Outcome, tells, each, with_chip}
 use Rattle.outside_model.specs.Chip.{put_out, chip_does, shown_via}
-use Rattle.proof_device.proofs.Entered.{IsMark, told_by_marks}
 use Rattle.proof_device.proofs.Results.{Gives, IsGiven, IsSameChip}
 use Rattle.proof_walk.specs.Outside.{Pending}
+use Rattle.proof_walk.proofs.Times.{puts_chip}
 use Rattle.proof_routes.specs.Networks.{HasLinks, is_repeater, Tie}
 use Rattle.proof_routes.proofs.Books.{air_grows, chip_grows, joined_grows, still_last}
 use Rattle.proof_routes.proofs.Links.{links_set, apart_set, net_set, same_pair}
-use Rattle.proof_routes.proofs.Ties.{IsSameNets, same_nets, home_nets, Goes_on, both, still_one, still_none, IsQuiet, AreQuiet, quiet_goes}
+use Rattle.proof_routes.proofs.Ties.{IsSameNets, same_nets, home_nets, Goes_on, both, still_one, still_none, AreQuiet, quiet_goes, told_quiet}
 use Rattle.proof_routes.proofs.Walks.{may_leave}
 
 -- ---- what goes on the air
@@ -72,17 +67,8 @@ module _ (s : ChipState) where
 
   request_goes : (request : Option Request) (way : Option Route) → HasWay request s way → AllGoOver s.table (requested_starts request s way)
   request_goes None way has = tt
-  request_goes (Some GetInitData) way has = tt
-  request_goes (Some GetCapabilities) way has = tt
   request_goes (Some (SendData n payload options id)) way has = data_goes (takes s n payload) n payload way has
-  request_goes (Some GetVersion) way has = tt
-  request_goes (Some SendDataAbort) way has = tt
-  request_goes (Some MemoryGetId) way has = tt
-  request_goes (Some (GetNodeProtocolInfo n)) way has = tt
-  request_goes (Some (AddNode mode id)) way has = tt
-  request_goes (Some (RequestNodeInfo n)) way has = tt
-  request_goes (Some (IsFailedNode n)) way has = tt
-  request_goes (Some (GetRoutingInfo n x y z)) way has = tt
+  request_goes (Some request) way has = tt
 
   frame_goes : (found : Option FrameParts) (way : Option Route) → JudgedWay found s way → AllGoOver s.table (judged_starts found s way)
   frame_goes None way has = tt
@@ -155,18 +141,6 @@ given_keeps s (Done status) given = done_keeps (s.aborted == 0) s status
 given_keeps s (Informed n profile) given = record { table = refl; listening = refl }
 given_keeps s event given = absurd given
 
--- ---- a unit of the line
-
-mark_quiet : (e : Entry) → IsMark e → IsQuiet e
-mark_quiet (entry.Dropped side) mark = tt
-mark_quiet (entry.Garbled side unit) mark = tt
-mark_quiet (entry.Overrun side) mark = tt
-mark_quiet e mark = absurd mark
-
-pub told_quiet : (side : Side) (way : WayState) (unit : LineUnit) → AreQuiet (told side way unit)
-told_quiet side way unit =
-    (tt, all-weaker IsMark IsQuiet mark_quiet (told_by side way.bytes (mark_for way.marks unit) (unit_text unit)) (told_by_marks side way.bytes (mark_for way.marks unit) (unit_text unit)))
-
 -- ---- all that is put out
 
 module _ (devices : List State) (pending : Pending) where
@@ -191,11 +165,7 @@ module _ (devices : List State) (pending : Pending) where
     put_goes o Full over = quiet_put o o (entry.ChipFull ∷ []) (tt, tt) (same_nets o o refl refl refl refl)
 
     put_table : (o : OuterState) (out : ChipOut) → (put_out o out).outer.chip.state.table ≡ o.chip.state.table
-    put_table o (Write unit) = refl
-    put_table o (OnAir to route payload) = refl
-    put_table o NoRoute = refl
-    put_table o (AskInfo node) = refl
-    put_table o Full = refl
+    put_table o out = ap (λ (c : ChipParts). c.state.table) (puts_chip o out)
 
     puts_go : (puts : List ChipOut) (o : OuterState) → AllGoOver o.chip.state.table puts → Puts there o (each put_out o puts)
     puts_go [] o over = quiet_put o o [] tt (same_nets o o refl refl refl refl)

@@ -15,7 +15,6 @@ mod Listeners
 mod First
 pub mod Passages
 mod Sending
-pub mod Entering
 mod Mute
 pub mod Arriving
 pub mod Saying

@@ -1,5 +1,5 @@
 -- Each thing that happens outside the host keeps the tie, with what it enters: units and results, frames that are heard, what devices do, and what lines set besides networks.
-use Rattle.std.proofs.Common.{◌≡◌, ℕ, Bool, true, false, if◌then◌else◌, nat_le, List, [], ◌∷◌, refl, sym, subst, ◌∙◌, append-nil, arith}
+use Rattle.std.proofs.Common.{◌≡◌, ℕ, Bool, true, false, if◌then◌else◌, nat_le, List, [], ◌∷◌, refl, sym, subst, ◌∙◌, append-nil, arith, ap}
 use Rattle.std.specs.Prelude.{Option, Some, slice_set}
 use Rattle.std.specs.Option.{option_map}
 use Rattle.std.specs.List.{flat_map}
@@ -10,6 +10,7 @@ use Rattle.route_table.specs.Network.{Network}
 use Rattle.route_table.specs.declared.route.Route.{Route}
 use Rattle.device_kinds.specs.declared.change.Change.{Change}
 use Rattle.chip_sim.specs.Events.{Judged, Ticked, May as MayOfChip}
+use Rattle.chip_sim.specs.State.{ChipParts}
 use Rattle.device_sim.specs.State.{State}
 use Rattle.device_sim.specs.Event.{DeviceEvent, device_after, device_replies}
 use Rattle.mesh_sim.specs.declared.event.AirEvent.{AirEvent}
@@ -20,8 +21,6 @@ use Rattle.mesh_sim.specs.Routes.{backwards}
 use Rattle.mesh_sim.specs.Steps.{AirStep, MayHappen, mesh_after, mesh_outs, answers_if}
 use Rattle.air_frames.specs.Frames.{peer_of}
 use Rattle.serial_pipes.specs.Events.{told}
-use Rattle.zw_words.specs.declared.side.Side.{Side}
-use Rattle.zw_words.specs.declared.side.Side.TheVariants.{Host as by_host, Chip as by_chip}
 use Rattle.zw_text.specs.declared.entry.Entry.{Entry}
 use Rattle.zw_text.specs.declared.entry.Entry.TheVariants as entry
 use Rattle.law_transcript.specs.Nodes.{is_joined as joined_in}
@@ -30,15 +29,16 @@ use Rattle.outside_model.specs.State.{Outside, outside}
 use Rattle.outside_model.specs.Chip.{shown_via, chip_does}
 use Rattle.outside_model.specs.Air.{sent_entries, change_entries, deals, change_at}
 use Rattle.outside_model.specs.Results.{device_at}
-use Rattle.outside_model.specs.Devices.{acts, changes_entries, new_changes, shown_entries, MayAct}
-use Rattle.outside_model.specs.Events.{OuterEvent, Host_writes, Host_takes, Host_notes, Shows, Joins, Discovers, Links, Loses, Loses_acks, Marks_loss, Marks_change, Clears_pipe, Collides_next, Stalls, Cuts, begins, cleared_entries, mesh_of, outcome}
-use Rattle.proof_device.proofs.Entered.{IsCleared, all_cleared, IsShown, all_shown, IsChange, change_entered, changes_entered}
+use Rattle.outside_model.specs.Devices.{acts, changes_entries, new_changes, MayAct}
+use Rattle.outside_model.specs.Events.{OuterEvent, Host_notes, Joins, Discovers, Links, Loses, Loses_acks, Collides_next, begins, mesh_of, outcome}
+use Rattle.proof_device.proofs.Entered.{IsChange, change_entered, changes_entered}
 use Rattle.proof_device.proofs.Results.{gives_go, ends_go, to_chip_goes}
+use Rattle.proof_device.proofs.Entering.{pipes_leave}
 use Rattle.proof_walk.specs.Outside.{Judging, Dealing, nothing, IsNote, IsSimple, IsHearing, Moves, session_begins, Outer}
 use Rattle.proof_routes.specs.Networks.{Tie}
 use Rattle.proof_routes.specs.Knowing.{Asks, Knows, SetsNone}
-use Rattle.proof_routes.proofs.Ties.{IsSameNets, same_nets, Known_of, Goes_on, known, both, still_one, still_none, IsQuiet, AreQuiet, quiet_one, quiet_goes}
-use Rattle.proof_routes.proofs.Leaving.{StartsSo, Puts, told_quiet, judges, does_quietly, results}
+use Rattle.proof_routes.proofs.Ties.{IsSameNets, same_nets, Known_of, Goes_on, known, both, still_one, still_none, IsQuiet, quiet_one, quiet_goes, pipes_quiet}
+use Rattle.proof_routes.proofs.Leaving.{StartsSo, Puts, judges, does_quietly, results}
 use Rattle.proof_routes.proofs.Coming.{IsSameAir, AllHome, NotHome, answered_if_air, answers_if_home, step_hears}
 use Rattle.proof_routes.proofs.Walks.{may_come}
 
@@ -49,21 +49,6 @@ note_quiet (entry.Said words) note = absurd note
 note_quiet (entry.Forget a b) note = absurd note
 note_quiet (entry.Air frame sender receiver repeaters payload) note = absurd note
 note_quiet e note = tt
-
-pub cleared_quiet : (side : Side) (count : ℕ) → AreQuiet (cleared_entries side count)
-cleared_quiet side count = all-weaker IsCleared IsQuiet one (cleared_entries side count) (all_cleared side count)
-  where
-    one : (e : Entry) → IsCleared e → IsQuiet e
-    one (entry.Cleared side count) cleared = tt
-    one e cleared = absurd cleared
-
-pub shown_quiet : (node : ℕ) (device : Option State) → AreQuiet (shown_entries node device)
-shown_quiet node device = all-weaker IsShown IsQuiet one (shown_entries node device) (all_shown node device)
-  where
-    one : (e : Entry) → IsShown e → IsQuiet e
-    one (entry.Device node setting) shown = tt
-    one (entry.Refused refusal) shown = tt
-    one e shown = absurd shown
 
 pub change_quiet : (e : Entry) → IsChange e → IsQuiet e
 change_quiet (entry.Dev node by setting) change = tt
@@ -132,28 +117,18 @@ module _ (devices : List State) where
 
   simple_goes : (w : Outside) (event : OuterEvent) → IsSimple event → SetsNone event → Goes_on devices nothing w (outcome w event).entries nothing (outside (outcome w event).outer w.devices)
   unfolding outcome
-  simple_goes w (Host_writes unit) simple sets = quiet_goes devices nothing w _ (told by_host w.outer.to_chip unit) (told_quiet by_host w.outer.to_chip unit) (same_nets w.outer (outcome w (Host_writes unit)).outer refl refl refl refl)
-  simple_goes w (Host_takes count) simple sets = still_none devices nothing w _ (same_nets w.outer (outcome w (Host_takes count)).outer refl refl refl refl)
   simple_goes w (Host_notes note) simple sets = quiet_one devices nothing w note (note_quiet note simple.0)
-  simple_goes w (Shows node) simple sets =
-      quiet_goes devices nothing w w (outcome w (Shows node)).entries (shown_quiet node (device_at w.devices (place_of node w.devices))) (same_nets w.outer w.outer refl refl refl refl)
   simple_goes w (Loses count) simple sets = still_none devices nothing w _ (same_nets w.outer (outcome w (Loses count)).outer refl refl refl refl)
   simple_goes w (Loses_acks count) simple sets = still_none devices nothing w _ (same_nets w.outer (outcome w (Loses_acks count)).outer refl refl refl refl)
-  simple_goes w (Marks_loss by_host) simple sets = still_none devices nothing w _ (same_nets w.outer (outcome w (Marks_loss by_host)).outer refl refl refl refl)
-  simple_goes w (Marks_loss by_chip) simple sets = still_none devices nothing w _ (same_nets w.outer (outcome w (Marks_loss by_chip)).outer refl refl refl refl)
-  simple_goes w (Marks_change by_host garble) simple sets = still_none devices nothing w _ (same_nets w.outer (outcome w (Marks_change by_host garble)).outer refl refl refl refl)
-  simple_goes w (Marks_change by_chip garble) simple sets = still_none devices nothing w _ (same_nets w.outer (outcome w (Marks_change by_chip garble)).outer refl refl refl refl)
-  simple_goes w (Clears_pipe by_host) simple sets =
-      quiet_goes devices nothing w _ (outcome w (Clears_pipe by_host)).entries (cleared_quiet by_host _) (same_nets w.outer (outcome w (Clears_pipe by_host)).outer refl refl refl refl)
-  simple_goes w (Clears_pipe by_chip) simple sets =
-      quiet_goes devices nothing w _ (outcome w (Clears_pipe by_chip)).entries (cleared_quiet by_chip _) (same_nets w.outer (outcome w (Clears_pipe by_chip)).outer refl refl refl refl)
   simple_goes w Collides_next simple sets = still_none devices nothing w _ (same_nets w.outer (outcome w Collides_next).outer refl refl refl refl)
-  simple_goes w (Stalls ticks) simple sets = still_none devices nothing w _ (same_nets w.outer (outcome w (Stalls ticks)).outer refl refl refl refl)
-  simple_goes w (Cuts size) simple sets = still_none devices nothing w _ (same_nets w.outer (outcome w (Cuts size)).outer refl refl refl refl)
   simple_goes w (Joins node) simple sets = absurd sets
   simple_goes w Discovers simple sets = absurd sets
   simple_goes w (Links a b live) simple sets = absurd sets
-  simple_goes w event simple sets = absurd simple
+  simple_goes w event simple sets =
+      let left = pipes_leave w event simple in
+      quiet_goes devices nothing w (outside (outcome w event).outer w.devices) (outcome w event).entries (pipes_quiet w event simple)
+      (same_nets w.outer (outcome w event).outer (ap (λ (a : AirState). a.network) left.1) (ap (λ (a : AirState). a.joined) left.1)
+      (ap (λ (c : ChipParts). c.state.table) left.0) (ap (λ (c : ChipParts). c.state.listening) left.0))
 
   -- a session begins
   begins_air : (air : AirState) (node sessions : ℕ) → IsSameAir air (begins air node sessions)

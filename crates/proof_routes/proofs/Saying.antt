@@ -19,18 +19,15 @@ use Rattle.world_model.specs.Events.{Event, Outside_does, happens, entries}
 use Rattle.world_model.specs.Lines.{IsEffect}
 use Rattle.proof_device.specs.GoingOn.{GoOn}
 use Rattle.proof_walk.specs.ByLine.{IsOfTick, CoversLine}
-use Rattle.proof_walk.proofs.ByLine.{effect_covered}
+use Rattle.proof_walk.proofs.ByLine.{effect_covered, last_is}
+use Rattle.proof_walk.proofs.Alone.{wordless_line}
 use Rattle.proof_routes.specs.Networks.{Tie}
-use Rattle.proof_routes.specs.Knowing.{joins_in, HasNoWords, Asks, NoJoin, SetsNone, HasDevices, Settled, Else, Saying, Opened, IsPlain, Left}
-use Rattle.proof_routes.proofs.Books.{last_is, air_grows, chip_grows, joined_grows, SameShown, same_back, same_joined, still_shown, still_last}
+use Rattle.proof_routes.specs.Knowing.{joins_in, Asks, NoJoin, SetsNone, HasDevices, Settled, Else, Saying, Opened, IsPlain, Left}
+use Rattle.proof_routes.proofs.Books.{air_grows, chip_grows, joined_grows, SameShown, same_back, same_joined, still_shown, still_last}
 use Rattle.proof_routes.proofs.Ties.{tie_shown, same_nets, tie_nets}
 use Rattle.proof_routes.proofs.Remembering.{remembers_shown, remembers_same}
 
 -- ---- entries without words
-
-pub wordless_line : (e : Entry) → HasNoWords e → line_of e ≡ []
-wordless_line (entry.Said words) none = absurd none
-wordless_line e none = refl
 
 asked_joined : (devices : List State) (past es : List Entry) → EachAfter (Asks devices) past es → NoJoin past → joined (past ++ es) ≡ joined past
 asked_joined devices past [] asked none = ap joined (append-nil past)

@@ -32,7 +32,7 @@ use Rattle.mesh_sim.specs.Fates.{Mesh, place_of, fate_of, listener_of, dead_hop}
 use Rattle.mesh_sim.specs.Routes.{IsRoute, backwards}
 use Rattle.mesh_sim.specs.Steps.{AirStep, MayHappen, MayArrive, MayArriveIf, MayRepeat, MayRepeatBy, MayHearAgain, mesh_after, mesh_outs, answers_if, answered_if, answers, answered, changed, landed, acknowledged, status_of, done_of, outs_at, heard_at, heard_again, outs_again, arriving, arriving_as, arrival_outs, arrival_outs_as, repeating, repeating_by, repeat_outs, repeat_outs_by}
 use Rattle.mesh_sim.specs.Steps as mesh
-use Rattle.zw_words.specs.declared.side.Side.TheVariants.{Host as by_host, Chip as by_chip}
+use Rattle.zw_words.specs.declared.side.Side.TheVariants.{Chip as by_chip}
 use Rattle.zw_text.specs.declared.entry.Entry.{Entry}
 use Rattle.zw_text.specs.declared.entry.Entry.TheVariants as entry
 use Rattle.law_transcript.specs.Fates.{marks_left}
@@ -44,19 +44,20 @@ use Rattle.outside_model.specs.Chip.{put_out, chip_does, chip_ticks, shown_via}
 use Rattle.outside_model.specs.Air.{sent_entries, change_entries, deals, change_at}
 use Rattle.outside_model.specs.Results.{device_at}
 use Rattle.outside_model.specs.Results.{gives}
-use Rattle.outside_model.specs.Devices.{acts, changes_entries, new_changes, shown_entries, HasWay, MayAct}
-use Rattle.outside_model.specs.Events.{OuterEvent, Host_writes, Host_takes, Host_notes, Shows, Joins, Discovers, Links, Loses, Loses_acks, Marks_loss, Marks_change, Clears_pipe, Collides_next, Stalls, Cuts, begins, mesh_of, outcome}
+use Rattle.outside_model.specs.Devices.{acts, changes_entries, new_changes, HasWay, MayAct}
+use Rattle.outside_model.specs.Events.{OuterEvent, Host_notes, Joins, Discovers, Links, Loses, Loses_acks, Collides_next, begins, mesh_of, outcome}
 use Rattle.proof_device.proofs.Entered.{IsChange, change_entered, changes_entered}
 use Rattle.proof_device.proofs.Results.{Gives, IsSameChip, gives_go, ends_go, to_chip_goes}
+use Rattle.proof_device.proofs.Entering.{pipes_leave}
 use Rattle.proof_walk.specs.Outside.{Pending, Judging, Dealing, nothing, Knowing, Moves, IsSimple, IsHearing, session_begins, Outer}
 use Rattle.proof_routes.specs.Forgetting.{Passage, passage_at, passages, HasPassages}
 use Rattle.proof_routes.specs.Networks.{HasLinks}
 use Rattle.proof_routes.proofs.Books.{air_grows}
 use Rattle.proof_routes.proofs.Coming.{NotHome, apart_of, answered_if_air, has_way, step_hears}
-use Rattle.proof_routes.proofs.Leaving.{StartsSo, GoesOver, AllGoOver, judged_over, given_none, told_quiet}
-use Rattle.proof_routes.proofs.Outer.{cleared_quiet, shown_quiet, note_quiet, change_quiet}
+use Rattle.proof_routes.proofs.Leaving.{StartsSo, GoesOver, AllGoOver, judged_over, given_none}
+use Rattle.proof_routes.proofs.Outer.{note_quiet, change_quiet}
 use Rattle.proof_routes.proofs.Passages.{passages_grow, IsNoFrame, passages_same, marks_grow, marks_same, links_same, put_passage, land_passage, next_passage}
-use Rattle.proof_routes.proofs.Ties.{IsQuiet}
+use Rattle.proof_routes.proofs.Ties.{IsQuiet, told_quiet, pipes_quiet}
 use Rattle.proof_routes.proofs.Turned.{WayIs, no_way_is, way_is}
 use Rattle.proof_routes.proofs.Walks.{shown_is}
 
@@ -192,28 +193,6 @@ module _ (there : List State) where
   none_put : (p : Pending) (o : OuterState) → Puts p o (record { outer = o; entries = [] })
   none_put p o = still p (outside o there) (outside o there) [] tt (same o o refl refl refl refl)
 
-  put_goes : (o : OuterState) (table : Network) (out : ChipOut) → GoesOver table out → Puts nothing o (put_out o out)
-  put_goes o table (Write unit) over =
-      still nothing (outside o there) (outside (put_out o (Write unit)).outer there) (told by_chip o.to_host unit) (are_none (told by_chip o.to_host unit) (told_quiet by_chip o.to_host unit)) (same o (put_out o (Write unit)).outer refl refl refl refl)
-  put_goes o table (OnAir to route payload) over = flies o table to route payload over
-  put_goes o table NoRoute over = still nothing (outside o there) (outside (put_out o NoRoute).outer there) [] tt (same o (put_out o NoRoute).outer refl refl refl refl)
-  put_goes o table (AskInfo node) over = still nothing (outside o there) (outside (put_out o (AskInfo node)).outer there) [] tt (same o (put_out o (AskInfo node)).outer refl refl refl refl)
-  put_goes o table Full over = still nothing (outside o there) (outside o there) (entry.ChipFull ∷ []) (tt, tt) (same o o refl refl refl refl)
-
-  puts_go : (table : Network) (puts : List ChipOut) (o : OuterState) → AllGoOver table puts → Puts nothing o (each put_out o puts)
-  puts_go table [] o over = none_put nothing o
-  puts_go table (out ∷ puts) o over =
-      let one : Outcome = put_out o out in
-      both nothing nothing nothing (outside o there) (outside one.outer there) (outside (each put_out one.outer puts).outer there) one.entries (each put_out one.outer puts).entries
-      (put_goes o table out over.0) (puts_go table puts one.outer over.1)
-
-  does_goes : (o : OuterState) (event : ChipEvent) → AllGoOver o.chip.state.table (outs o.chip.state event) → Puts nothing o (chip_does o event)
-  unfolding chip_does
-  does_goes o event over =
-      let p : OuterState = with_chip o (after o.chip.state event) in
-      both nothing nothing nothing (outside o there) (outside p there) (outside (chip_does o event).outer there) [] (chip_does o event).entries
-      (still nothing (outside o there) (outside p there) [] tt (same o p refl refl refl refl)) (puts_go o.chip.state.table (outs o.chip.state event) p over)
-
   -- nothing for the air, whatever is to be entered
   abbrev NoAir : ChipOut → Type 0
   NoAir (OnAir to route payload) = ⊥
@@ -241,6 +220,24 @@ module _ (there : List State) where
       let one : Outcome = put_out o out in
       both p p p (outside o there) (outside one.outer there) (outside (each put_out one.outer puts).outer there) one.entries (each put_out one.outer puts).entries
       (quiet_put p o out none.0) (quiet_puts p puts one.outer none.1)
+
+  put_goes : (o : OuterState) (table : Network) (out : ChipOut) → GoesOver table out → Puts nothing o (put_out o out)
+  put_goes o table (OnAir to route payload) over = flies o table to route payload over
+  put_goes o table out over = quiet_put nothing o out tt
+
+  puts_go : (table : Network) (puts : List ChipOut) (o : OuterState) → AllGoOver table puts → Puts nothing o (each put_out o puts)
+  puts_go table [] o over = none_put nothing o
+  puts_go table (out ∷ puts) o over =
+      let one : Outcome = put_out o out in
+      both nothing nothing nothing (outside o there) (outside one.outer there) (outside (each put_out one.outer puts).outer there) one.entries (each put_out one.outer puts).entries
+      (put_goes o table out over.0) (puts_go table puts one.outer over.1)
+
+  does_goes : (o : OuterState) (event : ChipEvent) → AllGoOver o.chip.state.table (outs o.chip.state event) → Puts nothing o (chip_does o event)
+  unfolding chip_does
+  does_goes o event over =
+      let p : OuterState = with_chip o (after o.chip.state event) in
+      both nothing nothing nothing (outside o there) (outside p there) (outside (chip_does o event).outer there) [] (chip_does o event).entries
+      (still nothing (outside o there) (outside p there) [] tt (same o p refl refl refl refl)) (puts_go o.chip.state.table (outs o.chip.state event) p over)
 
   module _ (rules : StartsSo) where
     does_quietly : (p : Pending) (o : OuterState) (event : ChipEvent) → starts o.chip.state event ≡ [] → Puts p o (chip_does o event)
@@ -518,29 +515,17 @@ LeavesAir event = Unit {0}
 
 simple_goes : (w : Outside) (event : OuterEvent) → IsSimple event → LeavesAir event → Sends_on nothing w (outcome w event).entries nothing (outside (outcome w event).outer w.devices)
 unfolding outcome
-simple_goes w (Host_writes unit) simple covers =
-    still nothing w (outside (outcome w (Host_writes unit)).outer w.devices) (told by_host w.outer.to_chip unit) (are_none (told by_host w.outer.to_chip unit) (told_quiet by_host w.outer.to_chip unit)) (same w.outer (outcome w (Host_writes unit)).outer refl refl refl refl)
-simple_goes w (Host_takes count) simple covers = still nothing w (outside (outcome w (Host_takes count)).outer w.devices) [] tt (same w.outer (outcome w (Host_takes count)).outer refl refl refl refl)
 simple_goes w (Host_notes note) simple covers = still nothing w w (note ∷ []) (quiet_none note (note_quiet note simple.0), tt) (same w.outer w.outer refl refl refl refl)
-simple_goes w (Shows node) simple covers =
-    still nothing w w (outcome w (Shows node)).entries (are_none (shown_entries node (device_at w.devices (place_of node w.devices))) (shown_quiet node (device_at w.devices (place_of node w.devices)))) (same w.outer w.outer refl refl refl refl)
 simple_goes w (Joins node) simple covers = absurd covers
 simple_goes w Discovers simple covers = still nothing w (outside (outcome w Discovers).outer w.devices) [] tt (same w.outer (outcome w Discovers).outer refl refl refl refl)
 simple_goes w (Links a b live) simple covers = absurd covers
 simple_goes w (Loses count) simple covers = absurd covers
 simple_goes w (Loses_acks count) simple covers = still nothing w (outside (outcome w (Loses_acks count)).outer w.devices) [] tt (same w.outer (outcome w (Loses_acks count)).outer refl refl refl refl)
-simple_goes w (Marks_loss by_host) simple covers = still nothing w (outside (outcome w (Marks_loss by_host)).outer w.devices) [] tt (same w.outer (outcome w (Marks_loss by_host)).outer refl refl refl refl)
-simple_goes w (Marks_loss by_chip) simple covers = still nothing w (outside (outcome w (Marks_loss by_chip)).outer w.devices) [] tt (same w.outer (outcome w (Marks_loss by_chip)).outer refl refl refl refl)
-simple_goes w (Marks_change by_host garble) simple covers = still nothing w (outside (outcome w (Marks_change by_host garble)).outer w.devices) [] tt (same w.outer (outcome w (Marks_change by_host garble)).outer refl refl refl refl)
-simple_goes w (Marks_change by_chip garble) simple covers = still nothing w (outside (outcome w (Marks_change by_chip garble)).outer w.devices) [] tt (same w.outer (outcome w (Marks_change by_chip garble)).outer refl refl refl refl)
-simple_goes w (Clears_pipe by_host) simple covers =
-    still nothing w (outside (outcome w (Clears_pipe by_host)).outer w.devices) (outcome w (Clears_pipe by_host)).entries (are_none (outcome w (Clears_pipe by_host)).entries (cleared_quiet by_host (length w.outer.to_chip.bytes))) (same w.outer (outcome w (Clears_pipe by_host)).outer refl refl refl refl)
-simple_goes w (Clears_pipe by_chip) simple covers =
-    still nothing w (outside (outcome w (Clears_pipe by_chip)).outer w.devices) (outcome w (Clears_pipe by_chip)).entries (are_none (outcome w (Clears_pipe by_chip)).entries (cleared_quiet by_chip (length w.outer.to_host.bytes))) (same w.outer (outcome w (Clears_pipe by_chip)).outer refl refl refl refl)
 simple_goes w Collides_next simple covers = still nothing w (outside (outcome w Collides_next).outer w.devices) [] tt (same w.outer (outcome w Collides_next).outer refl refl refl refl)
-simple_goes w (Stalls ticks) simple covers = still nothing w (outside (outcome w (Stalls ticks)).outer w.devices) [] tt (same w.outer (outcome w (Stalls ticks)).outer refl refl refl refl)
-simple_goes w (Cuts size) simple covers = still nothing w (outside (outcome w (Cuts size)).outer w.devices) [] tt (same w.outer (outcome w (Cuts size)).outer refl refl refl refl)
-simple_goes w event simple covers = absurd simple
+simple_goes w event simple covers =
+    let air = (pipes_leave w event simple).1 in
+    still nothing w (outside (outcome w event).outer w.devices) (outcome w event).entries (are_none (outcome w event).entries (pipes_quiet w event simple))
+    (same w.outer (outcome w event).outer (ap (λ (a : AirState). a.frames) air) (ap (λ (a : AirState). a.joined) air) (ap (λ (a : AirState). a.network) air) (ap (λ (a : AirState). a.losing) air))
 
 -- a device does something of itself
 acts_goes : (w : Outside) (device : State) (event : DeviceEvent) (route : Option Route) (later : List State) → MayAct w.outer (Some device) event route

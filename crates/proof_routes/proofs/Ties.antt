@@ -12,9 +12,17 @@ use Rattle.law_wire.specs.Networks.{are_linked, air_links, chip_links, listens_a
 use Rattle.law_wire.specs.Routes.{MayGo}
 use Rattle.proof_host.proofs.Lists.{each-append}
 use Rattle.outside_model.specs.State.{OuterState, Outside}
-use Rattle.proof_walk.specs.Outside.{Pending, Judging, Dealing, Moves}
+use Rattle.outside_model.specs.Events.{OuterEvent, outcome}
+use Rattle.proof_walk.specs.Outside.{HasNoWords, Pending, Judging, Dealing, Moves}
+use Rattle.proof_device.proofs.Entering.{IsOfPipe, IsOfPipes, pipes_enter, told_of_pipe}
+use Rattle.zw_base.proofs.Each.{all-weaker}
+use Rattle.zw_words.specs.declared.side.Side.{Side}
+use Rattle.zw_words.specs.declared.side.Side.TheVariants.{Host as by_host}
+use Rattle.serial_pipes.specs.State.{WayState}
+use Rattle.serial_pipes.specs.Events.{told}
+use Rattle.serial_frame.specs.declared.unit.Unit.{Unit as LineUnit}
 use Rattle.proof_routes.specs.Networks.{HasLinks, HasRepeaters, IsApart, is_repeater, Tie}
-use Rattle.proof_routes.specs.Knowing.{HasNoWords, Asks, NoJoin, ComesHome, AllComeHome, Knows}
+use Rattle.proof_routes.specs.Knowing.{Asks, NoJoin, ComesHome, AllComeHome, Knows}
 use Rattle.proof_routes.proofs.Books.{SameShown, same_back, same_joined, IsStill, still_line, still_shown, still_last}
 
 -- ---- the same transcript, the same networks
@@ -116,6 +124,18 @@ IsQuiet _ = Unit {0}
 
 abbrev pub AreQuiet : List Entry → Type 0
 AreQuiet told = AllByRecursion IsQuiet told
+
+pipe_quiet : (side : Side) (e : Entry) → IsOfPipe side e → IsQuiet e
+pipe_quiet side (entry.Said words) of_pipe = absurd of_pipe
+pipe_quiet side (entry.Forget a b) of_pipe = absurd of_pipe
+pipe_quiet side (entry.Air frame sender receiver repeaters payload) of_pipe = absurd of_pipe
+pipe_quiet side e of_pipe = tt
+
+pub told_quiet : (side : Side) (way : WayState) (unit : LineUnit) → AreQuiet (told side way unit)
+told_quiet side way unit = all-weaker (IsOfPipe side) IsQuiet (pipe_quiet side) (told side way unit) (told_of_pipe side way unit)
+
+pub pipes_quiet : (w : Outside) (event : OuterEvent) → IsOfPipes event → AreQuiet (outcome w event).entries
+pipes_quiet w event is = all-weaker (IsOfPipe by_host) IsQuiet (pipe_quiet by_host) (outcome w event).entries (pipes_enter w event is)
 
 quiet_still : (e : Entry) → IsQuiet e → IsStill e
 quiet_still (entry.Said words) quiet = absurd quiet

@@ -30,15 +30,10 @@ use Rattle.world_model.specs.Lines.{IsEffect}
 use Rattle.proof_device.specs.GoingOn.{GoOn}
 use Rattle.proof_walk.specs.Phases.{Phase}
 use Rattle.proof_walk.specs.ByLine.{KnownOf, by_line}
-use Rattle.proof_walk.specs.Outside.{Pending, Judging, Dealing, Knowing, Known, CoversOuter}
+use Rattle.proof_walk.specs.Outside.{HasNoWords, Pending, Judging, Dealing, Knowing, Known, CoversOuter}
 use Rattle.proof_routes.specs.Networks.{Tie}
 
 -- ---- entries
-
--- it is not the words of a line
-abbrev pub HasNoWords : Entry → Type 0
-HasNoWords (Said words) = ⊥
-HasNoWords e = Unit {0}
 
 -- an event enters no words, and its frames go by route
 abbrev pub Asks : List State → List Entry → Entry → Type 0

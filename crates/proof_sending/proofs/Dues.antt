@@ -78,7 +78,7 @@ module _ (Holds : Reason → Type 0) (listing : ℕ → List ℕ) (key : List �
 
   -- and so of each unit
   module _ (from : (last : ℕ) → 1 ≤ next_id last) (to : (last : ℕ) → next_id last ≤ 255) where
-    pub unit_due : (unit : LineUnit) → IsDueUnit Holds (keys_of key) h unit → AllByRecursion Due (sending_in (unit_text unit))
+    unit_due : (unit : LineUnit) → IsDueUnit Holds (keys_of key) h unit → AllByRecursion Due (sending_in (unit_text unit))
     unit_due Ack due = tt
     unit_due Nak due = tt
     unit_due Can due = tt
@@ -88,7 +88,7 @@ module _ (Holds : Reason → Type 0) (listing : ℕ → List ℕ) (key : List �
 
 -- ---- where the transcript shows what was said
 
-module _ (Holds : Reason → Type 0) (listing : ℕ → List ℕ) (key : List ℕ) (past : List Entry) (shows : (reason : Reason) → Holds reason → IsShown listing past reason) where
+module _ (Holds : Reason → Type 0) (listing : ℕ → List ℕ) (key : List ℕ) (past : List Entry) (shows : (reason : Reason) → Holds reason → IsShown listing key past reason) where
   law_carried : (form : Form) (node session : ℕ) (message payload : List ℕ) → IsCarriedBy Holds (keys_of key) node session form message payload
       → IsCarriedAs form key past node session message payload
   law_carried Whole node session message payload is = is
@@ -114,7 +114,7 @@ module _ (Holds : Reason → Type 0) (listing : ℕ → List ℕ) (key : List �
           (message_for listing past one.node session number) one.payload here in
           rw at law
 
-  pub law_due : (one : Carried) → IsDueBy Holds listing key past one → IsDue listing key past one
+  law_due : (one : Carried) → IsDueBy Holds listing key past one → IsDue listing key past one
   law_due one (inl session) = inl (law_session one (length (sessions one.node past)) session)
   law_due one (inr (inl get)) = inr (inl get)
   law_due one (inr (inr (inl report))) = inr (inr (inl (record { nonce = report.nonce; eight = report.eight; asked = shows (Wants_nonce one.node) report.asked; text = report.text })))
@@ -122,11 +122,11 @@ module _ (Holds : Reason → Type 0) (listing : ℕ → List ℕ) (key : List �
   law_due one (inr (inr (inr (inr asked)))) = inr (inr (inr (inr (shows (Asked_for one.node one.payload) asked))))
 
   module _ (from : (last : ℕ) → 1 ≤ next_id last) (to : (last : ℕ) → next_id last ≤ 255) (h : HostState) (begun : AreBegun past h.nodes) (carried : AreCarried listing past h.commands) where
+    pub unit_is_due : (unit : LineUnit) → IsDueUnit Holds (keys_of key) h unit → AllByRecursion (IsDue listing key past) (sending_in (unit_text unit))
+    unit_is_due unit due =
+        all-weaker (IsDueBy Holds listing key past) (IsDue listing key past) law_due (sending_in (unit_text unit)) (unit_due Holds listing key past h begun carried from to unit due)
+
     pub puts_due : (puts : List HostOut) → WritesDue Holds (keys_of key) h puts → WritesWhatIsDue listing key past puts
     puts_due [] due = tt
-    puts_due (Write unit ∷ puts) due = (
-      all-weaker (IsDueBy Holds listing key past) (IsDue listing key past) law_due (sending_in (unit_text unit))
-          (unit_due Holds listing key past h begun carried from to unit due.0),
-      puts_due puts due.1,
-    )
+    puts_due (Write unit ∷ puts) due = (unit_is_due unit due.0, puts_due puts due.1)
     puts_due (Note note ∷ puts) due = puts_due puts due

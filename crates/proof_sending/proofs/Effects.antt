@@ -11,7 +11,7 @@ use Rattle.zw_text.specs.declared.line.Line.TheVariants as lines
 use Rattle.zw_text.specs.declared.entry.Entry.{Entry}
 use Rattle.zw_text.specs.declared.entry.Entry.TheVariants as entry
 use Rattle.law_transcript.specs.Lists.{EachAfter}
-use Rattle.law_transcript.specs.Payloads.{IsAskedFor}
+use Rattle.law_transcript.specs.Payloads.{IsAskedFor, MayRequest}
 use Rattle.host_keep.specs.Legal.{AreTextsOf}
 use Rattle.host_keep.specs.Rows.{IsRecord}
 use Rattle.host_keep.specs.declared.record.Record.{Record}
@@ -33,13 +33,13 @@ use Rattle.world_model.specs.Did.{happens_all, entries_all}
 use Rattle.world_model.specs.Lines.{IsEffect, Asks}
 use Rattle.world_model.proofs.Along.{IsAskedBy, IsOfEffect, anywhere, effect_along}
 use Rattle.proof_host.specs.Facts.{Facts}
-use Rattle.proof_spoken.specs.Said.{AreSaid}
-use Rattle.proof_spoken.proofs.Orders.{IsNoOrder}
-use Rattle.proof_spoken.proofs.Plain.{IsPlain}
-use Rattle.proof_spoken.proofs.SaidOrders.{IsSo, order_so}
+use Rattle.proof_line.specs.Said.{AreSaid}
+use Rattle.proof_line.proofs.Orders.{IsNoOrder}
+use Rattle.proof_line.proofs.Plain.{IsPlain}
+use Rattle.proof_line.proofs.SaidOrders.{IsSo, order_so}
 use Rattle.proof_walk.specs.ByLine.{begun}
 use Rattle.proof_sending.specs.Reasons.{Reason, HasReason, IsDueTask, IsReasoned}
-use Rattle.proof_sending.specs.Told.{IsTold, MaySend}
+use Rattle.proof_sending.specs.Due.{IsShown}
 use Rattle.proof_sending.specs.Arriving.{BringsMore}
 use Rattle.proof_sending.specs.Knowing.{Asking, Grounded, IsRest, IsSound, IsWell, Left, NeedsNone, Opened, Ordering, Resting, RestsHost, Saying}
 use Rattle.proof_sending.proofs.Arrivals.{brings_none, brings_then}
@@ -145,10 +145,10 @@ nil_cons a more e = cc
 
 module _ (listing : ℕ → List ℕ) (key : List ℕ) (laws : WalkLaws) where
   -- the reasons that stood before the words of a line still do
-  later_than : (before : List Entry) (words : List ℕ) (told past : List Entry) (h : HostState) → past ≡ before ++ entry.Said words ∷ told → BringsMore before past → IsReasoned (IsTold listing key before) (keys_of key) h
-      → IsReasoned (IsTold listing key past) (keys_of key) h
+  later_than : (before : List Entry) (words : List ℕ) (told past : List Entry) (h : HostState) → past ≡ before ++ entry.Said words ∷ told → BringsMore before past → IsReasoned (IsShown listing key before) (keys_of key) h
+      → IsReasoned (IsShown listing key past) (keys_of key) h
   later_than before words told past h is more reasoned =
-      subst (λ (l : List Entry). IsReasoned (IsTold listing key l) (keys_of key) h) (sym is)
+      subst (λ (l : List Entry). IsReasoned (IsShown listing key l) (keys_of key) h) (sym is)
       (reasoned_more listing key before (entry.Said words ∷ told) h refl (subst (λ (l : List Entry). BringsMore before l) is more) reasoned)
 
   -- its words tell nothing of what arrived
@@ -233,7 +233,7 @@ module _ (listing : ℕ → List ℕ) (key : List ℕ) (laws : WalkLaws) where
   rest_first past h Queues_probe rests = tt
   rest_first past h event rests = absurd rests
 
-  rest_entries : (past : List Entry) (m : Machine) (event : Event) → IsRest event → May m event → EachAfter (MaySend listing key) past (entries m event)
+  rest_entries : (past : List Entry) (m : Machine) (event : Event) → IsRest event → May m event → EachAfter (MayRequest listing key) past (entries m event)
   unfolding entries May
   rest_entries past m (Outside_does event) rests may = none_stand listing key past (entries_outside m.outside event) (outside_not m.outside event may.0 may.1)
   rest_entries past m (Host_does event) rests may = host_stands listing key laws past m event (rest_first (past ++ _) m.host.state event rests)
@@ -245,21 +245,21 @@ module _ (listing : ℕ → List ℕ) (key : List ℕ) (laws : WalkLaws) where
   rest_entries past m (Restarts state) rests may = tt
 
   rest_reasoned : (before past : List Entry) (m : Machine) (event : Event) → IsRest event → May m event → IsWell listing m event → Grounded listing past m → m.keys ≡ keys_of key
-      → IsReasoned (IsTold listing key before) (keys_of key) m.host.state → IsReasoned (IsTold listing key before) (keys_of key) (happens m event).host.state
+      → IsReasoned (IsShown listing key before) (keys_of key) m.host.state → IsReasoned (IsShown listing key before) (keys_of key) (happens m event).host.state
   unfolding happens May
   rest_reasoned before past m (Outside_does event) rests may well ground keys is = is
   rest_reasoned before past m (Host_does event) rests may well ground keys is =
-      event_is laws.hosts (IsTold listing key before) (keys_of key) past m.host.state event ground.facts may.0 (rest_reason (IsTold listing key before) (keys_of key) m.host.state event rests) is
+      event_is laws.hosts (IsShown listing key before) (keys_of key) past m.host.state event ground.facts may.0 (rest_reason (IsShown listing key before) (keys_of key) m.host.state event rests) is
   rest_reasoned before past m (Host_takes count rest items events) rests may well ground keys is = absurd rests
   rest_reasoned before past m Decoder_ticks rests may well ground keys is = absurd rests
   rest_reasoned before past m (Refuses line refusal) rests may well ground keys is = is
   rest_reasoned before past m (Shows_values node) rests may well ground keys is = is
   rest_reasoned before past m (Restarts state) rests may well ground keys is =
-      opens_reasoned (IsTold listing key before) (keys_of key) m.records state well.0.1 (subst (λ (k : Keys). OpensFrom k m.records state) keys may)
+      opens_reasoned (IsShown listing key before) (keys_of key) m.records state well.0.1 (subst (λ (k : Keys). OpensFrom k m.records state) keys may)
 
   -- of the effect, this event and what is left after it
   abbrev Leaves : List Entry → Machine → Event → List Event → Type 0
-  Leaves past m event left = EachAfter (MaySend listing key) past (entries m event) × Left listing key left (past ++ entries m event) (happens m event)
+  Leaves past m event left = EachAfter (MayRequest listing key) past (entries m event) × Left listing key left (past ++ entries m event) (happens m event)
 
   rest_step : (past : List Entry) (m : Machine) (event : Event) (left : List Event) → May m event → IsWell listing m event → Resting listing key (event ∷ left) past m → Leaves past m event left
   rest_step past m event left may well is = (
@@ -304,9 +304,9 @@ module _ (listing : ℕ → List ℕ) (key : List ℕ) (laws : WalkLaws) where
           arrives = event_arrives past (begun n) accepts may saying.ground.arrives;
         }
 
-    order_reasoned : May (begun n) accepts → IsReasoned (IsTold listing key saying.before) (keys_of key) (happens (begun n) accepts).host.state
+    order_reasoned : May (begun n) accepts → IsReasoned (IsShown listing key saying.before) (keys_of key) (happens (begun n) accepts).host.state
     unfolding happens May
-    order_reasoned may = event_is laws.hosts (IsTold listing key saying.before) (keys_of key) past n.host.state (Accepts order carriage) saying.ground.facts may.0 tt saying.reasoned
+    order_reasoned may = event_is laws.hosts (IsShown listing key saying.before) (keys_of key) past n.host.state (Accepts order carriage) saying.ground.facts may.0 tt saying.reasoned
 
     order_goes : May (begun n) accepts → IsWell listing (begun n) accepts → Stands listing key laws past (begun n) accepts
     order_goes may well = (
@@ -345,7 +345,7 @@ module _ (listing : ℕ → List ℕ) (key : List ℕ) (laws : WalkLaws) where
       ground = ground_goes listing laws past m (Host_does (Queues (Plain node payload))) tt may well.0.0 well.1 sound.ground;
       keys = sound.keys;
       reasoned = reasoned_more listing key past [] (happens m (Host_does (Queues (Plain node payload)))).host.state refl (brings_none past)
-          (event_is laws.hosts (IsTold listing key past) (keys_of key) past m.host.state (Queues (Plain node payload)) sound.ground.facts may.0 asked sound.reasoned);
+          (event_is laws.hosts (IsShown listing key past) (keys_of key) past m.host.state (Queues (Plain node payload)) sound.ground.facts may.0 asked sound.reasoned);
     },
   )
 
@@ -358,7 +358,7 @@ module _ (listing : ℕ → List ℕ) (key : List ℕ) (laws : WalkLaws) where
   -- ---- any of these
 
   pub left_step : (past : List Entry) (m : Machine) (event : Event) (left : List Event) → May m event → IsWell listing m event → Left listing key (event ∷ left) past m
-      → EachAfter (MaySend listing key) past (entries m event) × Left listing key left (past ++ entries m event) (happens m event)
+      → EachAfter (MayRequest listing key) past (entries m event) × Left listing key left (past ++ entries m event) (happens m event)
   left_step past m event left may well (inl is) = rest_step past m event left may well is
   left_step past m event left may well (inr (inl is)) = order_step past m event left may well is
   left_step past m event left may well (inr (inr (inl is))) = queue_step past m event left may well is

@@ -17,6 +17,7 @@ use Rattle.zw_words.specs.declared.side.Side.TheVariants.{Host as by_host, Chip 
 use Rattle.zw_text.specs.declared.entry.Entry.{Entry}
 use Rattle.zw_text.specs.declared.entry.Entry.TheVariants as entry
 use Rattle.law_transcript.specs.Lists.{EachAfter}
+use Rattle.law_transcript.specs.Payloads.{IsDue, MayRequest}
 use Rattle.law_transcript.specs.Units.{sending_in}
 use Rattle.proof_host.proofs.Lists.{each-anywhere, each-append}
 use Rattle.host_model.specs.State.{HostState, command_at, node_of}
@@ -40,8 +41,6 @@ use Rattle.proof_walk.specs.Outside.{IsNote}
 use Rattle.proof_walk.proofs.HostNotes.{NoteOuts, is_note, all_outs_note}
 use Rattle.proof_walk.proofs.Machines.{UnitsAre, answers_keep, outs_keep}
 use Rattle.proof_device.proofs.Entered.{IsMark, told_by_marks}
-use Rattle.proof_sending.specs.Told.{IsTold, MaySend}
-use Rattle.proof_sending.specs.Due.{IsDueBy}
 use Rattle.proof_sending.proofs.OutsideUnits.{AreNotWritten, IsNotWritten, note_not, number_not}
 
 abbrev NoUnit : LineUnit → Type 0
@@ -99,10 +98,10 @@ mark_not e mark = tt
 
 module _ (listing : ℕ → List ℕ) (key : List ℕ) where
   abbrev Asks : List Entry → Entry → Type 0
-  Asks past e = MaySend listing key past e
+  Asks past e = MayRequest listing key past e
 
   abbrev DueAt : List Entry → LineUnit → Type 0
-  DueAt past unit = AllByRecursion (IsDueBy (IsTold listing key past) listing key past) (sending_in (unit_text unit))
+  DueAt past unit = AllByRecursion (IsDue listing key past) (sending_in (unit_text unit))
 
   may_stand : (past : List Entry) (e : Entry) → IsNotWritten e → Asks past e
   may_stand past (entry.Written by_host unit) none = absurd none

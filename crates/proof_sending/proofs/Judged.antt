@@ -68,7 +68,7 @@ layout_length own text code named =
     let inner = length-append text (named ∷ code) in
     omega (arith, outer, inner)
 
-sealed_length : (keys : Keys) (own nonce : List ℕ) (ends : SealEnds) (plain bytes : List ℕ) → Seals keys own nonce ends plain bytes → length bytes ≡ length own + length plain + 12
+pub sealed_length : (keys : Keys) (own nonce : List ℕ) (ends : SealEnds) (plain bytes : List ℕ) → Seals keys own nonce ends plain bytes → length bytes ≡ length own + length plain + 12
 sealed_length keys own nonce ends plain bytes s =
     let code : List ℕ = code_of keys (own ++ nonce) ends s.cipher_text in
     let whole = layout_length own s.cipher_text code (slice_index nonce 0) in

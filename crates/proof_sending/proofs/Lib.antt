@@ -17,4 +17,3 @@ mod Grounds
 mod Steps
 mod Effects
 mod Walking
-mod Openly

@@ -9,7 +9,7 @@ use Rattle.device_kinds.specs.Sealing.{keys_of}
 use Rattle.zw_text.specs.declared.entry.Entry.{Entry}
 use Rattle.zw_text.specs.declared.entry.Entry.TheVariants as entry
 use Rattle.law_transcript.specs.Lists.{EachAfter}
-use Rattle.law_transcript.specs.Payloads.{messages_of}
+use Rattle.law_transcript.specs.Payloads.{messages_of, IsToldBy, MayRequest}
 use Rattle.law_transcript.specs.Restarts.{begins_refused}
 use Rattle.law_transcript.specs.Units.{payloads_from}
 use Rattle.law_transcript.proofs.Having.{has_shown, shown_has}
@@ -37,19 +37,19 @@ use Rattle.world_model.specs.State.{Machine, host_does, host_entries}
 use Rattle.world_model.specs.Events.{Event, Outside_does, Host_does, Host_takes, Decoder_ticks, Refuses, Shows_values, Restarts, fed, happens, entries, notes, May}
 use Rattle.proof_device.proofs.Entered.{IsMark}
 use Rattle.proof_host.proofs.Lists.{each-append}
-use Rattle.proof_spoken.proofs.Orders.{IsNoOrder}
-use Rattle.proof_spoken.proofs.Plain.{IsPlain}
+use Rattle.proof_line.proofs.Orders.{IsNoOrder}
+use Rattle.proof_line.proofs.Plain.{IsPlain}
 use Rattle.proof_walk.specs.Outside.{IsHostNote, IsOfAir}
 use Rattle.proof_walk.specs.ByLine.{IsCommon}
 use Rattle.proof_walk.proofs.Alone.{KindsAre, common_are}
 use Rattle.proof_walk.proofs.Machines.{UnitsAre}
 use Rattle.proof_sending.specs.Reasons.{Reason, Asked_for, Wants_nonce, Gave_nonce, HasReason, IsReasoned, PushesNothing, WritesDue}
-use Rattle.proof_sending.specs.Told.{IsTold, IsToldBy, MaySend}
+use Rattle.proof_sending.specs.Due.{IsShown}
 use Rattle.proof_sending.specs.Heard.{HaveReasons, ItemTells, WritesNoFrame}
 use Rattle.proof_sending.specs.Arriving.{BringsMore}
 use Rattle.proof_sending.specs.Knowing.{Grounded, IsMine, IsSound, IsWell}
 use Rattle.proof_sending.proofs.AskedLines.{asked_stays}
-use Rattle.proof_sending.proofs.Dues.{unit_due}
+use Rattle.proof_sending.proofs.Dues.{unit_is_due}
 use Rattle.proof_sending.proofs.Grounds.{WalkLaws, carried_so, ground_goes, ground_ticked}
 use Rattle.proof_sending.proofs.Growing.{event_brings, ticked_brings}
 use Rattle.proof_sending.proofs.HostUnits.{FirstDue, IsShort, answers_stand, event_stands, none_stand, short_stand}
@@ -173,19 +173,29 @@ module _ (listing : ℕ → List ℕ) (key : List ℕ) where
       let one = shown_has tells (payloads_from node past) message told in
       inl (has_shown tells (payloads_from node later) one.by message (more node one.by one.among) one.shows)
   told_more past later node message more (inr is) =
-      inr (record { payload = is.payload; brought = more node is.payload is.brought; nonce = is.nonce; plain = is.plain; eight = is.eight; opens = is.opens; tells = is.tells })
+      inr (record {
+        payload = is.payload;
+        brought = more node is.payload is.brought;
+        own = is.own;
+        nonce = is.nonce;
+        plain = is.plain;
+        own_eight = is.own_eight;
+        eight = is.eight;
+        text = is.text;
+        tells = is.tells;
+      })
 
-  holds_more : (past told : List Entry) → begins_refused told ≡ false → BringsMore past (past ++ told) → (reason : Reason) → IsTold listing key past reason
-      → IsTold listing key (past ++ told) reason
+  holds_more : (past told : List Entry) → begins_refused told ≡ false → BringsMore past (past ++ told) → (reason : Reason) → IsShown listing key past reason
+      → IsShown listing key (past ++ told) reason
   holds_more past told none more (Asked_for node payload) asked = asked_stays listing [] past told (record { node = node; payload = payload }) none asked
   holds_more past told none more (Wants_nonce node) is = told_more past (past ++ told) node NonceGet more is
   holds_more past told none more (Gave_nonce node nonce) is = told_more past (past ++ told) node (NonceReport nonce) more is
 
-  pub reasoned_more : (past told : List Entry) (h : HostState) → begins_refused told ≡ false → BringsMore past (past ++ told) → IsReasoned (IsTold listing key past) (keys_of key) h
-      → IsReasoned (IsTold listing key (past ++ told)) (keys_of key) h
-  reasoned_more past told h none more is = more_is (IsTold listing key past) (IsTold listing key (past ++ told)) (holds_more past told none more) (keys_of key) h is
+  pub reasoned_more : (past told : List Entry) (h : HostState) → begins_refused told ≡ false → BringsMore past (past ++ told) → IsReasoned (IsShown listing key past) (keys_of key) h
+      → IsReasoned (IsShown listing key (past ++ told)) (keys_of key) h
+  reasoned_more past told h none more is = more_is (IsShown listing key past) (IsShown listing key (past ++ told)) (holds_more past told none more) (keys_of key) h is
 
-  own_reason : (past : List Entry) (h : HostState) (event : HostEvent) → IsOwn event → HasReason (IsTold listing key past) (keys_of key) h event
+  own_reason : (past : List Entry) (h : HostState) (event : HostEvent) → IsOwn event → HasReason (IsShown listing key past) (keys_of key) h event
   own_reason past h (Queues task) own = absurd own
   own_reason past h (Requests_do event moment) own = subst (λ (e : RequestsEvent). PushesNothing e) (sym own) tt
   own_reason past h (Offers n) own = absurd own
@@ -193,48 +203,49 @@ module _ (listing : ℕ → List ℕ) (key : List ℕ) where
   own_reason past h (Takes_nonce n seen text) own = absurd own
   own_reason past h event own = tt
 
-  events_short : (past : List Entry) (h : HostState) (events : List HostEvent) → HaveReasons (IsTold listing key past) (keys_of key) h events → UnitsAre IsShort (outs_all h events)
+  events_short : (past : List Entry) (h : HostState) (events : List HostEvent) → HaveReasons (IsShown listing key past) (keys_of key) h events → UnitsAre IsShort (outs_all h events)
   events_short past h [] reasons = tt
   events_short past h (event ∷ events) reasons =
       units-append (outs h event) (outs_all (after h event) events) (event_short h event reasons.0.1) (events_short past (after h event) events reasons.1)
 
   -- what the host judges at it was told
   abbrev pub HearsTold : List Entry → Event → Type 0
-  HearsTold past (Host_takes count rest items events) = AllByRecursion (ItemTells (IsTold listing key past) (keys_of key)) items
+  HearsTold past (Host_takes count rest items events) = AllByRecursion (ItemTells (IsShown listing key past) (keys_of key)) items
   HearsTold past event = Unit {0}
 
 -- ---- an event
 
 module _ (listing : ℕ → List ℕ) (key : List ℕ) (laws : WalkLaws) where
   abbrev pub Stands : List Entry → Machine → Event → Type 0
-  Stands past m event = EachAfter (MaySend listing key) past (entries m event) × IsSound listing key (past ++ entries m event) (happens m event)
+  Stands past m event = EachAfter (MayRequest listing key) past (entries m event) × IsSound listing key (past ++ entries m event) (happens m event)
 
-  first_of : (past : List Entry) (m : Machine) → Grounded listing past m → (puts : List HostOut) → WritesDue (IsTold listing key past) (keys_of key) m.host.state puts → FirstDue listing key past puts
+  first_of : (past : List Entry) (m : Machine) → Grounded listing past m → (puts : List HostOut) → WritesDue (IsShown listing key past) (keys_of key) m.host.state puts → FirstDue listing key past puts
   first_of past m ground [] due = tt
   first_of past m ground (Write unit ∷ puts) due =
-      unit_due (IsTold listing key past) listing key past m.host.state ground.facts.begun (carried_so laws listing past m.host.state ground.facts ground.said) laws.from laws.to unit due.0
+      unit_is_due (IsShown listing key past) listing key past (λ reason is. is) laws.from laws.to m.host.state ground.facts.begun
+      (carried_so laws listing past m.host.state ground.facts ground.said) unit due.0
   first_of past m ground (Note note ∷ puts) due = tt
 
   pub first_due : (past : List Entry) (m : Machine) (event : HostEvent) → Grounded listing past m → MayHost m.host.state event
-      → ((told : List Entry) → HasReason (IsTold listing key told) (keys_of key) m.host.state event) → IsReasoned (IsTold listing key past) (keys_of key) m.host.state
+      → ((told : List Entry) → HasReason (IsShown listing key told) (keys_of key) m.host.state event) → IsReasoned (IsShown listing key past) (keys_of key) m.host.state
       → FirstDue listing key (past ++ ticked_entry m.outside.outer) (outs m.host.state event)
   first_due past m event ground may reason is =
       let told : List Entry = ticked_entry m.outside.outer in
       first_of (past ++ told) m (ground_ticked listing laws past m m.outside.outer ground) (outs m.host.state event)
-      (units_due laws.hosts (IsTold listing key (past ++ told)) (keys_of key) m.host.state event ground.facts.host may (reason (past ++ told))
+      (units_due laws.hosts (IsShown listing key (past ++ told)) (keys_of key) m.host.state event ground.facts.host may (reason (past ++ told))
       (reasoned_more listing key past told m.host.state (ticked_none m.outside.outer) (ticked_brings past m.outside.outer) is))
 
   pub host_stands : (past : List Entry) (m : Machine) (event : HostEvent) → FirstDue listing key (past ++ ticked_entry m.outside.outer) (outs m.host.state event)
-      → EachAfter (MaySend listing key) past (entries m (Host_does event))
+      → EachAfter (MayRequest listing key) past (entries m (Host_does event))
   unfolding entries
   host_stands past m event due =
       let done : Machine = host_does m (event ∷ []) in
-      each-append (MaySend listing key) past (host_entries m (event ∷ [])) (entries_all_outside done.outside (notes (answers m.host.state event)))
+      each-append (MayRequest listing key) past (host_entries m (event ∷ [])) (entries_all_outside done.outside (notes (answers m.host.state event)))
       (event_stands listing key past m.outside m.host.state event due)
       (answers_stand listing key (past ++ host_entries m (event ∷ [])) done.outside m.host.state event)
 
   sound_after : (past : List Entry) (m : Machine) (event : Event) → IsMine event → May m event → IsWell listing m event → IsSound listing key past m
-      → IsReasoned (IsTold listing key past) (keys_of key) (happens m event).host.state → IsSound listing key (past ++ entries m event) (happens m event)
+      → IsReasoned (IsShown listing key past) (keys_of key) (happens m event).host.state → IsSound listing key (past ++ entries m event) (happens m event)
   sound_after past m event mine may well is reasoned = record {
     ground = ground_goes listing laws past m event (mine_plain event mine) may well.0.0 well.1 is.ground;
     keys = keys_stay m event ∙ is.keys;
@@ -251,15 +262,15 @@ module _ (listing : ℕ → List ℕ) (key : List ℕ) (laws : WalkLaws) where
       let h : HostState = m.host.state in (
         host_stands past m event (first_due past m event is.ground may.0 (λ told. own_reason listing key told h event own) is.reasoned),
         sound_after past m (Host_does event) own may well is
-            (event_is laws.hosts (IsTold listing key past) (keys_of key) past h event is.ground.facts may.0 (own_reason listing key past h event own) is.reasoned),
+            (event_is laws.hosts (IsShown listing key past) (keys_of key) past h event is.ground.facts may.0 (own_reason listing key past h event own) is.reasoned),
       )
   mine_step past m (Host_takes count rest items events) mine may well hears is =
       let h : HostState = m.host.state in
-      let reasons : HaveReasons (IsTold listing key past) (keys_of key) h events
-      = judged_goes laws.hosts (IsTold listing key past) (keys_of key) h items events hears may.judged ((past, is.ground.facts), is.reasoned) may.may in (
+      let reasons : HaveReasons (IsShown listing key past) (keys_of key) h events
+      = judged_goes laws.hosts (IsShown listing key past) (keys_of key) h items events hears may.judged ((past, is.ground.facts), is.reasoned) may.may in (
         short_stand listing key past (fed m count rest).outside h events (events_short listing key past h events reasons),
         sound_after past m (Host_takes count rest items events) tt may well is
-            (stands_all laws.hosts (IsTold listing key past) (keys_of key) h events may.may reasons ((past, is.ground.facts), is.reasoned)).1,
+            (stands_all laws.hosts (IsShown listing key past) (keys_of key) h events may.may reasons ((past, is.ground.facts), is.reasoned)).1,
       )
   mine_step past m Decoder_ticks mine may well hears is = (tt, sound_after past m Decoder_ticks tt may well is is.reasoned)
   mine_step past m event mine may well hears is = absurd mine

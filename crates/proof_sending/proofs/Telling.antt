@@ -1,6 +1,7 @@
 -- What the host judges came from the chip: each payload that an item brings has arrived by the transcript, so what it tells was told.
-use Rattle.std.proofs.Common.{◌≡◌, ℕ, ◌&&◌, not, Bool, true, false, if◌then◌else◌, inl, inr, List, [], ◌∷◌, ◌++◌, take, refl, sym, ap, subst, ◌∙◌, append_assoc, append-nil}
+use Rattle.std.proofs.Common.{◌≡◌, ℕ, ◌≤◌, ◌&&◌, not, Bool, true, false, if◌then◌else◌, inl, inr, List, [], ◌∷◌, ◌++◌, length, take, refl, sym, ap, subst, ◌∙◌, append_assoc, append-nil, length-drop, arith}
 use Rattle.std.proofs.lemmas.Bool.{eq-eqb}
+use Rattle.std.proofs.lemmas.List.{length-take}
 use Rattle.std.specs.Prelude.{Result, Ok}
 use Rattle.std.specs.List.{flat_map, AllByRecursion}
 use Rattle.zw_base.proofs.Each.{all-left}
@@ -12,23 +13,29 @@ use Rattle.serial_frame.specs.declared.frame.Kind.TheVariants.{Request as of_req
 use Rattle.serial_frame.specs.declared.item.Item.{Item}
 use Rattle.serial_frame.specs.declared.item.Item.TheVariants.{Good, Refused}
 use Rattle.serial_frame.specs.declared.unit.Unit.TheVariants.{Ack, Nak, Can, Framed}
+use Rattle.s0_crypto.specs.declared.ends.SealEnds.{SealEnds}
+use Rattle.s0_crypto.specs.declared.key_pair.Keys.{Keys}
+use Rattle.s0_crypto.specs.Opening.{nonce_in}
+use Rattle.s0_crypto.specs.Seal.{Seals}
 use Rattle.chip_functions.specs.declared.fault.BodyFault.{BodyFault}
 use Rattle.chip_functions.specs.declared.notice.Notice.{Notice}
 use Rattle.chip_functions.specs.declared.notice.Notice.TheVariants.{ApplicationCommandHandler}
 use Rattle.chip_functions.specs.Notice.{notice_of}
 use Rattle.device_kinds.specs.Sealing.{keys_of}
+use Rattle.device_kinds.proofs.SealingLemmas.{sealed_is}
 use Rattle.host_heard.specs.Telling.{heard_at}
 use Rattle.host_heard.specs.declared.payload.Heard.{Heard}
 use Rattle.host_heard.specs.declared.payload.Heard.TheVariants.{Messages}
 use Rattle.host_heard.specs.declared.told.Told.{Told}
 use Rattle.host_heard.specs.declared.told.Told.TheVariants.{NonceGet, NonceReport}
 use Rattle.host_model.specs.Events.{HostEvent}
+use Rattle.host_model.specs.Taking.{ends_from}
 use Rattle.zw_words.specs.declared.side.Side.TheVariants.{Host as by_host, Chip as by_chip}
 use Rattle.zw_text.specs.declared.entry.Entry.{Entry}
 use Rattle.zw_text.specs.declared.entry.Entry.TheVariants as entry
 use Rattle.zw_text.specs.Transcript.{line_of}
 use Rattle.law_transcript.specs.Lists.{Has}
-use Rattle.law_transcript.specs.Payloads.{messages_of}
+use Rattle.law_transcript.specs.Payloads.{messages_of, IsToldBy}
 use Rattle.law_transcript.specs.Restarts.{is_restart, begins_refused}
 use Rattle.law_transcript.specs.Units.{Carried, arrived, bringing_in, bringing_of, bringings, from_node, payloads_from, read_well}
 use Rattle.law_transcript.proofs.Having.{all_of, has_either, has_left, has_right, has_shown}
@@ -43,7 +50,8 @@ use Rattle.proof_line.specs.Rooms.{Shown}
 use Rattle.proof_sending.specs.Arriving.{ArrivesSo, all_arriving}
 use Rattle.proof_sending.specs.Heard.{IsHeardOf, ItemTells, PayloadTells}
 use Rattle.proof_sending.specs.Reasons.{Reason}
-use Rattle.proof_sending.specs.Told.{IsTold, IsToldBy}
+use Rattle.proof_sending.proofs.Judged.{sealed_length}
+use Rattle.proof_sending.specs.Due.{IsShown}
 
 -- ---- since the last restart
 
@@ -98,9 +106,16 @@ frame_brought past f text has is request status source payload read =
 
 -- ---- what it tells
 
+-- what is sealed shows eight bytes of its sender
+nonce_eight : (keys : Keys) (nonce : List ℕ) (ends : SealEnds) (plain payload : List ℕ) → Seals keys (nonce_in payload) nonce ends plain payload → length (nonce_in payload) ≡ 8
+nonce_eight keys nonce ends plain payload seals =
+    let size = sealed_length keys (nonce_in payload) nonce ends plain payload seals in
+    let long : 12 ≤ length payload = omega (arith, size) in
+    simp (length-take, length-drop) (omega (arith, long))
+
 module _ (listing : ℕ → List ℕ) (key : List ℕ) (past : List Entry) where
   abbrev Holds : Reason → Type 0
-  Holds = IsTold listing key past
+  Holds = IsShown listing key past
 
   told_of : (node : ℕ) (message : Told) → IsToldBy key past node message → IsHeardOf Holds node message
   told_of node NonceGet told = told
@@ -117,10 +132,12 @@ module _ (listing : ℕ → List ℕ) (key : List ℕ) (past : List Entry) where
     sealed = λ nonce plain messages eight seals heard. all_of (IsHeardOf Holds node) messages (λ message has. told_of node message (inr (record {
       payload = payload;
       brought = brought;
+      own = nonce_in payload;
       nonce = nonce;
       plain = plain;
+      own_eight = nonce_eight (keys_of key) nonce (ends_from node) plain payload seals;
       eight = eight;
-      opens = seals;
+      text = sealed_is (keys_of key) (nonce_in payload) nonce (ends_from node) plain payload seals;
       tells = has_in (heard_at plain) messages message heard has;
     })));
   }

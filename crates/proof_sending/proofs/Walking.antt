@@ -6,6 +6,7 @@ use Rattle.zw_text.specs.declared.entry.Entry.{Entry}
 use Rattle.zw_text.specs.declared.entry.Entry.TheVariants.{Said}
 use Rattle.zw_text.specs.Transcript.{line_of}
 use Rattle.law_transcript.specs.Lists.{EachAfter}
+use Rattle.law_transcript.specs.Payloads.{MayRequest}
 use Rattle.host_requests.specs.declared.task.Task.{Task}
 use Rattle.host_node.specs.Search.{next_of}
 use Rattle.host_node.specs.declared.series.Series.{Series}
@@ -20,7 +21,7 @@ use Rattle.outside_model.specs.Events.{Begins_line}
 use Rattle.world_model.specs.State.{Machine}
 use Rattle.world_model.specs.Events.{Event, Outside_does, Host_takes, entries, happens, May}
 use Rattle.world_model.specs.Did.{AllAlong}
-use Rattle.proof_spoken.specs.Said.{AllTell}
+use Rattle.proof_line.specs.Said.{AllTell}
 use Rattle.proof_walk.specs.ByLine.{begun}
 use Rattle.proof_walk.specs.Phases.{Phase, Between, Said_line, Begun, Doing, To_tick, Ticked, Arriving, Giving, Ticking_devices, Ticking_chip, Ticking_decoder, Ticking_host, Sleeping, Submitting, Moving, Moved, Turns, Goes, passes_after}
 use Rattle.proof_walk.specs.Walk.{WalkWhere}
@@ -28,7 +29,6 @@ use Rattle.proof_serial.specs.Line.{AllWriteWell, WritesWell}
 use Rattle.proof_line.specs.Rooms.{KnowRooms, MayFit}
 use Rattle.proof_walk.proofs.Stepping.{Steps, event_then}
 use Rattle.proof_world.specs.Restarts.{AllKeepWell, AllStartWell}
-use Rattle.proof_sending.specs.Told.{MaySend}
 use Rattle.proof_sending.specs.Knowing.{IsMine, IsSound, IsWell, KnowSending, Opened, Saying}
 use Rattle.proof_sending.proofs.Effects.{begins_none, effect_left, left_done, left_step, opened_sound}
 use Rattle.proof_sending.proofs.Grounds.{WalkLaws, ground_said}
@@ -80,11 +80,11 @@ module _ (listing : ℕ → List ℕ) (key : List ℕ) (laws : WalkLaws) where
   Know = KnowSending listing key
 
   abbrev Keeps : Phase → List Entry → Machine → Event → Type 0
-  Keeps = Steps (MaySend listing key) Know
+  Keeps = Steps (MayRequest listing key) Know
 
   -- a line is said, and begins
   said_keeps : (past : List Entry) (m : Machine) (words : List ℕ) (line : Line) → line_of (Said words) ≡ line ∷ [] → IsSound listing key past m
-      → MaySend listing key past (Said words) × Saying listing key line (past ++ Said words ∷ []) m
+      → MayRequest listing key past (Said words) × Saying listing key line (past ++ Said words ∷ []) m
   said_keeps past m words line read sound = (
     tt,
     record {
@@ -102,7 +102,7 @@ module _ (listing : ℕ → List ℕ) (key : List ℕ) (laws : WalkLaws) where
   begins : (line : Line) (past : List Entry) (m : Machine) → Saying listing key line past m → Keeps (Begun line) past m (Outside_does Begins_line)
   begins line past m saying =
       let opened : Opened listing key line past (begun m) = (m, saying, refl) in (
-        subst (λ (told : List Entry). EachAfter (MaySend listing key) past told) (sym (begins_none m)) tt,
+        subst (λ (told : List Entry). EachAfter (MayRequest listing key) past told) (sym (begins_none m)) tt,
         subst (λ (told : List Entry). Opened listing key line (past ++ told) (begun m)) (sym (begins_none m)) (subst (λ (l : List Entry). Opened listing key line l (begun m)) (sym (append-nil past)) opened),
       )
 
@@ -111,14 +111,14 @@ module _ (listing : ℕ → List ℕ) (key : List ℕ) (laws : WalkLaws) where
       → ((later : List Entry) (n : Machine) → IsSound listing key later n → Know to later n) → Keeps next past m event
   mine next to event is past m event_is next_is of_none may well hears sound there =
       let got = mine_step listing key laws past m is of_none (subst (May m) event_is may) (subst (IsWell listing m) event_is well) hears sound in
-      event_then (MaySend listing key) Know next to event is past m event_is next_is (got.0, there (past ++ entries m is) (happens m is) got.1)
+      event_then (MayRequest listing key) Know next to event is past m event_is next_is (got.0, there (past ++ entries m is) (happens m is) got.1)
 
   event_keeps : (here next : Phase) (past : List Entry) (m : Machine) (event : Event) → Goes here m event next → May m event → IsWell listing m event → KnowRooms here past m → Know here past m
       → Keeps next past m event
   event_keeps (Said_line line) next past m event (event_is, next_is) may well rooms known =
-      event_then (MaySend listing key) Know next (Begun line) event (Outside_does Begins_line) past m event_is next_is (begins line past m known)
+      event_then (MayRequest listing key) Know next (Begun line) event (Outside_does Begins_line) past m event_is next_is (begins line past m known)
   event_keeps (Doing line (first ∷ left)) next past m event (event_is, next_is) may well rooms known =
-      event_then (MaySend listing key) Know next (Doing line left) event first past m event_is next_is
+      event_then (MayRequest listing key) Know next (Doing line left) event first past m event_is next_is
       (left_step listing key laws past m first left (subst (May m) event_is may) (subst (IsWell listing m) event_is well) known)
   event_keeps (To_tick (suc ticks)) next past m event (event_is, next_is) may well rooms known = mine next (Ticked ticks) event _ past m event_is next_is tt may well tt known (λ p n k. k)
   event_keeps (Arriving (suc frames) ticks) next past m event (drawn, route, event_is, next_is) may well rooms known =
@@ -166,7 +166,7 @@ module _ (listing : ℕ → List ℕ) (key : List ℕ) (laws : WalkLaws) where
   turn_keeps here next past m turns known = absurd turns
 
   -- along with what is known of the pipes
-  pub sending_walk : WalkWhere WritesWell MayFit KnowRooms → WalkWhere (WritesToo listing) (MaySend listing key) (KnowBoth listing key)
+  pub sending_walk : WalkWhere WritesWell MayFit KnowRooms → WalkWhere (WritesToo listing) (MayRequest listing key) (KnowBoth listing key)
   sending_walk rooms = record {
     said = λ past m words line read known.
         let one = said_keeps past m words line read known.1 in

@@ -15,9 +15,9 @@ use Rattle.host_model.specs.declared.out.HostOut.TheVariants.{Write, Note}
 use Rattle.host_orders.specs.Wrapping.{carriage_of}
 use Rattle.zw_text.specs.declared.entry.Entry.{Entry}
 use Rattle.zw_text.specs.Transcript.{accepted, sessions}
-use Rattle.law_transcript.specs.Lists.{Has, listed}
+use Rattle.law_transcript.specs.Lists.{listed}
 use Rattle.law_transcript.specs.Commands.{classes_for, message_for, order_of}
-use Rattle.law_transcript.specs.Payloads.{form_by, nonce_get, nonce_report, no_more_information, told_by, IsAskedFor, IsDue}
+use Rattle.law_transcript.specs.Payloads.{form_by, nonce_get, nonce_report, no_more_information, IsAskedFor, IsDue, IsToldBy}
 use Rattle.law_transcript.specs.Units.{Carried, sending_in}
 use Rattle.proof_host.specs.Tables.{taken_at}
 use Rattle.proof_sending.specs.Reasons.{Reason, Asked_for, Wants_nonce, Gave_nonce, IsCarriedBy}
@@ -59,10 +59,10 @@ IsDueBy Holds listing key past carried =
 -- ---- by the transcript alone
 
 -- the transcript shows what was said
-abbrev pub IsShown : (ℕ → List ℕ) → List Entry → Reason → Type 0
-IsShown listing past (Asked_for node payload) = IsAskedFor listing past (record { node = node; payload = payload })
-IsShown listing past (Wants_nonce node) = Has (told_by node past) NonceGet
-IsShown listing past (Gave_nonce node nonce) = Has (told_by node past) (NonceReport nonce)
+abbrev pub IsShown : (ℕ → List ℕ) → List ℕ → List Entry → Reason → Type 0
+IsShown listing key past (Asked_for node payload) = IsAskedFor listing past (record { node = node; payload = payload })
+IsShown listing key past (Wants_nonce node) = IsToldBy key past node NonceGet
+IsShown listing key past (Gave_nonce node nonce) = IsToldBy key past node (NonceReport nonce)
 
 -- the order of each session of a node is the one that the transcript shows, and is carried as the classes ask that were known as it was accepted
 abbrev pub AreCarried : (ℕ → List ℕ) → List Entry → List Command → Type 0

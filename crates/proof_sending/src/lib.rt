@@ -4,12 +4,10 @@
 //! `what_is_judged_gives_reasons` has the reasons that nodes give, and `lines_ask_for_what_is_queued` those of lines;
 //! `frames_ask_for_their_purpose` says that a frame asks for what its purpose is, and nothing else. By
 //! `hosts_ask_what_is_due` the payload is due by the transcript, where that shows the reason.
-//! `lines_send_what_was_told` says so of every run of lines, where what nodes told counts as it came or opened with the
-//! network key; by `lines_send_what_is_due` that is the law itself where nothing that opens tells of a nonce. Each is the
-//! contract of a function with an empty body.
+//! `lines_send_what_is_due` says so of every run of lines. Each is the contract of a function with an empty body.
 //! The definitions are in `specs/`: `Reasons` (why a payload may be sent, by the tables of the host), `Heard` (what
-//! nodes say that is a reason), `Due` (the same as `Reasons`, by the transcript), `Told` (the law of runs), `Arriving`
-//! (what arrives of the chip's units) and `Knowing` (what is known at each phase of a line).
+//! nodes say that is a reason), `Due` (the same as `Reasons`, by the transcript), `Arriving` (what arrives of the chip's
+//! units) and `Knowing` (what is known at each phase of a line).
 #![tactic(auto)]
 
 mod asked;
@@ -17,7 +15,8 @@ mod lines;
 mod reasons;
 
 pub use asked::lines_ask_for_what_is_queued;
-pub use lines::{lines_send_what_is_due, lines_send_what_was_told};
+pub use lines::lines_send_what_is_due;
+pub use proof_line as line;
 pub use reasons::{
     frames_ask_for_their_purpose, hosts_ask_what_is_due, hosts_send_for_reasons,
     what_is_judged_gives_reasons,

@@ -3,32 +3,30 @@
 ghost use Rattle.std.specs.Prelude.{Some, ℕ, List, []};
 ghost use Rattle.device_sim.specs.State.{State};
 ghost use Rattle.device_kinds.specs.Sealing.{keys_of};
-ghost use Rattle.law_transcript.specs.Lists.{EachAfter};
 ghost use Rattle.law_transcript.specs.Nodes.{listing_of};
 ghost use Rattle.world_model.specs.State.{first_machine};
 ghost use Rattle.world_lines.specs.Spoken.{Spoken, transcript_of};
 ghost use Rattle.world_lines.specs.Done.{AreDone};
 ghost use Rattle.law_transcript.specs.Payloads.{SendsWhatIsDue};
-ghost use Rattle.proof_sending.specs.Told.{BringsOpenly, SealsNoNonce, SendsWhatWasTold};
 
 use host_requests::callback_ids;
 use proof_host::{asides_keep_facts, events_keep_facts, laws_follow};
 use proof_line::rooms_go_on;
-use proof_messages::hosts_leave_nonces;
-use proof_serial::hosts_write_well;
-use proof_spoken::{
+use proof_line::spoken::{
     interviews_give_what_is_known, interviews_tell_what_nodes_list, orders_are_carried_as_said,
     tables_keep_orders,
 };
+use proof_messages::hosts_leave_nonces;
+use proof_serial::hosts_write_well;
 use proof_world::{lines_keep_and_ask_well, restarts_go_on, the_machine_keeps_facts};
 
 /// In every run of lines over a keeper that tells its records and has none at first: each payload that the host asks its chip to send is the message of the
 /// last session of its node, as the transcript shows the order and the classes by which it is carried (plain, a segment of it, or sealed), a Nonce Get, a
 /// Nonce Report, a No More Information, or the Set or Get that a line asked for. That a node asked for the nonce that it is given, and gave the one that
-/// a message is sealed for, stands in what the chip has brought from it by then, as it came or opened with the network key.
-pub fn lines_send_what_was_told()
+/// a message is sealed for, stands in what the chip has brought from it by then, openly or sealed with the network key.
+pub fn lines_send_what_is_due()
     ensures { (key : List ℕ) (devices : List State) (lines : List Spoken) → AreDone (first_machine (keys_of key) (Some []) devices) lines →
-        SendsWhatWasTold (listing_of devices) key (transcript_of (first_machine (keys_of key) (Some []) devices) lines) }
+        SendsWhatIsDue (listing_of devices) key (transcript_of (first_machine (keys_of key) (Some []) devices) lines) }
 {
     events_keep_facts();
     asides_keep_facts();
@@ -44,17 +42,4 @@ pub fn lines_send_what_was_told()
     hosts_write_well();
     rooms_go_on();
     callback_ids();
-}
-
-/// So where no payload that the chip brings opens with the network key to what asks for a nonce or gives one, and therefore where it brings none that is
-/// sealed, each payload that the host asks to be sent is due as the law has it, which counts what nodes tell as it came.
-pub fn lines_send_what_is_due()
-    ensures unsealed { (key : List ℕ) (devices : List State) (lines : List Spoken) → AreDone (first_machine (keys_of key) (Some []) devices) lines →
-        EachAfter (SealsNoNonce key) [] (transcript_of (first_machine (keys_of key) (Some []) devices) lines) →
-        SendsWhatIsDue (listing_of devices) key (transcript_of (first_machine (keys_of key) (Some []) devices) lines) }
-    ensures openly { (key : List ℕ) (devices : List State) (lines : List Spoken) → AreDone (first_machine (keys_of key) (Some []) devices) lines →
-        EachAfter BringsOpenly [] (transcript_of (first_machine (keys_of key) (Some []) devices) lines) →
-        SendsWhatIsDue (listing_of devices) key (transcript_of (first_machine (keys_of key) (Some []) devices) lines) }
-{
-    lines_send_what_was_told();
 }

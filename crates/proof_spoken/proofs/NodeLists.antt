@@ -8,8 +8,8 @@ use Rattle.outside_model.specs.Results.{device_at}
 use Rattle.law_transcript.specs.Nodes.{device_of, listed_by, listing_of}
 use Rattle.world_model.specs.State.{Machine}
 use Rattle.world_model.specs.Events.{Event, happens}
-use Rattle.proof_device.specs.GoingOn.{GoOn, AreSame}
-use Rattle.proof_device.proofs.DevicePlaces.{go_then}
+use Rattle.proof_world.specs.GoingOn.{GoOn, AreSame}
+use Rattle.proof_world.proofs.DevicePlaces.{go_then}
 use Rattle.proof_spoken.proofs.ListsAtChip.{Lists}
 use Rattle.proof_spoken.proofs.HeardLists.{ListsOn}
 

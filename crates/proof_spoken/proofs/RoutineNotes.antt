@@ -13,7 +13,7 @@ use Rattle.host_model.specs.Events.{HostEvent, Accepts, Cancels, Interviews, Fin
 use Rattle.host_model.specs.declared.out.HostOut.{HostOut}
 use Rattle.host_model.specs.declared.out.HostOut.TheVariants.{Write, Note}
 use Rattle.proof_host.specs.Entries.{entries_at, notes_of}
-use Rattle.proof_device.proofs.HostOuts.{OutsAre, OwnIs, SharedAre, outs_are, session_are}
+use Rattle.proof_world.proofs.HostOuts.{OutsAre, OwnIs, SharedAre, outs_are, session_are}
 
 -- ---- the entries of an event
 

@@ -17,8 +17,8 @@ ghost use Rattle.world_lines.specs.Done.{AreDone};
 ghost use Rattle.proof_spoken.specs.Interviews.{HearLists};
 
 use crate::interviews_give_what_is_known;
-use proof_device::{devices_go_on, devices_stay_the_same};
 use proof_serial::{hosts_write_well, units_are_judged_whole};
+use proof_world::device::{devices_go_on, devices_stay_the_same};
 use proof_world::{
     lines_ask_well, lines_keep_and_ask_well, restarts_go_on, runs_keep_and_ask_well,
     the_machine_keeps_facts,

@@ -1,5 +1,4 @@
--- A unit that the host writes: what arrives of it by the transcript asks to be sent all that the item asks which is then on its way to the chip; and what units that
--- came whole ask is picked of what all ask.
+-- A unit that the host writes: what arrives of it by the transcript asks to be sent all that the item asks which is then on its way to the chip.
 use Rattle.std.proofs.Common.{◌≡◌, ◌≤◌, ℕ, ◌&&◌, Bool, true, false, if◌then◌else◌, List, [], ◌∷◌, ◌++◌, length, nat_lt, nat_le, ◌+◌, ◌-◌, refl, sym, ap, subst, ◌∙◌, append_assoc, append-nil, length-append, arith}
 use Rattle.std.specs.Prelude.{bytes_eq}
 use Rattle.std.proofs.lemmas.Bool.{and_from, and_parts, cond-true, le-leb}
@@ -30,9 +29,8 @@ use Rattle.zw_text.specs.Transcript.{Unit_on, Way, folded, last_with, unit_step,
 use Rattle.zw_text.specs.Transcript.Way.{Whole, Missed, Changed}
 use Rattle.zw_text.proofs.Views.{folded-append}
 use Rattle.law_transcript.specs.Lists.{EachAfter}
-use Rattle.law_transcript.specs.Units.{Carried, arrived_of, function_in, read_well, sending_in, sending_of, sendings}
-use Rattle.law_transcript.specs.Carrying.{ArePicked, MaySend, sent_out}
-use Rattle.audit_rules.specs.PayloadRule.{asked, asked_by, asked_in, body_of, frame_text, is_request}
+use Rattle.law_transcript.specs.Units.{Carried, arrived_of, function_in, read_well, sending_in, sending_of}
+use Rattle.law_transcript.specs.Carrying.{ArePicked, MaySend, asked, asked_by, asked_in, body_of, frame_text, is_request, sent_out}
 use Rattle.proof_device.proofs.Entered.{IsMark, told_by_marks}
 use Rattle.proof_host.proofs.Lists.{each-anywhere}
 use Rattle.outside_model.specs.State.{OuterState}
@@ -40,8 +38,8 @@ use Rattle.proof_serial.specs.Way.{changed_item, items_of, unit_item}
 use Rattle.proof_serial.proofs.ChangedUnits.{changed_text, garbled_long}
 use Rattle.proof_serial.proofs.Ways.{carries_more}
 use Rattle.proof_air.proofs.Brought.{body_is}
-use Rattle.proof_transcript.specs.Carrying.{MaySendWhole, Underway, sends_in, sends_of}
-use Rattle.proof_transcript.proofs.Picked.{IsNoFrame, asked-append, picked_both, picked_of, picked_same, same_sent}
+use Rattle.proof_transcript.specs.Carrying.{Underway, sends_in, sends_of}
+use Rattle.proof_transcript.proofs.Picked.{IsNoFrame, asked-append, picked_both, picked_same, same_sent}
 
 -- ---- the last unit
 
@@ -74,15 +72,6 @@ whole_asks unit whole =
   where
     equal_if : (a b c : Bool) → (a && (b && c)) ≡ true → c ≡ true
     equal_if a b c all = (and_parts b c ((and_parts a (b && c) all).1)).1
-
--- bytes that are no whole request ask nothing
-whole_picked : (unit : List ℕ) → ArePicked (asked_by unit) (sending_in unit)
-whole_picked unit = by (is_request unit) refl
-  where
-    by : (whole : Bool) → is_request unit ≡ whole → ArePicked (asked_by unit) (sending_in unit)
-    by true is = subst (λ (l : List Carried). ArePicked (asked_by unit) l) (whole_asks unit is) (picked_same (asked_by unit))
-    by false is =
-        subst (λ (whole : Bool). ArePicked (if whole then flat_map sending_of (read_well (request_of (function_in unit) (body_of unit))) else []) (sending_in unit)) (sym is) tt
 
 -- the text of a request is whole
 request_long : (func : ℕ) (body : List ℕ) → length (requested func body) ≡ length body + 5
@@ -170,7 +159,7 @@ unit_asks us w unit is = by (nat_lt 0 w.marks.drops)
 
 -- ---- what is on its way to the chip
 
-mark_free : (past : List Entry) (e : Entry) → IsMark e → MaySendWhole past e
+mark_free : (past : List Entry) (e : Entry) → IsMark e → MaySend past e
 mark_free past (entry.Air frame sender receiver repeaters payload) mark = absurd mark
 mark_free past e mark = tt
 
@@ -180,7 +169,7 @@ mark_no_frame e mark = tt
 
 -- with the unit more is on its way
 pub unit_goes : (o : OuterState) (unit : LineUnit) → IsUnit unit → (past : List Entry) → Underway past o
-    → EachAfter MaySendWhole past (told by_host o.to_chip unit) × Underway (past ++ told by_host o.to_chip unit) (record o { to_chip = way.after o.to_chip (Writes unit) })
+    → EachAfter MaySend past (told by_host o.to_chip unit) × Underway (past ++ told by_host o.to_chip unit) (record o { to_chip = way.after o.to_chip (Writes unit) })
 unit_goes o unit is past under =
     let entered : List Entry = told by_host o.to_chip unit in
     let marks : List Entry = told_by by_host o.to_chip.bytes (mark_for o.to_chip.marks unit) (unit_text unit) in
@@ -194,7 +183,7 @@ unit_goes o unit is past under =
     let joined : (sent_out past ++ sends_of under.up) ++ sends_of items ≡ sent_out (past ++ entered) ++ sends_of (under.up ++ items)
     = append_assoc (sent_out past) (sends_of under.up) (sends_of items)
     ∙ (ap (λ (l : List Carried). sent_out past ++ l) (sym (flat_map-append sends_in under.up items)) ∙ ap (λ (l : List Carried). l ++ sends_of (under.up ++ items)) (sym sent)) in (
-      (tt, each-anywhere MaySendWhole IsMark mark_free (past ++ entry.Written by_host (unit_text unit) ∷ []) marks are_marks),
+      (tt, each-anywhere MaySend IsMark mark_free (past ++ entry.Written by_host (unit_text unit) ∷ []) marks are_marks),
       record {
         up = under.up ++ items;
         carries = carries_more o.chip.decoder o.to_chip unit under.up under.carries is;
@@ -202,23 +191,3 @@ unit_goes o unit is past under =
             (subst (λ (l : List Carried). ArePicked l (asked past ++ more.0)) joined picked);
       },
     )
-
--- ---- all units
-
--- what units that came whole ask is picked of what all ask
-asked_picked : (us : List Unit_on) → ArePicked (asked_in us) (flat_map sending_in (flat_map (λ (u : Unit_on). arrived_of u.bytes u.way) us))
-asked_picked [] = tt
-asked_picked (u ∷ us) =
-    subst (λ (l : List Carried). ArePicked (asked_in (u ∷ us)) l) (sym (flat_map-append sending_in (arrived_of u.bytes u.way) (flat_map (λ (v : Unit_on). arrived_of v.bytes v.way) us)))
-    (picked_both (flat_map asked_by (arrived_of u.bytes u.way)) (asked_in us) (flat_map sending_in (arrived_of u.bytes u.way))
-    (flat_map sending_in (flat_map (λ (v : Unit_on). arrived_of v.bytes v.way) us)) (one (arrived_of u.bytes u.way)) (asked_picked us))
-  where
-    one : (texts : List (List ℕ)) → ArePicked (flat_map asked_by texts) (flat_map sending_in texts)
-    one [] = tt
-    one (text ∷ texts) = picked_both (asked_by text) (flat_map asked_by texts) (sending_in text) (flat_map sending_in texts) (whole_picked text) (one texts)
-
--- so what is asked by whole units is asked
-pub asked_so : (past : List Entry) (e : Entry) → MaySendWhole past e → MaySend past e
-asked_so past (entry.Air frame sender receiver repeaters payload) picked =
-    picked_of (sent_out (past ++ entry.Air frame sender receiver repeaters payload ∷ [])) (asked past) (sendings past) picked (asked_picked (units by_host past))
-asked_so past e picked = tt

@@ -21,8 +21,7 @@ use Rattle.zw_text.specs.declared.entry.Entry.TheVariants as entry
 use Rattle.law_transcript.specs.Lists.{EachAfter}
 use Rattle.law_transcript.specs.Nodes.{controller}
 use Rattle.law_transcript.specs.Units.{Carried}
-use Rattle.law_transcript.specs.Carrying.{ArePicked, sent_out}
-use Rattle.audit_rules.specs.PayloadRule.{asked}
+use Rattle.law_transcript.specs.Carrying.{ArePicked, MaySend, asked, sent_out}
 use Rattle.proof_host.proofs.Lists.{each-append}
 use Rattle.host_model.specs.State.{HostState}
 use Rattle.host_model.specs.Events.{HostEvent}
@@ -49,7 +48,7 @@ use Rattle.proof_world.proofs.Aside.{stamp_are}
 use Rattle.proof_air.specs.Hearing.{KnowAir, MayHear}
 use Rattle.proof_air.proofs.Handling.{tie_here}
 use Rattle.proof_air.proofs.Judging.{StartsSo}
-use Rattle.proof_transcript.specs.Carrying.{IsWell, KnowUnderway, LineUnderway, MaySendWhole, Underway, sends_in, sends_of}
+use Rattle.proof_transcript.specs.Carrying.{IsWell, KnowUnderway, LineUnderway, Underway, sends_in, sends_of}
 use Rattle.proof_transcript.proofs.Picked.{AreQuiet, IsNoFrame, IsNoUnit, IsQuiet, none_sent, picked_both, picked_same, quiet_no_frame, quiet_no_unit, told_goes}
 use Rattle.proof_transcript.proofs.AskedUnits.{unit_goes}
 use Rattle.proof_transcript.proofs.SentFrames.{TakesNone, outcome_quiet, takes_no_units, takes_sent}
@@ -58,7 +57,7 @@ use Rattle.proof_transcript.proofs.SentFrames.{TakesNone, outcome_quiet, takes_n
 
 -- what was on its way still is, or less
 quiet_told : (past told : List Entry) (old new : List Item) → AreQuiet told → ArePicked (sends_of new) (sends_of old) → ArePicked (sent_out past ++ sends_of old) (asked past)
-    → EachAfter MaySendWhole past told × ArePicked (sent_out (past ++ told) ++ sends_of new) (asked (past ++ told))
+    → EachAfter MaySend past told × ArePicked (sent_out (past ++ told) ++ sends_of new) (asked (past ++ told))
 quiet_told past told old new quiet less picked =
     told_goes past told (sends_of old) (sends_of new) (all-weaker IsQuiet IsNoUnit quiet_no_unit told quiet)
     (subst (λ (l : List Carried). ArePicked (l ++ sends_of new) (sends_of old)) (sym (none_sent told (all-weaker IsQuiet IsNoFrame quiet_no_frame told quiet))) less) picked
@@ -81,7 +80,7 @@ number_quiet o = by (o.in_tick && not o.stamped)
 -- ---- what the host does outside of itself
 
 abbrev Keeps : Outside → List Entry → Outside → Type 0
-Keeps w told later = (past : List Entry) → Underway past w.outer → EachAfter MaySendWhole past told × Underway (past ++ told) later.outer
+Keeps w told later = (past : List Entry) → Underway past w.outer → EachAfter MaySend past told × Underway (past ++ told) later.outer
 
 quiet_keeps : (w later : Outside) (told : List Entry) → AreQuiet told → later.outer.chip.decoder ≡ w.outer.chip.decoder → later.outer.to_chip ≡ w.outer.to_chip → Keeps w told later
 quiet_keeps w later told quiet decoder to_chip past under =
@@ -102,7 +101,7 @@ keeps_both : (w u v : Outside) (xs ys : List Entry) → Keeps w xs u → Keeps u
 keeps_both w u v xs ys first later past under =
     let one = first past under in
     let two = later (past ++ xs) one.1 in
-    (each-append MaySendWhole past xs ys one.0 two.0, subst (λ (l : List Entry). Underway l v.outer) (append_assoc past xs ys) two.1)
+    (each-append MaySend past xs ys one.0 two.0, subst (λ (l : List Entry). Underway l v.outer) (append_assoc past xs ys) two.1)
 
 note_keeps : (w : Outside) (note : Entry) → IsNote note → Keeps w (entries_outside w (Host_notes note)) (happens_outside w (Host_notes note))
 unfolding outcome
@@ -195,7 +194,7 @@ module _ (rules : StartsSo) where
   -- items are judged, and no longer on their way
   takes_told : (w : Outside) (count : ℕ) (rest : Rest) (ways : List (Item × Option Route)) (past : List Entry) (old new : List Item) → old ≡ map (λ (one : Item × Option Route). one.0) ways ++ new
       → ArePicked (sent_out past ++ sends_of old) (asked past)
-      → EachAfter MaySendWhole past (entries_outside w (Chip_takes count rest ways))
+      → EachAfter MaySend past (entries_outside w (Chip_takes count rest ways))
       × ArePicked (sent_out (past ++ entries_outside w (Chip_takes count rest ways)) ++ sends_of new) (asked (past ++ entries_outside w (Chip_takes count rest ways)))
   unfolding outcome
   takes_told w count rest ways past old new is picked =
@@ -212,14 +211,14 @@ module _ (rules : StartsSo) where
 
   other_told : (w : Outside) (event : OuterEvent) → is_own event ≡ true → TakesNone event → is_joined w.outer.air controller ≡ false → (past : List Entry) (old new : List Item)
       → Becomes (outer_up event) w.outer.to_chip old new → ArePicked (sent_out past ++ sends_of old) (asked past)
-      → EachAfter MaySendWhole past (entries_outside w event) × ArePicked (sent_out (past ++ entries_outside w event) ++ sends_of new) (asked (past ++ entries_outside w event))
+      → EachAfter MaySend past (entries_outside w event) × ArePicked (sent_out (past ++ entries_outside w event) ++ sends_of new) (asked (past ++ entries_outside w event))
   other_told w event own none home past old new is picked =
       quiet_told past (entries_outside w event) old new
       (stamp_are IsQuiet (λ tick. tt) (outcome w event).outer (outcome w event).entries (outcome_quiet rules w home event own none)) (outer_less event none w.outer.to_chip old new is) picked
 
   outside_told : (w : Outside) (event : OuterEvent) → is_own event ≡ true → is_joined w.outer.air controller ≡ false → (past : List Entry) (old new : List Item)
       → Becomes (outer_up event) w.outer.to_chip old new → ArePicked (sent_out past ++ sends_of old) (asked past)
-      → EachAfter MaySendWhole past (entries_outside w event) × ArePicked (sent_out (past ++ entries_outside w event) ++ sends_of new) (asked (past ++ entries_outside w event))
+      → EachAfter MaySend past (entries_outside w event) × ArePicked (sent_out (past ++ entries_outside w event) ++ sends_of new) (asked (past ++ entries_outside w event))
   outside_told w (Chip_takes count rest ways) own home past old new is picked = takes_told w count rest ways past old new is picked
   outside_told w event own home past old new is picked = other_told w event own tt home past old new is picked
 
@@ -243,12 +242,12 @@ module _ (rules : StartsSo) (keeps : KeepsLine) where
     ends : Underway (past ++ entries m event) (happens m event).outside.outer → LineUnderway (past ++ entries m event) (happens m event)
     ends under = record { ahead = under; down = after.down_after; to_host = after.carried.to_host; frames = after.frames }
 
-    by_line : EachAfter MaySendWhole past (entries m event) × ArePicked (sent_out (past ++ entries m event) ++ sends_of after.up_after) (asked (past ++ entries m event))
-        → EachAfter MaySendWhole past (entries m event) × Underway (past ++ entries m event) (happens m event).outside.outer
+    by_line : EachAfter MaySend past (entries m event) × ArePicked (sent_out (past ++ entries m event) ++ sends_of after.up_after) (asked (past ++ entries m event))
+        → EachAfter MaySend past (entries m event) × Underway (past ++ entries m event) (happens m event).outside.outer
     by_line got = (got.0, record { up = after.up_after; carries = after.carried.to_chip; picked = got.1 })
 
   event_goes : (past : List Entry) (m : Machine) (event : Event) → May m event → IsWell m event → is_joined m.outside.outer.air controller ≡ false → LineUnderway past m
-      → EachAfter MaySendWhole past (entries m event) × Underway (past ++ entries m event) (happens m event).outside.outer
+      → EachAfter MaySend past (entries m event) × Underway (past ++ entries m event) (happens m event).outside.outer
   unfolding happens entries May
   event_goes past m (Outside_does event) may well home known =
       let l = after past m (Outside_does event) may well known in
@@ -271,7 +270,7 @@ module _ (rules : StartsSo) (keeps : KeepsLine) where
         frames = known.frames;
       }
 
-  pub carrying_walk : Walk MayHear KnowAir → WalkWhere IsWell MaySendWhole KnowBoth
+  pub carrying_walk : Walk MayHear KnowAir → WalkWhere IsWell MaySend KnowBoth
   carrying_walk air = record {
     said = λ past m words order read known. (tt, ((air.said past m words order read known.0).1, said past m words known.1));
     event = λ here next past m event goes may well known.

@@ -54,3 +54,5 @@ mod Picked
 mod AskedUnits
 mod SentFrames
 mod CarryingWalk
+pub use Rattle.proof_spoken.proofs.RoutineNotes
+pub use Rattle.proof_spoken.proofs.SpokenLines

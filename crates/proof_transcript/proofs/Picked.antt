@@ -12,9 +12,7 @@ use Rattle.zw_text.proofs.Views.{folded-append, shown-append}
 use Rattle.law_transcript.specs.Lists.{EachAfter}
 use Rattle.law_transcript.specs.Nodes.{controller}
 use Rattle.law_transcript.specs.Units.{Carried, arrived_of}
-use Rattle.law_transcript.specs.Carrying.{ArePicked, outward, sent_out}
-use Rattle.audit_rules.specs.PayloadRule.{asked, asked_by, asked_in}
-use Rattle.proof_transcript.specs.Carrying.{MaySendWhole}
+use Rattle.law_transcript.specs.Carrying.{ArePicked, MaySend, asked, asked_by, asked_in, outward, sent_out}
 
 -- ---- items of a list, in order
 
@@ -39,7 +37,7 @@ picked_prefix (x ∷ xs) more [] are = absurd are
 picked_prefix (x ∷ xs) more (y ∷ ys) (inl here) = inl (here.0, picked_prefix xs more ys here.1)
 picked_prefix (x ∷ xs) more (y ∷ ys) (inr there) = inr (picked_prefix (x ∷ xs) more ys there)
 
-pub picked_of : {A : Type 0} (xs ys zs : List A) → ArePicked xs ys → ArePicked ys zs → ArePicked xs zs
+picked_of : {A : Type 0} (xs ys zs : List A) → ArePicked xs ys → ArePicked ys zs → ArePicked xs zs
 picked_of [] ys zs one two = tt
 picked_of (x ∷ xs) [] zs one two = absurd one
 picked_of (x ∷ xs) (y ∷ ys) [] one two = absurd two
@@ -125,11 +123,11 @@ same_asked past told none =
 
 -- ---- what may stand
 
-may_send : (past : List Entry) (e : Entry) → ArePicked (sent_out (past ++ e ∷ [])) (asked past) → MaySendWhole past e
+may_send : (past : List Entry) (e : Entry) → ArePicked (sent_out (past ++ e ∷ [])) (asked past) → MaySend past e
 may_send past (entry.Air frame sender receiver repeaters payload) picked = picked
 may_send past e picked = tt
 
-each_may : (past told : List Entry) (after : List Carried) → AllByRecursion IsNoUnit told → ArePicked (sent_out past ++ (sent_out told ++ after)) (asked past) → EachAfter MaySendWhole past told
+each_may : (past told : List Entry) (after : List Carried) → AllByRecursion IsNoUnit told → ArePicked (sent_out past ++ (sent_out told ++ after)) (asked past) → EachAfter MaySend past told
 each_may past [] after none picked = tt
 each_may past (e ∷ told) after none picked =
     let rest : List Carried = sent_out told ++ after in
@@ -145,7 +143,7 @@ each_may past (e ∷ told) after none picked =
 
 -- Entries without units of the host: what they send is picked of what was on its way before, and what is left of that follows it.
 pub told_goes : (past told : List Entry) (before after : List Carried) → AllByRecursion IsNoUnit told → ArePicked (sent_out told ++ after) before → ArePicked (sent_out past ++ before) (asked past)
-    → EachAfter MaySendWhole past told × ArePicked (sent_out (past ++ told) ++ after) (asked (past ++ told))
+    → EachAfter MaySend past told × ArePicked (sent_out (past ++ told) ++ after) (asked (past ++ told))
 told_goes past told before after none fits picked =
     let all : ArePicked (sent_out past ++ (sent_out told ++ after)) (asked past)
     = picked_of (sent_out past ++ (sent_out told ++ after)) (sent_out past ++ before) (asked past)

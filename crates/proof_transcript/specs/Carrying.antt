@@ -1,16 +1,13 @@
 -- What is known, at each phase of a line, of what the host asks to be sent: what went on the air, and then what is still on its way to the chip, was asked for in that
 -- order, by units that came whole (this project's own rule).
-use Rattle.std.specs.Prelude.{List, [], ◌∷◌, ◌++◌, ⊤}
+use Rattle.std.specs.Prelude.{List, [], ◌++◌}
 use Rattle.std.specs.List.{flat_map}
 use Rattle.serial_frame.specs.Items.{unit_text}
 use Rattle.serial_frame.specs.declared.item.Item.{Item}
 use Rattle.serial_frame.specs.declared.item.Item.TheVariants.{Good, Refused}
 use Rattle.zw_text.specs.declared.entry.Entry.{Entry}
-use Rattle.zw_text.specs.declared.entry.Entry.TheVariants.{Air}
-use Rattle.law_transcript.specs.Lists.{EachAfter}
 use Rattle.law_transcript.specs.Units.{Carried, sending_in}
-use Rattle.law_transcript.specs.Carrying.{ArePicked, sent_out}
-use Rattle.audit_rules.specs.PayloadRule.{asked}
+use Rattle.law_transcript.specs.Carrying.{ArePicked, asked, sent_out}
 use Rattle.outside_model.specs.State.{OuterState}
 use Rattle.world_model.specs.State.{Machine}
 use Rattle.world_model.specs.Events.{Event}
@@ -18,15 +15,6 @@ use Rattle.proof_serial.specs.Way.{Carries}
 use Rattle.proof_serial.specs.Chip.{HasFrames}
 use Rattle.proof_serial.specs.Line.{IsAtRest, WritesWell}
 use Rattle.proof_walk.specs.Phases.{Phase}
-
--- a frame of the controller carries what a unit that came before asked to be sent, where that is the whole text of a request frame, one each and in order
-abbrev pub MaySendWhole : List Entry → Entry → Type 0
-MaySendWhole past (Air frame sender receiver repeaters payload) =
-    ArePicked (sent_out (past ++ Air frame sender receiver repeaters payload ∷ [])) (asked past)
-MaySendWhole past _ = ⊤
-
-abbrev pub CarriesWhole : List Entry → Type 0
-CarriesWhole transcript = EachAfter MaySendWhole [] transcript
 
 -- what an item that the chip judges asks to be sent
 abbrev pub sends_in : Item → List Carried

@@ -5,3 +5,5 @@ pub mod Records
 pub mod Answering
 pub mod Showing
 pub mod Carrying
+pub use Rattle.proof_spoken.specs.Said
+pub use Rattle.proof_spoken.specs.Spoken

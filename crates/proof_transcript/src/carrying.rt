@@ -7,7 +7,6 @@ ghost use Rattle.law_transcript.specs.Carrying.{CarriesUnits};
 ghost use Rattle.world_model.specs.State.{first_machine};
 ghost use Rattle.world_lines.specs.Spoken.{Spoken, transcript_of};
 ghost use Rattle.world_lines.specs.Done.{AreDone};
-ghost use Rattle.proof_transcript.specs.Carrying.{CarriesWhole};
 
 use chip_sim::rules_of_events;
 use proof_air::history_goes_on;
@@ -17,21 +16,13 @@ use proof_world::lines_keep_and_ask_well;
 /// Over lines that are said one after another, the last of which an allocation failure may have cut short, over a keeper that tells its records and has none at
 /// first: each frame of the controller on the air carries what a SendData asks to be sent that came to the chip before, whole and with its right checksum, one
 /// each and in order.
-pub fn lines_carry_whole_units()
+pub fn lines_carry_units()
     ensures { (keys : Keys) (devices : List State) (lines : List Spoken) → AreDone (first_machine keys (Some []) devices) lines →
-        CarriesWhole (transcript_of (first_machine keys (Some []) devices) lines) }
+        CarriesUnits (transcript_of (first_machine keys (Some []) devices) lines) }
 {
     rules_of_events();
     history_goes_on();
     units_are_judged_whole();
     hosts_write_well();
     lines_keep_and_ask_well();
-}
-
-/// So it carries what a SendData asks to be sent that came to the chip before.
-pub fn lines_carry_units()
-    ensures { (keys : Keys) (devices : List State) (lines : List Spoken) → AreDone (first_machine keys (Some []) devices) lines →
-        CarriesUnits (transcript_of (first_machine keys (Some []) devices) lines) }
-{
-    lines_carry_whole_units();
 }

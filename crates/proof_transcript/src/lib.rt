@@ -5,8 +5,8 @@
 //! and the events of the machine that each line is; the laws themselves are those of `law_transcript`. Of answers:
 //! `lines_are_answered` (`specs/Answering`); and what lines show, `lines_show_what_is_kept` (`specs/Showing`). Of frames:
 //! `lines_number_frames`, `ticks_decide_each_frame`, `all_frames_land_in_the_end`, `lines_lose_marked_frames`,
-//! `lines_carry_whole_units` (`specs/Carrying`) and what follows from it, `lines_carry_units`. Of commands:
-//! `commands_are_taken_back_when_asked`, `values_are_stored_as_asked`, `sessions_begin_with_their_unit`. Of the table:
+//! `lines_carry_units` (`specs/Carrying`). Of commands: `commands_are_taken_back_when_asked`,
+//! `values_are_stored_as_asked`, `sessions_begin_with_their_unit`. Of the table:
 //! `what_is_told` covers the clock, the joined nodes and the heard values (`specs/Told`), line by line, and
 //! `tables_are_what_is_shown` the whole table if all lines were run whole (`AreWhole` of `proof_spoken`). Of the
 //! records at exit: `records_are_what_is_shown`, over `specs/Records`, where all lines were run whole too.
@@ -21,7 +21,7 @@ mod shows;
 mod table;
 
 pub use answers::lines_are_answered;
-pub use carrying::{lines_carry_units, lines_carry_whole_units};
+pub use carrying::lines_carry_units;
 pub use commands::{
     commands_are_taken_back_when_asked, sessions_begin_with_their_unit, values_are_stored_as_asked,
 };
@@ -29,6 +29,7 @@ pub use frames::{
     all_frames_land_in_the_end, lines_lose_marked_frames, lines_number_frames,
     ticks_decide_each_frame,
 };
+pub use proof_spoken as spoken;
 pub use records::records_are_what_is_shown;
 pub use shows::lines_show_what_is_kept;
 pub use table::{tables_are_what_is_shown, what_is_told};

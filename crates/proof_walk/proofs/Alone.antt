@@ -1,14 +1,11 @@
--- What a law asks of each kind of entry by itself holds of the entries of each event that is no line's own.
-use Rattle.std.proofs.Common.{◌≡◌, ℕ, ◌+◌, ◌&&◌, not, Bool, true, false, if◌then◌else◌, inl, inr, ◌⊎◌, List, [], ◌∷◌, ◌++◌, length, sym, subst}
-use Rattle.std.specs.Prelude.{Option}
+-- What a law asks of each kind of entry by itself holds of the entries of each event: one walk over what chip, devices and host enter.
+use Rattle.std.proofs.Common.{◌≡◌, ℕ, List, [], ◌∷◌, ◌++◌, refl, sym, subst}
+use Rattle.std.specs.Prelude.{Option, None}
 use Rattle.std.specs.List.{AllByRecursion}
 use Rattle.zw_base.proofs.Each.{all-append, all-weaker}
-use Rattle.serial_frame.specs.declared.unit.Unit.{Unit as LineUnit}
-use Rattle.serial_frame.specs.Items.{unit_text}
-use Rattle.serial_pipes.specs.State.{WayState, mark_for}
 use Rattle.serial_pipes.specs.Events.{told}
 use Rattle.zw_words.specs.declared.side.Side.{Side}
-use Rattle.zw_words.specs.declared.side.Side.TheVariants.{Host as by_host, Chip as by_chip}
+use Rattle.zw_words.specs.declared.side.Side.TheVariants.{Host as by_host}
 use Rattle.route_table.specs.declared.route.Route.{Route}
 use Rattle.device_sim.specs.State.{State}
 use Rattle.device_sim.specs.Event.{DeviceEvent}
@@ -17,26 +14,24 @@ use Rattle.zw_text.specs.declared.entry.Entry.{Entry}
 use Rattle.zw_text.specs.declared.entry.Entry.TheVariants as entry
 use Rattle.zw_text.specs.declared.entry.Ended.TheVariants.{Cancelled}
 use Rattle.zw_text.specs.declared.entry.Refusal.{Refusal}
+use Rattle.zw_text.specs.Transcript.{line_of}
 use Rattle.law_transcript.specs.Lists.{EachAfter}
-use Rattle.chip_sim.specs.Events.{ChipEvent, after, outs}
-use Rattle.chip_sim.specs.declared.out.ChipOut.{ChipOut}
-use Rattle.chip_sim.specs.declared.out.ChipOut.TheVariants.{Write, OnAir, NoRoute, AskInfo, Full}
-use Rattle.proof_host.proofs.Lists.{each-anywhere}
 use Rattle.host_model.specs.State.{HostState}
-use Rattle.host_model.specs.Events.{HostEvent, Accepts, Cancels, Joins as joins_host, Queues, Queues_interview, Queues_probe}
+use Rattle.host_model.specs.Events.{HostEvent, Accepts, Cancels}
 use Rattle.host_model.specs.Outs.{answers}
-use Rattle.outside_model.specs.State.{OuterState, Outside, outside, each, with_chip}
-use Rattle.outside_model.specs.Chip.{put_out, chip_does}
+use Rattle.outside_model.specs.State.{OuterState, Outside}
 use Rattle.outside_model.specs.Devices.{acts}
-use Rattle.outside_model.specs.Events.{OuterEvent, Begins_tick, Host_writes, Host_takes as host_takes, Host_notes, Chip_takes, Arrives, Gives, Device_ticks, Chip_ticks, Repeats, Wakes_device, Sets_device, Shows, Joins, Discovers, Links, Loses, Loses_acks, Marks_loss, Marks_change, Clears_pipe, Collides_next, Stalls, Cuts, way_of, outcome, mesh_of, steps, stamp, ticked_entry}
+use Rattle.outside_model.specs.Events.{OuterEvent, Host_writes, Host_takes as host_takes, Host_notes, Host_begins, Arrives, Repeats, Wakes_device, Sets_device, Shows, Clears_pipe, outcome, mesh_of, steps, stamp, happens as happens_outside, entries as entries_outside, Device_ticks}
 use Rattle.world_model.specs.State.{Machine}
-use Rattle.world_model.specs.Events.{Event, Outside_does, Host_does, Host_takes, Decoder_ticks, Refuses, Shows_values, Restarts, entries, May}
-use Rattle.proof_device.proofs.Entered.{IsMark, IsCleared, told_by_marks, all_cleared}
-use Rattle.proof_walk.specs.Outside.{Knowing, Moves, Link, IsSimple, IsHearing, IsOfAir, IsHostNote, CoversHost, CoversOuter, CoversRefusal, CoversAnswer}
-use Rattle.proof_walk.specs.ByLine.{IsOfTick, IsCommon, IsAsked, OfEffect, ShowsNothing}
-use Rattle.proof_walk.proofs.Linking.{of_link, acts_of_air}
-use Rattle.proof_walk.proofs.Stamping.{steps_come}
-use Rattle.proof_walk.proofs.Machines.{event_keeps}
+use Rattle.world_model.specs.Events.{Event, Outside_does, Host_does, Refuses, Shows_values, happens, entries, May}
+use Rattle.world_model.specs.Did.{MayAll, entries_all}
+use Rattle.proof_device.proofs.Entered.{IsMark, IsCleared}
+use Rattle.proof_device.proofs.Entering.{Enters, IsOfChip, IsShowing, MayAnswer, NotesNone, outcome_enters, own_notes_none, stamp_are, steps_enter, told_of_chip, Acts}
+use Rattle.proof_walk.specs.Outside.{HasNoWords, IsHearing, IsOfAir, IsNote, IsHostNote, CoversOuter, CoversRefusal, CoversAnswer, IsSimple}
+use Rattle.proof_walk.specs.ByLine.{IsOfTick, IsCommon, OfEffect, ShowsNothing}
+use Rattle.proof_walk.proofs.HostNotes.{is_note}
+use Rattle.proof_walk.proofs.Linking.{acts_of_air}
+use Rattle.proof_walk.proofs.Machines.{machine_goes_on}
 
 -- each kind of entry that such an event may have
 pub record KindsAre (Is : Entry → Type 0) : Type 0 where
@@ -62,190 +57,217 @@ pub each_alone : (Is : Entry → Type 0) (past told : List Entry) → EachAfter 
 each_alone Is past [] each = tt
 each_alone Is past (one ∷ told) each = (each.0, each_alone Is (past ++ one ∷ []) told each.1)
 
-all_alone : (Is : Entry → Type 0) (past told : List Entry) → AllByRecursion Is told → EachAfter (Alone Is) past told
-all_alone Is past told all = each-anywhere (Alone Is) Is (λ before one is. is) past told all
+-- ---- any law on entries by themselves
 
--- a tick does none of the simple events
-no_simple : (event : OuterEvent) → IsSimple event → IsOfTick event → ⊥
-no_simple Begins_tick simple tick = simple
-no_simple (Chip_takes count rest ways) simple tick = simple
-no_simple (Arrives drawn route) simple tick = simple
-no_simple (Gives route) simple tick = simple
-no_simple (Device_ticks place drawn route) simple tick = simple
-no_simple Chip_ticks simple tick = simple
-no_simple event simple tick = tick
+-- what an event may enter is so: outside by itself, and what answers a line
+abbrev pub EntersAs : (Entry → Type 0) → Event → Type 0
+EntersAs Is (Outside_does event) = (told : Entry) → Enters event told → Is told
+EntersAs Is (Host_does event) = (h : HostState) → AllByRecursion Is (answers h event)
+EntersAs Is (Refuses line refusal) = Is (entry.Refused refusal)
+EntersAs Is (Shows_values node) = (text : List ℕ) → Is (entry.Json text)
+EntersAs Is event = Unit {0}
+
+module _ (Is : Entry → Type 0) (of_chip : (told : Entry) → IsOfChip told → Is told) (time : (tick : ℕ) → Is (entry.Time tick)) (note : (told : Entry) → IsHostNote told → Is told) where
+  abbrev Keeps : Outside → List Entry → Outside → Type 0
+  Keeps w told later = AllByRecursion Is told
+
+  abbrev Allows : OuterEvent → Type 0
+  Allows (Host_writes unit) = Unit {0}
+  Allows (host_takes count) = Unit {0}
+  Allows (Host_notes told) = Is told
+  Allows (Host_begins node sessions) = Unit {0}
+  Allows event = (told : Entry) → Enters event told → Is told
+
+  any_outer : (w : Outside) (event : OuterEvent) → NotesNone event → ((told : Entry) → Enters event told → Is told) → Keeps w (entries_outside w event) (happens_outside w event)
+  any_outer w event none each =
+      stamp_are Is time (outcome w event).outer (outcome w event).entries (all-weaker (Enters event) Is each (outcome w event).entries (outcome_enters w event none))
+
+  outer : (w : Outside) (event : OuterEvent) → Allows event → Keeps w (entries_outside w event) (happens_outside w event)
+  unfolding outcome
+  outer w (Host_writes unit) allows =
+      stamp_are Is time (outcome w (Host_writes unit)).outer (told by_host w.outer.to_chip unit)
+      (all-weaker IsOfChip Is of_chip (told by_host w.outer.to_chip unit) (told_of_chip by_host w.outer.to_chip unit))
+  outer w (host_takes count) allows = tt
+  outer w (Host_begins node sessions) allows = tt
+  outer w (Host_notes one) allows = stamp_are Is time (outcome w (Host_notes one)).outer (one ∷ []) (allows, tt)
+  outer w event allows = any_outer w event tt allows
+
+  allowed : (event : OuterEvent) → NotesNone event → ((told : Entry) → Enters event told → Is told) → Allows event
+  allowed (Host_writes unit) none each = tt
+  allowed (host_takes count) none each = tt
+  allowed (Host_notes told) none each = absurd none
+  allowed (Host_begins node sessions) none each = tt
+  allowed event none each = each
+
+  covers : (m : Machine) (event : Event) → EntersAs Is event → May m event → CoversOuter Allows event
+  unfolding May
+  covers m (Outside_does event) each may = allowed event (own_notes_none event may.0) each
+  covers m event each may = tt
+
+  refuses : (event : OuterEvent) → ((told : Entry) → Enters event told → Is told) → CoversRefusal Allows event
+  refuses (Repeats number drawn route) each = λ refused. each (entry.Refused refused) tt
+  refuses (Wakes_device node route) each = λ refused. each (entry.Refused refused) tt
+  refuses (Sets_device node value route) each = λ refused. each (entry.Refused refused) tt
+  refuses event each = tt
+
+  answered : (event : Event) → EntersAs Is event → CoversAnswer Allows event
+  answered (Outside_does event) each = refuses event each
+  answered (Host_does event) each = each
+  answered (Refuses line refused) each = each
+  answered (Shows_values node) each = each
+  answered event each = tt
+
+  pub entries_are : (m : Machine) (event : Event) → EntersAs Is event → May m event → AllByRecursion Is (entries m event)
+  entries_are m event each may =
+      machine_goes_on Allows (record { writes = λ unit. tt; takes = λ count. tt; notes = note }) (λ node sessions. tt) Keeps (λ w. tt)
+      (λ w u v xs ys first later. all-append Is xs ys first later) outer m event (covers m event each may) (answered event each) may
+
+-- ---- a law that each note keeps
+
+module _ (Is : Entry → Type 0) (of_chip : (told : Entry) → IsOfChip told → Is told) (time : (tick : ℕ) → Is (entry.Time tick)) (note : (told : Entry) → IsNote told → Is told)
+    (Covers : OuterEvent → Type 0) (enters : (event : OuterEvent) → Covers event → (told : Entry) → Enters event told → Is told) where
+  answers_noted : (h : HostState) (event : HostEvent) → AllByRecursion Is (answers h event)
+  answers_noted h (Accepts order carriage) = (note (entry.Accepted _ _) tt, tt)
+  answers_noted h (Cancels command) = (note (entry.Out command Cancelled) tt, tt)
+  answers_noted h event = tt
+
+  noted_as : (event : Event) → CoversOuter Covers event → EntersAs Is event
+  noted_as (Outside_does event) covered = enters event covered
+  noted_as (Host_does event) covered = λ h. answers_noted h event
+  noted_as (Refuses line refused) covered = note (entry.Refused refused) tt
+  noted_as (Shows_values node) covered = λ text. note (entry.Json text) tt
+  noted_as event covered = tt
+
+  pub noted_are : (m : Machine) (event : Event) → CoversOuter Covers event → May m event → AllByRecursion Is (entries m event)
+  noted_are m event covered may = entries_are Is of_chip time (λ told is. note told (is_note told is)) m event (noted_as event covered) may
+
+-- ---- no event enters the words of a line
+
+abbrev pub Any : OuterEvent → Type 0
+Any event = Unit {0}
+
+pub covers_any : (event : Event) → CoversOuter Any event
+covers_any (Outside_does event) = tt
+covers_any event = tt
+
+pub wordless_line : (told : Entry) → HasNoWords told → line_of told ≡ []
+wordless_line (entry.Said words) none = absurd none
+wordless_line told none = refl
+
+chip_wordless : (told : Entry) → IsOfChip told → HasNoWords told
+chip_wordless (entry.Said words) of_chip = absurd of_chip
+chip_wordless told of_chip = tt
+
+note_wordless : (told : Entry) → IsNote told → HasNoWords told
+note_wordless (entry.Said words) note = absurd note
+note_wordless told note = tt
+
+enters_wordless : (event : OuterEvent) → Any event → (told : Entry) → Enters event told → HasNoWords told
+enters_wordless event any (entry.Said words) enters = absurd enters
+enters_wordless event any told enters = tt
+
+pub event_wordless : (m : Machine) (event : Event) → May m event → AllByRecursion HasNoWords (entries m event)
+event_wordless m event may = noted_are HasNoWords chip_wordless (λ tick. tt) note_wordless Any enters_wordless m event (covers_any event) may
+
+pub all_wordless : (m : Machine) (events : List Event) → MayAll m events → AllByRecursion HasNoWords (entries_all m events)
+all_wordless m [] may = tt
+all_wordless m (event ∷ events) may =
+    all-append HasNoWords (entries m event) (entries_all (happens m event) events) (event_wordless m event may.0) (all_wordless (happens m event) events may.1)
+
+-- ---- by kinds of entries
+
+-- by a simple event no device acts
+pub simple_acts : (event : OuterEvent) → IsSimple event → Acts event → ⊥
+simple_acts (Arrives drawn route) simple acting = simple
+simple_acts (Repeats number drawn route) simple acting = simple
+simple_acts (Device_ticks place drawn route) simple acting = simple
+simple_acts (Wakes_device node route) simple acting = simple
+simple_acts (Sets_device node value route) simple acting = simple
+simple_acts event simple acting = acting
+
+no_answer : (event : OuterEvent) → IsOfTick event → MayAnswer event → ⊥
+no_answer (Repeats number drawn route) tick answers = tick
+no_answer (Wakes_device node route) tick answers = tick
+no_answer (Sets_device node value route) tick answers = tick
+no_answer (Clears_pipe side) tick answers = tick
+no_answer (Shows node) tick answers = tick
+no_answer event tick answers = answers
+
+no_showing : (event : OuterEvent) → IsOfTick event → IsShowing event → ⊥
+no_showing (Shows node) tick shows = tick
+no_showing event tick shows = shows
+
+none_shown : (event : OuterEvent) → ShowsNothing event → IsShowing event → ⊥
+none_shown (Shows node) nothing shows = nothing
+none_shown event nothing shows = shows
 
 module _ (Is : Entry → Type 0) (kinds : KindsAre Is) where
   abbrev Are : List Entry → Type 0
   Are told = AllByRecursion Is told
 
-  abbrev Nothing_known : Knowing
-  Nothing_known awaits past w = Unit {0}
+  kinds_of_chip : (told : Entry) → IsOfChip told → Is told
+  kinds_of_chip (entry.Written side text) is = kinds.unit side text
+  kinds_of_chip (entry.Dropped side) is = kinds.mark (entry.Dropped side) tt
+  kinds_of_chip (entry.Garbled side text) is = kinds.mark (entry.Garbled side text) tt
+  kinds_of_chip (entry.Overrun side) is = kinds.mark (entry.Overrun side) tt
+  kinds_of_chip (entry.Air frame sender receiver repeaters payload) is = kinds.of_air (entry.Air frame sender receiver repeaters payload) tt
+  kinds_of_chip entry.ChipFull is = kinds.full
+  kinds_of_chip told is = absurd is
 
-  -- an event that is not simple, or one whose entries are so
-  abbrev Fine : OuterEvent → Type 0
-  Fine event = (IsSimple event → ⊥) ⊎ ((w : Outside) → Are (outcome w event).entries)
+  -- with those that answer a line
+  kinds_enter : (event : OuterEvent) → ((refusal : Refusal) → MayAnswer event → Is (entry.Refused refusal)) → ((side : Side) (count : ℕ) → MayAnswer event → Is (entry.Cleared side count))
+      → (IsShowing event → ⊥) → (told : Entry) → Enters event told → Is told
+  kinds_enter event refused cleared shows (entry.Heard frame) is = kinds.of_air (entry.Heard frame) tt
+  kinds_enter event refused cleared shows (entry.Lost frame) is = kinds.of_air (entry.Lost frame) tt
+  kinds_enter event refused cleared shows (entry.Unheard frame) is = kinds.of_air (entry.Unheard frame) tt
+  kinds_enter event refused cleared shows (entry.Forget a b) is = kinds.of_air (entry.Forget a b) tt
+  kinds_enter event refused cleared shows (entry.Dev node by setting) is = kinds.of_air (entry.Dev node by setting) tt
+  kinds_enter event refused cleared shows (entry.Air frame sender receiver repeaters payload) is = kinds.of_air (entry.Air frame sender receiver repeaters payload) tt
+  kinds_enter event refused cleared shows (entry.Device node setting) is = absurd (shows is)
+  kinds_enter event refused cleared shows (entry.Refused refusal) is = refused refusal is
+  kinds_enter event refused cleared shows (entry.Cleared side count) is = cleared side count is
+  kinds_enter event refused cleared shows told is = kinds_of_chip told is
 
-  moves : (w later : Outside) (told : List Entry) → Are told → Moves (Alone Is) Nothing_known w told Nothing_known later
-  moves w later told are awaits past silent known = (all_alone Is past told are, tt)
+  tick_enters : (event : OuterEvent) → IsOfTick event → (told : Entry) → Enters event told → Is told
+  tick_enters event tick =
+      kinds_enter event (λ refusal answers. absurd (no_answer event tick answers)) (λ side count answers. absurd (no_answer event tick answers)) (no_showing event tick)
 
-  -- ---- the serial line
-
-  told_are : (side : Side) (way : WayState) (unit : LineUnit) → Are (told side way unit)
-  told_are side way unit = (kinds.unit side (unit_text unit), all-weaker IsMark Is kinds.mark _ (told_by_marks side way.bytes (mark_for way.marks unit) (unit_text unit)))
-
-  put_are : (o : OuterState) (out : ChipOut) → Are (put_out o out).entries
-  put_are o (Write unit) = told_are by_chip o.to_host unit
-  put_are o (OnAir to route payload) = (kinds.of_air _ tt, tt)
-  put_are o NoRoute = tt
-  put_are o (AskInfo node) = tt
-  put_are o Full = (kinds.full, tt)
-
-  puts_are : (puts : List ChipOut) (o : OuterState) → Are (each put_out o puts).entries
-  puts_are [] o = tt
-  puts_are (out ∷ puts) o = all-append Is (put_out o out).entries (each put_out (put_out o out).outer puts).entries (put_are o out) (puts_are puts (put_out o out).outer)
-
-  does_are : (o : OuterState) (event : ChipEvent) → Are (chip_does o event).entries
-  unfolding chip_does
-  does_are o event = puts_are (outs o.chip.state event) (with_chip o (after o.chip.state event))
-
-  -- ---- what is owed
-
-  simple_are : (w : Outside) (event : OuterEvent) → IsSimple event → Fine event → Are (outcome w event).entries
-  simple_are w event simple (inl never) = absurd (never simple)
-  simple_are w event simple (inr are) = are w
-
-  law : Link (Alone Is) Nothing_known Fine
-  law = record {
-    line = λ covers awaits past w known. tt;
-    tick = λ covers awaits past w known. (kinds.time (w.outer.clock + 1), tt);
-    number = λ past w known. tt;
-    simple = λ w event simple fine. moves w (outside (outcome w event).outer w.devices) (outcome w event).entries (simple_are w event simple fine);
-    session = λ w node session command. moves w w (entry.Begin node session command ∷ []) (kinds.note (entry.Begin node session command) tt, tt);
-    chip = λ w event done. moves w (outside (chip_does w.outer event).outer w.devices) (chip_does w.outer event).entries (does_are w.outer event);
-    air = λ w told of_air. moves w w (told ∷ []) (kinds.of_air told of_air, tt);
-    same = λ awaits past w later is known. tt;
-  }
-
-  host : CoversHost Fine
-  unfolding outcome
-  host = record {
-    writes = λ unit. inr (λ w. told_are by_host w.outer.to_chip unit);
-    takes = λ count. inr (λ w. tt);
-    notes = λ note is. inr (λ w. (kinds.note note is, tt));
-  }
-
-  covers : (event : Event) → IsCommon event → CoversOuter Fine event
-  covers (Outside_does event) common = inl (λ simple. no_simple event simple common)
-  covers event common = tt
-
-  refuses : (event : OuterEvent) → IsOfTick event → CoversRefusal Fine event
-  refuses (Repeats number drawn route) tick = absurd tick
-  refuses (Wakes_device node route) tick = absurd tick
-  refuses (Sets_device node value route) tick = absurd tick
-  refuses event tick = tt
-
-  none_answered : (told : List Entry) → told ≡ [] → AllByRecursion (λ note. Fine (Host_notes note)) told
-  none_answered told none = subst (λ (l : List Entry). AllByRecursion (λ note. Fine (Host_notes note)) l) (sym none) tt
-
-  answers_none : (event : Event) → IsCommon event → CoversAnswer Fine event
-  answers_none (Outside_does event) common = refuses event common
-  answers_none (Host_does event) common = λ h. none_answered (answers h event) (common.0 h)
-  answers_none (Host_takes count rest items events) common = tt
-  answers_none Decoder_ticks common = tt
-  answers_none (Refuses line refusal) common = absurd common
-  answers_none (Shows_values node) common = absurd common
-  answers_none (Restarts state) common = absurd common
-
-  number_by : (b : Bool) (clock : ℕ) → Are (if b then entry.Time clock ∷ [] else [])
-  number_by true clock = (kinds.time clock, tt)
-  number_by false clock = tt
-
-  -- ---- a frame that is heard, and what a device does
+  common_as : (event : Event) → IsCommon event → EntersAs Is event
+  common_as (Outside_does event) common = tick_enters event common
+  common_as (Host_does event) common = λ h. subst Are (sym (common.0 h)) tt
+  common_as (Refuses line refused) common = absurd common
+  common_as (Shows_values node) common = absurd common
+  common_as event common = tt
 
   pub steps_are : (w : Outside) (step : AirStep) → IsHearing step → MayHappen (mesh_of w) step → Are (steps w step).entries
   steps_are w step hearing may =
-      each_alone Is [] (steps w step).entries
-      (steps_come (Alone Is) (λ pending. Nothing_known) Fine (of_link (Alone Is) Nothing_known Fine law) w step hearing may false [] (λ (is : false ≡ true). absurd cc) tt).0
+      all-weaker (Enters (Arrives [] None)) Is (tick_enters (Arrives [] None) tt) (steps w step).entries (steps_enter (Arrives [] None) tt tt w step)
 
   pub acts_are : (o : OuterState) (device : State) (event : DeviceEvent) (route : Option Route) → Are (acts o device event route).entries
   acts_are o device event route = all-weaker IsOfAir Is kinds.of_air (acts o device event route).entries (acts_of_air o device event route)
 
   -- with the number of the tick before them
   pub stamped_are : (o : OuterState) (told : List Entry) → Are told → Are (stamp o told)
-  stamped_are o [] are = tt
-  stamped_are o (one ∷ told) are = all-append Is (ticked_entry o) (one ∷ told) (number_by (o.in_tick && not o.stamped) o.clock) are
-
-  number_is : (o : OuterState) → EachAfter (Alone Is) [] (ticked_entry o)
-  number_is o = by (o.in_tick && not o.stamped)
-    where
-      by : (b : Bool) → EachAfter (Alone Is) [] (if b then entry.Time o.clock ∷ [] else [])
-      by true = (kinds.time o.clock, tt)
-      by false = tt
+  stamped_are o told are = stamp_are Is kinds.time o told are
 
   pub common_are : (m : Machine) (event : Event) → IsCommon event → May m event → Are (entries m event)
-  common_are m event common may =
-      each_alone Is [] (entries m event)
-      (event_keeps (Alone Is) (λ pending. Nothing_known) Fine (of_link (Alone Is) Nothing_known Fine law) host m event (covers event common) (answers_none event common) may [] (tt, number_is m.outside.outer)).0
+  common_are m event common may = entries_are Is kinds_of_chip kinds.time kinds.note m event (common_as event common) may
 
   -- ---- events of the effect of a line
 
-  module _ (answered : AnswersAre Is) where
-    refused_is : (refusal : Refusal) → Fine (Host_notes (entry.Refused refusal))
-    unfolding outcome
-    refused_is refusal = inr (λ w. (answered.refused refusal, tt))
+  module _ (answered_are : AnswersAre Is) where
+    asked_are : (event : HostEvent) (h : HostState) → Are (answers h event)
+    asked_are (Accepts order carriage) h = (answered_are.accepted _ _, tt)
+    asked_are (Cancels command) h = (answered_are.taken_back command, tt)
+    asked_are event h = tt
 
-    -- outside
-    effect_covers : (event : OuterEvent) → ShowsNothing event → Fine event
-    unfolding outcome
-    effect_covers (Host_writes unit) none = inr (λ w. told_are by_host w.outer.to_chip unit)
-    effect_covers (host_takes count) none = inr (λ w. tt)
-    effect_covers (Host_notes note) none = absurd none
-    effect_covers (Shows node) none = absurd none
-    effect_covers (Joins node) none = inr (λ w. tt)
-    effect_covers Discovers none = inr (λ w. tt)
-    effect_covers (Links a b live) none = inr (λ w. tt)
-    effect_covers (Loses count) none = inr (λ w. tt)
-    effect_covers (Loses_acks count) none = inr (λ w. tt)
-    effect_covers (Marks_loss side) none = inr (λ w. tt)
-    effect_covers (Marks_change side garble) none = inr (λ w. tt)
-    effect_covers (Clears_pipe side) none = inr (λ w. all-weaker IsCleared Is answered.cleared _ (all_cleared side (length (way_of w.outer side).bytes)))
-    effect_covers Collides_next none = inr (λ w. tt)
-    effect_covers (Stalls ticks) none = inr (λ w. tt)
-    effect_covers (Cuts size) none = inr (λ w. tt)
-    effect_covers event none = inl (λ simple. simple)
-
-    effect_refuses : (event : OuterEvent) → CoversRefusal Fine event
-    effect_refuses (Repeats number drawn route) = refused_is
-    effect_refuses (Wakes_device node route) = refused_is
-    effect_refuses (Sets_device node value route) = refused_is
-    effect_refuses event = tt
-
-    -- of the host
-    effect_answers : (event : HostEvent) → IsAsked event → (h : HostState) → AllByRecursion (λ note. Fine (Host_notes note)) (answers h event)
-    unfolding outcome
-    effect_answers (Accepts order carriage) asked h = (inr (λ w. (answered.accepted _ _, tt)), tt)
-    effect_answers (Cancels command) asked h = (inr (λ w. (answered.taken_back command, tt)), tt)
-    effect_answers (joins_host node) asked h = tt
-    effect_answers (Queues task) asked h = tt
-    effect_answers (Queues_interview node) asked h = tt
-    effect_answers Queues_probe asked h = tt
-    effect_answers event asked h = absurd asked
-
-    outer_covers : (event : Event) → OfEffect ShowsNothing event → CoversOuter Fine event
-    outer_covers (Outside_does event) of_effect = effect_covers event of_effect
-    outer_covers event of_effect = tt
-
-    answer_covers : (event : Event) → OfEffect ShowsNothing event → CoversAnswer Fine event
-    answer_covers (Outside_does event) of_effect = effect_refuses event
-    answer_covers (Host_does event) of_effect = effect_answers event of_effect
-    answer_covers (Host_takes count rest items events) of_effect = tt
-    answer_covers Decoder_ticks of_effect = tt
-    answer_covers (Refuses line refusal) of_effect = refused_is refusal
-    answer_covers (Shows_values node) of_effect = absurd of_effect
-    answer_covers (Restarts state) of_effect = tt
+    effect_as : (event : Event) → OfEffect ShowsNothing event → EntersAs Is event
+    effect_as (Outside_does event) of_effect =
+        kinds_enter event (λ refusal answers. answered_are.refused refusal) (λ side count answers. answered_are.cleared (entry.Cleared side count) tt) (none_shown event of_effect)
+    effect_as (Host_does event) of_effect = asked_are event
+    effect_as (Refuses line refused) of_effect = answered_are.refused refused
+    effect_as (Shows_values node) of_effect = absurd of_effect
+    effect_as event of_effect = tt
 
     pub effect_are : (m : Machine) (event : Event) → OfEffect ShowsNothing event → May m event → Are (entries m event)
-    effect_are m event of_effect may =
-        each_alone Is [] (entries m event)
-        (event_keeps (Alone Is) (λ pending. Nothing_known) Fine (of_link (Alone Is) Nothing_known Fine law) host m event (outer_covers event of_effect) (answer_covers event of_effect) may [] (tt, number_is m.outside.outer)).0
+    effect_are m event of_effect may = entries_are Is kinds_of_chip kinds.time kinds.note m event (effect_as event of_effect) may

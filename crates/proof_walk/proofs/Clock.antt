@@ -32,7 +32,7 @@ untimed_stands : (past : List Entry) (e : Entry) → IsUntimed e → MayCount pa
 untimed_stands past (entry.Time tick) untimed = absurd untimed
 untimed_stands past e untimed = tt
 
-last_of_more : (before : ℕ) (ns : List ℕ) (n : ℕ) → last_number before (ns ++ n ∷ []) ≡ n
+pub last_of_more : (before : ℕ) (ns : List ℕ) (n : ℕ) → last_number before (ns ++ n ∷ []) ≡ n
 last_of_more before [] n = refl
 last_of_more before (first ∷ ns) n = last_of_more first ns n
 
@@ -84,7 +84,7 @@ module _ (extra : ℕ) where
 
 -- ---- the words of a line
 
-asked-append : (xs ys : List Line) → ticks_asked (xs ++ ys) ≡ ticks_asked xs + ticks_asked ys
+pub asked-append : (xs ys : List Line) → ticks_asked (xs ++ ys) ≡ ticks_asked xs + ticks_asked ys
 asked-append [] ys = let none : ticks_asked ys ≡ 0 + ticks_asked ys = omega arith in none
 asked-append (x ∷ xs) ys =
     let rest = asked-append xs ys in

@@ -1,19 +1,16 @@
 -- No event ends with the number of a tick: it is entered with what follows it.
-use Rattle.std.proofs.Common.{◌≡◌, ℕ, ◌&&◌, not, Bool, true, false, if◌then◌else◌, List, [], ◌∷◌, ◌++◌}
+use Rattle.std.proofs.Common.{ℕ, ◌&&◌, not, Bool, true, false, if◌then◌else◌, List, [], ◌∷◌, ◌++◌}
 use Rattle.zw_text.specs.declared.entry.Entry.{Entry}
 use Rattle.zw_text.specs.declared.entry.Entry.TheVariants as entry
-use Rattle.law_transcript.specs.Lists.{EachAfter}
-use Rattle.proof_host.proofs.Lists.{each-anywhere}
 use Rattle.outside_model.specs.State.{OuterState, Outside}
-use Rattle.outside_model.specs.Events.{OuterEvent, Begins_line, Begins_tick, Host_begins, Host_notes, outcome, May as MayOutside, happens as happens_outside, entries as entries_outside, stamp}
+use Rattle.outside_model.specs.Events.{OuterEvent, Host_begins, Host_notes, outcome, May as MayOutside, happens as happens_outside, entries as entries_outside, stamp}
 use Rattle.world_model.specs.State.{Machine}
 use Rattle.world_model.specs.Events.{Event, entries, May}
-use Rattle.proof_walk.specs.Outside.{Knowing, Moves, Outer, CoversOuter}
+use Rattle.proof_walk.specs.Outside.{CoversOuter}
 use Rattle.proof_walk.specs.Time.{BeginsNoTick}
-use Rattle.proof_walk.proofs.Linking.{of_link}
 use Rattle.proof_walk.proofs.Machines.{covers_answer, covers_host, machine_goes}
-use Rattle.proof_walk.proofs.Stamping.{Fits, outcome_comes}
-use Rattle.proof_walk.proofs.Untimed.{IsUntimed, AreUntimed, hosts_no_tick, untimed_law}
+use Rattle.proof_walk.proofs.Stamping.{Fits}
+use Rattle.proof_walk.proofs.Untimed.{IsUntimed, AreUntimed, hosts_no_tick, note_untimed, outcome_untimed}
 
 -- ---- lists
 
@@ -45,32 +42,10 @@ stamp_ends o (e ∷ told) untimed = by (o.in_tick && not o.stamped)
 
 -- ---- outside the host
 
--- what an event enters there is untimed, but for the number
-abbrev Alone : List Entry → Entry → Type 0
-Alone past e = IsUntimed e
-
-abbrev Anything : Knowing
-Anything awaits past w = Unit {0}
-
-alone : (w later : Outside) (told : List Entry) → AreUntimed told → later.outer.clock ≡ w.outer.clock → Moves Alone Anything w told Anything later
-alone w later told untimed same awaits past silent known = (each-anywhere Alone IsUntimed (λ past e is. is) past told untimed, tt)
-
-law : Outer Alone (λ pending. Anything) BeginsNoTick
-law =
-    of_link Alone Anything BeginsNoTick
-    (untimed_law Alone Anything BeginsNoTick alone (λ covers. covers) (λ covers awaits past w known. tt) (λ past w known. tt))
-
-all_alone : (past told : List Entry) → EachAfter Alone past told → AreUntimed told
-all_alone past [] each = tt
-all_alone past (e ∷ told) each = (each.0, all_alone (past ++ e ∷ []) told each.1)
-
-outer_ends : (w : Outside) (event : OuterEvent) → Fits BeginsNoTick event → MayOutside w event → EndsUntimed (entries_outside w event)
+outer_ends : (w : Outside) (event : OuterEvent) → BeginsNoTick event → Fits BeginsNoTick event → MayOutside w event → EndsUntimed (entries_outside w event)
 unfolding outcome
-outer_ends w Begins_line fits may = tt
-outer_ends w Begins_tick fits may = absurd fits
-outer_ends w event fits may =
-    stamp_ends (outcome w event).outer (outcome w event).entries (all_alone [] (outcome w event).entries
-    (outcome_comes Alone (λ pending. Anything) BeginsNoTick law w event tt fits may false [] (λ (is : false ≡ true). absurd cc) tt).0)
+outer_ends w (Host_notes note) covers fits may = stamp_ends w.outer (note ∷ []) (note_untimed note fits.0.0, tt)
+outer_ends w event covers fits may = stamp_ends (outcome w event).outer (outcome w event).entries (outcome_untimed w event tt)
 
 session_ends : (w : Outside) (node session command : ℕ)
     → EndsUntimed (entries_outside w (Host_begins node session) ++ entries_outside (happens_outside w (Host_begins node session)) (Host_notes (entry.Begin node session command)))
@@ -84,4 +59,4 @@ Ends w told later = EndsUntimed told
 
 pub event_ends : (m : Machine) (event : Event) → CoversOuter BeginsNoTick event → May m event → EndsUntimed (entries m event)
 event_ends m event covers may =
-    machine_goes BeginsNoTick (covers_host BeginsNoTick hosts_no_tick) Ends (λ w. tt) (λ w u v xs ys first later. ends-append xs ys first later) outer_ends session_ends m event covers (covers_answer BeginsNoTick hosts_no_tick event) may
+    machine_goes BeginsNoTick (covers_host BeginsNoTick hosts_no_tick) Ends (λ w. tt) (λ w u v xs ys first later. ends-append xs ys first later) outer_ends session_ends m event covers (covers_answer BeginsNoTick (λ note is. tt) event) may

@@ -16,3 +16,4 @@ pub mod Ending
 pub mod Clock
 pub mod Over
 pub mod Where
+pub mod Shown

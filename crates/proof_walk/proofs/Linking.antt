@@ -1,33 +1,28 @@
 -- What a law owes that only the link between chip and host concerns: the events of the chip, whatever calls for them. All else leaves what is known as it is.
-use Rattle.std.proofs.Common.{◌≡◌, ℕ, Bool, true, false, List, [], ◌∷◌, refl}
-use Rattle.std.specs.List.{flat_map, AllByRecursion}
-use Rattle.std.specs.Option.{option_map}
+use Rattle.std.proofs.Common.{◌≡◌, ℕ, Bool, false, List, [], ◌∷◌, refl}
+use Rattle.std.specs.List.{AllByRecursion}
 use Rattle.std.specs.Prelude.{Option, slice_set}
-use Rattle.zw_base.proofs.Each.{all-append, all-weaker}
+use Rattle.zw_base.proofs.Each.{all-weaker}
 use Rattle.serial_frame.specs.Stream.{after_tick}
 use Rattle.route_table.specs.declared.route.Route.{Route}
 use Rattle.device_kinds.specs.declared.change.Change.{Change}
 use Rattle.chip_sim.specs.Events.{ChipEvent, Judged, Ticked, Done, Heard as chip_hears, Informed, Forgets, Joined, Linked, Collides, after}
 use Rattle.device_sim.specs.State.{State}
-use Rattle.device_sim.specs.Event.{DeviceEvent, device_after, device_replies}
-use Rattle.air_frames.specs.declared.frame.Heading.TheVariants.{Homeward}
+use Rattle.device_sim.specs.Event.{DeviceEvent, device_after}
 use Rattle.mesh_sim.specs.declared.event.AirEvent.{AirEvent}
 use Rattle.mesh_sim.specs.declared.event.AirEvent.TheVariants as air_event
-use Rattle.mesh_sim.specs.Air.{AirState, departing, is_joined}
 use Rattle.mesh_sim.specs.Fates.{place_of}
-use Rattle.mesh_sim.specs.Routes.{backwards}
-use Rattle.mesh_sim.specs.Steps.{answers, answers_if}
 use Rattle.zw_text.specs.declared.entry.Entry.{Entry}
 use Rattle.zw_text.specs.declared.entry.Entry.TheVariants as entry
 use Rattle.outside_model.specs.State.{OuterState, Outside, outside, Outcome, silent, tells, with_chip}
 use Rattle.outside_model.specs.Chip.{chip_does, chip_ticks}
 use Rattle.outside_model.specs.Results.{gives, device_at}
 use Rattle.outside_model.specs.Air.{deals, sent_entries, change_entries, change_at}
-use Rattle.outside_model.specs.Devices.{changes_entries, new_changes, acts}
+use Rattle.outside_model.specs.Devices.{acts}
 use Rattle.outside_model.specs.Events.{OuterEvent}
 use Rattle.proof_walk.specs.Outside.{Knowing, Moves, Comes, Outer, Link, IsOfAir, IsSameLink, IsDone, session_begins}
 use Rattle.proof_walk.proofs.Moving.{moves_silent, moves_none, moves_both, moves_then}
-use Rattle.proof_device.proofs.Entered.{IsChange, change_entered, changes_entered}
+use Rattle.proof_device.proofs.Entering.{IsOwn, acts_own, change_own}
 use Rattle.proof_device.proofs.Results.{IsGiven, Gives, ends_go, gives_go, to_chip_goes}
 
 -- ---- entries of the air and of devices
@@ -35,29 +30,16 @@ use Rattle.proof_device.proofs.Results.{IsGiven, Gives, ends_go, gives_go, to_ch
 abbrev AreOfAir : List Entry → Type 0
 AreOfAir told = AllByRecursion IsOfAir told
 
-dev_of_air : (e : Entry) → IsChange e → IsOfAir e
-dev_of_air (entry.Dev node by setting) change = tt
-dev_of_air e change = absurd change
+own_of_air : (node : ℕ) (e : Entry) → IsOwn node e → IsOfAir e
+own_of_air node (entry.Dev at by setting) own = tt
+own_of_air node (entry.Air frame sender receiver repeaters payload) own = tt
+own_of_air node e own = absurd own
 
 change_of_air : (node : ℕ) (change : Option Change) → AreOfAir (change_entries node change)
-change_of_air node change = all-weaker IsChange IsOfAir dev_of_air (change_entries node change) (change_entered node change)
-
-changes_of_air : (node : ℕ) (changes : List Change) → AreOfAir (changes_entries node changes)
-changes_of_air node changes = all-weaker IsChange IsOfAir dev_of_air (changes_entries node changes) (changes_entered node changes)
-
-answers_of_air : (air : AirState) (node : ℕ) (way : Option Route) (replies : List (List ℕ)) → AreOfAir (flat_map sent_entries (answers air node way replies))
-answers_of_air air node way [] = tt
-answers_of_air air node way (reply ∷ replies) = (tt, answers_of_air (departing air node Homeward way reply) node way replies)
-
-sends_of_air : (joined : Bool) (air : AirState) (node : ℕ) (way : Option Route) (replies : List (List ℕ)) → AreOfAir (flat_map sent_entries (answers_if joined air node way replies))
-sends_of_air true air node way replies = answers_of_air air node way replies
-sends_of_air false air node way replies = tt
+change_of_air node change = all-weaker (IsOwn node) IsOfAir (own_of_air node) (change_entries node change) (change_own node change)
 
 pub acts_of_air : (o : OuterState) (device : State) (event : DeviceEvent) (route : Option Route) → AreOfAir (acts o device event route).entries
-acts_of_air o device event route =
-    all-append IsOfAir (changes_entries device.node (new_changes device event))
-    (flat_map sent_entries (answers_if (is_joined o.air device.node) o.air device.node (option_map backwards route) (device_replies device event)))
-    (changes_of_air device.node (new_changes device event)) (sends_of_air (is_joined o.air device.node) o.air device.node (option_map backwards route) (device_replies device event))
+acts_of_air o device event route = all-weaker (IsOwn device.node) IsOfAir (own_of_air device.node) (acts o device event route).entries (acts_own o device event route)
 
 -- ---- what the chip is fed, and waits for
 

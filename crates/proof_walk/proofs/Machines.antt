@@ -49,23 +49,25 @@ own_fits Covers event own covers refuses = (tt, covers)
 pub covers_host : (Covers : OuterEvent → Type 0) → ((event : OuterEvent) → is_own event ≡ false → Covers event) → CoversHost Covers
 covers_host Covers hosts = record { writes = λ unit. hosts (Host_writes unit) refl; takes = λ count. hosts (host_takes count) refl; notes = λ note is. hosts (Host_notes note) refl }
 
-covers_notes : (Covers : OuterEvent → Type 0) → ((event : OuterEvent) → is_own event ≡ false → Covers event) → (told : List Entry)
-    → AllByRecursion (λ note. Covers (Host_notes note)) told
-covers_notes Covers hosts [] = tt
-covers_notes Covers hosts (note ∷ told) = (hosts (Host_notes note) refl, covers_notes Covers hosts told)
+covers_refusal : (Covers : OuterEvent → Type 0) → ((note : Entry) → IsNote note → Covers (Host_notes note)) → (event : OuterEvent) → CoversRefusal Covers event
+covers_refusal Covers notes (Repeats number drawn route) = λ refused. notes (entry.Refused refused) tt
+covers_refusal Covers notes (Wakes_device node route) = λ refused. notes (entry.Refused refused) tt
+covers_refusal Covers notes (Sets_device node value route) = λ refused. notes (entry.Refused refused) tt
+covers_refusal Covers notes event = tt
 
-covers_refusal : (Covers : OuterEvent → Type 0) → ((event : OuterEvent) → is_own event ≡ false → Covers event) → (event : OuterEvent) → CoversRefusal Covers event
-covers_refusal Covers hosts (Repeats number drawn route) = λ refused. hosts (Host_notes (entry.Refused refused)) refl
-covers_refusal Covers hosts (Wakes_device node route) = λ refused. hosts (Host_notes (entry.Refused refused)) refl
-covers_refusal Covers hosts (Sets_device node value route) = λ refused. hosts (Host_notes (entry.Refused refused)) refl
-covers_refusal Covers hosts event = tt
+covers_told : (Covers : OuterEvent → Type 0) → ((note : Entry) → IsNote note → Covers (Host_notes note)) → (h : HostState) (event : HostEvent)
+    → AllByRecursion (λ note. Covers (Host_notes note)) (answers h event)
+covers_told Covers notes h (Accepts order carriage) = (notes (entry.Accepted (length h.commands + 1) order.node) tt, tt)
+covers_told Covers notes h (Cancels command) = (notes (entry.Out command Cancelled) tt, tt)
+covers_told Covers notes h event = tt
 
-pub covers_answer : (Covers : OuterEvent → Type 0) → ((event : OuterEvent) → is_own event ≡ false → Covers event) → (event : Event) → CoversAnswer Covers event
-covers_answer Covers hosts (Outside_does event) = covers_refusal Covers hosts event
-covers_answer Covers hosts (Host_does event) = λ h. covers_notes Covers hosts (answers h event)
-covers_answer Covers hosts (Refuses line refused) = hosts (Host_notes (entry.Refused refused)) refl
-covers_answer Covers hosts (Shows_values node) = λ text. hosts (Host_notes (entry.Json text)) refl
-covers_answer Covers hosts event = tt
+-- where each note is covered, so is what answers a line
+pub covers_answer : (Covers : OuterEvent → Type 0) → ((note : Entry) → IsNote note → Covers (Host_notes note)) → (event : Event) → CoversAnswer Covers event
+covers_answer Covers notes (Outside_does event) = covers_refusal Covers notes event
+covers_answer Covers notes (Host_does event) = λ h. covers_told Covers notes h event
+covers_answer Covers notes (Refuses line refused) = notes (entry.Refused refused) tt
+covers_answer Covers notes (Shows_values node) = λ text. notes (entry.Json text) tt
+covers_answer Covers notes event = tt
 
 -- ---- what the host puts out
 
@@ -148,7 +150,7 @@ module _ (IsUnit : LineUnit → Type 0) (IsTold : Entry → Type 0) (Keeps : Out
 module _ (Covers : OuterEvent → Type 0) (host : CoversHost Covers) (Keeps : Outside → List Entry → Outside → Type 0)
     (none : (w : Outside) → Keeps w [] w)
     (both : (w u v : Outside) (xs ys : List Entry) → Keeps w xs u → Keeps u ys v → Keeps w (xs ++ ys) v)
-    (outer : (w : Outside) (event : OuterEvent) → Fits Covers event → MayOutside w event → Keeps w (entries_outside w event) (happens_outside w event))
+    (outer : (w : Outside) (event : OuterEvent) → Covers event → Fits Covers event → MayOutside w event → Keeps w (entries_outside w event) (happens_outside w event))
     (session : (w : Outside) (node session command : ℕ)
     → Keeps w (entries_outside w (Host_begins node session) ++ entries_outside (happens_outside w (Host_begins node session)) (Host_notes (entry.Begin node session command)))
     (happens_outside (happens_outside w (Host_begins node session)) (Host_notes (entry.Begin node session command)))) where
@@ -161,17 +163,17 @@ module _ (Covers : OuterEvent → Type 0) (host : CoversHost Covers) (Keeps : Ou
   -- it writes
   writes_keep : (w : Outside) (unit : LineUnit) → Any unit → Keeps w (entries_outside w (Host_writes unit)) (happens_outside w (Host_writes unit))
   unfolding MayOutside
-  writes_keep w unit any = outer w (Host_writes unit) (tt, host.writes unit) tt
+  writes_keep w unit any = outer w (Host_writes unit) (host.writes unit) (tt, host.writes unit) tt
 
   -- it notes that no session has begun
   note_keeps : (w : Outside) (note : Entry) → IsNote note → begun_in note ≡ None → Told_of note → Keeps w (entries_outside w (Host_notes note)) (happens_outside w (Host_notes note))
   unfolding MayOutside
-  note_keeps w note is unbegun covers = outer w (Host_notes note) ((is, unbegun), covers) tt
+  note_keeps w note is unbegun covers = outer w (Host_notes note) covers ((is, unbegun), covers) tt
 
   -- the host takes bytes
   takes_keep : (w : Outside) (count : ℕ) → is_stalled w.outer ≡ false → Keeps w [] (happens_outside w (host_takes count))
   unfolding outcome MayOutside
-  takes_keep w count moves = outer w (host_takes count) (tt, host.takes count) moves
+  takes_keep w count moves = outer w (host_takes count) (host.takes count) (tt, host.takes count) moves
 
   of_host : (w : Outside) (h : HostState) (events : List HostEvent) → Keeps w (entries_all_outside w (routed (outs_all h events))) (happens_all_outside w (routed (outs_all h events)))
   of_host w h events = outs_keep Any Told_of Keeps none both writes_keep note_keeps session host.notes w h events (any_units (outs_all h events))
@@ -183,7 +185,7 @@ module _ (Covers : OuterEvent → Type 0) (host : CoversHost Covers) (Keeps : Ou
 
   pub machine_goes : (m : Machine) (event : Event) → CoversOuter Covers event → CoversAnswer Covers event → May m event → Keeps m.outside (entries m event) (happens m event).outside
   unfolding happens entries May
-  machine_goes m (Outside_does event) covers answers_it may = outer m.outside event (own_fits Covers event may.0 covers answers_it) may.1
+  machine_goes m (Outside_does event) covers answers_it may = outer m.outside event covers (own_fits Covers event may.0 covers answers_it) may.1
   machine_goes m (Host_does event) covers answers_it may =
       let later : Outside = (host_does m (event ∷ [])).outside in
       both m.outside later (happens_all_outside later (notes (answers m.host.state event)))
@@ -197,6 +199,24 @@ module _ (Covers : OuterEvent → Type 0) (host : CoversHost Covers) (Keeps : Ou
   machine_goes m (Refuses line refusal) covers answers_it may = note_keeps m.outside (entry.Refused refusal) tt refl answers_it
   machine_goes m (Shows_values node) covers answers_it may = shows_keep m.outside m.host.state node answers_it
   machine_goes m (Restarts state) covers answers_it may = none m.outside
+
+-- The same where a session that begins is an event like the others.
+module _ (Covers : OuterEvent → Type 0) (host : CoversHost Covers) (begins : (node sessions : ℕ) → Covers (Host_begins node sessions)) (Keeps : Outside → List Entry → Outside → Type 0)
+    (none : (w : Outside) → Keeps w [] w)
+    (both : (w u v : Outside) (xs ys : List Entry) → Keeps w xs u → Keeps u ys v → Keeps w (xs ++ ys) v)
+    (outer : (w : Outside) (event : OuterEvent) → Covers event → Keeps w (entries_outside w event) (happens_outside w event)) where
+  begun_noted : (w : Outside) (node session command : ℕ)
+      → Keeps w (entries_outside w (Host_begins node session) ++ entries_outside (happens_outside w (Host_begins node session)) (Host_notes (entry.Begin node session command)))
+      (happens_outside (happens_outside w (Host_begins node session)) (Host_notes (entry.Begin node session command)))
+  begun_noted w node session command =
+      let later : Outside = happens_outside w (Host_begins node session) in
+      let note : Entry = entry.Begin node session command in
+      both w later (happens_outside later (Host_notes note)) (entries_outside w (Host_begins node session)) (entries_outside later (Host_notes note))
+      (outer w (Host_begins node session) (begins node session)) (outer later (Host_notes note) (host.notes note tt))
+
+  pub machine_goes_on : (m : Machine) (event : Event) → CoversOuter Covers event → CoversAnswer Covers event → May m event → Keeps m.outside (entries m event) (happens m event).outside
+  machine_goes_on m event covers answers_it may =
+      machine_goes Covers host Keeps none both (λ w event covered fits may. outer w event covered) begun_noted m event covers answers_it may
 
 -- What a law owes outside the host, and of the units and notes of the host, is enough.
 module _ (Asks : List Entry → Entry → Type 0) (Knows : Pending → Knowing) (Covers : OuterEvent → Type 0) (law : Outer Asks Knows Covers) where
@@ -215,10 +235,10 @@ module _ (Asks : List Entry → Entry → Type 0) (Knows : Pending → Knowing) 
   pub event_keeps : CoversHost Covers → (m : Machine) (event : Event) → CoversOuter Covers event → CoversAnswer Covers event → May m event
       → Keeps_known m.outside (entries m event) (happens m event).outside
   event_keeps host m event covers answers_it may =
-      machine_goes Covers host Keeps_known known_none known_both (λ w event fits may. outer_keeps Asks Knows Covers law w event fits may)
+      machine_goes Covers host Keeps_known known_none known_both (λ w event covers fits may. outer_keeps Asks Knows Covers law w event fits may)
       (λ w node session command. session_keeps Asks Knows Covers law w node session command) m event covers answers_it may
 
   -- the same where each event of the host is covered
   pub machine_keeps : ((event : OuterEvent) → is_own event ≡ false → Covers event) → (m : Machine) (event : Event) → CoversOuter Covers event → May m event
       → Keeps_known m.outside (entries m event) (happens m event).outside
-  machine_keeps hosts m event covers may = event_keeps (covers_host Covers hosts) m event covers (covers_answer Covers hosts event) may
+  machine_keeps hosts m event covers may = event_keeps (covers_host Covers hosts) m event covers (covers_answer Covers (λ note is. hosts (Host_notes note) refl) event) may

@@ -17,3 +17,11 @@ over First Then Ground Know walk more = record {
       (two.0, (one.1, two.1));
   turn = λ here next past m turns known. (walk.turn here next past m turns known.0, more.turn here next past m turns known.0 known.1);
 }
+
+-- a walk needs no ground
+pub beside : (Asks : List Entry → Entry → Type 0) (Ground Know : Phase → List Entry → Machine → Type 0) → Walk Asks Know → WalkOver Ground Asks Know
+beside Asks Ground Know walk = record {
+  said = λ past m words line read ground known. walk.said past m words line read known;
+  event = λ here next past m event goes may ground known. walk.event here next past m event goes may known;
+  turn = λ here next past m turns ground known. walk.turn here next past m turns known;
+}

@@ -27,7 +27,7 @@ use Rattle.outside_model.specs.State.{OuterState, Outside, outside, Outcome, eac
 use Rattle.outside_model.specs.Chip.{chip_does}
 use Rattle.outside_model.specs.Air.{deals}
 use Rattle.outside_model.specs.Devices.{acts_at, acts_by_hand, device_set, set_by_hand, MayAct, MayActByHand}
-use Rattle.outside_model.specs.Events.{OuterEvent, Begins_line, Begins_tick, Host_writes, Host_takes, Host_notes, Host_begins, Chip_takes, Arrives, Gives, Device_ticks, Chip_ticks, Repeats, Wakes_device, Sets_device, Shows, Joins, Discovers, Links, Loses, Loses_acks, Marks_loss, Marks_change, Clears_pipe, Collides_next, Stalls, Cuts, mesh_of, outcome, devices_after, May, steps, repeats, devices_repeated, MayRepeat, ticked_entry, stamp, has_entered, happens, entries}
+use Rattle.outside_model.specs.Events.{OuterEvent, Begins_line, Begins_tick, Host_notes, Host_begins, Chip_takes, Arrives, Gives, Device_ticks, Chip_ticks, Repeats, Wakes_device, Sets_device, mesh_of, outcome, devices_after, May, steps, repeats, devices_repeated, MayRepeat, ticked_entry, stamp, has_entered, happens, entries}
 use Rattle.proof_walk.specs.Outside.{Pending, Judging, Dealing, nothing, Knowing, Moves, Comes, Outer, IsSimple, IsHearing, session_begins, Known, awaits_number, CoversRefusal}
 use Rattle.proof_walk.proofs.Moving.{moves_none, moves_both, moves_then}
 use Rattle.proof_walk.proofs.Times.{time_of, IsSameTime, IsWithin, does_chip, outcome_time}
@@ -171,22 +171,8 @@ module _ (Asks : List Entry → Entry → Type 0) (Knows : Pending → Knowing) 
   outcome_comes w (Repeats number drawn route) within fits may = repeats_come fits w (refusal_of w.outer.air.frames number) (mesh.Repeats number drawn route) tt may
   outcome_comes w (Wakes_device node route) within fits may = hand_comes fits w (place_of node w.devices) Wakes route may
   outcome_comes w (Sets_device node value route) within fits may = hand_comes fits w (place_of node w.devices) (Sets value) route may
-  outcome_comes w (Host_writes unit) within fits may = law.simple w (Host_writes unit) fits.0 fits.1
-  outcome_comes w (Host_takes count) within fits may = law.simple w (Host_takes count) fits.0 fits.1
-  outcome_comes w (Host_notes note) within fits may = law.simple w (Host_notes note) fits.0 fits.1
   outcome_comes w (Host_begins node sessions) within fits may = absurd fits.0
-  outcome_comes w (Shows node) within fits may = law.simple w (Shows node) fits.0 fits.1
-  outcome_comes w (Joins node) within fits may = law.simple w (Joins node) fits.0 fits.1
-  outcome_comes w Discovers within fits may = law.simple w Discovers fits.0 fits.1
-  outcome_comes w (Links a b live) within fits may = law.simple w (Links a b live) fits.0 fits.1
-  outcome_comes w (Loses count) within fits may = law.simple w (Loses count) fits.0 fits.1
-  outcome_comes w (Loses_acks count) within fits may = law.simple w (Loses_acks count) fits.0 fits.1
-  outcome_comes w (Marks_loss side) within fits may = law.simple w (Marks_loss side) fits.0 fits.1
-  outcome_comes w (Marks_change side garble) within fits may = law.simple w (Marks_change side garble) fits.0 fits.1
-  outcome_comes w (Clears_pipe side) within fits may = law.simple w (Clears_pipe side) fits.0 fits.1
-  outcome_comes w Collides_next within fits may = law.simple w Collides_next fits.0 fits.1
-  outcome_comes w (Stalls ticks) within fits may = law.simple w (Stalls ticks) fits.0 fits.1
-  outcome_comes w (Cuts size) within fits may = law.simple w (Cuts size) fits.0 fits.1
+  outcome_comes w event within fits may = law.simple w event fits.0 fits.1
 
   -- ---- any event
 

@@ -1,5 +1,5 @@
 -- No event but those that begin a line or a tick changes the line or the tick; and what the chip puts out leaves the chip alone.
-use Rattle.std.proofs.Common.{◌≡◌, ℕ, Bool, List, [], ◌∷◌, refl, ◌∙◌, ap}
+use Rattle.std.proofs.Common.{◌≡◌, ℕ, ◌&&◌, not, Bool, if◌then◌else◌, List, [], ◌∷◌, refl, ◌∙◌, ap}
 use Rattle.std.specs.Prelude.{Option, Some, None, slice_get}
 use Rattle.route_table.specs.declared.route.Route.{Route}
 use Rattle.air_frames.specs.Ages.{refusal_of}
@@ -20,11 +20,12 @@ use Rattle.serial_frame.specs.Stream.{after_tick}
 use Rattle.serial_pipes.specs.Events.{Takes}
 use Rattle.serial_pipes.specs.Events as way
 use Rattle.zw_words.specs.declared.side.Side.TheVariants.{Host as by_host, Chip as by_chip}
+use Rattle.zw_text.specs.declared.entry.Entry.TheVariants as entry
 use Rattle.outside_model.specs.State.{OuterState, Outside, Outcome, each, with_chip}
 use Rattle.outside_model.specs.Chip.{put_out, chip_does}
 use Rattle.outside_model.specs.Air.{deals}
 use Rattle.outside_model.specs.Devices.{acts_at, acts_by_hand}
-use Rattle.outside_model.specs.Events.{OuterEvent, Begins_line, Begins_tick, Host_writes, Host_takes, Host_notes, Host_begins, Chip_takes, Arrives, Gives, Device_ticks, Chip_ticks, Repeats, Wakes_device, Sets_device, Shows, Joins, Discovers, Links, Loses, Loses_acks, Marks_loss, Marks_change, Clears_pipe, Collides_next, Stalls, Cuts, mesh_of, outcome, repeats, steps}
+use Rattle.outside_model.specs.Events.{OuterEvent, Begins_line, Begins_tick, Chip_takes, Arrives, Gives, Device_ticks, Chip_ticks, Repeats, Wakes_device, Sets_device, Marks_loss, Marks_change, Clears_pipe, mesh_of, outcome, repeats, steps, ticked_entry}
 use Rattle.proof_device.proofs.Results.{Gives as GivesSo, IsSameChip, ends_go, gives_go, to_chip_goes}
 
 -- whether a tick runs, whether its number was entered, and the number
@@ -33,6 +34,10 @@ time_of o = (o.in_tick, o.stamped, o.clock)
 
 abbrev pub IsSameTime : OuterState → OuterState → Type 0
 IsSameTime o p = time_of p ≡ time_of o
+
+-- the same number is still to be entered
+pub same_number : (o p : OuterState) → IsSameTime o p → ticked_entry p ≡ ticked_entry o
+same_number o p same = ap (λ (t : Bool × Bool × ℕ). if t.0 && not t.1 then entry.Time t.2 ∷ [] else []) same
 
 -- ---- one thing after another
 
@@ -43,7 +48,7 @@ each_keeps f step keeps o (x ∷ xs) = each_keeps f step keeps (step o x).outer 
 
 -- ---- the chip
 
-puts_chip : (o : OuterState) (out : ChipOut) → (put_out o out).outer.chip ≡ o.chip
+pub puts_chip : (o : OuterState) (out : ChipOut) → (put_out o out).outer.chip ≡ o.chip
 puts_chip o (chip_out.Write unit) = refl
 puts_chip o (chip_out.OnAir to route payload) = refl
 puts_chip o chip_out.NoRoute = refl
@@ -123,10 +128,6 @@ pub outcome_time : (w : Outside) (event : OuterEvent) → IsWithin event → IsS
 unfolding outcome
 outcome_time w Begins_line within = absurd within
 outcome_time w Begins_tick within = absurd within
-outcome_time w (Host_writes unit) within = refl
-outcome_time w (Host_takes count) within = refl
-outcome_time w (Host_notes entry) within = refl
-outcome_time w (Host_begins node sessions) within = refl
 outcome_time w (Chip_takes count rest ways) within =
     each_keeps time_of chip_does does_time (record w.outer { to_chip = way.after w.outer.to_chip (Takes count); chip = record { decoder = rest; state = w.outer.chip.state } }) (judged_all ways)
 outcome_time w (Arrives drawn route) within = steps_time w (mesh.Arrives drawn route)
@@ -136,18 +137,10 @@ outcome_time w Chip_ticks within = does_time (record w.outer { chip = record { d
 outcome_time w (Repeats number drawn route) within = repeats_time w (refusal_of w.outer.air.frames number) (mesh.Repeats number drawn route)
 outcome_time w (Wakes_device node route) within = hand_time w.outer w.devices (place_of node w.devices) Wakes route
 outcome_time w (Sets_device node value route) within = hand_time w.outer w.devices (place_of node w.devices) (Sets value) route
-outcome_time w (Shows node) within = refl
-outcome_time w (Joins node) within = refl
-outcome_time w Discovers within = refl
-outcome_time w (Links a b live) within = refl
-outcome_time w (Loses count) within = refl
-outcome_time w (Loses_acks count) within = refl
 outcome_time w (Marks_loss by_host) within = refl
 outcome_time w (Marks_loss by_chip) within = refl
 outcome_time w (Marks_change by_host garble) within = refl
 outcome_time w (Marks_change by_chip garble) within = refl
 outcome_time w (Clears_pipe by_host) within = refl
 outcome_time w (Clears_pipe by_chip) within = refl
-outcome_time w Collides_next within = refl
-outcome_time w (Stalls ticks) within = refl
-outcome_time w (Cuts size) within = refl
+outcome_time w event within = refl

@@ -1,5 +1,5 @@
--- What a walk makes of lines whose events all have something more.
-use Rattle.std.proofs.Common.{List, [], ◌∷◌, ◌++◌, sym, subst, append-nil, append_assoc}
+-- What a walk makes of lines whose events all have something more: every entry keeps the law, and where the events end this is known.
+use Rattle.std.proofs.Common.{List, [], ◌∷◌, ◌++◌, sym, ap, ◌∙◌, subst, append-nil, append_assoc}
 use Rattle.zw_text.specs.declared.entry.Entry.{Entry}
 use Rattle.zw_text.specs.declared.entry.Entry.TheVariants.{Said}
 use Rattle.law_transcript.specs.Lists.{EachAfter}
@@ -7,8 +7,10 @@ use Rattle.proof_host.proofs.Lists.{each-append}
 use Rattle.world_model.specs.State.{Machine}
 use Rattle.world_model.specs.Events.{Event, happens, entries}
 use Rattle.world_model.specs.Did.{happens_all, entries_all, MayAll, AllAlong}
-use Rattle.world_lines.specs.Spoken.{Spoken, after, entries_of, transcript_of}
+use Rattle.world_model.specs.Lines.{IsLine}
+use Rattle.world_lines.specs.Spoken.{Spoken, after, after_all, entries_of, transcript_of}
 use Rattle.world_lines.specs.Done.{AreDone, events_of}
+use Rattle.world_lines.specs.Whole.{AreWhole}
 use Rattle.proof_walk.specs.Phases.{Phase, Between}
 use Rattle.proof_walk.specs.Paths.{Path}
 use Rattle.proof_walk.specs.Paths.Path.{Ends, Turned, Stepped}
@@ -32,6 +34,14 @@ module _ (Has : Machine → Event → Type 0) (Asks : List Entry → Entry → T
         subst (λ (l : List Entry). Know last l (happens_all (happens m event) events)) (append_assoc past (entries m event) (entries_all (happens m event) events)) more.1,
       )
 
+  -- a whole line
+  line_where : (past : List Entry) (m : Machine) (line : Spoken) (more : List Spoken) → AreDone m (line ∷ more) → IsLine line.line m line.events → AllAlong Has m line.events → Know Between past m
+      → EachAfter Asks past (entries_of m line) × Know Between (past ++ entries_of m line) (after m line)
+  line_where past m line more are whole has knows =
+      let said = walk.said past m line.words line.line are.0.read knows in
+      let got = along_where (whole_line line.line m line.events whole) are.0.may has (past ++ Said line.words ∷ []) said.1 in
+      ((said.0, got.0), subst (λ (l : List Entry). Know Between l (after m line)) (append_assoc past (Said line.words ∷ []) (entries_all m line.events)) got.1)
+
   -- every entry keeps the law
   pub where_stand : (past : List Entry) (m : Machine) (lines : List Spoken) → AreDone m lines → AllAlong Has m (events_of lines) → Know Between past m → EachAfter Asks past (transcript_of m lines)
   where_stand past m [] are has knows = tt
@@ -41,10 +51,37 @@ module _ (Has : Machine → Event → Type 0) (Asks : List Entry → Entry → T
       subst (EachAfter Asks past) (sym (append-nil (entries_of m line)))
       (said.0, (along_where part.1 are.0.may (along_parts Has m line.events [] has).0 (past ++ Said line.words ∷ []) said.1).0)
   where_stand past m (line ∷ (next ∷ more)) are has knows =
-      let said = walk.said past m line.words line.line are.0.read knows in
       let both = along_parts Has m line.events (events_of (next ∷ more)) has in
-      let got = along_where (whole_line line.line m line.events are.0.is_line) are.0.may both.0 (past ++ Said line.words ∷ []) said.1 in
-      let known : Know Between (past ++ entries_of m line) (after m line)
-      = subst (λ (l : List Entry). Know Between l (after m line)) (append_assoc past (Said line.words ∷ []) (entries_all m line.events)) got.1 in
-      each-append Asks past (entries_of m line) (transcript_of (after m line) (next ∷ more)) (said.0, got.0)
-      (where_stand (past ++ entries_of m line) (after m line) (next ∷ more) are.1 both.1 known)
+      let got = line_where past m line (next ∷ more) are are.0.is_line both.0 knows in
+      each-append Asks past (entries_of m line) (transcript_of (after m line) (next ∷ more)) got.0
+      (where_stand (past ++ entries_of m line) (after m line) (next ∷ more) are.1 both.1 got.1)
+
+  -- where the events end, somewhere in the last line
+  pub where_lead : (past : List Entry) (m : Machine) (lines : List Spoken) → AreDone m lines → AllAlong Has m (events_of lines) → Know Between past m
+      → (here : Phase) × Know here (past ++ transcript_of m lines) (after_all m lines)
+  where_lead past m [] are has knows = (Between, subst (λ (l : List Entry). Know Between l m) (sym (append-nil past)) knows)
+  where_lead past m (line ∷ []) are has knows =
+      let said = walk.said past m line.words line.line are.0.read knows in
+      let part = line_part line.line m line.events are.0.is_line in
+      let got = along_where part.1 are.0.may (along_parts Has m line.events [] has).0 (past ++ Said line.words ∷ []) said.1 in
+      let all : List Entry = entries_all m line.events in (
+        part.0,
+        subst (λ (l : List Entry). Know part.0 l (after m line)) (append_assoc past (Said line.words ∷ []) all ∙ ap (λ (l : List Entry). past ++ Said line.words ∷ l) (sym (append-nil all))) got.1,
+      )
+  where_lead past m (line ∷ (next ∷ more)) are has knows =
+      let both = along_parts Has m line.events (events_of (next ∷ more)) has in
+      let got = line_where past m line (next ∷ more) are are.0.is_line both.0 knows in
+      let rest = where_lead (past ++ entries_of m line) (after m line) (next ∷ more) are.1 both.1 got.1 in (
+        rest.0,
+        subst (λ (l : List Entry). Know rest.0 l (after_all (after m line) (next ∷ more))) (append_assoc past (entries_of m line) (transcript_of (after m line) (next ∷ more))) rest.1,
+      )
+
+  -- and between lines, where each was run whole
+  pub where_whole : (past : List Entry) (m : Machine) (lines : List Spoken) → AreDone m lines → AreWhole m lines → AllAlong Has m (events_of lines) → Know Between past m
+      → Know Between (past ++ transcript_of m lines) (after_all m lines)
+  where_whole past m [] are whole has knows = subst (λ (l : List Entry). Know Between l m) (sym (append-nil past)) knows
+  where_whole past m (line ∷ more) are whole has knows =
+      let both = along_parts Has m line.events (events_of more) has in
+      let got = line_where past m line more are whole.0 both.0 knows in
+      subst (λ (l : List Entry). Know Between l (after_all (after m line) more)) (append_assoc past (entries_of m line) (transcript_of (after m line) more))
+      (where_whole (past ++ entries_of m line) (after m line) more are.1 whole.1 both.1 got.1)

@@ -87,6 +87,11 @@ IsHostNote (entry.Json text) = ⊥
 IsHostNote (entry.Out command Cancelled) = ⊥
 IsHostNote note = IsNote note
 
+-- it is not the words of a line
+abbrev pub HasNoWords : Entry → Type 0
+HasNoWords (entry.Said words) = ⊥
+HasNoWords e = Unit {0}
+
 -- ---- what a law owes
 
 -- an event that does one thing: no line, tick or session begins, and neither chip, air nor devices go on

@@ -7,7 +7,7 @@
 //! a law that tells apart only what a line has done), `Outside` (what a law owes of what happens outside the host, with the number of the tick dealt
 //! with once; less where only the link of the chip concerns it) and `Time`. `proofs/Lines` has what a walk gives of lines that are said one after
 //! another: `lines_stand`, and `lines_lead` where all were run whole; `proofs/Over` puts one walk on the ground of another. `proofs/Where` walks along
-//! events that all have something more (`where_stand`). `proofs/Machines` has
+//! events that all have something more (`where_stand`; `where_lead` and `where_whole` say what is known where they end). `proofs/Machines` has
 //! `machine_keeps`: what is owed outside the host, with the units and notes of the host, is enough for each event of the machine.
 #![tactic(auto)]
 

@@ -12,3 +12,5 @@ pub mod Tasks
 pub mod Hosts
 pub mod FirstHosts
 pub mod Runs
+pub use Rattle.proof_device.proofs.DevicePlaces
+pub use Rattle.proof_device.proofs.HostOuts

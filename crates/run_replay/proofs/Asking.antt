@@ -28,8 +28,8 @@ use Rattle.host_model.proofs.EventLists.{rose_one, rose_none, unkept_alone}
 use Rattle.host_model.specs.Asking.{carriage_for, Waits}
 use Rattle.host_model.specs.declared.out.HostOut.{HostOut}
 use Rattle.host_model.specs.Outs.{answers}
-use Rattle.host_step_bytes.specs.Calls.{DoesAlone, Are, scene}
-use Rattle.host_step_bytes.specs.Calls as calls
+use Rattle.host_core.specs.Calls.{DoesAlone, Are, scene}
+use Rattle.host_core.specs.Calls as calls
 use Rattle.host_parts.specs.Choices.{Judges}
 use Rattle.host_core.specs.Orders.{KeptOrRefused, CancelsOrNot}
 use Rattle.host_core.specs.declared.orders.CancelFault.{CancelFault}

@@ -12,8 +12,8 @@ use Rattle.host_model.specs.Taking.{Fed, FedPrefix}
 use Rattle.host_model.specs.Ticking.{tick_events}
 use Rattle.host_model.specs.declared.out.HostOut.{HostOut}
 use Rattle.host_model.proofs.EventLists.{did_both}
-use Rattle.host_step_bytes.specs.Calls.{Are, scene}
-use Rattle.host_step_bytes.specs.Calls as calls
+use Rattle.host_core.specs.Calls.{Are, scene}
+use Rattle.host_core.specs.Calls as calls
 use Rattle.world_model.specs.State.{with_texts}
 use Rattle.world_model.proofs.Hosting.{adds_is}
 use Rattle.run_replay.specs.Machine.{Event, Does_itself, Takes, Ticks, Scene, Run, Does, Stops, May, happens, entries, entries_of, entry_of, timed, hosted}

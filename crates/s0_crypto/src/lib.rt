@@ -21,3 +21,4 @@ pub use key_pair::Keys;
 pub use network_keys::keys;
 pub use opening::unseal;
 pub use sealing::seal;
+pub use zw_base::{Bytes, NoMemory, NodeId};

@@ -15,9 +15,9 @@ ghost use Rattle.s0_session.specs.Nonces.{
 };
 
 use crate::Account;
+use s0_crypto::{NoMemory, NodeId};
 use std::alloc::Global;
 use std::marker::Model;
-use zw_base::{NoMemory, NodeId};
 
 /// One account for each node number from 0 to 232; that of 0 is never used.
 const ACCOUNTS: usize = 233;

@@ -3,10 +3,9 @@
 ghost use Rattle.std.specs.Prelude.{◌≡◌, ◌≤◌, ◌^◌, ◌<◌, ◌↔◌, Option, Some, None, IsSome, IsTrue, List, ℕ, length, slice_index, IfOk, OnErr};
 ghost use Rattle.s0_session.specs.Sending.{seen_after, taken, SealsPending, WouldSeal};
 
-use s0_crypto::{Keys, SealEnds, seal};
+use s0_crypto::{Bytes, Keys, NoMemory, SealEnds, seal};
 use std::alloc::Global;
 use std::marker::Model;
-use zw_base::{Bytes, NoMemory};
 
 /// One plain text at a time, to be sealed for a nonce of its receiver. Contracts see the ends, how many nonces were
 /// seen, and the pending plain text.

@@ -137,6 +137,13 @@ const ANSWERS: &[(&str, &str, Status, &str)] = &[
         "frame request 15 -\n  body ok\n",
     ),
     ("check", "0103001", Status::BadHex(7), ""),
+    (
+        "generate|1",
+        "",
+        Status::Ok,
+        "commands 25\nsuccess 25\nticks 510\nnode 2 sessions 25\ndevice 2 0/switch 255\nnode 10 sessions 0\nnode 18 sessions 0\n\
+         node 26 sessions 0\n",
+    ),
     ("include", "reset 20\n", Status::Ok, "> reset 20\n"),
     (
         "replay",

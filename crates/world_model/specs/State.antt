@@ -2,7 +2,6 @@
 use Rattle.std.specs.Prelude.{ℕ, List, [], ◌∷◌, ◌++◌, Option, Some, None}
 use Rattle.std.specs.List.{flat_map}
 use Rattle.serial_frame.specs.Stream.{no_rest}
-use Rattle.device_sim.specs.State.{State}
 use Rattle.s0_crypto.specs.declared.key_pair.Keys.{Keys}
 use Rattle.zw_text.specs.declared.entry.Entry.{Entry}
 use Rattle.zw_text.specs.declared.entry.Entry.TheVariants.{Begin}
@@ -11,6 +10,7 @@ use Rattle.host_model.specs.Events.{HostEvent}
 use Rattle.host_model.specs.Did.{after_all, outs_all, records_all, texts_of}
 use Rattle.host_model.specs.declared.out.HostOut.{HostOut}
 use Rattle.host_model.specs.declared.out.HostOut.TheVariants.{Write, Note}
+use Rattle.outside_model.specs.Devices.{State}
 use Rattle.outside_model.specs.State.{OuterState, Outside, outside, first_outer}
 use Rattle.outside_model.specs.Events.{OuterEvent, Host_writes, Host_notes, Host_begins}
 use Rattle.outside_model.specs.Did.{happens_all, entries_all}

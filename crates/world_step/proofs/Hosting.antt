@@ -11,8 +11,8 @@ use Rattle.host_model.specs.Did.{Did, Shelf}
 use Rattle.host_model.specs.Pumping.{Pumps}
 use Rattle.host_model.specs.Ticking.{tick_events}
 use Rattle.host_model.specs.declared.out.HostOut.{HostOut}
-use Rattle.host_step_bytes.specs.Calls.{Are, scene}
-use Rattle.host_step_bytes.specs.Calls as calls
+use Rattle.host_core.specs.Calls.{Are, scene}
+use Rattle.host_core.specs.Calls as calls
 use Rattle.outside_model.specs.State.{OuterState}
 use Rattle.outside_model.specs.Did.{Goes}
 use Rattle.world_model.specs.State.{routed}

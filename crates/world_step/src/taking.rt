@@ -3,7 +3,7 @@
 ghost use Rattle.std.specs.Prelude.{◌≡◌, ℕ, ◌≤◌, ◌<◌, ◌&&◌, ◌||◌, ◌∷◌, [], not, nat_lt, take, length, false, List as Items, Option, IfOk, OnOk, OnErr};
 ghost use Rattle.s0_crypto.specs.declared.key_pair.Keys.{Keys};
 ghost use Rattle.device_sim.specs.State.{State};
-ghost use Rattle.host_step_bytes.specs.Calls.{scene as host_scene};
+ghost use Rattle.host_core.specs.Calls.{scene as host_scene};
 ghost use Rattle.outside_model.specs.State.{is_stalled};
 ghost use Rattle.outside_model.specs.Events.{Host_takes};
 ghost use Rattle.outside_model.specs.Did.{Goes};

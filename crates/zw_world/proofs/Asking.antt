@@ -32,8 +32,8 @@ use Rattle.host_model.specs.Asking.{places_refusal, carriage_for, Waits}
 use Rattle.host_model.specs.declared.out.HostOut.{HostOut}
 use Rattle.host_model.specs.Outs.{answers}
 use Rattle.host_model.proofs.Silence.{Silent}
-use Rattle.host_step_bytes.specs.Calls.{DoesAlone, Are, scene}
-use Rattle.host_step_bytes.specs.Calls as calls
+use Rattle.host_core.specs.Calls.{DoesAlone, Are, scene}
+use Rattle.host_core.specs.Calls as calls
 use Rattle.host_parts.specs.Choices.{Judges}
 use Rattle.host_core.specs.Orders.{KeptOrRefused, CancelsOrNot, question_event, places_of}
 use Rattle.host_core.specs.declared.orders.Question.{Question}

@@ -462,12 +462,39 @@ def unsealed_at(key, nonce, ends, payload):
     return NONE if found is None else some(tuple(found))
 
 
-# what a claim says there is: of a sealed text the nonce of the sender, and that of the node; of a segment its place; of a Nonce Report its nonce
+# what a claim says there is: of a sealed text the nonce of the sender, and that of the node; of what a node told in a sealed payload this payload, both
+# nonces and the text; of a segment its place; of a Nonce Report its nonce
+def opened_from(key, past, node):
+    """The sealed payloads of a node that open for a nonce that the host gave it: the payload, both nonces, and the text."""
+    from .laws import NAMES
+    code, units = lambda path: NAMES.get(path).code, "law_transcript.specs.Units."  # noqa: E731
+    sent = [one for unit in tuple_of(code("zw_text.specs.Transcript.units")(SIDES["h"], past)) for one in tuple_of(code(units + "sending_in")(unit.bytes))]
+    given_nonces = {one.payload[2:] for one in sent if one.node == node and begins_with(one.payload, 0x98, 0x80) and len(one.payload) == 10}
+    ends = WORLD.record(("sender", "receiver"), (node, 1))
+    for payload in tuple_of(code(units + "payloads_from")(node, past)):
+        for nonce in given_nonces if begins_with(payload, 0x98, 0x81) else ():
+            text = unsealed_at(bytes(key), nonce, ends, payload)
+            if text is not NONE and payload[-9] == nonce[0]:
+                yield payload, payload[2:10], nonce, text.fields[0]
+
+
+def tells(payload):
+    """What a payload tells as it came."""
+    from .laws import NAMES
+    return tuple_of(NAMES.get("law_transcript.specs.Payloads.messages_of").code(heard_at(payload)))
+
+
+def told_sealed(key, past, node, message):
+    """The sealed payload in which a node told this, both nonces, and the text."""
+    return next((found for found in opened_from(key, past, node) if message in tells(found[3])), None)
+
+
 def sealed_for(key, past, node, message, payload):
     """The two nonces of a sealed text."""
     from .laws import NAMES
     ends, own = WORLD.record(("sender", "receiver"), (1, node)), payload[2:10]
-    for one in tuple_of(NAMES.get("law_transcript.specs.Payloads.told_by").code(node, past)):
+    openly = tuple_of(NAMES.get("law_transcript.specs.Payloads.told_by").code(node, past))
+    for one in openly + tuple(one for found in opened_from(key, past, node) for one in tells(found[3])):
         if one.name == "Told.NonceReport" and one.fields[0][:1] == payload[-9:-8] and sealed_text(bytes(key), own, one.fields[0], ends, message) == payload:
             return own, one.fields[0]
     return None
@@ -482,7 +509,8 @@ def segment_place(message, session, payload):
 FOUND["law_host.specs.Nonces.IsSeal"] = (("own",), lambda _, seal: (seal.payload[2:10],))
 FOUND["law_transcript.specs.Payloads.IsSealedFor"] = (("own", "nonce"), sealed_for)
 FOUND["law_transcript.specs.Payloads.IsSegmentOf"] = (("place",), segment_place)
-FOUND["law_transcript.specs.Payloads.IsNonceReport"] = (("nonce",), lambda _, carried: (carried.payload[2:],))
+FOUND["law_transcript.specs.Payloads.IsToldSealed"] = (("payload", "own", "nonce", "plain"), told_sealed)
+FOUND["law_transcript.specs.Payloads.IsNonceReport"] = (("nonce",), lambda _, past, carried: (carried.payload[2:],))
 
 
 # ---- orders

@@ -1,16 +1,19 @@
-use Rattle.std.proofs.Common.{◌≡◌, ℕ, suc, ◌*◌, List, [], ◌∷◌, length, slice_index, refl, inl, inr, ap, ◌∙◌, arith}
+use Rattle.std.proofs.Common.{◌≡◌, ℕ, suc, ◌*◌, List, [], ◌∷◌, length, slice_index, refl, inl, inr, ap, subst, ◌∙◌, arith}
 use Rattle.std.specs.Prelude.{replicate, take, codes, ⊤}
 use Rattle.class_info.specs.InfoReading.{nonce_at}
 use Rattle.device_kinds.specs.Sealing.{sealed_text}
+use Rattle.host_heard.specs.Telling.{heard_at}
 use Rattle.host_heard.specs.declared.told.Told.{Told}
-use Rattle.host_heard.specs.declared.told.Told.TheVariants.{NonceReport}
+use Rattle.host_heard.specs.declared.told.Told.TheVariants.{NonceGet, NonceReport}
+use Rattle.law_transcript.specs.Lists.{Has}
 use Rattle.law_transcript.specs.Nodes.{listing_of}
+use Rattle.law_transcript.specs.Payloads.{messages_of}
 use Rattle.law_transcript.specs.Units.{Carried}
 use Rattle.law_transcript.specs.Worked.{bytes, network_key, the_switch, the_lock, the_plug}
 use Rattle.law_transcript.specs.WorkedCases.{the_dimmer}
-use Rattle.law_transcript.specs.WorkedWrongPayloads.{sent_otherwise, sent_earlier, sent_unbegun, sent_by_new_list, sealed_unasked, sent_openly, sealed_for_none, sealed_for_longer, sealed_otherwise, sealed_longer, sent_whole, cut_otherwise, cut_of_another, cut_past_end, nonce_unasked, nonce_of_another, nonce_otherwise, nonce_shorter, set_unasked, set_by_new_list, set_otherwise, set_of_another, set_refused, get_unasked}
+use Rattle.law_transcript.specs.WorkedWrongPayloads.{sent_otherwise, sent_earlier, sent_unbegun, sent_by_new_list, sealed_unasked, sent_openly, sealed_for_none, sealed_for_longer, sealed_otherwise, sealed_longer, sent_whole, cut_otherwise, cut_of_another, cut_past_end, nonce_unasked, nonce_of_another, nonce_of_another_sealed, nonce_for_nothing, nonce_otherwise, nonce_shorter, set_unasked, set_by_new_list, set_otherwise, set_of_another, set_refused, get_unasked}
 use Rattle.law_transcript.proofs.Computing.{computing}
-use Rattle.law_transcript.proofs.Dues.{head_of, differ, not_due, no_other, sealed_as, sealed_length, is_cut, cut_at}
+use Rattle.law_transcript.proofs.Dues.{head_of, differ, not_due, no_other, sealed_as, sealed_length, is_cut, cut_at, not_sealed, sealed_nothing}
 use Rattle.law_transcript.proofs.Sealing.{set_own, set_nonce, set_plain, sealed_set}
 use Rattle.law_transcript.proofs.wire.rejected_payloads.Goals as goal
 
@@ -60,13 +63,13 @@ pub returns-clause-for_none : goal.returns-clause-for_none
 unfolding computing sealing
 returns-clause-for_none c = λ law.
     no_other (listing_of (the_lock ∷ [])) network_key (take 5 sealed_for_none) (record { node = 4; payload = bytes (codes "98816B71E54E0F8EE3186CCEA9D132AB2C95018A573A88D6BE287E") }) refl refl refl
-    (λ of. of.given) (λ asked. asked) law.1.1.1.1.1.0.0
+    (λ of. elim of.given [ inl told ↦ told | inr sealed ↦ sealed.brought ]) (λ asked. asked) law.1.1.1.1.1.0.0
 
 pub returns-clause-sealed_otherwise : goal.returns-clause-sealed_otherwise
 unfolding computing sealing
 returns-clause-sealed_otherwise c = λ law.
     no_other (listing_of (the_lock ∷ [])) network_key (take 6 sealed_otherwise) (record { node = 4; payload = bytes (codes "98816B71E54E0F8EE3186CCEA9D132AB2C95018A573A88D6BE287F") }) refl refl refl
-    (λ of. differ 0x7F 0x7E refl (ap (λ p. slice_index p 26) (sealed_as of.own of.nonce set_own set_nonce set_plain _ of.own_eight refl (elim of.given [ inl same ↦ ap nonce_of same | inr never ↦ absurd never ]) of.text ∙ sealed_set))) (λ asked. asked) law.1.1.1.1.1.1.0.0
+    (λ of. differ 0x7F 0x7E refl (ap (λ p. slice_index p 26) (sealed_as of.own of.nonce set_own set_nonce set_plain _ of.own_eight refl (elim of.given [ inl told ↦ elim told [ inl same ↦ ap nonce_of same | inr never ↦ absurd never ] | inr sealed ↦ absurd (not_sealed (bytes (codes "988001ED7E19638089D9")) sealed.payload sealed.own sealed.nonce sealed.plain sealed.brought refl sealed.text) ]) of.text ∙ sealed_set))) (λ asked. asked) law.1.1.1.1.1.1.0.0
 
 pub returns-clause-longer : goal.returns-clause-longer
 unfolding computing sealing
@@ -102,14 +105,38 @@ pub returns-clause-nonce_unasked : goal.returns-clause-nonce_unasked
 unfolding computing sealing
 returns-clause-nonce_unasked c = λ law.
     not_due (listing_of (the_lock ∷ [])) network_key (take 0 nonce_unasked) (record { node = 4; payload = bytes (codes "9880019E0A1249BB594F") }) (λ of. of)
-    (λ get. differ 0x9880 0x9840 refl (ap head_of get)) (λ report. report.asked)
+    (λ get. differ 0x9880 0x9840 refl (ap head_of get)) (λ report. elim report.asked [ inl told ↦ told | inr sealed ↦ sealed.brought ])
     (λ more. differ 0x9880 0x8408 refl (ap head_of more)) (λ asked. asked) law.0.0
 
 pub returns-clause-nonce_of_another : goal.returns-clause-nonce_of_another
 unfolding computing sealing
 returns-clause-nonce_of_another c = λ law.
     not_due (listing_of (the_lock ∷ [])) network_key (take 1 nonce_of_another) (record { node = 12; payload = bytes (codes "9880019E0A1249BB594F") }) (λ of. of)
-    (λ get. differ 0x9880 0x9840 refl (ap head_of get)) (λ report. report.asked)
+    (λ get. differ 0x9880 0x9840 refl (ap head_of get)) (λ report. elim report.asked [ inl told ↦ told | inr sealed ↦ sealed.brought ])
+    (λ more. differ 0x9880 0x8408 refl (ap head_of more)) (λ asked. asked) law.1.0.0
+
+pub returns-clause-nonce_of_another_sealed : goal.returns-clause-nonce_of_another_sealed
+unfolding computing sealing
+returns-clause-nonce_of_another_sealed c = λ law.
+    not_due (listing_of (the_lock ∷ [])) network_key (take 1 nonce_of_another_sealed) (record { node = 12; payload = bytes (codes "9880019E0A1249BB594F") }) (λ of. of)
+    (λ get. differ 0x9880 0x9840 refl (ap head_of get)) (λ report. elim report.asked [ inl told ↦ told | inr sealed ↦ sealed.brought ])
+    (λ more. differ 0x9880 0x8408 refl (ap head_of more)) (λ asked. asked) law.1.0.0
+
+-- nothing tells nothing
+tells_none : (plain : List ℕ) → plain ≡ [] → Has (messages_of (heard_at plain)) NonceGet → ⊥
+unfolding computing
+tells_none plain none tells = subst (λ (p : List ℕ). Has (messages_of (heard_at p)) NonceGet) none tells
+
+pub returns-clause-nonce_for_nothing : goal.returns-clause-nonce_for_nothing
+unfolding computing
+returns-clause-nonce_for_nothing c = λ law.
+    not_due (listing_of (the_lock ∷ [])) network_key (take 1 nonce_for_nothing) (record { node = 4; payload = bytes (codes "98800201020304050607") }) (λ of. of)
+    (λ get. differ 0x9880 0x9840 refl (ap head_of get))
+    (λ report. elim report.asked [
+      | inl told ↦ told
+      | inr sealed ↦ tells_none sealed.plain
+          (sealed_nothing (bytes (codes "98810AED115731C616E72C01829AA826FC9B263F")) sealed.payload sealed.own sealed.nonce sealed.plain sealed.brought refl sealed.own_eight sealed.text) sealed.tells
+    ])
     (λ more. differ 0x9880 0x8408 refl (ap head_of more)) (λ asked. asked) law.1.0.0
 
 pub returns-clause-nonce_shorter : goal.returns-clause-nonce_shorter
@@ -154,7 +181,7 @@ unfolding computing sealing
 returns-clause-for_longer c = λ law.
     no_other (listing_of (the_lock ∷ [])) network_key (take 6 sealed_for_longer) (record { node = 4; payload = bytes (codes "98816B71E54E0F8EE3186CCEA9D132AB2C95013AA2BEFDC2FEF985") }) refl refl refl
     (λ of. differ 0x3A 0x8A refl (ap (λ p. slice_index p 19)
-    (sealed_as of.own of.nonce set_own set_nonce set_plain _ of.own_eight refl (elim of.given [ inl same ↦ ap nonce_of same | inr never ↦ absurd never ]) of.text
+    (sealed_as of.own of.nonce set_own set_nonce set_plain _ of.own_eight refl (elim of.given [ inl told ↦ elim told [ inl same ↦ ap nonce_of same | inr never ↦ absurd never ] | inr sealed ↦ absurd (not_sealed (bytes (codes "988001ED7E19638089D905")) sealed.payload sealed.own sealed.nonce sealed.plain sealed.brought refl sealed.text) ]) of.text
     ∙ sealed_set))) (λ asked. asked) law.1.1.1.1.1.1.0.0
 
 pub returns-clause-nonce_otherwise : goal.returns-clause-nonce_otherwise

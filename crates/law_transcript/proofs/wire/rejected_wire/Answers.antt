@@ -61,6 +61,10 @@ pub returns-clause-written : goal.returns-clause-written
 unfolding computing
 returns-clause-written c = λ law. elim law.1.1.0 [ inl picked ↦ on_off (ap (λ (carried : Carried). last_byte 0 carried.payload) picked.0) | inr never ↦ never ]
 
+pub returns-clause-garbled : goal.returns-clause-garbled
+unfolding computing
+returns-clause-garbled c = λ law. law.1.1.0
+
 pub returns-clause-brought_otherwise : goal.returns-clause-brought_otherwise
 unfolding computing
 returns-clause-brought_otherwise c = λ law. elim law.1.1.1.0.0 [ inl picked ↦ off_on (ap (λ (carried : Carried). last_byte 0 carried.payload) picked.0) | inr never ↦ never ]

@@ -1,11 +1,13 @@
 use Rattle.std.proofs.Common.{[], ◌∷◌, refl, inl, inr, sym, arith}
-use Rattle.std.specs.Prelude.{codes}
-use Rattle.law_transcript.specs.Nodes.{listing_of}
+use Rattle.std.specs.Prelude.{codes, take}
 use Rattle.class_info.specs.InfoReading.{nonce_at}
+use Rattle.host_heard.specs.declared.told.Told.TheVariants.{NonceGet, NonceReport}
+use Rattle.law_transcript.specs.Nodes.{listing_of}
+use Rattle.law_transcript.specs.Payloads.{IsToldSealed}
 use Rattle.law_transcript.specs.Worked.{bytes, plain_exchange, repeated_exchange, lossy_exchange, cancelled_order, restarted_host, sleeping_node, sealed_exchange, long_message, the_switch, the_sensor, the_lock, the_plug, network_key}
-use Rattle.law_transcript.specs.WorkedCases.{nonces_wrapped, set_asked, get_asked, nonces_counted, sent_by_old_list, set_by_old_list, the_dimmer}
+use Rattle.law_transcript.specs.WorkedCases.{nonce_asked_sealed, nonce_given_sealed, nonces_wrapped, set_asked, get_asked, nonces_counted, sent_by_old_list, set_by_old_list, the_dimmer}
 use Rattle.law_transcript.proofs.Entries.{sends_what_is_due}
-use Rattle.law_transcript.proofs.Sealing.{set_own, set_nonce, report_nonce, sealed_set}
+use Rattle.law_transcript.proofs.Sealing.{by_lock, get_code, get_plain, get_text, given_code, given_plain, given_text, set_own, set_nonce, report_nonce, report_own, sealed_get, sealed_given, sealed_set}
 use Rattle.law_transcript.proofs.Computing.{computing}
 use Rattle.law_transcript.proofs.wire.worked_payloads.Goals as goal
 
@@ -44,7 +46,7 @@ returns-clause-sealed c = sends_what_is_due (listing_of (the_lock ∷ [])) netwo
         inl (record {
           own = set_own;
           nonce = set_nonce;
-          given = inl refl;
+          given = inl (inl refl);
           own_eight = refl;
           eight = refl;
           text = sym sealed_set;
@@ -56,7 +58,7 @@ returns-clause-sealed c = sends_what_is_due (listing_of (the_lock ∷ [])) netwo
           inr (inr (inl (record {
             nonce = report_nonce;
             eight = refl;
-            asked = inr (inl refl);
+            asked = inl (inr (inl refl));
             text = refl;
           }))),
           tt,
@@ -103,11 +105,11 @@ returns-clause-set_old_list c = sends_what_is_due (listing_of (the_dimmer ∷ []
 pub returns-clause-nonces : goal.returns-clause-nonces
 unfolding computing
 returns-clause-nonces c = sends_what_is_due (listing_of (the_lock ∷ [])) network_key nonces_counted (
-  (inr (inr (inl (record { nonce = bytes (codes "019E0A1249BB594F"); eight = refl; asked = inl refl; text = refl }))), tt),
+  (inr (inr (inl (record { nonce = bytes (codes "019E0A1249BB594F"); eight = refl; asked = inl (inl refl); text = refl }))), tt),
   (
-    (inr (inr (inl (record { nonce = bytes (codes "019E0A1249BB594F"); eight = refl; asked = inl refl; text = refl }))), tt),
+    (inr (inr (inl (record { nonce = bytes (codes "019E0A1249BB594F"); eight = refl; asked = inl (inl refl); text = refl }))), tt),
     (
-      (inr (inr (inl (record { nonce = bytes (codes "0201020304050607"); eight = refl; asked = inl refl; text = refl }))), tt),
+      (inr (inr (inl (record { nonce = bytes (codes "0201020304050607"); eight = refl; asked = inl (inl refl); text = refl }))), tt),
       tt,
     ),
   ),
@@ -116,6 +118,48 @@ returns-clause-nonces c = sends_what_is_due (listing_of (the_lock ∷ [])) netwo
 pub returns-clause-wrapped : goal.returns-clause-wrapped
 unfolding computing
 returns-clause-wrapped c = sends_what_is_due (listing_of (the_lock ∷ [])) network_key nonces_wrapped (
-  (inr (inr (inl (record { nonce = bytes (codes "01B8E0ADA0F13D90"); eight = refl; asked = inl refl; text = refl }))), tt),
-  ((inr (inr (inl (record { nonce = bytes (codes "01B8E0ADA0F13D90"); eight = refl; asked = inl refl; text = refl }))), tt), tt),
+  (inr (inr (inl (record { nonce = bytes (codes "01B8E0ADA0F13D90"); eight = refl; asked = inl (inl refl); text = refl }))), tt),
+  ((inr (inr (inl (record { nonce = bytes (codes "01B8E0ADA0F13D90"); eight = refl; asked = inl (inl refl); text = refl }))), tt), tt),
+)
+
+asked_so : IsToldSealed network_key (take 1 nonce_asked_sealed) 4 NonceGet
+unfolding computing
+asked_so = record {
+  payload = by_lock get_text get_code;
+  brought = inl refl;
+  own = report_own;
+  nonce = report_nonce;
+  plain = get_plain;
+  own_eight = refl;
+  eight = refl;
+  text = sym sealed_get;
+  tells = inl refl;
+}
+
+pub returns-clause-asked_sealed : goal.returns-clause-asked_sealed
+unfolding computing
+returns-clause-asked_sealed c = sends_what_is_due (listing_of (the_lock ∷ [])) network_key nonce_asked_sealed (
+  (inr (inr (inl (record { nonce = bytes (codes "0201020304050607"); eight = refl; asked = inr asked_so; text = refl }))), tt),
+  tt,
+)
+
+given_so : IsToldSealed network_key (take 6 nonce_given_sealed) 4 (NonceReport set_nonce)
+unfolding computing nonce_at
+given_so = record {
+  payload = by_lock given_text given_code;
+  brought = inl refl;
+  own = report_own;
+  nonce = report_nonce;
+  plain = given_plain;
+  own_eight = refl;
+  eight = refl;
+  text = sym sealed_given;
+  tells = inl refl;
+}
+
+pub returns-clause-given_sealed : goal.returns-clause-given_sealed
+unfolding computing nonce_at
+returns-clause-given_sealed c = sends_what_is_due (listing_of (the_lock ∷ [])) network_key nonce_given_sealed (
+  (inl (record { own = set_own; nonce = set_nonce; given = inr given_so; own_eight = refl; eight = refl; text = sym sealed_set }), tt),
+  tt,
 )

@@ -11,21 +11,13 @@ use Rattle.world_lines.specs.Done.{AreDone}
 use Rattle.world_lines.specs.Whole.{AreWhole}
 use Rattle.proof_walk.specs.Phases.{Phase, Between}
 use Rattle.proof_walk.specs.Time.{MayCount, KnowTime}
-use Rattle.proof_walk.specs.Walk.{Walk, WalkOver, both_know}
+use Rattle.proof_walk.specs.Walk.{Walk, both_know}
 use Rattle.proof_walk.proofs.Lines.{lines_lead, lines_stand}
-use Rattle.proof_walk.proofs.Over.{over}
+use Rattle.proof_walk.proofs.Over.{over, beside}
 use Rattle.proof_air.specs.Hearing.{MayHear, KnowAir}
 use Rattle.proof_air.specs.Landing.{KnowLanding}
 use Rattle.proof_air.proofs.LandingWalk.{landed_asked}
 use Rattle.proof_air.proofs.landing.lines_land_in_time.Goals as goal
-
--- a walk needs no ground
-beside : (Asks : List Entry → Entry → Type 0) (Ground Know : Phase → List Entry → Machine → Type 0) → Walk Asks Know → WalkOver Ground Asks Know
-beside Asks Ground Know walk = record {
-  said = λ past m words line read ground known. walk.said past m words line read known;
-  event = λ here next past m event goes may ground known. walk.event here next past m event goes may known;
-  turn = λ here next past m turns ground known. walk.turn here next past m turns known;
-}
 
 abbrev Know : Phase → List Entry → Machine → Type 0
 Know = both_know (both_know KnowAir KnowTime) KnowLanding

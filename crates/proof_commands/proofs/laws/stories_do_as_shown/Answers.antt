@@ -16,7 +16,7 @@ use Rattle.world_lines.specs.Spoken.{Spoken, after_all, transcript_of}
 use Rattle.world_lines.specs.Done.{AreDone}
 use Rattle.world_lines.specs.Whole.{AreWhole}
 use Rattle.proof_device.specs.Showing.{AreApart}
-use Rattle.proof_devices.specs.LastLine.{with_last as said_further}
+use Rattle.proof_fates.specs.Devices.{with_last as said_further}
 use Rattle.proof_commands.specs.Around.{Around}
 use Rattle.proof_commands.specs.Laws.{IsFairWorld, IsStory, IsWhole, Ran, TellsAtRestarts, first, transcript, with_last}
 use Rattle.proof_commands.proofs.Further.{devices_are, further, further_read, further_told, reads_as, told, whole_devices}
@@ -52,9 +52,9 @@ record Laws : Type 0 where
       DevicesDid false devices (after_all (first_machine keys (Some texts) devices) (said_further more lines)).outside.devices
       (transcript_of (first_machine keys (Some texts) devices) lines)
 
-module _ (laws : Laws) (key : List ℕ) (old new : Around) (story : List Ran) (unentered : List Event) (is : IsStory key old new story unentered) (fair : IsFairWorld key old) where
+module _ (laws : Laws) (key : List ℕ) (old new : Around) (story : List Ran) (unentered : List Event) (is : IsStory key old new story unentered) (fair : IsFairWorld key old story) where
   abbrev tells : TellsAtRestarts old story
-  tells restarts = fair.told
+  tells = fair.run.told
 
   abbrev m : Machine
   m = fresh key old
@@ -79,11 +79,11 @@ module _ (laws : Laws) (key : List ℕ) (old new : Around) (story : List Ran) (u
   did true all =
       left_as true (after_all m (all_said story)).outside.devices (whole_devices key old new story unentered is tells (all refl).all_entered)
       (laws.whole (keys_of key) key [] old.devices (all_said story) done
-      (whole_said m story ((told key old new story unentered is tells).schedules (all refl).schedules)) fair.made fair.apart)
+      (whole_said m story ((told key old new story unentered is tells).schedules (all refl).schedules)) fair.run.made fair.apart)
   did false all =
       left_as false (after_all m (said_further (last_of is.rest.last) (all_said story))).outside.devices
       (devices_are key old new story unentered is tells ∙ ap (λ (l : List Spoken). (after_all m l).outside.devices) (same_further is.rest.last story))
-      (laws.cut (keys_of key) key [] old.devices (all_said story) (last_of is.rest.last) done further_done (one_at_most is.rest.last) fair.made fair.apart)
+      (laws.cut (keys_of key) key [] old.devices (all_said story) (last_of is.rest.last) done further_done (one_at_most is.rest.last) fair.run.made fair.apart)
 
 pub returns-clause-devices : goal.returns-clause-devices
 returns-clause-devices c = λ key old new story unentered is fair whole all.

@@ -21,9 +21,8 @@ use Rattle.proof_serial.specs.Line.{AreLines}
 use Rattle.run_lines.specs.Pieces.{said_text}
 use Rattle.world_lines.specs.Spoken.{after_all}
 use Rattle.world_lines.specs.Done.{AreDone, events_of as events_said}
-use Rattle.proof_headline.proofs.PlainTying.{was_there}
-use Rattle.proof_headline.specs.Truly.{IsAskable, SucceedsAfterChangeOf}
-use Rattle.proof_headline.specs.Supervised.{IsPlainOrLock, IsSupervisedNode}
+use Rattle.proof_audit.proofs.PlainTying.{was_there}
+use Rattle.proof_audit.specs.Headline.{IsAskable, SucceedsAfterChangeOf, IsPlainOrLock, IsSupervisedNode}
 use Rattle.proof_commands.specs.Around.{Around}
 use Rattle.proof_commands.specs.Laws.{Ran, IsFairRun, IsStory, events_of, first, transcript}
 use Rattle.proof_commands.specs.Generate.{plain_lines}

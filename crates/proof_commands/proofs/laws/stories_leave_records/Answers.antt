@@ -7,7 +7,7 @@ use Rattle.world_model.specs.Events.{Event}
 use Rattle.world_model.specs.Did.{happens_all}
 use Rattle.world_lines.specs.Spoken.{after_all, transcript_of}
 use Rattle.world_lines.specs.Done.{AreDone}
-use Rattle.proof_transcript.specs.Records.{HasRecords}
+use Rattle.proof_audit.specs.Transcript.{HasRecords}
 use Rattle.proof_commands.specs.Laws.{AreSchedules, events_of, first, transcript, transcript_from}
 use Rattle.proof_commands.proofs.Speaking.{all_said, same_machine, same_transcript, story_done}
 use Rattle.proof_commands.proofs.Tables.{whole_said}

@@ -26,7 +26,7 @@ returns c = λ ended key old new is story unentered tells good.
       whole = c.changes_are_entered_whole.ensures;
       begun = as_network c.sessions_begin_before_changes.ensures;
       lines = c.frames_keep_the_rule_of_the_air.ensures.legible;
-      carries = c.lines_carry_whole_units.ensures;
+      carries = c.lines_carry_units.ensures;
       stores = c.values_are_stored_directly.ensures;
       rules = c.laws_keep_every_rule.ensures;
     } in

@@ -5,8 +5,7 @@ use Rattle.world_model.specs.State.{Machine, first_machine}
 use Rattle.proof_walk.specs.Time.{MayCount, KnowTime}
 use Rattle.proof_walk.specs.Walk.{Walk, both_know}
 use Rattle.proof_walk.proofs.Lines.{lines_lead}
-use Rattle.proof_walk.proofs.Over.{over}
-use Rattle.proof_devices.proofs.Together.{beside}
+use Rattle.proof_walk.proofs.Over.{over, beside}
 use Rattle.proof_air.specs.Hearing.{MayHear, KnowAir}
 use Rattle.proof_devices.specs.Living.{MayAny, KnowDevices}
 use Rattle.proof_devices.proofs.Whole.{whole_lived}

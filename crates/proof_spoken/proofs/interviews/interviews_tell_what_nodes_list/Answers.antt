@@ -2,7 +2,7 @@
 use Rattle.std.proofs.Common.{[], Some, refl}
 use Rattle.law_transcript.specs.Nodes.{listing_of}
 use Rattle.world_model.specs.State.{first_machine}
-use Rattle.proof_device.proofs.DevicePlaces.{go_none}
+use Rattle.proof_world.proofs.DevicePlaces.{go_none}
 use Rattle.proof_spoken.proofs.HeardLists.{all_hear_lists, first_down}
 use Rattle.proof_spoken.proofs.NodeLists.{lists_on}
 use Rattle.proof_spoken.proofs.KnownLists.{all_tell}

@@ -1,7 +1,7 @@
 use Rattle.std.proofs.Common.{◌≡◌, ◌≤◌, length}
 use Rattle.world_step.proofs.Bytes.{TakesSome}
 use Rattle.world_step.proofs.sides.Sides.take_all.Given as goal
-use Rattle.host_step_bytes.specs.Calls.{scene}
+use Rattle.host_core.specs.Calls.{scene}
 
 abbrev pub invariant-loop-self : goal.invariant-loop-self
 invariant-loop-self g l = record {

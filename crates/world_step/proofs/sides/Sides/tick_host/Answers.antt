@@ -1,6 +1,6 @@
 -- What the host puts out at a tick is routed.
 use Rattle.host_model.specs.Ticking.{tick_events}
-use Rattle.host_step_bytes.specs.Calls.{Are}
+use Rattle.host_core.specs.Calls.{Are}
 use Rattle.world_step.proofs.Scenes.{ok_then}
 use Rattle.world_step.proofs.Hosting.{host_stops, route_stops, ticked}
 use Rattle.world_step.proofs.sides.Sides.tick_host.Goals as goal

@@ -1,0 +1,47 @@
+//! Both sides keep the rules of the serial line, and what a restart loses is told.
+
+ghost use Rattle.std.specs.Prelude.{Bool, false, true, Option, Some, List, [], ℕ};
+ghost use Rattle.s0_crypto.specs.declared.key_pair.Keys.{Keys};
+ghost use Rattle.device_sim.specs.State.{State};
+ghost use Rattle.law_wire.specs.Clearing.{ClearsLine};
+ghost use Rattle.law_wire.specs.Links.{KeepsLinks};
+ghost use Rattle.world_model.specs.State.{first_machine};
+ghost use Rattle.world_lines.specs.Spoken.{Spoken, transcript_of};
+ghost use Rattle.world_lines.specs.Done.{AreDone};
+ghost use Rattle.world_lines.specs.Whole.{AreWhole};
+
+use crate::lines_clear_nowhere_else;
+use proof_serial::hosts_write_well;
+use proof_traffic::hosts_obey_the_line;
+use proof_walk::time_goes_on;
+use proof_world::lines_keep_and_ask_well;
+
+/// Over any lines from the first on, the last of which an allocation failure may have cut short, over a keeper that tells its records and has none at
+/// first, both sides keep the rules of the serial line in time, and with links that do so just what was on its way is told at each restart that is not
+/// refused, and nowhere else. Where all lines were run whole it is so up to the end of the last one.
+pub fn lines_clear_the_line()
+    ensures cut { (keys : Keys) (devices : List State) (lines : List Spoken) →
+        AreDone (first_machine keys (Some []) devices) lines →
+        ClearsLine false (transcript_of (first_machine keys (Some []) devices) lines) }
+    ensures whole { (keys : Keys) (devices : List State) (lines : List Spoken) →
+        AreDone (first_machine keys (Some []) devices) lines → AreWhole (first_machine keys (Some []) devices) lines →
+        ClearsLine true (transcript_of (first_machine keys (Some []) devices) lines) }
+{
+    time_goes_on();
+    hosts_obey_the_line();
+    hosts_write_well();
+    lines_keep_and_ask_well();
+    lines_clear_nowhere_else();
+}
+
+/// So both sides keep the rules of the serial line.
+pub fn lines_keep_links()
+    ensures cut { (keys : Keys) (devices : List State) (lines : List Spoken) →
+        AreDone (first_machine keys (Some []) devices) lines →
+        KeepsLinks false (transcript_of (first_machine keys (Some []) devices) lines) }
+    ensures whole { (keys : Keys) (devices : List State) (lines : List Spoken) →
+        AreDone (first_machine keys (Some []) devices) lines → AreWhole (first_machine keys (Some []) devices) lines →
+        KeepsLinks true (transcript_of (first_machine keys (Some []) devices) lines) }
+{
+    lines_clear_the_line();
+}
