@@ -1,5 +1,5 @@
 -- What a host heard of a run, and what it knew of the nodes (Serial API; this project's own rule): what is of the air, of devices and of the chip
--- is left out, but for the units of the chip that came, as they came.
+-- is left out, but for the units of the chip that came, as they came. The words of all lines stay, since they tell the time.
 use Rattle.std.specs.Prelude.{ℕ, ◌||◌, Bool, true, false, if◌then◌else◌, List, [], ◌∷◌, ◌++◌}
 use Rattle.std.specs.List.{flat_map}
 use Rattle.chip_functions.specs.declared.notice.Notice.{Notice}
@@ -9,7 +9,7 @@ use Rattle.zw_words.specs.declared.side.Side.TheVariants.{Chip}
 use Rattle.zw_text.specs.declared.line.Line.{Line}
 use Rattle.zw_text.specs.declared.line.Line.TheVariants as lines
 use Rattle.zw_text.specs.declared.entry.Entry.{Entry}
-use Rattle.zw_text.specs.declared.entry.Entry.TheVariants.{Said, Refused, Written, Dropped, Garbled, Overrun, Device, Interviewed}
+use Rattle.zw_text.specs.declared.entry.Entry.TheVariants.{Refused, Written, Dropped, Garbled, Overrun, Device, Interviewed}
 use Rattle.zw_text.specs.Transcript.{line_of, where_same}
 use Rattle.law_transcript.specs.Lists.{last_or, shown_after}
 use Rattle.law_time.specs.Judged.{is_of_air, is_of_chip, notices_here}
@@ -30,7 +30,6 @@ is_of_outside (Dropped Chip) = true
 is_of_outside (Garbled Chip unit) = true
 is_of_outside (Overrun Chip) = true
 is_of_outside (Device node setting) = true
-is_of_outside (Said words) = is_of_others (line_of (Said words))
 is_of_outside entry = is_of_air entry || is_of_chip entry
 
 -- a unit of the chip as it came, by what stands after it; of one that was changed, that it did not come as a frame

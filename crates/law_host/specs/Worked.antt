@@ -1,6 +1,6 @@
 -- Worked transcripts of notes and of nonces, and others with one thing wrong, made by hand in the form in which the program prints them, as a
 -- host hears them.
-use Rattle.std.specs.Prelude.{ℕ, true, false, List, [], ◌∷◌, ◌++◌, codes, take, Some}
+use Rattle.std.specs.Prelude.{ℕ, true, false, List, [], ◌∷◌, ◌++◌, codes, drop, take, Some}
 use Rattle.std.specs.List.{flat_map, range_with_len}
 use Rattle.zw_base.specs.declared.order.Word.TheVariants.{On, Off}
 use Rattle.zw_base.specs.declared.order.What.TheVariants.{Value}
@@ -14,8 +14,10 @@ use Rattle.zw_text.specs.declared.entry.Done.TheVariants as done
 use Rattle.zw_text.specs.declared.entry.Ended.TheVariants as endings
 use Rattle.zw_text.specs.declared.entry.Refusal.TheVariants as refusals
 use Rattle.zw_text.specs.declared.entry.Entry.{Entry}
-use Rattle.zw_text.specs.declared.entry.Entry.TheVariants.{Said, Accepted, Refused, Begin, Dropped, Garbled, Overrun, Air, Out, Store, Report, Old, Unread, Awake, Interviewed, Done, ChipFull, Unkept, Time}
+use Rattle.zw_text.specs.declared.entry.Entry.TheVariants.{Said, Accepted, Refused, Begin, Dropped, Garbled, Overrun, Air, Out, Store, Report, Unstored, Old, Unread, Awake, Interviewed, Done, ChipFull, QueueFull, Held, Json, Unkept, Time}
 use Rattle.law_transcript.specs.Worked.{bytes, plain_exchange, repeated_exchange, sealed_exchange}
+use Rattle.law_time.specs.WorkedWaking.{failing_report}
+use Rattle.law_time.specs.WorkedTurns.{filled}
 use Rattle.law_time.specs.WorkedUnits.{by_chip, by_host, chip_acknowledges, delivered, host_acknowledges, nonce_asked, notified, taken}
 use Rattle.law_host.specs.Course.{Choices}
 use Rattle.law_host.specs.Notes.{Start}
@@ -45,6 +47,40 @@ value_otherwise = take 13 value_heard ++ Report 2 (setting 0 names.Switch 255) �
 
 abbrev pub value_again : List Entry
 value_again = value_heard ++ Said (codes "tick 1") ∷ Time 3 ∷ Report 2 (setting 0 names.Switch 0) ∷ []
+
+-- node 2 has told values of 512 properties since the host started, and tells one of another: there is no room for it, or it is entered
+abbrev pub values_before : List Entry
+values_before = flat_map (λ number. Report 2 (setting 0 (names.Config number) 0) ∷ []) (range_with_len 1 512)
+
+abbrev pub after_values : Start
+after_values = record { before = values_before; books = [] }
+
+abbrev pub value_unstored : List Entry
+value_unstored =
+    by_chip (codes "01090004000203250300D5") ∷ host_acknowledges ∷ Unstored 2 (record { end = 0; name = names.Switch }) ∷ []
+
+abbrev pub value_stored_though_full : List Entry
+value_stored_though_full = by_chip (codes "01090004000203250300D5") ∷ host_acknowledges ∷ Report 2 (setting 0 names.Switch 0) ∷ []
+
+-- ---- values that are shown
+
+-- `store 2` after the plain exchange: the value that was confirmed is shown
+abbrev pub value_text : List ℕ
+value_text = codes "{\"node\":2,\"values\":[{\"confirmed\":255,\"heard\":null,\"property\":\"0/switch\"}]}"
+
+abbrev pub values_shown : List Entry
+values_shown = Said (codes "store 2") ∷ Json value_text ∷ []
+
+-- another value is, or none, or one is that no line asks for
+abbrev pub values_otherwise : List Entry
+values_otherwise =
+    Said (codes "store 2") ∷ Json (codes "{\"node\":2,\"values\":[{\"confirmed\":0,\"heard\":null,\"property\":\"0/switch\"}]}") ∷ []
+
+abbrev pub values_left_out : List Entry
+values_left_out = Said (codes "store 2") ∷ []
+
+abbrev pub values_unasked : List Entry
+values_unasked = Json value_text ∷ []
 
 -- ---- reports of sessions
 
@@ -89,6 +125,13 @@ unsupported_told = judged (codes "010B00040002056C0201000098") (Out 1 endings.No
 abbrev pub other_told : List Entry
 other_told = judged (codes "010B00040002056C0202FF0064") (Old 2 2 ∷ [])
 
+-- its report says that the device is at work on it, of which nothing is noted; or it ends by that
+abbrev pub work_told : List Entry
+work_told = judged (codes "010B00040002056C0201010099") []
+
+abbrev pub ended_by_work : List Entry
+ended_by_work = judged (codes "010B00040002056C0201010099") (Out 1 endings.Success ∷ [])
+
 -- it ends otherwise than the report says, as another command, or by the report of another session
 abbrev pub ended_otherwise : List Entry
 ended_otherwise = judged (codes "010B00040002056C020102009A") (Out 1 endings.Success ∷ [])
@@ -98,6 +141,19 @@ ended_of_another = judged (codes "010B00040002056C020102009A") (Out 2 endings.Fa
 
 abbrev pub ended_by_other : List Entry
 ended_by_other = judged (codes "010B00040002056C0202FF0064") (Out 1 endings.Success ∷ [])
+
+-- the report of a node that does not listen says that its command failed, and asks to be kept awake; that is done, or not
+abbrev pub sleeper_begun : List Entry
+sleeper_begun = Said (codes "interval 5 300") ∷ Accepted 1 5 ∷ Begin 5 1 1 ∷ []
+
+abbrev pub after_sleeper_begun : Start
+after_sleeper_begun = record { before = sleeper_begun; books = [] }
+
+abbrev pub held_at_failure : List Entry
+held_at_failure = judged failing_report (Out 1 endings.Fail ∷ Held 5 ∷ [])
+
+abbrev pub hold_left_out : List Entry
+hold_left_out = judged failing_report (Out 1 endings.Fail ∷ [])
 
 -- a lock has a session; its report comes openly, and is not read
 abbrev pub lock_begun : List Entry
@@ -123,8 +179,44 @@ after_nonce_given = record {
 abbrev pub told_sealed : List ℕ
 told_sealed = codes "011F000400041998810AED115731C616E72C1D6945BFE201FE761C24E5DCC41E55"
 
+-- where no nonce is live, or another than the message names, it is not read
+abbrev pub after_later_nonce : Start
+after_later_nonce = record {
+  before = lock_begun;
+  books = record { node = 4; sealer = record { seen = 1; pending = []; ready = [] }; giver = record { given = 2; live = true; offers = [] } } ∷ [];
+}
+
+abbrev pub unread_sealed : List Entry
+unread_sealed = judged told_sealed (Unread 4 (bytes (codes "98810AED115731C616E72C1D6945BFE201FE761C24E5DCC41E")) ∷ [])
+
+-- what is no message is not read, or is left out
+abbrev pub unread_payload : List Entry
+unread_payload = judged (codes "01090004000203250700D1") (Unread 2 (0x25 ∷ 0x07 ∷ 0x00 ∷ []) ∷ [])
+
+abbrev pub unread_left_out : List Entry
+unread_left_out = judged (codes "01090004000203250700D1") []
+
 abbrev pub ended_sealed : List Entry
 ended_sealed = judged told_sealed (Out 1 endings.Success ∷ Store 4 (setting 0 names.Lock 255) ∷ [])
+
+-- ---- sessions that do not begin, and messages that are dropped
+
+-- the record of a session is not kept; or nothing is to be kept
+abbrev pub begun_unkept : List Entry
+begun_unkept = Said (codes "set 2 on") ∷ Accepted 1 2 ∷ Unkept 2 ∷ []
+
+abbrev pub unkept_unasked : List Entry
+unkept_unasked = Unkept 2 ∷ []
+
+-- while 64 requests wait a payload tells a value and asks for a nonce: that is dropped before the value is noted, or as if the node were another
+abbrev pub value_and_nonce : List Entry → List Entry
+value_and_nonce notes = filled ++ judged (codes "0110000400020A8F01020325030002984090") notes
+
+abbrev pub dropped_first : List Entry
+dropped_first = value_and_nonce (QueueFull 2 ∷ Report 2 (setting 0 names.Switch 0) ∷ [])
+
+abbrev pub dropped_of_other : List Entry
+dropped_of_other = value_and_nonce (Report 2 (setting 0 names.Switch 0) ∷ QueueFull 4 ∷ [])
 
 -- ---- waking and sleep
 
@@ -175,6 +267,16 @@ given_otherwise = nonce_given ++ by_host (codes "01110013040A988001FF0A1249BB594
 abbrev pub given_skipped : List Entry
 given_skipped = nonce_asked ∷ host_acknowledges ∷ by_host (codes "01110013040A988002010203040506072501CD") ∷ []
 
+-- the host starts again between the two: the live nonce is given again, or a new one
+abbrev pub nonce_over_restart : List Entry
+nonce_over_restart = take 8 nonce_given ++ Said (codes "restart") ∷ drop 8 nonce_given
+
+abbrev pub live_over_restart : List Entry
+live_over_restart = nonce_over_restart ++ by_host (codes "01110013040A9880019E0A1249BB594F2502AF") ∷ []
+
+abbrev pub new_over_restart : List Entry
+new_over_restart = nonce_over_restart ++ by_host (codes "01110013040A988002010203040506072502CE") ∷ []
+
 -- ---- what no entry shows
 
 -- the report of the lock is judged, and one of two records is not kept: that the nonce is spent, or how the session ended; it asks for a nonce again
@@ -219,7 +321,7 @@ mixed =
 
 abbrev pub mixed_heard : List Entry
 mixed_heard =
-    by_chip (codes "01080004000502840776") ∷ Garbled Chip (bytes (codes "01080004000502840776")) ∷ by_host (codes "15") ∷ notified ∷
+    Said (codes "repeat 1") ∷ Said (codes "wake 5") ∷ by_chip (codes "01080004000502840776") ∷ Garbled Chip (bytes (codes "01080004000502840776")) ∷ by_host (codes "15") ∷ notified ∷
     host_acknowledges ∷ Dropped Host ∷ Awake 5 ∷ Said (codes "cancel 1") ∷ Refused (refusals.NotWaiting 1) ∷ []
 
 -- ---- a run that ends

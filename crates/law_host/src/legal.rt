@@ -8,7 +8,8 @@ ghost use Rattle.law_host.specs.HostLegal.{IsHostLegal};
 ghost use Rattle.law_host.specs.Legal.{IsLegal};
 ghost use Rattle.law_host.specs.Notes.{first_start};
 ghost use Rattle.law_host.specs.Starting.{IsLegalFrom, StartsFrom};
-ghost use Rattle.law_host.specs.Worked.{after_exchange, life_records, loss_untold, next_session, session_again};
+ghost use Rattle.law_host.specs.Worked.{after_exchange, life_records, loss_untold, next_session, plain_heard, session_again};
+ghost use Rattle.law_time.specs.WrongWaits.{begun_silently};
 ghost use Rattle.law_transcript.specs.Devices.{after_events};
 ghost use Rattle.law_transcript.specs.Nodes.{listing_of};
 ghost use Rattle.law_transcript.specs.Worked.{plain_exchange, refused_lines, the_sensor, the_switch};
@@ -26,9 +27,15 @@ use law_wire::{
     worked_repeats, worked_routes, worked_service, worked_showing,
 };
 
-/// A host that refuses lines, each by its rule, is legal over what it hears of them.
+/// A host that refuses lines, each by its rule, is legal over what it hears of them, and so it is over what it hears of the plain exchange.
 pub fn worked_legal()
     ensures refused { IsHostLegal [] (listing_of (the_switch ∷ [])) first_start true (heard_by_host refused_lines) None }
+    ensures plain { IsHostLegal [] (listing_of (the_switch ∷ [])) first_start true plain_heard None }
+{}
+
+/// Where a session has begun and the run ends before its message, it is not.
+pub fn rejected_legal()
+    ensures { IsHostLegal [] (listing_of (the_switch ∷ [])) first_start true begun_silently None → ⊥ }
 {}
 
 /// The plain exchange is legal, with its device as the message leaves it and with its records.

@@ -15,11 +15,13 @@ mod heard;
 mod legal;
 mod nonces;
 mod notes;
+mod values;
 
 pub use heard::worked_heard;
 pub use legal::{
-    rejected_life, rejected_run, rejected_start, worked_legal, worked_life, worked_run,
-    worked_start,
+    rejected_legal, rejected_life, rejected_run, rejected_start, worked_legal, worked_life,
+    worked_run, worked_start,
 };
 pub use nonces::{rejected_nonces, worked_nonces};
 pub use notes::{rejected_notes, worked_notes};
+pub use values::{rejected_shown_values, worked_shown_values};

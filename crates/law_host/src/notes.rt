@@ -4,29 +4,47 @@ ghost use Rattle.std.specs.Prelude.{◌∷◌, [], drop, true};
 ghost use Rattle.law_host.specs.Notes.{NotesWhatHappens, first_start};
 ghost use Rattle.law_host.specs.Worked.{
   after_begun,
+  after_later_nonce,
   after_lock_begun,
   after_sessions,
+  after_sleeper_begun,
+  after_values,
   after_waking,
+  begun_unkept,
+  dropped_first,
+  dropped_of_other,
   ended_by_first,
   ended_by_other,
+  ended_by_work,
   ended_of_another,
   ended_openly,
+  ended_sealed,
   ended_otherwise,
   failure_told,
+  held_at_failure,
+  hold_left_out,
   last_session,
   old_left_out,
   other_told,
   told_openly,
+  unkept_unasked,
+  unread_left_out,
+  unread_payload,
+  unread_sealed,
   unsupported_told,
   value_again,
   value_heard,
   value_left_out,
   value_otherwise,
+  value_stored_though_full,
   value_twice,
+  value_unstored,
   woken,
   woken_by_another,
+  work_told,
 };
-ghost use Rattle.law_time.specs.WorkedEnds.{asleep_given_up, asleep_in_silence, given_up_at_answer};
+ghost use Rattle.law_time.specs.WorkedEnds.{asleep_given_up, asleep_in_silence, given_up_at_answer, interview_refused, interview_uninformed};
+ghost use Rattle.law_time.specs.WorkedTurns.{dropped_after_report};
 ghost use Rattle.law_time.specs.WorkedWaits.{answered_errands, waited_attempts};
 ghost use Rattle.law_time.specs.WrongEnds.{awake_after_link, awake_in_next_line};
 ghost use Rattle.law_transcript.specs.Nodes.{listing_of};
@@ -44,7 +62,9 @@ ghost use Rattle.law_transcript.specs.Worked.{
 
 /// In worked transcripts the host notes what happens: outcomes of each kind, values, old reports and one that a lock told openly, waking and
 /// sleep, interviews, questions and the ends of what lines asked for, by frames, by waits, and by an answer that has the line give up. The last
-/// of 65 sessions ends by its report.
+/// of 65 sessions ends by its report. A node is held that asks to be, a value is not stored for which there is no room, a Nonce Report is
+/// dropped where the queue is full, and a session whose record is not kept does not begin. Of a report of work nothing is noted, and a payload
+/// is not read that is no message, or is sealed for a nonce that is not live.
 pub fn worked_notes()
     ensures plain { NotesWhatHappens [] (listing_of (the_switch ∷ [])) first_start true plain_exchange }
     ensures repeated { NotesWhatHappens [] (listing_of (the_switch ∷ [])) first_start true repeated_exchange }
@@ -64,12 +84,24 @@ pub fn worked_notes()
     ensures in_silence { NotesWhatHappens [] (listing_of (the_sensor ∷ [])) after_waking true (drop 1 asleep_in_silence) }
     ensures given_up { NotesWhatHappens [] (listing_of (the_sensor ∷ [])) after_waking true (drop 1 asleep_given_up) }
     ensures at_answer { NotesWhatHappens [] (listing_of (the_switch ∷ [])) first_start true given_up_at_answer }
+    ensures held { NotesWhatHappens [] (listing_of (the_sensor ∷ [])) after_sleeper_begun true held_at_failure }
+    ensures unkept { NotesWhatHappens [] (listing_of (the_switch ∷ [])) first_start true begun_unkept }
+    ensures dropped { NotesWhatHappens [] (listing_of (the_switch ∷ [])) first_start true dropped_after_report }
+    ensures working { NotesWhatHappens [] (listing_of (the_switch ∷ [])) after_begun true work_told }
+    ensures none_live { NotesWhatHappens [] (listing_of (the_lock ∷ [])) after_lock_begun true unread_sealed }
+    ensures later_live { NotesWhatHappens [] (listing_of (the_lock ∷ [])) after_later_nonce true unread_sealed }
+    ensures unread { NotesWhatHappens [] (listing_of (the_switch ∷ [])) first_start true unread_payload }
+    ensures uninformed { NotesWhatHappens [] (listing_of (the_switch ∷ [])) first_start true interview_uninformed }
+    ensures refused { NotesWhatHappens [] (listing_of (the_switch ∷ [])) first_start true interview_refused }
+    ensures unstored { NotesWhatHappens [] (listing_of (the_switch ∷ [])) after_values true value_unstored }
 {}
 
-/// Each of these breaks the law by one entry: a value that was told is left out, is entered twice, as another, or again later; an old report is
-/// left out; the last of 65 sessions ends, of which the report did not come, though that of the first, with the same id, once did; a command ends
-/// otherwise than its report says, as another, by the report of another session, or by one that a lock told openly; another node counts as awake
-/// than told so; and a node still counts as awake in the line after its message ended in silence, or in the tick after the line gave that up.
+/// Each of these breaks the law by one entry: a value that was told is left out, is entered twice, as another, again later, or without room; an
+/// old report is left out; the last of 65 sessions ends, of which the report did not come, though that of the first, with the same id, once did;
+/// a command ends otherwise than its report says, as another, by the report of another session, by one of work, or by one that a lock told openly
+/// or sealed for a nonce that is not live; what is no message is left out; another node counts as awake than told so; a node still counts as
+/// awake in the line after its message ended in silence, or in the tick after the line gave that up; one is not held that asks to be; a record
+/// is not kept that was not to be; and a message is dropped before the value that the payload told first, or as if of another node.
 pub fn rejected_notes()
     ensures left_out { NotesWhatHappens [] (listing_of (the_switch ∷ [])) first_start true value_left_out → ⊥ }
     ensures twice { NotesWhatHappens [] (listing_of (the_switch ∷ [])) first_start true value_twice → ⊥ }
@@ -84,4 +116,13 @@ pub fn rejected_notes()
     ensures woken { NotesWhatHappens [] (listing_of (the_sensor ∷ [])) first_start true woken_by_another → ⊥ }
     ensures next_line { NotesWhatHappens [] (listing_of (the_sensor ∷ [])) after_waking true (drop 1 awake_in_next_line) → ⊥ }
     ensures after_link { NotesWhatHappens [] (listing_of (the_sensor ∷ [])) after_waking true (drop 1 awake_after_link) → ⊥ }
+    ensures hold { NotesWhatHappens [] (listing_of (the_sensor ∷ [])) after_sleeper_begun true hold_left_out → ⊥ }
+    ensures unkept { NotesWhatHappens [] (listing_of (the_switch ∷ [])) first_start true unkept_unasked → ⊥ }
+    ensures dropped_first { NotesWhatHappens [] (listing_of (the_switch ∷ [])) first_start true dropped_first → ⊥ }
+    ensures dropped_of_other { NotesWhatHappens [] (listing_of (the_switch ∷ [])) first_start true dropped_of_other → ⊥ }
+    ensures by_work { NotesWhatHappens [] (listing_of (the_switch ∷ [])) after_begun true ended_by_work → ⊥ }
+    ensures none_live { NotesWhatHappens [] (listing_of (the_lock ∷ [])) after_lock_begun true ended_sealed → ⊥ }
+    ensures later_live { NotesWhatHappens [] (listing_of (the_lock ∷ [])) after_later_nonce true ended_sealed → ⊥ }
+    ensures unread { NotesWhatHappens [] (listing_of (the_switch ∷ [])) first_start true unread_left_out → ⊥ }
+    ensures stored { NotesWhatHappens [] (listing_of (the_switch ∷ [])) after_values true value_stored_though_full → ⊥ }
 {}

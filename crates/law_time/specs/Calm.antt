@@ -10,7 +10,7 @@ use Rattle.zw_text.specs.declared.line.Line.{Line}
 use Rattle.zw_text.specs.declared.line.Line.TheVariants as lines
 use Rattle.zw_text.specs.declared.entry.Ended.TheVariants.{Unanswered}
 use Rattle.zw_text.specs.declared.entry.Entry.{Entry}
-use Rattle.zw_text.specs.declared.entry.Entry.TheVariants.{Said, Written, Dropped, Garbled, Heard, Out}
+use Rattle.zw_text.specs.declared.entry.Entry.TheVariants.{Said, Written, Dropped, Garbled, Heard, Out, ChipFull}
 use Rattle.zw_text.specs.Transcript.{AirFrame, sessions, joined, shown, folded, line_of, lines_run, frames, where_same}
 use Rattle.law_transcript.specs.Commands.{waiting}
 use Rattle.law_transcript.specs.Fates.{marks_left, first_fates}
@@ -129,15 +129,16 @@ chip_is_idle past now =
     (are_none (shown chip_frame_at past) || nat_lt 0 (acknowledgements_come Host (folded after_frame [] past)))
     && list_all (λ tick. nat_lt tick now) (shown_after starts_at [] past)
 
--- when the chip last took a payload: it answers the request by 1, and owes its callback from then on
+-- when the chip last took a payload: it answers the request by 1, or dropped its answer, and owes its callback from then on
 abbrev pub is_taking : List ℕ → Bool
 is_taking unit = is_frame unit 1 && ((function_in unit == SEND_DATA) && bytes_eq (body_in unit) (1 ∷ []))
 
 abbrev pub taken_at : List Entry → Entry → List ℕ
 taken_at past (Written Chip unit) = if is_taking unit then clock past ∷ [] else []
+taken_at past ChipFull = clock past ∷ []
 taken_at past _ = []
 
--- it took none in this tick: the callback of one that has no route comes in the next tick, and no frame tells of it
+-- it took none in this tick, nor dropped its answer: the callback of one that has no route comes in the next tick, and no frame tells of it
 abbrev pub owes_no_call : List Entry → ℕ → Bool
 owes_no_call past now = list_all (λ tick. nat_lt tick now) (shown_after taken_at [] past)
 

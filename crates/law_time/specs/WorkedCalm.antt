@@ -6,7 +6,7 @@ use Rattle.zw_words.specs.declared.side.Side.TheVariants.{Host, Chip}
 use Rattle.host_orders.specs.Settings.{setting}
 use Rattle.zw_text.specs.declared.entry.Ended.TheVariants as endings
 use Rattle.zw_text.specs.declared.entry.Entry.{Entry}
-use Rattle.zw_text.specs.declared.entry.Entry.TheVariants.{Said, Accepted, Begin, Dropped, Garbled, Air, Heard, Lost, Dev, Out, Awake, Failed, Time, Unkept}
+use Rattle.zw_text.specs.declared.entry.Entry.TheVariants.{Said, Accepted, Begin, Dropped, Garbled, Air, Heard, Lost, Dev, Out, Awake, Failed, ChipFull, Time, Unkept}
 use Rattle.law_transcript.specs.Worked.{bytes}
 use Rattle.law_time.specs.WorkedTurns.{given_up_sleeper, given_up}
 use Rattle.law_time.specs.WorkedUnits.{by_chip, by_host, chip_acknowledges, failed_asked, host_acknowledges, abort_sent, notified}
@@ -28,6 +28,10 @@ abbrev pub frames_used_up : List Entry
 frames_used_up =
     Said (codes "lose 1") ∷ Said (codes "loseack 1") ∷ Air 1 1 2 [] (bytes (codes "2502")) ∷ Air 2 1 2 [] (bytes (codes "2502")) ∷
     Said (codes "tick 1") ∷ Time 1 ∷ Lost 1 ∷ Heard 2 ∷ []
+
+-- in tick 1 the chip dropped a frame, which may have been its answer to a payload
+abbrev pub dropped_by_chip : List Entry
+dropped_by_chip = Said (codes "tick 1") ∷ Time 1 ∷ ChipFull ∷ []
 
 -- a tick has passed since a restart, and a node is awake that the host does not know
 abbrev pub restarted_before : List Entry

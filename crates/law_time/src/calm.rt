@@ -41,6 +41,7 @@ ghost use Rattle.law_time.specs.WorkedCalm.{
   sixth_failed,
   abort_alone,
   abort_after_frame,
+  dropped_by_chip,
   given_up_long_ago,
   waiting_unkept,
   begun_following,
@@ -63,8 +64,8 @@ ghost use Rattle.law_time.specs.WrongCalm.{
 ghost use Rattle.law_time.specs.WorkedTurns.{known_sleeper};
 
 /// A run begins in a calm moment, and is calm again when its command is answered, and when a node that sleeps is asleep; so are the moments
-/// before the stretches below, one in which all marks are used up, one a tick after a restart, one in which an unknown node is awake, and
-/// those in which a command waits for a node that sleeps or whose next series is to come.
+/// before the stretches below, one in which all marks are used up, one a tick after a restart, one in which an unknown node is awake, one a
+/// tick after the chip dropped a frame, and those in which a command waits for a node that sleeps or whose next series is to come.
 pub fn worked_calm()
     ensures first { IsCalm (listing_of (the_switch ∷ [])) (the_switch ∷ []) [] 0 }
     ensures last { IsCalm (listing_of (the_switch ∷ [])) (the_switch ∷ []) calm_exchange 500 }
@@ -81,12 +82,13 @@ pub fn worked_calm()
     ensures unkept { IsCalm (listing_of (the_switch ∷ [])) (the_switch ∷ []) waiting_unkept 0 }
     ensures abort { IsCalm (listing_of (the_switch ∷ [])) (the_switch ∷ []) abort_alone 0 }
     ensures after_frame { IsCalm (listing_of (the_switch ∷ [])) (the_switch ∷ []) abort_after_frame 0 }
+    ensures dropped { IsCalm (listing_of (the_switch ∷ [])) (the_switch ∷ []) dropped_by_chip 2 }
 {}
 
 /// A moment is not calm while a frame, an acknowledgement or a unit is to be lost, changed or answered by CAN, which frames of devices and
 /// repeated ones leave so, bytes are stalled, a request is under way, the chip waits for an acknowledgement, or owes a callback though no
-/// frame is on the air, a frame is on it, a series runs, a node that does not listen is kept awake, a device is at work on a change, the
-/// host has just restarted, or a node is stuck.
+/// frame is on the air, or has just dropped a frame, a frame is on the air, a series runs, a node that does not listen is kept awake, a
+/// device is at work on a change, the host has just restarted, or a node is stuck.
 pub fn rejected_calm()
     ensures marked { IsCalm (listing_of (the_switch ∷ [])) (the_switch ∷ []) (Said (codes "lose 1") ∷ []) 0 → ⊥ }
     ensures acknowledgement { IsCalm (listing_of (the_switch ∷ [])) (the_switch ∷ []) (Said (codes "loseack 1") ∷ []) 0 → ⊥ }
@@ -107,6 +109,7 @@ pub fn rejected_calm()
     ensures cancelled_by_host { IsCalm (listing_of (the_switch ∷ [])) (the_switch ∷ []) cancelled_by_host 0 → ⊥ }
     ensures denied { IsCalm (listing_of (the_switch ∷ [])) (the_switch ∷ []) denied_frame 15 → ⊥ }
     ensures owed { IsCalm (listing_of (the_switch ∷ the_other_switch ∷ [])) (the_switch ∷ the_other_switch ∷ []) callback_owed 104 → ⊥ }
+    ensures dropped { IsCalm (listing_of (the_switch ∷ [])) (the_switch ∷ []) dropped_by_chip 1 → ⊥ }
 {}
 
 /// Stretches that answer in time: of one node, of two that listen, and of one that sleeps; of one that is reached over another node; and of

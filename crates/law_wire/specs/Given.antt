@@ -1,6 +1,6 @@
 -- What the chip has for the host, in order (Serial API: responses, callbacks and notices; their contents are this project's own
 -- profile): the response to each request, what it hears, the callback of each SendData, and the information of nodes.
-use Rattle.std.specs.Prelude.{◌≡◌, ◌⊎◌, ℕ, ◌+◌, ◌*◌, ◌==◌, ◌||◌, ◌&&◌, Bool, true, if◌then◌else◌, List, [], ◌∷◌, ◌++◌, map, filter, codes, Option, Some, None}
+use Rattle.std.specs.Prelude.{◌≡◌, ◌⊎◌, ℕ, ◌+◌, ◌*◌, ◌==◌, ◌||◌, ◌&&◌, Bool, true, if◌then◌else◌, List, [], ◌∷◌, ◌++◌, map, filter, codes, Option, Some, None, nat_le, length}
 use Rattle.std.specs.List.{flat_map, range_with_len}
 use Rattle.serial_frame.specs.Frame.{FrameParts}
 use Rattle.serial_frame.specs.Items.{unit_text}
@@ -91,10 +91,13 @@ responses_at devices course past entry =
 
 -- ---- notices
 
--- a frame that comes to the controller
+-- a frame that comes to the controller, with a payload that a handler frame has room for
+abbrev pub is_passed : AirFrame → Bool
+is_passed frame = (frame.receiver == controller) && (nat_le 1 (length frame.payload) && nat_le (length frame.payload) 46)
+
 abbrev pub handler_of : AirFrame → List Given
 handler_of frame =
-    if frame.receiver == controller then Frame (notice_frame (notices.ApplicationCommandHandler 0 frame.sender frame.payload)) ∷ [] else []
+    if is_passed frame then Frame (notice_frame (notices.ApplicationCommandHandler 0 frame.sender frame.payload)) ∷ [] else []
 
 abbrev pub handlers_at : List Entry → Entry → List Given
 handlers_at past (Heard number) = flat_map handler_of (listed (frame_of past number))

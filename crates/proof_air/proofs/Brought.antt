@@ -1,6 +1,5 @@
 -- What the chip's frames bring: an ApplicationCommandHandler its own payload, and all other frames none.
-use Rattle.std.proofs.Common.{◌≡◌, ◌≤◌, ℕ, ◌+◌, ◌-◌, ◌&&◌, Bool, true, false, List, [], ◌∷◌, ◌++◌, length, take, refl, sym, ap, subst, ◌∙◌, append-nil, nat_le, arith}
-use Rattle.std.proofs.Math.Seq.{take-append_seam}
+use Rattle.std.proofs.Common.{◌≡◌, ◌≤◌, ℕ, ◌+◌, ◌-◌, ◌&&◌, Bool, true, false, List, [], ◌∷◌, ◌++◌, length, refl, sym, ap, subst, ◌∙◌, append-nil, nat_le}
 use Rattle.std.proofs.lemmas.Bool.{leb-true}
 use Rattle.std.specs.Prelude.{Result, Ok, Err}
 use Rattle.std.specs.List.{flat_map}
@@ -25,15 +24,11 @@ use Rattle.chip_sim.specs.declared.out.Sending.{Sending}
 use Rattle.zw_text.specs.declared.entry.Entry.{Entry}
 use Rattle.law_transcript.specs.Units.{Carried, read_well, bringing_of, bringing_in}
 use Rattle.law_transcript.specs.Carrying.{ArePicked, heard_home, WereHeard}
+use Rattle.proof_walk.proofs.Bodies.{body_is}
 use Rattle.proof_air.specs.Carrying.{Brings}
 use Rattle.proof_air.proofs.Judging.{both_true}
 
 -- ---- a notice is read as it was written
-
-pub body_is : (body : List ℕ) (func sum : ℕ) → take (length (0 ∷ func ∷ body) + 1 - 3) (body ++ sum ∷ []) ≡ body
-body_is body func sum =
-    let count : length (0 ∷ func ∷ body) + 1 - 3 ≡ length body = omega arith in
-    ap (λ (k : ℕ). take k (body ++ sum ∷ [])) count ∙ take-append_seam body (sum ∷ [])
 
 -- what is brought by what is read
 abbrev brought_of : Result Notice BodyFault → List Carried

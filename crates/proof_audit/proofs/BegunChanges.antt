@@ -21,7 +21,7 @@ use Rattle.proof_device.specs.Showing.{AreApart}
 use Rattle.proof_device.proofs.Others.{IsOther}
 use Rattle.proof_host.specs.Entries.{IsAside}
 use Rattle.proof_host.proofs.Lists.{each-anywhere, each-append}
-use Rattle.proof_world.proofs.Aside.{own_aside}
+use Rattle.proof_transcript.proofs.Aside.{own_aside}
 use Rattle.world_model.specs.State.{Machine}
 use Rattle.world_model.specs.Events.{Event, Outside_does, May, entries, happens}
 use Rattle.world_model.specs.Did.{MayAll, entries_all, happens_all}

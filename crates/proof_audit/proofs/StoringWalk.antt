@@ -18,9 +18,9 @@ use Rattle.world_model.specs.Did.{entries_all, happens_all, MayAll}
 use Rattle.world_model.proofs.Hosting.{entries_cons}
 use Rattle.proof_host.specs.Entries.{IsAside, entries_at}
 use Rattle.proof_host.specs.Facts.{Facts}
-use Rattle.proof_world.proofs.Aside.{Asides, own_aside, stamp_aside}
-use Rattle.proof_world.proofs.Notes.{Trailing, event_following}
-use Rattle.proof_world.specs.Restarts.{AllStartWell, StartsWell}
+use Rattle.proof_transcript.proofs.Aside.{Asides, own_aside, stamp_aside}
+use Rattle.proof_transcript.proofs.Notes.{Trailing, event_following}
+use Rattle.proof_transcript.specs.Restarts.{AllStartWell, StartsWell}
 use Rattle.proof_once.specs.Tied.{KeepsOrders}
 use Rattle.proof_transcript.specs.Spoken.{AreSpoken, IsSpoken}
 use Rattle.world_lines.specs.Spoken.{Spoken, after as after_line, after_all, entries_of, transcript_of}

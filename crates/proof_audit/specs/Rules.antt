@@ -11,7 +11,7 @@ use Rattle.law_wire.specs.Shown.{ShowsDevices}
 use Rattle.law_wire.specs.Times.{TellsTime}
 use Rattle.proof_device.specs.Showing.{AreApart, IsShown}
 use Rattle.proof_host.specs.Laws.{HostLaws}
-use Rattle.proof_world.specs.Devices.{GroupsSessions}
+use Rattle.proof_transcript.specs.Devices.{GroupsSessions}
 use Rattle.proof_audit.specs.Books.{AreAsked, ArePieces, ChangesBegun, IsOfItsKind}
 use Rattle.proof_audit.specs.Frames.{ShowLines}
 use Rattle.proof_audit.specs.Tables.{StoresDirectly}

@@ -12,7 +12,7 @@ ghost use Rattle.world_model.specs.State.{Machine, first_machine};
 ghost use Rattle.world_lines.specs.Spoken.{Spoken, after_all, transcript_of};
 ghost use Rattle.world_lines.specs.Done.{AreDone};
 ghost use Rattle.proof_device.specs.Showing.{AreApart, IsShown};
-ghost use Rattle.proof_world.specs.Devices.{GroupsSessions};
+ghost use Rattle.proof_transcript.specs.Devices.{GroupsSessions};
 ghost use Rattle.proof_host.specs.Laws.{HostLaws};
 ghost use Rattle.audit_books.specs.SessionRule.{EachKeeps, breaks_sessions};
 ghost use Rattle.proof_audit.specs.Books.{ArePieces, AreAsked, ChangesBegun, IsOfItsKind};
@@ -25,7 +25,7 @@ use proof_headline::{
     devices_as_made_begin_courses, nodes_have_the_headline, supervised_nodes_are_plain_or_locks,
 };
 use proof_host::what_is_over_stays;
-use proof_world::runs_take_once;
+use proof_transcript::spoken::world::runs_take_once;
 
 /// Where each line has the answer that is due, and each device is of the kind of its node, an order that is accepted is that of the line before it, for a node
 /// that the host takes for its kind, and sets parameters that there are.

@@ -23,7 +23,7 @@ use Rattle.law_wire.specs.Shown.{ShowsDevices}
 use Rattle.run_lines.specs.declared.status.Status.TheVariants.{Ok as all_well}
 use Rattle.proof_device.specs.Showing.{AreApart, IsShown}
 use Rattle.proof_world.specs.Devices.{GroupsSessions}
-use Rattle.proof_fates.proofs.Changes.{stays_apart}
+use Rattle.proof_device.proofs.ShownChanges.{stays_apart}
 use Rattle.proof_audit.specs.Books.{AreAsked, ArePieces, ChangesBegun, IsOfItsKind}
 use Rattle.proof_audit.specs.Frames.{ShowLines}
 use Rattle.proof_audit.specs.Legible.{AreLegible}
@@ -32,7 +32,7 @@ use Rattle.proof_audit.specs.Tables.{StoresDirectly}
 use Rattle.proof_audit.specs.Whole.{KeepsRules}
 use Rattle.proof_audit.proofs.KindsStay.{kinds_stay}
 use Rattle.proof_commands.specs.Around.{Around}
-use Rattle.proof_commands.specs.Laws.{Ran, StoriesKeepLaws, TellsAtRestarts, first, last, transcript}
+use Rattle.proof_commands.specs.Laws.{Ran, StoriesKeepLaws, TellsAtRestarts, last, transcript}
 use Rattle.proof_commands.specs.Sim.{IsAuditable, Tells, WritesInOrder}
 use Rattle.proof_commands.proofs.Further.{reads_as, told as story_of, whole_devices}
 use Rattle.proof_commands.proofs.ReadBack.{ReadingBack, entries_back, in_order}
@@ -121,7 +121,7 @@ module _ (laws : Keeping) (key : List ℕ) (old new : Around) (story : List Ran)
         lines = laws.lines T (entries_back laws.back key old new false story unentered tells at_restarts);
         numbers = each.numbers story unentered is;
         fates = each.fares story unentered is (inr well) false (λ whole. absurd cc);
-        ticks = each.ticks story unentered is;
+        ticks = each.ticks story unentered is false (λ whole. absurd cc);
         carries = subst CarriesUnits as_read (laws.carries (keys_of key) old.devices (all_said story) done);
         stores = subst (StoresDirectly (listing_of old.devices)) as_read (laws.stores (keys_of key) old.devices (all_said story) good.kinds done);
         shows = subst (ShowsDevices old.devices) as_read (laws.shown (keys_of key) old.devices (all_said story) done good.world.apart);

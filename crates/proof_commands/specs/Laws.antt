@@ -41,6 +41,7 @@ use Rattle.law_host.specs.Legal.{DevicesDid, IsLegalOnAir}
 use Rattle.law_wire.specs.Routes.{GoesByRoute}
 use Rattle.law_wire.specs.Shown.{ShowsDevices}
 use Rattle.law_wire.specs.Times.{TellsTime}
+use Rattle.law_time.specs.Waking.{WakesAsTold}
 use Rattle.law_host.specs.HostLegal.{ShowsValues}
 use Rattle.proof_sending.specs.Line.{AnswersFrames, ClearsAtRestarts, ClearsNowhereElse, OverrunsOnlyWhenFull}
 use Rattle.proof_audit.specs.Transcript.{IsNoRepeat, HasRecords}
@@ -209,12 +210,16 @@ abbrev pub ReadsWhatItKept : List ℕ → Around → Around → Type 0
 ReadsWhatItKept key old new = AlwaysOf key old new (λ story. TellsAtRestarts old story → ReadsItsRecords (transcript key old story))
 
 -- Over a new keeper, directly after a `show` stand the values of the device of its node, as the changes entered so far leave it, where no two devices are of one node, and
--- directly after a `store` those of its node; and neither elsewhere.
+-- directly after a `store` those of its node; and neither elsewhere. In the end of a story that was run whole none is still to stand.
 abbrev pub ShowsKeptDevices : List ℕ → Around → Around → Type 0
-ShowsKeptDevices key old new = AlwaysOf key old new (λ story. TellsAtRestarts old story → AreApart old.devices → ShowsDevices old.devices (transcript key old story))
+ShowsKeptDevices key old new = AlwaysOf key old new
+    (λ story. TellsAtRestarts old story → AreApart old.devices → (whole : Bool) → (whole ≡ true → AreSchedules (first key old) story)
+    → ShowsDevices old.devices (ended whole (transcript key old story)))
 
 abbrev pub ShowsStoredValues : List ℕ → Around → Around → Type 0
-ShowsStoredValues key old new = AlwaysOf key old new (λ story. TellsAtRestarts old story → EachAfter (ShowsValues (listing_of old.devices)) [] (transcript key old story))
+ShowsStoredValues key old new = AlwaysOf key old new
+    (λ story. TellsAtRestarts old story → (whole : Bool) → (whole ≡ true → AreSchedules (first key old) story)
+    → EachAfter (ShowsValues (listing_of old.devices)) [] (ended whole (transcript key old story)))
 
 -- Where every line was run whole and all that was done is entered, over a keeper that tells its records and had none at first: the records at exit are legal, and
 -- give exactly what the transcript shows.
@@ -312,9 +317,10 @@ DoesAsShown key old new = Always key old new
 abbrev pub CollidesAsAsked : List ℕ → Around → Around → Type 0
 CollidesAsAsked key old new = AlwaysOf key old new (λ story. CollidesWhenAsked (transcript key old story))
 
--- a unit is lost or changed as the marks of lines say, and no other is
+-- a unit is lost or changed as the marks of lines say, and no other is; so also the last one of a story that was run whole
 abbrev pub MarksAsAsked : List ℕ → Around → Around → Type 0
-MarksAsAsked key old new = AlwaysOf key old new (λ story. MarksUnits (transcript key old story))
+MarksAsAsked key old new = AlwaysOf key old new
+    (λ story. (whole : Bool) → (whole ≡ true → AreSchedules (first key old) story) → MarksUnits (ended whole (transcript key old story)))
 
 -- over a new keeper, each frame of the controller carries what a unit that came before asked to be sent, one each and in order
 abbrev pub CarriesWhatWasAsked : List ℕ → Around → Around → Type 0
@@ -332,9 +338,10 @@ BringsHeard key old new = AlwaysOf key old new (λ story. BringsWhatWasHeard (tr
 abbrev pub OverrunsWithoutRoom : List ℕ → Around → Around → Type 0
 OverrunsWithoutRoom key old new = AlwaysOf key old new (λ story. OverrunsOnlyWhenFull (transcript key old story))
 
--- and over a new keeper, each unit that has no room is
+-- and over a new keeper, each unit that has no room is; so also the last one of a story that was run whole
 abbrev pub OverrunsAsDue : List ℕ → Around → Around → Type 0
-OverrunsAsDue key old new = AlwaysOf key old new (λ story. TellsAtRestarts old story → OverrunsWhenFull (transcript key old story))
+OverrunsAsDue key old new = AlwaysOf key old new
+    (λ story. TellsAtRestarts old story → (whole : Bool) → (whole ≡ true → AreSchedules (first key old) story) → OverrunsWhenFull (ended whole (transcript key old story)))
 
 -- an answer stands only where a data frame of the other side has arrived and has none yet, over a new keeper
 abbrev pub AnswersData : List ℕ → Around → Around → Type 0
@@ -358,11 +365,18 @@ ClearsWhenRestarted key old new = AlwaysOf key old new (λ story. ClearsAtRestar
 abbrev pub ClearsNothingElse : List ℕ → Around → Around → Type 0
 ClearsNothingElse key old new = AlwaysOf key old new (λ story. (whole : Bool) → ClearsNowhereElse whole (transcript key old story))
 
+-- ---- what the host notes
+
+-- over a new keeper, a node is taken to be awake where it tells so, and wherever it does
+abbrev pub WakesNodes : List ℕ → Around → Around → Type 0
+WakesNodes key old new = AlwaysOf key old new (λ story. TellsAtRestarts old story → WakesAsTold (transcript key old story))
+
 -- ---- ticks
 
--- the number of a tick stands once, before its first entry, and nowhere else
+-- the number of a tick stands once, before its first entry, and nowhere else: so not at the end of a story that was run whole
 abbrev pub NumbersTicks : List ℕ → Around → Around → Type 0
-NumbersTicks key old new = AlwaysOf key old new (λ story. TellsTime (transcript key old story))
+NumbersTicks key old new = AlwaysOf key old new
+    (λ story. (whole : Bool) → (whole ≡ true → AreSchedules (first key old) story) → TellsTime (ended whole (transcript key old story)))
 
 -- ---- the headline
 
@@ -432,4 +446,5 @@ pub record StoriesKeepLaws (key : List ℕ) (old new : Around) : Type 0 where
   pub links : KeepsBothLinks key old new
   pub clears_line : ClearsWhatIsLost key old new
   pub clears_only : ClearsNothingElse key old new
+  pub wakes : WakesNodes key old new
   pub ticks : NumbersTicks key old new

@@ -46,6 +46,7 @@ ghost use Rattle.proof_commands.specs.Laws.{
   StoresValues,
   StoriesKeepLaws,
   TakesBackWhenAsked,
+  WakesNodes,
   WritesSessions,
 };
 
@@ -60,9 +61,11 @@ use proof_audit::transcript::{
     records_are_what_is_shown, sessions_begin_with_their_unit, ticks_decide_each_frame,
     values_are_stored_as_asked,
 };
-use proof_fates::air::{lines_are_done_by_devices, lines_bring_what_was_heard, lines_land_in_time};
+use proof_fates::devices::air::{
+    lines_are_done_by_devices, lines_bring_what_was_heard, lines_land_in_time,
+};
 use proof_fates::devices::devices_did;
-use proof_fates::routes::{
+use proof_fates::devices::routes::{
     dead_hops_are_forgotten, dead_hops_are_forgotten_in_the_end, frames_go_by_route,
 };
 use proof_fates::{lines_meet_what_is_due, lines_repeat_what_is_asked};
@@ -73,6 +76,7 @@ use proof_sending::line::{
     lines_overrun_when_full, ticks_are_told,
 };
 use proof_sending::lines_send_what_is_due;
+use proof_waking::lines_wake_as_told;
 use proof_world::{
     lines_keep_and_ask_well, restarts_go_on, runs_take_once, the_machine_keeps_facts,
 };
@@ -91,6 +95,7 @@ pub fn every_story_keeps_laws()
     stories_keep_air_laws();
     stories_are_legal_on_air();
     stories_send_what_is_due();
+    stories_wake_as_told();
     stories_do_as_shown();
 }
 
@@ -236,6 +241,14 @@ fn stories_send_what_is_due()
 {
     lines_are_read_as_said();
     lines_send_what_is_due();
+}
+
+/// Nodes count as awake as they told in lines that were said.
+fn stories_wake_as_told()
+    ensures { (key : List ℕ) (old new : Around) → WakesNodes key old new }
+{
+    lines_are_read_as_said();
+    lines_wake_as_told();
 }
 
 /// The devices did what lines that were said show.

@@ -29,3 +29,6 @@ pub mod Taken
 pub mod Runs
 pub mod TrueSuccesses
 pub mod TrueLines
+pub use Rattle.proof_once.proofs.TieSteps
+pub use Rattle.proof_world.proofs.Always
+pub use Rattle.proof_world.proofs.Heard

@@ -11,3 +11,9 @@ pub mod Host
 pub mod Told
 pub mod HostGoing
 pub mod World
+pub use Rattle.proof_once.specs.Tied
+pub use Rattle.proof_once.specs.Truly
+pub use Rattle.proof_traffic.specs.Flights
+pub use Rattle.proof_traffic.specs.OnAir
+pub use Rattle.proof_traffic.specs.OutsideTraffic
+pub use Rattle.proof_world.specs.Restarts

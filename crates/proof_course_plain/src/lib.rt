@@ -30,6 +30,8 @@ pub use host::hosts_follow_the_course;
 pub use lines::chips_carry_reports;
 pub use mesh::arrivals_follow_the_course;
 pub use outside::outsides_follow_the_course;
+pub use proof_traffic as traffic;
+pub use proof_world as worlds;
 pub use truth::{hosts_are_told_the_truth, lines_tell_the_truth, worlds_tell_the_truth};
 pub use ways::ways_may_thin;
 pub use world::{lines_ask_plainly, lines_have_a_course, worlds_follow_the_course};

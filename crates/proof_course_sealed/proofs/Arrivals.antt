@@ -21,7 +21,7 @@ use Rattle.air_frames.specs.Flown.{Flown}
 use Rattle.air_frames.specs.Frames.{FramesState, landing, next_of, remembered}
 use Rattle.air_frames.specs.Ages.{refusal_of}
 use Rattle.air_frames.specs.History.{Mark}
-use Rattle.proof_traffic.specs.Flights.{Fly as FlyInOrder}
+use Rattle.proof_course_plain.specs.Flights.{Fly as FlyInOrder}
 use Rattle.device_sim.specs.State.{State}
 use Rattle.device_sim.specs.Event.{DeviceEvent, Hears as hears_event, Ticks, device_after, device_replies}
 use Rattle.mesh_sim.specs.declared.event.AirEvent.{AirEvent}

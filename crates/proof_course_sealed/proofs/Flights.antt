@@ -17,7 +17,7 @@ use Rattle.air_frames.specs.Ages.{is_class, stale_by, refusal_of}
 use Rattle.air_frames.specs.History.{Mark, Goes, Begins, begins_in, news_after}
 use Rattle.air_frames.specs.Nonces.{nonce_in}
 use Rattle.air_frames.proofs.Logs.{stamped-append, begins_in-append}
-use Rattle.proof_traffic.specs.Flights.{flown_in, flown_now, Fly as FlyInOrder}
+use Rattle.proof_course_plain.specs.Flights.{flown_in, flown_now, Fly as FlyInOrder}
 use Rattle.proof_messages.specs.Payloads.{IsOffer}
 use Rattle.proof_messages.specs.Shown.{HasShown}
 use Rattle.proof_course_plain.specs.Ways.{Beside}

@@ -28,7 +28,7 @@ use Rattle.proof_serial.specs.Line.{host_units}
 use Rattle.proof_serial.specs.Chip.{HasFrames}
 use Rattle.proof_serial.proofs.Ways.{carries_all}
 use Rattle.proof_serial.proofs.Outer.{Written, routed_all}
-use Rattle.proof_once.specs.Tied.{AreOutcomes}
+use Rattle.proof_course_plain.specs.Tied.{AreOutcomes}
 use Rattle.proof_messages.specs.Numbers.{HasGiven}
 use Rattle.proof_messages.specs.Hosts.{LeavesNonces}
 use Rattle.proof_course_plain.specs.Ways.{Thinned}

@@ -11,7 +11,7 @@ use Rattle.zw_text.specs.declared.entry.Entry.TheVariants as entry
 use Rattle.air_frames.specs.Flown.{Flown}
 use Rattle.air_frames.specs.Frames.{FramesState, peer_of}
 use Rattle.air_frames.specs.History.{Mark, Begins as begins_mark}
-use Rattle.proof_traffic.specs.Flights.{Fly as FlyInOrder}
+use Rattle.proof_course_plain.specs.Flights.{Fly as FlyInOrder}
 use Rattle.mesh_sim.specs.Air.{AirState, beginning, is_joined}
 use Rattle.outside_model.specs.State.{Outside}
 use Rattle.outside_model.specs.Events.{outcome, devices_after, begins as air_begins, mesh_of}
@@ -31,7 +31,7 @@ use Rattle.host_model.specs.After.{after as after_host, node_does}
 use Rattle.host_model.specs.May.{May}
 use Rattle.host_model.specs.Facts.{HostFacts}
 use Rattle.host_model.specs.Events.{Begins}
-use Rattle.proof_once.specs.Tied.{AreOutcomes}
+use Rattle.proof_course_plain.specs.Tied.{AreOutcomes}
 use Rattle.proof_course_plain.specs.Ways.{Beside}
 use Rattle.proof_course_plain.specs.Told.{KeepsOutcomes}
 use Rattle.proof_course_plain.proofs.ThinnedWays.{goes_once}

@@ -35,7 +35,7 @@ use Rattle.host_model.specs.May.{May}
 use Rattle.host_model.specs.Taking.{IsFollowed, IsJudged, AreJudged}
 use Rattle.host_model.specs.Events.{HostEvent, Hears, Finishes, Offers, Gives, Spends, Takes_nonce}
 use Rattle.proof_host.specs.Tables.{outcome_in}
-use Rattle.proof_once.specs.Tied.{AreOutcomes}
+use Rattle.proof_course_plain.specs.Tied.{AreOutcomes}
 use Rattle.proof_course_plain.specs.Ways.{Thinned, Goes}
 use Rattle.proof_course_plain.specs.Lines.{OnWay}
 use Rattle.proof_course_plain.specs.Told.{HasPast}
@@ -50,7 +50,7 @@ use Rattle.host_model.proofs.EventLists.{after_all-append, outs_all-append}
 use Rattle.proof_course_plain.proofs.HostItems.{routed_then, well_prefix, told_same, judged_final, final_node}
 use Rattle.proof_course_plain.proofs.HostJudgements.{Bytes}
 use Rattle.host_model.proofs.OpenSessions.{final_session}
-use Rattle.proof_once.proofs.TieSteps.{told_more}
+use Rattle.proof_course_plain.proofs.TieSteps.{told_more}
 use Rattle.proof_host.proofs.Commands.{outcome_same}
 use Rattle.proof_host.proofs.Effects.{held_commands}
 use Rattle.proof_course_plain.proofs.Told.{PastLaws, past_kept, outcomes_kept, outcomes_stay}

@@ -52,8 +52,8 @@ use Rattle.host_model.specs.State.{HostState, node_of}
 use Rattle.host_model.specs.After.{after, is_busy, gives_up}
 use Rattle.host_model.specs.Taking.{FinalEvents, ReportEvents, NonceGetEvents, NonceReportEvents, AreTaken, ends_from, PayloadEvents, InterviewEvents, ResponseEvents, NoticeEvents, FrameEvents, told_if, IsFollowed}
 use Rattle.host_model.specs.Events.{HostEvent, Interview_unkept, Unreads, Is_unkept, Reports_old, Works, Finishes, Offers, Gives, Spends, Spends_unread, Takes_nonce, Notifies, Resends, Hears_value, Has_no_room}
-use Rattle.proof_world.proofs.Heard.{IsOfPayload, payload_of}
-use Rattle.proof_world.proofs.Always.{one, none, either}
+use Rattle.proof_course_plain.proofs.Heard.{IsOfPayload, payload_of}
+use Rattle.proof_course_plain.proofs.Always.{one, none, either}
 use Rattle.proof_messages.specs.Numbers.{IsNonce, HasGiven}
 use Rattle.proof_messages.specs.Payloads.{report_of, IsSealed}
 use Rattle.proof_messages.specs.Opened.{OpensAs}

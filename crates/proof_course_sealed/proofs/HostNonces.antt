@@ -42,7 +42,7 @@ use Rattle.proof_serial.specs.Way.{Carries}
 use Rattle.proof_serial.specs.Line.{host_units}
 use Rattle.proof_serial.specs.Chip.{HasFrames}
 use Rattle.proof_serial.proofs.Outer.{Written, routed_all}
-use Rattle.proof_once.specs.Tied.{AreOutcomes}
+use Rattle.proof_course_plain.specs.Tied.{AreOutcomes}
 use Rattle.proof_messages.specs.Numbers.{IsNonce, HasGiven, with_given, brought_by}
 use Rattle.proof_messages.specs.Payloads.{IsSealed}
 use Rattle.proof_course_plain.specs.Ways.{Thinned, Goes}

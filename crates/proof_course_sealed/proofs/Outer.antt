@@ -27,15 +27,15 @@ use Rattle.air_frames.specs.declared.frame.Heading.TheVariants.{Outward, Homewar
 use Rattle.air_frames.specs.Flown.{Flown}
 use Rattle.air_frames.specs.Frames.{FramesState, putting}
 use Rattle.air_frames.specs.History.{Mark, Goes as goes_mark}
-use Rattle.proof_traffic.specs.Flights.{Fly as FlyInOrder, flown_now}
+use Rattle.proof_course_plain.specs.Flights.{Fly as FlyInOrder, flown_now}
 use Rattle.device_sim.specs.State.{State}
 use Rattle.zw_text.specs.declared.entry.Entry.{Entry}
 use Rattle.mesh_sim.specs.Air.{AirState, departing, is_joined}
 use Rattle.outside_model.specs.State.{OuterState, Outside, outside, each}
 use Rattle.outside_model.specs.Chip.{chip_does, chip_takes, MayTake}
 use Rattle.outside_model.specs.Events.{has_entered}
-use Rattle.proof_traffic.specs.OutsideTraffic.{one_outward, outward}
-use Rattle.proof_traffic.specs.OnAir.{IsFew, StaysFew, fed_chip}
+use Rattle.proof_course_plain.specs.OutsideTraffic.{one_outward, outward}
+use Rattle.proof_course_plain.specs.OnAir.{IsFew, StaysFew, fed_chip}
 use Rattle.proof_serial.specs.Way.{Carries}
 use Rattle.proof_serial.specs.Chip.{HasFrames, ChipDoes}
 use Rattle.proof_serial.proofs.Ways.{carries_left}

@@ -15,7 +15,7 @@ use Rattle.air_frames.specs.declared.frame.Heading.TheVariants.{Homeward}
 use Rattle.air_frames.specs.Flown.{Flown}
 use Rattle.air_frames.specs.Frames.{FramesState, putting}
 use Rattle.air_frames.specs.History.{Mark, Goes as goes_mark}
-use Rattle.proof_traffic.specs.Flights.{flown_now}
+use Rattle.proof_course_plain.specs.Flights.{flown_now}
 use Rattle.device_sim.specs.State.{State}
 use Rattle.mesh_sim.specs.Air.{AirState, is_joined, no_route, departing}
 use Rattle.mesh_sim.specs.Steps.{answered, answered_if}

@@ -21,12 +21,12 @@ use Rattle.world_model.specs.State.{Machine}
 use Rattle.world_model.specs.Events.{Restarts, OpensFrom, May, happens}
 use Rattle.outside_model.specs.Events.{mesh_of}
 use Rattle.proof_serial.specs.Way.{Carries, items_all}
-use Rattle.proof_world.specs.Restarts.{IsHeld}
+use Rattle.proof_course_plain.specs.Restarts.{IsHeld}
 use Rattle.proof_course_plain.specs.Ways.{Beside, Thinned}
 use Rattle.proof_course_plain.specs.Lines.{Later, OnWay, own_frames}
 use Rattle.proof_course_plain.proofs.WayLabels.{move_done}
 use Rattle.proof_course_plain.proofs.Restarts.{OneThing, GoesOnAt, IsFresh, told_on, opens_fresh}
-use Rattle.proof_once.proofs.TieSteps.{over_recorded}
+use Rattle.proof_course_plain.proofs.TieSteps.{over_recorded}
 use Rattle.proof_course_plain.proofs.Told.{outcomes_stay}
 use Rattle.proof_messages.specs.Numbers.{HasGiven}
 use Rattle.proof_course_sealed.specs.Labels.{Sent}

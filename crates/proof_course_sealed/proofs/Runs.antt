@@ -19,15 +19,15 @@ use Rattle.host_model.specs.State.{HostState, first_nodes, first_classes, first_
 use Rattle.host_model.specs.After.{node_does}
 use Rattle.proof_host.specs.Facts.{Facts}
 use Rattle.outside_model.specs.State.{outside, first_outer}
-use Rattle.proof_traffic.specs.OutsideTraffic.{AreNodes}
+use Rattle.proof_course_plain.specs.OutsideTraffic.{AreNodes}
 use Rattle.world_model.specs.State.{Machine, first_machine}
 use Rattle.world_model.specs.Events.{Event}
 use Rattle.world_model.specs.Did.{happens_all, MayAll}
 use Rattle.proof_serial.specs.Line.{AllWriteWell, AllAtRest, AreLines, Stays}
 use Rattle.proof_serial.specs.Host.{AllAskWell}
-use Rattle.proof_world.specs.Restarts.{AllKeepWell, BeginsEmpty, IsHeld}
-use Rattle.proof_traffic.specs.OnAir.{AlwaysFew}
-use Rattle.proof_once.specs.Truly.{AreTrue}
+use Rattle.proof_course_plain.specs.Restarts.{AllKeepWell, BeginsEmpty, IsHeld}
+use Rattle.proof_course_plain.specs.OnAir.{AlwaysFew}
+use Rattle.proof_course_plain.specs.Truly.{AreTrue}
 use Rattle.proof_course_plain.specs.Meaning.{Asked}
 use Rattle.proof_course_plain.specs.Making.{MakesAsked}
 use Rattle.proof_course_plain.proofs.KeptHosts.{get_set}

@@ -16,9 +16,9 @@ use Rattle.world_model.specs.Events.{Event, Host_does, Host_takes, MayTake, May,
 use Rattle.world_model.specs.Did.{MayAll}
 use Rattle.proof_serial.specs.Line.{host_units, WritesWell, AllWriteWell, AllAtRest}
 use Rattle.proof_serial.proofs.Ways.{carries_left}
-use Rattle.proof_world.specs.Restarts.{AllKeepWell, IsHeld}
-use Rattle.proof_traffic.specs.OnAir.{AlwaysFew}
-use Rattle.proof_once.specs.Truly.{TellTruly, IsTrue, AreTrue}
+use Rattle.proof_course_plain.specs.Restarts.{AllKeepWell, IsHeld}
+use Rattle.proof_course_plain.specs.OnAir.{AlwaysFew}
+use Rattle.proof_course_plain.specs.Truly.{TellTruly, IsTrue, AreTrue}
 use Rattle.proof_course_plain.specs.Told.{HasPast}
 use Rattle.proof_course_plain.specs.HostGoing.{AllWell}
 use Rattle.proof_course_plain.proofs.TrueSuccesses.{none_true}

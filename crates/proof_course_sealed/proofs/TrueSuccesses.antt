@@ -24,8 +24,8 @@ use Rattle.host_model.specs.Outs.{outs}
 use Rattle.host_model.specs.May.{May}
 use Rattle.host_model.specs.Taking.{IsJudged, AreJudged}
 use Rattle.host_model.specs.Events.{HostEvent, Hears, Finishes, Spends}
-use Rattle.proof_once.specs.Tied.{MakesWhatIsTaken}
-use Rattle.proof_once.specs.Truly.{IsDoneBy, TellsTruly, TellTruly}
+use Rattle.proof_course_plain.specs.Tied.{MakesWhatIsTaken}
+use Rattle.proof_course_plain.specs.Truly.{IsDoneBy, TellsTruly, TellTruly}
 use Rattle.proof_course_plain.specs.Meaning.{Asked}
 use Rattle.proof_course_plain.specs.Making.{MakesAsked}
 use Rattle.proof_course_plain.specs.Told.{HasPast}

@@ -34,9 +34,9 @@ use Rattle.proof_serial.specs.Chip.{HasFrames}
 use Rattle.proof_serial.proofs.Outer.{Written}
 use Rattle.proof_serial.proofs.EndedItems.{LeftOf}
 use Rattle.proof_serial.proofs.Ways.{carries_left}
-use Rattle.proof_world.specs.Restarts.{StartsWell, KeepsWell, AllKeepWell, IsHeld}
-use Rattle.proof_traffic.specs.OnAir.{OuterStaysFew, EventStaysFew, AlwaysFew}
-use Rattle.proof_once.specs.Tied.{AreOutcomes}
+use Rattle.proof_course_plain.specs.Restarts.{StartsWell, KeepsWell, AllKeepWell, IsHeld}
+use Rattle.proof_course_plain.specs.OnAir.{OuterStaysFew, EventStaysFew, AlwaysFew}
+use Rattle.proof_course_plain.specs.Tied.{AreOutcomes}
 use Rattle.proof_course_plain.specs.Lines.{OnWay}
 use Rattle.proof_course_plain.specs.Outside.{Rests}
 use Rattle.proof_course_plain.specs.Told.{HasPast}

@@ -7,7 +7,7 @@ use Rattle.air_frames.specs.declared.frame.Heading.TheVariants.{Outward, Homewar
 use Rattle.air_frames.specs.Flown.{Flown}
 use Rattle.air_frames.specs.Frames.{FramesState}
 use Rattle.air_frames.specs.History.{Mark, begins_in}
-use Rattle.proof_traffic.specs.Flights.{flown_in, Fly as FlyInOrder}
+use Rattle.proof_course_plain.specs.Flights.{flown_in, Fly as FlyInOrder}
 use Rattle.proof_course_plain.specs.Ways.{Beside}
 use Rattle.proof_messages.specs.Shown.{HasShown}
 use Rattle.proof_course_sealed.specs.Labels.{Held, Sealed, Offer, Reports, Shows, Up, Of_host, Down, Of_node, as_session}

@@ -10,7 +10,7 @@ use Rattle.outside_model.specs.Events.{mesh_of}
 use Rattle.proof_serial.specs.Way.{Carries}
 use Rattle.proof_serial.specs.Chip.{HasFrames}
 use Rattle.proof_course_plain.specs.Lines.{OnWay}
-use Rattle.proof_once.specs.Tied.{AreOutcomes}
+use Rattle.proof_course_plain.specs.Tied.{AreOutcomes}
 use Rattle.proof_course_sealed.specs.Labels.{Sent, Late}
 use Rattle.proof_course_sealed.specs.Courses.{Courses, CoursesGo, GoUp, GoDown}
 use Rattle.proof_course_sealed.specs.Meaning.{Past, Grows}

@@ -7,7 +7,7 @@ use Rattle.device_sim.specs.State.{State}
 use Rattle.host_model.specs.Facts.{HostFacts}
 use Rattle.world_model.specs.State.{Machine}
 use Rattle.world_model.specs.Events.{Event, Host_does}
-use Rattle.proof_once.specs.Tied.{AreOutcomes, MakesWhatIsTaken}
+use Rattle.proof_course_plain.specs.Tied.{AreOutcomes, MakesWhatIsTaken}
 use Rattle.proof_course_plain.specs.Told.{HasPast}
 use Rattle.proof_course_sealed.specs.Courses.{Courses, CoursesGo, CoursesFacts}
 use Rattle.proof_course_sealed.specs.Meaning.{Past, Grows}

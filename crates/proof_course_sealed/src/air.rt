@@ -8,14 +8,14 @@ ghost use Rattle.air_frames.specs.Flown.{Flown};
 ghost use Rattle.air_frames.specs.Frames.{FramesState, no_frames, putting, landing, remembered};
 ghost use Rattle.air_frames.specs.Ages.{refusal_of};
 ghost use Rattle.air_frames.specs.History.{Mark, Goes, Begins};
-ghost use Rattle.proof_traffic.specs.Flights.{flown_now, Fly as FlyInOrder};
+ghost use Rattle.proof_course_plain.specs.Flights.{flown_now, Fly as FlyInOrder};
 ghost use Rattle.proof_course_sealed.specs.Labels.{Held};
 ghost use Rattle.proof_course_sealed.specs.Courses.{Courses, first_courses};
 ghost use Rattle.proof_course_sealed.specs.Meaning.{Past, first_past, Grows};
 ghost use Rattle.proof_course_sealed.specs.Air.{MeansBy, OnAir, SameAir, Puts, Lands, WasThere};
 
+use proof_course_plain::traffic::frames_fly_in_order;
 use proof_messages::the_air_counts_nonces;
-use proof_traffic::frames_fly_in_order;
 
 /// A frame goes on the air as the courses have it; the oldest lands; a session begins, of the node or of another; and one that may be heard
 /// again is a frame of the courses, and fresh. What is on the air stays what it is as more orders, sessions and nonces come.

@@ -16,7 +16,7 @@ ghost use Rattle.host_model.specs.May.{May};
 ghost use Rattle.host_model.specs.Taking.{AreJudged};
 ghost use Rattle.host_model.specs.Events.{HostEvent};
 ghost use Rattle.proof_serial.specs.Line.{host_units};
-ghost use Rattle.proof_once.specs.Truly.{TellTruly};
+ghost use Rattle.proof_course_plain.specs.Truly.{TellTruly};
 ghost use Rattle.proof_course_plain.specs.Told.{HasPast};
 ghost use Rattle.proof_course_plain.specs.HostGoing.{AllWell};
 ghost use Rattle.proof_course_sealed.specs.Courses.{Courses, CoursesFacts};
@@ -30,13 +30,13 @@ use proof_course::{
     courses_keep_facts, first_bytes_name_one_of_the_host, first_bytes_name_one_of_the_node,
     ids_name_one_session, nonces_of_nodes_keep_facts, nonces_of_the_host_keep_facts,
 };
+use proof_course_plain::traffic::frames_fly_in_order;
 use proof_host::{events_keep_facts, laws_follow, what_is_over_stays};
 use proof_messages::{
     accounts_give_as_the_courses_do, hosts_leave_nonces, hosts_open_what_was_sealed,
     hosts_seal_what_waits, messages_do_what_is_asked, others_are_no_messages,
     others_carry_no_nonce, reports_tell, sealers_take_as_the_courses_do, segments_tell,
 };
-use proof_traffic::frames_fly_in_order;
 
 /// What the host does of itself or is asked for makes steps of the courses of a lock: it begins a session; it asks for a nonce, with the
 /// message of the last session to be sealed; it writes that message sealed, or a nonce that waits, or writes either again; it gives up what

@@ -11,9 +11,9 @@ ghost use Rattle.world_model.specs.Events.{Event, May, happens};
 ghost use Rattle.world_model.specs.Did.{happens_all, MayAll};
 ghost use Rattle.proof_serial.specs.Line.{WritesWell, AllWriteWell, IsAtRest, AllAtRest, AreLines};
 ghost use Rattle.proof_serial.specs.Host.{AllAskWell};
-ghost use Rattle.proof_world.specs.Restarts.{KeepsWell, AllKeepWell, BeginsEmpty, IsHeld};
-ghost use Rattle.proof_traffic.specs.OnAir.{EventStaysFew, AlwaysFew};
-ghost use Rattle.proof_once.specs.Truly.{IsTrue, AreTrue};
+ghost use Rattle.proof_course_plain.specs.Restarts.{KeepsWell, AllKeepWell, BeginsEmpty, IsHeld};
+ghost use Rattle.proof_course_plain.specs.OnAir.{EventStaysFew, AlwaysFew};
+ghost use Rattle.proof_course_plain.specs.Truly.{IsTrue, AreTrue};
 ghost use Rattle.proof_course_plain.specs.World.{NamesEnd};
 ghost use Rattle.proof_course_sealed.specs.Courses.{Courses, first_courses};
 ghost use Rattle.proof_course_sealed.specs.Meaning.{Past, first_past};
@@ -30,6 +30,8 @@ use proof_course::{
     what_is_told_was_done,
 };
 use proof_course_plain::lines_ask_plainly;
+use proof_course_plain::traffic::at_most_two_are_on_the_air;
+use proof_course_plain::worlds::restarts_go_on;
 use proof_host::{
     events_keep_facts, first_facts_hold, laws_follow, restarts_keep_facts, what_is_over_stays,
 };
@@ -37,8 +39,6 @@ use proof_messages::{
     accounts_give_as_the_courses_do, others_are_no_messages, others_carry_no_nonce,
 };
 use proof_serial::{hosts_write_well, units_are_judged_whole};
-use proof_traffic::at_most_two_are_on_the_air;
-use proof_world::restarts_go_on;
 
 /// Every event of the whole machine makes steps of the courses of a lock, and so do events one after another; and each success that the
 /// host is told of it is true at the moment it is told. Where the host starts again, the keeper tells its records, and they are those of

@@ -13,7 +13,7 @@ use Rattle.proof_device.specs.GoingOn.{GoOn, AreSame}
 use Rattle.proof_device.specs.Showing.{AllShow, AreApart, Shows}
 use Rattle.proof_device.proofs.DevicePlaces.{go_none, go_then, go_same, machine_goes}
 use Rattle.proof_device.proofs.ShownChanges.{show_none, show_then}
-pub use Rattle.proof_device.proofs.ShownChanges.{stays_apart}
+use Rattle.proof_device.proofs.ShownChanges.{stays_apart}
 use Rattle.proof_walk.specs.Phases.{Phase, Between, Said_line, Goes}
 use Rattle.proof_walk.specs.Walk.{Walk}
 use Rattle.proof_devices.specs.Living.{MayAny}

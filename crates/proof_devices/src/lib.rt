@@ -17,3 +17,5 @@ pub use devices::{
     lines_live_as_shown, lines_run_as_far, lines_run_as_shown,
 };
 pub use did::devices_did;
+pub use proof_air as air;
+pub use proof_routes as routes;

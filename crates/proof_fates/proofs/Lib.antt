@@ -7,4 +7,3 @@ mod Numbered
 mod Arriving
 mod Meeting
 mod Grounds
-pub use Rattle.proof_devices.proofs.Changes

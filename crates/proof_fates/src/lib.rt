@@ -9,6 +9,4 @@
 mod fates;
 
 pub use fates::{lines_meet_what_is_due, lines_repeat_what_is_asked};
-pub use proof_air as air;
 pub use proof_devices as devices;
-pub use proof_routes as routes;

@@ -15,7 +15,7 @@ use Rattle.proof_host.proofs.Lists.{each-append}
 use Rattle.world_model.specs.State.{Machine}
 use Rattle.world_model.specs.Events.{Event, entries, happens, May}
 use Rattle.world_model.specs.Did.{happens_all, entries_all, MayAll}
-use Rattle.proof_world.specs.Restarts.{AllStartWell, StartsWell}
+use Rattle.proof_spoken.specs.Restarts.{AllStartWell, StartsWell}
 use Rattle.world_lines.specs.Spoken.{Spoken, after, after_all, entries_of, transcript_of}
 use Rattle.proof_spoken.specs.Spoken.{IsSpoken, AreSpoken}
 use Rattle.proof_once.specs.Truly.{AreTrue, IsTrue}

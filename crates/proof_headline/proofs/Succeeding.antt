@@ -35,8 +35,8 @@ use Rattle.world_model.specs.State.{Machine, host_does, host_entries, routed}
 use Rattle.world_model.specs.Events.{Event, Outside_does, Host_does, Host_takes, Decoder_ticks, Refuses, Shows_values, Restarts, entries, fed, shown_values, May}
 use Rattle.world_model.proofs.Hosting.{entries_cons}
 use Rattle.host_model.proofs.Silence.{Silent, judged_silent}
-use Rattle.proof_world.proofs.Aside.{Asides, own_aside, stamp_aside}
-use Rattle.proof_world.proofs.Notes.{Trailing, event_following}
+use Rattle.proof_spoken.proofs.Aside.{Asides, own_aside, stamp_aside}
+use Rattle.proof_spoken.proofs.Notes.{Trailing, event_following}
 use Rattle.proof_once.specs.Tied.{MakesWhatIsTaken}
 use Rattle.law_transcript.proofs.Having.{all_has}
 use Rattle.proof_once.specs.Truly.{IsDoneBy, IsTrue, TellTruly, TellsTruly}

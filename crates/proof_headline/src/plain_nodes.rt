@@ -26,8 +26,8 @@ use proof_course_sealed::{
     lines_tell_the_truth,
 };
 use proof_once::courses_tie_their_ends;
+use proof_spoken::world::lines_keep_and_ask_well;
 use proof_spoken::{interviews_give_what_is_known, interviews_tell_what_nodes_list};
-use proof_world::lines_keep_and_ask_well;
 
 /// Of devices as their makers left them, the first of a node is at the beginning of a course of it where its kind is plain; the others of the node are idle.
 pub fn devices_as_made_begin_courses()

@@ -5,7 +5,7 @@ pub mod Marking
 mod Colliding
 pub mod Asking
 pub mod Telling
-mod Holding
+pub mod Holding
 mod Filling
 mod Chipping
 mod Hosting
@@ -13,10 +13,10 @@ pub mod Piping
 pub mod Clearing
 mod Arriving
 mod Fitting
-mod Tellings
+pub mod Tellings
 mod Numbering
 mod HostTelling
-mod ChipTelling
+pub mod ChipTelling
 mod Goings
 mod Roomy
 pub mod Rooming
@@ -49,3 +49,11 @@ pub use Rattle.proof_spoken.proofs.Plain
 pub use Rattle.proof_spoken.proofs.RoutineNotes
 pub use Rattle.proof_spoken.proofs.SaidOrders
 pub use Rattle.proof_spoken.proofs.SpokenLines
+pub use Rattle.proof_spoken.proofs.Always
+pub use Rattle.proof_spoken.proofs.Aside
+pub use Rattle.proof_spoken.proofs.Errands
+pub use Rattle.proof_spoken.proofs.FactsKept
+pub use Rattle.proof_spoken.proofs.FirstHosts
+pub use Rattle.proof_spoken.proofs.Heard
+pub use Rattle.proof_spoken.proofs.Hosts
+pub use Rattle.proof_spoken.proofs.Notes

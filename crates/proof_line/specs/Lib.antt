@@ -7,3 +7,6 @@ pub mod Links
 pub mod Rooms
 pub mod Linked
 pub use Rattle.proof_spoken.specs.Said
+pub use Rattle.proof_spoken.specs.Restarts
+pub use Rattle.proof_spoken.specs.Asking
+pub use Rattle.proof_spoken.specs.Lines

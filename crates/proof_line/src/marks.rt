@@ -1,12 +1,14 @@
 //! Marks that lines set on the serial line.
 
-ghost use Rattle.std.specs.Prelude.{Option, List, ℕ};
+ghost use Rattle.std.specs.Prelude.{◌≡◌, Bool, true, Option, List, ℕ};
 ghost use Rattle.s0_crypto.specs.declared.key_pair.Keys.{Keys};
 ghost use Rattle.device_sim.specs.State.{State};
 ghost use Rattle.law_wire.specs.Marks.{CollidesWhenAsked, MarksUnits};
+ghost use Rattle.law_wire.specs.Serial.{ended};
 ghost use Rattle.world_model.specs.State.{first_machine};
 ghost use Rattle.world_lines.specs.Spoken.{Spoken, transcript_of};
 ghost use Rattle.world_lines.specs.Done.{AreDone};
+ghost use Rattle.world_lines.specs.Whole.{AreWhole};
 
 use crate::{collisions_go_on, marks_go_on};
 
@@ -21,11 +23,12 @@ pub fn lines_collide_when_asked()
 }
 
 /// Over any such lines, directly after a unit stands that it was lost, where a `drop` of its side waits, and else, of a data frame, that it was changed, as the
-/// oldest `garble` of its side that waits says; and no other unit is told so.
+/// oldest `garble` of its side that waits says; and no other unit is told so. The same is so in the end, where all lines were run whole.
 pub fn lines_mark_units()
-    ensures { (keys : Keys) (records : Option (List (List ℕ))) (devices : List State) (lines : List Spoken) →
+    ensures { (keys : Keys) (records : Option (List (List ℕ))) (devices : List State) (lines : List Spoken) (whole : Bool) →
         AreDone (first_machine keys records devices) lines →
-        MarksUnits (transcript_of (first_machine keys records devices) lines) }
+        (whole ≡ true → AreWhole (first_machine keys records devices) lines) →
+        MarksUnits (ended whole (transcript_of (first_machine keys records devices) lines)) }
 {
     marks_go_on();
 }

@@ -1,18 +1,20 @@
 //! Units without room, and what restarts lose.
 
-ghost use Rattle.std.specs.Prelude.{Bool, Option, Some, List, [], ℕ};
+ghost use Rattle.std.specs.Prelude.{◌≡◌, Bool, true, Option, Some, List, [], ℕ};
 ghost use Rattle.s0_crypto.specs.declared.key_pair.Keys.{Keys};
 ghost use Rattle.device_sim.specs.State.{State};
 ghost use Rattle.law_wire.specs.Pipes.{OverrunsWhenFull};
+ghost use Rattle.law_wire.specs.Serial.{ended};
 ghost use Rattle.world_model.specs.State.{first_machine};
 ghost use Rattle.world_lines.specs.Spoken.{Spoken, transcript_of};
 ghost use Rattle.world_lines.specs.Done.{AreDone};
+ghost use Rattle.world_lines.specs.Whole.{AreWhole};
 ghost use Rattle.proof_line.specs.Pipes.{ClearsAtRestarts, ClearsNowhereElse, OverrunsOnlyWhenFull};
 ghost use Rattle.proof_line.specs.Rooms.{AnswersFrames};
 
 use crate::{pipes_go_on, rooms_go_on};
 use proof_serial::hosts_write_well;
-use proof_world::lines_keep_and_ask_well;
+use proof_spoken::world::lines_keep_and_ask_well;
 
 /// Over any lines from the first on, the last of which an allocation failure may have cut short, a unit is overrun only where what its pipe may still hold, by
 /// what stands before it, leaves it no room in 4,096 bytes.
@@ -44,11 +46,13 @@ pub fn lines_clear_nowhere_else()
 }
 
 /// Over any such lines, over a keeper that tells its records and has none at first, a unit that is neither lost nor overrun surely fits too, by what stands
-/// before it: data frames that are not answered, and answers given since the other side wrote, leave it room.
+/// before it: data frames that are not answered, and answers given since the other side wrote, leave it room. The same is so in the end, where all
+/// lines were run whole.
 pub fn lines_overrun_when_full()
-    ensures { (keys : Keys) (devices : List State) (lines : List Spoken) →
+    ensures { (keys : Keys) (devices : List State) (lines : List Spoken) (whole : Bool) →
         AreDone (first_machine keys (Some []) devices) lines →
-        OverrunsWhenFull (transcript_of (first_machine keys (Some []) devices) lines) }
+        (whole ≡ true → AreWhole (first_machine keys (Some []) devices) lines) →
+        OverrunsWhenFull (ended whole (transcript_of (first_machine keys (Some []) devices) lines)) }
 {
     lines_overrun_only_when_full();
     rooms_go_on();

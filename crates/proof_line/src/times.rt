@@ -1,22 +1,26 @@
 //! Numbers of ticks.
 
-ghost use Rattle.std.specs.Prelude.{Option, List, ℕ};
+ghost use Rattle.std.specs.Prelude.{◌≡◌, Bool, true, Option, List, ℕ};
 ghost use Rattle.s0_crypto.specs.declared.key_pair.Keys.{Keys};
 ghost use Rattle.device_sim.specs.State.{State};
+ghost use Rattle.law_wire.specs.Serial.{ended};
 ghost use Rattle.law_wire.specs.Times.{TellsTime};
 ghost use Rattle.world_model.specs.State.{first_machine};
 ghost use Rattle.world_lines.specs.Spoken.{Spoken, transcript_of};
 ghost use Rattle.world_lines.specs.Done.{AreDone};
+ghost use Rattle.world_lines.specs.Whole.{AreWhole};
 
 use crate::numbers_go_on;
 use proof_walk::time_goes_on;
 
 /// Over any lines from the first on, the last of which an allocation failure may have cut short, the number of a tick stands once, before its first entry, and
-/// nowhere else: each is later than all ticks that began before it and asked for by a line, and nothing else stands directly after the words of a `tick`.
+/// nowhere else: each is later than all ticks that began before it and asked for by a line, and nothing else stands directly after the words of a `tick`; and
+/// where all lines were run whole, none stands last.
 pub fn ticks_are_told()
-    ensures { (keys : Keys) (records : Option (List (List ℕ))) (devices : List State) (lines : List Spoken) →
+    ensures { (keys : Keys) (records : Option (List (List ℕ))) (devices : List State) (lines : List Spoken) (whole : Bool) →
         AreDone (first_machine keys records devices) lines →
-        TellsTime (transcript_of (first_machine keys records devices) lines) }
+        (whole ≡ true → AreWhole (first_machine keys records devices) lines) →
+        TellsTime (ended whole (transcript_of (first_machine keys records devices) lines)) }
 {
     time_goes_on();
     numbers_go_on();

@@ -27,7 +27,7 @@ use Rattle.proof_host.proofs.Lists.{each-append}
 use Rattle.proof_line.specs.Said.{AreSaid, KnowsListing, MayAnswer, Tells}
 use Rattle.proof_line.proofs.Plain.{IsPlain}
 use Rattle.proof_line.proofs.SaidOrders.{AsidesKeep, FactsGoOn, plain_so}
-use Rattle.proof_world.specs.Restarts.{StartsWell}
+use Rattle.proof_line.specs.Restarts.{StartsWell}
 use Rattle.proof_sending.specs.Due.{AreCarried}
 use Rattle.proof_sending.specs.Knowing.{Grounded}
 use Rattle.proof_sending.proofs.Arrivals.{IsNoUnit}

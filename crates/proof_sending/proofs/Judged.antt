@@ -50,7 +50,7 @@ use Rattle.proof_host.specs.Entries.{entries_at}
 use Rattle.proof_host.specs.Facts.{Facts}
 use Rattle.proof_messages.proofs.LockSessions.{some_same}
 use Rattle.proof_messages.proofs.Texts.{length-code}
-use Rattle.proof_world.proofs.Always.{one, none, either}
+use Rattle.proof_line.proofs.Always.{one, none, either}
 use Rattle.proof_sending.specs.Reasons.{Reason, HasEight, HasReason, IsEight, IsReasoned}
 use Rattle.proof_sending.specs.Heard.{AreHeardOf, HaveReasons, IsHeardOf, ItemTells, PayloadTells, WritesNoFrame}
 use Rattle.proof_sending.proofs.BroughtNodes.{brought_from}

@@ -43,7 +43,7 @@ use Rattle.law_wire.specs.Serial.{arriving_of}
 use Rattle.world_model.specs.State.{Machine}
 use Rattle.world_model.specs.Events.{Host_takes, May}
 use Rattle.proof_serial.proofs.Ways.{carries_left}
-use Rattle.proof_air.proofs.Brought.{body_is}
+use Rattle.proof_walk.proofs.Bodies.{body_is}
 use Rattle.proof_line.specs.Arrivals.{AreTexts, arrived_from}
 use Rattle.proof_line.specs.Arrivals as line
 use Rattle.proof_line.specs.Rooms.{Shown}

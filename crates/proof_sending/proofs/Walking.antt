@@ -28,7 +28,7 @@ use Rattle.proof_walk.specs.Walk.{WalkWhere}
 use Rattle.proof_serial.specs.Line.{AllWriteWell, WritesWell}
 use Rattle.proof_line.specs.Rooms.{KnowRooms, MayFit}
 use Rattle.proof_walk.proofs.Stepping.{Steps, event_then}
-use Rattle.proof_world.specs.Restarts.{AllKeepWell, AllStartWell}
+use Rattle.proof_line.specs.Restarts.{AllKeepWell, AllStartWell}
 use Rattle.proof_sending.specs.Knowing.{IsMine, IsSound, IsWell, KnowSending, Opened, Saying}
 use Rattle.proof_sending.proofs.Effects.{begins_none, effect_left, left_done, left_step, opened_sound}
 use Rattle.proof_sending.proofs.Grounds.{WalkLaws, ground_said}

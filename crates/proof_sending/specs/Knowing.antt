@@ -21,7 +21,7 @@ use Rattle.proof_host.specs.Facts.{Facts}
 use Rattle.proof_line.specs.Said.{AreSaid, KnowsListing, Tells}
 use Rattle.proof_walk.specs.ByLine.{IsOfTick, begun}
 use Rattle.proof_walk.specs.Phases.{Phase, Said_line, Begun, Doing, Ticking_host}
-use Rattle.proof_world.specs.Restarts.{KeepsWell, StartsWell}
+use Rattle.proof_line.specs.Restarts.{KeepsWell, StartsWell}
 use Rattle.proof_sending.specs.Reasons.{IsReasoned}
 use Rattle.proof_sending.specs.Due.{IsShown}
 use Rattle.proof_sending.specs.Arriving.{ArrivesSo, BringsMore}

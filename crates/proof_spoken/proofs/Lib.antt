@@ -14,3 +14,13 @@ pub mod HeardLists
 pub mod NodeLists
 pub mod KnownLists
 pub mod SpokenLines
+pub use Rattle.proof_world.proofs.Always
+pub use Rattle.proof_world.proofs.Aside
+pub use Rattle.proof_world.proofs.Devices
+pub use Rattle.proof_world.proofs.Heard
+pub use Rattle.proof_world.proofs.HeldRecords
+pub use Rattle.proof_world.proofs.Notes
+pub use Rattle.proof_world.proofs.Errands
+pub use Rattle.proof_world.proofs.FactsKept
+pub use Rattle.proof_world.proofs.FirstHosts
+pub use Rattle.proof_world.proofs.Hosts

@@ -37,7 +37,7 @@ use Rattle.outside_model.specs.State.{OuterState}
 use Rattle.proof_serial.specs.Way.{changed_item, items_of, unit_item}
 use Rattle.proof_serial.proofs.ChangedUnits.{changed_text, garbled_long}
 use Rattle.proof_serial.proofs.Ways.{carries_more}
-use Rattle.proof_air.proofs.Brought.{body_is}
+use Rattle.proof_walk.proofs.Bodies.{body_is}
 use Rattle.proof_transcript.specs.Carrying.{Underway, sends_in, sends_of}
 use Rattle.proof_transcript.proofs.Picked.{IsNoFrame, asked-append, picked_both, picked_same, same_sent}
 

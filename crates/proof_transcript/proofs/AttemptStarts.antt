@@ -35,8 +35,8 @@ use Rattle.outside_model.specs.Events.{devices_after, outcome, ticked_entry}
 use Rattle.world_model.specs.State.{Machine}
 use Rattle.world_model.specs.Events.{Event, Host_does, Host_takes, entries, happens, May}
 use Rattle.world_model.specs.Did.{happens_all, entries_all, MayAll}
-use Rattle.proof_world.specs.Restarts.{AllStartWell, StartsWell}
-use Rattle.proof_world.proofs.Aside.{Asides, told_aside}
+use Rattle.proof_spoken.specs.Restarts.{AllStartWell, StartsWell}
+use Rattle.proof_spoken.proofs.Aside.{Asides, told_aside}
 use Rattle.world_lines.specs.Spoken.{Spoken, after, entries_of, transcript_of}
 use Rattle.proof_spoken.specs.Spoken.{AreSpoken, IsSpoken}
 use Rattle.proof_spoken.proofs.Plain.{spoken_part}

@@ -1,8 +1,7 @@
 -- The unit of an attempt asks to send to its node: it is read as it was written.
-use Rattle.std.proofs.Common.{◌≡◌, ℕ, ◌+◌, ◌-◌, ◌≤◌, Bool, List, [], ◌∷◌, ◌++◌, length, take, Ok, refl, sym, ap, subst, ◌∙◌, arith}
+use Rattle.std.proofs.Common.{◌≡◌, ℕ, ◌≤◌, Bool, List, length, Ok, refl, sym, ap, subst, ◌∙◌}
 use Rattle.std.specs.Prelude.{Result}
 use Rattle.std.specs.List.{flat_map}
-use Rattle.std.proofs.Math.Seq.{take-append_seam}
 use Rattle.serial_frame.specs.Frame.{checksum}
 use Rattle.serial_frame.specs.Items.{counted_of, unit_text}
 use Rattle.serial_frame.specs.declared.unit.Unit.TheVariants.{Framed}
@@ -18,14 +17,10 @@ use Rattle.host_requests.specs.declared.task.Purpose.TheVariants.{Attempt}
 use Rattle.host_requests.specs.Frames.{frame_of}
 use Rattle.law_transcript.specs.Payloads.{GoesTo}
 use Rattle.law_transcript.specs.Units.{body_in, read_well, sending_in, sending_of}
+use Rattle.proof_walk.proofs.Bodies.{body_is}
 
 goes : (n : ℕ) (payload : List ℕ) (id : ℕ) (r : Result Request BodyFault) → r ≡ Ok (SendData n payload TRANSMIT_OPTIONS id) → GoesTo n (flat_map sending_of (read_well r))
 goes n payload id r is = subst (λ (x : Result Request BodyFault). GoesTo n (flat_map sending_of (read_well x))) (sym is) refl
-
-body_is : (body : List ℕ) (func sum : ℕ) → take (length (0 ∷ func ∷ body) + 1 - 3) (body ++ sum ∷ []) ≡ body
-body_is body func sum =
-    let count : length (0 ∷ func ∷ body) + 1 - 3 ≡ length body = omega arith in
-    ap (λ (k : ℕ). take k (body ++ sum ∷ [])) count ∙ take-append_seam body (sum ∷ [])
 
 pub attempt_goes : (n : ℕ) (more : Bool) (payload : List ℕ) (id : ℕ) → IsNode n → 1 ≤ length payload → 1 ≤ id → id ≤ 255
     → GoesTo n (sending_in (unit_text (Framed (frame_of (Attempt n more payload) id))))

@@ -27,8 +27,8 @@ use Rattle.world_model.specs.State.{Machine, host_does, host_entries, routed}
 use Rattle.world_model.proofs.Hosting.{entries_cons}
 use Rattle.outside_model.specs.Events.{Host_notes}
 use Rattle.outside_model.specs.Did.{entries_all as entries_all_outside}
-use Rattle.proof_world.proofs.Aside.{Asides}
-use Rattle.proof_world.proofs.Notes.{Trailing, event_following}
+use Rattle.proof_spoken.proofs.Aside.{Asides}
+use Rattle.proof_spoken.proofs.Notes.{Trailing, event_following}
 use Rattle.proof_transcript.specs.Records.{cancelled_by}
 
 -- ---- what records give

@@ -44,7 +44,7 @@ use Rattle.proof_walk.specs.Outside.{IsNote}
 use Rattle.proof_walk.specs.Phases.{Phase}
 use Rattle.proof_walk.specs.Walk.{Walk, WalkWhere, both_know}
 use Rattle.proof_walk.proofs.Machines.{UnitsAre, answers_keep, outs_keep}
-use Rattle.proof_world.proofs.Aside.{stamp_are}
+use Rattle.proof_spoken.proofs.Aside.{stamp_are}
 use Rattle.proof_air.specs.Hearing.{KnowAir, MayHear}
 use Rattle.proof_air.proofs.Handling.{tie_here}
 use Rattle.proof_air.proofs.Judging.{StartsSo}

@@ -21,8 +21,8 @@ use Rattle.host_model.specs.State.{HostState}
 use Rattle.host_model.specs.Events.{HostEvent, Begins, Hears}
 use Rattle.host_model.specs.After.{after}
 use Rattle.host_model.specs.Did.{after_all}
-use Rattle.proof_world.proofs.Always.{one, none, either}
-use Rattle.proof_world.proofs.Heard.{IsOfPayload, payload_of}
+use Rattle.proof_spoken.proofs.Always.{one, none, either}
+use Rattle.proof_spoken.proofs.Heard.{IsOfPayload, payload_of}
 use Rattle.proof_transcript.proofs.Common.{IsNoBeginning}
 
 abbrev NoBeginnings : List HostEvent → Type 0

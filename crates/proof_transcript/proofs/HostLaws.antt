@@ -20,7 +20,7 @@ use Rattle.world_model.specs.State.{Machine, begun_in, host_does, host_entries, 
 use Rattle.world_model.specs.Events.{Event, Outside_does, Host_does, Host_takes, Decoder_ticks, Refuses, Shows_values, Restarts, entries, fed, happens, notes, shown_values, May}
 use Rattle.world_model.specs.Did.{entries_all, MayAll}
 use Rattle.proof_host.specs.Entries.{IsAside, entries_at, notes_of}
-use Rattle.proof_world.proofs.Aside.{Asides, own_aside, ticked_aside, write_aside}
+use Rattle.proof_spoken.proofs.Aside.{Asides, own_aside, ticked_aside, write_aside}
 
 module _ (Free : Entry → Type 0) (Of : HostEvent → Type 0) (aside : (entry : Entry) → IsAside entry → Free entry)
     (each : (h : HostState) (event : HostEvent) → Of event → AllByRecursion Free (entries_at h event)) where

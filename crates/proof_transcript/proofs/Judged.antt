@@ -26,8 +26,8 @@ use Rattle.host_model.specs.After.{after, is_busy, gives_up}
 use Rattle.host_model.specs.May.{says_listens}
 use Rattle.host_model.specs.Did.{after_all}
 use Rattle.host_model.specs.Taking.{InterviewEvents, ResponseEvents, NoticeEvents, FrameEvents, told_if, IsFollowed, IsJudged, AreJudged}
-use Rattle.proof_world.proofs.Always.{one, none, either}
-use Rattle.proof_world.proofs.Heard.{IsOfPayload, payload_of}
+use Rattle.proof_spoken.proofs.Always.{one, none, either}
+use Rattle.proof_spoken.proofs.Heard.{IsOfPayload, payload_of}
 use Rattle.proof_transcript.proofs.Hosts.{IsNoJoin}
 
 abbrev NoneJoin : List HostEvent → Type 0

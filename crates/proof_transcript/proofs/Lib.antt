@@ -56,3 +56,5 @@ mod SentFrames
 mod CarryingWalk
 pub use Rattle.proof_spoken.proofs.RoutineNotes
 pub use Rattle.proof_spoken.proofs.SpokenLines
+pub use Rattle.proof_spoken.proofs.Aside
+pub use Rattle.proof_spoken.proofs.Notes

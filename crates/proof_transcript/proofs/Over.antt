@@ -16,7 +16,7 @@ use Rattle.proof_host.specs.Facts.{Facts}
 use Rattle.world_model.specs.State.{Machine}
 use Rattle.world_model.specs.Events.{Event, Host_does, Restarts, OpensFrom, happens, entries, May}
 use Rattle.world_model.specs.Did.{AllAlong, MayAll}
-use Rattle.proof_world.specs.Restarts.{StartsWell, KeepsWell, AllKeepWell, AreHeld, IsHeld}
+use Rattle.proof_spoken.specs.Restarts.{StartsWell, KeepsWell, AllKeepWell, AreHeld, IsHeld}
 use Rattle.proof_transcript.proofs.Hosts.{SameJoined}
 use Rattle.proof_transcript.proofs.ToldState.{GoesOn, StartsOver}
 

@@ -28,9 +28,9 @@ use Rattle.world_lines.specs.Spoken.{Spoken, after_all, transcript_of}
 use Rattle.world_lines.specs.Done.{AreDone}
 use Rattle.world_lines.specs.Whole.{AreWhole}
 use Rattle.proof_host.specs.Entries.{IsAside, entries_at}
-use Rattle.proof_world.proofs.Aside.{own_aside, stamp_aside}
-use Rattle.proof_world.proofs.HeldRecords.{texts_both, texts_of_range}
-use Rattle.proof_world.proofs.Notes.{Trailing, event_following}
+use Rattle.proof_spoken.proofs.Aside.{own_aside, stamp_aside}
+use Rattle.proof_spoken.proofs.HeldRecords.{texts_both, texts_of_range}
+use Rattle.proof_spoken.proofs.Notes.{Trailing, event_following}
 use Rattle.proof_walk.specs.Phases.{Phase}
 use Rattle.proof_walk.specs.Walk.{Walk}
 use Rattle.proof_walk.proofs.Lines.{lines_lead}

@@ -309,10 +309,17 @@ module _ (devices : List State) where
 
   -- ---- lines
 
+  -- words stand where nothing is to be shown
+  pub words_stand : (past : List Entry) (m : Machine) (words : List ℕ) → NoneDue devices past m → Stands devices past (entry.Said words)
+  words_stand past m words none = (
+    λ apart. may_show (to_show devices past) (entry.Said words) (none.0 apart) tt,
+    no_values past (line_last past) (entry.Said words) none.1 tt,
+  )
+
   said : (past : List Entry) (m : Machine) (words : List ℕ) (line : Line) → line_of (entry.Said words) ≡ line ∷ [] → ShownTies devices past m → NoneDue devices past m
       → Stands devices past (entry.Said words) × Asked (KnownThere devices) line (past ++ entry.Said words ∷ []) m
   said past m words line read ties none = (
-    (λ apart. may_show (to_show devices past) (entry.Said words) (none.0 apart) tt, no_values past (line_last past) (entry.Said words) none.1 tt),
+    words_stand past m words none,
     record { before = past; words = words; is = refl; read = read; ties = (ties, none) },
   )
 

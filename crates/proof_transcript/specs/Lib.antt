@@ -7,3 +7,5 @@ pub mod Showing
 pub mod Carrying
 pub use Rattle.proof_spoken.specs.Said
 pub use Rattle.proof_spoken.specs.Spoken
+pub use Rattle.proof_spoken.specs.Devices
+pub use Rattle.proof_spoken.specs.Restarts

@@ -14,11 +14,11 @@ use host_keep::texts_give_one_thing;
 use host_model::{a_host_begins_with_what_is_kept, a_restart_keeps_what_is_held, facts_are_kept};
 use proof_air::lines_refuse_what_is_old;
 use proof_host::laws_follow;
+use proof_spoken::world::{lines_keep_and_ask_well, restarts_go_on, the_machine_keeps_facts};
 use proof_spoken::{
     answers_stand_after_their_lines, interviews_give_what_is_known, lines_tell_what_nodes_list,
     tables_are_what_was_said, tables_keep_orders,
 };
-use proof_world::{lines_keep_and_ask_well, restarts_go_on, the_machine_keeps_facts};
 
 /// Over lines that are said one after another, over a keeper that tells its records and has none at first, each line has the one answer that the
 /// transcript before it demands, and no answer stands elsewhere. An allocation failure may have cut the last line short: then it may lack its answer.

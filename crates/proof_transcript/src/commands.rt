@@ -11,16 +11,16 @@ ghost use Rattle.proof_host.specs.Laws.{HostLaws};
 ghost use Rattle.world_model.specs.State.{Machine, first_machine};
 ghost use Rattle.world_lines.specs.Spoken.{Spoken, transcript_of};
 ghost use Rattle.world_lines.specs.Done.{AreDone, events_of};
-ghost use Rattle.proof_world.specs.Restarts.{AllStartWell};
+ghost use Rattle.proof_spoken.specs.Restarts.{AllStartWell};
 
 use host_model::attempts_have_what_they_give;
 use host_requests::callback_ids;
 use proof_host::{asides_keep_facts, laws_follow};
+use proof_spoken::world::the_machine_keeps_facts;
 use proof_spoken::{
     answers_stand_after_their_lines, interviews_give_what_is_known, lines_tell_what_nodes_list,
     tables_are_what_was_said,
 };
-use proof_world::the_machine_keeps_facts;
 
 /// A command is taken back only directly after a line that asks for it, and while it waits: over any lines, the last of which an allocation
 /// failure may have cut short, where outcomes keep their laws.

@@ -12,11 +12,11 @@ ghost use Rattle.proof_transcript.specs.Records.{HasRecords};
 use crate::what_is_told;
 use host_keep::a_text_is_of_one_record;
 use proof_host::laws_follow;
+use proof_spoken::world::{lines_keep_and_ask_well, restarts_go_on, the_machine_keeps_facts};
 use proof_spoken::{
     answers_stand_after_their_lines, interviews_give_what_is_known, lines_tell_what_nodes_list,
     tables_are_what_was_said,
 };
-use proof_world::{lines_keep_and_ask_well, restarts_go_on, the_machine_keeps_facts};
 
 /// Over lines that were run whole, over a keeper that tells its records and has none at first: its records are legal, and give exactly the orders that were
 /// accepted, the commands that were cancelled, the sessions with their final outcomes, and the joined and interviewed nodes that the transcript shows.

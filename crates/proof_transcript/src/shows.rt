@@ -1,34 +1,39 @@
 //! What lines show.
 
-ghost use Rattle.std.specs.Prelude.{Some, List, []};
+ghost use Rattle.std.specs.Prelude.{◌≡◌, Bool, true, Some, List, []};
 ghost use Rattle.s0_crypto.specs.declared.key_pair.Keys.{Keys};
 ghost use Rattle.device_sim.specs.State.{State};
 ghost use Rattle.law_transcript.specs.Lists.{EachAfter};
 ghost use Rattle.law_transcript.specs.Nodes.{listing_of};
+ghost use Rattle.law_wire.specs.Serial.{ended};
 ghost use Rattle.law_wire.specs.Shown.{ShowsDevices};
 ghost use Rattle.law_host.specs.HostLegal.{ShowsValues};
 ghost use Rattle.world_model.specs.State.{first_machine};
 ghost use Rattle.world_lines.specs.Spoken.{Spoken, transcript_of};
 ghost use Rattle.world_lines.specs.Done.{AreDone};
+ghost use Rattle.world_lines.specs.Whole.{AreWhole};
 ghost use Rattle.proof_device.specs.Showing.{AreApart};
 
 use crate::what_is_told;
 use proof_device::changes_are_shown;
 use proof_host::laws_follow;
+use proof_spoken::world::the_machine_keeps_facts;
 use proof_spoken::{
     answers_stand_after_their_lines, interviews_give_what_is_known, lines_tell_what_nodes_list,
     runs_have_their_tables,
 };
-use proof_world::the_machine_keeps_facts;
 
 /// Over lines that are said one after another, the last of which an allocation failure may have cut short, over a keeper that tells its records and has none at
 /// first: directly after a `show` stand the values of the device of its node, as the changes entered so far leave it, where no two devices are of one node; and
-/// directly after a `store` the values of its node, as the transcript gives them. Neither stands anywhere else, nor any line of the table at the end.
+/// directly after a `store` the values of its node, as the transcript gives them. Neither stands anywhere else, nor any line of the table at the end; and
+/// where all lines were run whole, none is still to stand in the end.
 pub fn lines_show_what_is_kept()
-    ensures devices { (keys : Keys) (devices : List State) (lines : List Spoken) → AreDone (first_machine keys (Some []) devices) lines → AreApart devices →
-        ShowsDevices devices (transcript_of (first_machine keys (Some []) devices) lines) }
-    ensures values { (keys : Keys) (devices : List State) (lines : List Spoken) → AreDone (first_machine keys (Some []) devices) lines →
-        EachAfter (ShowsValues (listing_of devices)) [] (transcript_of (first_machine keys (Some []) devices) lines) }
+    ensures devices { (keys : Keys) (devices : List State) (lines : List Spoken) (whole : Bool) → AreDone (first_machine keys (Some []) devices) lines →
+        (whole ≡ true → AreWhole (first_machine keys (Some []) devices) lines) → AreApart devices →
+        ShowsDevices devices (ended whole (transcript_of (first_machine keys (Some []) devices) lines)) }
+    ensures values { (keys : Keys) (devices : List State) (lines : List Spoken) (whole : Bool) → AreDone (first_machine keys (Some []) devices) lines →
+        (whole ≡ true → AreWhole (first_machine keys (Some []) devices) lines) →
+        EachAfter (ShowsValues (listing_of devices)) [] (ended whole (transcript_of (first_machine keys (Some []) devices) lines)) }
 {
     the_machine_keeps_facts();
     lines_tell_what_nodes_list();

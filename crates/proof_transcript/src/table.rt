@@ -18,11 +18,11 @@ use host_keep::texts_give_one_thing;
 use host_model::a_restart_keeps_what_is_held;
 use host_node::a_restart_needs_the_records_alone;
 use proof_host::laws_follow;
+use proof_spoken::world::{lines_keep_and_ask_well, restarts_go_on, the_machine_keeps_facts};
 use proof_spoken::{
     answers_stand_after_their_lines, interviews_give_what_is_known, lines_tell_what_nodes_list,
     runs_have_their_tables,
 };
-use proof_world::{lines_keep_and_ask_well, restarts_go_on, the_machine_keeps_facts};
 
 /// Over lines that were run whole, over a keeper that tells its records and has none at first: the clock counts the ticks that lines asked
 /// for, the joined nodes are node 2 and those of the `join` lines that were not refused, and what was heard of a property is what its node

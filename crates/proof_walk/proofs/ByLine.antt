@@ -130,7 +130,7 @@ opens Asks Tied line past m asked =
 -- ---- the walk
 
 -- what a host does in a pump answers no line
-no_more_silent : (h : HostState) (n : ℕ) → Silent (no_more_event h n ∷ [])
+pub no_more_silent : (h : HostState) (n : ℕ) → Silent (no_more_event h n ∷ [])
 no_more_silent h n = (λ g. by g (is_full h), tt)
   where
     by : (g : HostState) (full : Bool) → answers g (if full then Drops_no_more n else Queues_no_more n) ≡ []
@@ -154,7 +154,7 @@ nodes_silent : (h : HostState) (next : Option ℕ) (event : HostEvent) → IsNex
 nodes_silent h None event is = absurd is
 nodes_silent h (Some n) event is = served_silent h n (node_of h n).series event is
 
-next_silent : (h : HostState) (owes : Bool) (queue : List Task) (event : HostEvent) → IsNextOf h owes queue event → Silent (event ∷ [])
+pub next_silent : (h : HostState) (owes : Bool) (queue : List Task) (event : HostEvent) → IsNextOf h owes queue event → Silent (event ∷ [])
 next_silent h true queue event is = as_silent event _ is (λ g. refl, tt)
 next_silent h false (one ∷ more) event is = as_silent event _ is (λ g. refl, tt)
 next_silent h false [] event is = nodes_silent h (next_of h.nodes h.served) event is

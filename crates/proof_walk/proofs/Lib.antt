@@ -17,3 +17,4 @@ pub mod Clock
 pub mod Over
 pub mod Where
 pub mod Shown
+pub mod Bodies

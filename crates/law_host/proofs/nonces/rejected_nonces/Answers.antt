@@ -2,7 +2,7 @@ use Rattle.std.proofs.Common.{◌≡◌, Bool, true, false, ℕ, List, [], ◌�
 use Rattle.std.specs.Prelude.{Option}
 use Rattle.law_host.specs.Nonces.{UsesNonces}
 use Rattle.law_host.specs.Notes.{course_of, first_start}
-use Rattle.law_host.specs.Worked.{given_new, given_otherwise, given_skipped, nonce_again}
+use Rattle.law_host.specs.Worked.{given_new, given_otherwise, given_skipped, new_over_restart, nonce_again}
 use Rattle.law_transcript.specs.Nodes.{listing_of}
 use Rattle.law_transcript.specs.Worked.{network_key, the_lock}
 use Rattle.law_transcript.proofs.Deciding.{not_true}
@@ -68,3 +68,15 @@ skipped_fails drawn (false ∷ keepings) texts fits uses = not_true fits
 
 pub returns-clause-skipped : goal.returns-clause-skipped
 returns-clause-skipped c = λ law. skipped_fails law.drawn law.choices.keepings law.choices.texts law.fits law.nonces
+
+-- nor after a restart is the second the live one
+restarted_fails : (drawn : ℕ → ℕ → List ℕ) (keepings : List Bool) (texts : List (Option (List ℕ)))
+    → (course_of (listing_of (the_lock ∷ [])) first_start new_over_restart (record { keepings = keepings; texts = texts })).fits ≡ true
+    → UsesNonces network_key drawn (course_of (listing_of (the_lock ∷ [])) first_start new_over_restart (record { keepings = keepings; texts = texts })) → ⊥
+unfolding computing
+restarted_fails drawn [] texts fits uses = two_one (ap (λ (nonce : List ℕ). first_byte nonce) uses.offered.1.0)
+restarted_fails drawn (true ∷ keepings) texts fits uses = two_one (ap (λ (nonce : List ℕ). first_byte nonce) uses.offered.1.0)
+restarted_fails drawn (false ∷ keepings) texts fits uses = not_true fits
+
+pub returns-clause-over_restart : goal.returns-clause-over_restart
+returns-clause-over_restart c = λ law. restarted_fails law.drawn law.choices.keepings law.choices.texts law.fits law.nonces

@@ -84,3 +84,13 @@ returns-clause-kept c = record {
   in_the_end = λ whole. refl;
   nonces = record { seven = λ node number. seven_of (number == 1); offered = tt; opened = (opened_report, tt); sealed = tt };
 }
+
+pub returns-clause-over_restart : goal.returns-clause-over_restart
+unfolding computing
+returns-clause-over_restart c = record {
+  choices = all_kept;
+  drawn = drawn;
+  fits = refl;
+  in_the_end = λ whole. refl;
+  nonces = record { seven = λ node number. seven_of (number == 1); offered = (refl, (refl, tt)); opened = tt; sealed = tt };
+}

@@ -1,8 +1,9 @@
 use Rattle.std.proofs.Common.{[], ◌∷◌, refl}
 use Rattle.std.specs.Prelude.{drop}
 use Rattle.law_host.specs.Notes.{first_start}
-use Rattle.law_host.specs.Worked.{after_begun, after_lock_begun, after_sessions, after_waking, all_kept, failure_told, last_session, other_told, told_openly, unsupported_told, value_heard, woken}
-use Rattle.law_time.specs.WorkedEnds.{asleep_given_up, asleep_in_silence, given_up_at_answer}
+use Rattle.law_host.specs.Worked.{after_begun, after_later_nonce, after_lock_begun, after_sessions, after_sleeper_begun, after_values, after_waking, all_kept, begun_unkept, failure_told, held_at_failure, last_session, other_told, told_openly, unread_payload, unread_sealed, unsupported_told, value_heard, value_unstored, woken, work_told}
+use Rattle.law_time.specs.WorkedEnds.{asleep_given_up, asleep_in_silence, given_up_at_answer, interview_refused, interview_uninformed}
+use Rattle.law_time.specs.WorkedTurns.{dropped_after_report}
 use Rattle.law_time.specs.WorkedWaits.{answered_errands, waited_attempts}
 use Rattle.law_transcript.specs.Nodes.{listing_of}
 use Rattle.law_transcript.specs.Worked.{cancelled_order, lossy_exchange, plain_exchange, repeated_exchange, restarted_host, sleeping_node, the_lock, the_sensor, the_switch}
@@ -81,3 +82,43 @@ returns-clause-given_up c = noted [] (listing_of (the_sensor ∷ [])) after_waki
 pub returns-clause-at_answer : goal.returns-clause-at_answer
 unfolding computing
 returns-clause-at_answer c = noted [] (listing_of (the_switch ∷ [])) first_start given_up_at_answer all_kept refl
+
+pub returns-clause-held : goal.returns-clause-held
+unfolding computing
+returns-clause-held c = noted [] (listing_of (the_sensor ∷ [])) after_sleeper_begun held_at_failure all_kept refl
+
+pub returns-clause-unkept : goal.returns-clause-unkept
+unfolding computing
+returns-clause-unkept c = noted [] (listing_of (the_switch ∷ [])) first_start begun_unkept all_kept refl
+
+pub returns-clause-dropped : goal.returns-clause-dropped
+unfolding computing
+returns-clause-dropped c = noted [] (listing_of (the_switch ∷ [])) first_start dropped_after_report all_kept refl
+
+pub returns-clause-unstored : goal.returns-clause-unstored
+unfolding computing
+returns-clause-unstored c = noted [] (listing_of (the_switch ∷ [])) after_values value_unstored all_kept refl
+
+pub returns-clause-working : goal.returns-clause-working
+unfolding computing
+returns-clause-working c = noted [] (listing_of (the_switch ∷ [])) after_begun work_told all_kept refl
+
+pub returns-clause-none_live : goal.returns-clause-none_live
+unfolding computing
+returns-clause-none_live c = noted [] (listing_of (the_lock ∷ [])) after_lock_begun unread_sealed all_kept refl
+
+pub returns-clause-later_live : goal.returns-clause-later_live
+unfolding computing
+returns-clause-later_live c = noted [] (listing_of (the_lock ∷ [])) after_later_nonce unread_sealed all_kept refl
+
+pub returns-clause-unread : goal.returns-clause-unread
+unfolding computing
+returns-clause-unread c = noted [] (listing_of (the_switch ∷ [])) first_start unread_payload all_kept refl
+
+pub returns-clause-uninformed : goal.returns-clause-uninformed
+unfolding computing
+returns-clause-uninformed c = noted [] (listing_of (the_switch ∷ [])) first_start interview_uninformed all_kept refl
+
+pub returns-clause-refused : goal.returns-clause-refused
+unfolding computing
+returns-clause-refused c = noted [] (listing_of (the_switch ∷ [])) first_start interview_refused all_kept refl

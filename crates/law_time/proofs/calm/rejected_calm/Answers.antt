@@ -77,3 +77,7 @@ returns-clause-denied c = λ calm. not_true calm.still.chip
 pub returns-clause-owed : goal.returns-clause-owed
 unfolding computing
 returns-clause-owed c = λ calm. not_true calm.still.called
+
+pub returns-clause-dropped : goal.returns-clause-dropped
+unfolding computing
+returns-clause-dropped c = λ calm. not_true calm.still.called

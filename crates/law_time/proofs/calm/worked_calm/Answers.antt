@@ -61,3 +61,7 @@ returns-clause-abort c = record { still = record { marks = refl; judged = refl; 
 pub returns-clause-after_frame : goal.returns-clause-after_frame
 unfolding computing
 returns-clause-after_frame c = record { still = record { marks = refl; judged = refl; host = refl; chip = refl; called = refl; air = refl; idle = refl; asleep = refl; working = refl }; to_come = refl }
+
+pub returns-clause-dropped : goal.returns-clause-dropped
+unfolding computing
+returns-clause-dropped c = record { still = record { marks = refl; judged = refl; host = refl; chip = refl; called = refl; air = refl; idle = refl; asleep = refl; working = refl }; to_come = refl }

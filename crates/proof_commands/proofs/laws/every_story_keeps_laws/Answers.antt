@@ -45,5 +45,6 @@ returns c = λ key old new. record {
   links = c.stories_keep_air_laws.ensures.links key old new;
   clears_line = c.stories_keep_air_laws.ensures.clears_line key old new;
   clears_only = c.stories_keep_air_laws.ensures.nowhere key old new;
+  wakes = c.stories_wake_as_told.ensures key old new;
   ticks = c.stories_keep_air_laws.ensures.ticks key old new;
 }

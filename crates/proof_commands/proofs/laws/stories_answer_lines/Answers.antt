@@ -4,6 +4,7 @@ use Rattle.host_core.specs.Network.{keys_of}
 use Rattle.law_transcript.specs.Answers.{AnswersLines, ReadsItsRecords}
 use Rattle.law_transcript.specs.Lists.{EachAfter}
 use Rattle.law_transcript.specs.Nodes.{listing_of}
+use Rattle.law_wire.specs.Serial.{ended}
 use Rattle.law_wire.specs.Shown.{ShowsDevices}
 use Rattle.law_host.specs.HostLegal.{ShowsValues}
 use Rattle.zw_text.specs.declared.entry.Entry.{Entry}
@@ -27,11 +28,11 @@ returns-clause-due c = λ key old new story unentered is tells whole all.
     (λ schedules. c.lines_are_answered.ensures.whole (keys_of key) old.devices (all_said story) done (runs schedules)) whole all)
 
 pub returns-clause-shows : goal.returns-clause-shows
-returns-clause-shows c = λ key old new story unentered is tells apart.
-    of_new c.lines_are_read_as_said.ensures key old new story unentered is tells (ShowsDevices old.devices)
-    (λ done whole. c.lines_show_what_is_kept.ensures.devices (keys_of key) old.devices (all_said story) done apart)
+returns-clause-shows c = λ key old new story unentered is tells apart whole all.
+    of_new c.lines_are_read_as_said.ensures key old new story unentered is tells (λ (T : List Entry). ShowsDevices old.devices (ended whole T))
+    (λ done runs. c.lines_show_what_is_kept.ensures.devices (keys_of key) old.devices (all_said story) whole done (λ is_whole. runs (all is_whole)) apart)
 
 pub returns-clause-stored : goal.returns-clause-stored
-returns-clause-stored c = λ key old new story unentered is tells.
-    of_new c.lines_are_read_as_said.ensures key old new story unentered is tells (λ (T : List Entry). EachAfter (ShowsValues (listing_of old.devices)) [] T)
-    (λ done whole. c.lines_show_what_is_kept.ensures.values (keys_of key) old.devices (all_said story) done)
+returns-clause-stored c = λ key old new story unentered is tells whole all.
+    of_new c.lines_are_read_as_said.ensures key old new story unentered is tells (λ (T : List Entry). EachAfter (ShowsValues (listing_of old.devices)) [] (ended whole T))
+    (λ done runs. c.lines_show_what_is_kept.ensures.values (keys_of key) old.devices (all_said story) whole done (λ is_whole. runs (all is_whole)))

@@ -78,9 +78,9 @@ returns-clause-collides c = λ key old new story unentered is.
     (λ done runs. c.lines_collide_when_asked.ensures (keys_of key) old.records old.devices (all_said story) done)
 
 pub returns-clause-marks : goal.returns-clause-marks
-returns-clause-marks c = λ key old new story unentered is.
-    of_any c.lines_are_read_as_said.ensures key old new story unentered is MarksUnits
-    (λ done runs. c.lines_mark_units.ensures (keys_of key) old.records old.devices (all_said story) done)
+returns-clause-marks c = λ key old new story unentered is whole all.
+    of_any c.lines_are_read_as_said.ensures key old new story unentered is (λ (T : List Entry). MarksUnits (ended whole T))
+    (λ done runs. c.lines_mark_units.ensures (keys_of key) old.records old.devices (all_said story) whole done (λ is_whole. runs (all is_whole)))
 
 pub returns-clause-overruns : goal.returns-clause-overruns
 returns-clause-overruns c = λ key old new story unentered is.
@@ -98,9 +98,9 @@ returns-clause-nowhere c = λ key old new story unentered is whole.
     (λ done runs. c.lines_clear_nowhere_else.ensures (keys_of key) old.records old.devices (all_said story) done whole)
 
 pub returns-clause-ticks : goal.returns-clause-ticks
-returns-clause-ticks c = λ key old new story unentered is.
-    of_any c.lines_are_read_as_said.ensures key old new story unentered is TellsTime
-    (λ done runs. c.ticks_are_told.ensures (keys_of key) old.records old.devices (all_said story) done)
+returns-clause-ticks c = λ key old new story unentered is whole all.
+    of_any c.lines_are_read_as_said.ensures key old new story unentered is (λ (T : List Entry). TellsTime (ended whole T))
+    (λ done runs. c.ticks_are_told.ensures (keys_of key) old.records old.devices (all_said story) whole done (λ is_whole. runs (all is_whole)))
 
 pub returns-clause-routes : goal.returns-clause-routes
 returns-clause-routes c = λ key old new story unentered is tells.
@@ -141,9 +141,9 @@ returns-clause-meets c = λ key old new story unentered is tells.
     (c.lines_number_frames.ensures (keys_of key) (Some texts) old.devices (all_said story) done))
 
 pub returns-clause-overrun : goal.returns-clause-overrun
-returns-clause-overrun c = λ key old new story unentered is tells.
-    of_new c.lines_are_read_as_said.ensures key old new story unentered is tells OverrunsWhenFull
-    (λ done runs. c.lines_overrun_when_full.ensures (keys_of key) old.devices (all_said story) done)
+returns-clause-overrun c = λ key old new story unentered is tells whole all.
+    of_new c.lines_are_read_as_said.ensures key old new story unentered is tells (λ (T : List Entry). OverrunsWhenFull (ended whole T))
+    (λ done runs. c.lines_overrun_when_full.ensures (keys_of key) old.devices (all_said story) whole done (λ is_whole. runs (all is_whole)))
 
 pub returns-clause-acknowledges : goal.returns-clause-acknowledges
 returns-clause-acknowledges c = λ key old new story unentered is tells.

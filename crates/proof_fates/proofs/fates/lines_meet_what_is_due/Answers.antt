@@ -5,7 +5,7 @@ use Rattle.world_model.specs.State.{Machine, first_machine}
 use Rattle.proof_walk.specs.Walk.{both_know}
 use Rattle.proof_walk.proofs.Lines.{lines_stand}
 use Rattle.proof_walk.proofs.Over.{over}
-use Rattle.proof_routes.specs.Forgetting.{MayForget}
+use Rattle.proof_devices.specs.Forgetting.{MayForget}
 use Rattle.proof_fates.specs.Meeting.{MayMeetSo, Ground, KnowNothing}
 use Rattle.proof_fates.proofs.Grounds.{ground_walk, frames_walk}
 use Rattle.proof_fates.proofs.Meeting.{fates_walk}

@@ -1,4 +1,4 @@
-use Rattle.proof_world.proofs.Devices.{made_unchanged}
+use Rattle.proof_spoken.proofs.Devices.{made_unchanged}
 use Rattle.proof_headline.proofs.PlainBeginning.{begins_course}
 use Rattle.proof_headline.proofs.plain_nodes.devices_as_made_begin_courses.Goals as goal
 

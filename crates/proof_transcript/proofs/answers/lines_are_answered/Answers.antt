@@ -14,7 +14,7 @@ use Rattle.world_lines.specs.Spoken.{Spoken, after_all, transcript_of}
 use Rattle.world_lines.specs.Done.{AreDone, events_of}
 use Rattle.world_lines.specs.Whole.{AreWhole}
 use Rattle.proof_spoken.proofs.SpokenLines.{all_after, all_lines, all_may, lines_of}
-use Rattle.proof_world.specs.Restarts.{IsHeld}
+use Rattle.proof_spoken.specs.Restarts.{IsHeld}
 use Rattle.world_model.specs.Refusals.{HasBad}
 use Rattle.proof_walk.proofs.Lines.{all_tied, tied_lead, tied_stand}
 use Rattle.proof_walk.specs.Walk.{AllTied}

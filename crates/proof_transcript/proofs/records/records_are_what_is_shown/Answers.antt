@@ -7,8 +7,8 @@ use Rattle.world_model.specs.State.{Machine, first_machine}
 use Rattle.world_lines.specs.Done.{events_of}
 use Rattle.world_lines.specs.Spoken.{after_all, transcript_of}
 use Rattle.proof_spoken.proofs.SpokenLines.{all_after, all_lines, all_may, lines_of}
-use Rattle.proof_world.specs.Restarts.{AreHeld, IsHeld}
-use Rattle.proof_world.proofs.HeldRecords.{one_reading}
+use Rattle.proof_spoken.specs.Restarts.{AreHeld, IsHeld}
+use Rattle.proof_spoken.proofs.HeldRecords.{one_reading}
 use Rattle.proof_transcript.specs.Records.{TellsCancelled, cancelled_by}
 use Rattle.proof_transcript.proofs.CancelledRecords.{all_cancelled}
 use Rattle.proof_transcript.proofs.RecordsShown.{shows}

@@ -1,5 +1,5 @@
--- What is shown is tied to the transcript where each line begins, so it is what the transcript gives.
-use Rattle.std.proofs.Common.{◌≡◌, ℕ, List, [], ◌∷◌, ◌++◌, map, Some, refl, sym, ap, subst, ◌∙◌}
+-- What is shown is tied to the transcript where each line begins, so it is what the transcript gives; in the end, after whole lines, nothing is to be shown.
+use Rattle.std.proofs.Common.{◌≡◌, ℕ, Bool, true, false, List, [], ◌∷◌, ◌++◌, map, Some, refl, sym, ap, subst, ◌∙◌}
 use Rattle.std.specs.List.{flat_map}
 use Rattle.s0_crypto.specs.declared.key_pair.Keys.{Keys}
 use Rattle.value_store.specs.ValueText.{values_text}
@@ -12,6 +12,7 @@ use Rattle.zw_text.specs.declared.entry.Entry.TheVariants.{Json, Said}
 use Rattle.law_transcript.specs.Lists.{EachAfter}
 use Rattle.law_transcript.specs.Nodes.{listing_of}
 use Rattle.law_transcript.specs.Table.{value_lines}
+use Rattle.law_wire.specs.Serial.{ended}
 use Rattle.law_host.specs.HostLegal.{held_in, values_now}
 use Rattle.world_model.specs.State.{Machine, first_machine}
 use Rattle.world_model.specs.Events.{shown_values}
@@ -23,8 +24,9 @@ use Rattle.world_lines.specs.Whole.{AreWhole}
 use Rattle.proof_device.proofs.DevicePlaces.{go_same, run_goes}
 use Rattle.proof_device.specs.GoingOn.{AreSame}
 use Rattle.proof_device.specs.Showing.{AllShow, AreApart}
+use Rattle.proof_host.proofs.Lists.{each-append}
 use Rattle.proof_spoken.proofs.SpokenLines.{all_after, all_may}
-use Rattle.proof_walk.proofs.Lines.{all_tied, tied_stand}
+use Rattle.proof_walk.proofs.Lines.{all_tied, tied_lead, tied_stand}
 use Rattle.proof_walk.specs.Walk.{AllTied}
 use Rattle.proof_transcript.specs.Showing.{KnowsShown, ShownTies, Stands}
 use Rattle.proof_transcript.specs.Told.{IsTold}
@@ -32,7 +34,7 @@ use Rattle.proof_transcript.proofs.LastTable.{values_so}
 use Rattle.proof_transcript.proofs.Nodes.{devices_are}
 use Rattle.proof_transcript.proofs.SaidNext.{unbegun, said_after, said_done, said_told, said_transcript}
 use Rattle.proof_transcript.proofs.ShownDevices.{found_like, lines_show}
-use Rattle.proof_transcript.proofs.Showing.{devices_of, shown_walk, values_of}
+use Rattle.proof_transcript.proofs.Showing.{devices_of, shown_walk, values_of, words_stand}
 use Rattle.proof_transcript.proofs.shows.lines_show_what_is_kept.Goals as goal
 
 held_back : (node : ℕ) (held : List Held) → flat_map held_in (map (value_entry node) held) ≡ held
@@ -85,13 +87,21 @@ module _ (c : goal.After-changes_are_shown) (keys : Keys) (devices : List State)
             ∙ ap (λ (n : Machine). shown_values n.host.state node) (said_after start spoken words (lines.Store node)));
       }
 
-  stand : (spoken : List Spoken) → AreDone start spoken → EachAfter (Stands devices) [] (transcript_of start spoken)
-  stand spoken are =
-      let tied : AllTied (ShownTies devices) [] start spoken = all_tied (ShownTies devices) [] start spoken are (λ front done whole. ties front done whole) in
-      tied_stand (ShownTies devices) (Stands devices) (KnowsShown devices) (shown_walk devices) [] start spoken are tied ((λ apart. refl), tt)
+  tied : (spoken : List Spoken) → AreDone start spoken → AllTied (ShownTies devices) [] start spoken
+  tied spoken are = all_tied (ShownTies devices) [] start spoken are (λ front done whole. ties front done whole)
+
+  stand : (spoken : List Spoken) (whole : Bool) → AreDone start spoken → (whole ≡ true → AreWhole start spoken) → EachAfter (Stands devices) [] (ended whole (transcript_of start spoken))
+  stand spoken true are all =
+      let past = transcript_of start spoken in
+      let led = tied_lead (ShownTies devices) (Stands devices) (KnowsShown devices) (shown_walk devices) [] start spoken are (all refl) (tied spoken are) ((λ apart. refl), tt) in
+      each-append (Stands devices) [] past (Said [] ∷ []) led.0 (words_stand devices past (after_all start spoken) [] led.1, tt)
+  stand spoken false are all =
+      tied_stand (ShownTies devices) (Stands devices) (KnowsShown devices) (shown_walk devices) [] start spoken are (tied spoken are) ((λ apart. refl), tt)
 
 pub returns-clause-devices : goal.returns-clause-devices
-returns-clause-devices c = λ keys devices spoken are apart. devices_of devices apart [] (transcript_of (first_machine keys (Some []) devices) spoken) (stand c keys devices spoken are)
+returns-clause-devices c = λ keys devices spoken whole are all apart.
+    devices_of devices apart [] (ended whole (transcript_of (first_machine keys (Some []) devices) spoken)) (stand c keys devices spoken whole are all)
 
 pub returns-clause-values : goal.returns-clause-values
-returns-clause-values c = λ keys devices spoken are. values_of devices [] (transcript_of (first_machine keys (Some []) devices) spoken) (stand c keys devices spoken are)
+returns-clause-values c = λ keys devices spoken whole are all.
+    values_of devices [] (ended whole (transcript_of (first_machine keys (Some []) devices) spoken)) (stand c keys devices spoken whole are all)

@@ -1,0 +1,174 @@
+-- Steps of others: entries, units of the chip that come or do not, and the number of a tick before them.
+use Rattle.std.proofs.Common.{◌≡◌, ℕ, ◌==◌, ◌&&◌, not, Bool, true, false, if◌then◌else◌, List, [], ◌∷◌, ◌++◌, drop, refl, sym, ap, ◌∙◌, subst, append-nil, append_assoc}
+use Rattle.std.proofs.lemmas.Grind.{flat_map-append}
+use Rattle.std.specs.Prelude.{Option, nat_lt}
+use Rattle.std.specs.List.{AllByRecursion}
+use Rattle.serial_frame.specs.Frame.{FrameParts}
+use Rattle.serial_frame.specs.Items.{unit_text}
+use Rattle.serial_frame.specs.declared.item.Item.{Item}
+use Rattle.serial_frame.specs.declared.item.Item.TheVariants.{Good, Refused}
+use Rattle.serial_frame.specs.declared.item.Refusal.TheVariants.{BadSum}
+use Rattle.serial_frame.specs.declared.unit.Unit.{Unit as LineUnit}
+use Rattle.serial_frame.specs.declared.unit.Unit.TheVariants.{Ack, Nak, Can, Framed}
+use Rattle.serial_pipes.specs.State.{WayState, change_for, fits, garbled, mark_for}
+use Rattle.serial_pipes.specs.Events.{Writes, after, passing, told_by}
+use Rattle.serial_pipes.specs.Events as way
+use Rattle.serial_pipes.specs.declared.marks.Garble.{Garble}
+use Rattle.serial_pipes.specs.declared.marks.Mark.{Mark}
+use Rattle.serial_pipes.specs.declared.marks.Mark.TheVariants.{Free, Lost, Changed}
+use Rattle.s0_crypto.specs.declared.key_pair.Keys.{Keys}
+use Rattle.zw_words.specs.declared.side.Side.TheVariants.{Chip}
+use Rattle.zw_text.specs.declared.entry.Entry.{Entry}
+use Rattle.zw_text.specs.declared.entry.Entry.TheVariants as entry
+use Rattle.host_model.specs.State.{HostState}
+use Rattle.outside_model.specs.State.{OuterState}
+use Rattle.outside_model.specs.Events.{has_entered, stamp, ticked_entry}
+use Rattle.proof_serial.specs.Units.{good_unit, good_units}
+use Rattle.proof_serial.specs.Way.{changed_item, found_sum, items_all, items_of, unit_item, wanted_sum}
+use Rattle.proof_walk.specs.Outside.{awaits_number}
+use Rattle.proof_walk.proofs.Times.{time_of}
+use Rattle.proof_line.proofs.Tellings.{Tells}
+use Rattle.proof_alone.specs.State.{HostMachine, host_machine}
+use Rattle.proof_alone.specs.Steps.{DidNotCome, IsOfOthers, Comes, Misses, Numbers}
+use Rattle.proof_alone.specs.Steps as step
+use Rattle.proof_alone.specs.Phases.{Phase, IsBetween}
+use Rattle.proof_alone.specs.Runs.{Run}
+use Rattle.proof_alone.specs.Runs.Run.{Stepped}
+use Rattle.proof_alone.proofs.Stamps.{Time3, entered}
+
+-- ---- changes that wait
+
+-- each changes the frame that it meets
+abbrev pub AllChange : List Garble → Type 0
+AllChange garbles = AllByRecursion (λ garble. (garble.xor == 0) ≡ false) garbles
+
+but_first : (garbles : List Garble) → AllChange garbles → AllChange (drop 1 garbles)
+but_first [] all = tt
+but_first (garble ∷ garbles) all = all.1
+
+marks_left : (w : WayState) (mark : Mark) (text : List ℕ) → AllChange w.marks.garbles → AllChange (passing w mark text).marks.garbles
+marks_left w Free text all = all
+marks_left w Lost text all = all
+marks_left w (Changed garble) text all = but_first w.marks.garbles all
+
+pub changes_left : (w : WayState) (unit : LineUnit) → AllChange w.marks.garbles → AllChange (after w (Writes unit)).marks.garbles
+changes_left w unit all = marks_left w (mark_for w.marks unit) (unit_text unit) all
+
+pub good_both : (a b : List Item) → good_units (a ++ b) ≡ good_units a ++ good_units b
+good_both a b = flat_map-append good_unit a b
+
+-- ---- with these fields, which stay
+
+module _ (start : HostMachine) (keys : Keys) (records : Option (List (List ℕ))) (state : HostState) (left : ℕ) where
+  abbrev pub at : List LineUnit → ℕ → Bool → HostMachine
+  at came clock awaits = host_machine keys records state came clock left awaits
+
+  -- the number, where it is to be entered
+  pub number_run : (here : Phase) (told : List Entry) (came : List LineUnit) (clock : ℕ) (awaits : Bool) → Run start here told (at came clock awaits)
+      → Run start here (told ++ (if awaits then entry.Time clock ∷ [] else [])) (at came clock false)
+  number_run here told came clock true run = Stepped Numbers (refl, refl) refl refl run
+  number_run here told came clock false run = subst (λ (l : List Entry). Run start here l (at came clock false)) (sym (append-nil told)) run
+
+  module _ (here : Phase) (between : IsBetween here) (clock : ℕ) where
+    abbrev pub Here : List Entry → List LineUnit → Type 0
+    Here told came = Run start here told (at came clock false)
+
+    -- entries of others
+    pub asides_run : (asides told : List Entry) (came : List LineUnit) → AllByRecursion IsOfOthers asides → Here told came → Here (told ++ asides) came
+    asides_run [] told came all run = subst (λ (l : List Entry). Here l came) (sym (append-nil told)) run
+    asides_run (one ∷ asides) told came all run =
+        let next : Here (told ++ one ∷ []) came = Stepped (step.Tells one) (between, all.0, refl, refl) refl refl run in
+        subst (λ (l : List Entry). Here l came) (append_assoc told (one ∷ []) asides) (asides_run asides (told ++ one ∷ []) came all.1 next)
+
+    comes : (told : List Entry) (came : List LineUnit) (unit : LineUnit) → Here told came → Here (told ++ entry.Written Chip (unit_text unit) ∷ []) (came ++ unit ∷ [])
+    comes told came unit run = Stepped (Comes unit) (between, refl, refl) refl refl run
+
+    misses : (told : List Entry) (came : List LineUnit) (text : List ℕ) (marks : List Entry) → DidNotCome marks → Here told came
+        → Here (told ++ entry.Written Chip text ∷ marks) (came ++ [])
+    misses told came text marks none run =
+        subst (λ (l : List LineUnit). Here (told ++ entry.Written Chip text ∷ marks) l) (sym (append-nil came)) (Stepped (Misses text marks) (between, none, refl, refl) refl refl run)
+
+    -- ---- a unit that the chip writes
+
+    abbrev By : List Entry → List LineUnit → List ℕ → LineUnit → Mark → List Item → Type 0
+    By told came bytes unit mark items = Here (told ++ entry.Written Chip (unit_text unit) ∷ told_by Chip bytes mark (unit_text unit)) (came ++ good_units items)
+
+    lost_by : (told : List Entry) (came : List LineUnit) (bytes : List ℕ) (unit : LineUnit) (room : Bool) → Here told came → By told came bytes unit Lost (if room then [] else [])
+    lost_by told came bytes unit true run = misses told came (unit_text unit) (entry.Dropped Chip ∷ []) tt run
+    lost_by told came bytes unit false run = misses told came (unit_text unit) (entry.Dropped Chip ∷ []) tt run
+
+    free_by : (told : List Entry) (came : List LineUnit) (unit : LineUnit) (room : Bool) → Here told came
+        → Here (told ++ entry.Written Chip (unit_text unit) ∷ (if room then [] else entry.Overrun Chip ∷ [])) (came ++ good_units (if room then Good unit ∷ [] else []))
+    free_by told came unit true run = comes told came unit run
+    free_by told came unit false run = misses told came (unit_text unit) (entry.Overrun Chip ∷ []) tt run
+
+    changed_none : (f : FrameParts) (refused : Item) (room same : Bool) → same ≡ false → good_units (refused ∷ []) ≡ []
+        → good_units (if room then (if same then Good (Framed f) else refused) ∷ [] else []) ≡ []
+    changed_none f refused true true is none = absurd (let bad : true ≡ false = is in cc)
+    changed_none f refused true false is none = none
+    changed_none f refused false same is none = refl
+
+    changed_by : (told : List Entry) (came : List LineUnit) (bytes : List ℕ) (f : FrameParts) (garble : Garble) → (garble.xor == 0) ≡ false → Here told came
+        → By told came bytes (Framed f) (Changed garble) (if fits bytes (unit_text (Framed f)) then changed_item garble f ∷ [] else [])
+    changed_by told came bytes f garble other run =
+        let t : List ℕ = unit_text (Framed f) in
+        let c : List ℕ = garbled garble t in
+        subst (λ (l : List LineUnit). Here (told ++ entry.Written Chip t ∷ told_by Chip bytes (Changed garble) t) (came ++ l)) (sym (changed_none f (Refused (BadSum (wanted_sum c) (found_sum c))) (fits bytes t) (garble.xor == 0) other refl))
+        (by c (fits bytes c))
+      where
+        by : (c : List ℕ) (room : Bool) → Here (told ++ entry.Written Chip (unit_text (Framed f)) ∷ (entry.Garbled Chip c ∷ (if room then [] else entry.Overrun Chip ∷ []))) (came ++ [])
+        by c true = misses told came (unit_text (Framed f)) (entry.Garbled Chip c ∷ []) tt run
+        by c false = misses told came (unit_text (Framed f)) (entry.Garbled Chip c ∷ (entry.Overrun Chip ∷ [])) tt run
+
+    -- by the change that waits
+    change_by : (told : List Entry) (came : List LineUnit) (bytes : List ℕ) (unit : LineUnit) (garbles : List Garble) → AllChange garbles → Here told came
+        → By told came bytes unit (change_for garbles unit) (if fits bytes (unit_text unit) then unit_item garbles unit ∷ [] else [])
+    change_by told came bytes Ack garbles all run = free_by told came Ack (fits bytes (unit_text Ack)) run
+    change_by told came bytes Nak garbles all run = free_by told came Nak (fits bytes (unit_text Nak)) run
+    change_by told came bytes Can garbles all run = free_by told came Can (fits bytes (unit_text Can)) run
+    change_by told came bytes (Framed f) [] all run = free_by told came (Framed f) (fits bytes (unit_text (Framed f))) run
+    change_by told came bytes (Framed f) (garble ∷ garbles) all run = changed_by told came bytes f garble all.0 run
+
+    pub unit_run : (told : List Entry) (came : List LineUnit) (w : WayState) (unit : LineUnit) → AllChange w.marks.garbles → Here told came
+        → Here (told ++ way.told Chip w unit) (came ++ good_units (items_of w unit))
+    unit_run told came w unit all run = by (nat_lt 0 w.marks.drops)
+      where
+        by : (b : Bool) → By told came w.bytes unit (if b then Lost else change_for w.marks.garbles unit)
+            (if fits w.bytes (unit_text unit) then (if b then [] else unit_item w.marks.garbles unit ∷ []) else [])
+        by true = lost_by told came w.bytes unit (fits w.bytes (unit_text unit)) run
+        by false = change_by told came w.bytes unit w.marks.garbles all run
+
+    -- units one after another, among entries of others
+    pub tells_run : (units : List LineUnit) (entries told : List Entry) (came : List LineUnit) (w : WayState) → AllChange w.marks.garbles → Tells IsOfOthers Chip w units entries → Here told came
+        → Here (told ++ entries) (came ++ good_units (items_all w units))
+    tells_run [] entries told came w all tells run = subst (λ (l : List LineUnit). Here (told ++ entries) l) (sym (append-nil came)) (asides_run entries told came tells run)
+    tells_run (unit ∷ units) entries told came w all (before, rest, is, asides, more) run =
+        let one : List Entry = way.told Chip w unit in
+        let next : WayState = after w (Writes unit) in
+        let first : Here (told ++ before) came = asides_run before told came asides run in
+        let second : Here ((told ++ before) ++ one) (came ++ good_units (items_of w unit)) = unit_run (told ++ before) came w unit all first in
+        let third : Here (((told ++ before) ++ one) ++ rest) ((came ++ good_units (items_of w unit)) ++ good_units (items_all next units)) =
+        tells_run units rest ((told ++ before) ++ one) (came ++ good_units (items_of w unit)) next (changes_left w unit all) more second in
+        let texts : ((told ++ before) ++ one) ++ rest ≡ told ++ entries =
+        append_assoc (told ++ before) one rest ∙ append_assoc told before (one ++ rest) ∙ ap (λ (l : List Entry). told ++ l) (sym is) in
+        let units_are : (came ++ good_units (items_of w unit)) ++ good_units (items_all next units) ≡ came ++ good_units (items_of w unit ++ items_all next units) =
+        append_assoc came (good_units (items_of w unit)) (good_units (items_all next units)) ∙ ap (λ (l : List LineUnit). came ++ l) (sym (good_both (items_of w unit) (items_all next units))) in
+        subst (λ (l : List LineUnit). Here (told ++ entries) l) units_are (subst (λ (l : List Entry). Here l ((came ++ good_units (items_of w unit)) ++ good_units (items_all next units))) texts third)
+
+-- ---- with the number of the tick before what is told
+
+abbrev pub at_time : Keys → Option (List (List ℕ)) → HostState → List LineUnit → ℕ → Time3 → HostMachine
+at_time keys records state came left time = host_machine keys records state came time.2 left (time.0 && not time.1)
+
+pub stamp_run : (start : HostMachine) (o : OuterState) (here next : Phase) (keys : Keys) (records later_records : Option (List (List ℕ))) (state later_state : HostState)
+    (came later_came : List LineUnit) (left : ℕ) (past told : List Entry)
+    → Run start here past (at_time keys records state came left (time_of o))
+    → ((awaits : Bool) (all : List Entry) → (awaits ≡ true → told ≡ []) → Run start here all (host_machine keys records state came o.clock left awaits)
+    → Run start next (all ++ told) (host_machine keys later_records later_state later_came o.clock left awaits))
+    → Run start next (past ++ stamp o told) (at_time keys later_records later_state later_came left (time_of (has_entered o told)))
+stamp_run start o here next keys records later_records state later_state came later_came left past [] run goes = goes (awaits_number o) past (λ awaits. refl) run
+stamp_run start o here next keys records later_records state later_state came later_came left past (e ∷ told) run goes =
+    let numbered = number_run start keys records state left here past came o.clock (awaits_number o) run in
+    let gone = goes false (past ++ ticked_entry o) (λ (bad : false ≡ true). absurd cc) numbered in
+    subst (λ (b : Bool). Run start next (past ++ (ticked_entry o ++ e ∷ told)) (host_machine keys later_records later_state later_came o.clock left b)) (sym (entered o.in_tick o.stamped))
+    (subst (λ (l : List Entry). Run start next l (host_machine keys later_records later_state later_came o.clock left false)) (append_assoc past (ticked_entry o) (e ∷ told)) gone)

@@ -1,0 +1,240 @@
+-- What a host alone heard of a run is told by a run too: entries of others and refusals of their lines are left out, and units of the chip are as they came.
+use Rattle.std.proofs.Common.{◌≡◌, ℕ, Bool, true, false, if◌then◌else◌, inl, List, [], ◌∷◌, ◌++◌, refl, sym, ap, ap₂, ◌∙◌, subst, append-nil, append_assoc}
+use Rattle.std.specs.List.{AllByRecursion}
+use Rattle.serial_frame.specs.Items.{unit_text}
+use Rattle.zw_words.specs.declared.side.Side.TheVariants.{Host, Chip}
+use Rattle.zw_text.specs.declared.line.Line.{Line}
+use Rattle.zw_text.specs.declared.entry.Refusal.{Refusal}
+use Rattle.zw_text.specs.declared.entry.Entry.{Entry}
+use Rattle.zw_text.specs.declared.entry.Entry.TheVariants as entry
+use Rattle.zw_text.specs.Transcript.{folded, line_after, line_last, line_of}
+use Rattle.law_transcript.specs.Lists.{EachAfter}
+use Rattle.law_host.specs.Heard.{come_as, heard_as, heard_by_host, heard_from, is_of_others, is_refusal_of_others}
+use Rattle.host_model.specs.State.{HostState}
+use Rattle.host_model.specs.Events.{HostEvent, Accepts, Cancels, Hears}
+use Rattle.host_model.specs.Outs.{answers, outs}
+use Rattle.host_model.specs.declared.out.HostOut.{HostOut}
+use Rattle.host_model.specs.declared.out.HostOut.TheVariants.{Note, Write}
+use Rattle.proof_walk.specs.Outside.{IsHostNote}
+use Rattle.proof_walk.proofs.HostNotes.{NoteOuts, all_outs_note}
+use Rattle.proof_line.proofs.Holding.{NoMark}
+use Rattle.proof_alone.specs.State.{HostMachine}
+use Rattle.proof_alone.specs.Steps.{AreTold, DidNotCome, IsOfUnit, Step, Tells, Comes, Misses, Says, Says_nothing, Asks, Refuses, Shows, Restarts, Begins_tick, Numbers, Judges, Does, entries, happens}
+use Rattle.proof_alone.specs.Phases.{Phase, IsBetween, May}
+use Rattle.proof_alone.specs.Runs.{Knowledge, Run, WalkOver, both_know}
+use Rattle.proof_alone.specs.Runs.Run.{Begins, Stepped, Turned}
+use Rattle.proof_alone.proofs.ReadingLines.{others_ask_nothing}
+use Rattle.proof_alone.proofs.ReadingWalk.{Anything, anything}
+use Rattle.proof_alone.specs.Words.{KnowsWords}
+use Rattle.proof_alone.proofs.Running.{over, run_keeps}
+use Rattle.proof_alone.proofs.Words.{words_walk}
+
+-- ---- lists
+
+none_come : (unit : List ℕ) (told : List Entry) → NoMark told → come_as unit told ≡ come_as unit []
+none_come unit [] none = refl
+none_come unit (entry.Dropped side ∷ told) none = absurd none
+none_come unit (entry.Garbled side other ∷ told) none = absurd none
+none_come unit (entry.Overrun side ∷ told) none = absurd none
+none_come unit (e ∷ told) none = refl
+
+changed_come : (unit other : List ℕ) (told : List Entry) → NoMark told → come_as unit (entry.Garbled Chip other ∷ told) ≡ come_as unit (entry.Garbled Chip other ∷ [])
+changed_come unit other [] none = refl
+changed_come unit other (entry.Overrun side ∷ told) none = absurd none
+changed_come unit other (e ∷ told) none = refl
+
+then_come : (unit other : List ℕ) (e : Entry) (past told : List Entry) → come_as unit (entry.Garbled Chip other ∷ (e ∷ (past ++ told))) ≡ come_as unit (entry.Garbled Chip other ∷ (e ∷ past))
+then_come unit other (entry.Overrun Chip) past told = refl
+then_come unit other (entry.Overrun Host) past told = refl
+then_come unit other e past told = refl
+
+same_come : (unit : List ℕ) (past told : List Entry) → NoMark told → come_as unit (past ++ told) ≡ come_as unit past
+same_come unit [] told none = none_come unit told none
+same_come unit (entry.Garbled Chip other ∷ []) told none = changed_come unit other told none
+same_come unit (entry.Garbled Chip other ∷ (e ∷ past)) told none = then_come unit other e past told
+same_come unit (entry.Garbled Host other ∷ past) told none = refl
+same_come unit (entry.Dropped Chip ∷ past) told none = refl
+same_come unit (entry.Dropped Host ∷ past) told none = refl
+same_come unit (entry.Overrun Chip ∷ past) told none = refl
+same_come unit (entry.Overrun Host ∷ past) told none = refl
+same_come unit (e ∷ past) told none = refl
+
+same_heard : (e : Entry) (past told : List Entry) → NoMark told → heard_as e (past ++ told) ≡ heard_as e past
+same_heard (entry.Written Chip unit) past told none = same_come unit past told none
+same_heard (entry.Written Host unit) past told none = refl
+same_heard e past told none = refl
+
+abbrev as_heard : List Line → Entry → List Entry → List Entry
+as_heard before e rest = if is_refusal_of_others before e then [] else heard_as e rest
+
+heard_both : (before : List Line) (past told : List Entry) → NoMark told → heard_from before (past ++ told) ≡ heard_from before past ++ heard_from (folded line_after before past) told
+heard_both before [] told none = refl
+heard_both before (e ∷ past) told none =
+    ap₂ (λ (x y : List Entry). (if is_refusal_of_others before e then [] else x) ++ y) (same_heard e past told none) (heard_both (line_of e) past told none)
+    ∙ sym (append_assoc (as_heard before e past) (heard_from (line_of e) past) (heard_from (folded line_after (line_of e) past) told))
+
+-- ---- what is heard as it was told
+
+-- whatever line stands before it
+abbrev IsHeard : List Entry → Type 0
+IsHeard told = (before : List Line) → heard_from before told ≡ told
+
+note_heard : (before : List Line) (e : Entry) (rest : List Entry) → IsHostNote e → as_heard before e rest ≡ e ∷ []
+note_heard before (entry.Said words) rest is = absurd is
+note_heard before (entry.Accepted command node) rest is = absurd is
+note_heard before (entry.Refused refusal) rest is = absurd is
+note_heard before (entry.Written side unit) rest is = absurd is
+note_heard before (entry.Dropped side) rest is = absurd is
+note_heard before (entry.Garbled side unit) rest is = absurd is
+note_heard before (entry.Overrun side) rest is = absurd is
+note_heard before (entry.Cleared side count) rest is = absurd is
+note_heard before (entry.Air frame sender receiver repeaters payload) rest is = absurd is
+note_heard before (entry.Heard frame) rest is = absurd is
+note_heard before (entry.Lost frame) rest is = absurd is
+note_heard before (entry.Unheard frame) rest is = absurd is
+note_heard before (entry.Dev node by setting) rest is = absurd is
+note_heard before (entry.Forget first second) rest is = absurd is
+note_heard before entry.ChipFull rest is = absurd is
+note_heard before (entry.Device node setting) rest is = absurd is
+note_heard before e rest is = refl
+
+note_apart : (e : Entry) (rest : List Entry) → IsHostNote e → NoMark (e ∷ rest)
+note_apart (entry.Dropped side) rest is = absurd is
+note_apart (entry.Garbled side unit) rest is = absurd is
+note_apart (entry.Overrun side) rest is = absurd is
+note_apart e rest is = tt
+
+marks_heard : (marks rest : List Entry) → AllByRecursion IsOfUnit marks → IsHeard rest → IsHeard (marks ++ rest)
+marks_heard [] rest all heard before = heard before
+marks_heard (entry.Dropped Host ∷ marks) rest all heard before = ap (λ (l : List Entry). entry.Dropped Host ∷ l) (marks_heard marks rest all.1 heard [])
+marks_heard (entry.Garbled Host unit ∷ marks) rest all heard before = ap (λ (l : List Entry). entry.Garbled Host unit ∷ l) (marks_heard marks rest all.1 heard [])
+marks_heard (entry.Overrun Host ∷ marks) rest all heard before = ap (λ (l : List Entry). entry.Overrun Host ∷ l) (marks_heard marks rest all.1 heard [])
+marks_heard (e ∷ marks) rest all heard before = absurd all.0
+
+told_heard : (puts : List HostOut) (told : List Entry) → NoteOuts puts → AreTold puts told → IsHeard told
+told_heard [] told notes is before = subst (λ (l : List Entry). heard_from before l ≡ l) (sym is) refl
+told_heard (Note e ∷ puts) told notes (rest, is, more) before =
+    subst (λ (l : List Entry). heard_from before l ≡ l) (sym is)
+    (ap₂ (λ (x y : List Entry). x ++ y) (note_heard before e rest notes.0) (told_heard puts rest notes.1 more (line_of e)))
+told_heard (Write unit ∷ puts) told notes (marks, rest, is, all, more) before =
+    subst (λ (l : List Entry). heard_from before l ≡ l) (sym is)
+    (ap (λ (l : List Entry). entry.Written Host (unit_text unit) ∷ l) (marks_heard marks rest all (told_heard puts rest notes.1 more) []))
+
+told_apart : (puts : List HostOut) (told : List Entry) → NoteOuts puts → AreTold puts told → NoMark told
+told_apart [] told notes is = subst NoMark (sym is) tt
+told_apart (Note e ∷ puts) told notes (rest, is, more) = subst NoMark (sym is) (note_apart e rest notes.0)
+told_apart (Write unit ∷ puts) told notes (marks, rest, is, all, more) = subst NoMark (sym is) tt
+
+pub event_notes : (h : HostState) (event : HostEvent) → NoteOuts (outs h event)
+event_notes h event = subst NoteOuts (append-nil (outs h event)) (all_outs_note h (event ∷ []))
+
+answers_heard : (h : HostState) (event : HostEvent) → IsHeard (answers h event)
+answers_heard h (Accepts order carriage) before = refl
+answers_heard h (Cancels command) before = refl
+answers_heard h event before = refl
+
+answers_apart : (h : HostState) (event : HostEvent) → NoMark (answers h event)
+answers_apart h (Accepts order carriage) = tt
+answers_apart h (Cancels command) = tt
+answers_apart h event = tt
+
+-- ---- the walk
+
+module _ (start : HostMachine) where
+  abbrev Know : Knowledge
+  Know here past m = Run start here (heard_by_host past) m
+
+  abbrev Goes : Phase → List Entry → HostMachine → Step → Type 0
+  Goes next past m one = EachAfter Anything past (entries m one) × Know next (past ++ entries m one) (happens m one)
+
+  -- what is heard of entries after others
+  after_it : (past told : List Entry) → NoMark told → heard_by_host (past ++ told) ≡ heard_by_host past ++ heard_from (line_last past) told
+  after_it past told none = heard_both [] past told none
+
+  -- the step is heard as it is
+  kept : (here next : Phase) (past : List Entry) (m : HostMachine) (one : Step) → May here m one next → NoMark (entries m one) → IsHeard (entries m one) → Know here past m → Goes next past m one
+  kept here next past m one may none heard ran = (
+    anything past (entries m one),
+    Stepped one may (after_it past (entries m one) none ∙ ap (λ (l : List Entry). heard_by_host past ++ l) (heard (line_last past))) refl ran,
+  )
+
+  -- nothing of these is heard
+  left_out : (here next : Phase) (past told : List Entry) (m : HostMachine) → NoMark told → heard_from (line_last past) told ≡ [] → next ≡ here → Run start here (heard_by_host past) m
+      → Run start next (heard_by_host (past ++ told)) m
+  left_out here next past told m none heard is ran =
+      subst (λ (q : Phase). Run start q (heard_by_host (past ++ told)) m) (sym is)
+      (subst (λ (l : List Entry). Run start here l m) (sym (after_it past told none ∙ ap (λ (l : List Entry). heard_by_host past ++ l) heard ∙ append-nil (heard_by_host past))) ran)
+
+  aside_run : (here next : Phase) (past : List Entry) (m : HostMachine) (e : Entry) → May here m (Tells e) next → Run start here (heard_by_host past) m → Run start next (heard_by_host (past ++ e ∷ [])) m
+  aside_run here next past m (entry.Air frame sender receiver repeaters payload) may ran = left_out here next past (entry.Air frame sender receiver repeaters payload ∷ []) m tt refl may.3 ran
+  aside_run here next past m (entry.Heard frame) may ran = left_out here next past (entry.Heard frame ∷ []) m tt refl may.3 ran
+  aside_run here next past m (entry.Lost frame) may ran = left_out here next past (entry.Lost frame ∷ []) m tt refl may.3 ran
+  aside_run here next past m (entry.Unheard frame) may ran = left_out here next past (entry.Unheard frame ∷ []) m tt refl may.3 ran
+  aside_run here next past m (entry.Dev node by setting) may ran = left_out here next past (entry.Dev node by setting ∷ []) m tt refl may.3 ran
+  aside_run here next past m (entry.Device node setting) may ran = left_out here next past (entry.Device node setting ∷ []) m tt refl may.3 ran
+  aside_run here next past m (entry.Forget first second) may ran = left_out here next past (entry.Forget first second ∷ []) m tt refl may.3 ran
+  aside_run here next past m entry.ChipFull may ran = left_out here next past (entry.ChipFull ∷ []) m tt refl may.3 ran
+  aside_run here next past m (entry.Cleared side count) may ran = left_out here next past (entry.Cleared side count ∷ []) m tt refl may.3 ran
+  aside_run here next past m e may ran = absurd may.1
+
+  -- a unit that did not come
+  misses_run : (here next : Phase) (past : List Entry) (m : HostMachine) (text : List ℕ) (marks : List Entry) → IsBetween here → m.awaits ≡ false → next ≡ here → DidNotCome marks
+      → Run start here (heard_by_host past) m → Run start next (heard_by_host (past ++ entry.Written Chip text ∷ marks)) m
+  misses_run here next past m text (entry.Dropped Chip ∷ []) between awaits is none ran = left_out here next past (entry.Written Chip text ∷ entry.Dropped Chip ∷ []) m tt refl is ran
+  misses_run here next past m text (entry.Overrun Chip ∷ []) between awaits is none ran = left_out here next past (entry.Written Chip text ∷ entry.Overrun Chip ∷ []) m tt refl is ran
+  misses_run here next past m text (entry.Garbled Chip changed ∷ []) between awaits is none ran =
+      Stepped (Misses changed (entry.Garbled Chip changed ∷ [])) (between, tt, awaits, is) (after_it past (entry.Written Chip text ∷ entry.Garbled Chip changed ∷ []) tt) refl ran
+  misses_run here next past m text (entry.Garbled Chip changed ∷ entry.Overrun Chip ∷ []) between awaits is none ran =
+      left_out here next past (entry.Written Chip text ∷ entry.Garbled Chip changed ∷ entry.Overrun Chip ∷ []) m tt refl is ran
+  misses_run here next past m text marks between awaits is none ran = absurd none
+
+  -- a refusal: that of a line of others is not heard
+  refusal_goes : (here next : Phase) (past : List Entry) (m : HostMachine) (refused : Refusal) → May here m (Refuses refused) next → KnowsWords here past m → Know here past m
+      → Goes next past m (Refuses refused)
+  refusal_goes here next past m refused (line, here_is, why, awaits, next_is) words ran = by (is_of_others (line ∷ [])) refl
+    where
+      told : List Entry
+      told = entry.Refused refused ∷ []
+
+      line_is : line_last past ≡ line ∷ []
+      line_is = (subst (λ (q : Phase). KnowsWords q past m) here_is words).0
+
+      by : (b : Bool) → is_of_others (line ∷ []) ≡ b → Goes next past m (Refuses refused)
+      by true is =
+          let heard : heard_from (line_last past) told ≡ [] = ap (λ (ls : List Line). (if is_of_others ls then [] else told) ++ []) line_is ∙ ap (λ (b : Bool). (if b then [] else told) ++ []) is in
+          let opened : Run start next (heard_by_host past) m = Turned (inl (others_ask_nothing line is, next_is)) (subst (λ (q : Phase). Run start q (heard_by_host past) m) here_is ran) in
+          (anything past told, left_out next next past told m tt heard refl opened)
+      by false is =
+          let heard : heard_from (line_last past) told ≡ told = ap (λ (ls : List Line). (if is_of_others ls then [] else told) ++ []) line_is ∙ ap (λ (b : Bool). (if b then [] else told) ++ []) is in (
+            anything past told,
+            Stepped (Refuses refused) (line, here_is, why, awaits, next_is) (after_it past told tt ∙ ap (λ (l : List Entry). heard_by_host past ++ l) heard) refl ran,
+          )
+
+  step_goes : (here next : Phase) (past : List Entry) (m : HostMachine) (one : Step) → May here m one next → KnowsWords here past m → Know here past m → Goes next past m one
+  step_goes here next past m (Tells e) may words ran = (anything past (e ∷ []), aside_run here next past m e may ran)
+  step_goes here next past m (Comes unit) may words ran = kept here next past m (Comes unit) may tt (λ before. refl) ran
+  step_goes here next past m (Misses text marks) may words ran =
+      (anything past (entry.Written Chip text ∷ marks), misses_run here next past m text marks may.0 may.2 may.3 may.1 ran)
+  step_goes here next past m (Says words line) may known ran = kept here next past m (Says words line) may tt (λ before. refl) ran
+  step_goes here next past m (Says_nothing words) may known ran = kept here next past m (Says_nothing words) may tt (λ before. refl) ran
+  step_goes here next past m (Asks event) may words ran = kept here next past m (Asks event) may (answers_apart m.state event) (answers_heard m.state event) ran
+  step_goes here next past m (Refuses refused) may words ran = refusal_goes here next past m refused may words ran
+  step_goes here next past m (Shows node) may words ran = kept here next past m (Shows node) may tt (λ before. refl) ran
+  step_goes here next past m (Restarts state) may words ran = kept here next past m (Restarts state) may tt (λ before. refl) ran
+  step_goes here next past m (Begins_tick left) may words ran = kept here next past m (Begins_tick left) may tt (λ before. refl) ran
+  step_goes here next past m Numbers may words ran = kept here next past m Numbers may tt (λ before. refl) ran
+  step_goes here next past m (Judges item rest behind told) may words ran =
+      let notes = event_notes m.state (Hears item) in
+      kept here next past m (Judges item rest behind told) may (told_apart (outs m.state (Hears item)) told notes may.1.told_so) (told_heard (outs m.state (Hears item)) told notes may.1.told_so) ran
+  step_goes here next past m (Does event told) may words ran =
+      let notes = event_notes m.state event in
+      kept here next past m (Does event told) may (told_apart (outs m.state event) told notes may.2) (told_heard (outs m.state event) told notes may.2) ran
+
+  hearing : WalkOver KnowsWords Anything Anything Know
+  hearing = record {
+    step = λ here next past m one may words stands ran. step_goes here next past m one may words ran;
+    turn = λ here next past m turns words ran. Turned turns ran;
+  }
+
+  pub is_heard : {here : Phase} {told : List Entry} {m : HostMachine} → Run start here told m → Run start here (heard_by_host told) m
+  is_heard run = (run_keeps Anything (both_know KnowsWords Know) (over KnowsWords Anything Anything Know words_walk hearing) [] run (tt, Begins)).1.1

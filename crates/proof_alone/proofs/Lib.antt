@@ -1,0 +1,18 @@
+pub use Rattle.proof_line.proofs.Always
+pub mod Running
+pub mod Stamps
+pub mod Coming
+mod Changing
+mod Others
+pub mod Hosting
+mod Reading
+mod ReadingLines
+mod ReadingWalk
+mod Words
+mod Hearing
+pub mod Apart
+mod Timing
+pub mod InOrder
+pub mod Tabling
+mod Answering
+mod Carrying

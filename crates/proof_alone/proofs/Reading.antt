@@ -1,0 +1,196 @@
+-- The reading of the simulator's machine goes on: with what happens outside the host, with what the host does, and where it takes bytes.
+use Rattle.std.proofs.Common.{◌≡◌, ℕ, suc, Bool, true, false, List, [], ◌∷◌, ◌++◌, refl, sym, ap, ◌∙◌, subst, append-nil}
+use Rattle.std.specs.List.{AllByRecursion}
+use Rattle.serial_frame.specs.Stream.{Feeds, Rest, no_rest}
+use Rattle.serial_frame.specs.declared.item.Item.{Item}
+use Rattle.serial_frame.specs.declared.unit.Unit.{Unit as LineUnit}
+use Rattle.serial_pipes.specs.State.{WayState}
+use Rattle.zw_words.specs.declared.side.Side.TheVariants.{Chip}
+use Rattle.zw_text.specs.declared.entry.Entry.{Entry}
+use Rattle.chip_sim.specs.State.{ChipParts}
+use Rattle.host_model.specs.Events.{HostEvent}
+use Rattle.host_model.specs.Did.{MayAll, outs_all}
+use Rattle.host_model.specs.Outs.{answers}
+use Rattle.outside_model.specs.State.{OuterState, Outcome, Outside}
+use Rattle.outside_model.specs.Events.{OuterEvent, Begins_tick, devices_after, has_entered, outcome, stamp}
+use Rattle.outside_model.specs.Did.{entries_all, happens_all}
+use Rattle.world_model.specs.State.{Machine, host_does, host_entries}
+use Rattle.world_model.specs.Events.{Event, Host_does, Host_takes, Outside_does, May, entries, fed, happens, notes}
+use Rattle.proof_serial.specs.Chip.{HasFrames}
+use Rattle.proof_serial.specs.Line.{Carried, LineAfter}
+use Rattle.proof_serial.specs.Units.{good_units}
+use Rattle.proof_serial.specs.Way.{Carries, items_all, written_all}
+use Rattle.proof_serial.proofs.Events.{event_after}
+use Rattle.proof_serial.proofs.Outer.{entered_still}
+use Rattle.proof_serial.proofs.Ways.{carries_all}
+use Rattle.proof_walk.proofs.Times.{IsWithin, outcome_time}
+use Rattle.proof_line.proofs.Tellings.{Tells, tells_none}
+use Rattle.proof_alone.specs.State.{HostMachine, host_machine}
+use Rattle.proof_alone.specs.Steps as step
+use Rattle.proof_alone.specs.Steps.{IsOfOthers}
+use Rattle.proof_alone.specs.Phases.{GoesBy, IsBetween, Open, Phase, Resting, Risen}
+use Rattle.proof_alone.specs.Reading.{IsFine, Reads, read_of}
+use Rattle.proof_alone.specs.Runs.{Run}
+use Rattle.proof_alone.specs.Runs.Run.{Stepped}
+use Rattle.proof_alone.proofs.Coming.{AllChange, asides_run, at_time, good_both, stamp_run, tells_run}
+use Rattle.proof_alone.proofs.Hosting.{does_run, items_run, outside_at, outside_enters, outside_next, outside_put}
+use Rattle.proof_alone.proofs.Others.{ToldOutside}
+use Rattle.proof_alone.proofs.Stamps.{Time3, outs_told, same_entered, same_stamp}
+
+-- the way to the host is as it was
+pub same_way : (m n : Machine) (up up_after down : List Item) → Carries n.outside.outer.chip.decoder n.outside.outer.to_chip up_after → n.host.decoder ≡ m.host.decoder
+    → n.outside.outer.to_host.bytes ≡ m.outside.outer.to_host.bytes → Carried m up down → Carried n up_after down
+same_way m n up up_after down to_chip decoder bytes carried = record {
+  to_chip = to_chip;
+  to_host = subst (λ (l : List ℕ). Feeds n.host.decoder l no_rest down) (sym bytes) (subst (λ (r : Rest). Feeds r m.outside.outer.to_host.bytes no_rest down) (sym decoder) carried.to_host);
+}
+
+-- the host may do it
+pub may_one : (m : Machine) (event : HostEvent) → May m (Host_does event) → MayAll m.host.state (event ∷ [])
+unfolding May
+may_one m event may = may
+
+module _ (start : HostMachine) where
+  -- ---- outside the host
+
+  -- what is known of its entries is enough to run on with them, where no number is to be entered
+  pub outer_reads : (here : Phase) (left : ℕ) (past : List Entry) (m : Machine) (event : OuterEvent) → IsBetween here → IsWithin event → May m (Outside_does event) → IsFine m (Outside_does event)
+      → (reads : Reads start here left past m) (tells : ToldOutside m.outside event)
+      → ((all : List Entry) → Run start here all (host_machine m.keys m.records m.host.state (good_units reads.down) m.outside.outer.clock left false)
+      → Run start here (all ++ (outcome m.outside event).entries)
+      (host_machine m.keys m.records m.host.state (good_units reads.down ++ good_units (items_all m.outside.outer.to_host tells.units)) m.outside.outer.clock left false))
+      → Reads start here left (past ++ entries m (Outside_does event)) (happens m (Outside_does event))
+  unfolding happens entries
+  outer_reads here left past m event between within may fine reads tells runs =
+      let after : LineAfter m (Outside_does event) reads.up reads.down = event_after m (Outside_does event) reads.up reads.down reads.carried reads.frames may fine.0 fine.1 in
+      let still = entered_still x.outer said in
+      let fit = tells.fit (subst (λ (c : ChipParts). HasFrames c.state.port) still.chip after.frames) in
+      let bytes : (has_entered x.outer said).to_host.bytes ≡ (written_all o.to_host tells.units).bytes = ap (λ (y : WayState). y.bytes) still.to_host ∙ tells.to_host in
+      let same = outcome_time m.outside event within in
+      let ran = stamp_run start o here here m.keys m.records m.records m.host.state m.host.state came (came ++ good_units more) left past said reads.run goes in
+      record {
+        up = after.up_after;
+        down = reads.down ++ more;
+        carried = record {
+          to_chip = after.carried.to_chip;
+          to_host = subst (λ (l : List ℕ). Feeds m.host.decoder l no_rest (reads.down ++ more)) (sym bytes) (carries_all m.host.decoder o.to_host tells.units reads.down reads.carried.to_host fit);
+        };
+        frames = after.frames;
+        run = subst (λ (l : List LineUnit). Run start here (past ++ stamp x.outer said) (read_of left (happens m (Outside_does event)) l)) (sym (good_both reads.down more))
+            (subst (λ (l : List Entry). Run start here (past ++ l) (read_of left (happens m (Outside_does event)) (came ++ good_units more))) (sym (same_stamp o x.outer said same))
+            (subst (λ (t : Time3). Run start here (past ++ stamp o said) (at_time m.keys m.records m.host.state (came ++ good_units more) left t)) (sym (same_entered o x.outer said same)) ran));
+      }
+    where
+      o : OuterState
+      o = m.outside.outer
+
+      x : Outcome
+      x = outcome m.outside event
+
+      said : List Entry
+      said = x.entries
+
+      more : List Item
+      more = items_all o.to_host tells.units
+
+      came : List LineUnit
+      came = good_units reads.down
+
+      -- nothing is told while the number is to be entered
+      none : (all : List Entry) → said ≡ [] → Run start here all (host_machine m.keys m.records m.host.state came o.clock left true)
+          → Run start here (all ++ said) (host_machine m.keys m.records m.host.state (came ++ good_units more) o.clock left true)
+      none all is run =
+          let no_units : tells.units ≡ [] = tells_none IsOfOthers Chip o.to_host tells.units (subst (λ (l : List Entry). Tells IsOfOthers Chip o.to_host tells.units l) is tells.told) in
+          let no_more : came ++ good_units more ≡ came = ap (λ (l : List LineUnit). came ++ good_units (items_all o.to_host l)) no_units ∙ append-nil came in
+          subst (λ (l : List LineUnit). Run start here (all ++ said) (host_machine m.keys m.records m.host.state l o.clock left true)) (sym no_more)
+          (subst (λ (l : List Entry). Run start here l (host_machine m.keys m.records m.host.state came o.clock left true)) (sym (ap (λ (l : List Entry). all ++ l) is ∙ append-nil all)) run)
+
+      goes : (awaits : Bool) (all : List Entry) → (awaits ≡ true → said ≡ []) → Run start here all (host_machine m.keys m.records m.host.state came o.clock left awaits)
+          → Run start here (all ++ said) (host_machine m.keys m.records m.host.state (came ++ good_units more) o.clock left awaits)
+      goes true all silent run = none all (silent refl) run
+      goes false all silent run = runs all run
+
+  -- units of the chip among entries of others, where each change that waits changes its frame
+  pub told_reads : (here : Phase) (left : ℕ) (past : List Entry) (m : Machine) (event : OuterEvent) → IsBetween here → IsWithin event → May m (Outside_does event) → IsFine m (Outside_does event)
+      → AllChange m.outside.outer.to_host.marks.garbles → ToldOutside m.outside event → Reads start here left past m
+      → Reads start here left (past ++ entries m (Outside_does event)) (happens m (Outside_does event))
+  told_reads here left past m event between within may fine changes tells reads =
+      outer_reads here left past m event between within may fine reads tells
+      (λ all run.
+      tells_run start m.keys m.records m.host.state left here between m.outside.outer.clock tells.units (outcome m.outside event).entries all (good_units reads.down) m.outside.outer.to_host changes tells.told run)
+
+  -- entries of others alone
+  pub quiet_reads : (here : Phase) (left : ℕ) (past : List Entry) (m : Machine) (event : OuterEvent) → IsBetween here → IsWithin event → May m (Outside_does event) → IsFine m (Outside_does event)
+      → AllByRecursion IsOfOthers (outcome m.outside event).entries → (outcome m.outside event).outer.to_host.bytes ≡ m.outside.outer.to_host.bytes → Reads start here left past m
+      → Reads start here left (past ++ entries m (Outside_does event)) (happens m (Outside_does event))
+  quiet_reads here left past m event between within may fine asides bytes reads =
+      outer_reads here left past m event between within may fine reads (record { units = []; told = asides; to_host = bytes; fit = λ has. tt })
+      (λ all run.
+      subst (λ (l : List LineUnit). Run start here (all ++ (outcome m.outside event).entries) (host_machine m.keys m.records m.host.state l m.outside.outer.clock left false))
+      (sym (append-nil (good_units reads.down)))
+      (asides_run start m.keys m.records m.host.state left here between m.outside.outer.clock (outcome m.outside event).entries all (good_units reads.down) asides run))
+
+  -- a tick begins
+  pub tick_reads : (left : ℕ) (past : List Entry) (m : Machine) → May m (Outside_does Begins_tick) → IsFine m (Outside_does Begins_tick) → Reads start Resting (suc left) past m
+      → Reads start Risen left (past ++ entries m (Outside_does Begins_tick)) (happens m (Outside_does Begins_tick))
+  unfolding happens entries outcome devices_after
+  tick_reads left past m may fine reads =
+      let after : LineAfter m (Outside_does Begins_tick) reads.up reads.down = event_after m (Outside_does Begins_tick) reads.up reads.down reads.carried reads.frames may fine.0 fine.1 in
+      record {
+        up = after.up_after;
+        down = reads.down;
+        carried = record { to_chip = after.carried.to_chip; to_host = reads.carried.to_host };
+        frames = after.frames;
+        run = Stepped (step.Begins_tick left) (refl, refl, refl) refl refl reads.run;
+      }
+
+  -- ---- the host
+
+  -- an event that answers no line
+  silent_entries : (m : Machine) (event : HostEvent) → answers m.host.state event ≡ [] → entries m (Host_does event) ≡ host_entries m (event ∷ [])
+  unfolding entries
+  silent_entries m event none =
+      ap (λ (l : List Entry). host_entries m (event ∷ []) ++ entries_all (host_does m (event ∷ [])).outside (notes l)) none ∙ append-nil (host_entries m (event ∷ []))
+
+  silent_happens : (m : Machine) (event : HostEvent) → answers m.host.state event ≡ [] → happens m (Host_does event) ≡ host_does m (event ∷ [])
+  unfolding happens
+  silent_happens m event none =
+      ap (λ (l : List Entry). record (host_does m (event ∷ [])) { outside = happens_all (host_does m (event ∷ [])).outside (notes l) }) none
+
+  pub does_reads : (here next : Phase) (left : ℕ) (past : List Entry) (m : Machine) (event : HostEvent) → GoesBy here m.host.state event next → answers m.host.state event ≡ []
+      → May m (Host_does event) → IsFine m (Host_does event) → Reads start here left past m → Reads start next left (past ++ entries m (Host_does event)) (happens m (Host_does event))
+  does_reads here next left past m event goes none may fine reads =
+      let after : LineAfter m (Host_does event) reads.up reads.down = event_after m (Host_does event) reads.up reads.down reads.carried reads.frames may fine.0 fine.1 in
+      let same = silent_happens m event none in
+      let n : Machine = happens m (Host_does event) in
+      let ran = does_run Outside outside_at outside_put outside_next outside_enters start m.keys left here next past m.records m.host.state (good_units reads.down) m.outside event goes (may_one m event may) reads.run in
+      record {
+        up = after.up_after;
+        down = reads.down;
+        carried = same_way m n reads.up after.up_after reads.down after.carried.to_chip (ap (λ (k : Machine). k.host.decoder) same)
+            (ap (λ (k : Machine). k.outside.outer.to_host.bytes) same ∙ ap (λ (y : WayState). y.bytes) (way_stays m event)) reads.carried;
+        frames = after.frames;
+        run = subst (λ (l : List Entry). Run start next (past ++ l) (read_of left n (good_units reads.down))) (sym (silent_entries m event none))
+            (subst (λ (k : Machine). Run start next (past ++ host_entries m (event ∷ [])) (read_of left k (good_units reads.down))) (sym same) ran);
+      }
+    where
+      way_stays : (m : Machine) (event : HostEvent) → (host_does m (event ∷ [])).outside.outer.to_host ≡ m.outside.outer.to_host
+      way_stays m event = (outs_told (outs_all m.host.state (event ∷ [])) m.outside).to_host
+
+  -- it takes bytes, and judges the items that end in them
+  pub takes_reads : (left : ℕ) (past : List Entry) (m : Machine) (count : ℕ) (rest : Rest) (items : List Item) (events : List HostEvent) → May m (Host_takes count rest items events)
+      → IsFine m (Host_takes count rest items events) → Reads start Open left past m
+      → Reads start Open left (past ++ entries m (Host_takes count rest items events)) (happens m (Host_takes count rest items events))
+  unfolding happens entries outcome devices_after May
+  takes_reads left past m count rest items events may fine reads =
+      let event : Event = Host_takes count rest items events in
+      let after : LineAfter m event reads.up reads.down = event_after m event reads.up reads.down reads.carried reads.frames may fine.0 fine.1 in
+      let came : good_units reads.down ≡ good_units items ++ good_units after.down_after = ap good_units after.down_is ∙ good_both items after.down_after in
+      record {
+        up = after.up_after;
+        down = after.down_after;
+        carried = after.carried;
+        frames = after.frames;
+        run = items_run Outside outside_at outside_put outside_next outside_enters start m.keys left items events past m.records m.host.state (good_units after.down_after) (fed m count rest).outside may.judged may.may
+            (subst (λ (l : List LineUnit). Run start Open past (read_of left m l)) came reads.run);
+      }

@@ -1,0 +1,269 @@
+-- So the machine of the simulator is read as a host alone, over all lines.
+use Rattle.std.proofs.Common.{◌≡◌, ℕ, zero, suc, ◌+◌, true, false, inl, inr, List, [], ◌∷◌, ◌++◌, length, refl, sym, subst, append-nil}
+use Rattle.std.specs.Prelude.{Option}
+use Rattle.serial_frame.specs.declared.unit.Unit.{Unit as LineUnit}
+use Rattle.zw_words.specs.declared.side.Side.TheVariants.{Chip}
+use Rattle.zw_text.specs.declared.line.Line.{Line}
+use Rattle.zw_text.specs.declared.line.Line.TheVariants as lines
+use Rattle.zw_text.specs.declared.entry.Entry.{Entry}
+use Rattle.zw_text.specs.declared.entry.Entry.TheVariants.{Said}
+use Rattle.zw_text.specs.Transcript.{line_of}
+use Rattle.law_transcript.specs.Lists.{EachAfter}
+use Rattle.law_transcript.specs.Restarts.{ticks_of}
+use Rattle.host_model.specs.Pumping.{no_more_event}
+use Rattle.host_model.specs.Ticking.{tick_events}
+use Rattle.host_model.proofs.Silence.{tick_silent}
+use Rattle.outside_model.specs.Events.{OuterEvent, Arrives, Begins_line, Begins_tick, Chip_takes, Chip_ticks, Device_ticks, Gives, devices_after, is_own, outcome}
+use Rattle.outside_model.specs.Events.{May as MayOutside}
+use Rattle.s0_crypto.specs.declared.key_pair.Keys.{Keys}
+use Rattle.device_sim.specs.State.{State}
+use Rattle.outside_model.specs.State.{first_outer}
+use Rattle.world_model.specs.State.{Machine, first_machine}
+use Rattle.world_model.specs.Did.{AllAlong}
+use Rattle.world_model.specs.Events.{Event, Decoder_ticks, Host_does, Host_takes, Outside_does, May, entries, happens}
+use Rattle.proof_serial.specs.Line.{AllAtRest, AllWriteWell, LineAfter}
+use Rattle.proof_serial.specs.Units.{good_units}
+use Rattle.proof_serial.proofs.Events.{event_after}
+use Rattle.proof_serial.proofs.First.{first_carried, first_frames}
+use Rattle.proof_walk.specs.ByLine.{begun}
+use Rattle.proof_walk.specs.Phases.{Phase, Between, Said_line, Begun, Doing, To_tick, Ticked, Arriving, Giving, Ticking_devices, Ticking_chip, Ticking_decoder, Ticking_host, Sleeping, Submitting, Moving, Moved, Goes, Turns, passes_after}
+use Rattle.proof_walk.specs.Walk.{Walk, WalkWhere}
+use Rattle.proof_walk.proofs.ByLine.{next_silent, no_more_silent}
+use Rattle.proof_walk.proofs.Stepping.{Steps, event_then}
+use Rattle.proof_walk.proofs.Times.{IsWithin}
+use Rattle.proof_line.specs.Marks.{KnowMarks, Marked, MayMark}
+use Rattle.proof_line.proofs.ChipTelling.{IsArriving}
+use Rattle.proof_alone.specs.State.{HostMachine, first_alone}
+use Rattle.proof_alone.specs.Steps as step
+use Rattle.proof_alone.specs.Phases as alone
+use Rattle.proof_alone.specs.Reading.{EffectReads, IsFine, Reads, ReadsAt, ReadsMarked, read_of}
+use Rattle.proof_alone.specs.Reading.EffectReads.{Asks_host, Refuses_line, Shows_node, Starts_again, Does_silently, Does_by_hand, Begins_discovery, Goes_on_asking, Clears_both, Clears_one, Is_done}
+use Rattle.proof_alone.specs.Runs.{Run, Told, ToldWhole}
+use Rattle.proof_alone.specs.Runs.Run.{Begins, Stepped, Turned}
+use Rattle.proof_alone.proofs.Changing.{all_change}
+use Rattle.proof_alone.proofs.Coming.{AllChange}
+use Rattle.proof_alone.proofs.Others.{IsOfChip, arriving_told, takes_told, tick_told}
+use Rattle.proof_alone.proofs.Reading.{does_reads, same_way, takes_reads, tick_reads, told_reads}
+use Rattle.proof_alone.proofs.ReadingLines.{effect_done, effect_next, effect_reads, marked_of}
+
+-- nothing is asked of an entry
+abbrev pub Anything : List Entry → Entry → Type 0
+Anything past e = Unit {0}
+
+pub anything : (past told : List Entry) → EachAfter Anything past told
+anything past [] = tt
+anything past (e ∷ told) = (tt, anything (past ++ e ∷ []) told)
+
+-- where marks are known, each change that waits is one
+changes_of : (past : List Entry) (m : Machine) → Marked past m → AllChange m.outside.outer.to_host.marks.garbles
+changes_of past m known = all_change past m.outside.outer.to_host (known.0.0 Chip)
+
+module _ (start : HostMachine) where
+  abbrev At : Phase → List Entry → Machine → Type 0
+  At = ReadsAt start
+
+  abbrev Keeps : Phase → List Entry → Machine → Event → Type 0
+  Keeps = Steps Anything At
+
+  -- ---- parts
+
+  turned : (here next : alone.Phase) (left : ℕ) (past : List Entry) (m : Machine) → ((came : List LineUnit) → alone.Turns here (read_of left m came) next) → Reads start here left past m
+      → Reads start next left past m
+  turned here next left past m turns reads =
+      record { up = reads.up; down = reads.down; carried = reads.carried; frames = reads.frames; run = Turned (turns (good_units reads.down)) reads.run }
+
+  said_reads : (past : List Entry) (m : Machine) (words : List ℕ) (line : Line) → line_of (Said words) ≡ line ∷ [] → Reads start alone.Resting 0 past m
+      → Reads start (alone.Asked line) (ticks_of line) (past ++ Said words ∷ []) (begun m)
+  unfolding happens outcome devices_after
+  said_reads past m words line read reads = record {
+    up = reads.up;
+    down = reads.down;
+    carried = record { to_chip = reads.carried.to_chip; to_host = reads.carried.to_host };
+    frames = reads.frames;
+    run = Stepped (step.Says words line) (refl, refl, read, refl) refl refl reads.run;
+  }
+
+  begins_reads : (line : Line) (past : List Entry) (m : Machine) → Reads start (alone.Asked line) (ticks_of line) past (begun m) → Keeps (Begun line) past m (Outside_does Begins_line)
+  unfolding entries outcome
+  begins_reads line past m reads = (tt, subst (λ (l : List Entry). Reads start (alone.Asked line) (ticks_of line) l (begun m)) (sym (append-nil past)) reads)
+
+  decoder_reads : (ticks : ℕ) (past : List Entry) (m : Machine) → May m Decoder_ticks → IsFine m Decoder_ticks → Reads start alone.Risen ticks past m
+      → Reads start (alone.Ticking (tick_events m.host.state)) ticks (past ++ entries m Decoder_ticks) (happens m Decoder_ticks)
+  unfolding happens entries
+  decoder_reads ticks past m may fine reads =
+      let n : Machine = happens m Decoder_ticks in
+      let after : LineAfter m Decoder_ticks reads.up reads.down = event_after m Decoder_ticks reads.up reads.down reads.carried reads.frames may fine.0 fine.1 in
+      record {
+        up = after.up_after;
+        down = reads.down;
+        carried = same_way m n reads.up after.up_after reads.down after.carried.to_chip after.at_host refl reads.carried;
+        frames = after.frames;
+        run = Turned refl (subst (λ (l : List Entry). Run start alone.Risen l (read_of ticks m (good_units reads.down))) (sym (append-nil past)) reads.run);
+      }
+
+  outside_may : (m : Machine) (event : OuterEvent) → May m (Outside_does event) → MayOutside m.outside event
+  unfolding May
+  outside_may m event may = may.1
+
+  arriving_reads : (ticks : ℕ) (past : List Entry) (m : Machine) (event : OuterEvent) → IsArriving event → IsOfChip event → is_own event ≡ true → IsWithin event → May m (Outside_does event)
+      → IsFine m (Outside_does event) → Marked past m → Reads start alone.Risen ticks past m
+      → Reads start alone.Risen ticks (past ++ entries m (Outside_does event)) (happens m (Outside_does event))
+  arriving_reads ticks past m event arriving of_chip own within may fine known reads =
+      told_reads start alone.Risen ticks past m event tt within may fine (changes_of past m known) (arriving_told m.outside event arriving of_chip own (outside_may m event may)) reads
+
+  -- ---- events
+
+  -- it is this one, and leads there
+  comes : (next to : Phase) (event is : Event) (past : List Entry) (m : Machine) → event ≡ is → next ≡ to → May m event → IsFine m event
+      → (May m is → IsFine m is → At to (past ++ entries m is) (happens m is)) → Keeps next past m event
+  comes next to event is past m event_is next_is may fine goes =
+      event_then Anything At next to event is past m event_is next_is (anything past (entries m is), goes (subst (May m) event_is may) (subst (IsFine m) event_is fine))
+
+  event_keeps : (here next : Phase) (past : List Entry) (m : Machine) (event : Event) → Goes here m event next → May m event → IsFine m event → KnowMarks here past m → At here past m
+      → Keeps next past m event
+  event_keeps (Said_line line) next past m event (event_is, next_is) may fine marks reads =
+      event_then Anything At next (Begun line) event (Outside_does Begins_line) past m event_is next_is (begins_reads line past m reads)
+  event_keeps (Doing line (first ∷ left)) next past m event (event_is, next_is) may fine marks reads =
+      comes next (Doing line left) event first past m event_is next_is may fine
+      (λ may_it fine_it. effect_next start past m line first left may_it fine_it (λ others. changes_of past m (marked_of line (first ∷ left) past m others marks)) reads)
+  event_keeps (To_tick (suc ticks)) next past m event (event_is, next_is) may fine marks reads =
+      comes next (Ticked ticks) event (Outside_does Begins_tick) past m event_is next_is may fine (λ may_it fine_it. tick_reads start ticks past m may_it fine_it reads)
+  event_keeps (Arriving (suc frames) ticks) next past m event (drawn, route, event_is, next_is) may fine marks reads =
+      comes next (Arriving frames ticks) event (Outside_does (Arrives drawn route)) past m event_is next_is may fine
+      (λ may_it fine_it. arriving_reads ticks past m (Arrives drawn route) tt tt refl tt may_it fine_it marks reads)
+  event_keeps (Giving (suc results) ticks) next past m event (route, event_is, next_is) may fine marks reads =
+      comes next (Giving results ticks) event (Outside_does (Gives route)) past m event_is next_is may fine
+      (λ may_it fine_it. arriving_reads ticks past m (Gives route) tt tt refl tt may_it fine_it marks reads)
+  event_keeps (Ticking_devices place (suc count) ticks) next past m event (drawn, route, event_is, next_is) may fine marks reads =
+      comes next (Ticking_devices (place + 1) count ticks) event (Outside_does (Device_ticks place drawn route)) past m event_is next_is may fine
+      (λ may_it fine_it. arriving_reads ticks past m (Device_ticks place drawn route) tt tt refl tt may_it fine_it marks reads)
+  event_keeps (Ticking_chip ticks) next past m event (event_is, next_is) may fine marks reads =
+      comes next (Ticking_decoder ticks) event (Outside_does Chip_ticks) past m event_is next_is may fine
+      (λ may_it fine_it.
+      told_reads start alone.Risen ticks past m Chip_ticks tt tt may_it fine_it (changes_of past m marks) (tick_told m.outside reads.frames (outside_may m Chip_ticks may_it)) reads)
+  event_keeps (Ticking_decoder ticks) next past m event (event_is, next_is) may fine marks reads =
+      comes next (Ticking_host (tick_events m.host.state) ticks) event Decoder_ticks past m event_is next_is may fine
+      (λ may_it fine_it. (tick_silent m.host.state, decoder_reads ticks past m may_it fine_it reads))
+  event_keeps (Ticking_host (first ∷ events) ticks) next past m event (event_is, next_is) may fine marks reads =
+      comes next (Ticking_host events ticks) event (Host_does first) past m event_is next_is may fine
+      (λ may_it fine_it.
+      (reads.0.1, does_reads start (alone.Ticking (first ∷ events)) (alone.Ticking events) ticks past m first (refl, refl) (reads.0.0 m.host.state) may_it fine_it reads.1))
+  event_keeps (Sleeping passes ticks) next past m event (node, wants, event_is, next_is) may fine marks reads =
+      comes next (Sleeping passes ticks) event (Host_does (no_more_event m.host.state node)) past m event_is next_is may fine
+      (λ may_it fine_it.
+      does_reads start alone.Sleeping alone.Sleeping ticks past m (no_more_event m.host.state node) (node, wants, refl, refl) ((no_more_silent m.host.state node).0 m.host.state) may_it fine_it reads)
+  event_keeps (Submitting passes ticks) next past m event (asked, is, event_is, next_is) may fine marks reads =
+      comes next (Submitting passes ticks) event (Host_does asked) past m event_is next_is may fine
+      (λ may_it fine_it.
+      does_reads start alone.Submitting alone.Submitting ticks past m asked (is, refl) ((next_silent m.host.state m.host.state.requests.owes m.host.state.requests.queue asked is.1).0 m.host.state) may_it fine_it
+      reads)
+  event_keeps (Moving passes ticks) next past m event (rest, ways, event_is, next_is) may fine marks reads =
+      let count : ℕ = length m.outside.outer.to_chip.bytes in
+      comes next (Moved true passes ticks) event (Outside_does (Chip_takes count rest ways)) past m event_is next_is may fine
+      (λ may_it fine_it.
+      told_reads start alone.Resting ticks past m (Chip_takes count rest ways) tt tt may_it fine_it (changes_of past m marks)
+      (takes_told m.outside count rest ways reads.frames (outside_may m (Chip_takes count rest ways) may_it)) reads)
+  event_keeps (Moved has_moved passes ticks) next past m event (rest, items, done, event_is, next_is) may fine marks reads =
+      let taken : Event = Host_takes (length m.outside.outer.to_host.bytes) rest items done in
+      comes next (Sleeping passes ticks) event taken past m event_is next_is may fine
+      (λ may_it fine_it.
+      turned alone.Open alone.Sleeping ticks (past ++ entries m taken) (happens m taken) (λ came. refl)
+      (takes_reads start ticks past m (length m.outside.outer.to_host.bytes) rest items done may_it fine_it (turned alone.Resting alone.Open ticks past m (λ came. refl) reads)))
+  event_keeps here next past m event goes may fine marks reads = absurd goes
+
+  -- ---- parts that begin
+
+  to : (next phase : Phase) (past : List Entry) (m : Machine) → next ≡ phase → At phase past m → At next past m
+  to next phase past m is reads = subst (λ (q : Phase). At q past m) (sym is) reads
+
+  settles : (left : ℕ) (past : List Entry) (m : Machine) → Reads start alone.Resting left past m → Reads start alone.Sleeping left past m
+  settles left past m reads = turned alone.Open alone.Sleeping left past m (λ came. refl) (turned alone.Resting alone.Open left past m (λ came. refl) reads)
+
+  turn_keeps : (here next : Phase) (past : List Entry) (m : Machine) → Turns here m next → At here past m → At next past m
+  turn_keeps (Begun line) next past m (inl (events, is, next_is)) reads = to next (Doing line events) past m next_is (effect_reads start past m line events is reads)
+  turn_keeps (Begun line) next past m (inr (ticks, line_is, next_is)) reads =
+      to next (To_tick ticks) past m next_is
+      (turned (alone.Asked (lines.Tick ticks)) alone.Resting ticks past m (λ came. inr (ticks, refl, refl)) (subst (λ (l : Line). Reads start (alone.Asked l) (ticks_of l) past m) line_is reads))
+  turn_keeps (Doing line []) next past m next_is reads = to next (Sleeping 64 0) past m next_is (turned alone.Open alone.Sleeping 0 past m (λ came. refl) (effect_done start past m line reads))
+  turn_keeps (To_tick zero) next past m next_is reads = to next Between past m next_is reads
+  turn_keeps (Ticked ticks) next past m next_is reads = to next _ past m next_is reads
+  turn_keeps (Arriving zero ticks) next past m next_is reads = to next _ past m next_is reads
+  turn_keeps (Giving zero ticks) next past m next_is reads = to next _ past m next_is reads
+  turn_keeps (Ticking_devices place zero ticks) next past m next_is reads = to next _ past m next_is reads
+  turn_keeps (Ticking_host [] ticks) next past m next_is reads =
+      to next (Sleeping 64 ticks) past m next_is
+      (turned alone.Open alone.Sleeping ticks past m (λ came. refl) (turned (alone.Ticking []) alone.Open ticks past m (λ came. refl) reads.1))
+  turn_keeps (Sleeping passes ticks) next past m (wants, next_is) reads =
+      to next (Submitting passes ticks) past m next_is (turned alone.Sleeping alone.Submitting ticks past m (λ came. (wants, refl)) reads)
+  turn_keeps (Submitting zero ticks) next past m (pumped, next_is) reads =
+      to next (To_tick ticks) past m next_is (turned alone.Submitting alone.Resting ticks past m (λ came. (pumped, refl)) reads)
+  turn_keeps (Submitting (suc passes) ticks) next past m (pumped, next_is) reads =
+      to next (Moving passes ticks) past m next_is (turned alone.Submitting alone.Resting ticks past m (λ came. (pumped, refl)) reads)
+  turn_keeps (Moving passes ticks) next past m (still, next_is) reads = to next (Moved false passes ticks) past m next_is reads
+  turn_keeps (Moved has_moved passes ticks) next past m (still, next_is) reads =
+      to next (Sleeping (passes_after has_moved passes) ticks) past m next_is (settles ticks past m reads)
+  turn_keeps here next past m turns reads = absurd turns
+
+  pub reading_walk : Walk MayMark KnowMarks → WalkWhere IsFine Anything (ReadsMarked start)
+  reading_walk marks = record {
+    said = λ past m words line read known. (tt, ((marks.said past m words line read known.0).1, said_reads past m words line read known.1));
+    event = λ here next past m event goes may fine known.
+        let one = event_keeps here next past m event goes may fine known.0 known.1 in
+        (one.0, ((marks.event here next past m event goes may known.0).1, one.1));
+    turn = λ here next past m turns known. (marks.turn here next past m turns known.0, turn_keeps here next past m turns known.1);
+  }
+
+  -- ---- what was read so far
+
+  told_by : (here : alone.Phase) (left : ℕ) (past : List Entry) (m : Machine) → Reads start here left past m → Told start past
+  told_by here left past m reads = (here, read_of left m (good_units reads.down), reads.run)
+
+  effect_told : (line : Line) (left : List Event) (past : List Entry) (m : Machine) → EffectReads start line left past m → Told start past
+  effect_told line left past m (Asks_host event rest is leaves asked reads) = told_by (alone.Asked line) 0 past m reads
+  effect_told line left past m (Refuses_line refused is reads) = told_by (alone.Asked line) 0 past m reads
+  effect_told line left past m (Shows_node node line_is is reads) = told_by (alone.Asked line) 0 past m reads
+  effect_told line left past m (Starts_again state line_is is reads) = told_by (alone.Asked line) 0 past m reads
+  effect_told line left past m (Does_silently event is silent nothing reads) = told_by (alone.Asked line) 0 past m reads
+  effect_told line left past m (Does_by_hand event is by_hand others reads) = told_by (alone.Asked line) 0 past m reads
+  effect_told line left past m (Begins_discovery asked line_is is asks reads) = told_by (alone.Asked line) 0 past m reads
+  effect_told line left past m (Goes_on_asking line_is asks reads) = told_by (alone.Asked line) 0 past m reads
+  effect_told line left past m (Clears_both is reads) = (alone.Open, read_of 0 m [], reads.run)
+  effect_told line left past m (Clears_one is reads) = (alone.Open, read_of 0 m [], reads.run)
+  effect_told line left past m (Is_done leaves reads) = told_by alone.Open 0 past m reads
+
+  pub all_told : (here : Phase) (past : List Entry) (m : Machine) → At here past m → Told start past
+  all_told Between past m reads = told_by alone.Resting 0 past m reads
+  all_told (Said_line line) past m reads = told_by (alone.Asked line) (ticks_of line) past (begun m) reads
+  all_told (Begun line) past m reads = told_by (alone.Asked line) (ticks_of line) past m reads
+  all_told (Doing line left) past m reads = effect_told line left past m reads
+  all_told (To_tick ticks) past m reads = told_by alone.Resting ticks past m reads
+  all_told (Ticked ticks) past m reads = told_by alone.Risen ticks past m reads
+  all_told (Arriving frames ticks) past m reads = told_by alone.Risen ticks past m reads
+  all_told (Giving results ticks) past m reads = told_by alone.Risen ticks past m reads
+  all_told (Ticking_devices place count ticks) past m reads = told_by alone.Risen ticks past m reads
+  all_told (Ticking_chip ticks) past m reads = told_by alone.Risen ticks past m reads
+  all_told (Ticking_decoder ticks) past m reads = told_by alone.Risen ticks past m reads
+  all_told (Ticking_host events ticks) past m reads = told_by (alone.Ticking events) ticks past m reads.1
+  all_told (Sleeping passes ticks) past m reads = told_by alone.Sleeping ticks past m reads
+  all_told (Submitting passes ticks) past m reads = told_by alone.Submitting ticks past m reads
+  all_told (Moving passes ticks) past m reads = told_by alone.Resting ticks past m reads
+  all_told (Moved has_moved passes ticks) past m reads = told_by alone.Resting ticks past m reads
+
+-- ---- all lines
+
+pub first_reads : (keys : Keys) (records : Option (List (List ℕ))) (devices : List State) → Reads (first_alone keys records) alone.Resting 0 [] (first_machine keys records devices)
+unfolding first_outer
+first_reads keys records devices = record {
+  up = [];
+  down = [];
+  carried = first_carried keys records devices;
+  frames = first_frames keys records devices;
+  run = Begins;
+}
+
+pub all_fine : (m : Machine) (events : List Event) → AllAtRest m events → AllWriteWell m events → AllAlong IsFine m events
+all_fine m [] rests writes = tt
+all_fine m (event ∷ events) rests writes = ((rests.0, writes.0), all_fine (happens m event) events rests.1 writes.1)
+
+pub whole_told : (start : HostMachine) (past : List Entry) (m : Machine) → Reads start alone.Resting 0 past m → ToldWhole start past
+whole_told start past m reads = (read_of 0 m (good_units reads.down), reads.run)

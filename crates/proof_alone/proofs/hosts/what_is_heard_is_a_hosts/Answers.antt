@@ -1,0 +1,9 @@
+-- The same run, without what is not heard.
+use Rattle.proof_alone.proofs.Hearing.{is_heard}
+use Rattle.proof_alone.proofs.hosts.what_is_heard_is_a_hosts.Goals as goal
+
+pub returns-clause-told : goal.returns-clause-told
+returns-clause-told c = λ start told run. (run.0, run.1, is_heard start run.2)
+
+pub returns-clause-whole : goal.returns-clause-whole
+returns-clause-whole c = λ start told run. (run.0, is_heard start run.1)

@@ -1,0 +1,9 @@
+pub mod State
+pub mod Steps
+pub mod Phases
+pub mod Runs
+pub mod Reading
+pub mod Time
+pub mod Tables
+pub mod Words
+pub mod Answering

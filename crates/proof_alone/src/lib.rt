@@ -1,0 +1,21 @@
+//! A host alone, over what it hears: the host of the simulator is one, so the laws of such hosts are its laws.
+//!
+//! The machine of the simulator is read as a host alone: its transcript, and what the host heard of it, are those of a run of such a host
+//! (`lines_are_a_hosts`, `what_is_heard_is_a_hosts`). What holds of all runs of a host alone therefore holds of all lines.
+//! The definitions are in `specs/`: `State` and `Steps` (what a host alone is, and what may happen to it), `Phases` (where each step may come), `Runs`
+//! (runs, and what a law owes: something for each step, and for each part that begins), `Reading` (how the simulator's machine is read so, at each
+//! phase of a line), and `Time`, `Words` and `Tables` (the grounds of laws). `proofs/Running` has what a walk gives of a run (`run_keeps`), and one
+//! walk on the ground of another (`over`). Three grounds are proved: the clock of the host is that of the transcript (`hosts_tell_time`), the words of a
+//! line stand last where the host is asked (`proofs/Words`), and its tables are what the transcript shows (`hosts_keep_their_tables`).
+//! `hosts_answer_what_is_asked` is a law over the last two.
+#![tactic(auto)]
+
+mod hosts;
+mod tables;
+mod time;
+
+pub use hosts::{lines_are_a_hosts, what_is_heard_is_a_hosts};
+pub use tables::{
+    hosts_answer_what_is_asked, hosts_keep_their_tables, what_is_heard_keeps_the_laws_of_hosts,
+};
+pub use time::hosts_tell_time;

@@ -1,0 +1,165 @@
+-- What devices and the air do puts no frame of the controller on the air, since node 1 has not joined; so what is known of the law of what goes on the air goes on.
+use Rattle.std.proofs.Common.{◌≡◌, ℕ, zero, suc, ◌+◌, ◌-◌, ◌==◌, Bool, true, false, List, [], ◌∷◌, length, refl, sym, ap, ◌∙◌, eqb-true}
+use Rattle.std.specs.Prelude.{Option, Some, None, option_map, slice_get, slice_set}
+use Rattle.std.specs.List.{AllByRecursion, flat_map}
+use Rattle.zw_base.proofs.Each.{all-append, all-weaker}
+use Rattle.route_table.specs.declared.route.Route.{Route}
+use Rattle.device_sim.specs.State.{State}
+use Rattle.device_sim.specs.Event.{DeviceEvent, Hears, device_after, device_replies}
+use Rattle.air_frames.specs.declared.frame.Heading.{Heading}
+use Rattle.air_frames.specs.declared.frame.Heading.TheVariants.{Outward, Homeward}
+use Rattle.air_frames.specs.Flown.{Flown}
+use Rattle.air_frames.specs.Frames.{next_of, remembered}
+use Rattle.mesh_sim.specs.declared.event.AirEvent.{AirEvent}
+use Rattle.mesh_sim.specs.declared.event.AirEvent.TheVariants as tells
+use Rattle.mesh_sim.specs.declared.fate.Fate.{Fate}
+use Rattle.mesh_sim.specs.declared.fate.Fate.TheVariants.{Lost, Dead, Missed, AtChip, AtDevice}
+use Rattle.mesh_sim.specs.Routes.{backwards}
+use Rattle.mesh_sim.specs.Air.{AirState, departing, is_joined}
+use Rattle.mesh_sim.specs.Fates.{Mesh, fate_of, listener_of}
+use Rattle.mesh_sim.specs.Steps.{AirStep, acknowledged, answers, answers_if, arrival_outs_as, arrival_outs, changed, done_of, landed, mesh_after, mesh_outs, outs_again, outs_at, repeat_outs, repeat_outs_by, sent_event, status_of}
+use Rattle.mesh_sim.specs.Steps as mesh
+use Rattle.law_transcript.specs.Nodes.{controller}
+use Rattle.law_wire.specs.Asked.{Sending}
+use Rattle.outside_model.specs.State.{OuterState, Outcome, Outside, outside, each}
+use Rattle.outside_model.specs.Air.{deals, sent_entries}
+use Rattle.outside_model.specs.Devices.{acts, changes_entries, new_changes}
+use Rattle.outside_model.specs.Events.{mesh_of, steps}
+use Rattle.proof_device.proofs.Entered.{IsChange, changes_entered}
+use Rattle.proof_walk.specs.Outside.{Comes, IsHearing}
+use Rattle.proof_walk.proofs.Moving.{moves_both, moves_none}
+use Rattle.proof_chip.specs.Knowing.{AnyEntry}
+use Rattle.proof_chip.specs.Sending.{KnowsAir}
+use Rattle.proof_chip.proofs.Going.{AreApart, IsApart, IsNotOwn, air_goes, apart_goes, change_apart}
+
+-- the controller has not joined the air
+abbrev pub NotHome : AirState → Type 0
+NotHome air = is_joined air controller ≡ false
+
+other_node : (air : AirState) (node : ℕ) → NotHome air → is_joined air node ≡ true → (node == controller) ≡ false
+other_node air node home joins = by (node == controller) refl
+  where
+    by : (b : Bool) → (node == controller) ≡ b → b ≡ false
+    by false is = refl
+    by true is = let both : false ≡ true = sym home ∙ ap (λ (n : ℕ). is_joined air n) (sym (eqb-true node controller is)) ∙ joins in cc
+
+-- ---- devices
+
+answers_apart : (air : AirState) (node : ℕ) (way : Option Route) (replies : List (List ℕ)) → (node == controller) ≡ false → AreApart (flat_map sent_entries (answers air node way replies))
+answers_apart air node way [] other = tt
+answers_apart air node way (reply ∷ replies) other = ((tt, other), answers_apart (departing air node Homeward way reply) node way replies other)
+
+sends_apart : (joined : Bool) (air : AirState) (node : ℕ) (way : Option Route) (replies : List (List ℕ)) → (joined ≡ true → (node == controller) ≡ false)
+    → AreApart (flat_map sent_entries (answers_if joined air node way replies))
+sends_apart true air node way replies other = answers_apart air node way replies (other refl)
+sends_apart false air node way replies other = tt
+
+acts_apart : (o : OuterState) (device : State) (event : DeviceEvent) (route : Option Route) → NotHome o.air → AreApart (acts o device event route).entries
+acts_apart o device event route home =
+    all-append IsApart (changes_entries device.node (new_changes device event))
+    (flat_map sent_entries (answers_if (is_joined o.air device.node) o.air device.node (option_map backwards route) (device_replies device event)))
+    (all-weaker IsChange IsApart change_apart _ (changes_entered device.node (new_changes device event)))
+    (sends_apart (is_joined o.air device.node) o.air device.node (option_map backwards route) (device_replies device event) (other_node o.air device.node home))
+
+-- ---- what the air tells
+
+-- What is told where a frame is heard is so, where each kind of it is: a frame of a node that is so, too.
+module _ (Is : AirEvent → Type 0) (Ok : ℕ → Type 0) (heard_is : (number : ℕ) → Is (tells.Heard number)) (changed_is : (node at : ℕ) → Is (tells.Changed node at))
+    (to_chip_is : (number from : ℕ) (payload : List ℕ) → Is (tells.ToChip number from payload))
+    (sent_is : (air : AirState) (node : ℕ) (way : Option Route) (reply : List ℕ) → Ok node → Is (sent_event air node way reply)) where
+  abbrev Are : List AirEvent → Type 0
+  Are events = AllByRecursion Is events
+
+  abbrev AreOk : AirState → Type 0
+  AreOk air = (node : ℕ) → is_joined air node ≡ true → Ok node
+
+  answers_are : (air : AirState) (node : ℕ) (way : Option Route) (replies : List (List ℕ)) → Ok node → Are (answers air node way replies)
+  answers_are air node way [] ok = tt
+  answers_are air node way (reply ∷ replies) ok = (sent_is air node way reply ok, answers_are (departing air node Homeward way reply) node way replies ok)
+
+  sends_are : (joined : Bool) (air : AirState) (node : ℕ) (way : Option Route) (replies : List (List ℕ)) → (joined ≡ true → Ok node) → Are (answers_if joined air node way replies)
+  sends_are true air node way replies ok = answers_are air node way replies (ok refl)
+  sends_are false air node way replies ok = tt
+
+  changed_are : (node first count : ℕ) → Are (changed node first count)
+  changed_are node first zero = tt
+  changed_are node first (suc count) = (changed_is node first, changed_are node (first + 1) count)
+
+  at_are : (there : Mesh) (device : Option State) (number node : ℕ) (route : Option Route) (event : DeviceEvent) → AreOk there.air → Are (outs_at there device number node route event)
+  at_are there None number node route event ok = tt
+  at_are there (Some device) number node route event ok = (
+    heard_is number,
+    all-append Is (changed node (length device.journal) (length (device_after device event).journal - length device.journal))
+        (answers_if (is_joined there.air node) there.air node (option_map backwards route) (device_replies device event))
+        (changed_are node (length device.journal) (length (device_after device event).journal - length device.journal))
+        (sends_are (is_joined there.air node) there.air node (option_map backwards route) (device_replies device event) (ok node)),
+  )
+
+  again_are : (there : Mesh) (place : Option ℕ) (number node : ℕ) (route : Option Route) (event : DeviceEvent) → AreOk there.air → Are (outs_again there place number node route event)
+  again_are there None number node route event ok = tt
+  again_are there (Some place) number node route event ok = at_are there (slice_get there.devices place) number node route event ok
+
+  repeat_are : (heading : Heading) (there : Mesh) (number : ℕ) (frame : Flown) (drawn : List ℕ) (route : Option Route) → AreOk there.air → Are (repeat_outs_by heading there number frame drawn route)
+  repeat_are Homeward there number frame drawn route ok = (heard_is number, (to_chip_is number frame.node frame.payload, tt))
+  repeat_are Outward there number frame drawn route ok = again_are there (listener_of frame.node there.devices) number frame.node route (Hears frame.payload drawn) ok
+
+  pub repeats_are : (there : Mesh) (number : ℕ) (frame : Option Flown) (drawn : List ℕ) (route : Option Route) → AreOk there.air → Are (repeat_outs there number frame drawn route)
+  repeats_are there number None drawn route ok = tt
+  repeats_are there number (Some frame) drawn route ok = repeat_are frame.heading there number frame drawn route ok
+
+abbrev AreNotOwn : List AirEvent → Type 0
+AreNotOwn events = AllByRecursion IsNotOwn events
+
+abbrev IsOtherNode : ℕ → Type 0
+IsOtherNode node = (node == controller) ≡ false
+
+done_own : (heading : Heading) (number status : ℕ) (dead : Option (ℕ × ℕ)) → AreNotOwn (done_of heading number status dead)
+done_own Outward number status dead = (tt, tt)
+done_own Homeward number status dead = tt
+
+arrival_own : (there : Mesh) (number : ℕ) (frame : Flown) (fate : Fate) (drawn : List ℕ) (route : Option Route) → NotHome there.air → AreNotOwn (arrival_outs_as there number frame fate drawn route)
+arrival_own there number frame Lost drawn route home = (tt, done_own frame.heading number 1 None)
+arrival_own there number frame (Dead from to) drawn route home = (tt, done_own frame.heading number 1 (Some (from, to)))
+arrival_own there number frame Missed drawn route home = (tt, done_own frame.heading number 1 None)
+arrival_own there number frame AtChip drawn route home = (tt, (tt, tt))
+arrival_own there number frame (AtDevice place) drawn route home =
+    let heard : Mesh = record there { air = landed (acknowledged there.air) } in
+    all-append IsNotOwn (outs_at heard (slice_get there.devices place) number frame.node route (Hears frame.payload drawn)) (tells.Done number (status_of there.air) None ∷ [])
+    (at_are IsNotOwn IsOtherNode (λ n. tt) (λ node at. tt) (λ n from payload. tt) (λ air node way reply ok. ok) heard (slice_get there.devices place) number frame.node route (Hears frame.payload drawn)
+    (λ node joins. other_node there.air node home joins)) (tt, tt)
+
+arrivals_own : (there : Mesh) (next : Option Flown) (drawn : List ℕ) (route : Option Route) → NotHome there.air → AreNotOwn (arrival_outs there next drawn route)
+arrivals_own there None drawn route home = tt
+arrivals_own there (Some frame) drawn route home = arrival_own there (there.air.frames.landed + 1) frame (fate_of there.air.network there.devices frame) drawn route home
+
+hearing_outs_own : (there : Mesh) (step : AirStep) → IsHearing step → NotHome there.air → AreNotOwn (mesh_outs there step)
+unfolding mesh_outs
+hearing_outs_own there (mesh.Arrives drawn route) hearing home = arrivals_own there (next_of there.air.frames) drawn route home
+hearing_outs_own there (mesh.Repeats number drawn route) hearing home =
+    repeats_are IsNotOwn IsOtherNode (λ n. tt) (λ node at. tt) (λ n from payload. tt) (λ air node way reply ok. ok) there number (remembered there.air.frames number) drawn route
+    (λ node joins. other_node there.air node home joins)
+hearing_outs_own there step hearing home = absurd hearing
+
+-- ---- what goes on
+
+module _ (devices : List State) (Are : List Sending → Type 0) where
+  pub acts_go : (w : Outside) (place : ℕ) (device : State) (event : DeviceEvent) (route : Option Route) → NotHome w.outer.air
+      → Comes AnyEntry (KnowsAir devices Are) w (acts w.outer device event route) (slice_set w.devices place (device_after device event)) (KnowsAir devices Are)
+  acts_go w place device event route home =
+      apart_goes devices Are w (outside (acts w.outer device event route).outer (slice_set w.devices place (device_after device event))) (acts w.outer device event route).entries
+      (acts_apart w.outer device event route home) refl
+
+  all_go : (there : List State) (events : List AirEvent) (o : OuterState) → AreNotOwn events → Comes AnyEntry (KnowsAir devices Are) (outside o there) (each (deals there) o events) there (KnowsAir devices Are)
+  all_go there [] o own = moves_none AnyEntry (KnowsAir devices Are) (outside o there)
+  all_go there (event ∷ events) o own =
+      let one : Outcome = deals there o event in
+      let rest : Outcome = each (deals there) one.outer events in
+      moves_both AnyEntry (KnowsAir devices Are) (KnowsAir devices Are) (KnowsAir devices Are) (outside o there) (outside one.outer there) (outside rest.outer there) one.entries rest.entries
+      (air_goes devices Are there o event own.0) (all_go there events one.outer own.1)
+
+  pub steps_go : (w : Outside) (step : AirStep) → IsHearing step → NotHome w.outer.air → Comes AnyEntry (KnowsAir devices Are) w (steps w step) (mesh_after (mesh_of w) step).devices (KnowsAir devices Are)
+  steps_go w step hearing home =
+      let there : List State = (mesh_after (mesh_of w) step).devices in
+      let o : OuterState = record w.outer { air = (mesh_after (mesh_of w) step).air } in
+      moves_both AnyEntry (KnowsAir devices Are) (KnowsAir devices Are) (KnowsAir devices Are) w (outside o there) (outside (steps w step).outer there) [] (steps w step).entries
+      (apart_goes devices Are w (outside o there) [] tt refl) (all_go there (mesh_outs (mesh_of w) step) o (hearing_outs_own (mesh_of w) step hearing home))

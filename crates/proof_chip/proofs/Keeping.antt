@@ -1,0 +1,185 @@
+-- What is known of the law of what goes on the air goes on with each event of the machine but one at which the chip takes bytes, with the number of the tick that may stand before its entries.
+use Rattle.std.proofs.Common.{◌≡◌, ℕ, ◌&&◌, not, Bool, true, false, if◌then◌else◌, List, [], ◌∷◌, ◌++◌, refl, sym, subst, append_assoc, append-nil}
+use Rattle.std.specs.Prelude.{Option, Some, None, slice_get}
+use Rattle.route_table.specs.declared.route.Route.{Route}
+use Rattle.serial_frame.specs.declared.unit.Unit.{Unit as LineUnit}
+use Rattle.device_sim.specs.State.{State}
+use Rattle.device_sim.specs.Event.{DeviceEvent, Ticks, Wakes, Sets}
+use Rattle.air_frames.specs.Ages.{refusal_of}
+use Rattle.air_frames.specs.declared.ages.Refusal.{Refusal as RepeatRefusal}
+use Rattle.air_frames.specs.declared.ages.Refusal.TheVariants.{NeverSent, Forgotten, Stale}
+use Rattle.mesh_sim.specs.Fates.{place_of}
+use Rattle.mesh_sim.specs.Steps as mesh
+use Rattle.zw_text.specs.declared.entry.Entry.{Entry}
+use Rattle.zw_text.specs.declared.entry.Entry.TheVariants as entry
+use Rattle.zw_text.specs.declared.entry.Refusal.{Refusal}
+use Rattle.law_wire.specs.Asked.{Sending}
+use Rattle.host_model.specs.State.{HostState}
+use Rattle.host_model.specs.Events.{HostEvent}
+use Rattle.host_model.specs.Did.{outs_all}
+use Rattle.host_model.specs.Outs.{answers}
+use Rattle.host_model.specs.declared.out.HostOut.{HostOut}
+use Rattle.host_model.specs.declared.out.HostOut.TheVariants.{Write, Note}
+use Rattle.outside_model.specs.State.{OuterState, Outcome, Outside, outside, tells}
+use Rattle.outside_model.specs.Devices.{MayAct, MayActByHand, acts_at, acts_by_hand, device_set, set_by_hand}
+use Rattle.outside_model.specs.Events.{OuterEvent, Begins_line, Begins_tick, Host_writes, Host_takes as host_takes, Host_notes, Host_begins, Chip_takes, Arrives, Gives, Device_ticks, Chip_ticks, Repeats, Wakes_device, Sets_device, Shows, Joins, Discovers, Links, Loses, Loses_acks, Marks_loss, Marks_change, Clears_pipe, Collides_next, Stalls, Cuts, devices_after, devices_repeated, has_entered, is_own, outcome, repeats, stamp, ticked_entry, May as MayOutside, entries as entries_outside, happens as happens_outside}
+use Rattle.outside_model.specs.Did.{happens_all as happens_all_outside, entries_all as entries_all_outside}
+use Rattle.world_model.specs.State.{Machine, begun_in, host_does, routed}
+use Rattle.world_model.specs.Events.{Event, Outside_does, Host_does, Host_takes, Decoder_ticks, Refuses, Shows_values, Restarts, May, entries, happens, notes}
+use Rattle.proof_walk.specs.Outside.{Comes, IsNote, Moves}
+use Rattle.proof_walk.proofs.Machines.{UnitsAre, answers_keep, any_told, outs_keep}
+use Rattle.proof_chip.specs.Knowing.{AnyEntry}
+use Rattle.proof_chip.specs.Sending.{AirSo, KnowsAir}
+use Rattle.proof_chip.proofs.Acting.{NotHome, acts_go, steps_go}
+use Rattle.proof_chip.proofs.Going.{AreApart, apart_goes, results_go, simple_goes, tick_goes}
+
+abbrev pub TakesNone : Event → Type 0
+TakesNone (Outside_does (Chip_takes count rest ways)) = ⊥
+TakesNone event = Unit {0}
+
+pub number_apart : (b : Bool) (clock : ℕ) → AreApart (if b then entry.Time clock ∷ [] else [])
+number_apart true clock = ((tt, tt), tt)
+number_apart false clock = tt
+
+pub any_units : (outs : List HostOut) → UnitsAre (λ unit. Unit {0}) outs
+any_units [] = tt
+any_units (Write unit ∷ outs) = (tt, any_units outs)
+any_units (Note note ∷ outs) = any_units outs
+
+not_own : false ≡ true → ⊥
+not_own is = cc
+
+module _ (devices : List State) (Are : List Sending → Type 0) where
+  abbrev pub Keeps : Outside → List Entry → Outside → Type 0
+  Keeps w told later = (past : List Entry) → AirSo devices Are past w.outer.chip.state.port → AirSo devices Are (past ++ told) later.outer.chip.state.port
+
+  keeps_none : (w : Outside) → Keeps w [] w
+  keeps_none w past knows = subst (λ (l : List Entry). AirSo devices Are l w.outer.chip.state.port) (sym (append-nil past)) knows
+
+  keeps_both : (w u v : Outside) (xs ys : List Entry) → Keeps w xs u → Keeps u ys v → Keeps w (xs ++ ys) v
+  keeps_both w u v xs ys first later past knows =
+      subst (λ (l : List Entry). AirSo devices Are l v.outer.chip.state.port) (append_assoc past xs ys) (later (past ++ xs) (first past knows))
+
+  -- ---- the number of the tick
+
+  moved : (w later : Outside) (told : List Entry) → Moves AnyEntry (KnowsAir devices Are) w told (KnowsAir devices Are) later → Keeps w told later
+  moved w later told moves past knows = (moves false past (λ (is : false ≡ true). absurd (not_own is)) knows).1
+
+  stamped_as : (w : Outside) (p : OuterState) (told : List Entry) (there : List State) → Moves AnyEntry (KnowsAir devices Are) w told (KnowsAir devices Are) (outside p there)
+      → Keeps w (stamp p told) (outside (has_entered p told) there)
+  stamped_as w p [] there moves = moved w (outside p there) [] moves
+  stamped_as w p (first ∷ told) there moves =
+      keeps_both w w (outside p there) (ticked_entry p) (first ∷ told) (moved w w (ticked_entry p) (apart_goes devices Are w w (ticked_entry p) (number_apart (p.in_tick && not p.stamped) p.clock) refl))
+      (moved w (outside p there) (first ∷ told) moves)
+
+  stamped : (w : Outside) (x : Outcome) (there : List State) → Comes AnyEntry (KnowsAir devices Are) w x there (KnowsAir devices Are) → Keeps w (stamp x.outer x.entries) (outside (has_entered x.outer x.entries) there)
+  stamped w x there comes = stamped_as w x.outer x.entries there comes
+
+  -- ---- events outside the host
+
+  refused_goes : (w : Outside) (refused : Refusal) → Comes AnyEntry (KnowsAir devices Are) w (tells w.outer (entry.Refused refused ∷ [])) w.devices (KnowsAir devices Are)
+  refused_goes w refused = apart_goes devices Are w w (entry.Refused refused ∷ []) ((tt, tt), tt) refl
+
+  repeats_go : (w : Outside) (refused : Option RepeatRefusal) (number : ℕ) (drawn : List ℕ) (route : Option Route) → NotHome w.outer.air
+      → Comes AnyEntry (KnowsAir devices Are) w (repeats w refused (mesh.Repeats number drawn route)) (devices_repeated w refused (mesh.Repeats number drawn route)) (KnowsAir devices Are)
+  repeats_go w None number drawn route home = steps_go devices Are w (mesh.Repeats number drawn route) tt home
+  repeats_go w (Some refused) number drawn route home = apart_goes devices Are w w _ (refusal_apart refused) refl
+    where
+      refusal_apart : (refused : RepeatRefusal) → AreApart (repeats w (Some refused) (mesh.Repeats number drawn route)).entries
+      refusal_apart NeverSent = ((tt, tt), tt)
+      refusal_apart Forgotten = ((tt, tt), tt)
+      refusal_apart (Stale later) = ((tt, tt), tt)
+
+  at_goes : (w : Outside) (place : ℕ) (found : Option State) (event : DeviceEvent) (route : Option Route) → NotHome w.outer.air → MayAct w.outer found event route
+      → Comes AnyEntry (KnowsAir devices Are) w (acts_at w.outer found event route) (device_set w.devices place found event) (KnowsAir devices Are)
+  at_goes w place None event route home may = absurd may
+  at_goes w place (Some device) event route home may = acts_go devices Are w place device event route home
+
+  hand_goes : (w : Outside) (place : Option ℕ) (event : DeviceEvent) (route : Option Route) → NotHome w.outer.air → MayActByHand w.outer w.devices place event route
+      → Comes AnyEntry (KnowsAir devices Are) w (acts_by_hand w.outer w.devices place event route) (set_by_hand w.devices place event) (KnowsAir devices Are)
+  hand_goes w None event route home may = refused_goes w _
+  hand_goes w (Some place) event route home may = at_goes w place (slice_get w.devices place) event route home may
+
+  outer_goes : (w : Outside) (event : OuterEvent) → TakesNone (Outside_does event) → is_own event ≡ true → NotHome w.outer.air → MayOutside w event
+      → Comes AnyEntry (KnowsAir devices Are) w (outcome w event) (devices_after w event) (KnowsAir devices Are)
+  unfolding outcome devices_after MayOutside
+  outer_goes w (Host_writes unit) none own home may = absurd (not_own own)
+  outer_goes w (host_takes count) none own home may = absurd (not_own own)
+  outer_goes w (Host_notes note) none own home may = absurd (not_own own)
+  outer_goes w (Host_begins node sessions) none own home may = absurd (not_own own)
+  outer_goes w (Chip_takes count rest ways) none own home may = absurd none
+  outer_goes w Begins_line none own home may = apart_goes devices Are w (outside (outcome w Begins_line).outer w.devices) [] tt refl
+  outer_goes w Begins_tick none own home may = apart_goes devices Are w (outside (outcome w Begins_tick).outer w.devices) [] tt refl
+  outer_goes w (Arrives drawn route) none own home may = steps_go devices Are w (mesh.Arrives drawn route) tt home
+  outer_goes w (Gives route) none own home may = results_go devices Are w route
+  outer_goes w (Device_ticks place drawn route) none own home may = at_goes w place (slice_get w.devices place) (Ticks drawn) route home may
+  outer_goes w Chip_ticks none own home may = tick_goes devices Are w
+  outer_goes w (Repeats number drawn route) none own home may = repeats_go w (refusal_of w.outer.air.frames number) number drawn route home
+  outer_goes w (Wakes_device node route) none own home may = hand_goes w (place_of node w.devices) Wakes route home may
+  outer_goes w (Sets_device node value route) none own home may = hand_goes w (place_of node w.devices) (Sets value) route home may
+  outer_goes w (Shows node) none own home may = simple_goes devices Are w (Shows node) tt
+  outer_goes w (Joins node) none own home may = simple_goes devices Are w (Joins node) tt
+  outer_goes w Discovers none own home may = simple_goes devices Are w Discovers tt
+  outer_goes w (Links a b live) none own home may = simple_goes devices Are w (Links a b live) tt
+  outer_goes w (Loses count) none own home may = simple_goes devices Are w (Loses count) tt
+  outer_goes w (Loses_acks count) none own home may = simple_goes devices Are w (Loses_acks count) tt
+  outer_goes w (Marks_loss side) none own home may = simple_goes devices Are w (Marks_loss side) tt
+  outer_goes w (Marks_change side garble) none own home may = simple_goes devices Are w (Marks_change side garble) tt
+  outer_goes w (Clears_pipe side) none own home may = simple_goes devices Are w (Clears_pipe side) tt
+  outer_goes w Collides_next none own home may = simple_goes devices Are w Collides_next tt
+  outer_goes w (Stalls ticks) none own home may = simple_goes devices Are w (Stalls ticks) tt
+  outer_goes w (Cuts size) none own home may = simple_goes devices Are w (Cuts size) tt
+
+  -- ---- events of the host
+
+  writes_keep : (w : Outside) (unit : LineUnit) → Unit {0} → Keeps w (entries_outside w (Host_writes unit)) (happens_outside w (Host_writes unit))
+  unfolding devices_after
+  writes_keep w unit any = stamped w (outcome w (Host_writes unit)) w.devices (simple_goes devices Are w (Host_writes unit) tt)
+
+  takes_keep : (w : Outside) (count : ℕ) → Keeps w [] (happens_outside w (host_takes count))
+  unfolding outcome devices_after
+  takes_keep w count = stamped w (outcome w (host_takes count)) w.devices (simple_goes devices Are w (host_takes count) tt)
+
+  note_keeps : (w : Outside) (note : Entry) → IsNote note → begun_in note ≡ None → Unit {0} → Keeps w (entries_outside w (Host_notes note)) (happens_outside w (Host_notes note))
+  unfolding devices_after
+  note_keeps w note is unbegun any = stamped w (outcome w (Host_notes note)) w.devices (simple_goes devices Are w (Host_notes note) (is, unbegun))
+
+  session_keeps : (w : Outside) (node session command : ℕ)
+      → Keeps w (entries_outside w (Host_begins node session) ++ entries_outside (happens_outside w (Host_begins node session)) (Host_notes (entry.Begin node session command)))
+      (happens_outside (happens_outside w (Host_begins node session)) (Host_notes (entry.Begin node session command)))
+  unfolding outcome devices_after
+  session_keeps w node session command =
+      let told : Entry = entry.Begin node session command in
+      let later : Outside = happens_outside w (Host_begins node session) in
+      let first : Outside = outside (outcome w (Host_begins node session)).outer w.devices in
+      keeps_both w later (happens_outside later (Host_notes told)) (entries_outside w (Host_begins node session)) (entries_outside later (Host_notes told))
+      (stamped w (outcome w (Host_begins node session)) w.devices (apart_goes devices Are w first [] tt refl))
+      (stamped later (outcome later (Host_notes told)) later.devices (apart_goes devices Are later later (told ∷ []) ((tt, tt), tt) refl))
+
+  abbrev Any : LineUnit → Type 0
+  Any unit = Unit {0}
+
+  abbrev AnyNote : Entry → Type 0
+  AnyNote note = Unit {0}
+
+  host_keeps : (w : Outside) (h : HostState) (events : List HostEvent) → UnitsAre Any (outs_all h events) → Keeps w (entries_all_outside w (routed (outs_all h events))) (happens_all_outside w (routed (outs_all h events)))
+  host_keeps w h events units = outs_keep Any AnyNote Keeps keeps_none keeps_both writes_keep note_keeps session_keeps (λ note is. tt) w h events units
+
+  -- ---- any event
+
+  pub event_keeps : (m : Machine) (event : Event) → TakesNone event → NotHome m.outside.outer.air → May m event → Keeps m.outside (entries m event) (happens m event).outside
+  unfolding happens entries May
+  event_keeps m (Outside_does event) none home may = stamped m.outside (outcome m.outside event) (devices_after m.outside event) (outer_goes m.outside event none may.0 home may.1)
+  event_keeps m (Host_does event) none home may =
+      let later : Outside = (host_does m (event ∷ [])).outside in
+      keeps_both m.outside later (happens_all_outside later (notes (answers m.host.state event))) (entries_all_outside m.outside (routed (outs_all m.host.state (event ∷ []))))
+      (entries_all_outside later (notes (answers m.host.state event))) (host_keeps m.outside m.host.state (event ∷ []) (any_units (outs_all m.host.state (event ∷ []))))
+      (answers_keep Any AnyNote Keeps keeps_none keeps_both writes_keep note_keeps session_keeps later m.host.state event (any_told (answers m.host.state event)))
+  event_keeps m (Host_takes count rest items events) none home may =
+      let later : Outside = happens_outside m.outside (host_takes count) in
+      keeps_both m.outside later (happens_all_outside later (routed (outs_all m.host.state events))) [] (entries_all_outside later (routed (outs_all m.host.state events))) (takes_keep m.outside count)
+      (host_keeps later m.host.state events (any_units (outs_all m.host.state events)))
+  event_keeps m Decoder_ticks none home may = keeps_none m.outside
+  event_keeps m (Refuses line refusal) none home may = note_keeps m.outside (entry.Refused refusal) tt refl tt
+  event_keeps m (Shows_values node) none home may = note_keeps m.outside _ tt refl tt
+  event_keeps m (Restarts state) none home may = keeps_none m.outside

@@ -1,0 +1,3 @@
+pub mod Serving
+pub mod Knowing
+pub mod Sending

@@ -1,0 +1,295 @@
+-- Lines of `replay` are runs of a host alone.
+use Rattle.std.proofs.Common.{◌≡◌, ℕ, zero, suc, ◌+◌, Bool, true, false, inl, inr, List, [], ◌∷◌, ◌++◌, refl, sym, ap, ◌∙◌, subst, append-nil, append_assoc}
+use Rattle.std.specs.Prelude.{Option, Some, None, length}
+use Rattle.std.specs.List.{flat_map}
+use Rattle.serial_frame.specs.Items.{unit_text}
+use Rattle.serial_frame.specs.Stream.{Rest}
+use Rattle.serial_frame.specs.declared.item.Item.{Item}
+use Rattle.serial_frame.specs.declared.unit.Unit.{Unit as LineUnit}
+use Rattle.s0_crypto.specs.declared.key_pair.Keys.{Keys}
+use Rattle.zw_words.specs.declared.side.Side.TheVariants.{Chip as by_chip}
+use Rattle.zw_text.specs.Line.{first_word, is_replayed}
+use Rattle.zw_text.specs.Transcript.{line_of}
+use Rattle.zw_text.specs.declared.line.Line.{Line}
+use Rattle.zw_text.specs.declared.line.Line.TheVariants as lines
+use Rattle.zw_text.specs.declared.line.ReplayLine.{ReplayLine}
+use Rattle.zw_text.specs.declared.line.ReplayLine.TheVariants.{Plain, Chip}
+use Rattle.zw_text.specs.declared.entry.Refusal.{Refusal}
+use Rattle.zw_text.specs.declared.entry.Entry.{Entry}
+use Rattle.zw_text.specs.declared.entry.Entry.TheVariants as entry
+use Rattle.law_transcript.specs.Restarts.{ticks_of}
+use Rattle.host_orders.specs.Errands.{get_refusal, send_refusal}
+use Rattle.host_orders.specs.declared.refused.Refused.{Refused}
+use Rattle.host_model.specs.State.{HostState, node_of}
+use Rattle.host_model.specs.Events.{HostEvent, Accepts, Cancels, Joins, Queues, Queues_interview, Queues_probe}
+use Rattle.host_model.specs.Asking.{carriage_for, interview_refusal, places_refusal}
+use Rattle.host_model.specs.Did.{after_all, outs_all}
+use Rattle.host_model.specs.May.{known_of}
+use Rattle.host_model.specs.Outs.{answers}
+use Rattle.host_model.specs.Pumping.{Pumps}
+use Rattle.host_model.specs.Ticking.{tick_events}
+use Rattle.host_model.specs.declared.out.HostOut.{HostOut}
+use Rattle.host_requests.specs.declared.task.Task.TheVariants as task
+use Rattle.outside_model.specs.State.{OuterState}
+use Rattle.world_model.specs.Events.{Event as WorldEvent}
+use Rattle.world_model.specs.Lines.{Asks as WorldAsks}
+use Rattle.world_model.specs.Refusals.{IsRefused}
+use Rattle.proof_serial.specs.Units.{good_units}
+use Rattle.run_replay.specs.Machine.{Lone, Event, Does_asked, Does_itself, Takes, Ticks, Refuses, Shows_values, May, MayAll, alone, Then, entries, entries_of, happens, happens_all}
+use Rattle.run_replay.specs.Lines.{AreTicks, IsEffect, IsLine, IsPlain, IsPump, IsReplayed, IsTaking, by_host}
+use Rattle.run_replay.proofs.EventLists.{happens_all-append}
+use Rattle.proof_alone.specs.State.{HostMachine, host_machine, with_world}
+use Rattle.proof_alone.specs.Steps as step
+use Rattle.proof_alone.specs.Steps.{IsAskedBy}
+use Rattle.proof_alone.specs.Phases.{Phase, Resting, Asked, Risen, Open}
+use Rattle.proof_alone.specs.Runs.{Run}
+use Rattle.proof_alone.specs.Runs.Run.{Stepped, Turned}
+use Rattle.proof_alone.proofs.InOrder.{asked_puts, is_asked}
+use Rattle.proof_alone.proofs.Hosting.{items_run, pump_run, tick_and_pump}
+use Rattle.proof_replay.specs.Heard.{AreReplayed, IsRun, Replayed, came_of, heard_all, heard_at, heard_of, plain_of}
+use Rattle.proof_replay.proofs.Putting.{alone_at, alone_enters, alone_next, alone_put, clock_at, in_tick, untimed}
+
+-- ---- lists of events
+
+heard_both : (m : Lone) (a b : List Event) → heard_all m (a ++ b) ≡ heard_all m a ++ heard_all (happens_all m a) b
+heard_both m [] b = refl
+heard_both m (event ∷ a) b =
+    ap (λ (l : List Entry). heard_at m event ++ l) (heard_both (happens m event) a b)
+    ∙ sym (append_assoc (heard_at m event) (heard_all (happens m event) a) (heard_all (happens_all (happens m event) a) b))
+
+may_first : (m : Lone) (a b : List Event) → MayAll m (a ++ b) → MayAll m a
+may_first m [] b may = tt
+may_first m (event ∷ a) b may = (may.0, may_first (happens m event) a b may.1)
+
+may_rest : (m : Lone) (a b : List Event) → MayAll m (a ++ b) → MayAll (happens_all m a) b
+may_rest m [] b may = may
+may_rest m (event ∷ a) b may = may_rest (happens m event) a b may.1
+
+module _ (start : HostMachine) (keys : Keys) where
+  -- a run to here, with nothing that came left
+  abbrev At : Phase → ℕ → Bool → List Entry → Lone → Type 0
+  At here left awaits past m = Run start here past (host_machine keys m.records m.host.state [] m.clock left awaits)
+
+  abbrev Rests : ℕ → List Entry → Lone → Type 0
+  Rests left past m = (awaits : Bool) × At Resting left awaits past m
+
+  -- one event, and then no more
+  heard_one : (here : Phase) (past : List Entry) (m : Lone) (event : Event) (events : List Event) → events ≡ event ∷ [] → At here 0 false (past ++ heard_at m event) (happens m event)
+      → At here 0 false (past ++ heard_all m events) (happens_all m events)
+  heard_one here past m event events are run =
+      subst (λ (l : List Event). At here 0 false (past ++ heard_all m l) (happens_all m l)) (sym are)
+      (subst (λ (l : List Entry). At here 0 false (past ++ l) (happens m event)) (sym (append-nil (heard_at m event))) run)
+
+  may_one : (m : Lone) (event : Event) (events : List Event) → events ≡ event ∷ [] → MayAll m events → May m event
+  may_one m event events are may = (subst (MayAll m) are may).0
+
+  rests_one : (left : ℕ) (past : List Entry) (m : Lone) (event : Event) (events : List Event) → events ≡ event ∷ [] → Rests left (past ++ heard_at m event) (happens m event)
+      → Rests left (past ++ heard_all m events) (happens_all m events)
+  rests_one left past m event events are rests =
+      subst (λ (l : List Event). Rests left (past ++ heard_all m l) (happens_all m l)) (sym are)
+      (subst (λ (l : List Entry). Rests left (past ++ l) (happens m event)) (sym (append-nil (heard_at m event))) rests)
+
+  joined : (here : Phase) (left : ℕ) (awaits : Bool) (past : List Entry) (m : Lone) (first rest events : List Event) → events ≡ first ++ rest
+      → At here left awaits ((past ++ heard_all m first) ++ heard_all (happens_all m first) rest) (happens_all (happens_all m first) rest)
+      → At here left awaits (past ++ heard_all m events) (happens_all m events)
+  joined here left awaits past m first rest events are run =
+      let texts : (past ++ heard_all m first) ++ heard_all (happens_all m first) rest ≡ past ++ heard_all m (first ++ rest) =
+      append_assoc past (heard_all m first) (heard_all (happens_all m first) rest) ∙ ap (λ (l : List Entry). past ++ l) (sym (heard_both m first rest)) in
+      subst (λ (l : List Event). At here left awaits (past ++ heard_all m l) (happens_all m l)) (sym are)
+      (subst (λ (n : Lone). At here left awaits (past ++ heard_all m (first ++ rest)) n) (sym (happens_all-append m first rest))
+      (subst (λ (l : List Entry). At here left awaits l (happens_all (happens_all m first) rest)) texts run))
+
+  -- ---- a pump
+
+  pumped_run : (past : List Entry) (m : Lone) (pumped : List HostEvent) → Pumps m.host.state pumped → May m (Does_itself pumped) → At Open 0 false past m
+      → At Resting 0 false (past ++ heard_at m (Does_itself pumped)) (happens m (Does_itself pumped))
+  unfolding happens entries May
+  pumped_run past m pumped pumps may run =
+      let n : Lone = happens m (Does_itself pumped) in
+      untimed start keys n.records n.host.state [] 0 m.clock Resting past (entries_of (outs_all m.host.state pumped))
+      (pump_run OuterState alone_at alone_put alone_next alone_enters start keys 0 pumped past m.records m.host.state [] (clock_at m.clock false) pumps may run)
+
+  pump_goes : (past : List Entry) (m : Lone) (events : List Event) → IsPump m events → MayAll m events → At Open 0 false past m → At Resting 0 false (past ++ heard_all m events) (happens_all m events)
+  pump_goes past m events (pumped, pumps, are) may run =
+      heard_one Resting past m (Does_itself pumped) events are (pumped_run past m pumped pumps (may_one m (Does_itself pumped) events are may) run)
+
+  -- ---- bytes of the chip
+
+  comes_run : (units : List LineUnit) (past : List Entry) (came : List LineUnit) (m : Lone) → Run start Resting past (host_machine keys m.records m.host.state came m.clock 0 false)
+      → Run start Resting (past ++ came_of units) (host_machine keys m.records m.host.state (came ++ units) m.clock 0 false)
+  comes_run [] past came m run =
+      subst (λ (l : List Entry). Run start Resting l (host_machine keys m.records m.host.state (came ++ []) m.clock 0 false)) (sym (append-nil past))
+      (subst (λ (l : List LineUnit). Run start Resting past (host_machine keys m.records m.host.state l m.clock 0 false)) (sym (append-nil came)) run)
+  comes_run (unit ∷ units) past came m run =
+      let one : Run start Resting (past ++ entry.Written by_chip (unit_text unit) ∷ []) (host_machine keys m.records m.host.state (came ++ unit ∷ []) m.clock 0 false) =
+      Stepped (step.Comes unit) (tt, refl, refl) refl refl run in
+      let all = comes_run units (past ++ entry.Written by_chip (unit_text unit) ∷ []) (came ++ unit ∷ []) m one in
+      subst (λ (l : List Entry). Run start Resting l (host_machine keys m.records m.host.state (came ++ unit ∷ units) m.clock 0 false))
+      (append_assoc past (entry.Written by_chip (unit_text unit) ∷ []) (came_of units))
+      (subst (λ (l : List LineUnit). Run start Resting ((past ++ entry.Written by_chip (unit_text unit) ∷ []) ++ came_of units) (host_machine keys m.records m.host.state l m.clock 0 false))
+      (append_assoc came (unit ∷ []) units) all)
+
+  taken_run : (past : List Entry) (m : Lone) (bytes : List ℕ) (rest : Rest) (items : List Item) (judged : List HostEvent) → May m (Takes bytes rest items judged) → At Resting 0 false past m
+      → At Open 0 false (past ++ heard_at m (Takes bytes rest items judged)) (happens m (Takes bytes rest items judged))
+  unfolding happens entries May
+  taken_run past m bytes rest items judged may run =
+      let n : Lone = happens m (Takes bytes rest items judged) in
+      let units : List LineUnit = good_units items in
+      let came : Run start Open (past ++ came_of units) (host_machine keys m.records m.host.state units m.clock 0 false) = Turned refl (comes_run units past [] m run) in
+      let all =
+      untimed start keys n.records n.host.state [] 0 m.clock Open (past ++ came_of units) (entries_of (outs_all m.host.state judged))
+      (items_run OuterState alone_at alone_put alone_next alone_enters start keys 0 items judged (past ++ came_of units) m.records m.host.state [] (clock_at m.clock false) may.judged may.may
+      (subst (λ (l : List LineUnit). Run start Open (past ++ came_of units) (host_machine keys m.records m.host.state l m.clock 0 false)) (sym (append-nil units)) came)) in
+      subst (λ (l : List Entry). At Open 0 false l n) (append_assoc past (came_of units) (entries_of (outs_all m.host.state judged))) all
+
+  take_goes : (bytes : List ℕ) (past : List Entry) (m : Lone) (events : List Event) → IsTaking bytes m events → MayAll m events → At Resting 0 false past m
+      → At Open 0 false (past ++ heard_all m events) (happens_all m events)
+  take_goes bytes past m events (rest, items, judged, are) may run =
+      heard_one Open past m (Takes bytes rest items judged) events are (taken_run past m bytes rest items judged (may_one m (Takes bytes rest items judged) events are may) run)
+
+  -- ---- what a line asks for
+
+  abbrev Goes : Line → List Entry → Lone → List Event → Type 0
+  Goes line past m events = MayAll m events → At (Asked line) 0 false past m → At Open 0 false (past ++ heard_all m events) (happens_all m events)
+
+  asked_run : (line : Line) (past : List Entry) (m : Lone) (event : HostEvent) → IsAskedBy line m.host.state event → May m (Does_asked event) → At (Asked line) 0 false past m
+      → At Open 0 false (past ++ heard_at m (Does_asked event)) (happens m (Does_asked event))
+  unfolding happens entries May
+  asked_run line past m event asked may run =
+      let h : HostState = m.host.state in
+      let none : entries_of (outs_all h (event ∷ [])) ++ answers h event ≡ answers h event =
+      ap (λ (l : List HostOut). entries_of (l ++ []) ++ answers h event) (asked_puts h event (is_asked line h event asked)) in
+      let ran : At Open 0 false (past ++ answers h event) (happens m (Does_asked event)) =
+      Stepped (step.Asks event) (line, refl, asked, may, (λ (bad : false ≡ true). absurd cc), refl) refl refl run in
+      subst (λ (l : List Entry). At Open 0 false (past ++ l) (happens m (Does_asked event))) (sym none) ran
+
+  asks_goes : (line : Line) (past : List Entry) (m : Lone) (event : HostEvent) (events : List Event) → events ≡ Does_asked event ∷ [] → IsAskedBy line m.host.state event → Goes line past m events
+  asks_goes line past m event events are asked may run = heard_one Open past m (Does_asked event) events are (asked_run line past m event asked (may_one m (Does_asked event) events are may) run)
+
+  -- its refusal is of the host and its records alone
+  abbrev Same : Line → Lone → Type 0
+  Same line m = (refusal : Refusal) → IsRefused (alone m) line refusal → IsRefused (with_world (host_machine keys m.records m.host.state [] m.clock 0 false)) line refusal
+
+  refused_run : (line : Line) (past : List Entry) (m : Lone) (refusal : Refusal) → Same line m → May m (Refuses line refusal) → At (Asked line) 0 false past m
+      → At Open 0 false (past ++ heard_at m (Refuses line refusal)) (happens m (Refuses line refusal))
+  unfolding happens entries May
+  refused_run line past m refusal same may run = Stepped (step.Refuses refusal) (line, refl, inl (same refusal may), refl, refl) refl refl run
+
+  refused_goes : (line : Line) (past : List Entry) (m : Lone) (refusal : Refusal) (events : List Event) → events ≡ Refuses line refusal ∷ [] → Same line m → Goes line past m events
+  refused_goes line past m refusal events are same may run =
+      heard_one Open past m (Refuses line refusal) events are (refused_run line past m refusal same (may_one m (Refuses line refusal) events are may) run)
+
+  shown_run : (past : List Entry) (m : Lone) (node : ℕ) → At (Asked (lines.Store node)) 0 false past m → At Open 0 false (past ++ heard_at m (Shows_values node)) (happens m (Shows_values node))
+  unfolding happens entries
+  shown_run past m node run = Stepped (step.Shows node) (refl, refl, refl) refl refl run
+
+  by_rule : (line : Line) (past : List Entry) (m : Lone) (event : HostEvent) (rule : Option Refused) (there : List WorldEvent) (events : List Event) → WorldAsks rule line event there
+      → events ≡ flat_map by_host there → (rule ≡ None → IsAskedBy line m.host.state event) → Same line m → Goes line past m events
+  by_rule line past m event None there events is are asked same = asks_goes line past m event events (are ∙ ap (λ (l : List WorldEvent). flat_map by_host l) is) (asked refl)
+  by_rule line past m event (Some refused) there events (refusal, shown, is) are asked same =
+      refused_goes line past m refusal events (are ∙ ap (λ (l : List WorldEvent). flat_map by_host l) is) same
+
+  unreplayed : false ≡ true → ⊥
+  unreplayed bad = cc
+
+  effect_goes : (line : Line) (past : List Entry) (m : Lone) (events : List Event) → IsEffect line m events → is_replayed (first_word line) ≡ true → Goes line past m events
+  effect_goes (lines.Command order) past m events (there, inl is, are) replayed =
+      asks_goes (lines.Command order) past m (Accepts order (carriage_for m.host.state order)) events (are ∙ ap (λ (l : List WorldEvent). flat_map by_host l) is) refl
+  effect_goes (lines.Command order) past m events (there, inr (refusal, is), are) replayed =
+      refused_goes (lines.Command order) past m refusal events (are ∙ ap (λ (l : List WorldEvent). flat_map by_host l) is) (λ r x. x)
+  effect_goes (lines.Join node) past m events (there, inl is, are) replayed =
+      asks_goes (lines.Join node) past m (Joins node) events (are ∙ ap (λ (l : List WorldEvent). flat_map by_host l) is) refl
+  effect_goes (lines.Join node) past m events (there, inr (refusal, is), are) replayed =
+      refused_goes (lines.Join node) past m refusal events (are ∙ ap (λ (l : List WorldEvent). flat_map by_host l) is) (λ r x. x)
+  effect_goes (lines.Cancel command) past m events (there, inl is, are) replayed =
+      asks_goes (lines.Cancel command) past m (Cancels command) events (are ∙ ap (λ (l : List WorldEvent). flat_map by_host l) is) refl
+  effect_goes (lines.Cancel command) past m events (there, inr (refusal, is), are) replayed =
+      refused_goes (lines.Cancel command) past m refusal events (are ∙ ap (λ (l : List WorldEvent). flat_map by_host l) is) (λ r x. x)
+  effect_goes (lines.Send node word) past m events (there, is, are) replayed =
+      by_rule (lines.Send node word) past m _ (send_refusal (known_of (node_of m.host.state node)) (length m.host.state.requests.queue) word) there events is are (λ none. (none, refl)) (λ r x. x)
+  effect_goes (lines.Get node end) past m events (there, is, are) replayed =
+      by_rule (lines.Get node end) past m _ (get_refusal (known_of (node_of m.host.state node)) (length m.host.state.requests.queue) end) there events is are (λ none. (none, refl)) (λ r x. x)
+  effect_goes (lines.Interview node) past m events (there, is, are) replayed =
+      by_rule (lines.Interview node) past m (Queues_interview node) (interview_refusal m.host.state node) there events is are (λ none. (none, refl)) (λ r x. x)
+  effect_goes (lines.Neighbours node) past m events (there, is, are) replayed =
+      by_rule (lines.Neighbours node) past m (Queues (task.Neighbours node)) (places_refusal m.host.state 1) there events is are (λ none. (none, refl)) (λ r x. x)
+  effect_goes (lines.Failed node) past m events (there, is, are) replayed =
+      by_rule (lines.Failed node) past m (Queues (task.IsFailed node)) (places_refusal m.host.state 1) there events is are (λ none. (none, refl)) (λ r x. x)
+  effect_goes lines.Probe past m events (there, is, are) replayed =
+      by_rule lines.Probe past m Queues_probe (places_refusal m.host.state 3) there events is are (λ none. (none, refl)) (λ r x. x)
+  effect_goes (lines.Store node) past m events (there, is, are) replayed =
+      λ may run. heard_one Open past m (Shows_values node) events (are ∙ ap (λ (l : List WorldEvent). flat_map by_host l) is) (shown_run past m node run)
+  effect_goes (lines.Tick count) past m events (there, is, are) replayed = absurd is
+  effect_goes line past m events effect replayed = absurd (unreplayed replayed)
+
+  effect_then : (line : Line) (past : List Entry) (m : Lone) (events : List Event) → Then (IsEffect line) IsPump m events → is_replayed (first_word line) ≡ true → MayAll m events
+      → At (Asked line) 0 false past m → At Resting 0 false (past ++ heard_all m events) (happens_all m events)
+  effect_then line past m events (first, rest, are, effect, pump) replayed may run =
+      let both : MayAll m (first ++ rest) = subst (MayAll m) are may in
+      joined Resting 0 false past m first rest events are
+      (pump_goes (past ++ heard_all m first) (happens_all m first) rest pump (may_rest m first rest both)
+      (effect_goes line past m first effect replayed (may_first m first rest both) run))
+
+  -- ---- ticks
+
+  tick_one : (past : List Entry) (m : Lone) (pumped : List HostEvent) (more : ℕ) → Pumps (after_all m.host.state (tick_events m.host.state)) pumped
+      → May m (Ticks (tick_events m.host.state ++ pumped)) → Rests (suc more) past m
+      → Rests more (past ++ heard_at m (Ticks (tick_events m.host.state ++ pumped))) (happens m (Ticks (tick_events m.host.state ++ pumped)))
+  unfolding happens entries May
+  tick_one past m pumped more pumps may (awaits, run) =
+      let h : HostState = m.host.state in
+      let n : Lone = happens m (Ticks (tick_events h ++ pumped)) in
+      let begun : Run start Risen past (host_machine keys m.records h [] (m.clock + 1) more true) = Stepped (step.Begins_tick more) (refl, refl, refl) (sym (append-nil past)) refl run in
+      in_tick start keys n.records n.host.state [] more (m.clock + 1) past (outs_all h (tick_events h ++ pumped))
+      (tick_and_pump OuterState alone_at alone_put alone_next alone_enters start keys more pumped past m.records h [] (clock_at (m.clock + 1) true) pumps may begun)
+
+  ticks_goes : (count : ℕ) (past : List Entry) (m : Lone) (events : List Event) → AreTicks count m events → MayAll m events → Rests count past m
+      → Rests 0 (past ++ heard_all m events) (happens_all m events)
+  ticks_goes zero past m events are may rests =
+      subst (λ (l : List Event). Rests 0 (past ++ heard_all m l) (happens_all m l)) (sym are) (subst (λ (l : List Entry). Rests 0 l m) (sym (append-nil past)) rests)
+  ticks_goes (suc more) past m events (first, rest, are, (pumped, pumps, first_is), others) may rests =
+      let both : MayAll m (first ++ rest) = subst (MayAll m) are may in
+      let ticks : Event = Ticks (tick_events m.host.state ++ pumped) in
+      let one : Rests more (past ++ heard_all m first) (happens_all m first) =
+      rests_one more past m ticks first first_is (tick_one past m pumped more pumps (may_one m ticks first first_is (may_first m first rest both)) rests) in
+      let all = ticks_goes more (past ++ heard_all m first) (happens_all m first) rest others (may_rest m first rest both) one in
+      (all.0, joined Resting 0 all.0 past m first rest events are all.1)
+
+  -- ---- lines
+
+  plain_goes : (line : Line) (past : List Entry) (m : Lone) (events : List Event) → IsPlain line m events → is_replayed (first_word line) ≡ true → MayAll m events
+      → At (Asked line) (ticks_of line) false past m → Rests 0 (past ++ heard_all m events) (happens_all m events)
+  plain_goes (lines.Tick count) past m events is replayed may run = ticks_goes count past m events is may (false, Turned (inr (count, refl, refl)) run)
+  plain_goes line past m events is replayed may run = (false, effect_then line past m events is replayed may run)
+
+  line_goes : (past : List Entry) (m : Lone) (said : Replayed) → IsRun m said → Rests 0 past m
+      → Rests 0 (past ++ entry.Said said.words ∷ heard_all m said.events) (happens_all m said.events)
+  line_goes past m said is rests = by said.line is.read is.replayed is.is
+    where
+      words : List Entry
+      words = entry.Said said.words ∷ []
+
+      after_words : Rests 0 ((past ++ words) ++ heard_all m said.events) (happens_all m said.events) → Rests 0 (past ++ entry.Said said.words ∷ heard_all m said.events) (happens_all m said.events)
+      after_words rests = subst (λ (l : List Entry). Rests 0 l (happens_all m said.events)) (append_assoc past words (heard_all m said.events)) rests
+
+      by : (line : ReplayLine) → line_of (entry.Said said.words) ≡ plain_of line → IsReplayed line → IsLine line m said.events
+          → Rests 0 (past ++ entry.Said said.words ∷ heard_all m said.events) (happens_all m said.events)
+      by (Plain line) read replayed these =
+          after_words
+          (plain_goes line (past ++ words) m said.events these replayed is.may (Stepped (step.Says said.words line) (refl, refl, read, refl) refl refl rests.1))
+      by (Chip bytes) read replayed (first, rest, are, taking, pump) =
+          let both : MayAll m (first ++ rest) = subst (MayAll m) are is.may in
+          after_words (
+            false,
+            joined Resting 0 false (past ++ words) m first rest said.events are
+                (pump_goes ((past ++ words) ++ heard_all m first) (happens_all m first) rest pump (may_rest m first rest both)
+                (take_goes bytes (past ++ words) m first taking (may_first m first rest both) (Stepped (step.Says_nothing said.words) (refl, refl, read, refl) refl refl rests.1))),
+          )
+
+  pub all_go : (past : List Entry) (m : Lone) (lines : List Replayed) → AreReplayed m lines → Rests 0 past m → (last : Lone) × Rests 0 (past ++ heard_of m lines) last
+  all_go past m [] are rests = (m, subst (λ (l : List Entry). Rests 0 l m) (sym (append-nil past)) rests)
+  all_go past m (said ∷ more) are rests =
+      let one : List Entry = entry.Said said.words ∷ heard_all m said.events in
+      let later : Lone = happens_all m said.events in
+      let all = all_go (past ++ one) later more are.1 (line_goes past m said are.0 rests) in
+      (all.0, subst (λ (l : List Entry). Rests 0 l all.0) (append_assoc past one (heard_of later more)) all.1)

@@ -1,0 +1,224 @@
+-- What follows a frame of the chip: a node counts as awake where its payload may tell so, and does at once where it tells nothing else.
+use Rattle.std.proofs.Common.{◌≡◌, ℕ, ◌||◌, Bool, true, false, if◌then◌else◌, inl, inr, List, [], ◌∷◌, ◌++◌, refl, sym, ap, ap₂, ◌∙◌, subst}
+use Rattle.std.specs.Prelude.{Option, Some, None, Result, Ok, Err, nat_lt}
+use Rattle.std.specs.List.{AllByRecursion, flat_map, list_any}
+use Rattle.std.proofs.lemmas.Bool.{cases_Bool, eq-eqb, or_right}
+use Rattle.zw_base.proofs.Each.{all-append}
+use Rattle.zw_base.specs.declared.property.Setting.{Setting}
+use Rattle.serial_frame.specs.Frame.{FrameParts, checksum, framed, kind_code}
+use Rattle.serial_frame.specs.Items.{unit_text}
+use Rattle.serial_frame.specs.declared.frame.Kind.{Kind}
+use Rattle.serial_frame.specs.declared.frame.Kind.TheVariants as kind
+use Rattle.serial_frame.specs.declared.unit.Unit.TheVariants.{Framed}
+use Rattle.chip_functions.specs.declared.fault.BodyFault.{BodyFault}
+use Rattle.chip_functions.specs.declared.response.Response.{Response}
+use Rattle.chip_functions.specs.declared.notice.Notice.{Notice}
+use Rattle.chip_functions.specs.declared.notice.Notice.TheVariants.{ApplicationCommandHandler, SendData, ApplicationUpdate, AddNode}
+use Rattle.chip_functions.specs.declared.notice.Update.{Update}
+use Rattle.chip_functions.specs.declared.notice.Update.TheVariants.{Received, RequestFailed}
+use Rattle.chip_functions.specs.Response.{response_of}
+use Rattle.chip_functions.specs.Notice.{notice_of}
+use Rattle.class_info.specs.declared.report_status.ReportStatus.{ReportStatus}
+use Rattle.class_info.specs.Values.{status_byte}
+use Rattle.supervision.specs.Host.{told_of}
+use Rattle.supervision.specs.declared.host_node.Told.{Told as TheTold}
+use Rattle.supervision.specs.declared.host_node.Told.TheVariants as told
+use Rattle.value_store.specs.Values.{count_with}
+use Rattle.law_transcript.specs.Units.{Carried, bringing_in, bringing_of, from_node, read_well}
+use Rattle.law_time.specs.Judged.{may_tell}
+use Rattle.law_time.specs.Waking.{is_notification, tells_waking}
+use Rattle.host_keep.specs.declared.final_status.FinalStatus.{FinalStatus}
+use Rattle.host_heard.specs.Telling.{heard_at}
+use Rattle.host_heard.specs.declared.payload.Heard.{Heard}
+use Rattle.host_heard.specs.declared.payload.Heard.TheVariants.{Messages, Sealed, Unread}
+use Rattle.host_heard.specs.declared.told.Told.{Told}
+use Rattle.host_heard.specs.declared.told.Told.TheVariants.{Report, NonceGet, NonceReport, Notification, SegmentRequest, Values}
+use Rattle.host_requests.specs.Events.{interviewed_by}
+use Rattle.host_model.specs.State.{HostState, node_of}
+use Rattle.host_model.specs.After.{after}
+use Rattle.host_model.specs.Did.{after_all}
+use Rattle.host_model.specs.Events.{HostEvent, Requests_do, Interviews, Interview_unkept, Unreads, Is_unkept, Reports_old, Works, Finishes, Offers, Gives, Spends, Spends_unread, Takes_nonce, Notifies, Resends, Hears_value, Has_no_room}
+use Rattle.host_model.specs.May.{says_listens}
+use Rattle.host_model.specs.Taking.{AreTaken, FinalEvents, FrameEvents, InterviewEvents, IsOpened, IsTaken, NonceGetEvents, NonceReportEvents, NoticeEvents, PayloadEvents, ReportEvents, ResponseEvents, SealedEvents, is_secure, resent, value_event, value_events}
+use Rattle.proof_alone.proofs.Always.{either, none, one}
+use Rattle.proof_walk.proofs.Bodies.{body_is}
+
+-- ---- which events may follow
+
+-- whether some of these payloads may tell that their node is awake
+abbrev pub may_wake_by : List (List ℕ) → Bool
+may_wake_by payloads = list_any (λ payload. may_tell is_notification (heard_at payload)) payloads
+
+abbrev pub MayFollow : List ℕ → HostEvent → Type 0
+MayFollow unit (Notifies n) = may_wake_by (flat_map (from_node n) (bringing_in unit)) ≡ true
+MayFollow unit (Requests_do event moment) = Unit {0}
+MayFollow unit (Interviews n listens classes update) = Unit {0}
+MayFollow unit (Interview_unkept n update) = Unit {0}
+MayFollow unit (Unreads n payload) = Unit {0}
+MayFollow unit (Is_unkept n) = Unit {0}
+MayFollow unit (Reports_old n id) = Unit {0}
+MayFollow unit (Works n id) = Unit {0}
+MayFollow unit (Finishes n session id command status wake_request) = Unit {0}
+MayFollow unit (Offers n) = Unit {0}
+MayFollow unit (Gives n drawn) = Unit {0}
+MayFollow unit (Spends n) = Unit {0}
+MayFollow unit (Spends_unread n payload) = Unit {0}
+MayFollow unit (Takes_nonce n seen text) = Unit {0}
+MayFollow unit (Resends n payload) = Unit {0}
+MayFollow unit (Hears_value n setting) = Unit {0}
+MayFollow unit (Has_no_room n property) = Unit {0}
+MayFollow unit event = ⊥
+
+module _ (unit : List ℕ) (n : ℕ) where
+  abbrev May : HostEvent → Type 0
+  May = MayFollow unit
+
+  abbrev All : List HostEvent → Type 0
+  All events = AllByRecursion May events
+
+  final : (session id : ℕ) (command : Option ℕ) (status : Option FinalStatus) (wake : Bool) (events : List HostEvent) → FinalEvents n session id command status wake events → All events
+  final session id (Some command) (Some status) wake events is = either May (Finishes n session id command status wake) (Is_unkept n) events tt tt is
+  final session id (Some command) None wake events is = none May events is
+  final session id None (Some status) wake events is = none May events is
+  final session id None None wake events is = none May events is
+
+  reported : (h : HostState) (id : ℕ) (status : ReportStatus) (wake : Bool) (it : TheTold) (events : List HostEvent) → ReportEvents h n id status wake it events → All events
+  reported h id status wake told.Old events is = one May (Reports_old n id) events tt is
+  reported h id status wake told.Working events is = one May (Works n id) events tt is
+  reported h id status wake (told.Final session) events is = final session id _ _ wake events is
+
+  asked : (live : Option (List ℕ)) (events : List HostEvent) → NonceGetEvents n live events → All events
+  asked (Some nonce) events is = one May (Offers n) events tt is
+  asked None events is = either May (Gives n is.0) (Is_unkept n) events tt tt is.2
+
+  given : (h : HostState) (nonce : List ℕ) (count : Option ℕ) (events : List HostEvent) → NonceReportEvents h n nonce count events → All events
+  given h nonce None events is = none May events is
+  given h nonce (Some seen) events is = either May (Takes_nonce n seen is.1) (Is_unkept n) events tt tt is.3
+
+  resends : (payload : Option (List ℕ)) (events : List HostEvent) → events ≡ resent n payload → All events
+  resends None events is = none May events is
+  resends (Some payload) events is = one May (Resends n payload) events tt is
+
+  value : (b : Bool) (s : Setting) → May (if b then Has_no_room n s.property else Hears_value n s)
+  value true s = tt
+  value false s = tt
+
+  values : (h : HostState) (settings : List Setting) → All (value_events h n settings)
+  values h [] = tt
+  values h (s ∷ more) = (value (nat_lt 512 (count_with h.store n (s.property ∷ []))) s, values (after h (value_event h n s)) more)
+
+  plain : (h : HostState) (payload : List ℕ) (id : ℕ) (status : ReportStatus) (wake : Bool) (events : List HostEvent) → IsTaken h n payload false (Report id status wake) events → All events
+  plain h payload id status wake events is = elim (cases_Bool (is_secure (node_of h n).classes)) [
+    | inl secure ↦ one May (Unreads n payload) events tt (rw secure at is)
+    | inr not_secure ↦ reported h id status wake (told_of (node_of h n).book id (status_byte status)) events (rw not_secure at is)
+  ]
+
+  taken : (h : HostState) (payload : List ℕ) (sealed : Bool) (message : Told) (events : List HostEvent) → (is_notification message ≡ true → May (Notifies n))
+      → IsTaken h n payload sealed message events → All events
+  taken h payload true (Report id status wake) events tells is = reported h id status wake _ events is
+  taken h payload false (Report id status wake) events tells is = plain h payload id status wake events is
+  taken h payload sealed NonceGet events tells is = asked _ events is
+  taken h payload sealed (NonceReport nonce) events tells is = given h nonce _ events is
+  taken h payload sealed Notification events tells is = one May (Notifies n) events (tells refl) is
+  taken h payload sealed (SegmentRequest id offset) events tells is = resends _ events is
+  taken h payload sealed (Values settings) events tells is = subst All (sym is) (values h settings)
+
+  all_taken : (h : HostState) (payload : List ℕ) (sealed : Bool) (messages : List Told) (events : List HostEvent) → (list_any is_notification messages ≡ true → May (Notifies n))
+      → AreTaken h n payload sealed messages events → All events
+  all_taken h payload sealed [] events tells is = none May events is
+  all_taken h payload sealed (message ∷ more) events tells (first, rest, are, first_is, others) =
+      subst All (sym are)
+      (all-append May first rest (taken h payload sealed message first (λ is. tells (ap (λ (b : Bool). b || list_any is_notification more) is)) first_is)
+      (all_taken (after_all h first) payload sealed more rest (λ is. tells (or_right (is_notification message) (list_any is_notification more) is)) others))
+
+  opened : (h : HostState) (nonce payload : List ℕ) (events : List HostEvent) → May (Notifies n) → IsOpened h n nonce payload events → All events
+  opened h nonce payload events tells (inl are) = one May (Is_unkept n) events tt are
+  opened h nonce payload events tells (inr (inl vain)) = one May (Spends_unread n payload) events tt vain.1
+  opened h nonce payload events tells (inr (inr opens)) =
+      let (messages, rest, to, are, taken_so) = opens in
+      subst All (sym are) (tt, all_taken (after h (Spends n)) payload true messages rest (λ is. tells) taken_so)
+
+  sealed_all : (h : HostState) (payload : List ℕ) (nonce : Option (List ℕ)) (events : List HostEvent) → May (Notifies n) → SealedEvents h n payload nonce events → All events
+  sealed_all h payload None events tells is = one May (Unreads n payload) events tt is
+  sealed_all h payload (Some nonce) events tells is = opened h nonce payload events tells is
+
+  payload_all : (h : HostState) (payload : List ℕ) (heard : Heard) (events : List HostEvent) → (may_tell is_notification heard ≡ true → May (Notifies n))
+      → PayloadEvents h n payload heard events → All events
+  payload_all h payload (Messages messages) events tells is = all_taken h payload false messages events tells is
+  payload_all h payload Sealed events tells is = sealed_all h payload _ events (tells refl) is
+  payload_all h payload Unread events tells is = one May (Unreads n payload) events tt is
+
+-- ---- frames
+
+-- what is brought by what is read
+abbrev brought_of : Result Notice BodyFault → List Carried
+brought_of read = flat_map bringing_of (read_well read)
+
+text_brings : (func : ℕ) (body : List ℕ) (sum : ℕ) → bringing_in (framed (0 ∷ func ∷ body) sum) ≡ brought_of (notice_of func body)
+text_brings func body sum = ap (λ (b : List ℕ). brought_of (notice_of func b)) (body_is body func sum)
+
+-- the payload of an ApplicationCommandHandler is of its node
+own_payload : (unit : List ℕ) (source : ℕ) (payload : List ℕ) → bringing_in unit ≡ record { node = source; payload = payload } ∷ [] → may_tell is_notification (heard_at payload) ≡ true
+    → may_wake_by (flat_map (from_node source) (bringing_in unit)) ≡ true
+own_payload unit source payload is tells =
+    ap (λ (l : List Carried). may_wake_by (flat_map (from_node source) l)) is
+    ∙ ap (λ (b : Bool). may_wake_by ((if b then payload ∷ [] else []) ++ [])) (eq-eqb source source refl)
+    ∙ ap (λ (b : Bool). b || false) tells
+
+response_all : (unit : List ℕ) (read : Result Response BodyFault) (events : List HostEvent) → ResponseEvents read events → AllByRecursion (MayFollow unit) events
+response_all unit (Ok response) events is = one (MayFollow unit) _ events tt is
+response_all unit (Err fault) events is = none (MayFollow unit) events is
+
+interview_all : (unit : List ℕ) (update : Update) (brought : Option ℕ) (events : List HostEvent) → InterviewEvents update brought events → AllByRecursion (MayFollow unit) events
+interview_all unit (Received n basic generic specific classes) (Some capability) events is =
+    either (MayFollow unit) (Interviews n (says_listens capability) classes (Received n basic generic specific classes)) (Interview_unkept n (Received n basic generic specific classes)) events tt tt is
+interview_all unit RequestFailed (Some capability) events is = none (MayFollow unit) events is
+interview_all unit (Received n basic generic specific classes) None events is = one (MayFollow unit) _ events tt is
+interview_all unit RequestFailed None events is = one (MayFollow unit) _ events tt is
+
+notice_all : (unit : List ℕ) (h : HostState) (read : Result Notice BodyFault) (events : List HostEvent) → bringing_in unit ≡ brought_of read → NoticeEvents h read events
+    → AllByRecursion (MayFollow unit) events
+notice_all unit h (Ok (ApplicationCommandHandler rx_status source payload)) events brings is =
+    payload_all unit source h payload (heard_at payload) events (own_payload unit source payload brings) is
+notice_all unit h (Ok (SendData callback_id status)) events brings is = one (MayFollow unit) _ events tt is
+notice_all unit h (Ok (ApplicationUpdate update)) events brings is = interview_all unit update (interviewed_by h.requests update) events is
+notice_all unit h (Ok (AddNode callback_id status information)) events brings is = none (MayFollow unit) events is
+notice_all unit h (Err fault) events brings is = none (MayFollow unit) events is
+
+kind_all : (h : HostState) (k : Kind) (func : ℕ) (body : List ℕ) (sum : ℕ) (events : List HostEvent) → FrameEvents h k func body events
+    → AllByRecursion (MayFollow (framed (kind_code k ∷ func ∷ body) sum)) events
+kind_all h kind.Response func body sum events is = response_all (framed (1 ∷ func ∷ body) sum) (response_of func body) events is
+kind_all h kind.Request func body sum events is = notice_all (framed (0 ∷ func ∷ body) sum) h (notice_of func body) events (text_brings func body sum) is
+
+-- each event that follows a frame may follow it
+pub frame_all : (h : HostState) (f : FrameParts) (events : List HostEvent) → FrameEvents h f.kind f.func f.body events → AllByRecursion (MayFollow (unit_text (Framed f))) events
+frame_all h f events is = kind_all h f.kind f.func f.body (checksum (kind_code f.kind ∷ f.func ∷ f.body)) events is
+
+-- ---- a payload that tells a Wake Up Notification and nothing else
+
+abbrev wakes_by : List Carried → Bool
+wakes_by brought = list_any (λ carried. tells_waking (heard_at carried.payload)) brought
+
+abbrev Wakes : List HostEvent → Type 0
+Wakes events = (n : ℕ) × (events ≡ Notifies n ∷ [])
+
+heard_wakes : (h : HostState) (n : ℕ) (payload : List ℕ) (heard : Heard) (events : List HostEvent) → tells_waking heard || false ≡ true → PayloadEvents h n payload heard events → Wakes events
+heard_wakes h n payload (Messages (Notification ∷ [])) events tells (first, rest, are, first_is, others) =
+    (n, are ∙ ap₂ (λ (a b : List HostEvent). a ++ b) first_is others)
+heard_wakes h n payload heard events tells is = absurd (let bad : false ≡ true = tells in cc)
+
+notice_wakes : (h : HostState) (read : Result Notice BodyFault) (events : List HostEvent) → wakes_by (brought_of read) ≡ true → NoticeEvents h read events → Wakes events
+notice_wakes h (Ok (ApplicationCommandHandler rx_status source payload)) events tells is = heard_wakes h source payload (heard_at payload) events tells is
+notice_wakes h (Ok (SendData callback_id status)) events tells is = absurd (let bad : false ≡ true = tells in cc)
+notice_wakes h (Ok (ApplicationUpdate update)) events tells is = absurd (let bad : false ≡ true = tells in cc)
+notice_wakes h (Ok (AddNode callback_id status information)) events tells is = absurd (let bad : false ≡ true = tells in cc)
+notice_wakes h (Err fault) events tells is = absurd (let bad : false ≡ true = tells in cc)
+
+kind_wakes : (h : HostState) (k : Kind) (func : ℕ) (body : List ℕ) (sum : ℕ) (events : List HostEvent) → wakes_by (bringing_in (framed (kind_code k ∷ func ∷ body) sum)) ≡ true
+    → FrameEvents h k func body events → Wakes events
+kind_wakes h kind.Response func body sum events tells is = absurd (let bad : false ≡ true = tells in cc)
+kind_wakes h kind.Request func body sum events tells is = notice_wakes h (notice_of func body) events (sym (ap wakes_by (text_brings func body sum)) ∙ tells) is
+
+-- its node counts as awake, and nothing else is done
+pub frame_wakes : (h : HostState) (f : FrameParts) (events : List HostEvent) → wakes_by (bringing_in (unit_text (Framed f))) ≡ true → FrameEvents h f.kind f.func f.body events → Wakes events
+frame_wakes h f events tells is = kind_wakes h f.kind f.func f.body (checksum (kind_code f.kind ∷ f.func ∷ f.body)) events tells is

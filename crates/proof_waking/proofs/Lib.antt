@@ -1,0 +1,5 @@
+mod Apart
+mod Followed
+mod Parts
+mod Settling
+mod Judging
