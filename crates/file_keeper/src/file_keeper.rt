@@ -147,9 +147,7 @@ impl<S: Store> Keeper for FileKeeper<S> {
 
     ghost number = { λ k. length k.records };
 
-    ghost records = { λ k. Some k.records };
-
-    ghost faults = { λ k. k.faults };
+    ghost shelf = { λ k. record { records = Some k.records; faults = k.faults } };
 
     ghost reads = { λ k. k.reads };
 

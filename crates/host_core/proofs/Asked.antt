@@ -3,17 +3,16 @@ use Rattle.std.proofs.Common.{◌≡◌, ℕ, ◌≤◌, ◌<◌, ◌+◌, List,
 use Rattle.std.specs.Prelude.{Bool, true, false, Option, Some, None, Result, Ok, Err, OnOk, IfOk, nat_le, nat_lt, if◌then◌else◌}
 use Rattle.std.proofs.lemmas.Bool.Decides.{nat_tests}
 use Rattle.std.proofs.lemmas.List.{length-append}
-use Rattle.host_keep.specs.Keeping.{OptAdds}
+use Rattle.host_keep.specs.Keeping.{OptAdds, Shelf}
 use Rattle.host_keep.specs.Rows.{IsRecord}
 use Rattle.host_keep.specs.RecordText.{record_text}
 use Rattle.host_keep.specs.declared.record.Record.TheVariants.{Accepted}
 use Rattle.host_requests.specs.declared.task.Task.TheVariants.{Plain}
 use Rattle.host_model.specs.Events.{Accepts, Queues}
-use Rattle.host_model.specs.Did.{Shelf}
 use Rattle.host_model.specs.After.{after}
 use Rattle.host_core.specs.Orders.{question_event}
 use Rattle.host_core.specs.declared.orders.Question.{Question}
-use Rattle.host_step_bytes.specs.Calls.{beside, Does, DoesAlone, Are}
+use Rattle.host_step_bytes.specs.Calls.{scene, Does, DoesAlone, Are}
 use Rattle.host_step_bytes.proofs.CallLists.{does_one, one_alone}
 use Rattle.zw_base.specs.declared.order.Word.{Word}
 use Rattle.zw_base.specs.declared.order.Order.{Order}
@@ -170,10 +169,10 @@ queued_alone h new n payload text is some room host =
 pub accepted_does : (order : Order) (old new : HostParts) (a b : Shelf) (result : Result ℕ Refused) → Judges result (refusal_for old.state order)
     → OnOk result (OptAdds a.records b.records (record_text (Accepted (length old.state.commands + 1) order) ∷ [])) → OnOk result (IsRecord (Accepted (length old.state.commands + 1) order))
     → OnOk result (new ≡ record old { state = after old.state (Accepts order (carriage_for old.state order)) }) → a.faults ≤ b.faults
-    → OnOk result (Does (Are (Accepts order (carriage_for old.state order) ∷ [])) (beside a old.state []) (beside b new.state []))
+    → OnOk result (Does (Are (Accepts order (carriage_for old.state order) ∷ [])) (scene old.state [] a) (scene new.state [] b))
 accepted_does order old new a b (Err refused) judged kept range host falls = tt
 accepted_does order old new a b (Ok number) judged kept range host falls =
-    does_one (Are (Accepts order (carriage_for old.state order) ∷ [])) (Accepts order (carriage_for old.state order)) (beside a old.state []) (beside b new.state []) refl
+    does_one (Are (Accepts order (carriage_for old.state order) ∷ [])) (Accepts order (carriage_for old.state order)) (scene old.state [] a) (scene new.state [] b) refl
     (order_is_accepted old.state order judged) (range, tt) (ap (λ (p : HostParts). p.state) host) refl kept tt falls
 
 -- what a question is

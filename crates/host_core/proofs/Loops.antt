@@ -13,12 +13,13 @@ use Rattle.host_model.specs.May.{May}
 use Rattle.host_model.specs.Records.{records_at}
 use Rattle.host_model.specs.After.{after, is_full}
 use Rattle.host_model.specs.Outs.{outs}
-use Rattle.host_model.specs.Did.{after_all, is_unkept, Shelf}
+use Rattle.host_keep.specs.Keeping.{Shelf}
+use Rattle.host_model.specs.Did.{after_all, is_unkept}
 use Rattle.host_model.specs.Pumping.{no_more_event, LetsSome, LetsSleep}
 use Rattle.host_model.specs.Ticking.{first_ticks, tick_events, ticking_nodes, TickedTo}
 use Rattle.host_model.specs.declared.out.HostOut.{HostOut}
 use Rattle.host_model.proofs.EventLists.{after_all-append}
-use Rattle.host_step_bytes.specs.Calls.{beside, Does, Stops, DoesAlone, StopsAlone, Are}
+use Rattle.host_step_bytes.specs.Calls.{scene, Does, Stops, DoesAlone, StopsAlone, Are}
 use Rattle.host_step_bytes.proofs.CallLists.{nothing_alone, one_alone, alone_then, does_as}
 
 -- ---- ticks of nodes
@@ -105,7 +106,7 @@ one_more_sleeps first before now all n new more so_far lets may host put =
 pub all_sleep : (first : HostState) (before : List HostOut) (now : HostState) (all : List HostOut) (so_far : SleepsSoFar first before now all) → LetsSleep first so_far.events
     → DoesAlone (LetsSleep first) first before now all
 all_sleep first before now all so_far done =
-    λ shelf. does_as (Are so_far.events) (LetsSleep first) (beside shelf first before) (beside shelf now all) (so_far.did shelf)
+    λ shelf. does_as (Are so_far.events) (LetsSleep first) (scene first before shelf) (scene now all shelf) (so_far.did shelf)
     (λ (events : List HostEvent) same. subst (λ (l : List HostEvent). LetsSleep first l) (sym same) done)
 
 -- ---- a whole tick
@@ -133,8 +134,8 @@ whole_tick h line request new before some more all line_is some_is request_is mo
 
 -- the host that is ticked is the one that is seen
 pub tick_seen : (inside now new : HostParts) (before all : List HostOut) (shelf : Shelf) → inside ≡ now → DoesAlone (Are (tick_events inside.state)) inside.state before new.state all
-    → Does (Are (tick_events now.state)) (beside shelf now.state before) (beside shelf new.state all)
-tick_seen inside now new before all shelf same does = subst (λ (h : HostParts). Does (Are (tick_events h.state)) (beside shelf h.state before) (beside shelf new.state all)) same (does shelf)
+    → Does (Are (tick_events now.state)) (scene now.state before shelf) (scene new.state all shelf)
+tick_seen inside now new before all shelf same does = subst (λ (h : HostParts). Does (Are (tick_events h.state)) (scene h.state before shelf) (scene new.state all shelf)) same (does shelf)
 
-pub tick_stops_seen : (inside now new : HostParts) (before all : List HostOut) (shelf : Shelf) → inside ≡ now → StopsAlone inside.state before new.state all → Stops (beside shelf now.state before) (beside shelf new.state all)
-tick_stops_seen inside now new before all shelf same stops = subst (λ (h : HostParts). Stops (beside shelf h.state before) (beside shelf new.state all)) same (stops shelf)
+pub tick_stops_seen : (inside now new : HostParts) (before all : List HostOut) (shelf : Shelf) → inside ≡ now → StopsAlone inside.state before new.state all → Stops (scene now.state before shelf) (scene new.state all shelf)
+tick_stops_seen inside now new before all shelf same stops = subst (λ (h : HostParts). Stops (scene h.state before shelf) (scene new.state all shelf)) same (stops shelf)

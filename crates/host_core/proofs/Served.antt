@@ -56,7 +56,7 @@ may_begin_or : (h : HostState) (n session command : ℕ) (is_kept : Bool) → Ma
 may_begin_or h n session command true may = may
 may_begin_or h n session command false may = (may.0, may.1)
 
-pub session_begun : (n session command : ℕ) (is_kept : Bool) (a b : Scene) → May a.host (Begins n session command) → IsRecord (Begun n session command) → Kept is_kept (record_text (Begun n session command)) a.shelf.records b.shelf.records a.shelf.faults b.shelf.faults
+pub session_begun : (n session command : ℕ) (is_kept : Bool) (a b : Scene) → May a.host (Begins n session command) → IsRecord (Begun n session command) → Kept is_kept (record_text (Begun n session command)) a.shelf b.shelf
     → b.host ≡ after a.host (chosen is_kept (Begins n session command) (Begin_unkept n)) → b.outs ≡ a.outs ++ outs a.host (chosen is_kept (Begins n session command) (Begin_unkept n)) → a.shelf.faults ≤ b.shelf.faults
     → Does (One (IsServedBy a.host n Idle)) a b
 session_begun n session command is_kept a b may range kept host put falls =

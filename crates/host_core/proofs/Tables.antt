@@ -11,7 +11,7 @@ use Rattle.supervision.specs.Host.{command_at as command_of_session}
 use Rattle.host_node.specs.State.{NodeState, unknown}
 use Rattle.host_node.specs.Steps.{after_begin, oldest}
 use Rattle.host_node.specs.TableState.{node_of as node_among}
-use Rattle.host_keep.specs.Keeping.{OptAdds, Kept}
+use Rattle.host_keep.specs.Keeping.{OptAdds, Kept, Shelf}
 use Rattle.host_keep.specs.Legal.{AreTextsOf}
 use Rattle.host_keep.specs.Rows.{IsRecord}
 use Rattle.host_keep.specs.declared.record.Record.{Record}
@@ -19,12 +19,12 @@ use Rattle.host_keep.specs.declared.record.Record.TheVariants.{Accepted, Begun}
 use Rattle.host_model.specs.State.{HostState, HostParts, Command, node_of, with_node, command_at, set_at, with_outcome}
 use Rattle.host_model.specs.After.{after}
 use Rattle.host_model.specs.Events.{HostEvent}
-use Rattle.host_model.specs.Did.{texts_of, Shelf, Did}
+use Rattle.host_model.specs.Did.{texts_of, Did}
 use Rattle.host_model.specs.Taking.{Fed, FedPrefix}
 use Rattle.host_model.specs.declared.out.HostOut.{HostOut}
 use Rattle.host_model.proofs.Numbered.{pushed_at}
 use Rattle.host_step_kept.specs.Choices.{after_if}
-use Rattle.host_step_bytes.specs.Calls.{Scene, beside, Does, Stops}
+use Rattle.host_step_bytes.specs.Calls.{scene, Scene, Does, Stops}
 use Rattle.host_core.specs.Opening.{AreTold}
 use Rattle.host_core.specs.Recorded.{IsTold, TablesAreTold}
 
@@ -248,7 +248,7 @@ pub nothing_kept : (old new : HostParts) (told told' : Option (List (List ℕ)))
 nothing_kept old new told told' same none t = subst (λ (p : HostParts). TablesAreTold told' p.state) (sym same) (tables_on told told' [] old.state none t)
 
 -- a call that did events, or left all as it was
-pub does_or_leaves : {A E : Type 0} (law : EventsLeave) (Kind : List HostEvent → Type 0) (r : Result A E) (old new : HostParts) (a b : Shelf) → OnOk r (Does Kind (beside a old.state []) (beside b new.state []))
+pub does_or_leaves : {A E : Type 0} (law : EventsLeave) (Kind : List HostEvent → Type 0) (r : Result A E) (old new : HostParts) (a b : Shelf) → OnOk r (Does Kind (scene old.state [] a) (scene new.state [] b))
     → OnErr r (new ≡ old) → OnErr r (OptAdds a.records b.records []) → TablesAreTold a.records old.state → TablesAreTold b.records new.state
 does_or_leaves law Kind (Ok value) old new a b did same none t = law did.events old.state new.state [] [] a b did.did t
 does_or_leaves law Kind (Err fault) old new a b did same none t = nothing_kept old new a.records b.records same none t
@@ -262,9 +262,10 @@ fed_or_prefix (Ok value) old bytes new before all a b fed prefix f p t = fed old
 fed_or_prefix (Err fault) old bytes new before all a b fed prefix f p t = prefix old new bytes before all a b p t
 
 -- one event that leaves them, whose record was kept or not
-pub kept_or_not : (is_kept : Bool) (event : HostEvent) (text : List ℕ) (old new : HostParts) (told told' : Option (List (List ℕ))) (faults faults' : ℕ) → Alike old.state (after old.state event)
-    → Kept is_kept text told told' faults faults' → new ≡ record old { state = after_if is_kept old.state event } → TablesAreTold told old.state → TablesAreTold told' new.state
-kept_or_not true event text old new told told' faults faults' alike kept state t =
-    subst (λ (p : HostParts). TablesAreTold told' p.state) (sym state) (alike_tables told' old.state (after old.state event) alike (tables_on told told' (text ∷ []) old.state kept t))
-kept_or_not false event text old new told told' faults faults' alike kept state t =
-    subst (λ (p : HostParts). TablesAreTold told' p.state) (sym state) (tables_on told told' [] old.state kept.0 t)
+pub kept_or_not : (is_kept : Bool) (event : HostEvent) (text : List ℕ) (old new : HostParts) (a b : Shelf) → Alike old.state (after old.state event)
+    → Kept is_kept text a b → new ≡ record old { state = after_if is_kept old.state event } → TablesAreTold a.records old.state → TablesAreTold b.records new.state
+kept_or_not true event text old new a b alike kept state t =
+    subst (λ (p : HostParts). TablesAreTold b.records p.state) (sym state)
+    (alike_tables b.records old.state (after old.state event) alike (tables_on a.records b.records (text ∷ []) old.state kept t))
+kept_or_not false event text old new a b alike kept state t =
+    subst (λ (p : HostParts). TablesAreTold b.records p.state) (sym state) (tables_on a.records b.records [] old.state kept.0 t)

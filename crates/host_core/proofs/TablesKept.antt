@@ -45,7 +45,8 @@ use Rattle.host_model.specs.After.{after, accepting, node_does, node_for, reques
 use Rattle.host_model.specs.Events.{HostEvent, Accepts, Cancels, Joins, Queues, Queues_interview, Queues_probe, Hears, Requests_do, Interviews, Interview_unkept, Unreads, Is_unkept, Reports_old, Works, Finishes, Offers, Gives, Spends, Spends_unread, Takes_nonce, Notifies, Resends, Hears_value, Has_no_room, Line_ticks, Node_ticks, Queues_no_more, Drops_no_more, Submits_abort, Submits_front, Starts, Gives_text, Gives_segment, Begins, Begin_unkept}
 use Rattle.host_model.specs.Records.{records_at}
 use Rattle.host_model.specs.May.{May}
-use Rattle.host_model.specs.Did.{after_all, records_all, texts_of, MayAll, Shelf, Did}
+use Rattle.host_keep.specs.Keeping.{Shelf}
+use Rattle.host_model.specs.Did.{after_all, records_all, texts_of, MayAll, Did}
 use Rattle.host_model.specs.Facts.{HostFacts}
 use Rattle.host_model.specs.declared.out.HostOut.{HostOut}
 use Rattle.host_model.proofs.EventLists.{all_in_range}

@@ -66,14 +66,14 @@ impl Host {
         keeper: &mut P,
     ) -> Result<(), NoMemory>
         ensures ok { OnOk result (Does (Pumps self.old.state)
-            (scene self.old.state out.old.items (P.records keeper.old) (P.faults keeper.old))
-            (scene self.new.state out.new.items (P.records keeper.new) (P.faults keeper.new))) }
+            (scene self.old.state out.old.items (P.shelf keeper.old))
+            (scene self.new.state out.new.items (P.shelf keeper.new))) }
         ensures decoder { self.new.decoder ≡ self.old.decoder }
-        ensures err { OnErr result (Stops (scene self.old.state out.old.items (P.records keeper.old) (P.faults keeper.old))
-            (scene self.new.state out.new.items (P.records keeper.new) (P.faults keeper.new))) }
+        ensures err { OnErr result (Stops (scene self.old.state out.old.items (P.shelf keeper.old))
+            (scene self.new.state out.new.items (P.shelf keeper.new))) }
         ensures never_fewer { P.number keeper.old ≤ P.number keeper.new }
         ensures reads { P.reads keeper.new ≡ P.reads keeper.old }
-        ensures tables { TablesAreTold (P.records keeper.old) self.old.state → TablesAreTold (P.records keeper.new) self.new.state }
+        ensures tables { TablesAreTold (P.shelf keeper.old).records self.old.state → TablesAreTold (P.shelf keeper.new).records self.new.state }
     {
         tables_stand_in_the_records();
         pump(&mut self.core, out, keeper)
@@ -88,14 +88,14 @@ impl Host {
         keeper: &mut P,
     ) -> Result<(), NoMemory>
         ensures ok { OnOk result (Fed self.old piece.now self.new out.old.items out.new.items
-            (scene self.old.state out.old.items (P.records keeper.old) (P.faults keeper.old)).shelf
-            (scene self.new.state out.new.items (P.records keeper.new) (P.faults keeper.new)).shelf) }
+            (scene self.old.state out.old.items (P.shelf keeper.old)).shelf
+            (scene self.new.state out.new.items (P.shelf keeper.new)).shelf) }
         ensures err { OnErr result (FedPrefix self.old piece.now self.new out.old.items out.new.items
-            (scene self.old.state out.old.items (P.records keeper.old) (P.faults keeper.old)).shelf
-            (scene self.new.state out.new.items (P.records keeper.new) (P.faults keeper.new)).shelf) }
+            (scene self.old.state out.old.items (P.shelf keeper.old)).shelf
+            (scene self.new.state out.new.items (P.shelf keeper.new)).shelf) }
         ensures never_fewer { P.number keeper.old ≤ P.number keeper.new }
         ensures reads { P.reads keeper.new ≡ P.reads keeper.old }
-        ensures tables { TablesAreTold (P.records keeper.old) self.old.state → TablesAreTold (P.records keeper.new) self.new.state }
+        ensures tables { TablesAreTold (P.shelf keeper.old).records self.old.state → TablesAreTold (P.shelf keeper.new).records self.new.state }
     {
         tables_stand_in_the_records();
         host_step_bytes::feed(&mut self.core, piece, draw, out, keeper)
@@ -109,14 +109,14 @@ impl Host {
         _keeper: &mut P,
     ) -> Result<(), NoMemory>
         ensures ok { OnOk result (Does (Are (tick_events self.old.state))
-            (scene self.old.state out.old.items (P.records _keeper.old) (P.faults _keeper.old))
-            (scene self.new.state out.new.items (P.records _keeper.new) (P.faults _keeper.new))) }
+            (scene self.old.state out.old.items (P.shelf _keeper.old))
+            (scene self.new.state out.new.items (P.shelf _keeper.new))) }
         ensures decoder { OnOk result (self.new.decoder ≡ after_tick self.old.decoder) }
-        ensures err { OnErr result (Stops (scene self.old.state out.old.items (P.records _keeper.old) (P.faults _keeper.old))
-            (scene self.new.state out.new.items (P.records _keeper.new) (P.faults _keeper.new))) }
+        ensures err { OnErr result (Stops (scene self.old.state out.old.items (P.shelf _keeper.old))
+            (scene self.new.state out.new.items (P.shelf _keeper.new))) }
         ensures never_fewer { P.number _keeper.old ≤ P.number _keeper.new }
         ensures reads { P.reads _keeper.new ≡ P.reads _keeper.old }
-        ensures tables { TablesAreTold (P.records _keeper.old) self.old.state → TablesAreTold (P.records _keeper.new) self.new.state }
+        ensures tables { TablesAreTold (P.shelf _keeper.old).records self.old.state → TablesAreTold (P.shelf _keeper.new).records self.new.state }
     {
         tables_stand_in_the_records();
         tick(&mut self.core, out)?;

@@ -2,13 +2,13 @@
 
 ghost use Rattle.std.specs.Prelude.{ℕ, List as Items, Option};
 ghost use Rattle.s0_crypto.specs.declared.key_pair.Keys.{Keys};
-ghost use Rattle.host_keep.specs.Keeping.{OptAdds};
+ghost use Rattle.host_keep.specs.Keeping.{OptAdds, Shelf};
 ghost use Rattle.host_model.specs.State.{HostState, HostParts, first_host};
 ghost use Rattle.host_model.specs.Events.{HostEvent};
 ghost use Rattle.host_model.specs.After.{after};
 ghost use Rattle.host_model.specs.May.{May};
 ghost use Rattle.host_model.specs.Records.{records_at, KeepsInRange};
-ghost use Rattle.host_model.specs.Did.{texts_of, Shelf, Did};
+ghost use Rattle.host_model.specs.Did.{texts_of, Did};
 ghost use Rattle.host_model.specs.Taking.{Fed, FedPrefix};
 ghost use Rattle.host_model.specs.declared.out.HostOut.{HostOut};
 ghost use Rattle.host_core.specs.Opening.{Opens};

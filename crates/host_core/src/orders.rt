@@ -70,16 +70,16 @@ impl Host {
     /// A node joins, once that is kept.
     pub fn join<P: Keeper>(&mut self, node: NodeId, keeper: &mut P) -> Result<(), Refused>
         ensures judged { KeptOrRefused result (join_refusal self.old.state node) }
-        ensures ok { OnOk result (Does (Are (Joins node ∷ [])) (scene self.old.state [] (P.records keeper.old) (P.faults keeper.old))
-            (scene self.new.state [] (P.records keeper.new) (P.faults keeper.new))) }
+        ensures ok { OnOk result (Does (Are (Joins node ∷ [])) (scene self.old.state [] (P.shelf keeper.old))
+            (scene self.new.state [] (P.shelf keeper.new))) }
         ensures decoder { self.new.decoder ≡ self.old.decoder }
         ensures err { OnErr result (self.new ≡ self.old) }
-        ensures no_record { OnErr result (OptAdds (P.records keeper.old) (P.records keeper.new) []) }
-        ensures failed { result ≡ Err Refused.KeeperFault → Rose (P.faults keeper.old) (P.faults keeper.new) }
-        ensures never_falls { P.faults keeper.old ≤ P.faults keeper.new }
+        ensures no_record { OnErr result (OptAdds (P.shelf keeper.old).records (P.shelf keeper.new).records []) }
+        ensures failed { result ≡ Err Refused.KeeperFault → Rose (P.shelf keeper.old).faults (P.shelf keeper.new).faults }
+        ensures never_falls { (P.shelf keeper.old).faults ≤ (P.shelf keeper.new).faults }
         ensures never_fewer { P.number keeper.old ≤ P.number keeper.new }
         ensures reads { P.reads keeper.new ≡ P.reads keeper.old }
-        ensures tables { TablesAreTold (P.records keeper.old) self.old.state → TablesAreTold (P.records keeper.new) self.new.state }
+        ensures tables { TablesAreTold (P.shelf keeper.old).records self.old.state → TablesAreTold (P.shelf keeper.new).records self.new.state }
     {
         if self.core.node(node).is_joined() || node.number() == CONTROLLER {
             return Err(Refused::AlreadyJoined);
@@ -97,16 +97,16 @@ impl Host {
         ensures judged { Judges result (refusal_for self.old.state order.now) }
         ensures number { IfOk result (λ number. number ≡ length self.old.state.commands + 1) }
         ensures ok { OnOk result (Does (Are (Accepts order.now (carriage_for self.old.state order.now) ∷ []))
-            (scene self.old.state [] (P.records keeper.old) (P.faults keeper.old)) (scene self.new.state [] (P.records keeper.new) (P.faults keeper.new))) }
+            (scene self.old.state [] (P.shelf keeper.old)) (scene self.new.state [] (P.shelf keeper.new))) }
         ensures decoder { self.new.decoder ≡ self.old.decoder }
         ensures err { OnErr result (self.new ≡ self.old) }
-        ensures no_record { OnErr result (OptAdds (P.records keeper.old) (P.records keeper.new) []) }
-        ensures failed { result ≡ Err Refused.KeeperFault → Rose (P.faults keeper.old) (P.faults keeper.new) }
-        ensures never_falls { P.faults keeper.old ≤ P.faults keeper.new }
+        ensures no_record { OnErr result (OptAdds (P.shelf keeper.old).records (P.shelf keeper.new).records []) }
+        ensures failed { result ≡ Err Refused.KeeperFault → Rose (P.shelf keeper.old).faults (P.shelf keeper.new).faults }
+        ensures never_falls { (P.shelf keeper.old).faults ≤ (P.shelf keeper.new).faults }
         ensures more { OnOk result (P.number keeper.old < P.number keeper.new) }
         ensures never_fewer { P.number keeper.old ≤ P.number keeper.new }
         ensures reads { P.reads keeper.new ≡ P.reads keeper.old }
-        ensures tables { TablesAreTold (P.records keeper.old) self.old.state → TablesAreTold (P.records keeper.new) self.new.state }
+        ensures tables { TablesAreTold (P.shelf keeper.old).records self.old.state → TablesAreTold (P.shelf keeper.new).records self.new.state }
     {
         tables_stand_in_the_records();
         self.core.accept(order, keeper)
@@ -115,16 +115,16 @@ impl Host {
     /// A command that waits is taken out of its mailbox, once that is kept.
     pub fn cancel<P: Keeper>(&mut self, command: u32, keeper: &mut P) -> Result<(), CancelFault>
         ensures judged { CancelsOrNot result (Waits self.old.state command) }
-        ensures ok { OnOk result (Does (Are (Cancels command ∷ [])) (scene self.old.state [] (P.records keeper.old) (P.faults keeper.old))
-            (scene self.new.state [] (P.records keeper.new) (P.faults keeper.new))) }
+        ensures ok { OnOk result (Does (Are (Cancels command ∷ [])) (scene self.old.state [] (P.shelf keeper.old))
+            (scene self.new.state [] (P.shelf keeper.new))) }
         ensures decoder { self.new.decoder ≡ self.old.decoder }
         ensures err { OnErr result (self.new ≡ self.old) }
-        ensures no_record { OnErr result (OptAdds (P.records keeper.old) (P.records keeper.new) []) }
-        ensures failed { result ≡ Err CancelFault.KeeperFault → Rose (P.faults keeper.old) (P.faults keeper.new) }
-        ensures never_falls { P.faults keeper.old ≤ P.faults keeper.new }
+        ensures no_record { OnErr result (OptAdds (P.shelf keeper.old).records (P.shelf keeper.new).records []) }
+        ensures failed { result ≡ Err CancelFault.KeeperFault → Rose (P.shelf keeper.old).faults (P.shelf keeper.new).faults }
+        ensures never_falls { (P.shelf keeper.old).faults ≤ (P.shelf keeper.new).faults }
         ensures never_fewer { P.number keeper.old ≤ P.number keeper.new }
         ensures reads { P.reads keeper.new ≡ P.reads keeper.old }
-        ensures tables { TablesAreTold (P.records keeper.old) self.old.state → TablesAreTold (P.records keeper.new) self.new.state }
+        ensures tables { TablesAreTold (P.shelf keeper.old).records self.old.state → TablesAreTold (P.shelf keeper.new).records self.new.state }
     {
         let node = match self.core.command_at(command) {
             Some(found) => found.order().node,

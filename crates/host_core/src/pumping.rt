@@ -24,11 +24,11 @@ pub(crate) fn pump<P: Keeper>(
     out: &mut List<HostOut>,
     keeper: &mut P,
 ) -> Result<(), NoMemory>
-    ensures ok { OnOk result (Does (Pumps core.old.state) (scene core.old.state out.old.items (P.records keeper.old) (P.faults keeper.old))
-        (scene core.new.state out.new.items (P.records keeper.new) (P.faults keeper.new))) }
+    ensures ok { OnOk result (Does (Pumps core.old.state) (scene core.old.state out.old.items (P.shelf keeper.old))
+        (scene core.new.state out.new.items (P.shelf keeper.new))) }
     ensures decoder { core.new.decoder ≡ core.old.decoder }
-    ensures err { OnErr result (Stops (scene core.old.state out.old.items (P.records keeper.old) (P.faults keeper.old))
-        (scene core.new.state out.new.items (P.records keeper.new) (P.faults keeper.new))) }
+    ensures err { OnErr result (Stops (scene core.old.state out.old.items (P.shelf keeper.old))
+        (scene core.new.state out.new.items (P.shelf keeper.new))) }
     ensures never_fewer { P.number keeper.old ≤ P.number keeper.new }
     ensures reads { P.reads keeper.new ≡ P.reads keeper.old }
 {
@@ -44,11 +44,11 @@ fn submit<P: Keeper>(
     keeper: &mut P,
 ) -> Result<(), NoMemory>
     ensures ok { OnOk result (Does (Submits core.old.state)
-        (scene core.old.state out.old.items (P.records keeper.old) (P.faults keeper.old))
-        (scene core.new.state out.new.items (P.records keeper.new) (P.faults keeper.new))) }
+        (scene core.old.state out.old.items (P.shelf keeper.old))
+        (scene core.new.state out.new.items (P.shelf keeper.new))) }
     ensures decoder { core.new.decoder ≡ core.old.decoder }
-    ensures err { OnErr result (Stops (scene core.old.state out.old.items (P.records keeper.old) (P.faults keeper.old))
-        (scene core.new.state out.new.items (P.records keeper.new) (P.faults keeper.new))) }
+    ensures err { OnErr result (Stops (scene core.old.state out.old.items (P.shelf keeper.old))
+        (scene core.new.state out.new.items (P.shelf keeper.new))) }
     ensures never_fewer { P.number keeper.old ≤ P.number keeper.new }
     ensures reads { P.reads keeper.new ≡ P.reads keeper.old }
 {
@@ -64,12 +64,12 @@ fn submit_next<P: Keeper>(
     keeper: &mut P,
 ) -> Result<bool, NoMemory>
     ensures turns { IfOk result (λ submitted. Turns submitted
-        (scene core.old.state out.old.items (P.records keeper.old) (P.faults keeper.old))
-        (scene core.new.state out.new.items (P.records keeper.new) (P.faults keeper.new))) }
+        (scene core.old.state out.old.items (P.shelf keeper.old))
+        (scene core.new.state out.new.items (P.shelf keeper.new))) }
     ensures fewer { IfOk result (λ submitted. submitted ≡ true → turns_left core.new.state < turns_left core.old.state) }
     ensures decoder { core.new.decoder ≡ core.old.decoder }
-    ensures err { OnErr result (Stops (scene core.old.state out.old.items (P.records keeper.old) (P.faults keeper.old))
-        (scene core.new.state out.new.items (P.records keeper.new) (P.faults keeper.new))) }
+    ensures err { OnErr result (Stops (scene core.old.state out.old.items (P.shelf keeper.old))
+        (scene core.new.state out.new.items (P.shelf keeper.new))) }
     ensures never_fewer { P.number keeper.old ≤ P.number keeper.new }
     ensures reads { P.reads keeper.new ≡ P.reads keeper.old }
 {
@@ -104,11 +104,11 @@ fn serve<P: Keeper>(
 ) -> Result<(), NoMemory>
     requires { IsServed core.old.state node }
     ensures ok { OnOk result (Does (One (IsServedBy core.old.state node (node_of core.old.state node).series))
-        (scene core.old.state out.old.items (P.records keeper.old) (P.faults keeper.old))
-        (scene core.new.state out.new.items (P.records keeper.new) (P.faults keeper.new))) }
+        (scene core.old.state out.old.items (P.shelf keeper.old))
+        (scene core.new.state out.new.items (P.shelf keeper.new))) }
     ensures decoder { core.new.decoder ≡ core.old.decoder }
-    ensures err { OnErr result (Stops (scene core.old.state out.old.items (P.records keeper.old) (P.faults keeper.old))
-        (scene core.new.state out.new.items (P.records keeper.new) (P.faults keeper.new))) }
+    ensures err { OnErr result (Stops (scene core.old.state out.old.items (P.shelf keeper.old))
+        (scene core.new.state out.new.items (P.shelf keeper.new))) }
     ensures never_fewer { P.number keeper.old ≤ P.number keeper.new }
     ensures reads { P.reads keeper.new ≡ P.reads keeper.old }
 {
@@ -197,11 +197,11 @@ fn begin<P: Keeper>(
     requires served { IsServed core.old.state node }
     requires idle { (node_of core.old.state node).series ≡ Idle }
     ensures ok { OnOk result (Does (One (IsServedBy core.old.state node Idle))
-        (scene core.old.state out.old.items (P.records keeper.old) (P.faults keeper.old))
-        (scene core.new.state out.new.items (P.records keeper.new) (P.faults keeper.new))) }
+        (scene core.old.state out.old.items (P.shelf keeper.old))
+        (scene core.new.state out.new.items (P.shelf keeper.new))) }
     ensures decoder { core.new.decoder ≡ core.old.decoder }
-    ensures err { OnErr result (Stops (scene core.old.state out.old.items (P.records keeper.old) (P.faults keeper.old))
-        (scene core.new.state out.new.items (P.records keeper.new) (P.faults keeper.new))) }
+    ensures err { OnErr result (Stops (scene core.old.state out.old.items (P.shelf keeper.old))
+        (scene core.new.state out.new.items (P.shelf keeper.new))) }
     ensures never_fewer { P.number keeper.old ≤ P.number keeper.new }
     ensures reads { P.reads keeper.new ≡ P.reads keeper.old }
 {

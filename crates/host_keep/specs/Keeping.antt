@@ -2,6 +2,11 @@
 use Rattle.std.specs.Prelude.{◌≡◌, ℕ, Bool, true, false, List, [], ◌∷◌, ◌++◌, length, slice_get, Option, Some, None}
 use Rattle.zw_base.specs.Faults.{Rose}
 
+-- what a keeper holds, where it tells that, and how often it failed
+pub record Shelf : Type 0 where
+  pub records : Option (List (List ℕ))
+  pub faults : ℕ
+
 -- from the records before to those after these were added, where they are told; a keeper goes on telling or not
 abbrev pub OptAdds : Option (List (List ℕ)) → Option (List (List ℕ)) → List (List ℕ) → Type 0
 OptAdds None after texts = after ≡ None
@@ -13,9 +18,9 @@ IsKeptAt None at bytes = Unit {0}
 IsKeptAt (Some records) at bytes = slice_get records at ≡ Some bytes
 
 -- a record that was to be kept is added; or it is not, and the keeper failed
-abbrev pub Kept : Bool → List ℕ → Option (List (List ℕ)) → Option (List (List ℕ)) → ℕ → ℕ → Type 0
-Kept true bytes before after faults faults' = OptAdds before after (bytes ∷ [])
-Kept false bytes before after faults faults' = OptAdds before after [] × Rose faults faults'
+abbrev pub Kept : Bool → List ℕ → Shelf → Shelf → Type 0
+Kept true bytes before after = OptAdds before.records after.records (bytes ∷ [])
+Kept false bytes before after = OptAdds before.records after.records [] × Rose before.faults after.faults
 
 -- one record more, where it was kept
 abbrev pub added : Bool → ℕ

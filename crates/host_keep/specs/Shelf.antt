@@ -2,7 +2,7 @@
 use Rattle.std.specs.Prelude.{ℕ, List}
 
 -- the records, the calls so far, the numbers of the calls that are to fail (from 1), the faults so far, and the reads
-pub record Shelf : Type 0 where
+pub record MemoryShelf : Type 0 where
   pub records : List (List ℕ)
   pub calls : ℕ
   pub failing : List ℕ

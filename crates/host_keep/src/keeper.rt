@@ -2,7 +2,7 @@
 
 ghost use Rattle.std.specs.Prelude.{◌≡◌, ℕ, ◌+◌, ◌<◌, ◌≤◌, List as Items, [], ◌∷◌, Option, Some, length, IfOk, OnOk, OnErr, Err};
 ghost use Rattle.zw_base.specs.Faults.{Rose, raised};
-ghost use Rattle.host_keep.specs.Keeping.{OptAdds, IsKeptAt, Kept, added};
+ghost use Rattle.host_keep.specs.Keeping.{Shelf, OptAdds, IsKeptAt, Kept, added};
 
 use std::alloc::Global;
 use zw_base::{Bytes, NoMemory};
@@ -32,11 +32,8 @@ pub trait Keeper {
     /// How many records there are.
     ghost number: { Self → ℕ };
 
-    /// The records, where the keeper tells them.
-    ghost records: { Self → Option (Items (Items ℕ)) };
-
-    /// How often it failed, up to the greatest u64.
-    ghost faults: { Self → ℕ };
+    /// The records, where the keeper tells them, and how often it failed, up to the greatest u64.
+    ghost shelf: { Self → Shelf };
 
     /// How many records were read, up to the greatest u64.
     ghost reads: { Self → ℕ };
@@ -44,12 +41,12 @@ pub trait Keeper {
     /// Adds a record at the end.
     fn append(&mut self, bytes: &[u8]) -> Result<(), KeepFault>
         ensures added { OnOk result (number self.new ≡ number self.old + 1) }
-        ensures records { OnOk result (OptAdds (records self.old) (records self.new) (bytes.now ∷ [])) }
+        ensures records { OnOk result (OptAdds (shelf self.old).records (shelf self.new).records (bytes.now ∷ [])) }
         ensures not_added { OnErr result (number self.new ≡ number self.old) }
-        ensures unchanged { OnErr result (OptAdds (records self.old) (records self.new) []) }
+        ensures unchanged { OnErr result (OptAdds (shelf self.old).records (shelf self.new).records []) }
         ensures reads { reads self.new ≡ reads self.old }
-        ensures never_falls { faults self.old ≤ faults self.new }
-        ensures failed { result ≡ Err KeepFault.Failed → Rose (faults self.old) (faults self.new) };
+        ensures never_falls { (shelf self.old).faults ≤ (shelf self.new).faults }
+        ensures failed { result ≡ Err KeepFault.Failed → Rose (shelf self.old).faults (shelf self.new).faults };
 
     /// How many records there are.
     fn count(&self) -> u64
@@ -58,26 +55,26 @@ pub trait Keeper {
     /// The record at that place, from 0.
     fn read(&mut self, alloc: Global, at: u64) -> Result<Bytes, KeepFault>
         requires { at < number self.old }
-        ensures found { IfOk result (λ bytes. IsKeptAt (records self.old) at bytes) }
+        ensures found { IfOk result (λ bytes. IsKeptAt (shelf self.old).records at bytes) }
         ensures number { number self.new ≡ number self.old }
-        ensures records { OptAdds (records self.old) (records self.new) [] }
+        ensures records { OptAdds (shelf self.old).records (shelf self.new).records [] }
         ensures reads { OnOk result (reads self.new ≡ raised (reads self.old)) }
         ensures not_read { OnErr result (reads self.new ≡ reads self.old) }
-        ensures never_falls { faults self.old ≤ faults self.new }
-        ensures failed { result ≡ Err KeepFault.Failed → Rose (faults self.old) (faults self.new) };
+        ensures never_falls { (shelf self.old).faults ≤ (shelf self.new).faults }
+        ensures failed { result ≡ Err KeepFault.Failed → Rose (shelf self.old).faults (shelf self.new).faults };
 
     /// The records that are told are as many as there are.
-    ghost tells_all: { (keeper : Self) (told : Items (Items ℕ)) → records keeper ≡ Some told → number keeper ≡ length told };
+    ghost tells_all: { (keeper : Self) (told : Items (Items ℕ)) → (shelf keeper).records ≡ Some told → number keeper ≡ length told };
 }
 
 /// Has a record kept, and answers whether it was: where it was not, the keeper failed.
 pub fn keep<K: Keeper>(keeper: &mut K, bytes: &[u8]) -> Result<bool, NoMemory>
-    ensures kept { IfOk result (λ kept. Kept kept bytes.now (K.records keeper.old) (K.records keeper.new) (K.faults keeper.old) (K.faults keeper.new)) }
+    ensures kept { IfOk result (λ kept. Kept kept bytes.now (K.shelf keeper.old) (K.shelf keeper.new)) }
     ensures added { IfOk result (λ kept. K.number keeper.new ≡ K.number keeper.old + added kept) }
-    ensures unchanged { OnErr result (OptAdds (K.records keeper.old) (K.records keeper.new) []) }
+    ensures unchanged { OnErr result (OptAdds (K.shelf keeper.old).records (K.shelf keeper.new).records []) }
     ensures not_added { OnErr result (K.number keeper.new ≡ K.number keeper.old) }
     ensures reads { K.reads keeper.new ≡ K.reads keeper.old }
-    ensures never_falls { K.faults keeper.old ≤ K.faults keeper.new }
+    ensures never_falls { (K.shelf keeper.old).faults ≤ (K.shelf keeper.new).faults }
 {
     match keeper.append(bytes) {
         Ok(()) => Ok(true),

@@ -21,9 +21,9 @@ pub struct MemoryKeeper {
 }
 
 impl Model for MemoryKeeper {
-    ghost use Rattle.host_keep.specs.Shelf.{Shelf};
+    ghost use Rattle.host_keep.specs.Shelf.{MemoryShelf};
 
-    ghost Value = { Shelf };
+    ghost Value = { MemoryShelf };
 
     ghost view = { λ k. record { records = k.records.items; calls = k.calls; failing = k.failing.items; faults = k.faults; reads = k.reads } };
 }
@@ -72,9 +72,7 @@ impl Keeper for MemoryKeeper {
 
     ghost number = { λ k. length k.records };
 
-    ghost records = { λ k. Some k.records };
-
-    ghost faults = { λ k. k.faults };
+    ghost shelf = { λ k. record { records = Some k.records; faults = k.faults } };
 
     ghost reads = { λ k. k.reads };
 

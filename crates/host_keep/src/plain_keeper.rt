@@ -44,9 +44,7 @@ impl Keeper for PlainKeeper {
 
     ghost number = { λ k. length k.records };
 
-    ghost records = { λ k. Some k.records };
-
-    ghost faults = { λ _. 0 };
+    ghost shelf = { λ k. record { records = Some k.records; faults = 0 } };
 
     ghost reads = { λ k. k.reads };
 

@@ -3,7 +3,7 @@ use Rattle.std.proofs.Common.{◌≡◌, ℕ, ◌+◌, ◌≤◌, List, [], ◌�
 use Rattle.std.specs.Prelude.{Option, Some, None, Bool, true, false}
 use Rattle.std.specs.List.{AllByRecursion}
 use Rattle.std.proofs.lemmas.List.{append-nil, map-append}
-use Rattle.host_keep.specs.Keeping.{OptAdds}
+use Rattle.host_keep.specs.Keeping.{OptAdds, Shelf}
 use Rattle.host_keep.specs.RecordText.{record_text}
 use Rattle.host_keep.specs.Rows.{IsRecord}
 use Rattle.host_keep.specs.declared.record.Record.{Record}
@@ -13,7 +13,7 @@ use Rattle.host_model.specs.After.{after}
 use Rattle.host_model.specs.Outs.{outs}
 use Rattle.host_model.specs.Records.{records_at, KeepsInRange}
 use Rattle.host_model.specs.May.{May}
-use Rattle.host_model.specs.Did.{after_all, outs_all, records_all, texts_of, MayAll, is_unkept, RoseIf, RoseBy, one_if, unkept_in, Shelf, Did}
+use Rattle.host_model.specs.Did.{after_all, outs_all, records_all, texts_of, MayAll, is_unkept, RoseIf, RoseBy, one_if, unkept_in, Did}
 use Rattle.host_model.specs.declared.out.HostOut.{HostOut}
 
 pub after_all-append : (h : HostState) (a b : List HostEvent) → after_all h (a ++ b) ≡ after_all (after_all h a) b

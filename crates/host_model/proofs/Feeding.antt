@@ -5,10 +5,10 @@ use Rattle.serial_frame.specs.Stream.{Rest, IsRest, Signal, Feeds, GoesOn, Split
 use Rattle.serial_frame.specs.declared.item.Item.{Item}
 use Rattle.serial_link.proofs.Counting.{piece_of-append}
 use Rattle.serial_link.proofs.Taking.{feeds-append}
-use Rattle.host_keep.specs.Keeping.{OptAdds}
+use Rattle.host_keep.specs.Keeping.{OptAdds, Shelf}
 use Rattle.host_model.specs.State.{HostState, HostParts}
 use Rattle.host_model.specs.Events.{HostEvent}
-use Rattle.host_model.specs.Did.{after_all, Shelf, Did}
+use Rattle.host_model.specs.Did.{after_all, Did}
 use Rattle.host_model.specs.Taking.{IsJudged, AreJudged, Fed, FedPrefix}
 use Rattle.host_model.specs.declared.out.HostOut.{HostOut}
 use Rattle.host_model.proofs.EventLists.{after_all-append, did_nothing, did_both}

@@ -35,5 +35,6 @@ mod Restores
 mod Legal
 pub mod Fold
 pub mod Recorded
+pub mod Submitted
 pub mod Own
 pub mod Silence

@@ -1,6 +1,6 @@
 -- Events of a host one after another, and what calls of it did (this project's own).
 use Rattle.std.specs.Prelude.{◌≡◌, ◌⊎◌, ℕ, ◌+◌, ◌≤◌, Bool, true, false, List, [], ◌∷◌, ◌++◌, map, Option}
-use Rattle.host_keep.specs.Keeping.{OptAdds}
+use Rattle.host_keep.specs.Keeping.{OptAdds, Shelf}
 use Rattle.host_keep.specs.RecordText.{record_text}
 use Rattle.host_keep.specs.declared.record.Record.{Record}
 use Rattle.host_model.specs.State.{HostState}
@@ -60,11 +60,6 @@ one_if false = 0
 abbrev pub unkept_in : List HostEvent → ℕ
 unkept_in [] = 0
 unkept_in (event ∷ events) = one_if (is_unkept event) + unkept_in events
-
--- what a keeper holds, where it tells that, and how often it failed
-pub record Shelf : Type 0 where
-  pub records : Option (List (List ℕ))
-  pub faults : ℕ
 
 -- These events happened; what they put out was added, and their records were kept. The count of faults never falls, and rose for each of them that was not kept.
 pub record Did (events : List HostEvent) (old new : HostState) (before all : List HostOut) (shelf shelf' : Shelf) : Type 0 where

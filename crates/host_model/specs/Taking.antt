@@ -43,7 +43,8 @@ use Rattle.host_model.specs.State.{HostState, HostParts, node_of}
 use Rattle.host_model.specs.declared.out.HostOut.{HostOut}
 use Rattle.host_model.specs.Sessions.{open_segment}
 use Rattle.host_model.specs.After.{after, is_busy, gives_up}
-use Rattle.host_model.specs.Did.{Shelf, Did, after_all}
+use Rattle.host_keep.specs.Keeping.{Shelf}
+use Rattle.host_model.specs.Did.{Did, after_all}
 use Rattle.host_model.specs.May.{says_listens}
 use Rattle.host_model.specs.Events.{HostEvent, Hears, Requests_do, Interviews, Interview_unkept, Unreads, Is_unkept, Reports_old, Works, Finishes, Offers, Gives, Spends, Spends_unread, Takes_nonce, Notifies, Resends, Hears_value, Has_no_room}
 

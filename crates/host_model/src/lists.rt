@@ -4,7 +4,7 @@ ghost use Rattle.std.specs.Prelude.{◌≡◌, ℕ, ◌≤◌, List, [], ◌∷�
 ghost use Rattle.std.specs.List.{AllByRecursion};
 ghost use Rattle.serial_frame.specs.Stream.{Feeds, GoesOn, IsRest, piece_of};
 ghost use Rattle.serial_frame.specs.declared.item.Item.{Item};
-ghost use Rattle.host_keep.specs.Keeping.{OptAdds};
+ghost use Rattle.host_keep.specs.Keeping.{OptAdds, Shelf};
 ghost use Rattle.host_keep.specs.Rows.{IsRecord};
 ghost use Rattle.host_model.specs.State.{HostState, HostParts};
 ghost use Rattle.host_model.specs.Events.{HostEvent};
@@ -12,7 +12,7 @@ ghost use Rattle.host_model.specs.After.{after};
 ghost use Rattle.host_model.specs.Outs.{outs};
 ghost use Rattle.host_model.specs.Records.{records_at, KeepsInRange};
 ghost use Rattle.host_model.specs.May.{May};
-ghost use Rattle.host_model.specs.Did.{after_all, outs_all, records_all, texts_of, MayAll, is_unkept, RoseIf, Shelf, Did};
+ghost use Rattle.host_model.specs.Did.{after_all, outs_all, records_all, texts_of, MayAll, is_unkept, RoseIf, Did};
 ghost use Rattle.host_model.specs.Taking.{IsJudged, AreJudged, Fed, FedPrefix};
 ghost use Rattle.host_model.specs.declared.out.HostOut.{HostOut};
 

@@ -54,19 +54,19 @@ pub fn accept<P: Keeper>(
     ensures may { (h : HostState) →
         OnOk result (May (record h { nodes = nodes.old; commands = commands.old.items; store = store.old })
         (Accepts order.now (carriage_for (record h { nodes = nodes.old; commands = commands.old.items; store = store.old }) order.now))) }
-    ensures kept { OnOk result (OptAdds (P.records keeper.old) (P.records keeper.new)
+    ensures kept { OnOk result (OptAdds (P.shelf keeper.old).records (P.shelf keeper.new).records
         (record_text (the_accepted (length commands.old.items + 1) order.now) ∷ [])) }
     ensures in_range { OnOk result (IsRecord (the_accepted (length commands.old.items + 1) order.now)) }
     ensures state { (h : HostState) →
         OnOk result (record h { nodes = nodes.new; commands = commands.new.items; store = store.new } ≡
         after (record h { nodes = nodes.old; commands = commands.old.items; store = store.old })
         (Accepts order.now (carriage_for (record h { nodes = nodes.old; commands = commands.old.items; store = store.old }) order.now))) }
-    ensures failed { result ≡ Err Refused.KeeperFault → Rose (P.faults keeper.old) (P.faults keeper.new) }
+    ensures failed { result ≡ Err Refused.KeeperFault → Rose (P.shelf keeper.old).faults (P.shelf keeper.new).faults }
     ensures err { (h : HostState) →
         OnErr result (record h { nodes = nodes.new; commands = commands.new.items; store = store.new } ≡
         record h { nodes = nodes.old; commands = commands.old.items; store = store.old }) }
-    ensures no_record { OnErr result (OptAdds (P.records keeper.old) (P.records keeper.new) []) }
-    ensures never_falls { P.faults keeper.old ≤ P.faults keeper.new }
+    ensures no_record { OnErr result (OptAdds (P.shelf keeper.old).records (P.shelf keeper.new).records []) }
+    ensures never_falls { (P.shelf keeper.old).faults ≤ (P.shelf keeper.new).faults }
     ensures more { OnOk result (P.number keeper.old < P.number keeper.new) }
     ensures never_fewer { P.number keeper.old ≤ P.number keeper.new }
     ensures reads { P.reads keeper.new ≡ P.reads keeper.old }
@@ -96,19 +96,19 @@ fn accept_judged<P: Keeper>(
     ensures may { (h : HostState) →
         OnOk result (May (record h { nodes = nodes.old; commands = commands.old.items; store = store.old })
         (Accepts order.now (carriage_for (record h { nodes = nodes.old; commands = commands.old.items; store = store.old }) order.now))) }
-    ensures kept { OnOk result (OptAdds (P.records keeper.old) (P.records keeper.new)
+    ensures kept { OnOk result (OptAdds (P.shelf keeper.old).records (P.shelf keeper.new).records
         (record_text (the_accepted (length commands.old.items + 1) order.now) ∷ [])) }
     ensures in_range { OnOk result (IsRecord (the_accepted (length commands.old.items + 1) order.now)) }
     ensures state { (h : HostState) →
         OnOk result (record h { nodes = nodes.new; commands = commands.new.items; store = store.new } ≡
         after (record h { nodes = nodes.old; commands = commands.old.items; store = store.old })
         (Accepts order.now (carriage_for (record h { nodes = nodes.old; commands = commands.old.items; store = store.old }) order.now))) }
-    ensures failed { result ≡ Err Refused.KeeperFault → Rose (P.faults keeper.old) (P.faults keeper.new) }
+    ensures failed { result ≡ Err Refused.KeeperFault → Rose (P.shelf keeper.old).faults (P.shelf keeper.new).faults }
     ensures err { (h : HostState) →
         OnErr result (record h { nodes = nodes.new; commands = commands.new.items; store = store.new } ≡
         record h { nodes = nodes.old; commands = commands.old.items; store = store.old }) }
-    ensures no_record { OnErr result (OptAdds (P.records keeper.old) (P.records keeper.new) []) }
-    ensures never_falls { P.faults keeper.old ≤ P.faults keeper.new }
+    ensures no_record { OnErr result (OptAdds (P.shelf keeper.old).records (P.shelf keeper.new).records []) }
+    ensures never_falls { (P.shelf keeper.old).faults ≤ (P.shelf keeper.new).faults }
     ensures more { OnOk result (P.number keeper.old < P.number keeper.new) }
     ensures never_fewer { P.number keeper.old ≤ P.number keeper.new }
     ensures reads { P.reads keeper.new ≡ P.reads keeper.old }
@@ -278,12 +278,12 @@ fn keep_accepted<P: Keeper>(
     order: &Order,
     keeper: &mut P,
 ) -> Result<(), Refused>
-    ensures kept { OnOk result (OptAdds (P.records keeper.old) (P.records keeper.new) (record_text (the_accepted number order.now) ∷ [])) }
+    ensures kept { OnOk result (OptAdds (P.shelf keeper.old).records (P.shelf keeper.new).records (record_text (the_accepted number order.now) ∷ [])) }
     ensures in_range { OnOk result (IsRecord (the_accepted number order.now)) }
     ensures faults { IfErr result (λ refused. (refused ≡ Refused.KeeperFault) ⊎ (refused ≡ Refused.NoMemory)) }
-    ensures failed { result ≡ Err Refused.KeeperFault → Rose (P.faults keeper.old) (P.faults keeper.new) }
-    ensures no_record { OnErr result (OptAdds (P.records keeper.old) (P.records keeper.new) []) }
-    ensures never_falls { P.faults keeper.old ≤ P.faults keeper.new }
+    ensures failed { result ≡ Err Refused.KeeperFault → Rose (P.shelf keeper.old).faults (P.shelf keeper.new).faults }
+    ensures no_record { OnErr result (OptAdds (P.shelf keeper.old).records (P.shelf keeper.new).records []) }
+    ensures never_falls { (P.shelf keeper.old).faults ≤ (P.shelf keeper.new).faults }
     ensures more { OnOk result (P.number keeper.old < P.number keeper.new) }
     ensures never_fewer { P.number keeper.old ≤ P.number keeper.new }
     ensures reads { P.reads keeper.new ≡ P.reads keeper.old }

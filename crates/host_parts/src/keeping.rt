@@ -15,11 +15,10 @@ pub fn keep_record<P: Keeper>(
     kept: &Record,
     keeper: &mut P,
 ) -> Result<bool, NoMemory>
-    ensures kept { IfOk result (λ is_kept. Kept is_kept (record_text kept.now) (P.records keeper.old) (P.records keeper.new)
-        (P.faults keeper.old) (P.faults keeper.new)) }
+    ensures kept { IfOk result (λ is_kept. Kept is_kept (record_text kept.now) (P.shelf keeper.old) (P.shelf keeper.new)) }
     ensures in_range { OnOk result (IsRecord kept.now) }
-    ensures no_record { OnErr result (OptAdds (P.records keeper.old) (P.records keeper.new) []) }
-    ensures never_falls { P.faults keeper.old ≤ P.faults keeper.new }
+    ensures no_record { OnErr result (OptAdds (P.shelf keeper.old).records (P.shelf keeper.new).records []) }
+    ensures never_falls { (P.shelf keeper.old).faults ≤ (P.shelf keeper.new).faults }
     ensures added { IfOk result (λ is_kept. P.number keeper.new ≡ P.number keeper.old + added is_kept) }
     ensures never_fewer { P.number keeper.old ≤ P.number keeper.new }
     ensures reads { P.reads keeper.new ≡ P.reads keeper.old }

@@ -24,14 +24,14 @@ impl HostCore {
     pub fn accept<P: Keeper>(&mut self, order: &Order, keeper: &mut P) -> Result<u32, Refused>
         ensures number { IfOk result (λ number. number ≡ length self.old.state.commands + 1) }
         ensures judges { Judges result (refusal_for self.old.state order.now) }
-        ensures kept { OnOk result (OptAdds (P.records keeper.old) (P.records keeper.new)
+        ensures kept { OnOk result (OptAdds (P.shelf keeper.old).records (P.shelf keeper.new).records
             (record_text (the_accepted (length self.old.state.commands + 1) order.now) ∷ [])) }
         ensures in_range { OnOk result (IsRecord (the_accepted (length self.old.state.commands + 1) order.now)) }
         ensures state { OnOk result (self.new ≡ record self.old { state = after self.old.state (Accepts order.now (carriage_for self.old.state order.now)) }) }
-        ensures failed { result ≡ Err Refused.KeeperFault → Rose (P.faults keeper.old) (P.faults keeper.new) }
+        ensures failed { result ≡ Err Refused.KeeperFault → Rose (P.shelf keeper.old).faults (P.shelf keeper.new).faults }
         ensures err { OnErr result (self.new ≡ self.old) }
-        ensures no_record { OnErr result (OptAdds (P.records keeper.old) (P.records keeper.new) []) }
-        ensures never_falls { P.faults keeper.old ≤ P.faults keeper.new }
+        ensures no_record { OnErr result (OptAdds (P.shelf keeper.old).records (P.shelf keeper.new).records []) }
+        ensures never_falls { (P.shelf keeper.old).faults ≤ (P.shelf keeper.new).faults }
         ensures more { OnOk result (P.number keeper.old < P.number keeper.new) }
         ensures never_fewer { P.number keeper.old ≤ P.number keeper.new }
         ensures reads { P.reads keeper.new ≡ P.reads keeper.old }

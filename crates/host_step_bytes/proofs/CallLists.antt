@@ -16,7 +16,7 @@ use Rattle.host_model.specs.Did.{after_all, is_unkept, RoseIf, texts_of}
 use Rattle.host_model.specs.declared.out.HostOut.{HostOut}
 use Rattle.host_model.proofs.EventLists.{none_added, did_nothing, did_one, did_both}
 use Rattle.host_step_kept.specs.Choices.{chosen}
-use Rattle.host_step_bytes.specs.Calls.{Scene, beside, Does, Stops, DoesAlone, StopsAlone}
+use Rattle.host_step_bytes.specs.Calls.{scene, Scene, Does, Stops, DoesAlone, StopsAlone}
 
 -- ---- nothing
 
@@ -31,10 +31,10 @@ stops_at_once a b host outs records falls =
 -- a call that asked no keeper did nothing
 pub nothing_alone : (Kind : List HostEvent → Type 0) (old new : HostState) (before all : List HostOut) → Kind [] → new ≡ old → all ≡ before → DoesAlone Kind old before new all
 nothing_alone Kind old new before all are host outs =
-    λ shelf. does_nothing Kind (beside shelf old before) (beside shelf new all) are host outs (none_added shelf.records) (omega arith)
+    λ shelf. does_nothing Kind (scene old before shelf) (scene new all shelf) are host outs (none_added shelf.records) (omega arith)
 
 pub stops_alone : (old new : HostState) (before all : List HostOut) → new ≡ old → all ≡ before → StopsAlone old before new all
-stops_alone old new before all host outs = λ shelf. stops_at_once (beside shelf old before) (beside shelf new all) host outs (none_added shelf.records) (omega arith)
+stops_alone old new before all host outs = λ shelf. stops_at_once (scene old before shelf) (scene new all shelf) host outs (none_added shelf.records) (omega arith)
 
 -- ---- one event
 
@@ -47,14 +47,14 @@ does_one Kind e a b are may range host put records rose falls =
 pub one_alone : (Kind : List HostEvent → Type 0) (e : HostEvent) (old new : HostState) (before all : List HostOut) → Kind (e ∷ []) → May old e → records_at old e ≡ [] → is_unkept e ≡ false
     → new ≡ after old e → all ≡ before ++ outs old e → DoesAlone Kind old before new all
 one_alone Kind e old new before all are may none kept host put =
-    λ shelf. does_one Kind e (beside shelf old before) (beside shelf new all) are may (subst (λ (r : List Record). AllByRecursion IsRecord r) (sym none) tt) host put
+    λ shelf. does_one Kind e (scene old before shelf) (scene new all shelf) are may (subst (λ (r : List Record). AllByRecursion IsRecord r) (sym none) tt) host put
     (subst (λ (r : List Record). OptAdds shelf.records shelf.records (texts_of r)) (sym none) (none_added shelf.records))
     (subst (λ (x : Bool). RoseIf x shelf.faults shelf.faults) (sym kept) tt) (omega arith)
 
 -- one whose record was kept, or the one that says that it was not
 pub does_kept : (Kind : List HostEvent → Type 0) (is_kept : Bool) (e u : HostEvent) (r : Record) (a b : Scene) → Kind (chosen is_kept e u ∷ []) → May a.host (chosen is_kept e u)
     → records_at a.host e ≡ r ∷ [] → IsRecord r → is_unkept e ≡ false → records_at a.host u ≡ [] → is_unkept u ≡ true
-    → Kept is_kept (record_text r) a.shelf.records b.shelf.records a.shelf.faults b.shelf.faults → b.host ≡ after a.host (chosen is_kept e u) → b.outs ≡ a.outs ++ outs a.host (chosen is_kept e u)
+    → Kept is_kept (record_text r) a.shelf b.shelf → b.host ≡ after a.host (chosen is_kept e u) → b.outs ≡ a.outs ++ outs a.host (chosen is_kept e u)
     → a.shelf.faults ≤ b.shelf.faults → Does Kind a b
 does_kept Kind true e u r a b are may recorded range kept_it none not_it kept host put falls =
     does_one Kind e a b are may (subst (λ (l : List Record). AllByRecursion IsRecord l) (sym recorded) (range, tt)) host put

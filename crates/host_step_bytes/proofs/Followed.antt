@@ -123,7 +123,7 @@ read_as read one a b is does = subst (λ (r : Result Notice BodyFault). Does (No
 -- an interview ended well, once that was kept
 pub interviewed_does : (update : Update) (n : ℕ) (types : ℕ × ℕ × ℕ) (classes : List ℕ) (found : Option ℕ) (capability : ℕ) (is_kept : Bool) (a b : Scene) → update ≡ Received n types.0 types.1 types.2 classes
     → found ≡ interviewed_by a.host.requests update → found ≡ Some capability
-    → IsRecord (Classes n (says_listens capability) classes) → Kept is_kept (record_text (Classes n (says_listens capability) classes)) a.shelf.records b.shelf.records a.shelf.faults b.shelf.faults
+    → IsRecord (Classes n (says_listens capability) classes) → Kept is_kept (record_text (Classes n (says_listens capability) classes)) a.shelf b.shelf
     → b.host ≡ after a.host (chosen is_kept (Interviews n (says_listens capability) classes update) (Interview_unkept n update))
     → b.outs ≡ a.outs ++ outs a.host (chosen is_kept (Interviews n (says_listens capability) classes update) (Interview_unkept n update)) → a.shelf.faults ≤ b.shelf.faults
     → Does (InterviewEvents update (interviewed_by a.host.requests update)) a b
@@ -138,12 +138,12 @@ interviewed_does update n types classes found capability is_kept a b is here som
 -- the same, of what was said of its listening
 pub interviewed_as : (update : Update) (n : ℕ) (types : ℕ × ℕ × ℕ) (classes : List ℕ) (found : Option ℕ) (capability : ℕ) (listens is_kept : Bool) (a b : Scene) → update ≡ Received n types.0 types.1 types.2 classes
     → found ≡ interviewed_by a.host.requests update → found ≡ Some capability → listens ≡ says_listens capability
-    → IsRecord (Classes n listens classes) → Kept is_kept (record_text (Classes n listens classes)) a.shelf.records b.shelf.records a.shelf.faults b.shelf.faults
+    → IsRecord (Classes n listens classes) → Kept is_kept (record_text (Classes n listens classes)) a.shelf b.shelf
     → b.host ≡ after a.host (chosen is_kept (Interviews n listens classes update) (Interview_unkept n update))
     → b.outs ≡ a.outs ++ outs a.host (chosen is_kept (Interviews n listens classes update) (Interview_unkept n update)) → a.shelf.faults ≤ b.shelf.faults
     → Does (InterviewEvents update (interviewed_by a.host.requests update)) a b
 interviewed_as update n types classes found capability listens is_kept a b is here some says range kept host put falls =
     interviewed_does update n types classes found capability is_kept a b is here some range
-    (subst (λ (l : Bool). Kept is_kept (record_text (Classes n l classes)) a.shelf.records b.shelf.records a.shelf.faults b.shelf.faults) says kept)
+    (subst (λ (l : Bool). Kept is_kept (record_text (Classes n l classes)) a.shelf b.shelf) says kept)
     (subst (λ (l : Bool). b.host ≡ after a.host (chosen is_kept (Interviews n l classes update) (Interview_unkept n update))) says host)
     (subst (λ (l : Bool). b.outs ≡ a.outs ++ outs a.host (chosen is_kept (Interviews n l classes update) (Interview_unkept n update))) says put) falls

@@ -38,7 +38,7 @@ nonce_offered n nonce a b live host put records falls =
 -- a new one is given
 pub nonce_given : (n : ℕ) (drawn : List ℕ) (is_kept : Bool) (a b : Scene) → live_of a.host.nonces n ≡ None → length drawn ≡ 8 → AreBytes drawn
     → IsRecord (Given n (given_of a.host.nonces n + 1) (new_nonce (given_of a.host.nonces n) drawn))
-    → Kept is_kept (record_text (Given n (given_of a.host.nonces n + 1) (new_nonce (given_of a.host.nonces n) drawn))) a.shelf.records b.shelf.records a.shelf.faults b.shelf.faults
+    → Kept is_kept (record_text (Given n (given_of a.host.nonces n + 1) (new_nonce (given_of a.host.nonces n) drawn))) a.shelf b.shelf
     → b.host ≡ after a.host (chosen is_kept (Gives n drawn) (Is_unkept n)) → b.outs ≡ a.outs ++ outs a.host (chosen is_kept (Gives n drawn) (Is_unkept n)) → a.shelf.faults ≤ b.shelf.faults
     → Does (NonceGetEvents n (live_of a.host.nonces n)) a b
 nonce_given n drawn is_kept a b none eight bytes range kept host put falls =

@@ -3,12 +3,12 @@ use Rattle.std.proofs.Common.{◌≡◌, ℕ, ◌<◌, ◌≤◌, List, [], ◌�
 use Rattle.std.specs.Prelude.{Some, None}
 use Rattle.serial_frame.specs.Stream.{Rest, IsRest, Feeds, GoesOn, piece_of}
 use Rattle.serial_frame.specs.declared.item.Item.{Item}
-use Rattle.host_keep.specs.Keeping.{OptAdds}
+use Rattle.host_keep.specs.Keeping.{OptAdds, Shelf}
 use Rattle.host_model.specs.State.{HostState, HostParts}
 use Rattle.host_model.specs.Events.{HostEvent, Hears}
 use Rattle.host_model.specs.After.{after}
 use Rattle.host_model.specs.Outs.{outs}
-use Rattle.host_model.specs.Did.{Shelf, Did}
+use Rattle.host_model.specs.Did.{Did}
 use Rattle.host_model.specs.Taking.{IsJudged, IsFollowed, Fed, FedPrefix}
 use Rattle.host_model.specs.declared.out.HostOut.{HostOut}
 use Rattle.host_model.proofs.EventLists.{none_added}

@@ -71,7 +71,7 @@ final_or n session id command ended wake_request is_kept carried status one two 
 -- a report that ends the session was kept, or not
 pub session_ended : (n session id command : ℕ) (status : ReportStatus) (ended : FinalStatus) (wake_request is_kept : Bool) (a b : Scene) → told_of (node_of a.host n).book id (status_byte status) ≡ Final session
     → command_of_session (node_of a.host n).book.commands session ≡ Some command → status_of (status_byte status) ≡ Some ended
-    → IsRecord (record_of.Final n session ended) → Kept is_kept (record_text (record_of.Final n session ended)) a.shelf.records b.shelf.records a.shelf.faults b.shelf.faults
+    → IsRecord (record_of.Final n session ended) → Kept is_kept (record_text (record_of.Final n session ended)) a.shelf b.shelf
     → b.host ≡ after a.host (chosen is_kept (Finishes n session id command ended wake_request) (Is_unkept n)) → b.outs ≡ a.outs ++ outs a.host (chosen is_kept (Finishes n session id command ended wake_request) (Is_unkept n))
     → a.shelf.faults ≤ b.shelf.faults → Does (FinalEvents n session id (command_of_session (node_of a.host n).book.commands session) (status_of (status_byte status)) wake_request) a b
 session_ended n session id command status ended wake_request is_kept a b told carried is range kept host put falls =

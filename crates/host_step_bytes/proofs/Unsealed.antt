@@ -59,7 +59,7 @@ named_live payload (Some live) nonce e = refl
 
 -- its event happened
 pub opening_did : (n : ℕ) (payload nonce : List ℕ) (opened : Opened) (a b : Scene) → named_by payload (live_of a.host.nonces n) ≡ Some nonce
-    → IsRecord (record_of.Spent n) → Kept (is_kept opened) (record_text (record_of.Spent n)) a.shelf.records b.shelf.records a.shelf.faults b.shelf.faults → b.host ≡ after a.host (opening n payload opened)
+    → IsRecord (record_of.Spent n) → Kept (is_kept opened) (record_text (record_of.Spent n)) a.shelf b.shelf → b.host ≡ after a.host (opening n payload opened)
     → b.outs ≡ a.outs ++ outs a.host (opening n payload opened) → a.shelf.faults ≤ b.shelf.faults → Does (Are (opening n payload opened ∷ [])) a b
 opening_did n payload nonce Unkept a b named range kept host put falls = does_one (Are (Is_unkept n ∷ [])) (Is_unkept n) a b refl tt tt host put kept.0 kept.1 falls
 opening_did n payload nonce InVain a b named range kept host put falls =

@@ -3,10 +3,15 @@
 use Rattle.std.specs.Prelude.{◌≡◌, ℕ, ◌<◌, Bool, true, false, List, [], ◌∷◌, ◌++◌, length, Option, Some, None}
 use Rattle.host_model.specs.State.{HostState, HostParts}
 use Rattle.host_model.specs.Events.{HostEvent}
-use Rattle.host_model.specs.Did.{Shelf, Did}
+use Rattle.host_keep.specs.Keeping.{Shelf}
+use Rattle.host_model.specs.Did.{Did}
 use Rattle.host_model.specs.Pumping.{IsNext, IsPumped}
 use Rattle.host_model.specs.Taking.{Fed}
 use Rattle.host_model.specs.declared.out.HostOut.{HostOut}
+
+-- what a keeper holds, by its parts
+abbrev pub shelf_of : Option (List (List ℕ)) → ℕ → Shelf
+shelf_of records faults = record { records = records; faults = faults }
 
 -- a host, what it put out so far, and what its keeper holds
 pub record Scene : Type 0 where
@@ -14,11 +19,8 @@ pub record Scene : Type 0 where
   pub outs : List HostOut
   pub shelf : Shelf
 
-abbrev pub scene : HostState → List HostOut → Option (List (List ℕ)) → ℕ → Scene
-scene host outs records faults = record { host = host; outs = outs; shelf = record { records = records; faults = faults } }
-
-abbrev pub beside : Shelf → HostState → List HostOut → Scene
-beside shelf host outs = record { host = host; outs = outs; shelf = shelf }
+abbrev pub scene : HostState → List HostOut → Shelf → Scene
+scene host outs shelf = record { host = host; outs = outs; shelf = shelf }
 
 -- events of this kind happened
 pub record Does (Kind : List HostEvent → Type 0) (old new : Scene) : Type 0 where
@@ -33,10 +35,10 @@ pub record Stops (old new : Scene) : Type 0 where
 
 -- the same of a call that asks no keeper: whatever one holds, it holds on
 abbrev pub DoesAlone : (List HostEvent → Type 0) → HostState → List HostOut → HostState → List HostOut → Type 0
-DoesAlone Kind old before new all = (shelf : Shelf) → Does Kind (beside shelf old before) (beside shelf new all)
+DoesAlone Kind old before new all = (shelf : Shelf) → Does Kind (scene old before shelf) (scene new all shelf)
 
 abbrev pub StopsAlone : HostState → List HostOut → HostState → List HostOut → Type 0
-StopsAlone old before new all = (shelf : Shelf) → Stops (beside shelf old before) (beside shelf new all)
+StopsAlone old before new all = (shelf : Shelf) → Stops (scene old before shelf) (scene new all shelf)
 
 -- these events, and no others
 abbrev pub Are : List HostEvent → List HostEvent → Type 0

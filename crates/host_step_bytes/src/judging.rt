@@ -37,11 +37,11 @@ pub fn feed<D: Draw, P: Keeper>(
     keeper: &mut P,
 ) -> Result<(), NoMemory>
     ensures ok { OnOk result (Fed core.old piece.now core.new out.old.items out.new.items
-        (scene core.old.state out.old.items (P.records keeper.old) (P.faults keeper.old)).shelf
-        (scene core.new.state out.new.items (P.records keeper.new) (P.faults keeper.new)).shelf) }
+        (scene core.old.state out.old.items (P.shelf keeper.old)).shelf
+        (scene core.new.state out.new.items (P.shelf keeper.new)).shelf) }
     ensures err { OnErr result (FedPrefix core.old piece.now core.new out.old.items out.new.items
-        (scene core.old.state out.old.items (P.records keeper.old) (P.faults keeper.old)).shelf
-        (scene core.new.state out.new.items (P.records keeper.new) (P.faults keeper.new)).shelf) }
+        (scene core.old.state out.old.items (P.shelf keeper.old)).shelf
+        (scene core.new.state out.new.items (P.shelf keeper.new)).shelf) }
     ensures never_fewer { P.number keeper.old ≤ P.number keeper.new }
     ensures reads { P.reads keeper.new ≡ P.reads keeper.old }
 {
@@ -61,11 +61,11 @@ fn take_item<'a, D: Draw, P: Keeper>(
     keeper: &mut P,
 ) -> Result<Option<&'a [u8]>, NoMemory>
     ensures takes { IfOk result (λ left. TakesOne core.old piece.now core.new
-        (scene core.old.state out.old.items (P.records keeper.old) (P.faults keeper.old))
-        (scene core.new.state out.new.items (P.records keeper.new) (P.faults keeper.new)) (option_copied left)) }
+        (scene core.old.state out.old.items (P.shelf keeper.old))
+        (scene core.new.state out.new.items (P.shelf keeper.new)) (option_copied left)) }
     ensures err { OnErr result (FedPrefix core.old piece.now core.new out.old.items out.new.items
-        (scene core.old.state out.old.items (P.records keeper.old) (P.faults keeper.old)).shelf
-        (scene core.new.state out.new.items (P.records keeper.new) (P.faults keeper.new)).shelf) }
+        (scene core.old.state out.old.items (P.shelf keeper.old)).shelf
+        (scene core.new.state out.new.items (P.shelf keeper.new)).shelf) }
     ensures never_fewer { P.number keeper.old ≤ P.number keeper.new }
     ensures reads { P.reads keeper.new ≡ P.reads keeper.old }
 {
@@ -87,11 +87,11 @@ fn judge<D: Draw, P: Keeper>(
     keeper: &mut P,
 ) -> Result<(), NoMemory>
     ensures ok { OnOk result (Does (IsJudged core.old.state item.now)
-        (scene core.old.state out.old.items (P.records keeper.old) (P.faults keeper.old))
-        (scene core.new.state out.new.items (P.records keeper.new) (P.faults keeper.new))) }
+        (scene core.old.state out.old.items (P.shelf keeper.old))
+        (scene core.new.state out.new.items (P.shelf keeper.new))) }
     ensures decoder { core.new.decoder ≡ core.old.decoder }
-    ensures err { OnErr result (Stops (scene core.old.state out.old.items (P.records keeper.old) (P.faults keeper.old))
-        (scene core.new.state out.new.items (P.records keeper.new) (P.faults keeper.new))) }
+    ensures err { OnErr result (Stops (scene core.old.state out.old.items (P.shelf keeper.old))
+        (scene core.new.state out.new.items (P.shelf keeper.new))) }
     ensures never_fewer { P.number keeper.old ≤ P.number keeper.new }
     ensures reads { P.reads keeper.new ≡ P.reads keeper.old }
 {
@@ -111,11 +111,11 @@ fn follow<D: Draw, P: Keeper>(
     keeper: &mut P,
 ) -> Result<(), NoMemory>
     ensures ok { OnOk result ((turn : Turn) → was_busy ≡ is_busy turn →
-        Does (IsFollowed core.old.state turn item.now) (scene core.old.state out.old.items (P.records keeper.old) (P.faults keeper.old))
-        (scene core.new.state out.new.items (P.records keeper.new) (P.faults keeper.new))) }
+        Does (IsFollowed core.old.state turn item.now) (scene core.old.state out.old.items (P.shelf keeper.old))
+        (scene core.new.state out.new.items (P.shelf keeper.new))) }
     ensures decoder { core.new.decoder ≡ core.old.decoder }
-    ensures err { OnErr result (Stops (scene core.old.state out.old.items (P.records keeper.old) (P.faults keeper.old))
-        (scene core.new.state out.new.items (P.records keeper.new) (P.faults keeper.new))) }
+    ensures err { OnErr result (Stops (scene core.old.state out.old.items (P.shelf keeper.old))
+        (scene core.new.state out.new.items (P.shelf keeper.new))) }
     ensures never_fewer { P.number keeper.old ≤ P.number keeper.new }
     ensures reads { P.reads keeper.new ≡ P.reads keeper.old }
 {
@@ -139,11 +139,11 @@ fn follow_unit<D: Draw, P: Keeper>(
 ) -> Result<(), NoMemory>
     ensures ok { OnOk result ((turn : Turn) → was_busy ≡ is_busy turn →
         Does (IsFollowed core.old.state turn (Good unit.now))
-        (scene core.old.state out.old.items (P.records keeper.old) (P.faults keeper.old))
-        (scene core.new.state out.new.items (P.records keeper.new) (P.faults keeper.new))) }
+        (scene core.old.state out.old.items (P.shelf keeper.old))
+        (scene core.new.state out.new.items (P.shelf keeper.new))) }
     ensures decoder { core.new.decoder ≡ core.old.decoder }
-    ensures err { OnErr result (Stops (scene core.old.state out.old.items (P.records keeper.old) (P.faults keeper.old))
-        (scene core.new.state out.new.items (P.records keeper.new) (P.faults keeper.new))) }
+    ensures err { OnErr result (Stops (scene core.old.state out.old.items (P.shelf keeper.old))
+        (scene core.new.state out.new.items (P.shelf keeper.new))) }
     ensures never_fewer { P.number keeper.old ≤ P.number keeper.new }
     ensures reads { P.reads keeper.new ≡ P.reads keeper.old }
 {
@@ -207,11 +207,11 @@ fn take_frame<D: Draw, P: Keeper>(
     keeper: &mut P,
 ) -> Result<(), NoMemory>
     ensures ok { OnOk result (Does (FrameEvents core.old.state frame.now.kind frame.now.func frame.now.body)
-        (scene core.old.state out.old.items (P.records keeper.old) (P.faults keeper.old))
-        (scene core.new.state out.new.items (P.records keeper.new) (P.faults keeper.new))) }
+        (scene core.old.state out.old.items (P.shelf keeper.old))
+        (scene core.new.state out.new.items (P.shelf keeper.new))) }
     ensures decoder { core.new.decoder ≡ core.old.decoder }
-    ensures err { OnErr result (Stops (scene core.old.state out.old.items (P.records keeper.old) (P.faults keeper.old))
-        (scene core.new.state out.new.items (P.records keeper.new) (P.faults keeper.new))) }
+    ensures err { OnErr result (Stops (scene core.old.state out.old.items (P.shelf keeper.old))
+        (scene core.new.state out.new.items (P.shelf keeper.new))) }
     ensures never_fewer { P.number keeper.old ≤ P.number keeper.new }
     ensures reads { P.reads keeper.new ≡ P.reads keeper.old }
 {
@@ -232,11 +232,11 @@ fn take_body<D: Draw, P: Keeper>(
 ) -> Result<(), NoMemory>
     requires { length body.now ≤ 65534 }
     ensures ok { OnOk result (Does (FrameEvents core.old.state kind func body.now)
-        (scene core.old.state out.old.items (P.records keeper.old) (P.faults keeper.old))
-        (scene core.new.state out.new.items (P.records keeper.new) (P.faults keeper.new))) }
+        (scene core.old.state out.old.items (P.shelf keeper.old))
+        (scene core.new.state out.new.items (P.shelf keeper.new))) }
     ensures decoder { core.new.decoder ≡ core.old.decoder }
-    ensures err { OnErr result (Stops (scene core.old.state out.old.items (P.records keeper.old) (P.faults keeper.old))
-        (scene core.new.state out.new.items (P.records keeper.new) (P.faults keeper.new))) }
+    ensures err { OnErr result (Stops (scene core.old.state out.old.items (P.shelf keeper.old))
+        (scene core.new.state out.new.items (P.shelf keeper.new))) }
     ensures never_fewer { P.number keeper.old ≤ P.number keeper.new }
     ensures reads { P.reads keeper.new ≡ P.reads keeper.old }
 {
@@ -294,11 +294,11 @@ fn take_notice<D: Draw, P: Keeper>(
 ) -> Result<(), NoMemory>
     requires { length body.now ≤ 65534 }
     ensures ok { OnOk result (Does (NoticeEvents core.old.state (notice_of func body.now))
-        (scene core.old.state out.old.items (P.records keeper.old) (P.faults keeper.old))
-        (scene core.new.state out.new.items (P.records keeper.new) (P.faults keeper.new))) }
+        (scene core.old.state out.old.items (P.shelf keeper.old))
+        (scene core.new.state out.new.items (P.shelf keeper.new))) }
     ensures decoder { core.new.decoder ≡ core.old.decoder }
-    ensures err { OnErr result (Stops (scene core.old.state out.old.items (P.records keeper.old) (P.faults keeper.old))
-        (scene core.new.state out.new.items (P.records keeper.new) (P.faults keeper.new))) }
+    ensures err { OnErr result (Stops (scene core.old.state out.old.items (P.shelf keeper.old))
+        (scene core.new.state out.new.items (P.shelf keeper.new))) }
     ensures never_fewer { P.number keeper.old ≤ P.number keeper.new }
     ensures reads { P.reads keeper.new ≡ P.reads keeper.old }
 {
@@ -321,11 +321,11 @@ fn take_read<D: Draw, P: Keeper>(
 ) -> Result<(), NoMemory>
     requires { HasShortPayload notice }
     ensures ok { OnOk result (Does (NoticeEvents core.old.state (Ok notice))
-        (scene core.old.state out.old.items (P.records keeper.old) (P.faults keeper.old))
-        (scene core.new.state out.new.items (P.records keeper.new) (P.faults keeper.new))) }
+        (scene core.old.state out.old.items (P.shelf keeper.old))
+        (scene core.new.state out.new.items (P.shelf keeper.new))) }
     ensures decoder { core.new.decoder ≡ core.old.decoder }
-    ensures err { OnErr result (Stops (scene core.old.state out.old.items (P.records keeper.old) (P.faults keeper.old))
-        (scene core.new.state out.new.items (P.records keeper.new) (P.faults keeper.new))) }
+    ensures err { OnErr result (Stops (scene core.old.state out.old.items (P.shelf keeper.old))
+        (scene core.new.state out.new.items (P.shelf keeper.new))) }
     ensures never_fewer { P.number keeper.old ≤ P.number keeper.new }
     ensures reads { P.reads keeper.new ≡ P.reads keeper.old }
 {
@@ -361,11 +361,11 @@ fn take_update<P: Keeper>(
     keeper: &mut P,
 ) -> Result<(), NoMemory>
     ensures ok { OnOk result (Does (InterviewEvents update (interviewed_by core.old.state.requests update))
-        (scene core.old.state out.old.items (P.records keeper.old) (P.faults keeper.old))
-        (scene core.new.state out.new.items (P.records keeper.new) (P.faults keeper.new))) }
+        (scene core.old.state out.old.items (P.shelf keeper.old))
+        (scene core.new.state out.new.items (P.shelf keeper.new))) }
     ensures decoder { core.new.decoder ≡ core.old.decoder }
-    ensures err { OnErr result (Stops (scene core.old.state out.old.items (P.records keeper.old) (P.faults keeper.old))
-        (scene core.new.state out.new.items (P.records keeper.new) (P.faults keeper.new))) }
+    ensures err { OnErr result (Stops (scene core.old.state out.old.items (P.shelf keeper.old))
+        (scene core.new.state out.new.items (P.shelf keeper.new))) }
     ensures never_fewer { P.number keeper.old ≤ P.number keeper.new }
     ensures reads { P.reads keeper.new ≡ P.reads keeper.old }
 {

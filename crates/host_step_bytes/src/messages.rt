@@ -36,11 +36,11 @@ pub(crate) fn take_payload<D: Draw, P: Keeper>(
 ) -> Result<(), NoMemory>
     requires { length payload.now ≤ 65534 }
     ensures ok { OnOk result (Does (PayloadEvents core.old.state node payload.now (heard_at payload.now))
-        (scene core.old.state out.old.items (P.records keeper.old) (P.faults keeper.old))
-        (scene core.new.state out.new.items (P.records keeper.new) (P.faults keeper.new))) }
+        (scene core.old.state out.old.items (P.shelf keeper.old))
+        (scene core.new.state out.new.items (P.shelf keeper.new))) }
     ensures decoder { core.new.decoder ≡ core.old.decoder }
-    ensures err { OnErr result (Stops (scene core.old.state out.old.items (P.records keeper.old) (P.faults keeper.old))
-        (scene core.new.state out.new.items (P.records keeper.new) (P.faults keeper.new))) }
+    ensures err { OnErr result (Stops (scene core.old.state out.old.items (P.shelf keeper.old))
+        (scene core.new.state out.new.items (P.shelf keeper.new))) }
     ensures never_fewer { P.number keeper.old ≤ P.number keeper.new }
     ensures reads { P.reads keeper.new ≡ P.reads keeper.old }
 {
@@ -81,11 +81,11 @@ fn take_all<D: Draw, P: Keeper>(
     keeper: &mut P,
 ) -> Result<(), NoMemory>
     ensures ok { OnOk result (Does (AreTaken core.old.state node payload.now sealed messages.now)
-        (scene core.old.state out.old.items (P.records keeper.old) (P.faults keeper.old))
-        (scene core.new.state out.new.items (P.records keeper.new) (P.faults keeper.new))) }
+        (scene core.old.state out.old.items (P.shelf keeper.old))
+        (scene core.new.state out.new.items (P.shelf keeper.new))) }
     ensures decoder { core.new.decoder ≡ core.old.decoder }
-    ensures err { OnErr result (Stops (scene core.old.state out.old.items (P.records keeper.old) (P.faults keeper.old))
-        (scene core.new.state out.new.items (P.records keeper.new) (P.faults keeper.new))) }
+    ensures err { OnErr result (Stops (scene core.old.state out.old.items (P.shelf keeper.old))
+        (scene core.new.state out.new.items (P.shelf keeper.new))) }
     ensures never_fewer { P.number keeper.old ≤ P.number keeper.new }
     ensures reads { P.reads keeper.new ≡ P.reads keeper.old }
 {
@@ -108,11 +108,11 @@ fn take<D: Draw, P: Keeper>(
     keeper: &mut P,
 ) -> Result<(), NoMemory>
     ensures ok { OnOk result (Does (IsTaken core.old.state node payload.now sealed message.now)
-        (scene core.old.state out.old.items (P.records keeper.old) (P.faults keeper.old))
-        (scene core.new.state out.new.items (P.records keeper.new) (P.faults keeper.new))) }
+        (scene core.old.state out.old.items (P.shelf keeper.old))
+        (scene core.new.state out.new.items (P.shelf keeper.new))) }
     ensures decoder { core.new.decoder ≡ core.old.decoder }
-    ensures err { OnErr result (Stops (scene core.old.state out.old.items (P.records keeper.old) (P.faults keeper.old))
-        (scene core.new.state out.new.items (P.records keeper.new) (P.faults keeper.new))) }
+    ensures err { OnErr result (Stops (scene core.old.state out.old.items (P.shelf keeper.old))
+        (scene core.new.state out.new.items (P.shelf keeper.new))) }
     ensures never_fewer { P.number keeper.old ≤ P.number keeper.new }
     ensures reads { P.reads keeper.new ≡ P.reads keeper.old }
 {
@@ -175,11 +175,11 @@ fn take_sealed<D: Draw, P: Keeper>(
     requires short { length payload.now ≤ 65534 }
     ensures ok { OnOk result (Does
         (SealedEvents core.old.state node payload.now (named_by payload.now (live_of core.old.state.nonces node)))
-        (scene core.old.state out.old.items (P.records keeper.old) (P.faults keeper.old))
-        (scene core.new.state out.new.items (P.records keeper.new) (P.faults keeper.new))) }
+        (scene core.old.state out.old.items (P.shelf keeper.old))
+        (scene core.new.state out.new.items (P.shelf keeper.new))) }
     ensures decoder { core.new.decoder ≡ core.old.decoder }
-    ensures err { OnErr result (Stops (scene core.old.state out.old.items (P.records keeper.old) (P.faults keeper.old))
-        (scene core.new.state out.new.items (P.records keeper.new) (P.faults keeper.new))) }
+    ensures err { OnErr result (Stops (scene core.old.state out.old.items (P.shelf keeper.old))
+        (scene core.new.state out.new.items (P.shelf keeper.new))) }
     ensures never_fewer { P.number keeper.old ≤ P.number keeper.new }
     ensures reads { P.reads keeper.new ≡ P.reads keeper.old }
 {

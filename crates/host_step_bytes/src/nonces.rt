@@ -22,11 +22,11 @@ pub(crate) fn take_nonce_get<D: Draw, P: Keeper>(
     keeper: &mut P,
 ) -> Result<(), NoMemory>
     ensures ok { OnOk result (Does (NonceGetEvents node (live_of core.old.state.nonces node))
-        (scene core.old.state out.old.items (P.records keeper.old) (P.faults keeper.old))
-        (scene core.new.state out.new.items (P.records keeper.new) (P.faults keeper.new))) }
+        (scene core.old.state out.old.items (P.shelf keeper.old))
+        (scene core.new.state out.new.items (P.shelf keeper.new))) }
     ensures decoder { core.new.decoder ≡ core.old.decoder }
-    ensures err { OnErr result (Stops (scene core.old.state out.old.items (P.records keeper.old) (P.faults keeper.old))
-        (scene core.new.state out.new.items (P.records keeper.new) (P.faults keeper.new))) }
+    ensures err { OnErr result (Stops (scene core.old.state out.old.items (P.shelf keeper.old))
+        (scene core.new.state out.new.items (P.shelf keeper.new))) }
     ensures never_fewer { P.number keeper.old ≤ P.number keeper.new }
     ensures reads { P.reads keeper.new ≡ P.reads keeper.old }
 {
@@ -65,11 +65,11 @@ pub(crate) fn take_nonce<D: Draw, P: Keeper>(
 ) -> Result<(), NoMemory>
     ensures ok { OnOk result (Does
         (NonceReportEvents core.old.state node nonce (count_at (node_of core.old.state node) (slice_index nonce 0)))
-        (scene core.old.state out.old.items (P.records keeper.old) (P.faults keeper.old))
-        (scene core.new.state out.new.items (P.records keeper.new) (P.faults keeper.new))) }
+        (scene core.old.state out.old.items (P.shelf keeper.old))
+        (scene core.new.state out.new.items (P.shelf keeper.new))) }
     ensures decoder { core.new.decoder ≡ core.old.decoder }
-    ensures err { OnErr result (Stops (scene core.old.state out.old.items (P.records keeper.old) (P.faults keeper.old))
-        (scene core.new.state out.new.items (P.records keeper.new) (P.faults keeper.new))) }
+    ensures err { OnErr result (Stops (scene core.old.state out.old.items (P.shelf keeper.old))
+        (scene core.new.state out.new.items (P.shelf keeper.new))) }
     ensures never_fewer { P.number keeper.old ≤ P.number keeper.new }
     ensures reads { P.reads keeper.new ≡ P.reads keeper.old }
 {

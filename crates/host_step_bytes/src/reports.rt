@@ -31,11 +31,11 @@ pub(crate) fn take_report<P: Keeper>(
 ) -> Result<(), NoMemory>
     ensures ok { OnOk result (Does
         (ReportEvents core.old.state node id status wake_request (told_of (node_of core.old.state node).book id (status_byte status)))
-        (scene core.old.state out.old.items (P.records keeper.old) (P.faults keeper.old))
-        (scene core.new.state out.new.items (P.records keeper.new) (P.faults keeper.new))) }
+        (scene core.old.state out.old.items (P.shelf keeper.old))
+        (scene core.new.state out.new.items (P.shelf keeper.new))) }
     ensures decoder { core.new.decoder ≡ core.old.decoder }
-    ensures err { OnErr result (Stops (scene core.old.state out.old.items (P.records keeper.old) (P.faults keeper.old))
-        (scene core.new.state out.new.items (P.records keeper.new) (P.faults keeper.new))) }
+    ensures err { OnErr result (Stops (scene core.old.state out.old.items (P.shelf keeper.old))
+        (scene core.new.state out.new.items (P.shelf keeper.new))) }
     ensures never_fewer { P.number keeper.old ≤ P.number keeper.new }
     ensures reads { P.reads keeper.new ≡ P.reads keeper.old }
 {
@@ -80,11 +80,11 @@ fn end_session<P: Keeper>(
     requires { told_of (node_of core.old.state node).book id (status_byte status) ≡ ends session }
     ensures ok { OnOk result (Does
         (FinalEvents node session id (command_of_session (node_of core.old.state node).book.commands session)
-        (status_of (status_byte status)) wake_request) (scene core.old.state out.old.items (P.records keeper.old) (P.faults keeper.old))
-        (scene core.new.state out.new.items (P.records keeper.new) (P.faults keeper.new))) }
+        (status_of (status_byte status)) wake_request) (scene core.old.state out.old.items (P.shelf keeper.old))
+        (scene core.new.state out.new.items (P.shelf keeper.new))) }
     ensures decoder { core.new.decoder ≡ core.old.decoder }
-    ensures err { OnErr result (Stops (scene core.old.state out.old.items (P.records keeper.old) (P.faults keeper.old))
-        (scene core.new.state out.new.items (P.records keeper.new) (P.faults keeper.new))) }
+    ensures err { OnErr result (Stops (scene core.old.state out.old.items (P.shelf keeper.old))
+        (scene core.new.state out.new.items (P.shelf keeper.new))) }
     ensures never_fewer { P.number keeper.old ≤ P.number keeper.new }
     ensures reads { P.reads keeper.new ≡ P.reads keeper.old }
 {

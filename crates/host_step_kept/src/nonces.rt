@@ -34,14 +34,14 @@ pub fn give<P: Keeper>(
     requires { May core.old.state (Gives node drawn) }
     ensures kept { IfOk result (λ is_kept. Kept is_kept
         (record_text (the_given node (given_of core.old.state.nonces node + 1) (new_nonce (given_of core.old.state.nonces node) drawn)))
-        (P.records keeper.old) (P.records keeper.new) (P.faults keeper.old) (P.faults keeper.new)) }
+        (P.shelf keeper.old) (P.shelf keeper.new)) }
     ensures in_range { OnOk result
         (IsRecord (the_given node (given_of core.old.state.nonces node + 1) (new_nonce (given_of core.old.state.nonces node) drawn))) }
     ensures state { IfOk result (λ is_kept. core.new ≡ record core.old { state = after core.old.state (chosen is_kept (Gives node drawn) (Is_unkept node)) }) }
     ensures outs { IfOk result (λ is_kept. out.new.items ≡ out.old.items ++ outs core.old.state (chosen is_kept (Gives node drawn) (Is_unkept node))) }
     ensures err { OnErr result ((core.new ≡ core.old) × (out.new.items ≡ out.old.items)) }
-    ensures no_record { OnErr result (OptAdds (P.records keeper.old) (P.records keeper.new) []) }
-    ensures never_falls { P.faults keeper.old ≤ P.faults keeper.new }
+    ensures no_record { OnErr result (OptAdds (P.shelf keeper.old).records (P.shelf keeper.new).records []) }
+    ensures never_falls { (P.shelf keeper.old).faults ≤ (P.shelf keeper.new).faults }
     ensures never_fewer { P.number keeper.old ≤ P.number keeper.new }
     ensures reads { P.reads keeper.new ≡ P.reads keeper.old }
 {
@@ -117,17 +117,17 @@ pub fn take_nonce<P: Keeper>(
 ) -> Result<bool, NoMemory>
     requires { May core.old.state (Takes_nonce node seen text) }
     ensures records { IfOk result
-        (λ is_kept. OptAdds (P.records keeper.old) (P.records keeper.new)
+        (λ is_kept. OptAdds (P.shelf keeper.old).records (P.shelf keeper.new).records
         (texts_of (records_at core.old.state (chosen is_kept (Takes_nonce node seen text) (Is_unkept node))))) }
-    ensures rose { IfOk result (λ is_kept. is_kept ≡ false → Rose (P.faults keeper.old) (P.faults keeper.new)) }
+    ensures rose { IfOk result (λ is_kept. is_kept ≡ false → Rose (P.shelf keeper.old).faults (P.shelf keeper.new).faults) }
     ensures in_range { IfOk result (λ is_kept. KeepsInRange core.old.state (chosen is_kept (Takes_nonce node seen text) (Is_unkept node))) }
     ensures state { IfOk result (λ is_kept. core.new ≡
         record core.old { state = after core.old.state (chosen is_kept (Takes_nonce node seen text) (Is_unkept node)) }) }
     ensures outs { IfOk result (λ is_kept. out.new.items ≡ out.old.items ++
         outs core.old.state (chosen is_kept (Takes_nonce node seen text) (Is_unkept node))) }
     ensures err { OnErr result ((core.new ≡ core.old) × (out.new.items ≡ out.old.items)) }
-    ensures no_record { OnErr result (OptAdds (P.records keeper.old) (P.records keeper.new) []) }
-    ensures never_falls { P.faults keeper.old ≤ P.faults keeper.new }
+    ensures no_record { OnErr result (OptAdds (P.shelf keeper.old).records (P.shelf keeper.new).records []) }
+    ensures never_falls { (P.shelf keeper.old).faults ≤ (P.shelf keeper.new).faults }
     ensures never_fewer { P.number keeper.old ≤ P.number keeper.new }
     ensures reads { P.reads keeper.new ≡ P.reads keeper.old }
 {

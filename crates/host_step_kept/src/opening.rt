@@ -47,14 +47,14 @@ pub fn open<P: Keeper>(
     requires named { named_by payload.now (live_of core.old.state.nonces node) ≡ Some nonce }
     requires short { length payload.now ≤ 65534 }
     ensures opens { IfOk result (λ opened. OpensBy core.old.state node nonce payload.now opened) }
-    ensures kept { IfOk result (λ opened. Kept (is_kept opened) (record_text (the_spent node)) (P.records keeper.old)
-        (P.records keeper.new) (P.faults keeper.old) (P.faults keeper.new)) }
+    ensures kept { IfOk result (λ opened. Kept (is_kept opened) (record_text (the_spent node)) (P.shelf keeper.old)
+        (P.shelf keeper.new)) }
     ensures in_range { OnOk result (IsRecord (the_spent node)) }
     ensures state { IfOk result (λ opened. core.new ≡ record core.old { state = after core.old.state (opening node payload.now opened) }) }
     ensures outs { IfOk result (λ opened. out.new.items ≡ out.old.items ++ outs core.old.state (opening node payload.now opened)) }
     ensures err { OnErr result ((core.new ≡ core.old) × (out.new.items ≡ out.old.items)) }
-    ensures no_record { OnErr result (OptAdds (P.records keeper.old) (P.records keeper.new) []) }
-    ensures never_falls { P.faults keeper.old ≤ P.faults keeper.new }
+    ensures no_record { OnErr result (OptAdds (P.shelf keeper.old).records (P.shelf keeper.new).records []) }
+    ensures never_falls { (P.shelf keeper.old).faults ≤ (P.shelf keeper.new).faults }
     ensures never_fewer { P.number keeper.old ≤ P.number keeper.new }
     ensures reads { P.reads keeper.new ≡ P.reads keeper.old }
 {

@@ -22,13 +22,12 @@ use zw_text::Entry;
 /// A node joins, once that is kept. True where it was.
 pub fn join<P: Keeper>(core: &mut HostCore, node: NodeId, keeper: &mut P) -> Result<bool, NoMemory>
     requires { May core.old.state (Joins node) }
-    ensures kept { IfOk result (λ is_kept. Kept is_kept (record_text (the_joined node)) (P.records keeper.old) (P.records keeper.new)
-        (P.faults keeper.old) (P.faults keeper.new)) }
+    ensures kept { IfOk result (λ is_kept. Kept is_kept (record_text (the_joined node)) (P.shelf keeper.old) (P.shelf keeper.new)) }
     ensures in_range { OnOk result (IsRecord (the_joined node)) }
     ensures state { IfOk result (λ is_kept. core.new ≡ record core.old { state = after_if is_kept core.old.state (Joins node) }) }
     ensures err { OnErr result (core.new ≡ core.old) }
-    ensures no_record { OnErr result (OptAdds (P.records keeper.old) (P.records keeper.new) []) }
-    ensures never_falls { P.faults keeper.old ≤ P.faults keeper.new }
+    ensures no_record { OnErr result (OptAdds (P.shelf keeper.old).records (P.shelf keeper.new).records []) }
+    ensures never_falls { (P.shelf keeper.old).faults ≤ (P.shelf keeper.new).faults }
     ensures never_fewer { P.number keeper.old ≤ P.number keeper.new }
     ensures reads { P.reads keeper.new ≡ P.reads keeper.old }
 {
@@ -50,13 +49,12 @@ pub fn cancel<P: Keeper>(
 ) -> Result<bool, NoMemory>
     requires node { node ≡ node_for core.old.state command }
     requires may { May core.old.state (Cancels command) }
-    ensures kept { IfOk result (λ is_kept. Kept is_kept (record_text (the_cancelled command)) (P.records keeper.old) (P.records keeper.new)
-        (P.faults keeper.old) (P.faults keeper.new)) }
+    ensures kept { IfOk result (λ is_kept. Kept is_kept (record_text (the_cancelled command)) (P.shelf keeper.old) (P.shelf keeper.new)) }
     ensures in_range { OnOk result (IsRecord (the_cancelled command)) }
     ensures state { IfOk result (λ is_kept. core.new ≡ record core.old { state = after_if is_kept core.old.state (Cancels command) }) }
     ensures err { OnErr result (core.new ≡ core.old) }
-    ensures no_record { OnErr result (OptAdds (P.records keeper.old) (P.records keeper.new) []) }
-    ensures never_falls { P.faults keeper.old ≤ P.faults keeper.new }
+    ensures no_record { OnErr result (OptAdds (P.shelf keeper.old).records (P.shelf keeper.new).records []) }
+    ensures never_falls { (P.shelf keeper.old).faults ≤ (P.shelf keeper.new).faults }
     ensures never_fewer { P.number keeper.old ≤ P.number keeper.new }
     ensures reads { P.reads keeper.new ≡ P.reads keeper.old }
 {
@@ -81,16 +79,16 @@ pub fn interviewed<P: Keeper>(
     keeper: &mut P,
 ) -> Result<bool, NoMemory>
     requires { May core.old.state (Interviews node listens classes update) }
-    ensures kept { IfOk result (λ is_kept. Kept is_kept (record_text (the_classes node listens classes)) (P.records keeper.old)
-        (P.records keeper.new) (P.faults keeper.old) (P.faults keeper.new)) }
+    ensures kept { IfOk result (λ is_kept. Kept is_kept (record_text (the_classes node listens classes)) (P.shelf keeper.old)
+        (P.shelf keeper.new)) }
     ensures in_range { OnOk result (IsRecord (the_classes node listens classes)) }
     ensures state { IfOk result (λ is_kept. core.new ≡
         record core.old { state = after core.old.state (chosen is_kept (Interviews node listens classes update) (Interview_unkept node update)) }) }
     ensures outs { IfOk result (λ is_kept. out.new.items ≡ out.old.items ++
         outs core.old.state (chosen is_kept (Interviews node listens classes update) (Interview_unkept node update))) }
     ensures err { OnErr result ((core.new ≡ core.old) × (out.new.items ≡ out.old.items)) }
-    ensures no_record { OnErr result (OptAdds (P.records keeper.old) (P.records keeper.new) []) }
-    ensures never_falls { P.faults keeper.old ≤ P.faults keeper.new }
+    ensures no_record { OnErr result (OptAdds (P.shelf keeper.old).records (P.shelf keeper.new).records []) }
+    ensures never_falls { (P.shelf keeper.old).faults ≤ (P.shelf keeper.new).faults }
     ensures never_fewer { P.number keeper.old ≤ P.number keeper.new }
     ensures reads { P.reads keeper.new ≡ P.reads keeper.old }
 {

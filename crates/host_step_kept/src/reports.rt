@@ -40,16 +40,16 @@ pub fn finish<P: Keeper>(
 ) -> Result<bool, NoMemory>
     requires six_bits { id < 64 }
     requires may { May core.old.state (Finishes node session id command status wake_request) }
-    ensures kept { IfOk result (λ is_kept. Kept is_kept (record_text (the_final node session status)) (P.records keeper.old)
-        (P.records keeper.new) (P.faults keeper.old) (P.faults keeper.new)) }
+    ensures kept { IfOk result (λ is_kept. Kept is_kept (record_text (the_final node session status)) (P.shelf keeper.old)
+        (P.shelf keeper.new)) }
     ensures in_range { OnOk result (IsRecord (the_final node session status)) }
     ensures state { IfOk result (λ is_kept. core.new ≡
         record core.old { state = after core.old.state (chosen is_kept (Finishes node session id command status wake_request) (Is_unkept node)) }) }
     ensures outs { IfOk result (λ is_kept. out.new.items ≡ out.old.items ++
         outs core.old.state (chosen is_kept (Finishes node session id command status wake_request) (Is_unkept node))) }
     ensures err { OnErr result ((core.new ≡ core.old) × (out.new.items ≡ out.old.items)) }
-    ensures no_record { OnErr result (OptAdds (P.records keeper.old) (P.records keeper.new) []) }
-    ensures never_falls { P.faults keeper.old ≤ P.faults keeper.new }
+    ensures no_record { OnErr result (OptAdds (P.shelf keeper.old).records (P.shelf keeper.new).records []) }
+    ensures never_falls { (P.shelf keeper.old).faults ≤ (P.shelf keeper.new).faults }
     ensures never_fewer { P.number keeper.old ≤ P.number keeper.new }
     ensures reads { P.reads keeper.new ≡ P.reads keeper.old }
 {

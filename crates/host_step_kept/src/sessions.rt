@@ -28,16 +28,16 @@ pub fn begin<P: Keeper>(
     keeper: &mut P,
 ) -> Result<bool, NoMemory>
     requires { May core.old.state (Begins node session command) }
-    ensures kept { IfOk result (λ is_kept. Kept is_kept (record_text (the_begun node session command)) (P.records keeper.old)
-        (P.records keeper.new) (P.faults keeper.old) (P.faults keeper.new)) }
+    ensures kept { IfOk result (λ is_kept. Kept is_kept (record_text (the_begun node session command)) (P.shelf keeper.old)
+        (P.shelf keeper.new)) }
     ensures in_range { OnOk result (IsRecord (the_begun node session command)) }
     ensures state { IfOk result (λ is_kept. core.new ≡
         record core.old { state = after core.old.state (chosen is_kept (Begins node session command) (Begin_unkept node)) }) }
     ensures outs { IfOk result (λ is_kept. out.new.items ≡ out.old.items ++
         outs core.old.state (chosen is_kept (Begins node session command) (Begin_unkept node))) }
     ensures err { OnErr result ((core.new ≡ core.old) × (out.new.items ≡ out.old.items)) }
-    ensures no_record { OnErr result (OptAdds (P.records keeper.old) (P.records keeper.new) []) }
-    ensures never_falls { P.faults keeper.old ≤ P.faults keeper.new }
+    ensures no_record { OnErr result (OptAdds (P.shelf keeper.old).records (P.shelf keeper.new).records []) }
+    ensures never_falls { (P.shelf keeper.old).faults ≤ (P.shelf keeper.new).faults }
     ensures never_fewer { P.number keeper.old ≤ P.number keeper.new }
     ensures reads { P.reads keeper.new ≡ P.reads keeper.old }
 {

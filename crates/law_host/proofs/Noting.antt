@@ -3,6 +3,7 @@ use Rattle.std.proofs.Common.{◌≡◌, Bool, true, false, ℕ, List, [], ◌�
 use Rattle.std.specs.Prelude.{replicate}
 use Rattle.std.specs.List.{AllByRecursion}
 use Rattle.zw_text.specs.declared.entry.Entry.{Entry}
+use Rattle.law_time.specs.Heeds.{Heeds}
 use Rattle.law_time.specs.Requests.{are_none}
 use Rattle.law_transcript.proofs.Deciding.{first_of, second_of, not_true}
 use Rattle.law_host.specs.Course.{Choices, Course}
@@ -13,17 +14,17 @@ use Rattle.law_host.specs.Notes.{NotesWhatHappens, Start, course_of}
 abbrev pub is_plain : Course → Course → Bool
 is_plain course end = course.fits && (end.fits && (are_none course.offered && (are_none course.opened && are_none course.sealed)))
 
-none_of : {A : Type 0} (P : A → Type 0) (items : List A) → are_none items ≡ true → AllByRecursion P items
+pub none_of : {A : Type 0} (P : A → Type 0) (items : List A) → are_none items ≡ true → AllByRecursion P items
 none_of P [] none = tt
 none_of P (item ∷ items) none = cc
 
-pub noted : (key : List ℕ) (listing : ℕ → List ℕ) (start : Start) (heard : List Entry) (choices : Choices)
-    → is_plain (course_of listing start heard choices) (ended_whole listing (start.before ++ heard) (course_of listing start heard choices)) ≡ true
-    → NotesWhatHappens key listing start true heard
-noted key listing start heard choices is =
-    let course : Course = course_of listing start heard choices in
+unfoldable pub noted : (key : List ℕ) (heeds : Heeds) (start : Start) (heard : List Entry) (choices : Choices)
+    → is_plain (course_of heeds start heard choices) (ended_whole heeds (start.before ++ heard) (course_of heeds start heard choices)) ≡ true
+    → NotesWhatHappens key heeds start true heard
+noted key heeds start heard choices is =
+    let course : Course = course_of heeds start heard choices in
     let rest = second_of course.fits _ is in
-    let last = second_of (ended_whole listing (start.before ++ heard) course).fits _ rest in
+    let last = second_of (ended_whole heeds (start.before ++ heard) course).fits _ rest in
     let claims = second_of (are_none course.offered) _ last in
     record {
       choices = choices;
@@ -39,12 +40,12 @@ noted key listing start heard choices is =
     }
 
 -- whatever was kept, some entry may not stand
-pub unfit : (key : List ℕ) (listing : ℕ → List ℕ) (start : Start) (heard : List Entry)
-    → ((choices : Choices) → (course_of listing start heard choices).fits ≡ false) → NotesWhatHappens key listing start true heard → ⊥
-unfit key listing start heard fails law = not_true (sym (fails law.choices) ∙ law.fits)
+pub unfit : (key : List ℕ) (heeds : Heeds) (start : Start) (heard : List Entry)
+    → ((choices : Choices) → (course_of heeds start heard choices).fits ≡ false) → NotesWhatHappens key heeds start true heard → ⊥
+unfit key heeds start heard fails law = not_true (sym (fails law.choices) ∙ law.fits)
 
 -- or something is to be noted at the end
-pub unended : (key : List ℕ) (listing : ℕ → List ℕ) (start : Start) (heard : List Entry)
-    → ((choices : Choices) → (ended_whole listing (start.before ++ heard) (course_of listing start heard choices)).fits ≡ false)
-    → NotesWhatHappens key listing start true heard → ⊥
-unended key listing start heard fails law = not_true (sym (fails law.choices) ∙ law.in_the_end refl)
+pub unended : (key : List ℕ) (heeds : Heeds) (start : Start) (heard : List Entry)
+    → ((choices : Choices) → (ended_whole heeds (start.before ++ heard) (course_of heeds start heard choices)).fits ≡ false)
+    → NotesWhatHappens key heeds start true heard → ⊥
+unended key heeds start heard fails law = not_true (sym (fails law.choices) ∙ law.in_the_end refl)

@@ -1,8 +1,10 @@
 -- The course of a host: which of its notes stand next, and what no entry shows (this project's own rule): which records its keeper kept, and
 -- how far it is with the nonces of each node.
 use Rattle.std.specs.Prelude.{ℕ, ◌==◌, Bool, true, false, if◌then◌else◌, List, [], ◌∷◌, ◌++◌, map, drop, Option}
+use Rattle.host_heard.specs.declared.told.Told.{Told}
 use Rattle.zw_text.specs.declared.entry.Entry.{Entry}
 use Rattle.zw_text.specs.declared.entry.Entry.TheVariants.{Unkept}
+use Rattle.law_transcript.specs.Units.{Carried}
 
 -- ---- nonces
 
@@ -65,11 +67,20 @@ pub record Seal : Type 0 where
   pub ready : Ready
   pub payload : List ℕ
 
+-- ---- what is gone by
+
+-- the messages of a payload, up to its acknowledgement, by which its requests and attempts go: a report of the open session that the node is at work,
+-- a Nonce Get whose nonce it has, a Nonce Report that it took, and what asks for a segment
+pub record Heeding : Type 0 where
+  pub past : List Entry
+  pub carried : Carried
+  pub messages : List Told
+
 -- ---- the course
 
 -- the notes that stand next; whether all entries so far may stand; how many requests the event has put into the queue; whether no request is
--- under way; up to which tick the host has gone; the books; whether each further record is kept, and what each further message opens to; and
--- what was offered, opened and sealed so far
+-- under way; up to which tick the host has gone; the books; whether each further record is kept, and what each further message opens to;
+-- what was offered, opened and sealed so far; and by which messages of the payload that is judged it goes so far, and of all that were
 pub record Course : Type 0 where
   pub due : List Entry
   pub fits : Bool
@@ -82,6 +93,8 @@ pub record Course : Type 0 where
   pub offered : List Offer
   pub opened : List Opening
   pub sealed : List Seal
+  pub taken : List Told
+  pub heeded : List Heeding
 
 -- what no entry shows of a host's life: whether each record was kept that its notes ask for, in order (those after the last were), and what
 -- each message opened to that named a live nonce
@@ -103,6 +116,8 @@ course_from books choices = record {
   offered = [];
   opened = [];
   sealed = [];
+  taken = [];
+  heeded = [];
 }
 
 -- ---- notes
@@ -124,6 +139,14 @@ abbrev pub if_kept : ℕ → (Course → Course) → Course → Course
 if_kept node goes_on course =
     let next : Course = record course { keepings = drop 1 course.keepings } in
     if is_kept course.keepings then goes_on next else with_note (Unkept node) next
+
+-- it goes by a message of the payload that is judged, and by these of a payload
+abbrev pub with_taken : Told → Course → Course
+with_taken message course = record course { taken = course.taken ++ message ∷ [] }
+
+abbrev pub with_heeded : List Entry → Carried → Course → Course
+with_heeded past carried course =
+    record course { heeded = course.heeded ++ record { past = past; carried = carried; messages = course.taken } ∷ [] }
 
 -- one after another
 abbrev pub each_in_turn : {A : Type 0} → (A → Course → Course) → List A → Course → Course

@@ -13,6 +13,7 @@ use Rattle.zw_text.specs.declared.entry.Ended.TheVariants.{Unanswered}
 use Rattle.zw_text.specs.declared.entry.Entry.{Entry}
 use Rattle.zw_text.specs.declared.entry.Entry.TheVariants.{Done, Neighbours, Failed, Asleep, Interviewed, InterviewFailed, Out}
 use Rattle.law_transcript.specs.Units.{Carried, sending_in}
+use Rattle.law_time.specs.Heeds.{Heeds}
 use Rattle.law_time.specs.Moments.{clock}
 use Rattle.law_time.specs.Judged.{responses_here}
 use Rattle.law_time.specs.Requests.{asked, request_last}
@@ -26,8 +27,8 @@ use Rattle.law_host.specs.Course.{Course, each_in_turn, if_kept, with_note, with
 -- ---- by what was asked for
 
 -- a Set or Get of a line is done
-abbrev pub done_notes : (ℕ → List ℕ) → List Entry → HowDone → List Entry
-done_notes listing past how = map (λ node. Done node how) (errand listing past)
+abbrev pub done_notes : Heeds → List Entry → HowDone → List Entry
+done_notes heeds past how = map (λ node. Done node how) (errand heeds.listing past)
 
 -- a node that was told that there is no more counts as asleep
 abbrev pub sleep_note : List Entry → ℕ → List Entry
@@ -61,9 +62,9 @@ given_up_notes past node command = Out command Unanswered ∷ sleep_note past no
 abbrev pub gives_up : List Entry → ℕ → ℕ → Course → Course
 gives_up past node command course = without_texts node (with_notes (given_up_notes (past ++ course.due) node command) course)
 
-abbrev pub gives_up_late : (ℕ → List ℕ) → List Entry → ℕ → ℕ → Course → Course
-gives_up_late listing past now node course =
-    each_in_turn (gives_up past node) (to_give_up listing (past ++ course.due) now node) course
+abbrev pub gives_up_late : Heeds → List Entry → ℕ → ℕ → Course → Course
+gives_up_late heeds past now node course =
+    each_in_turn (gives_up past node) (to_give_up heeds (past ++ course.due) now node) course
 
 -- an attempt of a lock has ended: no text of it waits for a nonce or has one
 abbrev pub is_of_sealed : Carried → Bool
@@ -73,32 +74,32 @@ abbrev pub ends_sealing : Carried → Course → Course
 ends_sealing carried course = if is_of_sealed carried then without_texts carried.node course else course
 
 -- what was sent to a node has ended badly, by a time
-abbrev pub ends_badly : (ℕ → List ℕ) → List Entry → ℕ → Carried → Course → Course
-ends_badly listing past now carried course = gives_up_late listing past now carried.node (ends_sealing carried course)
+abbrev pub ends_badly : Heeds → List Entry → ℕ → Carried → Course → Course
+ends_badly heeds past now carried course = gives_up_late heeds past now carried.node (ends_sealing carried course)
 
 -- ---- the end
 
 -- the request ends without a frame, in this way, by a time
-abbrev pub ends_without : (ℕ → List ℕ) → List Entry → ℕ → HowDone → Course → Course
-ends_without listing past now how course =
-    each_in_turn (ends_badly listing past now) (sending_in (asked past).frame)
-    (with_notes (done_notes listing past how ++ sleep_notes past ++ failed_notes past) (record course { over = true }))
+abbrev pub ends_without : Heeds → List Entry → ℕ → HowDone → Course → Course
+ends_without heeds past now how course =
+    each_in_turn (ends_badly heeds past now) (sending_in (asked past).frame)
+    (with_notes (done_notes heeds past how ++ sleep_notes past ++ failed_notes past) (record course { over = true }))
 
 -- in which ways a frame may end it
 abbrev pub ways : List HowDone
 ways = done.Delivered ∷ done.NoAck ∷ done.Fail ∷ done.NotIdle ∷ done.NoRoute ∷ done.Refused ∷ []
 
 -- what the end by a frame has noted, but for interviews and attempts
-abbrev pub frame_notes : (ℕ → List ℕ) → List Entry → List Entry
-frame_notes listing past =
-    flat_map (done_notes listing past) (filter (ends_here past) ways) ++ sleep_notes past ++ answer_to (request_last past) (responses_here past)
+abbrev pub frame_notes : Heeds → List Entry → List Entry
+frame_notes heeds past =
+    flat_map (done_notes heeds past) (filter (ends_here past) ways) ++ sleep_notes past ++ answer_to (request_last past) (responses_here past)
 
-abbrev pub ends_with : (ℕ → List ℕ) → List Entry → ℕ → Course → Course
-ends_with listing past now course =
-    let ended : Course = with_notes (frame_notes listing past) (record course { over = true }) in
+abbrev pub ends_with : Heeds → List Entry → ℕ → Course → Course
+ends_with heeds past now course =
+    let ended : Course = with_notes (frame_notes heeds past) (record course { over = true }) in
     let noted : Course = each_in_turn (ends_interview past) (node_interviewed (request_last past)) ended in
-    if is_called_back 0 past then noted else each_in_turn (ends_badly listing past now) (sending_in (asked past).frame) noted
+    if is_called_back 0 past then noted else each_in_turn (ends_badly heeds past now) (sending_in (asked past).frame) noted
 
 -- a frame that is judged here ends the request under way, where it does
-abbrev pub ends_by_frame : (ℕ → List ℕ) → List Entry → Course → Course
-ends_by_frame listing past course = if not course.over && is_ending_here past then ends_with listing past (clock past) course else course
+abbrev pub ends_by_frame : Heeds → List Entry → Course → Course
+ends_by_frame heeds past course = if not course.over && is_ending_here past then ends_with heeds past (clock past) course else course

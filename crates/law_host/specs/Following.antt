@@ -10,6 +10,7 @@ use Rattle.zw_text.specs.declared.entry.Ended.{Ended}
 use Rattle.zw_text.specs.declared.entry.Ended.TheVariants.{Cancelled}
 use Rattle.zw_text.specs.declared.entry.Entry.{Entry}
 use Rattle.zw_text.specs.declared.entry.Entry.TheVariants.{Said, Written, Begin, Out, Store, Report, Unstored, Old, Unread, Awake, Asleep, Interviewed, InterviewFailed, Done, Neighbours, Failed, QueueFull, Held, Unkept, Time}
+use Rattle.law_time.specs.Heeds.{Heeds}
 use Rattle.law_time.specs.Moments.{clock, now_at}
 use Rattle.law_time.specs.Judged.{is_acknowledgement, is_mark}
 use Rattle.law_time.specs.Requests.{are_none, asked, is_new, starts_anew}
@@ -100,13 +101,13 @@ abbrev pub nothing_due : Course → Course
 nothing_due course = record course { fits = course.fits && are_none course.due; due = [] }
 
 -- all ticks before an entry that begins a line or a tick have passed with nothing to note
-abbrev pub passes : (ℕ → List ℕ) → List Entry → Entry → Course → Course
-passes listing past entry course = nothing_due (ticks listing past (now_at past entry) (nothing_due course))
+abbrev pub passes : Heeds → List Entry → Entry → Course → Course
+passes heeds past entry course = nothing_due (ticks heeds past (now_at past entry) (nothing_due course))
 
 -- the host's own part of a tick is done before an entry that may not stand before it
-abbrev pub has_ticked : (ℕ → List ℕ) → List Entry → Entry → Course → Course
-has_ticked listing past entry course =
-    if nat_lt course.ticked (clock past) && not (is_before_host entry) then ticks listing past (clock past) course else course
+abbrev pub has_ticked : Heeds → List Entry → Entry → Course → Course
+has_ticked heeds past entry course =
+    if nat_lt course.ticked (clock past) && not (is_before_host entry) then ticks heeds past (clock past) course else course
 
 -- the host has heard an answer before an entry of its own, which does not refuse a frame that came before that
 abbrev pub is_of_host : Entry → Bool
@@ -114,45 +115,45 @@ is_of_host (Written Host unit) = not (bytes_eq unit (NAK ∷ []))
 is_of_host (Begin node session command) = true
 is_of_host entry = is_note entry
 
-abbrev pub has_heard : (ℕ → List ℕ) → List Entry → Entry → Course → Course
-has_heard listing past entry course = if are_none course.due && is_of_host entry then denies listing past course else course
+abbrev pub has_heard : Heeds → List Entry → Entry → Course → Course
+has_heard heeds past entry course = if are_none course.due && is_of_host entry then denies heeds past course else course
 
-abbrev pub comes_to : (ℕ → List ℕ) → List Entry → Entry → Course → Course
-comes_to listing past (Said words) course = passes listing past (Said words) course
-comes_to listing past (Time tick) course = passes listing past (Time tick) course
-comes_to listing past entry course =
-    if are_none course.due then has_heard listing past entry (has_ticked listing past entry course) else course
+abbrev pub comes_to : Heeds → List Entry → Entry → Course → Course
+comes_to heeds past (Said words) course = passes heeds past (Said words) course
+comes_to heeds past (Time tick) course = passes heeds past (Time tick) course
+comes_to heeds past entry course =
+    if are_none course.due then has_heard heeds past entry (has_ticked heeds past entry course) else course
 
 -- ---- what an entry makes
 
 -- a new request is under way
-abbrev pub requests : (ℕ → List ℕ) → List Entry → List ℕ → Course → Course
-requests listing past unit course =
-    sends listing past unit (record course { over = false; fits = course.fits && may_be_sent listing past unit course })
+abbrev pub requests : Heeds → List Entry → List ℕ → Course → Course
+requests heeds past unit course =
+    sends heeds past unit (record course { over = false; fits = course.fits && may_be_sent heeds past unit course })
 
 -- a frame is judged where it is acknowledged
-abbrev pub writes : (ℕ → List ℕ) → List Entry → List ℕ → Course → Course
-writes listing past unit course =
-    if is_acknowledgement unit then each_in_turn (judges listing past (past ++ Written Host unit ∷ [])) (frame_next past) course
-    else (if is_new (asked past) unit then requests listing past unit course else course)
+abbrev pub writes : Heeds → List Entry → List ℕ → Course → Course
+writes heeds past unit course =
+    if is_acknowledgement unit then each_in_turn (judges heeds past (past ++ Written Host unit ∷ [])) (frame_next past) course
+    else (if is_new (asked past) unit then requests heeds past unit course else course)
 
-abbrev pub makes : (ℕ → List ℕ) → List Entry → Entry → List Entry → Course → Course
-makes listing past (Written Host unit) rest course = writes listing past unit course
-makes listing past (Said words) rest course = if starts_anew (Said words) rest then restarted course else course
-makes listing past entry rest course = course
+abbrev pub makes : Heeds → List Entry → Entry → List Entry → Course → Course
+makes heeds past (Written Host unit) rest course = writes heeds past unit course
+makes heeds past (Said words) rest course = if starts_anew (Said words) rest then restarted course else course
+makes heeds past entry rest course = course
 
 -- ---- the course of a transcript
 
 -- one entry, after what stands before it and with what stands after it; what became of a unit of the host changes nothing, and where an entry
 -- may not stand the course has ended
-abbrev pub after : (ℕ → List ℕ) → List Entry → Entry → List Entry → Course → Course
-after listing past entry rest course =
-    if is_mark entry || not course.fits then course else makes listing past entry rest (stands past entry (comes_to listing past entry course))
+abbrev pub after : Heeds → List Entry → Entry → List Entry → Course → Course
+after heeds past entry rest course =
+    if is_mark entry || not course.fits then course else makes heeds past entry rest (stands past entry (comes_to heeds past entry course))
 
-abbrev pub course_after : (ℕ → List ℕ) → List Entry → List Entry → Course → Course
-course_after listing past [] course = course
-course_after listing past (entry ∷ rest) course = course_after listing (past ++ entry ∷ []) rest (after listing past entry rest course)
+abbrev pub course_after : Heeds → List Entry → List Entry → Course → Course
+course_after heeds past [] course = course
+course_after heeds past (entry ∷ rest) course = course_after heeds (past ++ entry ∷ []) rest (after heeds past entry rest course)
 
 -- at the end nothing is to be noted, where the run is whole
-abbrev pub ended_whole : (ℕ → List ℕ) → List Entry → Course → Course
-ended_whole listing transcript course = passes listing transcript (Said []) course
+abbrev pub ended_whole : Heeds → List Entry → Course → Course
+ended_whole heeds transcript course = passes heeds transcript (Said []) course

@@ -6,8 +6,9 @@ use Rattle.host_heard.specs.declared.payload.Heard.{Heard}
 use Rattle.host_heard.specs.declared.payload.Heard.TheVariants.{Messages, Sealed, Unread}
 use Rattle.zw_text.specs.declared.entry.Entry.{Entry}
 use Rattle.law_transcript.specs.Units.{Carried, bringing_in}
+use Rattle.law_time.specs.Heeds.{Heeds}
 use Rattle.law_time.specs.Judged.{acknowledged, frames_come}
-use Rattle.law_host.specs.Course.{Course, Giver, each_in_turn, giver_of, if_kept, with_giver}
+use Rattle.law_host.specs.Course.{Course, Giver, each_in_turn, giver_of, if_kept, with_giver, with_heeded}
 use Rattle.law_host.specs.Messages.{Hearing, hears, unread}
 use Rattle.law_host.specs.Ends.{ends_by_frame}
 
@@ -58,12 +59,13 @@ abbrev pub frame_next : List Entry → List (List ℕ)
 frame_next before = take 1 (drop (acknowledged before) (frames_come before))
 
 -- what it brings of a node
-abbrev pub hears_carried : (ℕ → List ℕ) → List Entry → List Entry → Carried → Course → Course
-hears_carried listing before past carried course =
-    hears_payload (record { listing = listing; before = before; past = past; node = carried.node; payload = carried.payload; was_sealed = false })
-    (heard_at carried.payload) course
+abbrev pub hears_carried : Heeds → List Entry → List Entry → Carried → Course → Course
+hears_carried heeds before past carried course =
+    with_heeded past carried
+    (hears_payload (record { heeds = heeds; before = before; past = past; node = carried.node; payload = carried.payload; was_sealed = false })
+    (heard_at carried.payload) (record course { taken = [] }))
 
 -- it is judged: where it ends the request under way that is noted, and then what its payload tells
-abbrev pub judges : (ℕ → List ℕ) → List Entry → List Entry → List ℕ → Course → Course
-judges listing before past frame course =
-    each_in_turn (hears_carried listing before past) (bringing_in frame) (ends_by_frame listing past (record course { put = 0 }))
+abbrev pub judges : Heeds → List Entry → List Entry → List ℕ → Course → Course
+judges heeds before past frame course =
+    each_in_turn (hears_carried heeds before past) (bringing_in frame) (ends_by_frame heeds past (record course { put = 0 }))

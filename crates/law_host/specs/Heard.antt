@@ -12,6 +12,9 @@ use Rattle.zw_text.specs.declared.entry.Entry.{Entry}
 use Rattle.zw_text.specs.declared.entry.Entry.TheVariants.{Refused, Written, Dropped, Garbled, Overrun, Device, Interviewed}
 use Rattle.zw_text.specs.Transcript.{line_of, where_same}
 use Rattle.law_transcript.specs.Lists.{last_or, shown_after}
+use Rattle.host_heard.specs.declared.told.Told.{Told}
+use Rattle.law_transcript.specs.Units.{Carried}
+use Rattle.law_time.specs.Heeds.{Heeds}
 use Rattle.law_time.specs.Judged.{is_of_air, is_of_chip, notices_here}
 
 -- ---- what it heard
@@ -73,3 +76,7 @@ classes_at node past entry = []
 -- what each node listed in its last interview
 abbrev pub listing_heard : List Entry → ℕ → List ℕ
 listing_heard heard node = last_or [] (shown_after (classes_at node) [] heard)
+
+-- a host alone goes by that, and by these messages of each payload, up to its acknowledgement
+abbrev pub heeds_alone : (List Entry → Carried → List Told) → Heeds
+heeds_alone taken = record { listing = listing_heard; taken = λ past rest carried. taken past carried }

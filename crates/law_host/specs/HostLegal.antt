@@ -1,6 +1,7 @@
 -- What a legal host does, over what it heard, from whatever its keeper kept (this project's own rule): the laws of the host alone, as one.
 use Rattle.std.specs.Prelude.{◌≡◌, ℕ, Bool, true, List, [], ◌∷◌, ◌++◌, Option, ⊤, IfSome}
-use Rattle.std.specs.List.{flat_map}
+use Rattle.std.specs.List.{flat_map, AllByRecursion}
+use Rattle.host_heard.specs.declared.told.Told.{Told}
 use Rattle.value_store.specs.ValueText.{values_text}
 use Rattle.value_store.specs.declared.stored.Held.{Held}
 use Rattle.zw_words.specs.declared.side.Side.TheVariants.{Host}
@@ -17,10 +18,14 @@ use Rattle.law_transcript.specs.Records.{KeepsRecords}
 use Rattle.law_transcript.specs.Sessions.{MayBegin}
 use Rattle.law_transcript.specs.Stores.{StoresConfirmed}
 use Rattle.law_transcript.specs.Table.{value_lines}
+use Rattle.law_transcript.specs.Units.{Carried}
 use Rattle.law_wire.specs.Links.{KeepsLink}
 use Rattle.law_wire.specs.Serial.{ended}
+use Rattle.law_time.specs.Heeds.{Heeds}
 use Rattle.law_time.specs.Prompt.{IsPromptAfter}
-use Rattle.law_host.specs.Notes.{NotesWhatHappens, Start}
+use Rattle.law_host.specs.Course.{Heeding}
+use Rattle.law_host.specs.Heard.{heeds_alone}
+use Rattle.law_host.specs.Notes.{NotesWhatHappens, Start, course_of}
 
 -- ---- values shown
 
@@ -29,32 +34,45 @@ abbrev pub held_in : Entry → List Held
 held_in (TableValue node property confirmed heard) = record { property = property; stored = record { confirmed = confirmed; heard = heard } } ∷ []
 held_in entry = []
 
-abbrev pub values_now : (ℕ → List ℕ) → List Entry → ℕ → Entry
+abbrev pub values_now : (List Entry → ℕ → List ℕ) → List Entry → ℕ → Entry
 values_now listing past node = Json (values_text node (flat_map held_in (value_lines listing past node)))
 
 -- a line asks for them, and they stand directly after it and nowhere else
-abbrev pub IsShown : (ℕ → List ℕ) → List Entry → List Line → Entry → Type 0
+abbrev pub IsShown : (List Entry → ℕ → List ℕ) → List Entry → List Line → Entry → Type 0
 IsShown listing past (lines.Store node ∷ more) entry = entry ≡ values_now listing past node
 IsShown listing past line (Json text) = ⊥
 IsShown listing past line entry = ⊤
 
-abbrev pub ShowsValues : (ℕ → List ℕ) → List Entry → Entry → Type 0
+abbrev pub ShowsValues : (List Entry → ℕ → List ℕ) → List Entry → Entry → Type 0
 ShowsValues listing past entry = IsShown listing past (line_last past) entry
 
 -- ---- the law
 
 -- the host answers lines, has one session of a node at a time and each command in one, keeps the rules of its link, sends and notes what it
 -- should, and nothing else; stores what is confirmed and shows what it stored; is prompt; and its records, where they are told, say what it showed
-pub record IsHostLegal (key : List ℕ) (listing : ℕ → List ℕ) (start : Start) (whole : Bool) (heard : List Entry)
+pub record IsHostLegal (key : List ℕ) (heeds : Heeds) (start : Start) (whole : Bool) (heard : List Entry)
     (records : Option (List (List ℕ))) : Type 0 where
-  pub answers : AnswersAfter start.before whole listing (refusals_by_host listing) heard
+  pub answers : AnswersAfter start.before whole heeds.listing (refusals_by_host heeds.listing) heard
   pub cancels : EachAfter MayCancel start.before heard
   pub sessions : EachAfter MayBegin start.before heard
   pub carries : (node : ℕ) → CarriesOnce node (start.before ++ heard)
   pub link : KeepsLink Host (ended whole heard)
-  pub notes : NotesWhatHappens key listing start whole heard
-  pub stores : StoresConfirmed whole listing (start.before ++ heard)
-  pub values : EachAfter (ShowsValues listing) start.before (ended whole heard)
-  pub sends : EachAfter (MayRequest listing key) start.before heard
-  pub prompt : IsPromptAfter start.before whole listing heard
+  pub notes : NotesWhatHappens key heeds start whole heard
+  pub stores : StoresConfirmed whole heeds.listing (start.before ++ heard)
+  pub values : EachAfter (ShowsValues heeds.listing) start.before (ended whole heard)
+  pub sends : EachAfter (MayRequest heeds.listing key) start.before heard
+  pub prompt : IsPromptAfter start.before whole heeds heard
   pub records_kept : whole ≡ true → IfSome records (KeepsRecords (start.before ++ heard))
+
+-- ---- a host alone
+
+-- by a payload it goes as far as it took up its messages
+abbrev pub IsHeeded : (List Entry → Carried → List Told) → Heeding → Type 0
+IsHeeded taken heeding = taken heeding.past heeding.carried ≡ heeding.messages
+
+-- a host of which nothing is known but what it heard: it is legal as it goes by what nodes listed in their interviews, and by the messages that it
+-- took up, sealed or not
+pub record IsLegalAlone (key : List ℕ) (start : Start) (whole : Bool) (heard : List Entry) (records : Option (List (List ℕ))) : Type 0 where
+  pub taken : List Entry → Carried → List Told
+  pub legal : IsHostLegal key (heeds_alone taken) start whole heard records
+  pub heeded : AllByRecursion (IsHeeded taken) (course_of (heeds_alone taken) start heard legal.notes.choices).heeded

@@ -8,7 +8,7 @@ use Rattle.law_transcript.specs.Carrying.{BringsWhatWasHeard, CarriesUnits}
 use Rattle.law_transcript.specs.Devices.{RanAsShown}
 use Rattle.law_transcript.specs.Fates.{FaresInTurn, LosesMarked, NumbersFrames}
 use Rattle.law_transcript.specs.Lists.{EachAfter}
-use Rattle.law_transcript.specs.Nodes.{device_of, listing_of}
+use Rattle.law_transcript.specs.Nodes.{always, device_of, listing_of}
 use Rattle.law_transcript.specs.Payloads.{SendsWhatIsDue}
 use Rattle.law_transcript.specs.Records.{KeepsRecords}
 use Rattle.law_transcript.specs.Stores.{StoresConfirmed}
@@ -24,6 +24,7 @@ use Rattle.law_wire.specs.Routes.{GoesByRoute}
 use Rattle.law_wire.specs.Serial.{ended}
 use Rattle.law_wire.specs.Shown.{ShowsDevices}
 use Rattle.law_wire.specs.Times.{TellsTime}
+use Rattle.law_time.specs.Heeds.{heeds_of}
 use Rattle.law_host.specs.Heard.{heard_by_host}
 use Rattle.law_host.specs.HostLegal.{ShowsValues}
 use Rattle.law_host.specs.Notes.{NotesWhatHappens, first_start}
@@ -73,10 +74,10 @@ pub record IsLegal (key : List ℕ) (before after : List State) (whole : Bool) (
   pub devices : DevicesDid whole before after transcript
   pub air : IsLegalOnAir whole before transcript
   pub line : IsLegalOnLine whole before transcript
-  pub sends : SendsWhatIsDue (listing_of before) key transcript
-  pub notes : NotesWhatHappens key (listing_of before) first_start whole (heard_by_host transcript)
+  pub sends : SendsWhatIsDue (always (listing_of before)) key transcript
+  pub notes : NotesWhatHappens key (heeds_of before) first_start whole (heard_by_host transcript)
   pub cancels : CancelsWhenAsked transcript
-  pub stores : StoresConfirmed whole (listing_of before) transcript
+  pub stores : StoresConfirmed whole (always (listing_of before)) transcript
   pub shows : ShowsDevices before (ended whole transcript)
-  pub values : EachAfter (ShowsValues (listing_of before)) [] (ended whole transcript)
+  pub values : EachAfter (ShowsValues (always (listing_of before))) [] (ended whole transcript)
   pub records : whole ≡ true → IfSome told (KeepsRecords transcript)

@@ -20,6 +20,7 @@ use Rattle.zw_text.specs.Transcript.{sessions}
 use Rattle.law_transcript.specs.Answers.{properties_kept}
 use Rattle.law_transcript.specs.Nodes.{host_list}
 use Rattle.law_transcript.specs.Stores.{stores_asked_at}
+use Rattle.law_time.specs.Heeds.{Heeds}
 use Rattle.law_time.specs.Requests.{are_none}
 use Rattle.law_time.specs.Sessions.{is_open, last_command}
 use Rattle.law_time.specs.Interviews.{listens}
@@ -27,11 +28,11 @@ use Rattle.law_time.specs.Queue.{queue_before, queue_places}
 use Rattle.law_time.specs.Wants.{segments_wanted}
 use Rattle.law_time.specs.Attempts.{is_last_nonce, is_next_nonce}
 use Rattle.law_host.specs.Nonces.{is_late}
-use Rattle.law_host.specs.Course.{Course, Giver, Ready, Sealer, each_in_turn, giver_of, if_kept, sealer_of, with_giver, with_note, with_notes, with_sealer, without_texts}
+use Rattle.law_host.specs.Course.{Course, Giver, Ready, Sealer, each_in_turn, giver_of, if_kept, sealer_of, with_giver, with_note, with_notes, with_sealer, with_taken, without_texts}
 
 -- a payload of a node that is judged: what stands before its acknowledgement, and up to it; and whether the messages in it were sealed
 pub record Hearing : Type 0 where
-  pub listing : ℕ → List ℕ
+  pub heeds : Heeds
   pub before : List Entry
   pub past : List Entry
   pub node : ℕ
@@ -66,34 +67,35 @@ held_notes node past wake_request = if wake_request && not (listens node past) t
 -- a command has ended: its outcome, the values that it confirms, and the hold
 abbrev pub final_notes : Hearing → List Entry → Bool → Ended → ℕ → List Entry
 final_notes hearing past wake_request ended command =
-    Out command ended ∷ (stores_asked_at hearing.listing past (Out command ended) ++ held_notes hearing.node past wake_request)
+    Out command ended ∷ (stores_asked_at hearing.heeds.listing past (Out command ended) ++ held_notes hearing.node past wake_request)
 
 abbrev pub ends_session : Hearing → Bool → Ended → Course → Course
 ends_session hearing wake_request ended course =
     without_texts hearing.node
     (with_notes (flat_map (final_notes hearing (past_now hearing course) wake_request ended) (last_command hearing.node (past_now hearing course))) course)
 
--- a report of the open session: a final one ends it, where that is kept
-abbrev pub takes_report : Hearing → ReportStatus → Bool → Course → Course
-takes_report hearing status wake_request course =
+-- a report of the open session: the host goes by one that the node is at work, and a final one ends it, where that is kept
+abbrev pub takes_report : Hearing → ℕ → ReportStatus → Bool → Course → Course
+takes_report hearing id statuses.Working wake_request course = with_taken (told.Report id statuses.Working wake_request) course
+takes_report hearing id status wake_request course =
     each_in_turn (λ ended. if_kept hearing.node (ends_session hearing wake_request ended)) (ended_by status) course
 
 -- a plain one of a node that lists Security 0 is not read, and one of another session is old
 abbrev pub is_told_openly : Hearing → Course → Bool
 is_told_openly hearing course =
-    not hearing.was_sealed && lists (host_list hearing.listing (past_now hearing course) hearing.node) 0x98
+    not hearing.was_sealed && lists (host_list hearing.heeds.listing (past_now hearing course) hearing.node) 0x98
 
 abbrev pub hears_report : Hearing → ℕ → ReportStatus → Bool → Course → Course
 hears_report hearing id status wake_request course =
     if is_told_openly hearing course then unread hearing course
-    else (if is_of_open hearing.node (past_now hearing course) id then takes_report hearing status wake_request course
+    else (if is_of_open hearing.node (past_now hearing course) id then takes_report hearing id status wake_request course
     else with_note (Old hearing.node id) course)
 
 -- ---- what is put into the queue of requests
 
 abbrev pub is_full : Hearing → Course → Bool
 is_full hearing course =
-    nat_le queue_places (length (queue_before hearing.listing hearing.before (Written Host (ACK ∷ []))).wants + course.put)
+    nat_le queue_places (length (queue_before hearing.heeds hearing.before (Written Host (ACK ∷ []))).wants + course.put)
 
 -- a message to the node waits, or is dropped where 64 do
 abbrev pub puts : Hearing → (Course → Course) → Course → Course
@@ -103,7 +105,8 @@ puts hearing waits course =
 -- a segment of the open session is asked for again
 abbrev pub hears_segment_request : Hearing → ℕ → ℕ → Course → Course
 hears_segment_request hearing id offset course =
-    each_in_turn (λ want. puts hearing (λ next. next)) (segments_wanted hearing.listing (past_now hearing course) hearing.node id offset) course
+    each_in_turn (λ want next. puts hearing (λ last. last) (with_taken (told.SegmentRequest id offset) next))
+    (segments_wanted hearing.heeds.listing (past_now hearing course) hearing.node id offset) course
 
 -- ---- nonces
 
@@ -111,7 +114,7 @@ hears_segment_request hearing id offset course =
 abbrev pub offers_last : Hearing → Course → Course
 offers_last hearing course =
     let giver : Giver = giver_of hearing.node course in
-    puts hearing (with_giver hearing.node (record giver { offers = giver.offers ++ giver.given ∷ [] })) course
+    puts hearing (with_giver hearing.node (record giver { offers = giver.offers ++ giver.given ∷ [] })) (with_taken told.NonceGet course)
 
 -- a new nonce is live
 abbrev pub gives_next : ℕ → Course → Course
@@ -133,14 +136,15 @@ sealed_for node nonce seen course =
 -- a Nonce Report with the count of the last one, or with the next count, where that is kept
 abbrev pub takes_nonce : Hearing → List ℕ → Sealer → Course → Course
 takes_nonce hearing nonce sealer course =
-    if is_last_nonce sealer.seen nonce then sealed_for hearing.node nonce sealer.seen course
-    else (if is_next_nonce sealer.seen nonce then if_kept hearing.node (sealed_for hearing.node nonce (sealer.seen + 1)) course else course)
+    if is_last_nonce sealer.seen nonce then sealed_for hearing.node nonce sealer.seen (with_taken (told.NonceReport nonce) course)
+    else (if is_next_nonce sealer.seen nonce
+    then if_kept hearing.node (λ next. sealed_for hearing.node nonce (sealer.seen + 1) (with_taken (told.NonceReport nonce) next)) course else course)
 
 -- counts only while a text waits for it
 abbrev pub hears_nonce : Hearing → List ℕ → Course → Course
 hears_nonce hearing nonce course =
     if are_none (sealer_of hearing.node course).pending then course
-    else (if is_late hearing.listing (past_now hearing course) hearing.node then course
+    else (if is_late hearing.heeds (past_now hearing course) hearing.node then course
     else takes_nonce hearing nonce (sealer_of hearing.node course) course)
 
 -- ---- values
@@ -148,7 +152,7 @@ hears_nonce hearing nonce course =
 -- there is room for a property of a node: with it there are at most 512
 abbrev pub has_room : Hearing → List Entry → Setting → Bool
 has_room hearing past setting =
-    nat_le (distinct_count same_property (setting.property ∷ properties_kept hearing.listing past hearing.node)) 512
+    nat_le (distinct_count same_property (setting.property ∷ properties_kept hearing.heeds.listing past hearing.node)) 512
 
 abbrev pub hears_value : Hearing → Setting → Course → Course
 hears_value hearing setting course =

@@ -8,6 +8,7 @@ use Rattle.zw_text.specs.declared.entry.Entry.{Entry}
 use Rattle.law_transcript.specs.Nodes.{controller}
 use Rattle.law_transcript.specs.Payloads.{nonce_get}
 use Rattle.law_transcript.specs.Units.{Carried, sending_in}
+use Rattle.law_time.specs.Heeds.{Heeds}
 use Rattle.law_time.specs.Moments.{clock}
 use Rattle.law_time.specs.Requests.{are_none}
 use Rattle.law_time.specs.Sessions.{last_command, session_of}
@@ -15,17 +16,17 @@ use Rattle.law_time.specs.Attempts.{is_late as is_late_at, serving}
 use Rattle.law_host.specs.Course.{Course, Giver, Offer, Opening, Ready, Seal, Sealer, each_in_turn, giver_of, sealer_of, with_giver, with_sealer}
 
 -- the last sign of an attempt of a node is 100 ticks ago: it is over, and nothing of it waits
-abbrev pub is_late : (ℕ → List ℕ) → List Entry → ℕ → Bool
-is_late listing past node = list_any (is_late_at (clock past)) (serving listing (node ∷ []) past).each
+abbrev pub is_late : Heeds → List Entry → ℕ → Bool
+is_late heeds past node = list_any (is_late_at (clock past)) (serving heeds (node ∷ []) past).each
 
 -- ---- what a request does
 
 -- a Nonce Get is of an attempt: the message of the session waits for a nonce
-abbrev pub asks_nonce : (ℕ → List ℕ) → List Entry → ℕ → Course → Course
-asks_nonce listing past node course =
+abbrev pub asks_nonce : Heeds → List Entry → ℕ → Course → Course
+asks_nonce heeds past node course =
     with_sealer node (record {
       seen = (sealer_of node course).seen;
-      pending = map (λ command. (session_of listing past node command).message) (last_command node past);
+      pending = map (λ command. (session_of heeds.listing past node command).message) (last_command node past);
       ready = [];
     }) course
 
@@ -43,23 +44,23 @@ uses_nonce carried course =
     let seal_of : Ready → Seal = λ ready. record { node = carried.node; ready = ready; payload = carried.payload } in
     with_sealer carried.node (record sealer { ready = [] }) (record course { sealed = course.sealed ++ map seal_of sealer.ready })
 
-abbrev pub sends_carried : (ℕ → List ℕ) → List Entry → Carried → Course → Course
-sends_carried listing past carried course =
-    if bytes_eq carried.payload nonce_get then asks_nonce listing past carried.node course
+abbrev pub sends_carried : Heeds → List Entry → Carried → Course → Course
+sends_carried heeds past carried course =
+    if bytes_eq carried.payload nonce_get then asks_nonce heeds past carried.node course
     else (if begins_with carried.payload 0x98 0x80 then shows_nonce carried course
     else (if begins_with carried.payload 0x98 0x81 then uses_nonce carried course else course))
 
-abbrev pub sends : (ℕ → List ℕ) → List Entry → List ℕ → Course → Course
-sends listing past unit course = each_in_turn (sends_carried listing past) (sending_in unit) course
+abbrev pub sends : Heeds → List Entry → List ℕ → Course → Course
+sends heeds past unit course = each_in_turn (sends_carried heeds past) (sending_in unit) course
 
 -- a Nonce Report is sent where one was asked for, and a sealed text where one has its nonce
-abbrev pub may_carry : (ℕ → List ℕ) → List Entry → Course → Carried → Bool
-may_carry listing past course carried =
+abbrev pub may_carry : Heeds → List Entry → Course → Carried → Bool
+may_carry heeds past course carried =
     not (begins_with carried.payload 0x98 0x80 && are_none (giver_of carried.node course).offers)
-    && not (begins_with carried.payload 0x98 0x81 && (are_none (sealer_of carried.node course).ready || is_late listing past carried.node))
+    && not (begins_with carried.payload 0x98 0x81 && (are_none (sealer_of carried.node course).ready || is_late heeds past carried.node))
 
-abbrev pub may_be_sent : (ℕ → List ℕ) → List Entry → List ℕ → Course → Bool
-may_be_sent listing past unit course = list_all (may_carry listing past course) (sending_in unit)
+abbrev pub may_be_sent : Heeds → List Entry → List ℕ → Course → Bool
+may_be_sent heeds past unit course = list_all (may_carry heeds past course) (sending_in unit)
 
 -- ---- which bytes
 

@@ -9,7 +9,8 @@ use Rattle.law_transcript.specs.Records.{Shows}
 use Rattle.law_transcript.specs.Restarts.{since_restart}
 use Rattle.law_time.specs.Interviews.{listens}
 use Rattle.law_host.specs.Course.{Book, book_of}
-use Rattle.law_host.specs.HostLegal.{IsHostLegal}
+use Rattle.law_host.specs.Heard.{listing_heard}
+use Rattle.law_host.specs.HostLegal.{IsLegalAlone}
 use Rattle.law_host.specs.Nonces.{nonce_with}
 use Rattle.law_host.specs.Notes.{Start}
 
@@ -19,8 +20,8 @@ listens_said None = false
 listens_said (Some interview) = interview.listens
 
 -- what the host takes a node to list, and whether to listen, is what is kept of it
-pub record KnowsNode (listing : ℕ → List ℕ) (before : List Entry) (node : ℕ) (kept : KeptNode) : Type 0 where
-  pub lists : known_classes listing before node ≡ classes_said kept.interview
+pub record KnowsNode (before : List Entry) (node : ℕ) (kept : KeptNode) : Type 0 where
+  pub lists : known_classes listing_heard before node ≡ classes_said kept.interview
   pub listening : listens node before ≡ listens_said kept.interview
 
 -- how many nonces were counted and given, and whether the last is live
@@ -32,18 +33,17 @@ book_kept node kept = record {
 }
 
 -- a start from records
-pub record StartsFrom (listing : ℕ → List ℕ) (records : List (List ℕ)) (start : Start) : Type 0 where
+pub record StartsFrom (records : List (List ℕ)) (start : Start) : Type 0 where
   pub kept : Kept
   pub gives : Give records kept
   pub shows : Shows start.before kept
   pub anew : since_restart start.before ≡ []
-  pub knows : (node : ℕ) → KnowsNode listing start.before node (node_of kept node)
+  pub knows : (node : ℕ) → KnowsNode start.before node (node_of kept node)
   pub books : (node : ℕ) → book_of node start.books ≡ book_kept node (node_of kept node)
 
--- a host that is legal from a start from these records, and has the nonces that were live
-pub record IsLegalFrom (key : List ℕ) (listing : ℕ → List ℕ) (records : List (List ℕ)) (whole : Bool) (heard : List Entry)
-    (told : Option (List (List ℕ))) : Type 0 where
+-- a host alone that is legal from a start from these records, and has the nonces that were live
+pub record IsLegalFrom (key : List ℕ) (records : List (List ℕ)) (whole : Bool) (heard : List Entry) (told : Option (List (List ℕ))) : Type 0 where
   pub start : Start
-  pub starts : StartsFrom listing records start
-  pub legal : IsHostLegal key listing start whole heard told
-  pub live : (node : ℕ) → IfSome (node_of starts.kept node).live (λ nonce. nonce ≡ nonce_with legal.notes.drawn node (node_of starts.kept node).given)
+  pub starts : StartsFrom records start
+  pub alone : IsLegalAlone key start whole heard told
+  pub live : (node : ℕ) → IfSome (node_of starts.kept node).live (λ nonce. nonce ≡ nonce_with alone.legal.notes.drawn node (node_of starts.kept node).given)

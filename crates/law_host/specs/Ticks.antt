@@ -6,6 +6,7 @@ use Rattle.std.specs.Ordering.{nat_cmp}
 use Rattle.zw_text.specs.declared.entry.Done.TheVariants as done
 use Rattle.zw_text.specs.declared.entry.Entry.{Entry}
 use Rattle.zw_text.specs.Transcript.{joined}
+use Rattle.law_time.specs.Heeds.{Heeds}
 use Rattle.law_time.specs.Moments.{clock}
 use Rattle.law_time.specs.Judged.{acknowledged}
 use Rattle.law_time.specs.Requests.{are_none, asked, failing}
@@ -19,16 +20,16 @@ abbrev pub nodes_in_order : List Entry → List ℕ
 nodes_in_order past = in_order nat_cmp (joined past)
 
 -- by a time the line has given the request up, or its wait has ended
-abbrev pub waits_out : (ℕ → List ℕ) → List Entry → ℕ → Course → Course
-waits_out listing past now course =
-    if list_any (λ tick. nat_le tick now) (giving_up (asked past)) then ends_without listing past now done.LinkFailed course
-    else (if list_any (λ tick. nat_le tick now) (silence (asked past)) then ends_without listing past now done.Silent course else course)
+abbrev pub waits_out : Heeds → List Entry → ℕ → Course → Course
+waits_out heeds past now course =
+    if list_any (λ tick. nat_le tick now) (giving_up (asked past)) then ends_without heeds past now done.LinkFailed course
+    else (if list_any (λ tick. nat_le tick now) (silence (asked past)) then ends_without heeds past now done.Silent course else course)
 
 -- the ticks up to a time: the request under way, and then each node
-abbrev pub ticks : (ℕ → List ℕ) → List Entry → ℕ → Course → Course
-ticks listing past now course =
-    each_in_turn (gives_up_late listing past now) (nodes_in_order past)
-    (if course.over then record course { ticked = now } else waits_out listing past now (record course { ticked = now }))
+abbrev pub ticks : Heeds → List Entry → ℕ → Course → Course
+ticks heeds past now course =
+    each_in_turn (gives_up_late heeds past now) (nodes_in_order past)
+    (if course.over then record course { ticked = now } else waits_out heeds past now (record course { ticked = now }))
 
 -- an answer of the chip has the line give the request up, and all frames that came before it are judged
 abbrev pub is_denied : List Entry → Bool
@@ -36,6 +37,6 @@ is_denied past =
     not (are_none (giving_up (asked past)))
     && list_any (λ fails. fails.at_answer && nat_le fails.frames (acknowledged past)) (failing (asked past))
 
-abbrev pub denies : (ℕ → List ℕ) → List Entry → Course → Course
-denies listing past course =
-    if not course.over && is_denied past then ends_without listing past (clock past) done.LinkFailed course else course
+abbrev pub denies : Heeds → List Entry → Course → Course
+denies heeds past course =
+    if not course.over && is_denied past then ends_without heeds past (clock past) done.LinkFailed course else course

@@ -1,10 +1,14 @@
 -- Worked transcripts of notes and of nonces, and others with one thing wrong, made by hand in the form in which the program prints them, as a
 -- host hears them.
-use Rattle.std.specs.Prelude.{ℕ, true, false, List, [], ◌∷◌, ◌++◌, codes, drop, take, Some}
+use Rattle.std.specs.Prelude.{ℕ, true, false, List, [], ◌∷◌, ◌++◌, codes, drop, map, take, None, Some}
 use Rattle.std.specs.List.{flat_map, range_with_len}
 use Rattle.zw_base.specs.declared.order.Word.TheVariants.{On, Off}
 use Rattle.zw_base.specs.declared.order.What.TheVariants.{Value}
 use Rattle.zw_base.specs.declared.property.Name.TheVariants as names
+use Rattle.class_info.specs.declared.report_status.ReportStatus.TheVariants.{Working}
+use Rattle.device_stack.specs.State.{State}
+use Rattle.host_heard.specs.declared.told.Told.{Told}
+use Rattle.host_heard.specs.declared.told.Told.TheVariants as told
 use Rattle.host_keep.specs.declared.final_status.FinalStatus.TheVariants.{Success}
 use Rattle.host_keep.specs.declared.record.Record.{Record}
 use Rattle.host_keep.specs.declared.record.Record.TheVariants as records
@@ -16,11 +20,12 @@ use Rattle.zw_text.specs.declared.entry.Refusal.TheVariants as refusals
 use Rattle.zw_text.specs.declared.entry.Entry.{Entry}
 use Rattle.zw_text.specs.declared.entry.Entry.TheVariants.{Said, Accepted, Refused, Begin, Dropped, Garbled, Overrun, Air, Out, Store, Report, Unstored, Old, Unread, Awake, Interviewed, Done, ChipFull, QueueFull, Held, Json, Unkept, Time}
 use Rattle.law_transcript.specs.Worked.{bytes, plain_exchange, repeated_exchange, sealed_exchange}
+use Rattle.law_time.specs.Heeds.{heeds_of}
 use Rattle.law_time.specs.WorkedWaking.{failing_report}
-use Rattle.law_time.specs.WorkedTurns.{filled}
+use Rattle.law_time.specs.WorkedTurns.{filled, given_up_plug, second_wanted}
 use Rattle.law_time.specs.WorkedUnits.{by_chip, by_host, chip_acknowledges, delivered, host_acknowledges, nonce_asked, notified, taken}
 use Rattle.law_host.specs.Course.{Choices}
-use Rattle.law_host.specs.Notes.{Start}
+use Rattle.law_host.specs.Notes.{Start, course_of}
 
 -- every record is kept, and no message of a lock is heard
 abbrev pub all_kept : Choices
@@ -277,6 +282,51 @@ live_over_restart = nonce_over_restart ++ by_host (codes "01110013040A9880019E0A
 abbrev pub new_over_restart : List Entry
 new_over_restart = nonce_over_restart ++ by_host (codes "01110013040A988002010203040506072502CE") ∷ []
 
+-- ---- nonces over a restart, and which bytes count
+
+-- a host that has counted so many nonces of node 4 starts again, asks it for one, is given this one, and seals its message for nonce 1
+abbrev pub after_counting : ℕ → Start
+after_counting count = record {
+  before = lock_begun;
+  books = record { node = 4; sealer = record { seen = count; pending = []; ready = [] }; giver = record { given = 0; live = false; offers = [] } } ∷ [];
+}
+
+abbrev pub sealed_over_restart : List ℕ → List Entry
+sealed_over_restart given =
+    Said (codes "restart") ∷ by_host (codes "010900130402984025011F") ∷ by_chip given ∷ host_acknowledges
+    ∷ by_host (codes "01220013041B98816B71E54E0F8EE3186CCEA9D132AB2C95018A573A88D6BE287E25028E") ∷ []
+
+-- that nonce, and another with the same first byte
+abbrev pub first_given : List ℕ
+first_given = codes "0110000400040A988001ED7E19638089D9C5"
+
+abbrev pub other_given : List ℕ
+other_given = codes "0110000400040A988001ED7E19638089D8C4"
+
+-- the host gives node 4 the live nonce, for which this is then sealed
+abbrev pub after_nonce_asked : Start
+after_nonce_asked = record {
+  before = lock_begun;
+  books = record { node = 4; sealer = record { seen = 1; pending = []; ready = [] }; giver = record { given = 1; live = true; offers = 1 ∷ [] } } ∷ [];
+}
+
+abbrev pub given_then : List ℕ → List Entry → List Entry
+given_then report notes = by_host (codes "01110013040A9880019E0A1249BB594F2501AC") ∷ judged report notes
+
+-- the report with another code opens to nothing, and is not read; or that is left out
+abbrev pub told_changed : List ℕ
+told_changed = codes "011F000400041998810AED115731C616E72C1D6945BFE201FF761C24E5DCC41E54"
+
+abbrev pub unopened : List Entry
+unopened = given_then told_changed (Unread 4 (bytes (codes "98810AED115731C616E72C1D6945BFE201FF761C24E5DCC41E")) ∷ [])
+
+abbrev pub unopened_left_out : List Entry
+unopened_left_out = given_then told_changed []
+
+-- the report is left out
+abbrev pub sealed_left_out : List Entry
+sealed_left_out = given_then told_sealed []
+
 -- ---- what no entry shows
 
 -- the report of the lock is judged, and one of two records is not kept: that the nonce is spent, or how the session ended; it asks for a nonce again
@@ -297,13 +347,79 @@ sealed_report = 0x6C ∷ 0x02 ∷ 0x01 ∷ 0xFF ∷ 0x00 ∷ []
 abbrev pub report_kept : Choices
 report_kept = record { keepings = []; texts = Some sealed_report ∷ [] }
 
+abbrev pub opened_to_nothing : Choices
+opened_to_nothing = record { keepings = []; texts = None ∷ [] }
+
 abbrev pub unspent : Choices
 unspent = record { keepings = true ∷ true ∷ true ∷ false ∷ []; texts = [] }
 
 abbrev pub spent : Choices
 spent = record { keepings = true ∷ true ∷ true ∷ true ∷ false ∷ []; texts = Some sealed_report ∷ [] }
 
+-- ---- what a host goes by
+
+-- the messages of each payload by which a host goes that starts so, among these devices, with these choices
+abbrev pub gone_by : List State → Start → List Entry → Choices → List (List Told)
+gone_by devices start heard choices = map (λ heeding. heeding.messages) (course_of (heeds_of devices) start heard choices).heeded
+
+-- one payload asks for a nonce and has the report of a session; one of the two records is not kept, the second or the first
+abbrev pub nonce_and_report : List Entry
+nonce_and_report = judged (codes "0112000400020C8F0102029840056C0201FF0024") []
+
+abbrev pub first_kept : Choices
+first_kept = record { keepings = true ∷ false ∷ []; texts = [] }
+
+abbrev pub second_kept : Choices
+second_kept = record { keepings = false ∷ true ∷ []; texts = [] }
+
+-- where the second is not, the nonce is given
+abbrev pub given_beside_unkept : List Entry
+given_beside_unkept = nonce_and_report ++ Unkept 2 ∷ by_host (codes "01110013020A988001020304050607082501C1") ∷ []
+
+-- a lock says openly that it is at work
+abbrev pub working_openly : List Entry
+working_openly = judged (codes "010B00040004056C020101009F") []
+
+-- a sealed payload opens to a Nonce Get, and the nonce is given
+abbrev pub opens_to_get : Choices
+opens_to_get = record { keepings = []; texts = Some (0x98 ∷ 0x40 ∷ []) ∷ [] }
+
+abbrev pub asked_sealed : List Entry
+asked_sealed = judged told_sealed []
+
+abbrev pub given_sealed : List Entry
+given_sealed = asked_sealed ++ by_host (codes "01110013040A988001020304050607082501C7") ∷ []
+
+-- a message in segments has been given up, and the node asks for its second segment
+abbrev pub after_plug : Start
+after_plug = record { before = given_up_plug; books = [] }
+
+abbrev pub segment_asked : List Entry
+segment_asked = second_wanted ∷ host_acknowledges ∷ []
+
+-- what is gone by of a single payload: nothing, a Nonce Get, that the session is at work, and what asks for the second segment
+abbrev pub by_nothing : List (List Told)
+by_nothing = [] ∷ []
+
+abbrev pub by_get : List (List Told)
+by_get = (told.NonceGet ∷ []) ∷ []
+
+abbrev pub by_work : List (List Told)
+by_work = (told.Report 1 Working false ∷ []) ∷ []
+
+abbrev pub by_segment : List (List Told)
+by_segment = (told.SegmentRequest 1 39 ∷ []) ∷ []
+
 -- ---- what a host hears
+
+-- node 5 has listed two things in two interviews, between which a command of it was accepted
+abbrev pub informed : List ℕ → List Entry
+informed unit = by_chip unit ∷ host_acknowledges ∷ Interviewed 5 ∷ []
+
+abbrev pub informed_twice : List Entry
+informed_twice =
+    Said (codes "join 5") ∷ informed (codes "010D00498405070400003180846C60") ++ Said (codes "interval 5 300") ∷ Accepted 1 5
+    ∷ informed (codes "010C004984050604000084556C84")
 
 -- what it hears of the plain exchange
 abbrev pub plain_heard : List Entry
@@ -341,7 +457,8 @@ after_exchange = record { before = plain_exchange; books = [] }
 -- a first life: node 5 joined and was interviewed, a command of node 2 succeeded, and one more was accepted before the host started again
 abbrev pub first_life : List Entry
 first_life =
-    Said (codes "join 5") ∷ Interviewed 5 ∷ Said (codes "set 2 on") ∷ Accepted 1 2 ∷ Begin 2 1 1 ∷ Out 1 endings.Success
+    Said (codes "join 5") ∷ by_chip (codes "010D00498405070400003180846C60") ∷ host_acknowledges ∷ Interviewed 5
+    ∷ Said (codes "set 2 on") ∷ Accepted 1 2 ∷ Begin 2 1 1 ∷ Out 1 endings.Success
     ∷ Store 2 (setting 0 names.Switch 255) ∷ Said (codes "set 2 off") ∷ Accepted 2 2 ∷ Said (codes "restart") ∷ []
 
 abbrev pub after_life : Start
@@ -352,6 +469,17 @@ abbrev pub life_records : List Record
 life_records =
     records.Joined 5 ∷ records.Classes 5 false (0x31 ∷ 0x80 ∷ 0x84 ∷ 0x6C ∷ []) ∷ records.Accepted 1 (record { node = 2; end = 0; what = Value On })
     ∷ records.Begun 2 1 1 ∷ records.Final 2 1 Success ∷ records.Accepted 2 (record { node = 2; end = 0; what = Value Off }) ∷ []
+
+-- a life in which a session has begun and not ended, of which `begun_records` of `law_wire` were kept
+abbrev pub open_life : List Entry
+open_life = take 3 plain_exchange ++ Said (codes "restart") ∷ []
+
+abbrev pub after_open_life : Start
+after_open_life = record { before = open_life; books = [] }
+
+-- its message is sent again
+abbrev pub session_resumed : List Entry
+session_resumed = by_host (codes "010E001302076C0101032501FF250177") ∷ chip_acknowledges ∷ taken ∷ host_acknowledges ∷ []
 
 -- the command that waits begins the next session, or the first one again
 abbrev pub next_session : List Entry

@@ -1,18 +1,18 @@
 //! What the laws of a legal host and of a legal run say of worked transcripts, and of others with one thing wrong.
 
+ghost use Rattle.law_time.specs.Heeds.{heeds_of};
 ghost use Rattle.std.specs.Prelude.{[], ◌∷◌, false, ℕ, Bool, List, map, Option, None, Some, true};
 ghost use Rattle.device_stack.specs.State.{State};
 ghost use Rattle.host_keep.specs.RecordText.{record_text};
 ghost use Rattle.law_host.specs.Heard.{heard_by_host};
-ghost use Rattle.law_host.specs.HostLegal.{IsHostLegal};
+ghost use Rattle.law_host.specs.HostLegal.{IsHostLegal, IsLegalAlone};
 ghost use Rattle.law_host.specs.Legal.{IsLegal};
 ghost use Rattle.law_host.specs.Notes.{first_start};
 ghost use Rattle.law_host.specs.Starting.{IsLegalFrom, StartsFrom};
-ghost use Rattle.law_host.specs.Worked.{after_exchange, life_records, loss_untold, next_session, plain_heard, session_again};
+ghost use Rattle.law_host.specs.Worked.{after_exchange, life_records, loss_untold, next_session, plain_heard, session_again, session_resumed};
 ghost use Rattle.law_time.specs.WrongWaits.{begun_silently};
 ghost use Rattle.law_transcript.specs.Devices.{after_events};
-ghost use Rattle.law_transcript.specs.Nodes.{listing_of};
-ghost use Rattle.law_transcript.specs.Worked.{plain_exchange, refused_lines, the_sensor, the_switch};
+ghost use Rattle.law_transcript.specs.Worked.{plain_exchange, refused_lines, the_switch};
 ghost use Rattle.law_transcript.specs.WorkedDevices.{plain_records, switch_events};
 ghost use Rattle.law_wire.specs.WorkedRecords.{begun_records, ordered_otherwise};
 ghost use Rattle.law_wire.specs.WorkedWrong.{answered_nothing};
@@ -27,15 +27,15 @@ use law_wire::{
     worked_repeats, worked_routes, worked_service, worked_showing,
 };
 
-/// A host that refuses lines, each by its rule, is legal over what it hears of them, and so it is over what it hears of the plain exchange.
+/// A host that refuses lines, each by its rule, is legal over what it hears of them, and alone it is over what it hears of the plain exchange.
 pub fn worked_legal()
-    ensures refused { IsHostLegal [] (listing_of (the_switch ∷ [])) first_start true (heard_by_host refused_lines) None }
-    ensures plain { IsHostLegal [] (listing_of (the_switch ∷ [])) first_start true plain_heard None }
+    ensures refused { IsHostLegal [] (heeds_of (the_switch ∷ [])) first_start true (heard_by_host refused_lines) None }
+    ensures plain { IsLegalAlone [] first_start true plain_heard None }
 {}
 
 /// Where a session has begun and the run ends before its message, it is not.
 pub fn rejected_legal()
-    ensures { IsHostLegal [] (listing_of (the_switch ∷ [])) first_start true begun_silently None → ⊥ }
+    ensures { IsHostLegal [] (heeds_of (the_switch ∷ [])) first_start true begun_silently None → ⊥ }
 {}
 
 /// The plain exchange is legal, with its device as the message leaves it and with its records.
@@ -80,25 +80,32 @@ pub fn rejected_run()
 
 /// Where there are no records a host starts with nothing.
 pub fn worked_start()
-    ensures { StartsFrom (listing_of (the_switch ∷ [])) [] first_start }
+    ensures { StartsFrom [] first_start }
 {}
 
 /// From the records of a session that has not ended it does not start as after the plain exchange, and from those of that exchange it does not
 /// where the old host goes on.
 pub fn rejected_start()
-    ensures records { StartsFrom (listing_of (the_switch ∷ [])) (map record_text begun_records) after_exchange → ⊥ }
-    ensures running { StartsFrom (listing_of (the_switch ∷ [])) (map record_text plain_records) after_exchange → ⊥ }
+    ensures records { StartsFrom (map record_text begun_records) after_exchange → ⊥ }
+    ensures running { StartsFrom (map record_text plain_records) after_exchange → ⊥ }
 {
     rejected_records();
 }
 
 /// From the records of a first life a host goes on: the command that waits begins the next session of its node.
 pub fn worked_life()
-    ensures { IsLegalFrom [] (listing_of (the_switch ∷ the_sensor ∷ [])) (map record_text life_records) true next_session None }
+    ensures { IsLegalFrom [] (map record_text life_records) true next_session None }
 {}
 
-/// However it starts from them, it does not begin the first session again.
+/// From those of a session that has not ended it sends the message of that session again.
+pub fn worked_open_life()
+    ensures { IsLegalFrom [] (map record_text begun_records) true session_resumed None }
+{}
+
+/// However it starts from either, it does not begin the first session again.
 pub fn rejected_life()
-    ensures { (key : List ℕ) (listing : ℕ → List ℕ) (whole : Bool) (told : Option (List (List ℕ))) →
-        IsLegalFrom key listing (map record_text life_records) whole session_again told → ⊥ }
+    ensures open { (key : List ℕ) (whole : Bool) (told : Option (List (List ℕ))) →
+        IsLegalFrom key (map record_text begun_records) whole session_again told → ⊥ }
+    ensures ended { (key : List ℕ) (whole : Bool) (told : Option (List (List ℕ))) →
+        IsLegalFrom key (map record_text life_records) whole session_again told → ⊥ }
 {}

@@ -12,15 +12,17 @@
 #![tactic(auto)]
 
 mod heard;
+mod heeds;
 mod legal;
 mod nonces;
 mod notes;
 mod values;
 
 pub use heard::worked_heard;
+pub use heeds::{rejected_heeds, worked_heedings, worked_heeds};
 pub use legal::{
     rejected_legal, rejected_life, rejected_run, rejected_start, worked_legal, worked_life,
-    worked_run, worked_start,
+    worked_open_life, worked_run, worked_start,
 };
 pub use nonces::{rejected_nonces, worked_nonces};
 pub use notes::{rejected_notes, worked_notes};

@@ -1,5 +1,6 @@
 //! What the law of notes says of worked transcripts, and of others with one thing wrong.
 
+ghost use Rattle.law_time.specs.Heeds.{heeds_of};
 ghost use Rattle.std.specs.Prelude.{◌∷◌, [], drop, true};
 ghost use Rattle.law_host.specs.Notes.{NotesWhatHappens, first_start};
 ghost use Rattle.law_host.specs.Worked.{
@@ -47,7 +48,6 @@ ghost use Rattle.law_time.specs.WorkedEnds.{asleep_given_up, asleep_in_silence, 
 ghost use Rattle.law_time.specs.WorkedTurns.{dropped_after_report};
 ghost use Rattle.law_time.specs.WorkedWaits.{answered_errands, waited_attempts};
 ghost use Rattle.law_time.specs.WrongEnds.{awake_after_link, awake_in_next_line};
-ghost use Rattle.law_transcript.specs.Nodes.{listing_of};
 ghost use Rattle.law_transcript.specs.Worked.{
   cancelled_order,
   lossy_exchange,
@@ -66,34 +66,34 @@ ghost use Rattle.law_transcript.specs.Worked.{
 /// dropped where the queue is full, and a session whose record is not kept does not begin. Of a report of work nothing is noted, and a payload
 /// is not read that is no message, or is sealed for a nonce that is not live.
 pub fn worked_notes()
-    ensures plain { NotesWhatHappens [] (listing_of (the_switch ∷ [])) first_start true plain_exchange }
-    ensures repeated { NotesWhatHappens [] (listing_of (the_switch ∷ [])) first_start true repeated_exchange }
-    ensures lossy { NotesWhatHappens [] (listing_of (the_switch ∷ [])) first_start true lossy_exchange }
-    ensures cancelled { NotesWhatHappens [] (listing_of (the_switch ∷ [])) first_start true cancelled_order }
-    ensures restarted { NotesWhatHappens [] (listing_of (the_switch ∷ [])) first_start true restarted_host }
-    ensures sleeping { NotesWhatHappens [] (listing_of (the_sensor ∷ [])) first_start true sleeping_node }
-    ensures answered { NotesWhatHappens [] (listing_of (the_switch ∷ [])) first_start true answered_errands }
-    ensures waited { NotesWhatHappens [] (listing_of (the_switch ∷ [])) first_start true waited_attempts }
-    ensures value { NotesWhatHappens [] (listing_of (the_switch ∷ [])) first_start true value_heard }
-    ensures last { NotesWhatHappens [] (listing_of (the_switch ∷ [])) after_sessions true last_session }
-    ensures failed { NotesWhatHappens [] (listing_of (the_switch ∷ [])) after_begun true failure_told }
-    ensures unsupported { NotesWhatHappens [] (listing_of (the_switch ∷ [])) after_begun true unsupported_told }
-    ensures other { NotesWhatHappens [] (listing_of (the_switch ∷ [])) after_begun true other_told }
-    ensures openly { NotesWhatHappens [] (listing_of (the_lock ∷ [])) after_lock_begun true told_openly }
-    ensures woken { NotesWhatHappens [] (listing_of (the_sensor ∷ [])) first_start true woken }
-    ensures in_silence { NotesWhatHappens [] (listing_of (the_sensor ∷ [])) after_waking true (drop 1 asleep_in_silence) }
-    ensures given_up { NotesWhatHappens [] (listing_of (the_sensor ∷ [])) after_waking true (drop 1 asleep_given_up) }
-    ensures at_answer { NotesWhatHappens [] (listing_of (the_switch ∷ [])) first_start true given_up_at_answer }
-    ensures held { NotesWhatHappens [] (listing_of (the_sensor ∷ [])) after_sleeper_begun true held_at_failure }
-    ensures unkept { NotesWhatHappens [] (listing_of (the_switch ∷ [])) first_start true begun_unkept }
-    ensures dropped { NotesWhatHappens [] (listing_of (the_switch ∷ [])) first_start true dropped_after_report }
-    ensures working { NotesWhatHappens [] (listing_of (the_switch ∷ [])) after_begun true work_told }
-    ensures none_live { NotesWhatHappens [] (listing_of (the_lock ∷ [])) after_lock_begun true unread_sealed }
-    ensures later_live { NotesWhatHappens [] (listing_of (the_lock ∷ [])) after_later_nonce true unread_sealed }
-    ensures unread { NotesWhatHappens [] (listing_of (the_switch ∷ [])) first_start true unread_payload }
-    ensures uninformed { NotesWhatHappens [] (listing_of (the_switch ∷ [])) first_start true interview_uninformed }
-    ensures refused { NotesWhatHappens [] (listing_of (the_switch ∷ [])) first_start true interview_refused }
-    ensures unstored { NotesWhatHappens [] (listing_of (the_switch ∷ [])) after_values true value_unstored }
+    ensures plain { NotesWhatHappens [] (heeds_of (the_switch ∷ [])) first_start true plain_exchange }
+    ensures repeated { NotesWhatHappens [] (heeds_of (the_switch ∷ [])) first_start true repeated_exchange }
+    ensures lossy { NotesWhatHappens [] (heeds_of (the_switch ∷ [])) first_start true lossy_exchange }
+    ensures cancelled { NotesWhatHappens [] (heeds_of (the_switch ∷ [])) first_start true cancelled_order }
+    ensures restarted { NotesWhatHappens [] (heeds_of (the_switch ∷ [])) first_start true restarted_host }
+    ensures sleeping { NotesWhatHappens [] (heeds_of (the_sensor ∷ [])) first_start true sleeping_node }
+    ensures answered { NotesWhatHappens [] (heeds_of (the_switch ∷ [])) first_start true answered_errands }
+    ensures waited { NotesWhatHappens [] (heeds_of (the_switch ∷ [])) first_start true waited_attempts }
+    ensures value { NotesWhatHappens [] (heeds_of (the_switch ∷ [])) first_start true value_heard }
+    ensures last { NotesWhatHappens [] (heeds_of (the_switch ∷ [])) after_sessions true last_session }
+    ensures failed { NotesWhatHappens [] (heeds_of (the_switch ∷ [])) after_begun true failure_told }
+    ensures unsupported { NotesWhatHappens [] (heeds_of (the_switch ∷ [])) after_begun true unsupported_told }
+    ensures other { NotesWhatHappens [] (heeds_of (the_switch ∷ [])) after_begun true other_told }
+    ensures openly { NotesWhatHappens [] (heeds_of (the_lock ∷ [])) after_lock_begun true told_openly }
+    ensures woken { NotesWhatHappens [] (heeds_of (the_sensor ∷ [])) first_start true woken }
+    ensures in_silence { NotesWhatHappens [] (heeds_of (the_sensor ∷ [])) after_waking true (drop 1 asleep_in_silence) }
+    ensures given_up { NotesWhatHappens [] (heeds_of (the_sensor ∷ [])) after_waking true (drop 1 asleep_given_up) }
+    ensures at_answer { NotesWhatHappens [] (heeds_of (the_switch ∷ [])) first_start true given_up_at_answer }
+    ensures held { NotesWhatHappens [] (heeds_of (the_sensor ∷ [])) after_sleeper_begun true held_at_failure }
+    ensures unkept { NotesWhatHappens [] (heeds_of (the_switch ∷ [])) first_start true begun_unkept }
+    ensures dropped { NotesWhatHappens [] (heeds_of (the_switch ∷ [])) first_start true dropped_after_report }
+    ensures working { NotesWhatHappens [] (heeds_of (the_switch ∷ [])) after_begun true work_told }
+    ensures none_live { NotesWhatHappens [] (heeds_of (the_lock ∷ [])) after_lock_begun true unread_sealed }
+    ensures later_live { NotesWhatHappens [] (heeds_of (the_lock ∷ [])) after_later_nonce true unread_sealed }
+    ensures unread { NotesWhatHappens [] (heeds_of (the_switch ∷ [])) first_start true unread_payload }
+    ensures uninformed { NotesWhatHappens [] (heeds_of (the_switch ∷ [])) first_start true interview_uninformed }
+    ensures refused { NotesWhatHappens [] (heeds_of (the_switch ∷ [])) first_start true interview_refused }
+    ensures unstored { NotesWhatHappens [] (heeds_of (the_switch ∷ [])) after_values true value_unstored }
 {}
 
 /// Each of these breaks the law by one entry: a value that was told is left out, is entered twice, as another, again later, or without room; an
@@ -103,26 +103,26 @@ pub fn worked_notes()
 /// awake in the line after its message ended in silence, or in the tick after the line gave that up; one is not held that asks to be; a record
 /// is not kept that was not to be; and a message is dropped before the value that the payload told first, or as if of another node.
 pub fn rejected_notes()
-    ensures left_out { NotesWhatHappens [] (listing_of (the_switch ∷ [])) first_start true value_left_out → ⊥ }
-    ensures twice { NotesWhatHappens [] (listing_of (the_switch ∷ [])) first_start true value_twice → ⊥ }
-    ensures again { NotesWhatHappens [] (listing_of (the_switch ∷ [])) first_start true value_again → ⊥ }
-    ensures old { NotesWhatHappens [] (listing_of (the_switch ∷ [])) first_start true old_left_out → ⊥ }
-    ensures first { NotesWhatHappens [] (listing_of (the_switch ∷ [])) after_sessions true ended_by_first → ⊥ }
-    ensures value { NotesWhatHappens [] (listing_of (the_switch ∷ [])) first_start true value_otherwise → ⊥ }
-    ensures otherwise { NotesWhatHappens [] (listing_of (the_switch ∷ [])) after_begun true ended_otherwise → ⊥ }
-    ensures of_another { NotesWhatHappens [] (listing_of (the_switch ∷ [])) after_begun true ended_of_another → ⊥ }
-    ensures by_other { NotesWhatHappens [] (listing_of (the_switch ∷ [])) after_begun true ended_by_other → ⊥ }
-    ensures openly { NotesWhatHappens [] (listing_of (the_lock ∷ [])) after_lock_begun true ended_openly → ⊥ }
-    ensures woken { NotesWhatHappens [] (listing_of (the_sensor ∷ [])) first_start true woken_by_another → ⊥ }
-    ensures next_line { NotesWhatHappens [] (listing_of (the_sensor ∷ [])) after_waking true (drop 1 awake_in_next_line) → ⊥ }
-    ensures after_link { NotesWhatHappens [] (listing_of (the_sensor ∷ [])) after_waking true (drop 1 awake_after_link) → ⊥ }
-    ensures hold { NotesWhatHappens [] (listing_of (the_sensor ∷ [])) after_sleeper_begun true hold_left_out → ⊥ }
-    ensures unkept { NotesWhatHappens [] (listing_of (the_switch ∷ [])) first_start true unkept_unasked → ⊥ }
-    ensures dropped_first { NotesWhatHappens [] (listing_of (the_switch ∷ [])) first_start true dropped_first → ⊥ }
-    ensures dropped_of_other { NotesWhatHappens [] (listing_of (the_switch ∷ [])) first_start true dropped_of_other → ⊥ }
-    ensures by_work { NotesWhatHappens [] (listing_of (the_switch ∷ [])) after_begun true ended_by_work → ⊥ }
-    ensures none_live { NotesWhatHappens [] (listing_of (the_lock ∷ [])) after_lock_begun true ended_sealed → ⊥ }
-    ensures later_live { NotesWhatHappens [] (listing_of (the_lock ∷ [])) after_later_nonce true ended_sealed → ⊥ }
-    ensures unread { NotesWhatHappens [] (listing_of (the_switch ∷ [])) first_start true unread_left_out → ⊥ }
-    ensures stored { NotesWhatHappens [] (listing_of (the_switch ∷ [])) after_values true value_stored_though_full → ⊥ }
+    ensures left_out { NotesWhatHappens [] (heeds_of (the_switch ∷ [])) first_start true value_left_out → ⊥ }
+    ensures twice { NotesWhatHappens [] (heeds_of (the_switch ∷ [])) first_start true value_twice → ⊥ }
+    ensures again { NotesWhatHappens [] (heeds_of (the_switch ∷ [])) first_start true value_again → ⊥ }
+    ensures old { NotesWhatHappens [] (heeds_of (the_switch ∷ [])) first_start true old_left_out → ⊥ }
+    ensures first { NotesWhatHappens [] (heeds_of (the_switch ∷ [])) after_sessions true ended_by_first → ⊥ }
+    ensures value { NotesWhatHappens [] (heeds_of (the_switch ∷ [])) first_start true value_otherwise → ⊥ }
+    ensures otherwise { NotesWhatHappens [] (heeds_of (the_switch ∷ [])) after_begun true ended_otherwise → ⊥ }
+    ensures of_another { NotesWhatHappens [] (heeds_of (the_switch ∷ [])) after_begun true ended_of_another → ⊥ }
+    ensures by_other { NotesWhatHappens [] (heeds_of (the_switch ∷ [])) after_begun true ended_by_other → ⊥ }
+    ensures openly { NotesWhatHappens [] (heeds_of (the_lock ∷ [])) after_lock_begun true ended_openly → ⊥ }
+    ensures woken { NotesWhatHappens [] (heeds_of (the_sensor ∷ [])) first_start true woken_by_another → ⊥ }
+    ensures next_line { NotesWhatHappens [] (heeds_of (the_sensor ∷ [])) after_waking true (drop 1 awake_in_next_line) → ⊥ }
+    ensures after_link { NotesWhatHappens [] (heeds_of (the_sensor ∷ [])) after_waking true (drop 1 awake_after_link) → ⊥ }
+    ensures hold { NotesWhatHappens [] (heeds_of (the_sensor ∷ [])) after_sleeper_begun true hold_left_out → ⊥ }
+    ensures unkept { NotesWhatHappens [] (heeds_of (the_switch ∷ [])) first_start true unkept_unasked → ⊥ }
+    ensures dropped_first { NotesWhatHappens [] (heeds_of (the_switch ∷ [])) first_start true dropped_first → ⊥ }
+    ensures dropped_of_other { NotesWhatHappens [] (heeds_of (the_switch ∷ [])) first_start true dropped_of_other → ⊥ }
+    ensures by_work { NotesWhatHappens [] (heeds_of (the_switch ∷ [])) after_begun true ended_by_work → ⊥ }
+    ensures none_live { NotesWhatHappens [] (heeds_of (the_lock ∷ [])) after_lock_begun true ended_sealed → ⊥ }
+    ensures later_live { NotesWhatHappens [] (heeds_of (the_lock ∷ [])) after_later_nonce true ended_sealed → ⊥ }
+    ensures unread { NotesWhatHappens [] (heeds_of (the_switch ∷ [])) first_start true unread_left_out → ⊥ }
+    ensures stored { NotesWhatHappens [] (heeds_of (the_switch ∷ [])) after_values true value_stored_though_full → ⊥ }
 {}

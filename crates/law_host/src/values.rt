@@ -4,18 +4,18 @@ ghost use Rattle.std.specs.Prelude.{◌∷◌, [], true};
 ghost use Rattle.law_host.specs.HostLegal.{ShowsValues};
 ghost use Rattle.law_host.specs.Worked.{values_left_out, values_otherwise, values_shown, values_unasked};
 ghost use Rattle.law_transcript.specs.Lists.{EachAfter};
-ghost use Rattle.law_transcript.specs.Nodes.{listing_of};
+ghost use Rattle.law_transcript.specs.Nodes.{always, listing_of};
 ghost use Rattle.law_transcript.specs.Worked.{plain_exchange, the_switch};
 ghost use Rattle.law_wire.specs.Serial.{ended};
 
 /// Where a line asks for the values of a node, the one that the plain exchange confirmed is shown.
 pub fn worked_shown_values()
-    ensures { EachAfter (ShowsValues (listing_of (the_switch ∷ []))) plain_exchange (ended true values_shown) }
+    ensures { EachAfter (ShowsValues (always (listing_of (the_switch ∷ [])))) plain_exchange (ended true values_shown) }
 {}
 
 /// Neither is another value shown, nor none, nor one that no line asks for.
 pub fn rejected_shown_values()
-    ensures otherwise { EachAfter (ShowsValues (listing_of (the_switch ∷ []))) plain_exchange (ended true values_otherwise) → ⊥ }
-    ensures left_out { EachAfter (ShowsValues (listing_of (the_switch ∷ []))) plain_exchange (ended true values_left_out) → ⊥ }
-    ensures unasked { EachAfter (ShowsValues (listing_of (the_switch ∷ []))) plain_exchange (ended true values_unasked) → ⊥ }
+    ensures otherwise { EachAfter (ShowsValues (always (listing_of (the_switch ∷ [])))) plain_exchange (ended true values_otherwise) → ⊥ }
+    ensures left_out { EachAfter (ShowsValues (always (listing_of (the_switch ∷ [])))) plain_exchange (ended true values_left_out) → ⊥ }
+    ensures unasked { EachAfter (ShowsValues (always (listing_of (the_switch ∷ [])))) plain_exchange (ended true values_unasked) → ⊥ }
 {}

@@ -7,22 +7,20 @@ use Rattle.chip_functions.specs.declared.notice.Notice.TheVariants.{SendData as 
 use Rattle.chip_functions.specs.Notice.{status_code}
 use Rattle.class_info.specs.declared.report_status.ReportStatus.TheVariants.{Working}
 use Rattle.encap.specs.Opening.{begins_with}
-use Rattle.host_heard.specs.Telling.{heard_at}
-use Rattle.host_heard.specs.declared.payload.Heard.{Heard}
-use Rattle.host_heard.specs.declared.payload.Heard.TheVariants.{Messages}
 use Rattle.host_heard.specs.declared.told.Told.{Told}
 use Rattle.host_heard.specs.declared.told.Told.TheVariants.{Report as Reports, NonceReport}
 use Rattle.host_orders.specs.declared.carriage.Form.{Form}
 use Rattle.host_orders.specs.declared.carriage.Form.TheVariants.{Cut, Sealed}
 use Rattle.zw_words.specs.declared.side.Side.TheVariants.{Host}
 use Rattle.zw_text.specs.declared.entry.Entry.{Entry}
-use Rattle.zw_text.specs.declared.entry.Entry.TheVariants.{Said, Written, Begin, Out, Unkept}
+use Rattle.zw_text.specs.declared.entry.Entry.TheVariants.{Said, Written, Begin, Out}
 use Rattle.zw_text.specs.Transcript.{sessions}
 use Rattle.law_transcript.specs.Lists.{last_or}
 use Rattle.law_transcript.specs.Nodes.{controller}
 use Rattle.law_transcript.specs.Units.{is_frame, notice_in, sending_in}
+use Rattle.law_time.specs.Heeds.{Heeds, taken_here}
 use Rattle.law_time.specs.Moments.{clock}
-use Rattle.law_time.specs.Judged.{is_acknowledgement, is_mark, payloads_here}
+use Rattle.law_time.specs.Judged.{is_acknowledgement}
 use Rattle.law_time.specs.Requests.{Asked, are_none, is_new, starts_anew}
 use Rattle.law_time.specs.Ends.{ending, giving_up, is_called_back, silence}
 use Rattle.law_time.specs.Sessions.{Session, is_last_command, last_command, last_place, segment_at, session_of}
@@ -55,9 +53,9 @@ abbrev pub is_inner : Session → Form → List ℕ → Bool
 is_inner session Cut unit = not (list_any (λ carried. bytes_eq carried.payload (segment_at session (last_place session))) (sending_in unit))
 is_inner session _ unit = false
 
-abbrev pub is_of_inner : (ℕ → List ℕ) → List Entry → ℕ → List ℕ → ℕ → Bool
-is_of_inner listing past node unit command =
-    let session : Session = session_of listing past node command in is_inner session session.form unit
+abbrev pub is_of_inner : Heeds → List Entry → ℕ → List ℕ → ℕ → Bool
+is_of_inner heeds past node unit command =
+    let session : Session = session_of heeds.listing past node command in is_inner session session.form unit
 
 -- whether a callback is bad: not OK, nor NO_ACK of such a segment
 abbrev pub is_bad : Bool → Notice → Bool
@@ -75,11 +73,11 @@ abbrev pub is_late : ℕ → Attempts → Bool
 is_late now attempts = attempts.over || list_any (λ tick. nat_le (tick + 100) now) attempts.sign
 
 -- the last attempt is over by a time: it was before, or its request, the last one, has ended badly, or the last sign is 100 ticks ago
-abbrev pub attempt_is_over : (ℕ → List ℕ) → List Entry → Asked → ℕ → Attempts → Bool
-attempt_is_over listing past last now attempts =
+abbrev pub attempt_is_over : Heeds → List Entry → Asked → ℕ → Attempts → Bool
+attempt_is_over heeds past last now attempts =
     is_late now attempts
     || (attempts.own
-    && ends_badly last (list_any (is_of_inner listing past attempts.node last.frame) (last_command attempts.node past)) now)
+    && ends_badly last (list_any (is_of_inner heeds past attempts.node last.frame) (last_command attempts.node past)) now)
 
 -- ---- what it sends
 
@@ -102,43 +100,32 @@ attempts_by_request own over unit attempts =
     else record (anew attempts) { begun = attempts.begun + 1; sent = 1; own = true })
 
 -- whether a new request is of an attempt: it goes to the node, and none waits
-abbrev pub is_of_attempt : (ℕ → List ℕ) → ℕ → List Entry → Requests → List ℕ → Bool
-is_of_attempt listing node past requests unit =
-    goes_to node unit && are_none (waits_before listing past requests (Written Host unit)).wants
+abbrev pub is_of_attempt : Heeds → ℕ → List Entry → Requests → List ℕ → Bool
+is_of_attempt heeds node past requests unit =
+    goes_to node unit && are_none (waits_before heeds past requests (Written Host unit)).wants
 
 -- ---- what it is given
 
--- whether a report says that the session is at work; what is sealed never does, since a lock is not at work
+-- whether a report says that the session is at work
 abbrev pub is_at_work : ℕ → Told → Bool
 is_at_work id (Reports session Working wake_request) = session == id
 is_at_work id _ = false
 
-abbrev pub tells_work : ℕ → Heard → Bool
-tells_work id (Messages messages) = list_any (is_at_work id) messages
-tells_work id _ = false
-
 -- the node gives a sign here: a callback OK of a request of the attempt, or a report that it is at work
-abbrev pub is_sign : ℕ → Bool → List Entry → Bool
-is_sign node own past =
-    (own && is_called_back 0 past) || list_any (λ payload. tells_work (length (sessions node past) % 64) (heard_at payload)) (payloads_here node past)
+abbrev pub is_sign : Heeds → ℕ → Bool → List Entry → List Entry → Bool
+is_sign heeds node own past rest =
+    (own && is_called_back 0 past) || list_any (is_at_work (length (sessions node past) % 64)) (taken_here heeds node past rest)
 
--- up to an acknowledgement
-abbrev pub with_sign : List Entry → Attempts → Attempts
-with_sign past attempts =
+-- up to an acknowledgement, after which these entries stand
+abbrev pub with_sign : Heeds → List Entry → List Entry → Attempts → Attempts
+with_sign heeds past rest attempts =
     if is_late (clock past) attempts then record attempts { over = true }
-    else (if is_sign attempts.node attempts.own past then record attempts { sign = clock past ∷ [] } else attempts)
+    else (if is_sign heeds attempts.node attempts.own past rest then record attempts { sign = clock past ∷ [] } else attempts)
 
--- the nonces that a payload tells; what is sealed tells none
+-- the nonce that a message gives
 abbrev pub nonce_told : Told → List (List ℕ)
 nonce_told (NonceReport nonce) = nonce ∷ []
 nonce_told _ = []
-
-abbrev pub nonces_told : Heard → List (List ℕ)
-nonces_told (Messages messages) = flat_map nonce_told messages
-nonces_told _ = []
-
-abbrev pub nonces_here : ℕ → List Entry → List (List ℕ)
-nonces_here node past = flat_map (λ payload. nonces_told (heard_at payload)) (payloads_here node past)
 
 -- by its first byte a nonce is the last of those that were counted, or the next one
 abbrev pub is_last_nonce : ℕ → List ℕ → Bool
@@ -147,50 +134,45 @@ is_last_nonce seen nonce = not (seen == 0) && (slice_index nonce 0 == seen % 256
 abbrev pub is_next_nonce : ℕ → List ℕ → Bool
 is_next_nonce seen nonce = slice_index nonce 0 == (seen + 1) % 256
 
--- the last one is taken again, or the next one, which is counted then, if that is kept
-abbrev pub with_nonce : Bool → Attempts → List ℕ → Attempts
-with_nonce kept attempts nonce =
+-- the last one is taken again, or the next one, which is counted then
+abbrev pub with_nonce : Attempts → List ℕ → Attempts
+with_nonce attempts nonce =
     if is_last_nonce attempts.seen nonce then record attempts { ready = slice_index nonce 0 ∷ [] }
-    else (if kept && is_next_nonce attempts.seen nonce
+    else (if is_next_nonce attempts.seen nonce
     then record attempts { ready = slice_index nonce 0 ∷ []; seen = attempts.seen + 1 } else attempts)
 
 -- the first of several that is taken
-abbrev pub with_nonces : Bool → Attempts → List (List ℕ) → Attempts
-with_nonces kept attempts [] = attempts
-with_nonces kept attempts (nonce ∷ more) = if are_none attempts.ready then with_nonces kept (with_nonce kept attempts nonce) more else attempts
+abbrev pub with_nonces : Attempts → List (List ℕ) → Attempts
+with_nonces attempts [] = attempts
+with_nonces attempts (nonce ∷ more) = if are_none attempts.ready then with_nonces (with_nonce attempts nonce) more else attempts
 
 -- whether an attempt waits for a nonce: it has sent its Nonce Get alone, was given none and is not over
 abbrev pub is_sealed : Form → Bool
 is_sealed Sealed = true
 is_sealed _ = false
 
-abbrev pub waits_for_nonce : (ℕ → List ℕ) → List Entry → Asked → Attempts → Bool
-waits_for_nonce listing past last attempts =
+abbrev pub waits_for_nonce : Heeds → List Entry → Asked → Attempts → Bool
+waits_for_nonce heeds past last attempts =
     (attempts.sent == 1) && are_none attempts.ready
-    && list_any (λ command. is_sealed (session_of listing past attempts.node command).form) (last_command attempts.node past)
-    && not (attempt_is_over listing past last (clock past) attempts)
-
--- whether a record of a node is said here not to be kept
-abbrev pub is_unkept_next : ℕ → List Entry → Bool
-is_unkept_next node [] = false
-is_unkept_next node (Unkept of ∷ rest) = of == node
-is_unkept_next node (entry ∷ rest) = is_mark entry && is_unkept_next node rest
+    && list_any (λ command. is_sealed (session_of heeds.listing past attempts.node command).form) (last_command attempts.node past)
+    && not (attempt_is_over heeds past last (clock past) attempts)
 
 -- up to an acknowledgement, after which these entries stand
-abbrev pub with_nonces_here : (ℕ → List ℕ) → List Entry → Asked → List Entry → Attempts → Attempts
-with_nonces_here listing past last rest attempts =
-    if waits_for_nonce listing past last attempts
-    then with_nonces (not (is_unkept_next attempts.node rest)) attempts (nonces_here attempts.node past) else attempts
+abbrev pub with_nonces_here : Heeds → List Entry → Asked → List Entry → Attempts → Attempts
+with_nonces_here heeds past last rest attempts =
+    if waits_for_nonce heeds past last attempts
+    then with_nonces attempts (flat_map nonce_told (taken_here heeds attempts.node past rest)) else attempts
 
 -- ---- one entry after another
 
-abbrev pub attempts_by_unit : (ℕ → List ℕ) → List Entry → Requests → List ℕ → List Entry → Attempts → Attempts
-attempts_by_unit listing past requests unit rest attempts =
+abbrev pub attempts_by_unit : Heeds → List Entry → Requests → List ℕ → List Entry → Attempts → Attempts
+attempts_by_unit heeds past requests unit rest attempts =
     if is_acknowledgement unit
-    then with_nonces_here listing (past ++ Written Host unit ∷ []) requests.last rest (with_sign (past ++ Written Host unit ∷ []) attempts)
+    then with_nonces_here heeds (past ++ Written Host unit ∷ []) requests.last rest
+    (with_sign heeds (past ++ Written Host unit ∷ []) rest attempts)
     else (if is_new requests.last unit
-    then attempts_by_request (is_of_attempt listing attempts.node past requests unit)
-    (attempt_is_over listing past requests.last (clock past) attempts) unit attempts
+    then attempts_by_request (is_of_attempt heeds attempts.node past requests unit)
+    (attempt_is_over heeds past requests.last (clock past) attempts) unit attempts
     else attempts)
 
 -- a series begins anew with a session, after its outcome, and where the host starts
@@ -200,9 +182,9 @@ begins_anew node past (Out command ended) rest = is_last_command node past comma
 begins_anew node past (Said words) rest = starts_anew (Said words) rest
 begins_anew node past entry rest = false
 
-abbrev pub attempts_step : (ℕ → List ℕ) → List Entry → Requests → Entry → List Entry → Attempts → Attempts
-attempts_step listing past requests (Written Host unit) rest attempts = attempts_by_unit listing past requests unit rest attempts
-attempts_step listing past requests entry rest attempts = if begins_anew attempts.node past entry rest then anew attempts else attempts
+abbrev pub attempts_step : Heeds → List Entry → Requests → Entry → List Entry → Attempts → Attempts
+attempts_step heeds past requests (Written Host unit) rest attempts = attempts_by_unit heeds past requests unit rest attempts
+attempts_step heeds past requests entry rest attempts = if begins_anew attempts.node past entry rest then anew attempts else attempts
 
 -- the last request of the host and what waits, the node to which its last attempt went since it started, and the attempts of some nodes
 pub record Serving : Type 0 where
@@ -211,25 +193,25 @@ pub record Serving : Type 0 where
   pub each : List Attempts
 
 -- the node of a new request that is of an attempt takes the place of the one served before; a host that starts has served none
-abbrev pub served_step : (ℕ → List ℕ) → List Entry → Requests → ℕ → Entry → List Entry → ℕ
-served_step listing past requests served (Written Host unit) rest =
-    if is_new requests.last unit && are_none (waits_before listing past requests (Written Host unit)).wants
+abbrev pub served_step : Heeds → List Entry → Requests → ℕ → Entry → List Entry → ℕ
+served_step heeds past requests served (Written Host unit) rest =
+    if is_new requests.last unit && are_none (waits_before heeds past requests (Written Host unit)).wants
     then last_or served (map (λ carried. carried.node) (sending_in unit)) else served
-served_step listing past requests served (Said words) rest = if starts_anew (Said words) rest then controller else served
-served_step listing past requests served entry rest = served
+served_step heeds past requests served (Said words) rest = if starts_anew (Said words) rest then controller else served
+served_step heeds past requests served entry rest = served
 
-abbrev pub serving_after : (ℕ → List ℕ) → List Entry → Serving → Entry → List Entry → Serving
-serving_after listing past serving entry rest = record {
-  requests = requests_after listing past serving.requests entry rest;
-  served = served_step listing past serving.requests serving.served entry rest;
-  each = map (attempts_step listing past serving.requests entry rest) serving.each;
+abbrev pub serving_after : Heeds → List Entry → Serving → Entry → List Entry → Serving
+serving_after heeds past serving entry rest = record {
+  requests = requests_after heeds past serving.requests entry rest;
+  served = served_step heeds past serving.requests serving.served entry rest;
+  each = map (attempts_step heeds past serving.requests entry rest) serving.each;
 }
 
-abbrev pub serving_from : (ℕ → List ℕ) → List Entry → Serving → List Entry → Serving
-serving_from listing past serving [] = serving
-serving_from listing past serving (entry ∷ rest) = serving_from listing (past ++ entry ∷ []) (serving_after listing past serving entry rest) rest
+abbrev pub serving_from : Heeds → List Entry → Serving → List Entry → Serving
+serving_from heeds past serving [] = serving
+serving_from heeds past serving (entry ∷ rest) = serving_from heeds (past ++ entry ∷ []) (serving_after heeds past serving entry rest) rest
 
 -- those of these nodes after a past
-abbrev pub serving : (ℕ → List ℕ) → List ℕ → List Entry → Serving
-serving listing nodes past =
-    serving_from listing [] (record { requests = no_requests; served = controller; each = map no_attempts nodes }) past
+abbrev pub serving : Heeds → List ℕ → List Entry → Serving
+serving heeds nodes past =
+    serving_from heeds [] (record { requests = no_requests; served = controller; each = map no_attempts nodes }) past

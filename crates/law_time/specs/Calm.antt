@@ -147,7 +147,7 @@ abbrev pub is_idle : List Entry → ℕ → ℕ → Bool
 is_idle past now node = not (runs node past now)
 
 -- no interviewed node that does not listen counts as awake
-abbrev pub is_asleep_if_known : (ℕ → List ℕ) → List Entry → ℕ → Bool
+abbrev pub is_asleep_if_known : (List Entry → ℕ → List ℕ) → List Entry → ℕ → Bool
 is_asleep_if_known listing past node = not (is_awake_sleeper node past) || not (is_some (known_classes listing past node))
 
 -- no device is at work on a change
@@ -173,7 +173,7 @@ is_not_stuck past now node =
 -- ---- calm
 
 -- all is still: nothing is to be lost, and nothing is under way
-pub record IsStill (listing : ℕ → List ℕ) (devices : List State) (past : List Entry) (now : ℕ) : Type 0 where
+pub record IsStill (listing : List Entry → ℕ → List ℕ) (devices : List State) (past : List Entry) (now : ℕ) : Type 0 where
   pub marks : no_marks past ≡ true
   pub judged : has_judged_all past now ≡ true
   pub host : is_rest past now ≡ true
@@ -185,6 +185,6 @@ pub record IsStill (listing : ℕ → List ℕ) (devices : List State) (past : L
   pub working : list_all is_not_working devices ≡ true
 
 -- and no node is stuck
-pub record IsCalm (listing : ℕ → List ℕ) (devices : List State) (past : List Entry) (now : ℕ) : Type 0 where
+pub record IsCalm (listing : List Entry → ℕ → List ℕ) (devices : List State) (past : List Entry) (now : ℕ) : Type 0 where
   pub still : IsStill listing devices past now
   pub to_come : list_all (is_not_stuck past now) (joined past) ≡ true

@@ -18,6 +18,7 @@ use Rattle.law_transcript.specs.Lists.{shown_after, last_or}
 use Rattle.law_transcript.specs.Payloads.{nonce_get}
 use Rattle.law_transcript.specs.Restarts.{since_restart}
 use Rattle.law_transcript.specs.Units.{Carried, request_in, sending_in}
+use Rattle.law_time.specs.Heeds.{Heeds}
 use Rattle.law_time.specs.Moments.{Keeps, clock}
 use Rattle.law_time.specs.Judged.{is_following, last_of}
 use Rattle.law_time.specs.Requests.{Asked, asked, are_none, is_new}
@@ -54,11 +55,11 @@ parts_by over session attempts =
     else (if over then [] else further_parts session session.form attempts)
 
 -- what the session of a node has to send at a time, where its series runs
-abbrev pub parts_of : (ℕ → List ℕ) → List Entry → Asked → ℕ → Attempts → List Part
-parts_of listing past last now attempts =
+abbrev pub parts_of : Heeds → List Entry → Asked → ℕ → Attempts → List Part
+parts_of heeds past last now attempts =
     if runs attempts.node past now
     then flat_map
-    (λ command. parts_by (attempt_is_over listing past last now attempts) (session_of listing past attempts.node command) attempts)
+    (λ command. parts_by (attempt_is_over heeds past last now attempts) (session_of heeds.listing past attempts.node command) attempts)
     (last_command attempts.node past)
     else []
 
@@ -85,9 +86,9 @@ is_in_tick shows past now =
 -- ---- which node is next
 
 -- something is to be sent to a node: by its session, or by one that is to begin, unless the keeper has failed for it in this tick
-abbrev pub has_work : (ℕ → List ℕ) → List Entry → Asked → ℕ → Attempts → Bool
-has_work listing past last now attempts =
-    not (are_none (parts_of listing past last now attempts))
+abbrev pub has_work : Heeds → List Entry → Asked → ℕ → Attempts → Bool
+has_work heeds past last now attempts =
+    not (are_none (parts_of heeds past last now attempts))
     || (is_to_begin attempts.node past && not (is_in_tick (unkept_when attempts.node) past now))
 
 -- where a node comes after the one that was served last: the greater numbers first, in order
@@ -95,10 +96,10 @@ abbrev pub turn_of : ℕ → ℕ → ℕ
 turn_of served node = if nat_lt served node then node else node + MAX_NODE
 
 -- none that comes before a node has work
-abbrev pub has_turn : (ℕ → List ℕ) → List Entry → Serving → ℕ → Bool
-has_turn listing past serving node =
+abbrev pub has_turn : Heeds → List Entry → Serving → ℕ → Bool
+has_turn heeds past serving node =
     list_all (λ attempts. nat_le (turn_of serving.served node) (turn_of serving.served attempts.node)
-    || not (has_work listing past serving.requests.last (clock past) attempts)) serving.each
+    || not (has_work heeds past serving.requests.last (clock past) attempts)) serving.each
 
 -- ---- the law
 
@@ -108,40 +109,40 @@ is_part payload (Payload bytes) = bytes_eq payload bytes
 is_part payload (Sealed_for first) = begins_with payload 0x98 0x81 && (slice_index payload (length payload - 9) == first)
 
 -- a payload is the next part of the session of its node, and that node's turn has come
-abbrev pub is_chosen : (ℕ → List ℕ) → List Entry → Serving → Carried → Bool
-is_chosen listing past serving carried =
+abbrev pub is_chosen : Heeds → List Entry → Serving → Carried → Bool
+is_chosen heeds past serving carried =
     list_any (λ attempts. (attempts.node == carried.node)
-    && list_any (is_part carried.payload) (parts_of listing past serving.requests.last (clock past) attempts)) serving.each
-    && has_turn listing past serving carried.node
+    && list_any (is_part carried.payload) (parts_of heeds past serving.requests.last (clock past) attempts)) serving.each
+    && has_turn heeds past serving carried.node
 
 -- a request that is no abort is the one that waited longest, and where none waits the one of the node that is next
-abbrev pub is_next : (ℕ → List ℕ) → List Entry → Serving → List ℕ → List (List ℕ) → Bool
-is_next listing past serving unit [] = list_any (is_chosen listing past serving) (sending_in unit)
-is_next listing past serving unit (want ∷ wants) = list_any (λ request. bytes_eq want (want_of request)) (request_in unit)
+abbrev pub is_next : Heeds → List Entry → Serving → List ℕ → List (List ℕ) → Bool
+is_next heeds past serving unit [] = list_any (is_chosen heeds past serving) (sending_in unit)
+is_next heeds past serving unit (want ∷ wants) = list_any (λ request. bytes_eq want (want_of request)) (request_in unit)
 
 -- an abort goes before all others, where one is owed
-abbrev pub is_in_turn : (ℕ → List ℕ) → List Entry → Serving → List ℕ → Bool
-is_in_turn listing past serving unit =
+abbrev pub is_in_turn : Heeds → List Entry → Serving → List ℕ → Bool
+is_in_turn heeds past serving unit =
     if owes_abort serving.requests.last (clock past) then is_abort_frame unit
-    else not (is_abort_frame unit) && is_next listing past serving unit (waits_before listing past serving.requests (Written Host unit)).wants
+    else not (is_abort_frame unit) && is_next heeds past serving unit (waits_before heeds past serving.requests (Written Host unit)).wants
 
 -- a session begins where no abort is owed and no request waits, of the node that is next, with the command that has waited longest for it; not in
 -- a tick in which the keeper has failed to keep that it does
-abbrev pub begins_in_turn : (ℕ → List ℕ) → List Entry → Serving → Entry → ℕ → ℕ → Bool
-begins_in_turn listing past serving entry node command =
-    not (owes_abort serving.requests.last (clock past)) && are_none (waits_before listing past serving.requests entry).wants
+abbrev pub begins_in_turn : Heeds → List Entry → Serving → Entry → ℕ → ℕ → Bool
+begins_in_turn heeds past serving entry node command =
+    not (owes_abort serving.requests.last (clock past)) && are_none (waits_before heeds past serving.requests entry).wants
     && is_to_begin node past && is_first command (waiting node past) && not (is_in_tick (unbegun_when node) past (clock past))
-    && has_turn listing past serving node
+    && has_turn heeds past serving node
 
-abbrev pub may_send : (ℕ → List ℕ) → List Entry → Entry → Bool
-may_send listing past (Written Host unit) = not (is_new (asked past) unit) || is_in_turn listing past (serving listing (joined past) past) unit
-may_send listing past (Begin node session command) =
-    begins_in_turn listing past (serving listing (joined past) past) (Begin node session command) node command
-may_send listing past entry = true
+abbrev pub may_send : Heeds → List Entry → Entry → Bool
+may_send heeds past (Written Host unit) = not (is_new (asked past) unit) || is_in_turn heeds past (serving heeds (joined past) past) unit
+may_send heeds past (Begin node session command) =
+    begins_in_turn heeds past (serving heeds (joined past) past) (Begin node session command) node command
+may_send heeds past entry = true
 
 -- each request that is new, and each session that begins, does so in its turn
-abbrev pub SendsInTurn : (ℕ → List ℕ) → List Entry → Type 0
-SendsInTurn listing transcript = Keeps (may_send listing) transcript
+abbrev pub SendsInTurn : Heeds → List Entry → Type 0
+SendsInTurn heeds transcript = Keeps (may_send heeds) transcript
 
 -- ---- one after another
 

@@ -1,11 +1,13 @@
 -- When the host keeps a node awake (Supervision Command Class, version 2: Wake Up Request; that the hold follows the stored values
 -- is this project's own rule).
 use Rattle.std.specs.Prelude.{ℕ, ◌+◌, ◌%◌, ◌==◌, ◌&&◌, ◌||◌, not, Bool, true, false, if◌then◌else◌, List, [], ◌∷◌, ◌++◌, length}
-use Rattle.std.specs.List.{list_any}
+use Rattle.std.specs.List.{flat_map, list_all, list_any}
+use Rattle.class_info.specs.declared.report_status.ReportStatus.{ReportStatus}
+use Rattle.class_info.specs.declared.report_status.ReportStatus.TheVariants.{Working}
 use Rattle.host_heard.specs.declared.told.Told.{Told}
-use Rattle.host_heard.specs.declared.told.Told.TheVariants.{Report as Reports}
+use Rattle.host_heard.specs.declared.told.Told.TheVariants.{Report}
 use Rattle.host_heard.specs.declared.payload.Heard.{Heard}
-use Rattle.host_heard.specs.declared.payload.Heard.TheVariants.{Messages}
+use Rattle.host_heard.specs.declared.payload.Heard.TheVariants.{Messages, Sealed, Unread}
 use Rattle.host_heard.specs.Telling.{heard_at}
 use Rattle.zw_text.specs.declared.entry.Ended.TheVariants.{Success, Fail, NoSupport}
 use Rattle.zw_text.specs.declared.entry.Entry.{Entry}
@@ -31,32 +33,44 @@ just_ended past = folded final_step [] past
 abbrev pub is_of : ℕ → List Entry → Bool
 is_of node past = list_any (λ command. list_any (λ carried. carried == command) (last_of (sessions node past))) (just_ended past)
 
--- whether a report of that session asks to be kept awake
-abbrev pub asks_to_stay : ℕ → Told → Bool
-asks_to_stay id (Reports session status wake_request) = (session == id) && wake_request
-asks_to_stay id _ = false
+-- a report of any other status is final
+abbrev pub ends_session : ReportStatus → Bool
+ends_session Working = false
+ends_session _ = true
 
+-- what a report of that session that is final asks: whether to be kept awake
+abbrev pub stays_by : ℕ → Told → List Bool
+stays_by id (Report session status wake_request) = if (session == id) && ends_session status then wake_request ∷ [] else []
+stays_by id _ = []
+
+-- whether each of them asks to be kept awake, and whether one does: one of them ends the session, the first but for those that were not kept
 abbrev pub tells_to_stay : ℕ → Heard → Bool
-tells_to_stay id (Messages messages) = list_any (asks_to_stay id) messages
+tells_to_stay id (Messages messages) = list_any (λ asks. asks) (flat_map (stays_by id) messages) && list_all (λ asks. asks) (flat_map (stays_by id) messages)
 tells_to_stay id _ = false
 
--- whether a node that does not listen asks here to be kept awake, by the report that ends its session
-abbrev pub asks_hold : ℕ → List Entry → Bool
-asks_hold node past =
-    is_of node past && not (listens node past) && list_any (λ payload. tells_to_stay (length (sessions node past) % 64) (heard_at payload)) (payloads_here node past)
+-- what is sealed may
+abbrev pub may_tell_to_stay : ℕ → Heard → Bool
+may_tell_to_stay id (Messages messages) = list_any (λ asks. asks) (flat_map (stays_by id) messages)
+may_tell_to_stay id Sealed = true
+may_tell_to_stay id Unread = false
+
+-- whether a node that does not listen asks here to be kept awake, by the report that ends its session, as such a test of its payload says
+abbrev pub stays_here : (ℕ → Heard → Bool) → ℕ → List Entry → Bool
+stays_here tells node past =
+    is_of node past && not (listens node past) && list_any (λ payload. tells (length (sessions node past) % 64) (heard_at payload)) (payloads_here node past)
 
 -- whether a node whose payload was judged here does
 abbrev pub owes_hold : List Entry → Bool
-owes_hold past = list_any (λ carried. asks_hold carried.node past) (brought_here past)
+owes_hold past = list_any (λ carried. stays_here tells_to_stay carried.node past) (brought_here past)
 
 -- whether the entry is a value that is confirmed
 abbrev pub is_store : Entry → Bool
 is_store (Store node setting) = true
 is_store _ = false
 
--- a node is held where it asks so, and wherever it does, after the values that its command confirms
+-- a node is held where it may ask so, and wherever it does, after the values that its command confirms
 abbrev pub may_hold : List Entry → Entry → Bool
-may_hold past (Held node) = asks_hold node past
+may_hold past (Held node) = stays_here may_tell_to_stay node past
 may_hold past entry = is_store entry || not (owes_hold past)
 
 abbrev pub HoldsAsAsked : List Entry → Type 0

@@ -1,5 +1,6 @@
 pub mod Moments
 pub mod Judged
+pub mod Heeds
 pub mod Requests
 pub mod Ends
 pub mod Errands

@@ -1,6 +1,6 @@
 -- Which requests wait, and when their queue is full (this project's own rule: 64 may wait; what nodes ask for, Security 0, Transport
 -- Service and Wake Up Command Classes).
-use Rattle.std.specs.Prelude.{ℕ, ◌+◌, ◌-◌, ◌==◌, ◌&&◌, ◌||◌, not, bytes_eq, is_some, nat_le, nat_lt, Bool, true, false, if◌then◌else◌, List, [], ◌∷◌, ◌++◌, length, filter, map, take, drop}
+use Rattle.std.specs.Prelude.{ℕ, ◌+◌, ◌-◌, ◌==◌, ◌&&◌, ◌||◌, not, bytes_eq, is_some, nat_le, nat_lt, Bool, true, false, if◌then◌else◌, List, [], ◌∷◌, ◌++◌, length, filter, map, drop}
 use Rattle.std.specs.List.{flat_map, list_any}
 use Rattle.zw_words.specs.declared.side.Side.TheVariants.{Host, Chip}
 use Rattle.zw_text.specs.declared.entry.Refusal.TheVariants as refusals
@@ -12,6 +12,7 @@ use Rattle.law_transcript.specs.Commands.{waiting}
 use Rattle.law_transcript.specs.Nodes.{known_classes}
 use Rattle.law_transcript.specs.Restarts.{begins_refused}
 use Rattle.law_transcript.specs.Units.{Carried, request_in}
+use Rattle.law_time.specs.Heeds.{Heeds}
 use Rattle.law_time.specs.Moments.{Keeps, clock, later_of, now_at}
 use Rattle.law_time.specs.Judged.{is_data, is_acknowledgement, is_mark, is_no_note, is_of_air, is_of_chip, brought_here}
 use Rattle.law_time.specs.Requests.{Asked, are_none, asked, asked_after, asked_nothing, is_new, starts_anew}
@@ -19,7 +20,7 @@ use Rattle.law_time.specs.Ends.{has_ended, is_abort_frame}
 use Rattle.law_time.specs.Sessions.{runs}
 use Rattle.law_time.specs.Waking.{is_awake_sleeper}
 use Rattle.law_time.specs.Holds.{held_until}
-use Rattle.law_time.specs.Wants.{want_of, no_more, nonce_report, wants_of, wants_brought}
+use Rattle.law_time.specs.Wants.{want_of, no_more, wants_of, wants_brought}
 
 -- what the requests that wait want, in order; the nodes whose No More Information found the queue full since they woke; and those of
 -- which it is to be told that a message was dropped
@@ -55,21 +56,8 @@ each_with put queue [] = queue
 each_with put queue (item ∷ items) = each_with put (put queue item) items
 
 -- what a node wants by a payload that is judged here
-abbrev pub with_brought : (ℕ → List ℕ) → List Entry → Queue → Carried → Queue
-with_brought listing past queue carried =
-    each_with (with_asked carried.node) queue (wants_brought listing past carried.node carried.payload)
-
--- a nonce whose record is not kept is not given: the last that was asked for does not wait
-abbrev pub asks_nonce : (ℕ → List ℕ) → List Entry → ℕ → Carried → Bool
-asks_nonce listing past node carried =
-    (carried.node == node) && list_any (bytes_eq (nonce_report node)) (wants_brought listing past node carried.payload)
-
-abbrev pub without_last : Queue → Queue
-without_last queue =
-    if are_none queue.owed then record queue { wants = take (length queue.wants - 1) queue.wants } else record queue { owed = [] }
-
-abbrev pub with_unkept : (ℕ → List ℕ) → List Entry → Queue → ℕ → Queue
-with_unkept listing past queue node = if list_any (asks_nonce listing past node) (brought_here past) then without_last queue else queue
+abbrev pub with_brought : Heeds → List Entry → List Entry → Queue → Carried → Queue
+with_brought heeds past rest queue carried = each_with (with_asked carried.node) queue (wants_brought heeds past rest carried)
 
 -- ---- No More Information
 
@@ -80,19 +68,19 @@ is_told asked now queue node =
     || (list_any (λ request. bytes_eq (no_more node) (want_of request)) (request_in asked.frame) && not (has_ended asked now))
 
 -- there is nothing for a node: it counts as awake, does not listen, its classes are known, no command waits and no series runs
-abbrev pub has_nothing : (ℕ → List ℕ) → List Entry → ℕ → ℕ → Bool
-has_nothing listing past now node =
-    is_awake_sleeper node past && is_some (known_classes listing past node) && are_none (waiting node past) && not (runs node past now)
+abbrev pub has_nothing : Heeds → List Entry → ℕ → ℕ → Bool
+has_nothing heeds past now node =
+    is_awake_sleeper node past && is_some (known_classes heeds.listing past node) && are_none (waiting node past) && not (runs node past now)
 
 -- a node to be told that there is no more for it, and since when: where it was held, since the end of that
 pub record Due : Type 0 where
   pub node : ℕ
   pub tick : ℕ
 
-abbrev pub due_of : (ℕ → List ℕ) → List Entry → ℕ → ℕ → List Due
-due_of listing past now node =
+abbrev pub due_of : Heeds → List Entry → ℕ → ℕ → List Due
+due_of heeds past now node =
     let tick : ℕ = later_of (clock past) (held_until node past) in
-    if has_nothing listing past now node && nat_le tick now then record { node = node; tick = tick } ∷ [] else []
+    if has_nothing heeds past now node && nat_le tick now then record { node = node; tick = tick } ∷ [] else []
 
 -- in the order of ticks, and in a tick in that of their numbers
 abbrev pub is_earlier : Due → Due → Bool
@@ -115,10 +103,10 @@ abbrev pub have_woken : List Entry → List ℕ
 have_woken past = if are_none (shown woke_at past) then [] else joined past
 
 -- it is put into the queue for each that is to be told
-abbrev pub with_due : (ℕ → List ℕ) → List Entry → ℕ → ℕ → Asked → Queue → Queue
-with_due listing past now ended asked queue =
+abbrev pub with_due : Heeds → List Entry → ℕ → ℕ → Asked → Queue → Queue
+with_due heeds past now ended asked queue =
     each_with with_no_more queue
-    (map (λ due. due.node) (in_order (filter (λ due. not (is_told asked ended queue due.node)) (flat_map (due_of listing past now) (have_woken past)))))
+    (map (λ due. due.node) (in_order (filter (λ due. not (is_told asked ended queue due.node)) (flat_map (due_of heeds past now) (have_woken past)))))
 
 -- whether the host has looked what is next before an entry: it does after each line and tick, and when it has judged what came
 abbrev pub has_looked : Asked → Queue → Entry → Bool
@@ -151,41 +139,40 @@ ends_by past (Written Chip unit) = if folded before_host_step false past then no
 ends_by past entry = now_at past entry
 
 -- the queue as it is before an entry
-abbrev pub looked : (ℕ → List ℕ) → List Entry → Asked → Queue → Entry → Queue
-looked listing past asked queue entry =
-    if has_looked asked queue entry then with_due listing past (now_at past entry) (ends_by past entry) asked queue else queue
+abbrev pub looked : Heeds → List Entry → Asked → Queue → Entry → Queue
+looked heeds past asked queue entry =
+    if has_looked asked queue entry then with_due heeds past (now_at past entry) (ends_by past entry) asked queue else queue
 
 -- ---- what waits
 
--- what the nodes want by the frame of the chip that is judged here
-abbrev pub with_all_brought : (ℕ → List ℕ) → List Entry → Queue → Queue
-with_all_brought listing past queue = each_with (with_brought listing past) queue (brought_here past)
+-- what the nodes want by the frame of the chip that is judged here, after which these entries stand
+abbrev pub with_all_brought : Heeds → List Entry → List Entry → Queue → Queue
+with_all_brought heeds past rest queue = each_with (with_brought heeds past rest) queue (brought_here past)
 
 -- a frame of the chip is judged, or a request is sent: the one that waited longest, unless it is an abort
-abbrev pub queue_by_unit : (ℕ → List ℕ) → List Entry → Asked → Queue → List ℕ → Queue
-queue_by_unit listing past asked queue unit =
-    if is_acknowledgement unit then with_all_brought listing (past ++ Written Host unit ∷ []) queue
+abbrev pub queue_by_unit : Heeds → List Entry → Asked → Queue → List ℕ → List Entry → Queue
+queue_by_unit heeds past asked queue unit rest =
+    if is_acknowledgement unit then with_all_brought heeds (past ++ Written Host unit ∷ []) rest queue
     else (if is_new asked unit && not (is_abort_frame unit) then record queue { wants = drop 1 queue.wants } else queue)
 
 -- a line that is not refused puts in what it wants, and a restart leaves nothing
-abbrev pub queue_by_line : (ℕ → List ℕ) → List Entry → Queue → Entry → List Entry → Queue
-queue_by_line listing past queue entry rest =
+abbrev pub queue_by_line : Heeds → List Entry → Queue → Entry → List Entry → Queue
+queue_by_line heeds past queue entry rest =
     if begins_refused rest then queue
-    else (if starts_anew entry rest then no_queue else record queue { wants = queue.wants ++ flat_map (wants_of listing past) (line_of entry) })
+    else (if starts_anew entry rest then no_queue else record queue { wants = queue.wants ++ flat_map (wants_of heeds.listing past) (line_of entry) })
 
 -- a node whose No More Information found the queue full may be told again
 abbrev pub not_dropped : ℕ → Queue → Queue
 not_dropped node queue = record queue { dropped = filter (λ one. not (one == node)) queue.dropped }
 
 -- one entry, with those after it
-abbrev pub queue_step : (ℕ → List ℕ) → List Entry → Asked → Queue → Entry → List Entry → Queue
-queue_step listing past asked queue (Said words) rest = queue_by_line listing past queue (Said words) rest
-queue_step listing past asked queue (Written Host unit) rest = queue_by_unit listing past asked queue unit
-queue_step listing past asked queue (QueueFull node) rest = record queue { owed = drop 1 queue.owed }
-queue_step listing past asked queue (Unkept node) rest = with_unkept listing past queue node
-queue_step listing past asked queue (Awake node) rest = not_dropped node queue
-queue_step listing past asked queue (Asleep node) rest = not_dropped node queue
-queue_step listing past asked queue entry rest = queue
+abbrev pub queue_step : Heeds → List Entry → Asked → Queue → Entry → List Entry → Queue
+queue_step heeds past asked queue (Said words) rest = queue_by_line heeds past queue (Said words) rest
+queue_step heeds past asked queue (Written Host unit) rest = queue_by_unit heeds past asked queue unit rest
+queue_step heeds past asked queue (QueueFull node) rest = record queue { owed = drop 1 queue.owed }
+queue_step heeds past asked queue (Awake node) rest = not_dropped node queue
+queue_step heeds past asked queue (Asleep node) rest = not_dropped node queue
+queue_step heeds past asked queue entry rest = queue
 
 -- the last request of the host, and what waits
 pub record Requests : Type 0 where
@@ -195,34 +182,34 @@ pub record Requests : Type 0 where
 abbrev pub no_requests : Requests
 no_requests = record { last = asked_nothing; queue = no_queue }
 
-abbrev pub requests_after : (ℕ → List ℕ) → List Entry → Requests → Entry → List Entry → Requests
-requests_after listing past requests entry rest = record {
+abbrev pub requests_after : Heeds → List Entry → Requests → Entry → List Entry → Requests
+requests_after heeds past requests entry rest = record {
   last = asked_after past requests.last entry rest;
-  queue = queue_step listing past requests.last (looked listing past requests.last requests.queue entry) entry rest;
+  queue = queue_step heeds past requests.last (looked heeds past requests.last requests.queue entry) entry rest;
 }
 
-abbrev pub requests_from : (ℕ → List ℕ) → List Entry → Requests → List Entry → Requests
-requests_from listing past requests [] = requests
-requests_from listing past requests (entry ∷ rest) = requests_from listing (past ++ entry ∷ []) (requests_after listing past requests entry rest) rest
+abbrev pub requests_from : Heeds → List Entry → Requests → List Entry → Requests
+requests_from heeds past requests [] = requests
+requests_from heeds past requests (entry ∷ rest) = requests_from heeds (past ++ entry ∷ []) (requests_after heeds past requests entry rest) rest
 
-abbrev pub requests : (ℕ → List ℕ) → List Entry → Requests
-requests listing past = requests_from listing [] no_requests past
+abbrev pub requests : Heeds → List Entry → Requests
+requests heeds past = requests_from heeds [] no_requests past
 
 -- what waits before an entry
-abbrev pub waits_before : (ℕ → List ℕ) → List Entry → Requests → Entry → Queue
-waits_before listing past requests entry = looked listing past requests.last requests.queue entry
+abbrev pub waits_before : Heeds → List Entry → Requests → Entry → Queue
+waits_before heeds past requests entry = looked heeds past requests.last requests.queue entry
 
-abbrev pub queue_before : (ℕ → List ℕ) → List Entry → Entry → Queue
-queue_before listing past entry = waits_before listing past (requests listing past) entry
+abbrev pub queue_before : Heeds → List Entry → Entry → Queue
+queue_before heeds past entry = waits_before heeds past (requests heeds past) entry
 
 -- ---- the laws
 
 -- how many places the last line asks for
-abbrev pub places : (ℕ → List ℕ) → List Entry → ℕ
-places listing past = length (flat_map (wants_of listing (before_last past)) (line_last past))
+abbrev pub places : Heeds → List Entry → ℕ
+places heeds past = length (flat_map (wants_of heeds.listing (before_last past)) (line_last past))
 
-abbrev pub waits_before_line : (ℕ → List ℕ) → List Entry → ℕ
-waits_before_line listing past = length (queue_before listing (before_last past) (Said [])).wants
+abbrev pub waits_before_line : Heeds → List Entry → ℕ
+waits_before_line heeds past = length (queue_before heeds (before_last past) (Said [])).wants
 
 -- the next that is to be told of a dropped message, if any, is of this node
 abbrev pub is_first : ℕ → List ℕ → Bool
@@ -230,9 +217,9 @@ is_first node [] = false
 is_first node (first ∷ rest) = first == node
 
 -- the last line asks for more places than are free
-abbrev pub lacks_places : (ℕ → List ℕ) → List Entry → Bool
-lacks_places listing past =
-    not (places listing past == 0) && nat_lt queue_places (waits_before_line listing past + places listing past)
+abbrev pub lacks_places : Heeds → List Entry → Bool
+lacks_places heeds past =
+    not (places heeds past == 0) && nat_lt queue_places (waits_before_line heeds past + places heeds past)
 
 -- whether an entry may note what the host has judged: it is of no line or unit, nor of the air or the chip, and no session begins
 abbrev pub is_judged : Entry → Bool
@@ -240,17 +227,17 @@ is_judged (Written side unit) = false
 is_judged entry = not (is_no_note entry)
 
 -- what is to be said is said: that the last line was refused, and that a message was dropped, among what is noted with it
-abbrev pub owes_no_refusal : (ℕ → List ℕ) → List Entry → Entry → Bool
-owes_no_refusal listing past entry =
-    not (lacks_places listing past) && (is_judged entry || are_none (queue_before listing past entry).owed)
+abbrev pub owes_no_refusal : Heeds → List Entry → Entry → Bool
+owes_no_refusal heeds past entry =
+    not (lacks_places heeds past) && (is_judged entry || are_none (queue_before heeds past entry).owed)
 
 -- a line is refused for the queue exactly where it asks for more places than are free, and a message is dropped exactly where 64 wait
-abbrev pub may_queue : (ℕ → List ℕ) → List Entry → Entry → Bool
-may_queue listing past (Refused (refusals.QueueFull waiting)) = (waiting == queue_places) && lacks_places listing past
-may_queue listing past (Refused refusal) = true
-may_queue listing past (QueueFull node) = is_first node (queue_before listing past (QueueFull node)).owed
-may_queue listing past (Unkept node) = true
-may_queue listing past entry = is_mark entry || owes_no_refusal listing past entry
+abbrev pub may_queue : Heeds → List Entry → Entry → Bool
+may_queue heeds past (Refused (refusals.QueueFull waiting)) = (waiting == queue_places) && lacks_places heeds past
+may_queue heeds past (Refused refusal) = true
+may_queue heeds past (QueueFull node) = is_first node (queue_before heeds past (QueueFull node)).owed
+may_queue heeds past (Unkept node) = true
+may_queue heeds past entry = is_mark entry || owes_no_refusal heeds past entry
 
-abbrev pub FitsQueue : (ℕ → List ℕ) → List Entry → Type 0
-FitsQueue listing transcript = Keeps (may_queue listing) transcript
+abbrev pub FitsQueue : Heeds → List Entry → Type 0
+FitsQueue heeds transcript = Keeps (may_queue heeds) transcript

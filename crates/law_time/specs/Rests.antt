@@ -8,6 +8,7 @@ use Rattle.zw_text.specs.declared.entry.Entry.{Entry}
 use Rattle.zw_text.specs.declared.entry.Entry.TheVariants.{Said, Interviewed, InterviewFailed, Unkept, Time}
 use Rattle.zw_text.specs.Transcript.{joined, shown, lines_done, requests_done, where_same}
 use Rattle.law_transcript.specs.Restarts.{since_restart}
+use Rattle.law_time.specs.Heeds.{Heeds}
 use Rattle.law_time.specs.Moments.{KeepsAfter, now_at}
 use Rattle.law_time.specs.Requests.{asked, are_none}
 use Rattle.law_time.specs.Ends.{is_over, owes_abort}
@@ -63,41 +64,41 @@ none_waits node past now = not (is_to_begin node past) || is_in_tick (unkept_whe
 -- ---- no attempt is overdue
 
 -- the attempt of a session whose series runs has begun, has sent all that it could, and its last sign is less than 100 ticks ago
-abbrev pub is_at_work : (ℕ → List ℕ) → List Entry → ℕ → Attempts → Bool
-is_at_work listing past now attempts =
-    are_none (parts_of listing past (asked past) now attempts) && list_any (λ tick. nat_lt now (tick + 100)) attempts.sign
+abbrev pub is_at_work : Heeds → List Entry → ℕ → Attempts → Bool
+is_at_work heeds past now attempts =
+    are_none (parts_of heeds past (asked past) now attempts) && list_any (λ tick. nat_lt now (tick + 100)) attempts.sign
 
-abbrev pub none_overdue : (ℕ → List ℕ) → List Entry → ℕ → Attempts → Bool
-none_overdue listing past now attempts = not (runs attempts.node past now) || is_at_work listing past now attempts
+abbrev pub none_overdue : Heeds → List Entry → ℕ → Attempts → Bool
+none_overdue heeds past now attempts = not (runs attempts.node past now) || is_at_work heeds past now attempts
 
 -- ---- the law
 
 -- nothing is owed to a node
-abbrev pub owes_nothing : (ℕ → List ℕ) → List Entry → ℕ → Attempts → Bool
-owes_nothing listing past now attempts =
-    has_come attempts.node (since_restart past) && none_waits attempts.node past now && none_overdue listing past now attempts
+abbrev pub owes_nothing : Heeds → List Entry → ℕ → Attempts → Bool
+owes_nothing heeds past now attempts =
+    has_come attempts.node (since_restart past) && none_waits attempts.node past now && none_overdue heeds past now attempts
 
 -- no request waits, no abort is owed, and nothing is owed to any node
-abbrev pub owes_none : (ℕ → List ℕ) → List Entry → Entry → Serving → Bool
-owes_none listing past entry serving =
-    are_none (waits_before listing past serving.requests entry).wants && not (owes_abort (asked past) (now_at past entry))
-    && list_all (owes_nothing listing past (now_at past entry)) serving.each
+abbrev pub owes_none : Heeds → List Entry → Entry → Serving → Bool
+owes_none heeds past entry serving =
+    are_none (waits_before heeds past serving.requests entry).wants && not (owes_abort (asked past) (now_at past entry))
+    && list_all (owes_nothing heeds past (now_at past entry)) serving.each
 
 -- where the host rests before an entry
-abbrev pub rests_well : (ℕ → List ℕ) → List Entry → Entry → Bool
-rests_well listing past entry = not (is_rest past (now_at past entry)) || owes_none listing past entry (serving listing (joined past) past)
+abbrev pub rests_well : Heeds → List Entry → Entry → Bool
+rests_well heeds past entry = not (is_rest past (now_at past entry)) || owes_none heeds past entry (serving heeds (joined past) past)
 
 -- which begins a line or a tick
-abbrev pub may_rest : (ℕ → List ℕ) → List Entry → Entry → Bool
-may_rest listing past (Said words) = rests_well listing past (Said words)
-may_rest listing past (Time tick) = rests_well listing past (Time tick)
-may_rest listing past entry = true
+abbrev pub may_rest : Heeds → List Entry → Entry → Bool
+may_rest heeds past (Said words) = rests_well heeds past (Said words)
+may_rest heeds past (Time tick) = rests_well heeds past (Time tick)
+may_rest heeds past entry = true
 
 -- at each rest after what stood before nothing is owed
-pub record RestsAfter (before : List Entry) (whole : Bool) (listing : ℕ → List ℕ) (transcript : List Entry) : Type 0 where
-  pub between : KeepsAfter before (may_rest listing) transcript
-  pub in_the_end : whole ≡ true → rests_well listing (before ++ transcript) (Said []) ≡ true
+pub record RestsAfter (before : List Entry) (whole : Bool) (heeds : Heeds) (transcript : List Entry) : Type 0 where
+  pub between : KeepsAfter before (may_rest heeds) transcript
+  pub in_the_end : whole ≡ true → rests_well heeds (before ++ transcript) (Said []) ≡ true
 
 -- at each rest of a transcript
-abbrev pub RestsWell : Bool → (ℕ → List ℕ) → List Entry → Type 0
-RestsWell whole listing transcript = RestsAfter [] whole listing transcript
+abbrev pub RestsWell : Bool → Heeds → List Entry → Type 0
+RestsWell whole heeds transcript = RestsAfter [] whole heeds transcript

@@ -26,7 +26,7 @@ pub record Session : Type 0 where
   pub message : List ℕ
   pub form : Form
 
-abbrev pub session_of : (ℕ → List ℕ) → List Entry → ℕ → ℕ → Session
+abbrev pub session_of : (List Entry → ℕ → List ℕ) → List Entry → ℕ → ℕ → Session
 session_of listing past node command = record {
   node = node;
   number = length (sessions node past);

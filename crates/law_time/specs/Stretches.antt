@@ -13,7 +13,7 @@ use Rattle.zw_text.specs.declared.entry.Entry.TheVariants.{Accepted, Refused, Un
 use Rattle.zw_text.specs.declared.entry.Refusal.TheVariants.{KeeperFault}
 use Rattle.zw_text.specs.Transcript.{outcome, joined, shown, lines_run}
 use Rattle.law_transcript.specs.Commands.{waiting, classes_for}
-use Rattle.law_transcript.specs.Nodes.{device_of, listing_of, is_joined, known_classes}
+use Rattle.law_transcript.specs.Nodes.{always, device_of, listing_of, is_joined, known_classes}
 use Rattle.law_transcript.specs.Restarts.{ticks_asked}
 use Rattle.law_wire.specs.Reach.{CanBeReached}
 use Rattle.law_time.specs.Requests.{are_none}
@@ -59,8 +59,8 @@ open_commands node past = filter (is_open past) (shown (accepted_for node) past)
 -- the host knows its classes, and did when it accepted the commands that are open
 abbrev pub knows_classes : List State → List Entry → ℕ → Bool
 knows_classes devices past node =
-    are_listed devices node (known_classes (listing_of devices) past node)
-    && list_all (λ number. are_listed devices node (Some (classes_for (listing_of devices) past node number))) (open_commands node past)
+    are_listed devices node (known_classes (always (listing_of devices)) past node)
+    && list_all (λ number. are_listed devices node (Some (classes_for (always (listing_of devices)) past node number))) (open_commands node past)
 
 -- a node is known: it is joined, its device is there with the key, and the host knows whether it listens, and its classes
 abbrev pub knows_node : List ℕ → List State → List Entry → ℕ → Bool
@@ -185,7 +185,7 @@ are_plain_listeners devices before stretch = list_all (is_plain_listener devices
 
 -- what is asked of a stretch that begins after a transcript, with the devices as they are then
 pub record AnswersInTime (key : List ℕ) (devices : List State) (before stretch : List Entry) : Type 0 where
-  pub alone : IsCalm (listing_of devices) devices before (ticks_asked (lines_run before)) → IsStretch key devices before stretch
+  pub alone : IsCalm (always (listing_of devices)) devices before (ticks_asked (lines_run before)) → IsStretch key devices before stretch
       → is_alone before stretch ≡ true → is_time before stretch ≡ true → answers_all devices before stretch ≡ true
-  pub together : IsCalm (listing_of devices) devices before (ticks_asked (lines_run before)) → IsStretch key devices before stretch
+  pub together : IsCalm (always (listing_of devices)) devices before (ticks_asked (lines_run before)) → IsStretch key devices before stretch
       → are_plain_listeners devices before stretch ≡ true → is_time before stretch ≡ true → answers_all devices before stretch ≡ true

@@ -16,7 +16,7 @@ use Rattle.zw_text.specs.declared.entry.Outcome.{Outcome}
 use Rattle.zw_text.specs.declared.entry.Outcome.TheVariants as outcomes
 use Rattle.zw_text.specs.Transcript.{made, outcome, sessions}
 use Rattle.law_transcript.specs.Commands.{message_for}
-use Rattle.law_transcript.specs.Nodes.{device_of, listing_of}
+use Rattle.law_transcript.specs.Nodes.{always, device_of, listing_of}
 
 -- what stands in a stretch before the session of a command begins
 abbrev pub before_session : ℕ → List Entry → List Entry
@@ -48,7 +48,7 @@ outcome_said settings _ _ = []
 -- the message of a command's session that begins in a stretch
 abbrev pub message_in : List State → List Entry → List Entry → ℕ → ℕ → List ℕ
 message_in devices before stretch node command =
-    message_for (listing_of devices) (before ++ stretch) node (length (sessions node (before ++ before_session command stretch)) + 1) command
+    message_for (always (listing_of devices)) (before ++ stretch) node (length (sessions node (before ++ before_session command stretch)) + 1) command
 
 -- the outcome that a command of a node is to have, with the devices as they are at the start
 abbrev pub outcome_due : List State → List Entry → List Entry → ℕ → ℕ → List Outcome

@@ -6,9 +6,6 @@ use Rattle.chip_functions.specs.declared.function.TheConstants.{GET_INIT_DATA, G
 use Rattle.chip_functions.specs.declared.request.Request.{Request}
 use Rattle.chip_functions.specs.declared.request.Request.TheVariants as requests
 use Rattle.encap.specs.Opening.{begins_with}
-use Rattle.host_heard.specs.Telling.{heard_at}
-use Rattle.host_heard.specs.declared.payload.Heard.{Heard}
-use Rattle.host_heard.specs.declared.payload.Heard.TheVariants.{Messages}
 use Rattle.host_heard.specs.declared.told.Told.{Told}
 use Rattle.host_heard.specs.declared.told.Told.TheVariants.{NonceGet, SegmentRequest}
 use Rattle.host_orders.specs.Errands.{send_text, get_text}
@@ -19,6 +16,8 @@ use Rattle.zw_text.specs.declared.line.Line.TheVariants as lines
 use Rattle.zw_text.specs.declared.entry.Entry.{Entry}
 use Rattle.law_transcript.specs.Nodes.{host_list}
 use Rattle.law_transcript.specs.Payloads.{no_more_information}
+use Rattle.law_transcript.specs.Units.{Carried}
+use Rattle.law_time.specs.Heeds.{Heeds}
 use Rattle.law_time.specs.Sessions.{Session, is_open, last_command, session_of, segment_at}
 
 -- ---- requests
@@ -67,7 +66,7 @@ questions_of (lines.Failed node) = (IS_FAILED_NODE ∷ node ∷ []) ∷ []
 questions_of _ = []
 
 -- and what it wants to be sent
-abbrev pub wants_of : (ℕ → List ℕ) → List Entry → Line → List (List ℕ)
+abbrev pub wants_of : (List Entry → ℕ → List ℕ) → List Entry → Line → List (List ℕ)
 wants_of listing past (lines.Send node word) = (SEND_DATA ∷ node ∷ send_text (host_list listing past node) word) ∷ []
 wants_of listing past (lines.Get node end) = (SEND_DATA ∷ node ∷ get_text (host_list listing past node) end) ∷ []
 wants_of listing past line = questions_of line
@@ -85,24 +84,20 @@ segment_asked id offset session Cut =
 segment_asked id offset session _ = []
 
 -- the segment of the open session of a node that it asks for
-abbrev pub segment_of : (ℕ → List ℕ) → List Entry → ℕ → ℕ → ℕ → ℕ → List (List ℕ)
+abbrev pub segment_of : (List Entry → ℕ → List ℕ) → List Entry → ℕ → ℕ → ℕ → ℕ → List (List ℕ)
 segment_of listing past node id offset command =
     let session : Session = session_of listing past node command in segment_asked id offset session session.form
 
-abbrev pub segments_wanted : (ℕ → List ℕ) → List Entry → ℕ → ℕ → ℕ → List (List ℕ)
+abbrev pub segments_wanted : (List Entry → ℕ → List ℕ) → List Entry → ℕ → ℕ → ℕ → List (List ℕ)
 segments_wanted listing past node id offset =
     if is_open node past then flat_map (segment_of listing past node id offset) (last_command node past) else []
 
 -- what a node wants by a message: a nonce, or a segment
-abbrev pub wants_told : (ℕ → List ℕ) → List Entry → ℕ → Told → List (List ℕ)
+abbrev pub wants_told : (List Entry → ℕ → List ℕ) → List Entry → ℕ → Told → List (List ℕ)
 wants_told listing past node NonceGet = nonce_report node ∷ []
 wants_told listing past node (SegmentRequest id offset) = segments_wanted listing past node id offset
 wants_told listing past node message = []
 
--- what it wants by a payload; a device seals nothing but its reports, which want nothing
-abbrev pub wants_heard : (ℕ → List ℕ) → List Entry → ℕ → Heard → List (List ℕ)
-wants_heard listing past node (Messages messages) = flat_map (wants_told listing past node) messages
-wants_heard listing past node _ = []
-
-abbrev pub wants_brought : (ℕ → List ℕ) → List Entry → ℕ → List ℕ → List (List ℕ)
-wants_brought listing past node payload = wants_heard listing past node (heard_at payload)
+-- what it wants by the messages of a payload by which the host goes
+abbrev pub wants_brought : Heeds → List Entry → List Entry → Carried → List (List ℕ)
+wants_brought heeds past rest carried = flat_map (wants_told heeds.listing past carried.node) (heeds.taken past rest carried)

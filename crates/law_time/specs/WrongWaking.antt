@@ -9,7 +9,7 @@ use Rattle.zw_text.specs.declared.entry.Ended.TheVariants as endings
 use Rattle.zw_text.specs.declared.entry.Entry.{Entry}
 use Rattle.zw_text.specs.declared.entry.Entry.TheVariants.{Said, Awake, Held, Accepted, Air, Begin, ChipFull, Cleared, Dev, Forget, Heard, Lost, Refused, Time, Unheard, Unkept}
 use Rattle.law_time.specs.WorkedUnits.{by_chip, host_acknowledges, chip_acknowledges}
-use Rattle.law_time.specs.WorkedWaking.{ended_by, failing_report, unsupported_report, awake_by_sealed}
+use Rattle.law_time.specs.WorkedWaking.{ended_by, failing_report, unsupported_report, awake_by_sealed, both_ask, work_asks}
 
 -- a node counts as awake by a payload that cannot be read
 abbrev pub awake_by_unread : List Entry
@@ -28,6 +28,16 @@ held_by_other = ended_by (codes "010B00040005056C0242FF0023") endings.Success ++
 
 abbrev pub held_unanswered : List Entry
 held_unanswered = ended_by failing_report endings.Unanswered ++ Held 5 ∷ []
+
+-- both reports of a payload ask, and it is not held; it is held by one that it is at work, and by what cannot be read
+abbrev pub not_held_by_both : List Entry
+not_held_by_both = ended_by both_ask endings.Fail ++ Said (codes "tick 1") ∷ []
+
+abbrev pub held_by_work : List Entry
+held_by_work = ended_by work_asks endings.Fail ++ Held 5 ∷ []
+
+abbrev pub held_by_unread : List Entry
+held_by_unread = ended_by (codes "01080004000502FF000B") endings.Fail ++ Held 5 ∷ []
 
 -- a node counts as awake by what it has sealed, and something stands between
 abbrev pub awake_following : Entry → List Entry

@@ -20,7 +20,7 @@ ghost use Rattle.law_time.specs.WorkedStretches.{
 ghost use Rattle.law_time.specs.WorkedWaits.{before_two, before_waking, calm_exchange, stretch_of_sleeper, stretch_of_two, stuck_node, the_other_switch};
 ghost use Rattle.law_time.specs.WrongStretches.{accepted_as_switch, sensors_from, sensors_join, sensors_work, woken_before_order, woken_twice};
 ghost use Rattle.law_time.specs.WrongWaits.{asleep_not_yet, left_in_time, reported_next, stretch_unwoken, unheard_acknowledgement};
-ghost use Rattle.law_transcript.specs.Nodes.{listing_of};
+ghost use Rattle.law_transcript.specs.Nodes.{always, listing_of};
 ghost use Rattle.law_transcript.specs.Worked.{plain_exchange, sealed_exchange, sleeping_node, the_lock, the_sensor, the_switch, long_message, the_plug};
 ghost use Rattle.zw_text.specs.Transcript.{joined};
 ghost use Rattle.zw_text.specs.declared.entry.Entry.TheVariants.{Interviewed, Said};
@@ -67,22 +67,22 @@ ghost use Rattle.law_time.specs.WorkedTurns.{known_sleeper};
 /// before the stretches below, one in which all marks are used up, one a tick after a restart, one in which an unknown node is awake, one a
 /// tick after the chip dropped a frame, and those in which a command waits for a node that sleeps or whose next series is to come.
 pub fn worked_calm()
-    ensures first { IsCalm (listing_of (the_switch ∷ [])) (the_switch ∷ []) [] 0 }
-    ensures last { IsCalm (listing_of (the_switch ∷ [])) (the_switch ∷ []) calm_exchange 500 }
-    ensures sleeping { IsCalm (listing_of (the_sensor ∷ [])) (the_sensor ∷ []) sleeping_node 9 }
-    ensures before_two { IsCalm (listing_of (the_switch ∷ the_other_switch ∷ [])) (the_switch ∷ the_other_switch ∷ []) before_two 2 }
-    ensures before_waking { IsCalm (listing_of (the_sensor ∷ [])) (the_sensor ∷ []) before_waking 4 }
-    ensures units { IsCalm (listing_of (the_switch ∷ [])) (the_switch ∷ []) units_used_up 60 }
-    ensures frames { IsCalm (listing_of (the_switch ∷ [])) (the_switch ∷ []) frames_used_up 1 }
-    ensures restarted { IsCalm (listing_of (the_switch ∷ [])) (the_switch ∷ []) restarted_before 1 }
-    ensures unknown { IsCalm (listing_of (the_sensor ∷ [])) (the_sensor ∷ []) awake_unknown 0 }
-    ensures waiting_asleep { IsCalm (listing_of (the_sensor ∷ [])) (the_sensor ∷ []) waiting_asleep 200 }
-    ensures before_series { IsCalm (listing_of (the_switch ∷ [])) (the_switch ∷ []) given_up_before_series 99 }
-    ensures long_ago { IsCalm (listing_of (the_switch ∷ [])) (the_switch ∷ []) given_up_long_ago 200 }
-    ensures unkept { IsCalm (listing_of (the_switch ∷ [])) (the_switch ∷ []) waiting_unkept 0 }
-    ensures abort { IsCalm (listing_of (the_switch ∷ [])) (the_switch ∷ []) abort_alone 0 }
-    ensures after_frame { IsCalm (listing_of (the_switch ∷ [])) (the_switch ∷ []) abort_after_frame 0 }
-    ensures dropped { IsCalm (listing_of (the_switch ∷ [])) (the_switch ∷ []) dropped_by_chip 2 }
+    ensures first { IsCalm (always (listing_of (the_switch ∷ []))) (the_switch ∷ []) [] 0 }
+    ensures last { IsCalm (always (listing_of (the_switch ∷ []))) (the_switch ∷ []) calm_exchange 500 }
+    ensures sleeping { IsCalm (always (listing_of (the_sensor ∷ []))) (the_sensor ∷ []) sleeping_node 9 }
+    ensures before_two { IsCalm (always (listing_of (the_switch ∷ the_other_switch ∷ []))) (the_switch ∷ the_other_switch ∷ []) before_two 2 }
+    ensures before_waking { IsCalm (always (listing_of (the_sensor ∷ []))) (the_sensor ∷ []) before_waking 4 }
+    ensures units { IsCalm (always (listing_of (the_switch ∷ []))) (the_switch ∷ []) units_used_up 60 }
+    ensures frames { IsCalm (always (listing_of (the_switch ∷ []))) (the_switch ∷ []) frames_used_up 1 }
+    ensures restarted { IsCalm (always (listing_of (the_switch ∷ []))) (the_switch ∷ []) restarted_before 1 }
+    ensures unknown { IsCalm (always (listing_of (the_sensor ∷ []))) (the_sensor ∷ []) awake_unknown 0 }
+    ensures waiting_asleep { IsCalm (always (listing_of (the_sensor ∷ []))) (the_sensor ∷ []) waiting_asleep 200 }
+    ensures before_series { IsCalm (always (listing_of (the_switch ∷ []))) (the_switch ∷ []) given_up_before_series 99 }
+    ensures long_ago { IsCalm (always (listing_of (the_switch ∷ []))) (the_switch ∷ []) given_up_long_ago 200 }
+    ensures unkept { IsCalm (always (listing_of (the_switch ∷ []))) (the_switch ∷ []) waiting_unkept 0 }
+    ensures abort { IsCalm (always (listing_of (the_switch ∷ []))) (the_switch ∷ []) abort_alone 0 }
+    ensures after_frame { IsCalm (always (listing_of (the_switch ∷ []))) (the_switch ∷ []) abort_after_frame 0 }
+    ensures dropped { IsCalm (always (listing_of (the_switch ∷ []))) (the_switch ∷ []) dropped_by_chip 2 }
 {}
 
 /// A moment is not calm while a frame, an acknowledgement or a unit is to be lost, changed or answered by CAN, which frames of devices and
@@ -90,26 +90,27 @@ pub fn worked_calm()
 /// frame is on the air, or has just dropped a frame, a frame is on the air, a series runs, a node that does not listen is kept awake, a
 /// device is at work on a change, the host has just restarted, or a node is stuck.
 pub fn rejected_calm()
-    ensures marked { IsCalm (listing_of (the_switch ∷ [])) (the_switch ∷ []) (Said (codes "lose 1") ∷ []) 0 → ⊥ }
-    ensures acknowledgement { IsCalm (listing_of (the_switch ∷ [])) (the_switch ∷ []) (Said (codes "loseack 1") ∷ []) 0 → ⊥ }
-    ensures to_drop { IsCalm (listing_of (the_switch ∷ [])) (the_switch ∷ []) (Said (codes "drop h") ∷ []) 0 → ⊥ }
-    ensures to_change { IsCalm (listing_of (the_switch ∷ [])) (the_switch ∷ []) (Said (codes "garble c 0 1") ∷ []) 0 → ⊥ }
-    ensures to_collide { IsCalm (listing_of (the_switch ∷ [])) (the_switch ∷ []) (Said (codes "collide") ∷ []) 0 → ⊥ }
-    ensures stalled { IsCalm (listing_of (the_switch ∷ [])) (the_switch ∷ []) (Said (codes "stall 3") ∷ Said (codes "tick 2") ∷ []) 2 → ⊥ }
-    ensures under_way { IsCalm (listing_of (the_switch ∷ [])) (the_switch ∷ []) (take 8 calm_exchange) 0 → ⊥ }
-    ensures unacknowledged { IsCalm (listing_of (the_switch ∷ [])) (the_switch ∷ []) unheard_acknowledgement 500 → ⊥ }
-    ensures flying { IsCalm (listing_of (the_switch ∷ [])) (the_switch ∷ []) reported_next 1 → ⊥ }
-    ensures running { IsCalm (listing_of (the_switch ∷ [])) (the_switch ∷ []) reported_next 1 → ⊥ }
-    ensures awake { IsCalm (listing_of (the_sensor ∷ [])) (the_sensor ∷ []) asleep_not_yet 4 → ⊥ }
-    ensures working { IsCalm (listing_of (the_switch ∷ [])) (record the_switch { work_left = 3 } ∷ []) [] 0 → ⊥ }
-    ensures restarted { IsCalm (listing_of (the_switch ∷ [])) (the_switch ∷ []) (Said (codes "restart") ∷ []) 0 → ⊥ }
-    ensures stuck { IsCalm (listing_of (the_switch ∷ the_sensor ∷ the_other_switch ∷ [])) (the_switch ∷ the_sensor ∷ the_other_switch ∷ []) stuck_node 104 → ⊥ }
-    ensures device_heard { IsCalm (listing_of (the_switch ∷ [])) (the_switch ∷ []) device_heard 1 → ⊥ }
-    ensures heard_again { IsCalm (listing_of (the_switch ∷ [])) (the_switch ∷ []) heard_again 1 → ⊥ }
-    ensures cancelled_by_host { IsCalm (listing_of (the_switch ∷ [])) (the_switch ∷ []) cancelled_by_host 0 → ⊥ }
-    ensures denied { IsCalm (listing_of (the_switch ∷ [])) (the_switch ∷ []) denied_frame 15 → ⊥ }
-    ensures owed { IsCalm (listing_of (the_switch ∷ the_other_switch ∷ [])) (the_switch ∷ the_other_switch ∷ []) callback_owed 104 → ⊥ }
-    ensures dropped { IsCalm (listing_of (the_switch ∷ [])) (the_switch ∷ []) dropped_by_chip 1 → ⊥ }
+    ensures marked { IsCalm (always (listing_of (the_switch ∷ []))) (the_switch ∷ []) (Said (codes "lose 1") ∷ []) 0 → ⊥ }
+    ensures acknowledgement { IsCalm (always (listing_of (the_switch ∷ []))) (the_switch ∷ []) (Said (codes "loseack 1") ∷ []) 0 → ⊥ }
+    ensures to_drop { IsCalm (always (listing_of (the_switch ∷ []))) (the_switch ∷ []) (Said (codes "drop h") ∷ []) 0 → ⊥ }
+    ensures to_change { IsCalm (always (listing_of (the_switch ∷ []))) (the_switch ∷ []) (Said (codes "garble c 0 1") ∷ []) 0 → ⊥ }
+    ensures to_collide { IsCalm (always (listing_of (the_switch ∷ []))) (the_switch ∷ []) (Said (codes "collide") ∷ []) 0 → ⊥ }
+    ensures stalled { IsCalm (always (listing_of (the_switch ∷ []))) (the_switch ∷ []) (Said (codes "stall 3") ∷ Said (codes "tick 2") ∷ []) 2 → ⊥ }
+    ensures under_way { IsCalm (always (listing_of (the_switch ∷ []))) (the_switch ∷ []) (take 8 calm_exchange) 0 → ⊥ }
+    ensures unacknowledged { IsCalm (always (listing_of (the_switch ∷ []))) (the_switch ∷ []) unheard_acknowledgement 500 → ⊥ }
+    ensures flying { IsCalm (always (listing_of (the_switch ∷ []))) (the_switch ∷ []) reported_next 1 → ⊥ }
+    ensures running { IsCalm (always (listing_of (the_switch ∷ []))) (the_switch ∷ []) reported_next 1 → ⊥ }
+    ensures awake { IsCalm (always (listing_of (the_sensor ∷ []))) (the_sensor ∷ []) asleep_not_yet 4 → ⊥ }
+    ensures working { IsCalm (always (listing_of (the_switch ∷ []))) (record the_switch { work_left = 3 } ∷ []) [] 0 → ⊥ }
+    ensures restarted { IsCalm (always (listing_of (the_switch ∷ []))) (the_switch ∷ []) (Said (codes "restart") ∷ []) 0 → ⊥ }
+    ensures stuck { IsCalm (always (listing_of (the_switch ∷ the_sensor ∷ the_other_switch ∷ [])))
+        (the_switch ∷ the_sensor ∷ the_other_switch ∷ []) stuck_node 104 → ⊥ }
+    ensures device_heard { IsCalm (always (listing_of (the_switch ∷ []))) (the_switch ∷ []) device_heard 1 → ⊥ }
+    ensures heard_again { IsCalm (always (listing_of (the_switch ∷ []))) (the_switch ∷ []) heard_again 1 → ⊥ }
+    ensures cancelled_by_host { IsCalm (always (listing_of (the_switch ∷ []))) (the_switch ∷ []) cancelled_by_host 0 → ⊥ }
+    ensures denied { IsCalm (always (listing_of (the_switch ∷ []))) (the_switch ∷ []) denied_frame 15 → ⊥ }
+    ensures owed { IsCalm (always (listing_of (the_switch ∷ the_other_switch ∷ []))) (the_switch ∷ the_other_switch ∷ []) callback_owed 104 → ⊥ }
+    ensures dropped { IsCalm (always (listing_of (the_switch ∷ []))) (the_switch ∷ []) dropped_by_chip 1 → ⊥ }
 {}
 
 /// Stretches that answer in time: of one node, of two that listen, and of one that sleeps; of one that is reached over another node; and of
@@ -188,7 +189,8 @@ pub fn rejected_stretches()
 /// A node that is stuck: all is still and the node is ready, and its command is never answered, since nothing makes a new series due. So
 /// such a moment is not calm.
 pub fn stuck_stretches()
-    ensures still { IsStill (listing_of (the_switch ∷ the_sensor ∷ the_other_switch ∷ [])) (the_switch ∷ the_sensor ∷ the_other_switch ∷ []) stuck_node 104 }
+    ensures still { IsStill (always (listing_of (the_switch ∷ the_sensor ∷ the_other_switch ∷ [])))
+        (the_switch ∷ the_sensor ∷ the_other_switch ∷ []) stuck_node 104 }
     ensures stuck { list_all (is_not_stuck stuck_node 104) (joined stuck_node) ≡ false }
     ensures ready { IsStretch [] (the_switch ∷ the_sensor ∷ the_other_switch ∷ []) stuck_node (Said (codes "tick 500") ∷ []) }
     ensures one { is_alone stuck_node (Said (codes "tick 500") ∷ []) ≡ true }

@@ -1,5 +1,6 @@
 //! What the laws of choosing the next request say of worked transcripts, and of others with one thing wrong.
 
+ghost use Rattle.law_time.specs.Heeds.{heeds_of};
 ghost use Rattle.std.specs.Prelude.{◌≡◌, true, [], ◌∷◌};
 ghost use Rattle.law_time.specs.Choice.{NumbersCallbacks, SendsInTurn, SendsOneByOne, may_number};
 ghost use Rattle.law_time.specs.WorkedAttempts.{begun_kept};
@@ -72,7 +73,6 @@ ghost use Rattle.law_time.specs.WrongChoice.{
   sent_with_options,
   set_repeated,
 };
-ghost use Rattle.law_transcript.specs.Nodes.{listing_of};
 ghost use Rattle.law_transcript.specs.Worked.{
   long_message,
   lossy_exchange,
@@ -90,23 +90,23 @@ ghost use Rattle.law_transcript.specs.Worked.{
 /// the same again or the next, over a restart too. Two nodes are served in turn, the first one first when the host has restarted. A session begins
 /// after an abort, after a restart, and beside a node for which the keeper failed in this tick.
 pub fn worked_choice()
-    ensures again { SendsInTurn (listing_of (the_switch ∷ [])) again_after_set }
-    ensures following_get { SendsInTurn (listing_of (the_switch ∷ [])) again_after_get }
-    ensures following_wait { SendsInTurn (listing_of (the_switch ∷ [])) again_after_wait }
-    ensures late { SendsInTurn (listing_of (the_switch ∷ [])) again_though_working }
-    ensures segment { SendsInTurn (listing_of (the_plug ∷ [])) segment_after_lost }
-    ensures segment_failed { SendsInTurn (listing_of (the_plug ∷ [])) segment_after_failed }
-    ensures same_nonce { SendsInTurn (listing_of (the_lock ∷ [])) sealed_for_same }
-    ensures next_nonce { SendsInTurn (listing_of (the_lock ∷ [])) sealed_for_next }
-    ensures over_restart { SendsInTurn (listing_of (the_lock ∷ [])) sealed_over_restart }
-    ensures beside_unkept { SendsInTurn (listing_of (the_lock ∷ [])) sealed_beside_unkept }
-    ensures in_turn { SendsInTurn (listing_of (the_switch ∷ [])) first_again }
-    ensures restarted { SendsInTurn (listing_of (the_switch ∷ [])) first_after_restart }
-    ensures beside_unbegun { SendsInTurn (listing_of (the_switch ∷ [])) begun_beside_unkept }
-    ensures following_unkept { SendsInTurn (listing_of (the_lock ∷ [])) begun_after_unkept }
-    ensures kept { SendsInTurn (listing_of (the_switch ∷ [])) begun_kept }
-    ensures restart_unblocks { SendsInTurn (listing_of (the_switch ∷ [])) begun_after_restart }
-    ensures following_abort { SendsInTurn (listing_of (the_switch ∷ [])) begun_after_abort }
+    ensures again { SendsInTurn (heeds_of (the_switch ∷ [])) again_after_set }
+    ensures following_get { SendsInTurn (heeds_of (the_switch ∷ [])) again_after_get }
+    ensures following_wait { SendsInTurn (heeds_of (the_switch ∷ [])) again_after_wait }
+    ensures late { SendsInTurn (heeds_of (the_switch ∷ [])) again_though_working }
+    ensures segment { SendsInTurn (heeds_of (the_plug ∷ [])) segment_after_lost }
+    ensures segment_failed { SendsInTurn (heeds_of (the_plug ∷ [])) segment_after_failed }
+    ensures same_nonce { SendsInTurn (heeds_of (the_lock ∷ [])) sealed_for_same }
+    ensures next_nonce { SendsInTurn (heeds_of (the_lock ∷ [])) sealed_for_next }
+    ensures over_restart { SendsInTurn (heeds_of (the_lock ∷ [])) sealed_over_restart }
+    ensures beside_unkept { SendsInTurn (heeds_of (the_lock ∷ [])) sealed_beside_unkept }
+    ensures in_turn { SendsInTurn (heeds_of (the_switch ∷ [])) first_again }
+    ensures restarted { SendsInTurn (heeds_of (the_switch ∷ [])) first_after_restart }
+    ensures beside_unbegun { SendsInTurn (heeds_of (the_switch ∷ [])) begun_beside_unkept }
+    ensures following_unkept { SendsInTurn (heeds_of (the_lock ∷ [])) begun_after_unkept }
+    ensures kept { SendsInTurn (heeds_of (the_switch ∷ [])) begun_kept }
+    ensures restart_unblocks { SendsInTurn (heeds_of (the_switch ∷ [])) begun_after_restart }
+    ensures following_abort { SendsInTurn (heeds_of (the_switch ∷ [])) begun_after_abort }
 {}
 
 /// Each of these breaks one part of the law: where an attempt is due, the Set of an earlier line is sent again, or a Nonce Get to a node that lists
@@ -117,41 +117,41 @@ pub fn worked_choice()
 /// also after a restart; and a session begins out of order, before a request or an abort, of a node that is asleep, while the last one is open, or in
 /// the tick in which the keeper has failed.
 pub fn rejected_choice()
-    ensures set { SendsInTurn (listing_of (the_switch ∷ [])) set_repeated → ⊥ }
-    ensures nonce_get { SendsInTurn (listing_of (the_switch ∷ [])) nonce_asked_plainly → ⊥ }
-    ensures unsealed { SendsInTurn (listing_of (the_lock ∷ [])) sent_unsealed → ⊥ }
-    ensures under_way { SendsInTurn (listing_of (the_switch ∷ [])) sent_while_under_way → ⊥ }
-    ensures too_early { SendsInTurn (listing_of (the_switch ∷ [])) sent_before_wait → ⊥ }
-    ensures working { SendsInTurn (listing_of (the_switch ∷ [])) sent_though_working → ⊥ }
-    ensures get_failed { SendsInTurn (listing_of (the_switch ∷ [])) sent_after_get → ⊥ }
-    ensures fourth { SendsInTurn (listing_of (the_switch ∷ [])) sent_fourth → ⊥ }
-    ensures second_first { SendsInTurn (listing_of (the_plug ∷ [])) second_sent_first → ⊥ }
-    ensures first_twice { SendsInTurn (listing_of (the_plug ∷ [])) first_sent_twice → ⊥ }
-    ensures second_twice { SendsInTurn (listing_of (the_plug ∷ [])) second_sent_twice → ⊥ }
-    ensures beyond { SendsInTurn (listing_of (the_plug ∷ [])) sent_beyond → ⊥ }
-    ensures third { SendsInTurn (listing_of (the_plug ∷ [])) sent_after_third → ⊥ }
-    ensures for_nonce { SendsInTurn (listing_of (the_lock ∷ [])) sent_for_nonce → ⊥ }
-    ensures none { SendsInTurn (listing_of (the_lock ∷ [])) sealed_for_none → ⊥ }
-    ensures other { SendsInTurn (listing_of (the_lock ∷ [])) sealed_for_other → ⊥ }
-    ensures unkept { SendsInTurn (listing_of (the_lock ∷ [])) sealed_for_unkept → ⊥ }
-    ensures unkept_lost { SendsInTurn (listing_of (the_lock ∷ [])) sealed_for_unkept_lost → ⊥ }
-    ensures twice { SendsInTurn (listing_of (the_lock ∷ [])) sealed_twice → ⊥ }
-    ensures over { SendsInTurn (listing_of (the_lock ∷ [])) sealed_when_over → ⊥ }
-    ensures skipped { SendsInTurn (listing_of (the_lock ∷ [])) sealed_for_skipped → ⊥ }
-    ensures uncounted { SendsInTurn (listing_of (the_lock ∷ [])) sealed_for_uncounted → ⊥ }
-    ensures second_nonce { SendsInTurn (listing_of (the_lock ∷ [])) sealed_again → ⊥ }
-    ensures late_nonce { SendsInTurn (listing_of (the_lock ∷ [])) sealed_after_late → ⊥ }
-    ensures plain_nonce { SendsInTurn (listing_of (the_near_lock ∷ [])) sealed_after_plain → ⊥ }
-    ensures lower_twice { SendsInTurn (listing_of (the_switch ∷ [])) first_served_twice → ⊥ }
-    ensures greater_twice { SendsInTurn (listing_of (the_switch ∷ [])) second_served_twice → ⊥ }
-    ensures greater_first { SendsInTurn (listing_of (the_switch ∷ [])) second_served_first → ⊥ }
-    ensures greater_after_restart { SendsInTurn (listing_of (the_switch ∷ [])) second_after_restart → ⊥ }
-    ensures order { SendsInTurn (listing_of (the_switch ∷ [])) begun_out_of_order → ⊥ }
-    ensures request { SendsInTurn (listing_of (the_switch ∷ [])) begun_before_request → ⊥ }
-    ensures asleep { SendsInTurn (listing_of (the_switch ∷ [])) begun_asleep → ⊥ }
-    ensures while_open { SendsInTurn (listing_of (the_switch ∷ [])) begun_while_open → ⊥ }
-    ensures before_abort { SendsInTurn (listing_of (the_switch ∷ [])) begun_before_abort → ⊥ }
-    ensures not_kept { SendsInTurn (listing_of (the_switch ∷ [])) begun_unkept → ⊥ }
+    ensures set { SendsInTurn (heeds_of (the_switch ∷ [])) set_repeated → ⊥ }
+    ensures nonce_get { SendsInTurn (heeds_of (the_switch ∷ [])) nonce_asked_plainly → ⊥ }
+    ensures unsealed { SendsInTurn (heeds_of (the_lock ∷ [])) sent_unsealed → ⊥ }
+    ensures under_way { SendsInTurn (heeds_of (the_switch ∷ [])) sent_while_under_way → ⊥ }
+    ensures too_early { SendsInTurn (heeds_of (the_switch ∷ [])) sent_before_wait → ⊥ }
+    ensures working { SendsInTurn (heeds_of (the_switch ∷ [])) sent_though_working → ⊥ }
+    ensures get_failed { SendsInTurn (heeds_of (the_switch ∷ [])) sent_after_get → ⊥ }
+    ensures fourth { SendsInTurn (heeds_of (the_switch ∷ [])) sent_fourth → ⊥ }
+    ensures second_first { SendsInTurn (heeds_of (the_plug ∷ [])) second_sent_first → ⊥ }
+    ensures first_twice { SendsInTurn (heeds_of (the_plug ∷ [])) first_sent_twice → ⊥ }
+    ensures second_twice { SendsInTurn (heeds_of (the_plug ∷ [])) second_sent_twice → ⊥ }
+    ensures beyond { SendsInTurn (heeds_of (the_plug ∷ [])) sent_beyond → ⊥ }
+    ensures third { SendsInTurn (heeds_of (the_plug ∷ [])) sent_after_third → ⊥ }
+    ensures for_nonce { SendsInTurn (heeds_of (the_lock ∷ [])) sent_for_nonce → ⊥ }
+    ensures none { SendsInTurn (heeds_of (the_lock ∷ [])) sealed_for_none → ⊥ }
+    ensures other { SendsInTurn (heeds_of (the_lock ∷ [])) sealed_for_other → ⊥ }
+    ensures unkept { SendsInTurn (heeds_of (the_lock ∷ [])) sealed_for_unkept → ⊥ }
+    ensures unkept_lost { SendsInTurn (heeds_of (the_lock ∷ [])) sealed_for_unkept_lost → ⊥ }
+    ensures twice { SendsInTurn (heeds_of (the_lock ∷ [])) sealed_twice → ⊥ }
+    ensures over { SendsInTurn (heeds_of (the_lock ∷ [])) sealed_when_over → ⊥ }
+    ensures skipped { SendsInTurn (heeds_of (the_lock ∷ [])) sealed_for_skipped → ⊥ }
+    ensures uncounted { SendsInTurn (heeds_of (the_lock ∷ [])) sealed_for_uncounted → ⊥ }
+    ensures second_nonce { SendsInTurn (heeds_of (the_lock ∷ [])) sealed_again → ⊥ }
+    ensures late_nonce { SendsInTurn (heeds_of (the_lock ∷ [])) sealed_after_late → ⊥ }
+    ensures plain_nonce { SendsInTurn (heeds_of (the_near_lock ∷ [])) sealed_after_plain → ⊥ }
+    ensures lower_twice { SendsInTurn (heeds_of (the_switch ∷ [])) first_served_twice → ⊥ }
+    ensures greater_twice { SendsInTurn (heeds_of (the_switch ∷ [])) second_served_twice → ⊥ }
+    ensures greater_first { SendsInTurn (heeds_of (the_switch ∷ [])) second_served_first → ⊥ }
+    ensures greater_after_restart { SendsInTurn (heeds_of (the_switch ∷ [])) second_after_restart → ⊥ }
+    ensures order { SendsInTurn (heeds_of (the_switch ∷ [])) begun_out_of_order → ⊥ }
+    ensures request { SendsInTurn (heeds_of (the_switch ∷ [])) begun_before_request → ⊥ }
+    ensures asleep { SendsInTurn (heeds_of (the_switch ∷ [])) begun_asleep → ⊥ }
+    ensures while_open { SendsInTurn (heeds_of (the_switch ∷ [])) begun_while_open → ⊥ }
+    ensures before_abort { SendsInTurn (heeds_of (the_switch ∷ [])) begun_before_abort → ⊥ }
+    ensures not_kept { SendsInTurn (heeds_of (the_switch ∷ [])) begun_unkept → ⊥ }
 {}
 
 /// In worked transcripts each request is sent when the one before it is over: answered, given up by the line, in silence, or by a restart.

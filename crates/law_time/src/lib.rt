@@ -6,12 +6,12 @@
 //! devices as they are then. Worked transcripts, and others with one thing wrong, show what each law means.
 //!
 //! The definitions are in `specs/`, one file a law: `Moments` (the clock, and laws that judge each entry by those
-//! before it), `Judged`, `Requests` and `Ends` (what the host has judged, its last request, and how that ends);
-//! `Errands`, `Questions` and `Interviews` (what is said of ends); `Waking` and `Holds`; `Sessions` (whether attempts
-//! of a session run), `Wants` and `Queue` (which requests wait), `Attempts` (what an attempt has sent, and when it is
-//! over) and `Choice` (which request is next); `Unanswered`; `Rests` (what is owed when the host rests) and `Prompt`
-//! (those of the queue, of turns, attempts and rests as one); `Calm` and `Stretches`. `Worked..` and `Wrong..` are the
-//! transcripts that the functions here speak of.
+//! before it), `Judged`, `Requests` and `Ends` (what the host has judged, its last request, and how that ends); `Heeds`
+//! (by which messages it goes); `Errands`, `Questions` and `Interviews` (what is said of ends); `Waking` and `Holds`;
+//! `Sessions` (whether attempts of a session run), `Wants` and `Queue` (which requests wait), `Attempts` (what an
+//! attempt has sent, and when it is over) and `Choice` (which request is next); `Unanswered`; `Rests` (what is owed
+//! when the host rests) and `Prompt` (those of the queue, of turns, attempts and rests as one); `Calm` and `Stretches`.
+//! `Worked..` and `Wrong..` are the transcripts that the functions here speak of.
 #![tactic(auto)]
 
 mod calm;

@@ -1,5 +1,6 @@
 //! What the laws of the queue of requests say of worked transcripts, and of others with one thing wrong.
 
+ghost use Rattle.law_time.specs.Heeds.{heeds_of};
 ghost use Rattle.std.specs.Prelude.{[], ◌∷◌};
 ghost use Rattle.law_time.specs.Choice.{SendsInTurn};
 ghost use Rattle.law_time.specs.Queue.{FitsQueue};
@@ -19,7 +20,6 @@ ghost use Rattle.law_time.specs.WrongQueue.{
 ghost use Rattle.law_time.specs.WrongRequests.{sent_out_of_turn, sent_unasked};
 ghost use Rattle.law_time.specs.WrongWaits.{told_while_waiting};
 ghost use Rattle.zw_text.specs.declared.entry.Ended.TheVariants as endings;
-ghost use Rattle.law_transcript.specs.Nodes.{listing_of};
 ghost use Rattle.law_transcript.specs.Worked.{
   cancelled_order,
   long_message,
@@ -113,26 +113,26 @@ ghost use Rattle.zw_text.specs.Transcript.{endings};
 /// to a node that wakes, and a Nonce Report, after a lost acknowledgement too, and after a value that the same payload told. It is not dropped where
 /// the keeper fails, and a line may be refused for something else.
 pub fn worked_queue()
-    ensures full { FitsQueue (listing_of (the_switch ∷ [])) full_queue }
-    ensures answered { FitsQueue (listing_of (the_switch ∷ [])) answered_errands }
-    ensures no_more { FitsQueue (listing_of (the_switch ∷ the_sensor ∷ [])) dropped_no_more }
-    ensures nonce { FitsQueue (listing_of (the_switch ∷ the_lock ∷ [])) dropped_nonce }
-    ensures plain { FitsQueue (listing_of (the_switch ∷ [])) plain_exchange }
-    ensures repeated { FitsQueue (listing_of (the_switch ∷ [])) repeated_exchange }
-    ensures lossy { FitsQueue (listing_of (the_switch ∷ [])) lossy_exchange }
-    ensures cancelled { FitsQueue (listing_of (the_switch ∷ [])) cancelled_order }
-    ensures restarted { FitsQueue (listing_of (the_switch ∷ [])) restarted_host }
-    ensures sleeping { FitsQueue (listing_of (the_sensor ∷ [])) sleeping_node }
-    ensures sealed { FitsQueue (listing_of (the_lock ∷ [])) sealed_exchange }
-    ensures cut { FitsQueue (listing_of (the_plug ∷ [])) long_message }
-    ensures at_once { FitsQueue (listing_of (the_switch ∷ [])) dropped_at_once }
-    ensures after_lost { FitsQueue (listing_of (the_switch ∷ [])) dropped_after_lost }
-    ensures after_report { FitsQueue (listing_of (the_switch ∷ [])) dropped_after_report }
-    ensures unkept { FitsQueue (listing_of (the_switch ∷ [])) unkept_though_full }
-    ensures otherwise { FitsQueue (listing_of (the_switch ∷ [])) refused_otherwise }
-    ensures dropped_once { FitsQueue (listing_of (the_switch ∷ [])) dropped_once }
-    ensures dropped_again { FitsQueue (listing_of (the_switch ∷ [])) dropped_again }
-    ensures dropped_woken { FitsQueue (listing_of (the_switch ∷ [])) dropped_woken }
+    ensures full { FitsQueue (heeds_of (the_switch ∷ [])) full_queue }
+    ensures answered { FitsQueue (heeds_of (the_switch ∷ [])) answered_errands }
+    ensures no_more { FitsQueue (heeds_of (the_switch ∷ the_sensor ∷ [])) dropped_no_more }
+    ensures nonce { FitsQueue (heeds_of (the_switch ∷ the_lock ∷ [])) dropped_nonce }
+    ensures plain { FitsQueue (heeds_of (the_switch ∷ [])) plain_exchange }
+    ensures repeated { FitsQueue (heeds_of (the_switch ∷ [])) repeated_exchange }
+    ensures lossy { FitsQueue (heeds_of (the_switch ∷ [])) lossy_exchange }
+    ensures cancelled { FitsQueue (heeds_of (the_switch ∷ [])) cancelled_order }
+    ensures restarted { FitsQueue (heeds_of (the_switch ∷ [])) restarted_host }
+    ensures sleeping { FitsQueue (heeds_of (the_sensor ∷ [])) sleeping_node }
+    ensures sealed { FitsQueue (heeds_of (the_lock ∷ [])) sealed_exchange }
+    ensures cut { FitsQueue (heeds_of (the_plug ∷ [])) long_message }
+    ensures at_once { FitsQueue (heeds_of (the_switch ∷ [])) dropped_at_once }
+    ensures after_lost { FitsQueue (heeds_of (the_switch ∷ [])) dropped_after_lost }
+    ensures after_report { FitsQueue (heeds_of (the_switch ∷ [])) dropped_after_report }
+    ensures unkept { FitsQueue (heeds_of (the_switch ∷ [])) unkept_though_full }
+    ensures otherwise { FitsQueue (heeds_of (the_switch ∷ [])) refused_otherwise }
+    ensures dropped_once { FitsQueue (heeds_of (the_switch ∷ [])) dropped_once }
+    ensures dropped_again { FitsQueue (heeds_of (the_switch ∷ [])) dropped_again }
+    ensures dropped_woken { FitsQueue (heeds_of (the_switch ∷ [])) dropped_woken }
 {}
 
 /// In worked transcripts the request that has waited longest is sent next: those of each kind of line, over a restart that is refused;
@@ -141,64 +141,64 @@ pub fn worked_queue()
 /// in silence, and what is of a session goes where none waits: again after another command, a waking, a restart, 100 ticks, and the end of
 /// another command.
 pub fn worked_turns()
-    ensures lines { SendsInTurn (listing_of (the_switch ∷ [])) answered_errands }
-    ensures interviews { SendsInTurn (listing_of (the_sensor ∷ the_other_switch ∷ [])) woken_before_restart }
-    ensures nonces { SendsInTurn (listing_of (the_lock ∷ [])) sealed_exchange }
-    ensures segments { SendsInTurn (listing_of (the_plug ∷ [])) resent_segments }
-    ensures no_more { SendsInTurn (listing_of (the_sensor ∷ [])) sleeping_node }
-    ensures held { SendsInTurn (listing_of (the_keeper ∷ [])) held_node }
-    ensures abort { SendsInTurn (listing_of (the_switch ∷ [])) silent_attempt }
-    ensures plain { SendsInTurn (listing_of (the_switch ∷ [])) plain_exchange }
-    ensures repeated { SendsInTurn (listing_of (the_switch ∷ [])) repeated_exchange }
-    ensures lossy { SendsInTurn (listing_of (the_switch ∷ [])) lossy_exchange }
-    ensures cancelled { SendsInTurn (listing_of (the_switch ∷ [])) cancelled_order }
-    ensures restarted { SendsInTurn (listing_of (the_switch ∷ [])) restarted_host }
-    ensures cut { SendsInTurn (listing_of (the_plug ∷ [])) long_message }
-    ensures aborted { SendsInTurn (listing_of (the_switch ∷ [])) aborted_at_fourth }
-    ensures by_command { SendsInTurn (listing_of (the_switch ∷ [])) again_by_command }
-    ensures by_waking { SendsInTurn (listing_of (the_switch ∷ [])) again_by_waking }
-    ensures by_restart { SendsInTurn (listing_of (the_switch ∷ [])) again_by_restart }
-    ensures in_time { SendsInTurn (listing_of (the_switch ∷ [])) again_in_time }
-    ensures cancelled_other { SendsInTurn (listing_of (the_switch ∷ [])) again_after_cancelled }
-    ensures discovered { SendsInTurn (listing_of (the_switch ∷ [])) discovered }
-    ensures probed { SendsInTurn (listing_of (the_switch ∷ [])) probed }
-    ensures over_refused { SendsInTurn (listing_of (the_switch ∷ [])) asked_over_refused }
-    ensures after_abort { SendsInTurn (listing_of (the_switch ∷ [])) asked_after_abort }
-    ensures without_abort { SendsInTurn (listing_of (the_switch ∷ [])) asked_without_abort }
-    ensures reported { SendsInTurn (listing_of (the_switch ∷ [])) nonce_reported }
-    ensures beside_unkept { SendsInTurn (listing_of (the_switch ∷ [])) reported_beside_unkept }
-    ensures after_unkept { SendsInTurn (listing_of (the_switch ∷ [])) asked_after_unkept }
-    ensures told_awake { SendsInTurn (listing_of (the_switch ∷ [])) told_awake }
-    ensures told_held { SendsInTurn (listing_of (the_switch ∷ [])) told_held }
-    ensures told_again { SendsInTurn (listing_of (the_switch ∷ [])) told_again }
-    ensures told_by_number { SendsInTurn (listing_of (the_switch ∷ [])) told_by_number }
-    ensures told_by_time { SendsInTurn (listing_of (the_switch ∷ [])) told_by_time }
-    ensures first_resent { SendsInTurn (listing_of (the_plug ∷ [])) first_resent }
-    ensures second_resent { SendsInTurn (listing_of (the_plug ∷ [])) second_resent }
-    ensures told_once { SendsInTurn (listing_of (the_switch ∷ [])) told_once }
-    ensures told_twice { SendsInTurn (listing_of (the_switch ∷ [])) told_twice }
-    ensures told_as_numbered { SendsInTurn (listing_of (the_switch ∷ [])) told_as_numbered }
-    ensures told_by_time_as_numbered { SendsInTurn (listing_of (the_switch ∷ [])) told_by_time_as_numbered }
-    ensures overrun { SendsInTurn (listing_of (the_switch ∷ [])) copied_after_overrun }
-    ensures following_interview { SendsInTurn (listing_of (the_switch ∷ [])) asked_after_interview }
-    ensures as_chip_writes { SendsInTurn (listing_of (the_switch ∷ the_sensor ∷ [])) told_as_chip_writes }
-    ensures after_restart { SendsInTurn (listing_of (the_keeper ∷ [])) told_after_restart }
+    ensures lines { SendsInTurn (heeds_of (the_switch ∷ [])) answered_errands }
+    ensures interviews { SendsInTurn (heeds_of (the_sensor ∷ the_other_switch ∷ [])) woken_before_restart }
+    ensures nonces { SendsInTurn (heeds_of (the_lock ∷ [])) sealed_exchange }
+    ensures segments { SendsInTurn (heeds_of (the_plug ∷ [])) resent_segments }
+    ensures no_more { SendsInTurn (heeds_of (the_sensor ∷ [])) sleeping_node }
+    ensures held { SendsInTurn (heeds_of (the_keeper ∷ [])) held_node }
+    ensures abort { SendsInTurn (heeds_of (the_switch ∷ [])) silent_attempt }
+    ensures plain { SendsInTurn (heeds_of (the_switch ∷ [])) plain_exchange }
+    ensures repeated { SendsInTurn (heeds_of (the_switch ∷ [])) repeated_exchange }
+    ensures lossy { SendsInTurn (heeds_of (the_switch ∷ [])) lossy_exchange }
+    ensures cancelled { SendsInTurn (heeds_of (the_switch ∷ [])) cancelled_order }
+    ensures restarted { SendsInTurn (heeds_of (the_switch ∷ [])) restarted_host }
+    ensures cut { SendsInTurn (heeds_of (the_plug ∷ [])) long_message }
+    ensures aborted { SendsInTurn (heeds_of (the_switch ∷ [])) aborted_at_fourth }
+    ensures by_command { SendsInTurn (heeds_of (the_switch ∷ [])) again_by_command }
+    ensures by_waking { SendsInTurn (heeds_of (the_switch ∷ [])) again_by_waking }
+    ensures by_restart { SendsInTurn (heeds_of (the_switch ∷ [])) again_by_restart }
+    ensures in_time { SendsInTurn (heeds_of (the_switch ∷ [])) again_in_time }
+    ensures cancelled_other { SendsInTurn (heeds_of (the_switch ∷ [])) again_after_cancelled }
+    ensures discovered { SendsInTurn (heeds_of (the_switch ∷ [])) discovered }
+    ensures probed { SendsInTurn (heeds_of (the_switch ∷ [])) probed }
+    ensures over_refused { SendsInTurn (heeds_of (the_switch ∷ [])) asked_over_refused }
+    ensures after_abort { SendsInTurn (heeds_of (the_switch ∷ [])) asked_after_abort }
+    ensures without_abort { SendsInTurn (heeds_of (the_switch ∷ [])) asked_without_abort }
+    ensures reported { SendsInTurn (heeds_of (the_switch ∷ [])) nonce_reported }
+    ensures beside_unkept { SendsInTurn (heeds_of (the_switch ∷ [])) reported_beside_unkept }
+    ensures after_unkept { SendsInTurn (heeds_of (the_switch ∷ [])) asked_after_unkept }
+    ensures told_awake { SendsInTurn (heeds_of (the_switch ∷ [])) told_awake }
+    ensures told_held { SendsInTurn (heeds_of (the_switch ∷ [])) told_held }
+    ensures told_again { SendsInTurn (heeds_of (the_switch ∷ [])) told_again }
+    ensures told_by_number { SendsInTurn (heeds_of (the_switch ∷ [])) told_by_number }
+    ensures told_by_time { SendsInTurn (heeds_of (the_switch ∷ [])) told_by_time }
+    ensures first_resent { SendsInTurn (heeds_of (the_plug ∷ [])) first_resent }
+    ensures second_resent { SendsInTurn (heeds_of (the_plug ∷ [])) second_resent }
+    ensures told_once { SendsInTurn (heeds_of (the_switch ∷ [])) told_once }
+    ensures told_twice { SendsInTurn (heeds_of (the_switch ∷ [])) told_twice }
+    ensures told_as_numbered { SendsInTurn (heeds_of (the_switch ∷ [])) told_as_numbered }
+    ensures told_by_time_as_numbered { SendsInTurn (heeds_of (the_switch ∷ [])) told_by_time_as_numbered }
+    ensures overrun { SendsInTurn (heeds_of (the_switch ∷ [])) copied_after_overrun }
+    ensures following_interview { SendsInTurn (heeds_of (the_switch ∷ [])) asked_after_interview }
+    ensures as_chip_writes { SendsInTurn (heeds_of (the_switch ∷ the_sensor ∷ [])) told_as_chip_writes }
+    ensures after_restart { SendsInTurn (heeds_of (the_keeper ∷ [])) told_after_restart }
 {}
 
 /// Each of these breaks one part of the law: a line refused that has just room, or for fewer than 64 that wait, or let in that has none; a
 /// message dropped though 63 wait, of another node, twice, or not though 64 do.
 pub fn rejected_queue()
-    ensures room { FitsQueue (listing_of (the_switch ∷ [])) refused_with_room → ⊥ }
-    ensures full { FitsQueue (listing_of (the_switch ∷ [])) let_in_though_full → ⊥ }
-    ensures dropped { FitsQueue (listing_of (the_switch ∷ the_sensor ∷ [])) dropped_with_room → ⊥ }
-    ensures waits { FitsQueue (listing_of (the_switch ∷ the_sensor ∷ [])) waits_though_full → ⊥ }
-    ensures reported { FitsQueue (listing_of (the_switch ∷ the_lock ∷ [])) reported_though_full → ⊥ }
-    ensures fewer { FitsQueue (listing_of (the_switch ∷ [])) refused_for_fewer → ⊥ }
-    ensures dropped_of_another { FitsQueue (listing_of (the_switch ∷ the_sensor ∷ [])) dropped_of_another → ⊥ }
-    ensures twice { FitsQueue (listing_of (the_switch ∷ [])) dropped_twice → ⊥ }
-    ensures in_tick { FitsQueue (listing_of (the_switch ∷ [])) undropped_in_tick → ⊥ }
-    ensures before_session { FitsQueue (listing_of (the_switch ∷ [])) undropped_before_session → ⊥ }
-    ensures before_unit { FitsQueue (listing_of (the_switch ∷ [])) undropped_before_unit → ⊥ }
+    ensures room { FitsQueue (heeds_of (the_switch ∷ [])) refused_with_room → ⊥ }
+    ensures full { FitsQueue (heeds_of (the_switch ∷ [])) let_in_though_full → ⊥ }
+    ensures dropped { FitsQueue (heeds_of (the_switch ∷ the_sensor ∷ [])) dropped_with_room → ⊥ }
+    ensures waits { FitsQueue (heeds_of (the_switch ∷ the_sensor ∷ [])) waits_though_full → ⊥ }
+    ensures reported { FitsQueue (heeds_of (the_switch ∷ the_lock ∷ [])) reported_though_full → ⊥ }
+    ensures fewer { FitsQueue (heeds_of (the_switch ∷ [])) refused_for_fewer → ⊥ }
+    ensures dropped_of_another { FitsQueue (heeds_of (the_switch ∷ the_sensor ∷ [])) dropped_of_another → ⊥ }
+    ensures twice { FitsQueue (heeds_of (the_switch ∷ [])) dropped_twice → ⊥ }
+    ensures in_tick { FitsQueue (heeds_of (the_switch ∷ [])) undropped_in_tick → ⊥ }
+    ensures before_session { FitsQueue (heeds_of (the_switch ∷ [])) undropped_before_session → ⊥ }
+    ensures before_unit { FitsQueue (heeds_of (the_switch ∷ [])) undropped_before_unit → ⊥ }
 {}
 
 /// Each of these breaks one part of the law: a fifth copy, and one of what was acknowledged; a question sent before an earlier one, that no
@@ -208,42 +208,42 @@ pub fn rejected_queue()
 /// has failed, or out of turn; the message of a session sent after its end, or after three attempts for no such reason as above; and a Get
 /// sent before an abort that is owed, or an abort that is not.
 pub fn rejected_turns()
-    ensures out_of_turn { SendsInTurn (listing_of (the_switch ∷ [])) sent_out_of_turn → ⊥ }
-    ensures unasked { SendsInTurn (listing_of (the_switch ∷ [])) sent_unasked → ⊥ }
-    ensures before_report { SendsInTurn (listing_of (the_lock ∷ [])) sent_before_report → ⊥ }
-    ensures waiting { SendsInTurn (listing_of (the_sensor ∷ [])) told_while_waiting → ⊥ }
-    ensures before_abort { SendsInTurn (listing_of (the_switch ∷ [])) sent_before_abort → ⊥ }
-    ensures aborted { SendsInTurn (listing_of (the_switch ∷ [])) aborted_unasked → ⊥ }
-    ensures following_end { SendsInTurn (listing_of (the_switch ∷ [])) sent_after_end → ⊥ }
-    ensures fifth { SendsInTurn (listing_of (the_switch ∷ [])) sent_fifth → ⊥ }
-    ensures again { SendsInTurn (listing_of (the_switch ∷ [])) sent_again → ⊥ }
-    ensures for_nothing { SendsInTurn (listing_of (the_switch ∷ [])) sent_for_nothing → ⊥ }
-    ensures other_command { SendsInTurn (listing_of (the_switch ∷ [])) sent_by_other_command → ⊥ }
-    ensures in_time { SendsInTurn (listing_of (the_switch ∷ [])) sent_in_time → ⊥ }
-    ensures too_soon { SendsInTurn (listing_of (the_switch ∷ [])) sent_too_soon → ⊥ }
-    ensures ended { SendsInTurn (listing_of (the_switch ∷ [])) (sent_when_ended endings.Success) → ⊥ }
-    ensures asleep { SendsInTurn (listing_of (the_switch ∷ [])) sent_asleep → ⊥ }
-    ensures other_waking { SendsInTurn (listing_of (the_switch ∷ [])) sent_by_other_waking → ⊥ }
-    ensures refused_restart { SendsInTurn (listing_of (the_switch ∷ [])) sent_by_refused_restart → ⊥ }
-    ensures over_restart { SendsInTurn (listing_of (the_switch ∷ [])) sent_over_restart → ⊥ }
-    ensures to_other { SendsInTurn (listing_of (the_switch ∷ [])) sent_to_other → ⊥ }
-    ensures probed { SendsInTurn (listing_of (the_switch ∷ [])) probed_out_of_turn → ⊥ }
-    ensures refused { SendsInTurn (listing_of (the_switch ∷ [])) sent_refused → ⊥ }
-    ensures asked_over_restart { SendsInTurn (listing_of (the_switch ∷ [])) asked_over_restart → ⊥ }
-    ensures unkept { SendsInTurn (listing_of (the_switch ∷ [])) reported_unkept → ⊥ }
-    ensures unjoined { SendsInTurn (listing_of (the_switch ∷ [])) told_unjoined → ⊥ }
-    ensures unknown { SendsInTurn (listing_of (the_switch ∷ [])) told_unknown → ⊥ }
-    ensures told_asleep { SendsInTurn (listing_of (the_switch ∷ [])) told_asleep → ⊥ }
-    ensures listening { SendsInTurn (listing_of (the_switch ∷ [])) told_listening → ⊥ }
-    ensures held { SendsInTurn (listing_of (the_switch ∷ [])) told_while_held → ⊥ }
-    ensures told_out_of_turn { SendsInTurn (listing_of (the_switch ∷ [])) told_out_of_turn → ⊥ }
-    ensures other_segment { SendsInTurn (listing_of (the_plug ∷ [])) resent_of_other → ⊥ }
-    ensures inside_segment { SendsInTurn (listing_of (the_plug ∷ [])) resent_inside → ⊥ }
-    ensures beyond_segment { SendsInTurn (listing_of (the_plug ∷ [])) resent_beyond → ⊥ }
-    ensures ended_segment { SendsInTurn (listing_of (the_plug ∷ [])) resent_when_ended → ⊥ }
-    ensures plain_segment { SendsInTurn (listing_of (the_switch ∷ [])) resent_of_plain → ⊥ }
-    ensures failed_session { SendsInTurn (listing_of (the_switch ∷ [])) (sent_when_ended endings.Fail) → ⊥ }
-    ensures unsupported_session { SendsInTurn (listing_of (the_switch ∷ [])) (sent_when_ended endings.NoSupport) → ⊥ }
-    ensures again_as_chip_writes { SendsInTurn (listing_of (the_switch ∷ the_sensor ∷ [])) told_again_as_chip_writes → ⊥ }
-    ensures aborted_early { SendsInTurn (listing_of (the_switch ∷ [])) aborted_early → ⊥ }
+    ensures out_of_turn { SendsInTurn (heeds_of (the_switch ∷ [])) sent_out_of_turn → ⊥ }
+    ensures unasked { SendsInTurn (heeds_of (the_switch ∷ [])) sent_unasked → ⊥ }
+    ensures before_report { SendsInTurn (heeds_of (the_lock ∷ [])) sent_before_report → ⊥ }
+    ensures waiting { SendsInTurn (heeds_of (the_sensor ∷ [])) told_while_waiting → ⊥ }
+    ensures before_abort { SendsInTurn (heeds_of (the_switch ∷ [])) sent_before_abort → ⊥ }
+    ensures aborted { SendsInTurn (heeds_of (the_switch ∷ [])) aborted_unasked → ⊥ }
+    ensures following_end { SendsInTurn (heeds_of (the_switch ∷ [])) sent_after_end → ⊥ }
+    ensures fifth { SendsInTurn (heeds_of (the_switch ∷ [])) sent_fifth → ⊥ }
+    ensures again { SendsInTurn (heeds_of (the_switch ∷ [])) sent_again → ⊥ }
+    ensures for_nothing { SendsInTurn (heeds_of (the_switch ∷ [])) sent_for_nothing → ⊥ }
+    ensures other_command { SendsInTurn (heeds_of (the_switch ∷ [])) sent_by_other_command → ⊥ }
+    ensures in_time { SendsInTurn (heeds_of (the_switch ∷ [])) sent_in_time → ⊥ }
+    ensures too_soon { SendsInTurn (heeds_of (the_switch ∷ [])) sent_too_soon → ⊥ }
+    ensures ended { SendsInTurn (heeds_of (the_switch ∷ [])) (sent_when_ended endings.Success) → ⊥ }
+    ensures asleep { SendsInTurn (heeds_of (the_switch ∷ [])) sent_asleep → ⊥ }
+    ensures other_waking { SendsInTurn (heeds_of (the_switch ∷ [])) sent_by_other_waking → ⊥ }
+    ensures refused_restart { SendsInTurn (heeds_of (the_switch ∷ [])) sent_by_refused_restart → ⊥ }
+    ensures over_restart { SendsInTurn (heeds_of (the_switch ∷ [])) sent_over_restart → ⊥ }
+    ensures to_other { SendsInTurn (heeds_of (the_switch ∷ [])) sent_to_other → ⊥ }
+    ensures probed { SendsInTurn (heeds_of (the_switch ∷ [])) probed_out_of_turn → ⊥ }
+    ensures refused { SendsInTurn (heeds_of (the_switch ∷ [])) sent_refused → ⊥ }
+    ensures asked_over_restart { SendsInTurn (heeds_of (the_switch ∷ [])) asked_over_restart → ⊥ }
+    ensures unkept { SendsInTurn (heeds_of (the_switch ∷ [])) reported_unkept → ⊥ }
+    ensures unjoined { SendsInTurn (heeds_of (the_switch ∷ [])) told_unjoined → ⊥ }
+    ensures unknown { SendsInTurn (heeds_of (the_switch ∷ [])) told_unknown → ⊥ }
+    ensures told_asleep { SendsInTurn (heeds_of (the_switch ∷ [])) told_asleep → ⊥ }
+    ensures listening { SendsInTurn (heeds_of (the_switch ∷ [])) told_listening → ⊥ }
+    ensures held { SendsInTurn (heeds_of (the_switch ∷ [])) told_while_held → ⊥ }
+    ensures told_out_of_turn { SendsInTurn (heeds_of (the_switch ∷ [])) told_out_of_turn → ⊥ }
+    ensures other_segment { SendsInTurn (heeds_of (the_plug ∷ [])) resent_of_other → ⊥ }
+    ensures inside_segment { SendsInTurn (heeds_of (the_plug ∷ [])) resent_inside → ⊥ }
+    ensures beyond_segment { SendsInTurn (heeds_of (the_plug ∷ [])) resent_beyond → ⊥ }
+    ensures ended_segment { SendsInTurn (heeds_of (the_plug ∷ [])) resent_when_ended → ⊥ }
+    ensures plain_segment { SendsInTurn (heeds_of (the_switch ∷ [])) resent_of_plain → ⊥ }
+    ensures failed_session { SendsInTurn (heeds_of (the_switch ∷ [])) (sent_when_ended endings.Fail) → ⊥ }
+    ensures unsupported_session { SendsInTurn (heeds_of (the_switch ∷ [])) (sent_when_ended endings.NoSupport) → ⊥ }
+    ensures again_as_chip_writes { SendsInTurn (heeds_of (the_switch ∷ the_sensor ∷ [])) told_again_as_chip_writes → ⊥ }
+    ensures aborted_early { SendsInTurn (heeds_of (the_switch ∷ [])) aborted_early → ⊥ }
 {}

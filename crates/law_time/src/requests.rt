@@ -34,7 +34,7 @@ ghost use Rattle.law_time.specs.WrongRequests.{
   silent_early,
   silent_too_soon,
 };
-ghost use Rattle.law_transcript.specs.Nodes.{listing_of};
+ghost use Rattle.law_transcript.specs.Nodes.{always, listing_of};
 ghost use Rattle.law_transcript.specs.Worked.{
   cancelled_order,
   long_message,
@@ -124,42 +124,42 @@ ghost use Rattle.law_time.specs.WorkedUnits.{failed, not_acknowledged, not_idle,
 /// fourth, but where a callback comes before, the fourth is acknowledged in time, or a wait ends first. A byte that is no answer, and a response that
 /// cannot be read, tell nothing. What a line asked for is read by the classes that its node had listed when it was said.
 pub fn worked_errands()
-    ensures answered { SaysHowDone (listing_of (the_switch ∷ [])) answered_errands }
-    ensures silent { SaysHowDone (listing_of (the_switch ∷ [])) silent_request }
-    ensures unrouted { SaysHowDone (listing_of (the_switch ∷ [])) unrouted_errand }
-    ensures not_idle { SaysHowDone (listing_of (the_switch ∷ [])) not_idle_errand }
-    ensures refused { SaysHowDone (listing_of (the_switch ∷ [])) refused_errand }
-    ensures plain { SaysHowDone (listing_of (the_switch ∷ [])) plain_exchange }
-    ensures repeated { SaysHowDone (listing_of (the_switch ∷ [])) repeated_exchange }
-    ensures lossy { SaysHowDone (listing_of (the_switch ∷ [])) lossy_exchange }
-    ensures cancelled { SaysHowDone (listing_of (the_switch ∷ [])) cancelled_order }
-    ensures restarted { SaysHowDone (listing_of (the_switch ∷ [])) restarted_host }
-    ensures sleeping { SaysHowDone (listing_of (the_sensor ∷ [])) sleeping_node }
-    ensures sealed { SaysHowDone (listing_of (the_lock ∷ [])) sealed_exchange }
-    ensures cut { SaysHowDone (listing_of (the_plug ∷ [])) long_message }
-    ensures failed { SaysHowDone (listing_of (the_switch ∷ [])) failed_errand }
-    ensures lost { SaysHowDone (listing_of (the_switch ∷ [])) said_after_lost }
-    ensures overrun { SaysHowDone (listing_of (the_switch ∷ [])) said_after_overrun }
-    ensures changed { SaysHowDone (listing_of (the_switch ∷ [])) said_after_changed }
-    ensures others { SaysHowDone (listing_of (the_switch ∷ [])) refused_after_others }
-    ensures after_response { SaysHowDone (listing_of (the_switch ∷ [])) silent_after_response }
-    ensures before_response { SaysHowDone (listing_of (the_switch ∷ [])) silent_before_response }
-    ensures last { SaysHowDone (listing_of (the_switch ∷ [])) delivered_last }
-    ensures given_up { SaysHowDone (listing_of (the_switch ∷ [])) given_up_errand }
-    ensures denied { SaysHowDone (listing_of (the_switch ∷ [])) given_up_at_answer }
-    ensures acknowledged_last { SaysHowDone (listing_of (the_switch ∷ [])) acknowledged_last }
-    ensures after_stray { SaysHowDone (listing_of (the_switch ∷ [])) acknowledged_after_stray }
-    ensures after_unread { SaysHowDone (listing_of (the_switch ∷ [])) delivered_after_unread }
-    ensures unanswered { SaysHowDone (listing_of (the_switch ∷ [])) delivered_unanswered }
-    ensures before_denied { SaysHowDone (listing_of (the_switch ∷ [])) delivered_before_denied }
-    ensures silent_before { SaysHowDone (listing_of (the_switch ∷ [])) silent_before_given_up }
-    ensures in_time { SaysHowDone (listing_of (the_switch ∷ [])) given_up_in_time }
-    ensures later { SaysHowDone (listing_of (the_switch ∷ [])) silent_later }
-    ensures with_response { SaysHowDone (listing_of (the_switch ∷ [])) denied_with_response }
-    ensures after_late { SaysHowDone (listing_of (the_switch ∷ [])) silent_after_late }
-    ensures silent_beside_other { SaysHowDone (listing_of (the_switch ∷ [])) silent_beside_other }
-    ensures old_list { SaysHowDone (listing_of (the_dimmer ∷ [])) said_by_old_list }
-    ensures delivered_after_refused { SaysHowDone (listing_of (the_switch ∷ [])) delivered_after_refused }
+    ensures answered { SaysHowDone (always (listing_of (the_switch ∷ []))) answered_errands }
+    ensures silent { SaysHowDone (always (listing_of (the_switch ∷ []))) silent_request }
+    ensures unrouted { SaysHowDone (always (listing_of (the_switch ∷ []))) unrouted_errand }
+    ensures not_idle { SaysHowDone (always (listing_of (the_switch ∷ []))) not_idle_errand }
+    ensures refused { SaysHowDone (always (listing_of (the_switch ∷ []))) refused_errand }
+    ensures plain { SaysHowDone (always (listing_of (the_switch ∷ []))) plain_exchange }
+    ensures repeated { SaysHowDone (always (listing_of (the_switch ∷ []))) repeated_exchange }
+    ensures lossy { SaysHowDone (always (listing_of (the_switch ∷ []))) lossy_exchange }
+    ensures cancelled { SaysHowDone (always (listing_of (the_switch ∷ []))) cancelled_order }
+    ensures restarted { SaysHowDone (always (listing_of (the_switch ∷ []))) restarted_host }
+    ensures sleeping { SaysHowDone (always (listing_of (the_sensor ∷ []))) sleeping_node }
+    ensures sealed { SaysHowDone (always (listing_of (the_lock ∷ []))) sealed_exchange }
+    ensures cut { SaysHowDone (always (listing_of (the_plug ∷ []))) long_message }
+    ensures failed { SaysHowDone (always (listing_of (the_switch ∷ []))) failed_errand }
+    ensures lost { SaysHowDone (always (listing_of (the_switch ∷ []))) said_after_lost }
+    ensures overrun { SaysHowDone (always (listing_of (the_switch ∷ []))) said_after_overrun }
+    ensures changed { SaysHowDone (always (listing_of (the_switch ∷ []))) said_after_changed }
+    ensures others { SaysHowDone (always (listing_of (the_switch ∷ []))) refused_after_others }
+    ensures after_response { SaysHowDone (always (listing_of (the_switch ∷ []))) silent_after_response }
+    ensures before_response { SaysHowDone (always (listing_of (the_switch ∷ []))) silent_before_response }
+    ensures last { SaysHowDone (always (listing_of (the_switch ∷ []))) delivered_last }
+    ensures given_up { SaysHowDone (always (listing_of (the_switch ∷ []))) given_up_errand }
+    ensures denied { SaysHowDone (always (listing_of (the_switch ∷ []))) given_up_at_answer }
+    ensures acknowledged_last { SaysHowDone (always (listing_of (the_switch ∷ []))) acknowledged_last }
+    ensures after_stray { SaysHowDone (always (listing_of (the_switch ∷ []))) acknowledged_after_stray }
+    ensures after_unread { SaysHowDone (always (listing_of (the_switch ∷ []))) delivered_after_unread }
+    ensures unanswered { SaysHowDone (always (listing_of (the_switch ∷ []))) delivered_unanswered }
+    ensures before_denied { SaysHowDone (always (listing_of (the_switch ∷ []))) delivered_before_denied }
+    ensures silent_before { SaysHowDone (always (listing_of (the_switch ∷ []))) silent_before_given_up }
+    ensures in_time { SaysHowDone (always (listing_of (the_switch ∷ []))) given_up_in_time }
+    ensures later { SaysHowDone (always (listing_of (the_switch ∷ []))) silent_later }
+    ensures with_response { SaysHowDone (always (listing_of (the_switch ∷ []))) denied_with_response }
+    ensures after_late { SaysHowDone (always (listing_of (the_switch ∷ []))) silent_after_late }
+    ensures silent_beside_other { SaysHowDone (always (listing_of (the_switch ∷ []))) silent_beside_other }
+    ensures old_list { SaysHowDone (always (listing_of (the_dimmer ∷ []))) said_by_old_list }
+    ensures delivered_after_refused { SaysHowDone (always (listing_of (the_switch ∷ []))) delivered_after_refused }
 {}
 
 /// In worked transcripts questions are answered as the chip answers them, after a lost acknowledgement too; a response that comes too late answers none.
@@ -207,42 +207,42 @@ pub fn worked_interviews()
 /// refusal, no route where it was not idle, and failure where nobody acknowledged; and failure of the line after one copy, after a
 /// callback, or after a silence.
 pub fn rejected_errands()
-    ensures early { SaysHowDone (listing_of (the_switch ∷ [])) said_early → ⊥ }
-    ensures otherwise { SaysHowDone (listing_of (the_switch ∷ [])) said_otherwise → ⊥ }
-    ensures unsaid { SaysHowDone (listing_of (the_switch ∷ [])) left_unsaid → ⊥ }
-    ensures unasked { SaysHowDone (listing_of (the_switch ∷ [])) said_unasked → ⊥ }
-    ensures silent { SaysHowDone (listing_of (the_switch ∷ [])) silent_early → ⊥ }
-    ensures refused { SaysHowDone (listing_of (the_switch ∷ [])) said_refused → ⊥ }
-    ensures given_up { SaysHowDone (listing_of (the_switch ∷ [])) said_given_up → ⊥ }
-    ensures too_soon { SaysHowDone (listing_of (the_switch ∷ [])) silent_too_soon → ⊥ }
-    ensures said_of_another { SaysHowDone (listing_of (the_switch ∷ [])) said_of_another → ⊥ }
-    ensures said_not_idle { SaysHowDone (listing_of (the_switch ∷ [])) said_not_idle → ⊥ }
-    ensures refused_as_not_idle { SaysHowDone (listing_of (the_switch ∷ [])) refused_as_not_idle → ⊥ }
-    ensures said_unrouted { SaysHowDone (listing_of (the_switch ∷ [])) said_unrouted → ⊥ }
-    ensures said_failed { SaysHowDone (listing_of (the_switch ∷ [])) said_failed → ⊥ }
-    ensures unsaid_unacknowledged { SaysHowDone (listing_of (the_switch ∷ [])) (unsaid not_acknowledged) → ⊥ }
-    ensures unsaid_failed { SaysHowDone (listing_of (the_switch ∷ [])) (unsaid failed) → ⊥ }
-    ensures unsaid_not_idle { SaysHowDone (listing_of (the_switch ∷ [])) (unsaid not_idle) → ⊥ }
-    ensures unsaid_unrouted { SaysHowDone (listing_of (the_switch ∷ [])) (unsaid without_route) → ⊥ }
-    ensures unsaid_refused { SaysHowDone (listing_of (the_switch ∷ [])) unsaid_refused → ⊥ }
-    ensures after_unit { SaysHowDone (listing_of (the_switch ∷ [])) said_after_unit → ⊥ }
-    ensures twice { SaysHowDone (listing_of (the_switch ∷ [])) said_twice → ⊥ }
-    ensures by_later { SaysHowDone (listing_of (the_switch ∷ [])) refused_by_later → ⊥ }
-    ensures to_another { SaysHowDone (listing_of (the_switch ∷ [])) said_to_another → ⊥ }
-    ensures of_other { SaysHowDone (listing_of (the_switch ∷ [])) said_of_other → ⊥ }
-    ensures though_delivered { SaysHowDone (listing_of (the_switch ∷ [])) silent_though_delivered → ⊥ }
-    ensures after_silence { SaysHowDone (listing_of (the_switch ∷ [])) delivered_after_silence → ⊥ }
-    ensures delivered_given_up { SaysHowDone (listing_of (the_switch ∷ [])) delivered_given_up → ⊥ }
-    ensures after_denied { SaysHowDone (listing_of (the_switch ∷ [])) delivered_after_denied → ⊥ }
-    ensures acknowledged_late { SaysHowDone (listing_of (the_switch ∷ [])) acknowledged_late → ⊥ }
-    ensures given_up_delivered { SaysHowDone (listing_of (the_switch ∷ [])) given_up_though_delivered → ⊥ }
-    ensures given_up_silent { SaysHowDone (listing_of (the_switch ∷ [])) given_up_though_silent → ⊥ }
-    ensures silent_given_up { SaysHowDone (listing_of (the_switch ∷ [])) silent_given_up → ⊥ }
-    ensures over_restart { SaysHowDone (listing_of (the_switch ∷ [])) silent_over_restart → ⊥ }
-    ensures new_list { SaysHowDone (listing_of (the_dimmer ∷ [])) said_by_new_list → ⊥ }
-    ensures unsaid_after_lost { SaysHowDone (listing_of (the_switch ∷ [])) unsaid_after_lost → ⊥ }
-    ensures unsaid_after_overrun { SaysHowDone (listing_of (the_switch ∷ [])) unsaid_after_overrun → ⊥ }
-    ensures unsaid_after_changed { SaysHowDone (listing_of (the_switch ∷ [])) unsaid_after_changed → ⊥ }
+    ensures early { SaysHowDone (always (listing_of (the_switch ∷ []))) said_early → ⊥ }
+    ensures otherwise { SaysHowDone (always (listing_of (the_switch ∷ []))) said_otherwise → ⊥ }
+    ensures unsaid { SaysHowDone (always (listing_of (the_switch ∷ []))) left_unsaid → ⊥ }
+    ensures unasked { SaysHowDone (always (listing_of (the_switch ∷ []))) said_unasked → ⊥ }
+    ensures silent { SaysHowDone (always (listing_of (the_switch ∷ []))) silent_early → ⊥ }
+    ensures refused { SaysHowDone (always (listing_of (the_switch ∷ []))) said_refused → ⊥ }
+    ensures given_up { SaysHowDone (always (listing_of (the_switch ∷ []))) said_given_up → ⊥ }
+    ensures too_soon { SaysHowDone (always (listing_of (the_switch ∷ []))) silent_too_soon → ⊥ }
+    ensures said_of_another { SaysHowDone (always (listing_of (the_switch ∷ []))) said_of_another → ⊥ }
+    ensures said_not_idle { SaysHowDone (always (listing_of (the_switch ∷ []))) said_not_idle → ⊥ }
+    ensures refused_as_not_idle { SaysHowDone (always (listing_of (the_switch ∷ []))) refused_as_not_idle → ⊥ }
+    ensures said_unrouted { SaysHowDone (always (listing_of (the_switch ∷ []))) said_unrouted → ⊥ }
+    ensures said_failed { SaysHowDone (always (listing_of (the_switch ∷ []))) said_failed → ⊥ }
+    ensures unsaid_unacknowledged { SaysHowDone (always (listing_of (the_switch ∷ []))) (unsaid not_acknowledged) → ⊥ }
+    ensures unsaid_failed { SaysHowDone (always (listing_of (the_switch ∷ []))) (unsaid failed) → ⊥ }
+    ensures unsaid_not_idle { SaysHowDone (always (listing_of (the_switch ∷ []))) (unsaid not_idle) → ⊥ }
+    ensures unsaid_unrouted { SaysHowDone (always (listing_of (the_switch ∷ []))) (unsaid without_route) → ⊥ }
+    ensures unsaid_refused { SaysHowDone (always (listing_of (the_switch ∷ []))) unsaid_refused → ⊥ }
+    ensures after_unit { SaysHowDone (always (listing_of (the_switch ∷ []))) said_after_unit → ⊥ }
+    ensures twice { SaysHowDone (always (listing_of (the_switch ∷ []))) said_twice → ⊥ }
+    ensures by_later { SaysHowDone (always (listing_of (the_switch ∷ []))) refused_by_later → ⊥ }
+    ensures to_another { SaysHowDone (always (listing_of (the_switch ∷ []))) said_to_another → ⊥ }
+    ensures of_other { SaysHowDone (always (listing_of (the_switch ∷ []))) said_of_other → ⊥ }
+    ensures though_delivered { SaysHowDone (always (listing_of (the_switch ∷ []))) silent_though_delivered → ⊥ }
+    ensures after_silence { SaysHowDone (always (listing_of (the_switch ∷ []))) delivered_after_silence → ⊥ }
+    ensures delivered_given_up { SaysHowDone (always (listing_of (the_switch ∷ []))) delivered_given_up → ⊥ }
+    ensures after_denied { SaysHowDone (always (listing_of (the_switch ∷ []))) delivered_after_denied → ⊥ }
+    ensures acknowledged_late { SaysHowDone (always (listing_of (the_switch ∷ []))) acknowledged_late → ⊥ }
+    ensures given_up_delivered { SaysHowDone (always (listing_of (the_switch ∷ []))) given_up_though_delivered → ⊥ }
+    ensures given_up_silent { SaysHowDone (always (listing_of (the_switch ∷ []))) given_up_though_silent → ⊥ }
+    ensures silent_given_up { SaysHowDone (always (listing_of (the_switch ∷ []))) silent_given_up → ⊥ }
+    ensures over_restart { SaysHowDone (always (listing_of (the_switch ∷ []))) silent_over_restart → ⊥ }
+    ensures new_list { SaysHowDone (always (listing_of (the_dimmer ∷ []))) said_by_new_list → ⊥ }
+    ensures unsaid_after_lost { SaysHowDone (always (listing_of (the_switch ∷ []))) unsaid_after_lost → ⊥ }
+    ensures unsaid_after_overrun { SaysHowDone (always (listing_of (the_switch ∷ []))) unsaid_after_overrun → ⊥ }
+    ensures unsaid_after_changed { SaysHowDone (always (listing_of (the_switch ∷ []))) unsaid_after_changed → ⊥ }
 {}
 
 /// Each of these breaks one part of the law: a question of either kind that is answered otherwise, of another node, too late, or not; and

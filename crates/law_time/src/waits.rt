@@ -1,5 +1,6 @@
 //! What the laws of attempts and of rests say of worked transcripts, and of others with one thing wrong.
 
+ghost use Rattle.law_time.specs.Heeds.{heeds_of};
 ghost use Rattle.std.specs.Prelude.{◌≡◌, true, false, [], ◌∷◌};
 ghost use Rattle.law_time.specs.Prompt.{IsPrompt};
 ghost use Rattle.law_time.specs.Rests.{RestsWell};
@@ -52,7 +53,6 @@ ghost use Rattle.law_time.specs.WrongWaits.{
 };
 ghost use Rattle.law_transcript.specs.Commands.{waiting};
 ghost use Rattle.law_transcript.specs.Lists.{last_or};
-ghost use Rattle.law_transcript.specs.Nodes.{listing_of};
 ghost use Rattle.law_transcript.specs.Worked.{
   cancelled_order,
   long_message,
@@ -115,32 +115,32 @@ ghost use Rattle.law_time.specs.WorkedEnds.{informed, informed_unkept, interview
 /// its callback does not come. Requests and sessions of others change nothing, nor does a restart that is refused. A run that ends in the
 /// tick in which it is owed need not show it.
 pub fn worked_attempts()
-    ensures lossy { GivesUpAfterThree true (listing_of (the_switch ∷ [])) lossy_exchange }
-    ensures waited { GivesUpAfterThree true (listing_of (the_switch ∷ [])) waited_attempts }
-    ensures sleeping { GivesUpAfterThree true (listing_of (the_sensor ∷ [])) given_up_asleep }
-    ensures lock { GivesUpAfterThree true (listing_of (the_lock ∷ [])) given_up_lock }
-    ensures segments { GivesUpAfterThree true (listing_of (the_plug ∷ [])) given_up_segments }
-    ensures resent { GivesUpAfterThree true (listing_of (the_plug ∷ [])) resent_segments }
-    ensures failed { GivesUpAfterThree true (listing_of (the_switch ∷ [])) failed_attempts }
-    ensures silent { GivesUpAfterThree true (listing_of (the_switch ∷ [])) silent_attempt }
-    ensures plain { GivesUpAfterThree true (listing_of (the_switch ∷ [])) plain_exchange }
-    ensures repeated { GivesUpAfterThree true (listing_of (the_switch ∷ [])) repeated_exchange }
-    ensures cancelled { GivesUpAfterThree true (listing_of (the_switch ∷ [])) cancelled_order }
-    ensures restarted { GivesUpAfterThree true (listing_of (the_switch ∷ [])) restarted_host }
-    ensures sleeps { GivesUpAfterThree true (listing_of (the_sensor ∷ [])) sleeping_node }
-    ensures sealed { GivesUpAfterThree true (listing_of (the_lock ∷ [])) sealed_exchange }
-    ensures cut { GivesUpAfterThree true (listing_of (the_plug ∷ [])) long_message }
-    ensures after_lost { GivesUpAfterThree true (listing_of (the_switch ∷ [])) given_up_after_lost }
-    ensures refused { GivesUpAfterThree true (listing_of (the_switch ∷ [])) given_up_refused }
-    ensures working { GivesUpAfterThree true (listing_of (the_switch ∷ [])) given_up_working }
-    ensures beside_working { GivesUpAfterThree true (listing_of (the_switch ∷ [])) given_up_beside_working }
-    ensures beside_get { GivesUpAfterThree true (listing_of (the_switch ∷ [])) given_up_beside_get }
-    ensures beside_other { GivesUpAfterThree true (listing_of (the_switch ∷ [])) given_up_beside_other }
-    ensures over_refused { GivesUpAfterThree true (listing_of (the_switch ∷ [])) given_up_over_refused }
-    ensures at_segment { GivesUpAfterThree true (listing_of (the_plug ∷ [])) given_up_at_segment }
-    ensures halted { GivesUpAfterThree false (listing_of (the_switch ∷ [])) halted_waiting }
-    ensures unkept { GivesUpAfterThree true (listing_of (the_switch ∷ [])) given_up_unkept }
-    ensures after_unit { GivesUpAfterThree true (listing_of (the_switch ∷ [])) given_up_after_unit }
+    ensures lossy { GivesUpAfterThree true (heeds_of (the_switch ∷ [])) lossy_exchange }
+    ensures waited { GivesUpAfterThree true (heeds_of (the_switch ∷ [])) waited_attempts }
+    ensures sleeping { GivesUpAfterThree true (heeds_of (the_sensor ∷ [])) given_up_asleep }
+    ensures lock { GivesUpAfterThree true (heeds_of (the_lock ∷ [])) given_up_lock }
+    ensures segments { GivesUpAfterThree true (heeds_of (the_plug ∷ [])) given_up_segments }
+    ensures resent { GivesUpAfterThree true (heeds_of (the_plug ∷ [])) resent_segments }
+    ensures failed { GivesUpAfterThree true (heeds_of (the_switch ∷ [])) failed_attempts }
+    ensures silent { GivesUpAfterThree true (heeds_of (the_switch ∷ [])) silent_attempt }
+    ensures plain { GivesUpAfterThree true (heeds_of (the_switch ∷ [])) plain_exchange }
+    ensures repeated { GivesUpAfterThree true (heeds_of (the_switch ∷ [])) repeated_exchange }
+    ensures cancelled { GivesUpAfterThree true (heeds_of (the_switch ∷ [])) cancelled_order }
+    ensures restarted { GivesUpAfterThree true (heeds_of (the_switch ∷ [])) restarted_host }
+    ensures sleeps { GivesUpAfterThree true (heeds_of (the_sensor ∷ [])) sleeping_node }
+    ensures sealed { GivesUpAfterThree true (heeds_of (the_lock ∷ [])) sealed_exchange }
+    ensures cut { GivesUpAfterThree true (heeds_of (the_plug ∷ [])) long_message }
+    ensures after_lost { GivesUpAfterThree true (heeds_of (the_switch ∷ [])) given_up_after_lost }
+    ensures refused { GivesUpAfterThree true (heeds_of (the_switch ∷ [])) given_up_refused }
+    ensures working { GivesUpAfterThree true (heeds_of (the_switch ∷ [])) given_up_working }
+    ensures beside_working { GivesUpAfterThree true (heeds_of (the_switch ∷ [])) given_up_beside_working }
+    ensures beside_get { GivesUpAfterThree true (heeds_of (the_switch ∷ [])) given_up_beside_get }
+    ensures beside_other { GivesUpAfterThree true (heeds_of (the_switch ∷ [])) given_up_beside_other }
+    ensures over_refused { GivesUpAfterThree true (heeds_of (the_switch ∷ [])) given_up_over_refused }
+    ensures at_segment { GivesUpAfterThree true (heeds_of (the_plug ∷ [])) given_up_at_segment }
+    ensures halted { GivesUpAfterThree false (heeds_of (the_switch ∷ [])) halted_waiting }
+    ensures unkept { GivesUpAfterThree true (heeds_of (the_switch ∷ [])) given_up_unkept }
+    ensures after_unit { GivesUpAfterThree true (heeds_of (the_switch ∷ [])) given_up_after_unit }
 {}
 
 /// In worked transcripts nothing is owed at a rest: a command may wait for a node that sleeps, or in the tick in which the keeper has
@@ -149,42 +149,42 @@ pub fn worked_attempts()
 /// fails in a tick in which the chip has written, and a restart ends a hold. The attempt after one whose
 /// last segment has failed begins in that tick. In a stall a session begins all the same.
 pub fn worked_rests()
-    ensures plain { RestsWell true (listing_of (the_switch ∷ [])) plain_exchange }
-    ensures stalled { RestsWell true (listing_of (the_switch ∷ [])) sent_in_stall }
-    ensures errands { RestsWell true (listing_of (the_switch ∷ [])) answered_errands }
-    ensures waited { RestsWell true (listing_of (the_switch ∷ [])) waited_attempts }
-    ensures sleeping { RestsWell true (listing_of (the_sensor ∷ [])) sleeping_node }
-    ensures sealed { RestsWell true (listing_of (the_lock ∷ [])) sealed_exchange }
-    ensures resent { RestsWell true (listing_of (the_plug ∷ [])) resent_segments }
-    ensures restarted { RestsWell true (listing_of (the_sensor ∷ the_other_switch ∷ [])) woken_before_restart }
+    ensures plain { RestsWell true (heeds_of (the_switch ∷ [])) plain_exchange }
+    ensures stalled { RestsWell true (heeds_of (the_switch ∷ [])) sent_in_stall }
+    ensures errands { RestsWell true (heeds_of (the_switch ∷ [])) answered_errands }
+    ensures waited { RestsWell true (heeds_of (the_switch ∷ [])) waited_attempts }
+    ensures sleeping { RestsWell true (heeds_of (the_sensor ∷ [])) sleeping_node }
+    ensures sealed { RestsWell true (heeds_of (the_lock ∷ [])) sealed_exchange }
+    ensures resent { RestsWell true (heeds_of (the_plug ∷ [])) resent_segments }
+    ensures restarted { RestsWell true (heeds_of (the_sensor ∷ the_other_switch ∷ [])) woken_before_restart }
     ensures said_awake { last_or false (wakings 5 woken_before_restart) ≡ true }
     ensures not_up { is_up 5 woken_before_restart ≡ false }
     ensures waits { waiting 5 woken_before_restart ≡ 1 ∷ [] }
-    ensures repeated { RestsWell true (listing_of (the_switch ∷ [])) repeated_exchange }
-    ensures lossy { RestsWell true (listing_of (the_switch ∷ [])) lossy_exchange }
-    ensures cancelled { RestsWell true (listing_of (the_switch ∷ [])) cancelled_order }
-    ensures host_restarted { RestsWell true (listing_of (the_switch ∷ [])) restarted_host }
-    ensures cut { RestsWell true (listing_of (the_plug ∷ [])) long_message }
-    ensures kept { RestsWell true (listing_of (the_switch ∷ [])) begun_kept }
-    ensures asleep { RestsWell true (listing_of (the_switch ∷ [])) waits_asleep }
-    ensures before_restart { RestsWell true (listing_of (the_switch ∷ [])) asked_before_restart }
-    ensures informed { RestsWell true (listing_of (the_switch ∷ [])) informed }
-    ensures uninformed { RestsWell true (listing_of (the_switch ∷ [])) interview_uninformed }
-    ensures unkept { RestsWell true (listing_of (the_switch ∷ [])) informed_unkept }
-    ensures for_line { RestsWell true (listing_of (the_switch ∷ [])) waits_for_line }
-    ensures as_chip_writes { RestsWell true (listing_of (the_switch ∷ the_sensor ∷ [])) told_as_chip_writes }
-    ensures after_restart { RestsWell true (listing_of (the_keeper ∷ [])) told_after_restart }
-    ensures attempt { RestsWell true (listing_of (the_plug ∷ [])) attempt_follows }
+    ensures repeated { RestsWell true (heeds_of (the_switch ∷ [])) repeated_exchange }
+    ensures lossy { RestsWell true (heeds_of (the_switch ∷ [])) lossy_exchange }
+    ensures cancelled { RestsWell true (heeds_of (the_switch ∷ [])) cancelled_order }
+    ensures host_restarted { RestsWell true (heeds_of (the_switch ∷ [])) restarted_host }
+    ensures cut { RestsWell true (heeds_of (the_plug ∷ [])) long_message }
+    ensures kept { RestsWell true (heeds_of (the_switch ∷ [])) begun_kept }
+    ensures asleep { RestsWell true (heeds_of (the_switch ∷ [])) waits_asleep }
+    ensures before_restart { RestsWell true (heeds_of (the_switch ∷ [])) asked_before_restart }
+    ensures informed { RestsWell true (heeds_of (the_switch ∷ [])) informed }
+    ensures uninformed { RestsWell true (heeds_of (the_switch ∷ [])) interview_uninformed }
+    ensures unkept { RestsWell true (heeds_of (the_switch ∷ [])) informed_unkept }
+    ensures for_line { RestsWell true (heeds_of (the_switch ∷ [])) waits_for_line }
+    ensures as_chip_writes { RestsWell true (heeds_of (the_switch ∷ the_sensor ∷ [])) told_as_chip_writes }
+    ensures after_restart { RestsWell true (heeds_of (the_keeper ∷ [])) told_after_restart }
+    ensures attempt { RestsWell true (heeds_of (the_plug ∷ [])) attempt_follows }
 {}
 
 /// In a plain exchange the host is prompt.
 pub fn worked_prompt()
-    ensures { IsPrompt true (listing_of (the_switch ∷ [])) plain_exchange }
+    ensures { IsPrompt true (heeds_of (the_switch ∷ [])) plain_exchange }
 {}
 
 /// Where a session has begun and the run ends before its message, it is not.
 pub fn rejected_prompt()
-    ensures { IsPrompt true (listing_of (the_switch ∷ [])) begun_silently → ⊥ }
+    ensures { IsPrompt true (heeds_of (the_switch ∷ [])) begun_silently → ⊥ }
 {}
 
 /// Each of these breaks one part of the law: a command given up without a session, after two attempts, or while the third is under way, or
@@ -192,33 +192,33 @@ pub fn rejected_prompt()
 /// that is sealed, or attempts from before the session or a restart; given up though it succeeded, or twice; and one that is not given up
 /// when the third has ended, in either way, also at the end of a run.
 pub fn rejected_waits()
-    ensures two { GivesUpAfterThree true (listing_of (the_switch ∷ [])) given_up_after_two → ⊥ }
-    ensures under_way { GivesUpAfterThree true (listing_of (the_switch ∷ [])) given_up_under_way → ⊥ }
-    ensures before { GivesUpAfterThree true (listing_of (the_switch ∷ [])) given_up_before_time → ⊥ }
-    ensures gone_on { GivesUpAfterThree true (listing_of (the_switch ∷ [])) gone_on_after_three → ⊥ }
-    ensures inside { GivesUpAfterThree true (listing_of (the_plug ∷ [])) given_up_inside → ⊥ }
-    ensures resent { GivesUpAfterThree true (listing_of (the_plug ∷ [])) given_up_by_resend → ⊥ }
-    ensures segments { GivesUpAfterThree true (listing_of (the_plug ∷ [])) gone_on_after_segments → ⊥ }
-    ensures failed { GivesUpAfterThree true (listing_of (the_switch ∷ [])) gone_on_after_failing → ⊥ }
-    ensures waited { GivesUpAfterThree true (listing_of (the_switch ∷ [])) gone_on_after_waiting → ⊥ }
-    ensures silent { GivesUpAfterThree true (listing_of (the_switch ∷ [])) gone_on_after_silence → ⊥ }
-    ensures before_failing { GivesUpAfterThree true (listing_of (the_switch ∷ [])) given_up_before_failing → ⊥ }
-    ensures before_silence { GivesUpAfterThree true (listing_of (the_switch ∷ [])) given_up_before_silence → ⊥ }
-    ensures unbegun { GivesUpAfterThree true (listing_of (the_switch ∷ [])) given_up_unbegun → ⊥ }
-    ensures delivered { GivesUpAfterThree true (listing_of (the_switch ∷ [])) given_up_delivered → ⊥ }
-    ensures early { GivesUpAfterThree true (listing_of (the_switch ∷ [])) given_up_early → ⊥ }
-    ensures at_work { GivesUpAfterThree true (listing_of (the_switch ∷ [])) given_up_at_work → ⊥ }
-    ensures in_time { GivesUpAfterThree true (listing_of (the_switch ∷ [])) given_up_late → ⊥ }
-    ensures by_get { GivesUpAfterThree true (listing_of (the_switch ∷ [])) given_up_by_get → ⊥ }
-    ensures counting_get { GivesUpAfterThree true (listing_of (the_switch ∷ [])) given_up_counting_get → ⊥ }
-    ensures counting_other { GivesUpAfterThree true (listing_of (the_switch ∷ [])) given_up_counting_other → ⊥ }
-    ensures counting_sealed { GivesUpAfterThree true (listing_of (the_lock ∷ [])) given_up_counting_sealed → ⊥ }
-    ensures counting_earlier { GivesUpAfterThree true (listing_of (the_switch ∷ [])) given_up_counting_earlier → ⊥ }
-    ensures over_restart { GivesUpAfterThree true (listing_of (the_switch ∷ [])) given_up_over_restart → ⊥ }
-    ensures succeeded { GivesUpAfterThree true (listing_of (the_switch ∷ [])) given_up_succeeded → ⊥ }
-    ensures twice { GivesUpAfterThree true (listing_of (the_switch ∷ [])) given_up_twice → ⊥ }
-    ensures in_the_end { GivesUpAfterThree true (listing_of (the_switch ∷ [])) halted_waiting → ⊥ }
-    ensures following_line { GivesUpAfterThree true (listing_of (the_switch ∷ [])) given_up_after_line → ⊥ }
+    ensures two { GivesUpAfterThree true (heeds_of (the_switch ∷ [])) given_up_after_two → ⊥ }
+    ensures under_way { GivesUpAfterThree true (heeds_of (the_switch ∷ [])) given_up_under_way → ⊥ }
+    ensures before { GivesUpAfterThree true (heeds_of (the_switch ∷ [])) given_up_before_time → ⊥ }
+    ensures gone_on { GivesUpAfterThree true (heeds_of (the_switch ∷ [])) gone_on_after_three → ⊥ }
+    ensures inside { GivesUpAfterThree true (heeds_of (the_plug ∷ [])) given_up_inside → ⊥ }
+    ensures resent { GivesUpAfterThree true (heeds_of (the_plug ∷ [])) given_up_by_resend → ⊥ }
+    ensures segments { GivesUpAfterThree true (heeds_of (the_plug ∷ [])) gone_on_after_segments → ⊥ }
+    ensures failed { GivesUpAfterThree true (heeds_of (the_switch ∷ [])) gone_on_after_failing → ⊥ }
+    ensures waited { GivesUpAfterThree true (heeds_of (the_switch ∷ [])) gone_on_after_waiting → ⊥ }
+    ensures silent { GivesUpAfterThree true (heeds_of (the_switch ∷ [])) gone_on_after_silence → ⊥ }
+    ensures before_failing { GivesUpAfterThree true (heeds_of (the_switch ∷ [])) given_up_before_failing → ⊥ }
+    ensures before_silence { GivesUpAfterThree true (heeds_of (the_switch ∷ [])) given_up_before_silence → ⊥ }
+    ensures unbegun { GivesUpAfterThree true (heeds_of (the_switch ∷ [])) given_up_unbegun → ⊥ }
+    ensures delivered { GivesUpAfterThree true (heeds_of (the_switch ∷ [])) given_up_delivered → ⊥ }
+    ensures early { GivesUpAfterThree true (heeds_of (the_switch ∷ [])) given_up_early → ⊥ }
+    ensures at_work { GivesUpAfterThree true (heeds_of (the_switch ∷ [])) given_up_at_work → ⊥ }
+    ensures in_time { GivesUpAfterThree true (heeds_of (the_switch ∷ [])) given_up_late → ⊥ }
+    ensures by_get { GivesUpAfterThree true (heeds_of (the_switch ∷ [])) given_up_by_get → ⊥ }
+    ensures counting_get { GivesUpAfterThree true (heeds_of (the_switch ∷ [])) given_up_counting_get → ⊥ }
+    ensures counting_other { GivesUpAfterThree true (heeds_of (the_switch ∷ [])) given_up_counting_other → ⊥ }
+    ensures counting_sealed { GivesUpAfterThree true (heeds_of (the_lock ∷ [])) given_up_counting_sealed → ⊥ }
+    ensures counting_earlier { GivesUpAfterThree true (heeds_of (the_switch ∷ [])) given_up_counting_earlier → ⊥ }
+    ensures over_restart { GivesUpAfterThree true (heeds_of (the_switch ∷ [])) given_up_over_restart → ⊥ }
+    ensures succeeded { GivesUpAfterThree true (heeds_of (the_switch ∷ [])) given_up_succeeded → ⊥ }
+    ensures twice { GivesUpAfterThree true (heeds_of (the_switch ∷ [])) given_up_twice → ⊥ }
+    ensures in_the_end { GivesUpAfterThree true (heeds_of (the_switch ∷ [])) halted_waiting → ⊥ }
+    ensures following_line { GivesUpAfterThree true (heeds_of (the_switch ∷ [])) given_up_after_line → ⊥ }
 {}
 
 /// Each of these breaks one part of the law of rests: a rest at which a command waits for a node that is awake, also in a stall, in one in
@@ -228,29 +228,29 @@ pub fn rejected_waits()
 /// held it, or a Nonce Report, a segment that was asked for or an abort is not sent, nor the second segment of an attempt, the message that
 /// could be sealed, or the attempt that follows one that is over.
 pub fn rejected_rests()
-    ensures waiting { RestsWell true (listing_of (the_switch ∷ [])) left_waiting → ⊥ }
-    ensures stalled { RestsWell true (listing_of (the_switch ∷ [])) left_in_stall → ⊥ }
-    ensures unheard { RestsWell true (listing_of (the_switch ∷ [])) left_unheard → ⊥ }
-    ensures unasked { RestsWell true (listing_of (the_switch ∷ [])) left_unasked → ⊥ }
-    ensures unsent { RestsWell true (listing_of (the_switch ∷ [])) left_unsent → ⊥ }
-    ensures unbegun { RestsWell true (listing_of (the_sensor ∷ [])) left_unbegun → ⊥ }
-    ensures overdue { RestsWell true (listing_of (the_switch ∷ [])) left_overdue → ⊥ }
-    ensures awake { RestsWell true (listing_of (the_sensor ∷ [])) left_awake → ⊥ }
-    ensures unreported { RestsWell true (listing_of (the_lock ∷ [])) left_unreported → ⊥ }
-    ensures unresent { RestsWell true (listing_of (the_plug ∷ [])) left_unresent → ⊥ }
-    ensures unaborted { RestsWell true (listing_of (the_switch ∷ [])) left_unaborted → ⊥ }
-    ensures unended { RestsWell true (listing_of (the_switch ∷ [])) left_unended_in_silence → ⊥ }
-    ensures unsaid { RestsWell true (listing_of (the_switch ∷ [])) left_unsaid_in_silence → ⊥ }
-    ensures unkept { RestsWell true (listing_of (the_switch ∷ [])) left_unkept → ⊥ }
-    ensures beside_unkept { RestsWell true (listing_of (the_switch ∷ [])) left_beside_unkept → ⊥ }
-    ensures over_restart { RestsWell true (listing_of (the_switch ∷ [])) left_over_restart → ⊥ }
-    ensures uninterviewed { RestsWell true (listing_of (the_switch ∷ [])) left_uninterviewed → ⊥ }
-    ensures after_abort { RestsWell true (listing_of (the_switch ∷ [])) left_after_abort → ⊥ }
-    ensures following_line { RestsWell true (listing_of (the_switch ∷ [])) left_after_line → ⊥ }
-    ensures a_tick { RestsWell true (listing_of (the_switch ∷ [])) left_a_tick → ⊥ }
-    ensures given_up { RestsWell true (listing_of (the_switch ∷ [])) left_given_up → ⊥ }
-    ensures held { RestsWell true (listing_of (the_keeper ∷ [])) held_over_restart → ⊥ }
-    ensures segment { RestsWell true (listing_of (the_plug ∷ [])) left_segment → ⊥ }
-    ensures nonce { RestsWell true (listing_of (the_lock ∷ [])) left_sealed → ⊥ }
-    ensures due { RestsWell true (listing_of (the_plug ∷ [])) left_due → ⊥ }
+    ensures waiting { RestsWell true (heeds_of (the_switch ∷ [])) left_waiting → ⊥ }
+    ensures stalled { RestsWell true (heeds_of (the_switch ∷ [])) left_in_stall → ⊥ }
+    ensures unheard { RestsWell true (heeds_of (the_switch ∷ [])) left_unheard → ⊥ }
+    ensures unasked { RestsWell true (heeds_of (the_switch ∷ [])) left_unasked → ⊥ }
+    ensures unsent { RestsWell true (heeds_of (the_switch ∷ [])) left_unsent → ⊥ }
+    ensures unbegun { RestsWell true (heeds_of (the_sensor ∷ [])) left_unbegun → ⊥ }
+    ensures overdue { RestsWell true (heeds_of (the_switch ∷ [])) left_overdue → ⊥ }
+    ensures awake { RestsWell true (heeds_of (the_sensor ∷ [])) left_awake → ⊥ }
+    ensures unreported { RestsWell true (heeds_of (the_lock ∷ [])) left_unreported → ⊥ }
+    ensures unresent { RestsWell true (heeds_of (the_plug ∷ [])) left_unresent → ⊥ }
+    ensures unaborted { RestsWell true (heeds_of (the_switch ∷ [])) left_unaborted → ⊥ }
+    ensures unended { RestsWell true (heeds_of (the_switch ∷ [])) left_unended_in_silence → ⊥ }
+    ensures unsaid { RestsWell true (heeds_of (the_switch ∷ [])) left_unsaid_in_silence → ⊥ }
+    ensures unkept { RestsWell true (heeds_of (the_switch ∷ [])) left_unkept → ⊥ }
+    ensures beside_unkept { RestsWell true (heeds_of (the_switch ∷ [])) left_beside_unkept → ⊥ }
+    ensures over_restart { RestsWell true (heeds_of (the_switch ∷ [])) left_over_restart → ⊥ }
+    ensures uninterviewed { RestsWell true (heeds_of (the_switch ∷ [])) left_uninterviewed → ⊥ }
+    ensures after_abort { RestsWell true (heeds_of (the_switch ∷ [])) left_after_abort → ⊥ }
+    ensures following_line { RestsWell true (heeds_of (the_switch ∷ [])) left_after_line → ⊥ }
+    ensures a_tick { RestsWell true (heeds_of (the_switch ∷ [])) left_a_tick → ⊥ }
+    ensures given_up { RestsWell true (heeds_of (the_switch ∷ [])) left_given_up → ⊥ }
+    ensures held { RestsWell true (heeds_of (the_keeper ∷ [])) held_over_restart → ⊥ }
+    ensures segment { RestsWell true (heeds_of (the_plug ∷ [])) left_segment → ⊥ }
+    ensures nonce { RestsWell true (heeds_of (the_lock ∷ [])) left_sealed → ⊥ }
+    ensures due { RestsWell true (heeds_of (the_plug ∷ [])) left_due → ⊥ }
 {}

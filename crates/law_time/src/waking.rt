@@ -36,11 +36,24 @@ ghost use Rattle.law_time.specs.WrongEnds.{
   awake_in_next_line,
   awake_in_next_tick,
 };
-ghost use Rattle.law_time.specs.WorkedWaking.{awake_after_lost, awake_by_sealed, held_failing, held_unsupported};
+ghost use Rattle.law_time.specs.WorkedWaking.{
+  awake_after_lost,
+  awake_by_sealed,
+  held_by_both,
+  held_by_first,
+  held_by_sealed,
+  held_failing,
+  held_unsupported,
+  not_held_by_second,
+  not_held_by_work,
+};
 ghost use Rattle.law_time.specs.WrongWaking.{
   awake_by_unread,
   held_by_other,
+  held_by_unread,
+  held_by_work,
   held_unanswered,
+  not_held_by_both,
   not_held_failing,
   not_held_unsupported,
   awake_after_accepted,
@@ -94,7 +107,8 @@ pub fn worked_sleeping()
     ensures halted { FallsAsleep false telling }
 {}
 
-/// In worked transcripts a node is held where it asks so, by a report of each final status.
+/// In worked transcripts a node is held where it asks so, by a report of each final status. Of two in one payload each may be the one that counts, where
+/// the keeper failed for the first too, but none that the node is at work; and what is sealed may ask.
 pub fn worked_holds()
     ensures held { HoldsAsAsked held_node }
     ensures sleeping { HoldsAsAsked sleeping_node }
@@ -107,13 +121,18 @@ pub fn worked_holds()
     ensures cut { HoldsAsAsked long_message }
     ensures failing { HoldsAsAsked held_failing }
     ensures unsupported { HoldsAsAsked held_unsupported }
+    ensures both { HoldsAsAsked held_by_both }
+    ensures first { HoldsAsAsked held_by_first }
+    ensures second { HoldsAsAsked not_held_by_second }
+    ensures working { HoldsAsAsked not_held_by_work }
+    ensures by_sealed { HoldsAsAsked held_by_sealed }
 {}
 
 /// Each of these breaks one part of the laws: a node that counts as awake though it has not told so, or by what cannot be read, or does not
 /// though it has; one that counts as asleep though it did not count as awake, or does so already, was told nothing, is still being told or
 /// was told something else, or does not though it was told or given up, also where what told it ended in silence, by the line or in a refusal, and
-/// at the end of a run; one that is held unasked, by a report of another session, or as its
-/// command is unanswered, or asks and is not, by each status; and one that listens, and counts as asleep or is held.
+/// at the end of a run; one that is held unasked, by a report of another session, by one that it is at work, by what cannot be read, or as its
+/// command is unanswered, or asks and is not, by each status, and by both reports of a payload; and one that listens, and counts as asleep or is held.
 pub fn rejected_waking()
     ensures untold { WakesAsTold awake_untold → ⊥ }
     ensures passed { WakesAsTold waking_passed_over → ⊥ }
@@ -137,6 +156,9 @@ pub fn rejected_waking()
     ensures unread { WakesAsTold awake_by_unread → ⊥ }
     ensures failing { HoldsAsAsked not_held_failing → ⊥ }
     ensures unsupported { HoldsAsAsked not_held_unsupported → ⊥ }
+    ensures by_both { HoldsAsAsked not_held_by_both → ⊥ }
+    ensures by_work { HoldsAsAsked held_by_work → ⊥ }
+    ensures by_unread { HoldsAsAsked held_by_unread → ⊥ }
     ensures by_other_session { HoldsAsAsked held_by_other → ⊥ }
     ensures unanswered { HoldsAsAsked held_unanswered → ⊥ }
     ensures following_line { WakesAsTold awake_after_line → ⊥ }

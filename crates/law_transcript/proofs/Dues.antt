@@ -34,7 +34,7 @@ differ a b other is = grind (arith, nat_tests)
 pub unlike : (number : List ℕ → ℕ) (one other : List ℕ) → (number one == number other) ≡ false → one ≡ other → ⊥
 unlike number one other differs is = differ (number one) (number other) differs (ap number is)
 
-pub not_due : (listing : ℕ → List ℕ) (key : List ℕ) (past : List Entry) (carried : Carried)
+pub not_due : (listing : List Entry → ℕ → List ℕ) (key : List ℕ) (past : List Entry) (carried : Carried)
     → (IsOfSession listing key past carried (length (sessions carried.node past)) → ⊥) → (carried.payload ≡ nonce_get → ⊥)
     → (IsNonceReport key past carried → ⊥) → (carried.payload ≡ no_more_information → ⊥) → (IsAskedFor listing past carried → ⊥)
     → IsDue listing key past carried → ⊥
@@ -47,7 +47,7 @@ not_due listing key past carried message get report more asked due = elim due [
 ]
 
 -- the payload begins as no Nonce Get, Nonce Report or No More Information
-pub no_other : (listing : ℕ → List ℕ) (key : List ℕ) (past : List Entry) (carried : Carried)
+pub no_other : (listing : List Entry → ℕ → List ℕ) (key : List ℕ) (past : List Entry) (carried : Carried)
     → (head_of carried.payload == 0x9840) ≡ false → (head_of carried.payload == 0x9880) ≡ false → (head_of carried.payload == 0x8408) ≡ false
     → (IsOfSession listing key past carried (length (sessions carried.node past)) → ⊥) → (IsAskedFor listing past carried → ⊥)
     → IsDue listing key past carried → ⊥

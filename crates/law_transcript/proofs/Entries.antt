@@ -14,7 +14,7 @@ use Rattle.law_transcript.specs.Lists.{EachAfter, Has}
 use Rattle.law_transcript.specs.Answers.{MayAnswer, Follows, MayCancel, CancelsWhenAsked, before_last, refusals_to}
 use Rattle.law_transcript.specs.Carrying.{MaySend, CarriesUnits, MayBring, BringsWhatWasHeard, WereHeard}
 use Rattle.law_transcript.specs.Fates.{MayAir, NumbersFrames, MayFare, FaresInTurn, MayBeMarked, LosesMarked}
-use Rattle.law_transcript.specs.Nodes.{listing_of}
+use Rattle.law_transcript.specs.Nodes.{listing_of, always}
 use Rattle.law_transcript.specs.Once.{MayEnd, SucceedsAfterChange}
 use Rattle.law_transcript.specs.Payloads.{MayRequest, SendsWhatIsDue, FollowsBegin, BeginsWithUnit}
 use Rattle.law_transcript.specs.Sessions.{MayBegin, KeepsSessions}
@@ -83,7 +83,7 @@ is_answer _ = false
 abbrev pub is_after_line : List Entry → Entry → Bool
 is_after_line past entry = has_some (line_last past) || is_answer entry
 
-quiet_follows : (listing : ℕ → List ℕ) (refusals : List Entry → Line → List Entry) (past : List Entry) (said : List Line) (entry : Entry)
+quiet_follows : (listing : List Entry → ℕ → List ℕ) (refusals : List Entry → Line → List Entry) (past : List Entry) (said : List Line) (entry : Entry)
     → (has_some said || is_answer entry) ≡ false → Follows listing refusals past said entry
 quiet_follows listing refusals past (line ∷ more) entry is = cc
 quiet_follows listing refusals past [] (Accepted command node) is = cc
@@ -92,12 +92,12 @@ quiet_follows listing refusals past [] _ is = tt
 
 -- a line of a run is answered so
 abbrev pub MayAnswerOf : List State → List Entry → Entry → Type 0
-MayAnswerOf devices = MayAnswer (listing_of devices) (refusals_to devices)
+MayAnswerOf devices = MayAnswer (always (listing_of devices)) (refusals_to devices)
 
 pub answers : (devices : List State) (transcript : List Entry) → AllAsked is_after_line (MayAnswerOf devices) [] transcript → EachAfter (MayAnswerOf devices) [] transcript
 answers devices =
     each is_after_line (MayAnswerOf devices)
-    (λ past entry is. quiet_follows (listing_of devices) (refusals_to devices) (before_last past) (line_last past) entry is) []
+    (λ past entry is. quiet_follows (always (listing_of devices)) (refusals_to devices) (before_last past) (line_last past) entry is) []
 
 abbrev pub is_cancelled : List Entry → Entry → Bool
 is_cancelled past (Out number endings.Cancelled) = true
@@ -199,11 +199,11 @@ pub none_of : {A : Type 0} (P : A → Type 0) (items : List A) → has_some item
 none_of P [] none = tt
 none_of P (item ∷ items) none = cc
 
-quiet_sendings : (listing : ℕ → List ℕ) (key : List ℕ) → Quiet is_sending (MayRequest listing key)
+quiet_sendings : (listing : List Entry → ℕ → List ℕ) (key : List ℕ) → Quiet is_sending (MayRequest listing key)
 quiet_sendings listing key past (Written Host unit) is = none_of _ (sending_in unit) is
 quiet_sendings listing key past _ is = tt
 
-pub sends_what_is_due : (listing : ℕ → List ℕ) (key : List ℕ) (transcript : List Entry)
+pub sends_what_is_due : (listing : List Entry → ℕ → List ℕ) (key : List ℕ) (transcript : List Entry)
     → AllAsked is_sending (MayRequest listing key) [] transcript → SendsWhatIsDue listing key transcript
 sends_what_is_due listing key = each is_sending (MayRequest listing key) (quiet_sendings listing key) []
 

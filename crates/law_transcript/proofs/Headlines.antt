@@ -5,7 +5,7 @@ use Rattle.std.proofs.lemmas.Bool.Decides.{nat_tests}
 use Rattle.device_stack.specs.State.{State}
 use Rattle.zw_text.specs.declared.entry.Entry.{Entry}
 use Rattle.law_transcript.specs.Headline.{Headline, HeadlineOf}
-use Rattle.law_transcript.specs.Nodes.{listing_of, is_supervised}
+use Rattle.law_transcript.specs.Nodes.{listing_of, is_supervised, always}
 use Rattle.law_transcript.specs.Once.{SucceedsAfterChange}
 use Rattle.law_transcript.specs.Sessions.{KeepsSessions}
 use Rattle.law_transcript.specs.Worked.{plain_exchange, repeated_exchange, lossy_exchange, cancelled_order, restarted_host, sleeping_node, sealed_exchange, long_message, the_switch, the_sensor, the_lock, the_plug, with_journal, turned_on, turned_on_and_off, set_apart, secured, configured}
@@ -25,15 +25,15 @@ only P at node device found false is same holds = cc
 
 -- the headline with one device
 of_one : (before : List State) (device : State) (transcript : List Entry) → KeepsSessions transcript → SucceedsAfterChange transcript
-    → HeadlineOf (listing_of before) device.node transcript device → Headline before (device ∷ []) transcript
+    → HeadlineOf (always (listing_of before)) device.node transcript device → Headline before (device ∷ []) transcript
 of_one before device transcript sessions successes holds = record {
   sessions_keep = sessions;
   succeeds = successes;
   devices = λ node found is supervised.
-      only (λ (node : ℕ) (found : State). HeadlineOf (listing_of before) node transcript found) device.node node device found (device.node == node) refl is holds;
+      only (λ (node : ℕ) (found : State). HeadlineOf (always (listing_of before)) node transcript found) device.node node device found (device.node == node) refl is holds;
 }
 
-pub plain_device : HeadlineOf (listing_of (the_switch ∷ [])) 2 plain_exchange (with_journal the_switch turned_on)
+pub plain_device : HeadlineOf (always (listing_of (the_switch ∷ []))) 2 plain_exchange (with_journal the_switch turned_on)
 unfolding computing
 plain_device = record {
   once = record {
@@ -62,7 +62,7 @@ plain = of_one _ _ plain_exchange
     (succeeds_after plain_exchange (record { node = 2; shown = inl refl }, tt))
     plain_device
 
-pub repeated_device : HeadlineOf (listing_of (the_switch ∷ [])) 2 repeated_exchange (with_journal the_switch turned_on)
+pub repeated_device : HeadlineOf (always (listing_of (the_switch ∷ []))) 2 repeated_exchange (with_journal the_switch turned_on)
 unfolding computing
 repeated_device = record {
   once = record {
@@ -91,7 +91,7 @@ repeated = of_one _ _ repeated_exchange
     (succeeds_after repeated_exchange (record { node = 2; shown = inl refl }, tt))
     repeated_device
 
-pub lossy_device : HeadlineOf (listing_of (the_switch ∷ [])) 2 lossy_exchange (with_journal the_switch turned_on_and_off)
+pub lossy_device : HeadlineOf (always (listing_of (the_switch ∷ []))) 2 lossy_exchange (with_journal the_switch turned_on_and_off)
 unfolding computing
 lossy_device = record {
   once = record {
@@ -120,7 +120,7 @@ lossy = of_one _ _ lossy_exchange
     (succeeds_after lossy_exchange (record { node = 2; shown = inl refl }, (record { node = 2; shown = inr (inl refl) }, tt)))
     lossy_device
 
-pub cancelled_device : HeadlineOf (listing_of (the_switch ∷ [])) 2 cancelled_order (with_journal the_switch turned_on)
+pub cancelled_device : HeadlineOf (always (listing_of (the_switch ∷ []))) 2 cancelled_order (with_journal the_switch turned_on)
 unfolding computing
 cancelled_device = record {
   once = record {
@@ -149,7 +149,7 @@ cancelled = of_one _ _ cancelled_order
     (succeeds_after cancelled_order (record { node = 2; shown = inl refl }, tt))
     cancelled_device
 
-pub restarted_device : HeadlineOf (listing_of (the_switch ∷ [])) 2 restarted_host (with_journal the_switch turned_on)
+pub restarted_device : HeadlineOf (always (listing_of (the_switch ∷ []))) 2 restarted_host (with_journal the_switch turned_on)
 unfolding computing
 restarted_device = record {
   once = record {
@@ -178,7 +178,7 @@ restarted = of_one _ _ restarted_host
     (succeeds_after restarted_host (record { node = 2; shown = inl refl }, tt))
     restarted_device
 
-pub sleeping_device : HeadlineOf (listing_of (the_sensor ∷ [])) 5 sleeping_node (with_journal the_sensor set_apart)
+pub sleeping_device : HeadlineOf (always (listing_of (the_sensor ∷ []))) 5 sleeping_node (with_journal the_sensor set_apart)
 unfolding computing
 sleeping_device = record {
   once = record {
@@ -207,7 +207,7 @@ sleeping = of_one _ _ sleeping_node
     (succeeds_after sleeping_node (record { node = 5; shown = inl refl }, tt))
     sleeping_device
 
-pub sealed_device : HeadlineOf (listing_of (the_lock ∷ [])) 4 sealed_exchange (with_journal the_lock secured)
+pub sealed_device : HeadlineOf (always (listing_of (the_lock ∷ []))) 4 sealed_exchange (with_journal the_lock secured)
 unfolding computing
 sealed_device = record {
   once = record {
@@ -236,7 +236,7 @@ sealed = of_one _ _ sealed_exchange
     (succeeds_after sealed_exchange (record { node = 4; shown = inl refl }, tt))
     sealed_device
 
-pub cut_device : HeadlineOf (listing_of (the_plug ∷ [])) 8 long_message (with_journal the_plug configured)
+pub cut_device : HeadlineOf (always (listing_of (the_plug ∷ []))) 8 long_message (with_journal the_plug configured)
 unfolding computing
 cut_device = record {
   once = record {
@@ -431,11 +431,11 @@ second = record {
   sessions_keep = plain.sessions_keep;
   succeeds = plain.succeeds;
   devices = λ node found is supervised.
-      first_only (λ (node : ℕ) (found : State). HeadlineOf (listing_of (the_switch ∷ the_switch ∷ [])) node plain_exchange found) 2 node
+      first_only (λ (node : ℕ) (found : State). HeadlineOf (always (listing_of (the_switch ∷ the_switch ∷ []))) node plain_exchange found) 2 node
       (with_journal the_switch turned_on) (with_journal the_switch turned_twice) found (2 == node) refl is second_device;
 }
   where
-    second_device : HeadlineOf (listing_of (the_switch ∷ the_switch ∷ [])) 2 plain_exchange (with_journal the_switch turned_on)
+    second_device : HeadlineOf (always (listing_of (the_switch ∷ the_switch ∷ []))) 2 plain_exchange (with_journal the_switch turned_on)
     second_device = record {
       once = record {
         changes = record {

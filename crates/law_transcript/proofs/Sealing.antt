@@ -103,6 +103,23 @@ opened_set =
     ∙ ap (λ (code : List ℕ). opened_by set_text set_code code (aes encrypting (set_own ++ set_nonce))) set_code_is
     ∙ ap (λ (block : List ℕ). opened_by set_text set_code set_code block) set_stream_is
 
+-- for another nonce with the same first byte its text is sealed otherwise
+abbrev pub other_nonce : List ℕ
+other_nonce = 0x01 ∷ 0xED ∷ 0x7E ∷ 0x19 ∷ 0x63 ∷ 0x80 ∷ 0x89 ∷ 0xD8 ∷ []
+
+abbrev other_stream : List ℕ
+other_stream = 0xE6 ∷ 0x56 ∷ 0xF7 ∷ 0xC3 ∷ 0x84 ∷ 0x21 ∷ 0x62 ∷ 0xD0 ∷ 0x57 ∷ 0x21 ∷ 0x5C ∷ 0x0A ∷ 0xA7 ∷ 0xFE ∷ 0x35 ∷ 0x4A ∷ []
+
+other_stream_is : aes encrypting (set_own ++ other_nonce) ≡ other_stream
+unfolding blocks
+other_stream_is = enciphered _ _ refl ∙ refl
+
+pub sealed_otherwise : slice_index (sealed_text (keys_of network_key) set_own other_nonce set_ends set_plain) 10 ≡ 0xE6
+unfolding sealed_text ofb_from key_block
+sealed_otherwise =
+    ap (λ (keys : Keys). slice_index (sealed_text keys set_own other_nonce set_ends set_plain) 10) keys_are
+    ∙ ap (λ (block : List ℕ). slice_index (map (λ j. bit_xor (slice_index (0 ∷ set_plain) j) (slice_index block j)) (range_with_len 0 8)) 0) other_stream_is
+
 -- ---- what the lock sealed
 
 abbrev pub report_own : List ℕ
@@ -158,6 +175,16 @@ opened_report =
     ap (λ (keys : Keys). unsealed_at keys report_nonce report_ends (report_with report_code)) keys_are
     ∙ ap (λ (code : List ℕ). opened_by report_text report_code code (aes encrypting (report_own ++ report_nonce))) report_code_is
     ∙ ap (λ (block : List ℕ). opened_by report_text report_code report_code block) report_stream_is
+
+-- with another code it opens to nothing
+abbrev pub changed_code : List ℕ
+changed_code = 0xFF ∷ 0x76 ∷ 0x1C ∷ 0x24 ∷ 0xE5 ∷ 0xDC ∷ 0xC4 ∷ 0x1E ∷ []
+
+pub opened_changed : unsealed_at (keys_of network_key) report_nonce report_ends (report_with changed_code) ≡ None
+unfolding unsealed_at ofb_from key_block
+opened_changed =
+    ap (λ (keys : Keys). unsealed_at keys report_nonce report_ends (report_with changed_code)) keys_are
+    ∙ ap (λ (code : List ℕ). opened_by report_text changed_code code (aes encrypting (report_own ++ report_nonce))) report_code_is
 
 -- ---- what else it seals under the same nonces
 

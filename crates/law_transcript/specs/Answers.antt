@@ -22,7 +22,7 @@ use Rattle.zw_text.specs.declared.entry.Entry.{Entry}
 use Rattle.zw_text.specs.declared.entry.Entry.TheVariants.{Accepted, Refused, Out}
 use Rattle.zw_text.specs.Transcript.{accepted, accepted_numbers, line_last, outcome, reported}
 use Rattle.law_transcript.specs.Lists.{EachAfter, listed}
-use Rattle.law_transcript.specs.Nodes.{controller, device_of, is_joined, known_classes, host_list, listing_of}
+use Rattle.law_transcript.specs.Nodes.{controller, device_of, is_joined, known_classes, host_list, listing_of, always}
 use Rattle.law_transcript.specs.Commands.{numbers_of, settings_for, waiting, is_waiting}
 use Rattle.law_transcript.specs.Restarts.{since_restart, is_restart}
 use Rattle.law_transcript.specs.Repeats.{refusal_to_repeat}
@@ -54,18 +54,18 @@ refusal_entry refusal = order_refusal_entry refusal ++ line_refusal_entry refusa
 -- ---- orders
 
 -- what the host knows of a node
-abbrev pub known_of : (ℕ → List ℕ) → List Entry → ℕ → Known
+abbrev pub known_of : (List Entry → ℕ → List ℕ) → List Entry → ℕ → Known
 known_of listing past node =
     record { joined = is_joined past node; classes = known_classes listing past node; waiting = length (waiting node past) }
 
 -- the properties of a node that its accepted commands set, or that it has reported since the last restart
-abbrev pub properties_kept : (ℕ → List ℕ) → List Entry → ℕ → List Property
+abbrev pub properties_kept : (List Entry → ℕ → List ℕ) → List Entry → ℕ → List Property
 properties_kept listing past node =
     flat_map (λ number. properties_of (settings_for listing past node number)) (numbers_of (accepted node past))
     ++ properties_of (reported node (since_restart past))
 
 -- how many properties its node would have with those that an order sets
-abbrev pub properties_with : (ℕ → List ℕ) → List Entry → Order → ℕ
+abbrev pub properties_with : (List Entry → ℕ → List ℕ) → List Entry → Order → ℕ
 properties_with listing past order =
     distinct_count same_property (
     properties_of (settings (actuator_of (host_list listing past order.node)) order) ++ properties_kept listing past order.node)
@@ -76,7 +76,7 @@ answered_by past node None = Accepted (length (accepted_numbers past) + 1) node 
 answered_by past node (Some refusal) = refusal_entry refusal
 
 -- the answer to an order after this past: the first refusal that applies, else the next number
-abbrev pub answer_to : (ℕ → List ℕ) → List Entry → Order → List Entry
+abbrev pub answer_to : (List Entry → ℕ → List ℕ) → List Entry → Order → List Entry
 answer_to listing past order =
     answered_by past order.node (refusal_of (known_of listing past order.node) (properties_with listing past order) order)
 
@@ -101,7 +101,7 @@ abbrev pub refused_unless : Bool → Refusal → List Entry
 refused_unless holds refusal = if holds then [] else Refused refusal ∷ []
 
 -- what refuses a line about a node or a command of the host
-abbrev pub refusals_by_host : (ℕ → List ℕ) → List Entry → Line → List Entry
+abbrev pub refusals_by_host : (List Entry → ℕ → List ℕ) → List Entry → Line → List Entry
 refusals_by_host listing past (lines.Cancel command) =
     refused_unless (list_any (λ number. number == command) (accepted_numbers past) && is_waiting (outcome command past)) (refusals.NotWaiting command)
 refusals_by_host listing past (lines.Join node) = refused_unless (not (is_joined past node || node == controller)) refusals.AlreadyJoined
@@ -120,7 +120,7 @@ refusals_around devices past _ = []
 
 -- what refuses a line that is no order
 abbrev pub refusals_to : List State → List Entry → Line → List Entry
-refusals_to devices past line = refusals_by_host (listing_of devices) past line ++ refusals_around devices past line
+refusals_to devices past line = refusals_by_host (always (listing_of devices)) past line ++ refusals_around devices past line
 
 -- whether a line asks for a place in the queue of requests
 abbrev pub is_queued : Line → Bool
@@ -174,7 +174,7 @@ IsNoAnswer (Refused refusal) = ⊥
 IsNoAnswer _ = ⊤
 
 -- what stands directly after a line, or after none, where these refusals are those of lines that are no orders
-abbrev pub Follows : (ℕ → List ℕ) → (List Entry → Line → List Entry) → List Entry → List Line → Entry → Type 0
+abbrev pub Follows : (List Entry → ℕ → List ℕ) → (List Entry → Line → List Entry) → List Entry → List Line → Entry → Type 0
 Follows listing refusals past [] entry = IsNoAnswer entry
 Follows listing refusals past (lines.Command order ∷ more) entry = IsAnswer (answer_to listing past order) entry
 Follows listing refusals past (line ∷ more) entry = IsRefusal line (refusals past line) entry
@@ -184,7 +184,7 @@ abbrev pub before_last : List Entry → List Entry
 before_last past = take (length past - 1) past
 
 -- an entry after this past is an answer exactly where it must be one; a line is judged by what stands before it
-abbrev pub MayAnswer : (ℕ → List ℕ) → (List Entry → Line → List Entry) → List Entry → Entry → Type 0
+abbrev pub MayAnswer : (List Entry → ℕ → List ℕ) → (List Entry → Line → List Entry) → List Entry → Entry → Type 0
 MayAnswer listing refusals past entry = Follows listing refusals (before_last past) (line_last past) entry
 
 -- a line that need not have an answer
@@ -194,14 +194,14 @@ AsksNothing refusals past (lines.Command order ∷ more) = ⊥
 AsksNothing refusals past (line ∷ more) = refusals past line ≡ []
 
 -- every line after these entries has the one answer that what stands before it demands, where the run did not end in it
-pub record AnswersAfter (before : List Entry) (whole : Bool) (listing : ℕ → List ℕ) (refusals : List Entry → Line → List Entry)
+pub record AnswersAfter (before : List Entry) (whole : Bool) (listing : List Entry → ℕ → List ℕ) (refusals : List Entry → Line → List Entry)
     (transcript : List Entry) : Type 0 where
   pub between : EachAfter (MayAnswer listing refusals) before transcript
   pub in_the_end : whole ≡ true → AsksNothing refusals (before_last (before ++ transcript)) (line_last (before ++ transcript))
 
 -- every line of a run has it
 abbrev pub AnswersLines : Bool → List State → List Entry → Type 0
-AnswersLines whole devices transcript = AnswersAfter [] whole (listing_of devices) (refusals_to devices) transcript
+AnswersLines whole devices transcript = AnswersAfter [] whole (always (listing_of devices)) (refusals_to devices) transcript
 
 -- no restart meets an invalid record: so it is where the keeper gives back what it was given
 abbrev pub IsNoBadRecord : Entry → Type 0

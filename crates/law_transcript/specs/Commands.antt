@@ -30,7 +30,7 @@ before_accepted number (Accepted command node ∷ rest) =
 before_accepted number (entry ∷ rest) = entry ∷ before_accepted number rest
 
 -- the classes that the host knew of a node when it accepted a command
-abbrev pub classes_for : (ℕ → List ℕ) → List Entry → ℕ → ℕ → List ℕ
+abbrev pub classes_for : (List Entry → ℕ → List ℕ) → List Entry → ℕ → ℕ → List ℕ
 classes_for listing transcript node number = host_list listing (before_accepted number transcript) node
 
 -- the settings that an order asks for of a node with these classes, where there is one
@@ -39,7 +39,7 @@ settings_by classes None = []
 settings_by classes (Some order) = settings (actuator_of classes) order
 
 -- the settings that a command of a node asks for
-abbrev pub settings_for : (ℕ → List ℕ) → List Entry → ℕ → ℕ → List Setting
+abbrev pub settings_for : (List Entry → ℕ → List ℕ) → List Entry → ℕ → ℕ → List Setting
 settings_for listing transcript node number =
     settings_by (classes_for listing transcript node number) (order_of number (accepted node transcript))
 
@@ -49,7 +49,7 @@ message_by classes session None = []
 message_by classes session (Some order) = message_of (carriage_of classes order) order session
 
 -- the message of a session of a node that carries a command
-abbrev pub message_for : (ℕ → List ℕ) → List Entry → ℕ → ℕ → ℕ → List ℕ
+abbrev pub message_for : (List Entry → ℕ → List ℕ) → List Entry → ℕ → ℕ → ℕ → List ℕ
 message_for listing transcript node session number =
     message_by (classes_for listing transcript node number) session (order_of number (accepted node transcript))
 

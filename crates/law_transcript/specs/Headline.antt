@@ -3,7 +3,7 @@
 use Rattle.std.specs.Prelude.{◌≡◌, ◌≤◌, ℕ, true, List, Some}
 use Rattle.device_stack.specs.State.{State, fresh}
 use Rattle.zw_text.specs.declared.entry.Entry.{Entry}
-use Rattle.law_transcript.specs.Nodes.{device_of, listing_of, is_supervised}
+use Rattle.law_transcript.specs.Nodes.{device_of, listing_of, is_supervised, always}
 use Rattle.law_transcript.specs.Sessions.{KeepsSessions}
 use Rattle.law_transcript.specs.Once.{Once, SucceedsAfterChange}
 use Rattle.law_transcript.specs.Values.{ConfirmsLast}
@@ -15,7 +15,7 @@ pub record IsAsMade (key : List ℕ) (device : State) : Type 0 where
   pub made : device ≡ fresh device.node device.kind key
 
 -- what the headline says of the device of a node at exit
-pub record HeadlineOf (listing : ℕ → List ℕ) (node : ℕ) (transcript : List Entry) (device : State) : Type 0 where
+pub record HeadlineOf (listing : List Entry → ℕ → List ℕ) (node : ℕ) (transcript : List Entry) (device : State) : Type 0 where
   pub once : Once listing node transcript device.journal
   pub confirms : ConfirmsLast listing node transcript device
 
@@ -25,4 +25,4 @@ pub record Headline (before after : List State) (transcript : List Entry) : Type
   pub sessions_keep : KeepsSessions transcript
   pub succeeds : SucceedsAfterChange transcript
   pub devices : (node : ℕ) (device : State) → device_of node after ≡ Some device → is_supervised device ≡ true →
-      HeadlineOf (listing_of before) node transcript device
+      HeadlineOf (always (listing_of before)) node transcript device

@@ -30,6 +30,10 @@ listed_by (Some device) = classes_of device.kind
 abbrev pub listing_of : List State → ℕ → List ℕ
 listing_of devices node = listed_by (device_of node devices)
 
+-- the same, whatever stood before: what is listed by the past that it is asked for
+abbrev pub always : (ℕ → List ℕ) → List Entry → ℕ → List ℕ
+always listing past node = listing node
+
 -- whether a node is joined
 abbrev pub is_joined : List Entry → ℕ → Bool
 is_joined past node = list_any (λ one. one == node) (joined past)
@@ -43,11 +47,11 @@ abbrev pub known_at_first : ℕ → Option (List ℕ)
 known_at_first node = if node == first_node then Some (classes_of Switch) else None
 
 -- what the host knows that a node lists: by its interview, else as at first
-abbrev pub known_classes : (ℕ → List ℕ) → List Entry → ℕ → Option (List ℕ)
-known_classes listing past node = if is_interviewed past node then Some (listing node) else known_at_first node
+abbrev pub known_classes : (List Entry → ℕ → List ℕ) → List Entry → ℕ → Option (List ℕ)
+known_classes listing past node = if is_interviewed past node then Some (listing past node) else known_at_first node
 
 -- the same, and nothing where the host does not know
-abbrev pub host_list : (ℕ → List ℕ) → List Entry → ℕ → List ℕ
+abbrev pub host_list : (List Entry → ℕ → List ℕ) → List Entry → ℕ → List ℕ
 host_list listing past node = unwrap_or (known_classes listing past node) []
 
 -- whether a device takes commands in sessions: its kind lists Supervision

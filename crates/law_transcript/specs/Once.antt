@@ -35,7 +35,7 @@ abbrev pub commands_applied : ℕ → List Entry → List Change → List ℕ
 commands_applied node transcript journal = carried_by (sessions node transcript) (sessions_by journal)
 
 -- a change by a session makes what the session's command asks for
-abbrev pub MakesWhatIsAsked : (ℕ → List ℕ) → ℕ → List Entry → Change → Type 0
+abbrev pub MakesWhatIsAsked : (List Entry → ℕ → List ℕ) → ℕ → List Entry → Change → Type 0
 MakesWhatIsAsked listing node transcript change =
     AllByRecursion (λ number. change.settings ≡ settings_for listing transcript node number)
     (carried_by (sessions node transcript) (by_session change.by))
@@ -50,7 +50,7 @@ HasBegun node transcript session = (1 ≤ session) × (session ≤ length (sessi
 
 -- each change is by a session that has begun, at most one by each and in order, and has exactly the settings of the session's command; none was made
 -- without a session
-pub record ChangesOnce (listing : ℕ → List ℕ) (node : ℕ) (transcript : List Entry) (journal : List Change) : Type 0 where
+pub record ChangesOnce (listing : List Entry → ℕ → List ℕ) (node : ℕ) (transcript : List Entry) (journal : List Change) : Type 0 where
   pub sessions_rise : Rises (sessions_by journal)
   pub sessions_begun : AllByRecursion (HasBegun node transcript) (sessions_by journal)
   pub settings : AllByRecursion (MakesWhatIsAsked listing node transcript) journal
@@ -69,7 +69,7 @@ pub record EndsTruly (node : ℕ) (transcript : List Entry) (journal : List Chan
       Has (commands_applied node transcript journal) command.number → ⊥) (accepted node transcript)
 
 -- once only: of the changes, of the sessions and of the outcomes
-pub record Once (listing : ℕ → List ℕ) (node : ℕ) (transcript : List Entry) (journal : List Change) : Type 0 where
+pub record Once (listing : List Entry → ℕ → List ℕ) (node : ℕ) (transcript : List Entry) (journal : List Change) : Type 0 where
   pub changes : ChangesOnce listing node transcript journal
   pub carries : CarriesOnce node transcript
   pub ends : EndsTruly node transcript journal

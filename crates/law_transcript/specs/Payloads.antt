@@ -93,13 +93,13 @@ form_by classes None = Plain
 form_by classes (Some order) = form_of (carriage_of classes order).outer
 
 -- the payload is of a session that carries this command
-abbrev pub IsOfCommand : (ℕ → List ℕ) → List ℕ → List Entry → Carried → ℕ → ℕ → Type 0
+abbrev pub IsOfCommand : (List Entry → ℕ → List ℕ) → List ℕ → List Entry → Carried → ℕ → ℕ → Type 0
 IsOfCommand listing key past carried session number =
     IsCarriedAs (form_by (classes_for listing past carried.node number) (order_of number (accepted carried.node past)))
     key past carried.node session (message_for listing past carried.node session number) carried.payload
 
 -- the payload is of the last session of its node
-abbrev pub IsOfSession : (ℕ → List ℕ) → List ℕ → List Entry → Carried → ℕ → Type 0
+abbrev pub IsOfSession : (List Entry → ℕ → List ℕ) → List ℕ → List Entry → Carried → ℕ → Type 0
 IsOfSession listing key past carried session = IsOfCommands (listed (command_at (sessions carried.node past) session))
   where
     IsOfCommands : List ℕ → Type 0
@@ -116,40 +116,40 @@ pub record IsNonceReport (key : List ℕ) (past : List Entry) (carried : Carried
   pub text : carried.payload ≡ nonce_report nonce
 
 -- the texts that a line asked for of a node with these classes
-abbrev pub asked_by : (ℕ → List ℕ) → List Entry → Line → List Carried
+abbrev pub asked_by : (List Entry → ℕ → List ℕ) → List Entry → Line → List Carried
 asked_by listing past (lines.Send node word) = record { node = node; payload = send_text (host_list listing past node) word } ∷ []
 asked_by listing past (lines.Get node end) = record { node = node; payload = get_text (host_list listing past node) end } ∷ []
 asked_by listing past _ = []
 
 -- the texts that the lines asked for, each by the classes that its node had listed when the line was said; one that is refused asks for nothing
-abbrev pub asked_from : (ℕ → List ℕ) → List Entry → List Entry → List Carried
+abbrev pub asked_from : (List Entry → ℕ → List ℕ) → List Entry → List Entry → List Carried
 asked_from listing past [] = []
 asked_from listing past (entry ∷ rest) =
     (if begins_refused rest then [] else flat_map (asked_by listing past) (line_of entry)) ++ asked_from listing (past ++ entry ∷ []) rest
 
-abbrev pub asked_for : (ℕ → List ℕ) → List Entry → List Carried
+abbrev pub asked_for : (List Entry → ℕ → List ℕ) → List Entry → List Carried
 asked_for listing past = asked_from listing [] past
 
 -- the payload is the Set or Get that a line asked for
-abbrev pub IsAskedFor : (ℕ → List ℕ) → List Entry → Carried → Type 0
+abbrev pub IsAskedFor : (List Entry → ℕ → List ℕ) → List Entry → Carried → Type 0
 IsAskedFor listing past carried = Has (asked_for listing past) carried
 
 -- ---- each request
 
 -- what may be sent after this past
-abbrev pub IsDue : (ℕ → List ℕ) → List ℕ → List Entry → Carried → Type 0
+abbrev pub IsDue : (List Entry → ℕ → List ℕ) → List ℕ → List Entry → Carried → Type 0
 IsDue listing key past carried =
     IsOfSession listing key past carried (length (sessions carried.node past))
     ⊎ ((carried.payload ≡ nonce_get)
     ⊎ (IsNonceReport key past carried
     ⊎ ((carried.payload ≡ no_more_information) ⊎ IsAskedFor listing past carried)))
 
-abbrev pub MayRequest : (ℕ → List ℕ) → List ℕ → List Entry → Entry → Type 0
+abbrev pub MayRequest : (List Entry → ℕ → List ℕ) → List ℕ → List Entry → Entry → Type 0
 MayRequest listing key past (Written Host unit) = AllByRecursion (IsDue listing key past) (sending_in unit)
 MayRequest listing key past _ = ⊤
 
 -- every payload that the host asks to be sent is due
-abbrev pub SendsWhatIsDue : (ℕ → List ℕ) → List ℕ → List Entry → Type 0
+abbrev pub SendsWhatIsDue : (List Entry → ℕ → List ℕ) → List ℕ → List Entry → Type 0
 SendsWhatIsDue listing key transcript = EachAfter (MayRequest listing key) [] transcript
 
 -- ---- the unit of a session that begins

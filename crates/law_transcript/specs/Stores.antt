@@ -23,15 +23,15 @@ node_at number (Accepted command node) = where_same command number node
 node_at number _ = []
 
 -- the values that a command confirms at its node
-abbrev pub stores_of : (ℕ → List ℕ) → List Entry → ℕ → ℕ → List Entry
+abbrev pub stores_of : (List Entry → ℕ → List ℕ) → List Entry → ℕ → ℕ → List Entry
 stores_of listing transcript number node = map (Store node) (settings_for listing transcript node number)
 
 -- the values that an entry asks to be entered: at a success, those that the command asks for
-abbrev pub stores_asked_at : (ℕ → List ℕ) → List Entry → Entry → List Entry
+abbrev pub stores_asked_at : (List Entry → ℕ → List ℕ) → List Entry → Entry → List Entry
 stores_asked_at listing transcript (Out number Succeeds) = flat_map (stores_of listing transcript number) (shown (node_at number) transcript)
 stores_asked_at listing transcript _ = []
 
-abbrev pub stores_asked : (ℕ → List ℕ) → List Entry → List Entry
+abbrev pub stores_asked : (List Entry → ℕ → List ℕ) → List Entry → List Entry
 stores_asked listing transcript = shown (stores_asked_at listing transcript) transcript
 
 -- after a success, or another value of it
@@ -48,7 +48,7 @@ MayStore past _ = ⊤
 
 -- the values entered as confirmed are those that the successful commands ask for, in order, each after its success; where
 -- the run did not end whole the last ones may lack
-pub record StoresConfirmed (whole : Bool) (listing : ℕ → List ℕ) (transcript : List Entry) : Type 0 where
+pub record StoresConfirmed (whole : Bool) (listing : List Entry → ℕ → List ℕ) (transcript : List Entry) : Type 0 where
   pub asked : IsPrefixOf (shown store_at transcript) (stores_asked listing transcript)
   pub all : whole ≡ true → shown store_at transcript ≡ stores_asked listing transcript
   pub following : EachAfter MayStore [] transcript

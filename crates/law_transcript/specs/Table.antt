@@ -40,7 +40,7 @@ abbrev pub compare_properties : Property → Property → Ordering
 compare_properties first second = slice_cmp nat_cmp (rank_of first) (rank_of second)
 
 -- the properties of a node that its sessions set or that it has reported, each once and in order
-abbrev pub properties_known : (ℕ → List ℕ) → List Entry → ℕ → List Property
+abbrev pub properties_known : (List Entry → ℕ → List ℕ) → List Entry → ℕ → List Property
 properties_known listing transcript node =
     in_order compare_properties
     (flat_map (λ number. properties_of (settings_for listing transcript node number)) (sessions node transcript)
@@ -52,7 +52,7 @@ value_line node property None None = []
 value_line node property confirmed heard = TableValue node property confirmed heard ∷ []
 
 -- the lines of the values of a node
-abbrev pub value_lines : (ℕ → List ℕ) → List Entry → ℕ → List Entry
+abbrev pub value_lines : (List Entry → ℕ → List ℕ) → List Entry → ℕ → List Entry
 value_lines listing transcript node =
     flat_map (λ property. value_line node property (confirmed listing transcript node property) (heard_value transcript node property))
     (properties_known listing transcript node)
@@ -63,11 +63,11 @@ device_lines node None = []
 device_lines node (Some device) = map (Device node) (shown_of device)
 
 -- the lines of a node
-abbrev pub node_lines : (ℕ → List ℕ) → List Entry → List State → ℕ → List Entry
+abbrev pub node_lines : (List Entry → ℕ → List ℕ) → List Entry → List State → ℕ → List Entry
 node_lines listing transcript devices node =
     TableNode node (sessions node transcript) ∷ (value_lines listing transcript node ++ device_lines node (device_of node devices))
 
 -- the table at this clock, after this transcript, of devices in these states
-abbrev pub table_of : (ℕ → List ℕ) → ℕ → List Entry → List State → List Entry
+abbrev pub table_of : (List Entry → ℕ → List ℕ) → ℕ → List Entry → List State → List Entry
 table_of listing clock transcript devices =
     TableEnd clock ∷ flat_map (node_lines listing transcript devices) (in_order nat_cmp (joined transcript))

@@ -23,7 +23,7 @@ is_success Success = true
 is_success _ = false
 
 -- the value that a command of a node confirms for a property: the one that it asks for, where it succeeded
-abbrev pub confirmed_by : (ℕ → List ℕ) → List Entry → ℕ → Property → ℕ → Option ℕ
+abbrev pub confirmed_by : (List Entry → ℕ → List ℕ) → List Entry → ℕ → Property → ℕ → Option ℕ
 confirmed_by listing transcript node property number =
     if is_success (outcome number transcript) then value_among (settings_for listing transcript node number) property else None
 
@@ -33,7 +33,7 @@ last_given given [] = None
 last_given given (number ∷ numbers) = or_else (last_given given numbers) (given number)
 
 -- the confirmed value of a property of a node: that of the last session of it that succeeded and sets the property
-abbrev pub confirmed : (ℕ → List ℕ) → List Entry → ℕ → Property → Option ℕ
+abbrev pub confirmed : (List Entry → ℕ → List ℕ) → List Entry → ℕ → Property → Option ℕ
 confirmed listing transcript node property = last_given (confirmed_by listing transcript node property) (sessions node transcript)
 
 -- whether a change gives a property a value
@@ -51,7 +51,7 @@ abbrev pub last_command : List ℕ → List Change → Property → List ℕ
 last_command begun journal property = carried_by begun (flat_map by_session (listed (last_setter None journal property)))
 
 -- where the last change of a property comes from a command reported successful, the confirmed value is the device's
-abbrev pub IsConfirmed : (ℕ → List ℕ) → ℕ → List Entry → State → Property → Type 0
+abbrev pub IsConfirmed : (List Entry → ℕ → List ℕ) → ℕ → List Entry → State → Property → Type 0
 IsConfirmed listing node transcript device property =
     AllByRecursion (λ number. outcome number transcript ≡ Success →
     confirmed listing transcript node property ≡ Some (value_of device property))
@@ -62,6 +62,6 @@ abbrev pub properties_changed : List Change → List Property
 properties_changed journal = flat_map (λ change. properties_of change.settings) journal
 
 -- so it is of each property that the device has changed
-abbrev pub ConfirmsLast : (ℕ → List ℕ) → ℕ → List Entry → State → Type 0
+abbrev pub ConfirmsLast : (List Entry → ℕ → List ℕ) → ℕ → List Entry → State → Type 0
 ConfirmsLast listing node transcript device =
     AllByRecursion (IsConfirmed listing node transcript device) (properties_changed device.journal)

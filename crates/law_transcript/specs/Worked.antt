@@ -1,6 +1,7 @@
 -- Worked transcripts, in the form in which the program prints them, before the table at the end. The long message and the lines that are
 -- refused were written by hand, the others are taken from scenarios.
-use Rattle.std.specs.Prelude.{ℕ, List, [], ◌∷◌, codes, replicate}
+use Rattle.std.specs.Prelude.{ℕ, List, [], ◌∷◌, ◌++◌, codes, map, replicate}
+use Rattle.std.specs.List.{range_with_len}
 use Rattle.zw_base.specs.declared.property.Name.{Name}
 use Rattle.zw_base.specs.declared.property.Name.TheVariants as names
 use Rattle.zw_base.specs.declared.property.By.TheVariants.{Session}
@@ -185,9 +186,16 @@ refused_lines =
     Refused refusals.NoDevice ∷ Said (codes "cancel 1") ∷ Refused (refusals.NotWaiting 1) ∷ Said (codes "send 3 on") ∷
     Refused refusals.NotInterviewed ∷ []
 
--- `link 1 8`, `join 8`, `interview 8`, `tick 2`, `bulk 8 0 ..`, `tick 4`: 37 values, in two segments
-abbrev pub long_message : List Entry
-long_message =
+-- 37 values of node 8, as changes of the device, and as values that are confirmed
+abbrev pub values_made : List Entry
+values_made = map (λ number. Dev 8 (Session 1) (setting 0 (names.Config number) 1)) (range_with_len 0 37)
+
+abbrev pub values_stored : List Entry
+values_stored = map (λ number. Store 8 (setting 0 (names.Config number) 1)) (range_with_len 0 37)
+
+-- `link 1 8`, `join 8`, `interview 8`, `tick 2`, `bulk 8 0 ..`, `tick 4`: these values, in two segments, up to where the second is heard; and all of it
+abbrev pub segments_heard : List Entry
+segments_heard =
     Said (codes "link 1 8") ∷ Said (codes "join 8") ∷ Said (codes "interview 8") ∷
     Written Host (bytes (codes "0104004108B2")) ∷ Written Chip (bytes (codes "06")) ∷
     Written Chip (bytes (codes "0109014180000004000032")) ∷ Written Host (bytes (codes "06")) ∷
@@ -204,47 +212,15 @@ long_message =
     Written Host (bytes (codes "01160013080F55E02F102701010101010101018A7725028A")) ∷
     Written Chip (bytes (codes "06")) ∷ Written Chip (bytes (codes "0104011301E8")) ∷
     Air 2 1 8 [] (bytes (codes "55E02F102701010101010101018A77")) ∷ Written Host (bytes (codes "06")) ∷ Time 4 ∷
-    Heard 2 ∷ Dev 8 (Session 1) (setting 0 (names.Config 0) 1) ∷ Dev 8 (Session 1) (setting 0 (names.Config 1) 1) ∷
-    Dev 8 (Session 1) (setting 0 (names.Config 2) 1) ∷ Dev 8 (Session 1) (setting 0 (names.Config 3) 1) ∷
-    Dev 8 (Session 1) (setting 0 (names.Config 4) 1) ∷ Dev 8 (Session 1) (setting 0 (names.Config 5) 1) ∷
-    Dev 8 (Session 1) (setting 0 (names.Config 6) 1) ∷ Dev 8 (Session 1) (setting 0 (names.Config 7) 1) ∷
-    Dev 8 (Session 1) (setting 0 (names.Config 8) 1) ∷ Dev 8 (Session 1) (setting 0 (names.Config 9) 1) ∷
-    Dev 8 (Session 1) (setting 0 (names.Config 10) 1) ∷ Dev 8 (Session 1) (setting 0 (names.Config 11) 1) ∷
-    Dev 8 (Session 1) (setting 0 (names.Config 12) 1) ∷ Dev 8 (Session 1) (setting 0 (names.Config 13) 1) ∷
-    Dev 8 (Session 1) (setting 0 (names.Config 14) 1) ∷ Dev 8 (Session 1) (setting 0 (names.Config 15) 1) ∷
-    Dev 8 (Session 1) (setting 0 (names.Config 16) 1) ∷ Dev 8 (Session 1) (setting 0 (names.Config 17) 1) ∷
-    Dev 8 (Session 1) (setting 0 (names.Config 18) 1) ∷ Dev 8 (Session 1) (setting 0 (names.Config 19) 1) ∷
-    Dev 8 (Session 1) (setting 0 (names.Config 20) 1) ∷ Dev 8 (Session 1) (setting 0 (names.Config 21) 1) ∷
-    Dev 8 (Session 1) (setting 0 (names.Config 22) 1) ∷ Dev 8 (Session 1) (setting 0 (names.Config 23) 1) ∷
-    Dev 8 (Session 1) (setting 0 (names.Config 24) 1) ∷ Dev 8 (Session 1) (setting 0 (names.Config 25) 1) ∷
-    Dev 8 (Session 1) (setting 0 (names.Config 26) 1) ∷ Dev 8 (Session 1) (setting 0 (names.Config 27) 1) ∷
-    Dev 8 (Session 1) (setting 0 (names.Config 28) 1) ∷ Dev 8 (Session 1) (setting 0 (names.Config 29) 1) ∷
-    Dev 8 (Session 1) (setting 0 (names.Config 30) 1) ∷ Dev 8 (Session 1) (setting 0 (names.Config 31) 1) ∷
-    Dev 8 (Session 1) (setting 0 (names.Config 32) 1) ∷ Dev 8 (Session 1) (setting 0 (names.Config 33) 1) ∷
-    Dev 8 (Session 1) (setting 0 (names.Config 34) 1) ∷ Dev 8 (Session 1) (setting 0 (names.Config 35) 1) ∷
-    Dev 8 (Session 1) (setting 0 (names.Config 36) 1) ∷ Air 3 8 1 [] (bytes (codes "55E810")) ∷
+    Heard 2 ∷ []
+
+abbrev pub long_message : List Entry
+long_message =
+    segments_heard ++ (values_made ++ Air 3 8 1 [] (bytes (codes "55E810")) ∷
     Air 4 8 1 [] (bytes (codes "6C0201FF00")) ∷ Written Chip (bytes (codes "010500130200EB")) ∷
     Written Host (bytes (codes "06")) ∷ Time 5 ∷ Heard 3 ∷ Written Chip (bytes (codes "0109000400080355E81054")) ∷
     Heard 4 ∷ Written Host (bytes (codes "06")) ∷ Written Chip (bytes (codes "010B00040008056C0201FF006D")) ∷
-    Written Host (bytes (codes "06")) ∷ Out 1 endings.Success ∷ Store 8 (setting 0 (names.Config 0) 1) ∷
-    Store 8 (setting 0 (names.Config 1) 1) ∷ Store 8 (setting 0 (names.Config 2) 1) ∷
-    Store 8 (setting 0 (names.Config 3) 1) ∷ Store 8 (setting 0 (names.Config 4) 1) ∷
-    Store 8 (setting 0 (names.Config 5) 1) ∷ Store 8 (setting 0 (names.Config 6) 1) ∷
-    Store 8 (setting 0 (names.Config 7) 1) ∷ Store 8 (setting 0 (names.Config 8) 1) ∷
-    Store 8 (setting 0 (names.Config 9) 1) ∷ Store 8 (setting 0 (names.Config 10) 1) ∷
-    Store 8 (setting 0 (names.Config 11) 1) ∷ Store 8 (setting 0 (names.Config 12) 1) ∷
-    Store 8 (setting 0 (names.Config 13) 1) ∷ Store 8 (setting 0 (names.Config 14) 1) ∷
-    Store 8 (setting 0 (names.Config 15) 1) ∷ Store 8 (setting 0 (names.Config 16) 1) ∷
-    Store 8 (setting 0 (names.Config 17) 1) ∷ Store 8 (setting 0 (names.Config 18) 1) ∷
-    Store 8 (setting 0 (names.Config 19) 1) ∷ Store 8 (setting 0 (names.Config 20) 1) ∷
-    Store 8 (setting 0 (names.Config 21) 1) ∷ Store 8 (setting 0 (names.Config 22) 1) ∷
-    Store 8 (setting 0 (names.Config 23) 1) ∷ Store 8 (setting 0 (names.Config 24) 1) ∷
-    Store 8 (setting 0 (names.Config 25) 1) ∷ Store 8 (setting 0 (names.Config 26) 1) ∷
-    Store 8 (setting 0 (names.Config 27) 1) ∷ Store 8 (setting 0 (names.Config 28) 1) ∷
-    Store 8 (setting 0 (names.Config 29) 1) ∷ Store 8 (setting 0 (names.Config 30) 1) ∷
-    Store 8 (setting 0 (names.Config 31) 1) ∷ Store 8 (setting 0 (names.Config 32) 1) ∷
-    Store 8 (setting 0 (names.Config 33) 1) ∷ Store 8 (setting 0 (names.Config 34) 1) ∷
-    Store 8 (setting 0 (names.Config 35) 1) ∷ Store 8 (setting 0 (names.Config 36) 1) ∷ []
+    Written Host (bytes (codes "06")) ∷ Out 1 endings.Success ∷ values_stored)
 
 -- the network key of these runs
 abbrev pub network_key : List ℕ

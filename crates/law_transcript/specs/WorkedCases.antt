@@ -60,8 +60,8 @@ abbrev pub bulk_order : ℕ → Order
 bulk_order count = record { node = 8; end = 0; what = Bulk 0 (replicate count 0) }
 
 -- every node lists these classes
-abbrev pub all_list : List ℕ → ℕ → List ℕ
-all_list classes node = classes
+abbrev pub all_list : List ℕ → List Entry → ℕ → List ℕ
+all_list classes past node = classes
 
 -- a switch at a node, and a dimmer at node 2, which is taken for a switch at first
 abbrev pub switch_at : ℕ → State

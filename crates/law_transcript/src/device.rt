@@ -7,7 +7,7 @@ ghost use Rattle.host_keep.specs.declared.final_status.FinalStatus.TheVariants a
 ghost use Rattle.device_sim.specs.Event.DeviceEvent.{Wakes};
 ghost use Rattle.zw_text.specs.declared.entry.Ended.TheVariants as endings;
 ghost use Rattle.zw_text.specs.declared.entry.Entry.TheVariants.{TableEnd, TableNode, TableValue, Device};
-ghost use Rattle.law_transcript.specs.Nodes.{listing_of};
+ghost use Rattle.law_transcript.specs.Nodes.{always, listing_of};
 ghost use Rattle.law_transcript.specs.Devices.{RanAsShown, after_events};
 ghost use Rattle.law_transcript.specs.Headline.{IsAsMade};
 ghost use Rattle.law_transcript.specs.Records.{ShowsNode};
@@ -139,29 +139,32 @@ pub fn rejected_made()
 /// The tables of worked transcripts, each with its one device; one with a value that was heard, and the same after a restart, one with a session that
 /// confirmed nothing, two where nodes and values came in another order, and one with a device of each joined node.
 pub fn worked_table()
-    ensures plain { table_of (listing_of (the_switch ∷ [])) 2 plain_exchange (with_journal the_switch turned_on ∷ []) ≡ switch_table 2 (1 ∷ []) 255 }
-    ensures repeated { table_of (listing_of (the_switch ∷ [])) 4 repeated_exchange (with_journal the_switch turned_on ∷ []) ≡ switch_table 4 (1 ∷ []) 255 }
-    ensures lossy { table_of (listing_of (the_switch ∷ [])) 10 lossy_exchange (with_journal the_switch turned_on_and_off ∷ []) ≡
+    ensures plain { table_of (always (listing_of (the_switch ∷ []))) 2 plain_exchange (with_journal the_switch turned_on ∷ []) ≡ switch_table 2 (1 ∷ []) 255 }
+    ensures repeated { table_of (always (listing_of (the_switch ∷ []))) 4 repeated_exchange (with_journal the_switch turned_on ∷ []) ≡
+        switch_table 4 (1 ∷ []) 255 }
+    ensures lossy { table_of (always (listing_of (the_switch ∷ []))) 10 lossy_exchange (with_journal the_switch turned_on_and_off ∷ []) ≡
         switch_table 10 (1 ∷ 2 ∷ []) 0 }
-    ensures cancelled { table_of (listing_of (the_switch ∷ [])) 2 cancelled_order (with_journal the_switch turned_on ∷ []) ≡ switch_table 2 (1 ∷ []) 255 }
-    ensures restarted { table_of (listing_of (the_switch ∷ [])) 4 restarted_host (with_journal the_switch turned_on ∷ []) ≡ switch_table 4 (1 ∷ []) 255 }
-    ensures sleeping { table_of (listing_of (the_sensor ∷ [])) 9 sleeping_node (with_journal the_sensor set_apart ∷ []) ≡
+    ensures cancelled { table_of (always (listing_of (the_switch ∷ []))) 2 cancelled_order (with_journal the_switch turned_on ∷ []) ≡
+        switch_table 2 (1 ∷ []) 255 }
+    ensures restarted { table_of (always (listing_of (the_switch ∷ []))) 4 restarted_host (with_journal the_switch turned_on ∷ []) ≡
+        switch_table 4 (1 ∷ []) 255 }
+    ensures sleeping { table_of (always (listing_of (the_sensor ∷ []))) 9 sleeping_node (with_journal the_sensor set_apart ∷ []) ≡
         table_with 9 5 (setting 0 names.Interval 300 ∷ []) (setting 0 names.Interval 300 ∷ setting 0 names.Sensor 0 ∷ []) }
-    ensures sealed { table_of (listing_of (the_keyed_lock ∷ [])) 113 sealed_exchange (with_journal the_keyed_lock secured ∷ []) ≡
+    ensures sealed { table_of (always (listing_of (the_keyed_lock ∷ []))) 113 sealed_exchange (with_journal the_keyed_lock secured ∷ []) ≡
         table_with 113 4 (setting 0 names.Lock 255 ∷ []) (setting 0 names.Lock 255 ∷ []) }
-    ensures cut { table_of (listing_of (the_plug ∷ [])) 6 long_message (with_journal the_plug configured ∷ []) ≡
+    ensures cut { table_of (always (listing_of (the_plug ∷ []))) 6 long_message (with_journal the_plug configured ∷ []) ≡
         table_with 6 8 (config_settings 0 0 (replicate 37 1)) (config_settings 0 0 (replicate 37 1)) }
-    ensures heard { table_of (listing_of (the_switch ∷ [])) 0 reported_twice (the_switch ∷ []) ≡
+    ensures heard { table_of (always (listing_of (the_switch ∷ []))) 0 reported_twice (the_switch ∷ []) ≡
         TableEnd 0 ∷ TableNode 2 [] ∷ TableValue 2 (record { end = 0; name = names.Switch }) None (Some 0) ∷ Device 2 (setting 0 names.Switch 0) ∷ [] }
-    ensures restarted_since { table_of (listing_of (the_switch ∷ [])) 0 reported_before_restart (the_switch ∷ []) ≡
+    ensures restarted_since { table_of (always (listing_of (the_switch ∷ []))) 0 reported_before_restart (the_switch ∷ []) ≡
         TableEnd 0 ∷ TableNode 2 [] ∷ Device 2 (setting 0 names.Switch 0) ∷ [] }
-    ensures unanswered { table_of (listing_of (the_switch ∷ [])) 0 (ended_so endings.Unanswered) (the_switch ∷ []) ≡
+    ensures unanswered { table_of (always (listing_of (the_switch ∷ []))) 0 (ended_so endings.Unanswered) (the_switch ∷ []) ≡
         TableEnd 0 ∷ TableNode 2 (1 ∷ []) ∷ Device 2 (setting 0 names.Switch 0) ∷ [] }
-    ensures nodes_in_order { table_of (listing_of []) 0 joined_backwards [] ≡ TableEnd 0 ∷ TableNode 2 [] ∷ TableNode 3 [] ∷ TableNode 5 [] ∷ [] }
-    ensures values_in_order { table_of (listing_of []) 0 reported_backwards [] ≡
+    ensures nodes_in_order { table_of (always (listing_of [])) 0 joined_backwards [] ≡ TableEnd 0 ∷ TableNode 2 [] ∷ TableNode 3 [] ∷ TableNode 5 [] ∷ [] }
+    ensures values_in_order { table_of (always (listing_of [])) 0 reported_backwards [] ≡
         TableEnd 0 ∷ TableNode 2 [] ∷ TableValue 2 (record { end = 0; name = names.Switch }) None (Some 255)
         ∷ TableValue 2 (record { end = 0; name = names.Level }) None (Some 40) ∷ [] }
-    ensures two { table_of (listing_of (the_sensor ∷ the_switch ∷ [])) 9 sleeping_node (with_journal the_sensor set_apart ∷ the_switch ∷ []) ≡
+    ensures two { table_of (always (listing_of (the_sensor ∷ the_switch ∷ []))) 9 sleeping_node (with_journal the_sensor set_apart ∷ the_switch ∷ []) ≡
         TableEnd 9 ∷ TableNode 2 [] ∷ Device 2 (setting 0 names.Switch 0) ∷ TableNode 5 (1 ∷ [])
         ∷ TableValue 5 (record { end = 0; name = names.Interval }) (Some 300) None
         ∷ Device 5 (setting 0 names.Interval 300) ∷ Device 5 (setting 0 names.Sensor 0) ∷ [] }

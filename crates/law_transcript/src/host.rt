@@ -5,7 +5,7 @@ ghost use Rattle.zw_base.specs.declared.property.Name.TheVariants as names;
 ghost use Rattle.zw_text.specs.declared.entry.Ended.TheVariants as endings;
 ghost use Rattle.zw_text.specs.declared.entry.Refusal.TheVariants as refusals;
 ghost use Rattle.zw_text.specs.declared.entry.Entry.TheVariants.{Accepted, Refused, Begin};
-ghost use Rattle.law_transcript.specs.Nodes.{listing_of};
+ghost use Rattle.law_transcript.specs.Nodes.{always, listing_of};
 ghost use Rattle.law_transcript.specs.Answers.{AnswersLines, CancelsWhenAsked, ReadsItsRecords, answer_to, properties_with};
 ghost use Rattle.law_transcript.specs.Stores.{StoresConfirmed, heard_value};
 ghost use Rattle.law_transcript.specs.Worked.{
@@ -113,15 +113,15 @@ pub fn worked_cancels()
 
 /// In worked transcripts the values entered as confirmed are those of the successful commands; where the run was cut off the last may lack.
 pub fn worked_stores()
-    ensures plain { StoresConfirmed true (listing_of (the_switch ∷ [])) plain_exchange }
-    ensures repeated { StoresConfirmed true (listing_of (the_switch ∷ [])) repeated_exchange }
-    ensures lossy { StoresConfirmed true (listing_of (the_switch ∷ [])) lossy_exchange }
-    ensures cancelled { StoresConfirmed true (listing_of (the_switch ∷ [])) cancelled_order }
-    ensures restarted { StoresConfirmed true (listing_of (the_switch ∷ [])) restarted_host }
-    ensures sleeping { StoresConfirmed true (listing_of (the_sensor ∷ [])) sleeping_node }
-    ensures sealed { StoresConfirmed true (listing_of (the_lock ∷ [])) sealed_exchange }
-    ensures cut { StoresConfirmed true (listing_of (the_plug ∷ [])) long_message }
-    ensures stopped { StoresConfirmed false (listing_of (the_switch ∷ [])) (ended_so endings.Success) }
+    ensures plain { StoresConfirmed true (always (listing_of (the_switch ∷ []))) plain_exchange }
+    ensures repeated { StoresConfirmed true (always (listing_of (the_switch ∷ []))) repeated_exchange }
+    ensures lossy { StoresConfirmed true (always (listing_of (the_switch ∷ []))) lossy_exchange }
+    ensures cancelled { StoresConfirmed true (always (listing_of (the_switch ∷ []))) cancelled_order }
+    ensures restarted { StoresConfirmed true (always (listing_of (the_switch ∷ []))) restarted_host }
+    ensures sleeping { StoresConfirmed true (always (listing_of (the_sensor ∷ []))) sleeping_node }
+    ensures sealed { StoresConfirmed true (always (listing_of (the_lock ∷ []))) sealed_exchange }
+    ensures cut { StoresConfirmed true (always (listing_of (the_plug ∷ []))) long_message }
+    ensures stopped { StoresConfirmed false (always (listing_of (the_switch ∷ []))) (ended_so endings.Success) }
 {}
 
 /// Each of these breaks one part of the laws: an order without its answer, also as the last line, refused for nothing, with a wrong number, with that of
@@ -148,11 +148,11 @@ pub fn rejected_answers()
     ensures another_taken { CancelsWhenAsked cancelled_another → ⊥ }
     ensures cancel_refused { AnswersLines true (the_switch ∷ []) cancel_refused → ⊥ }
     ensures passed { AnswersLines true (the_switch ∷ []) passed_over → ⊥ }
-    ensures not_stored { StoresConfirmed true (listing_of (the_switch ∷ [])) not_stored → ⊥ }
-    ensures otherwise { StoresConfirmed false (listing_of (the_switch ∷ [])) stored_otherwise → ⊥ }
-    ensures elsewhere { StoresConfirmed false (listing_of (the_switch ∷ [])) stored_elsewhere → ⊥ }
-    ensures before { StoresConfirmed true (listing_of (the_switch ∷ [])) stored_before → ⊥ }
-    ensures first { StoresConfirmed true (listing_of (the_switch ∷ [])) stored_first → ⊥ }
+    ensures not_stored { StoresConfirmed true (always (listing_of (the_switch ∷ []))) not_stored → ⊥ }
+    ensures otherwise { StoresConfirmed false (always (listing_of (the_switch ∷ []))) stored_otherwise → ⊥ }
+    ensures elsewhere { StoresConfirmed false (always (listing_of (the_switch ∷ []))) stored_elsewhere → ⊥ }
+    ensures before { StoresConfirmed true (always (listing_of (the_switch ∷ []))) stored_before → ⊥ }
+    ensures first { StoresConfirmed true (always (listing_of (the_switch ∷ []))) stored_first → ⊥ }
 {}
 
 /// The heard value is that of the last report, and none after a restart that is not refused.
@@ -179,10 +179,11 @@ pub fn worked_refusals()
 /// Just below each bound an order is let in, and at it refused: 16 commands that wait and have not begun, 512 properties, and for whatever
 /// classes 46 bytes where a message is sent uncut and 26 where it is sealed.
 pub fn worked_bounds()
-    ensures mailbox_below { answer_to (listing_of (the_switch ∷ [])) (wait_from (codes "set 2 on") 2 1 15) turn_on ≡ Accepted 16 2 ∷ [] }
-    ensures mailbox_at { answer_to (listing_of (the_switch ∷ [])) (wait_from (codes "set 2 on") 2 1 16) turn_on ≡ Refused (refusals.MailboxFull 16) ∷ [] }
-    ensures begun { answer_to (listing_of (the_switch ∷ [])) (wait_from (codes "set 2 on") 2 1 16 ++ Begin 2 1 1 ∷ []) turn_on ≡ Accepted 17 2 ∷ [] }
-    ensures store_at { answer_to (listing_of (the_switch ∷ [])) (many_reported 512) turn_on ≡ Refused (refusals.StoreFull 512) ∷ [] }
+    ensures mailbox_below { answer_to (always (listing_of (the_switch ∷ []))) (wait_from (codes "set 2 on") 2 1 15) turn_on ≡ Accepted 16 2 ∷ [] }
+    ensures mailbox_at { answer_to (always (listing_of (the_switch ∷ []))) (wait_from (codes "set 2 on") 2 1 16) turn_on ≡
+        Refused (refusals.MailboxFull 16) ∷ [] }
+    ensures begun { answer_to (always (listing_of (the_switch ∷ []))) (wait_from (codes "set 2 on") 2 1 16 ++ Begin 2 1 1 ∷ []) turn_on ≡ Accepted 17 2 ∷ [] }
+    ensures store_at { answer_to (always (listing_of (the_switch ∷ []))) (many_reported 512) turn_on ≡ Refused (refusals.StoreFull 512) ∷ [] }
     ensures uncut_below { answer_to (all_list (0x70 ∷ 0x6C ∷ [])) (when_known (codes "join 8") 8 []) (bulk_order 36) ≡ Accepted 1 8 ∷ [] }
     ensures uncut_at { answer_to (all_list (0x70 ∷ 0x6C ∷ [])) (when_known (codes "join 8") 8 []) (bulk_order 37) ≡ Refused (refusals.TooLong 47) ∷ [] }
     ensures sealed_below { answer_to (all_list (0x70 ∷ 0x98 ∷ 0x6C ∷ [])) (when_known (codes "join 8") 8 []) (bulk_order 16) ≡ Accepted 1 8 ∷ [] }
@@ -192,21 +193,21 @@ pub fn worked_bounds()
 /// Of two rules that apply the first refuses: a class before a value, a value before Supervision, Supervision before the length, the length before the
 /// mailbox, and the mailbox before the properties.
 pub fn worked_first()
-    ensures unlisted { answer_to (listing_of (the_switch ∷ [])) [] mode_order ≡ Refused (refusals.Unsupported 0x40) ∷ [] }
-    ensures value { answer_to (listing_of (the_relay ∷ [])) (when_known (codes "join 3") 3 []) level_order ≡ Refused refusals.BadValue ∷ [] }
+    ensures unlisted { answer_to (always (listing_of (the_switch ∷ []))) [] mode_order ≡ Refused (refusals.Unsupported 0x40) ∷ [] }
+    ensures value { answer_to (always (listing_of (the_relay ∷ []))) (when_known (codes "join 3") 3 []) level_order ≡ Refused refusals.BadValue ∷ [] }
     ensures supervision { answer_to (all_list (0x70 ∷ 0x55 ∷ [])) (when_known (codes "join 8") 8 []) (bulk_order 250) ≡ Refused refusals.Unsupervised ∷ [] }
-    ensures long { answer_to (listing_of (the_plug ∷ [])) (when_known (codes "join 8") 8 (wait_from (bulk_of 1) 8 1 16)) (bulk_order 250) ≡
+    ensures long { answer_to (always (listing_of (the_plug ∷ []))) (when_known (codes "join 8") 8 (wait_from (bulk_of 1) 8 1 16)) (bulk_order 250) ≡
         Refused (refusals.TooLong 256) ∷ [] }
-    ensures mailbox { answer_to (listing_of (the_switch ∷ [])) (many_reported 512 ++ wait_from (codes "set 2 on") 2 1 16) turn_on ≡
+    ensures mailbox { answer_to (always (listing_of (the_switch ∷ []))) (many_reported 512 ++ wait_from (codes "set 2 on") 2 1 16) turn_on ≡
         Refused (refusals.MailboxFull 16) ∷ [] }
 {}
 
 /// The properties of a node are those that its accepted commands set, those that it has reported since the last restart, and those of the order, each once.
 pub fn worked_properties()
-    ensures accepted { properties_with (listing_of (the_switch ∷ [])) (lets_in (codes "set 2 on") 2) group_order ≡ 2 }
-    ensures again { properties_with (listing_of (the_switch ∷ [])) (lets_in (codes "set 2 on") 2) turn_on ≡ 1 }
-    ensures reported { properties_with (listing_of (the_switch ∷ [])) reported_twice group_order ≡ 2 }
-    ensures restarted { properties_with (listing_of (the_switch ∷ [])) reported_before_restart group_order ≡ 1 }
+    ensures accepted { properties_with (always (listing_of (the_switch ∷ []))) (lets_in (codes "set 2 on") 2) group_order ≡ 2 }
+    ensures again { properties_with (always (listing_of (the_switch ∷ []))) (lets_in (codes "set 2 on") 2) turn_on ≡ 1 }
+    ensures reported { properties_with (always (listing_of (the_switch ∷ []))) reported_twice group_order ≡ 2 }
+    ensures restarted { properties_with (always (listing_of (the_switch ∷ []))) reported_before_restart group_order ≡ 1 }
 {}
 
 /// A line of each kind that is to be refused does not pass, nor is it refused by a later rule than the first that applies: an order for a

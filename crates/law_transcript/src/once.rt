@@ -3,7 +3,7 @@
 ghost use Rattle.std.specs.Prelude.{◌≡◌, [], ◌∷◌, Some, None};
 ghost use Rattle.zw_base.specs.declared.property.Name.TheVariants as names;
 ghost use Rattle.zw_text.specs.declared.entry.Ended.TheVariants as endings;
-ghost use Rattle.law_transcript.specs.Nodes.{listing_of};
+ghost use Rattle.law_transcript.specs.Nodes.{always, listing_of};
 ghost use Rattle.law_transcript.specs.Sessions.{KeepsSessions};
 ghost use Rattle.law_transcript.specs.Once.{Once, SucceedsAfterChange};
 ghost use Rattle.law_transcript.specs.Values.{ConfirmsLast, confirmed};
@@ -83,37 +83,37 @@ pub fn worked_successes()
 /// order that is taken back, a restart, a node that sleeps, a lock, and a message in segments. A command that is unanswered may have changed its
 /// device, or not.
 pub fn worked_once()
-    ensures plain { Once (listing_of (the_switch ∷ [])) 2 plain_exchange turned_on }
-    ensures repeated { Once (listing_of (the_switch ∷ [])) 2 repeated_exchange turned_on }
-    ensures lossy { Once (listing_of (the_switch ∷ [])) 2 lossy_exchange turned_on_and_off }
-    ensures cancelled { Once (listing_of (the_switch ∷ [])) 2 cancelled_order turned_on }
-    ensures restarted { Once (listing_of (the_switch ∷ [])) 2 restarted_host turned_on }
-    ensures sleeping { Once (listing_of (the_sensor ∷ [])) 5 sleeping_node set_apart }
-    ensures sealed { Once (listing_of (the_lock ∷ [])) 4 sealed_exchange secured }
-    ensures cut { Once (listing_of (the_plug ∷ [])) 8 long_message configured }
-    ensures unanswered { Once (listing_of (the_switch ∷ [])) 2 (ended_so endings.Unanswered) turned_on }
-    ensures unchanged { Once (listing_of (the_switch ∷ [])) 2 (ended_so endings.Unanswered) [] }
+    ensures plain { Once (always (listing_of (the_switch ∷ []))) 2 plain_exchange turned_on }
+    ensures repeated { Once (always (listing_of (the_switch ∷ []))) 2 repeated_exchange turned_on }
+    ensures lossy { Once (always (listing_of (the_switch ∷ []))) 2 lossy_exchange turned_on_and_off }
+    ensures cancelled { Once (always (listing_of (the_switch ∷ []))) 2 cancelled_order turned_on }
+    ensures restarted { Once (always (listing_of (the_switch ∷ []))) 2 restarted_host turned_on }
+    ensures sleeping { Once (always (listing_of (the_sensor ∷ []))) 5 sleeping_node set_apart }
+    ensures sealed { Once (always (listing_of (the_lock ∷ []))) 4 sealed_exchange secured }
+    ensures cut { Once (always (listing_of (the_plug ∷ []))) 8 long_message configured }
+    ensures unanswered { Once (always (listing_of (the_switch ∷ []))) 2 (ended_so endings.Unanswered) turned_on }
+    ensures unchanged { Once (always (listing_of (the_switch ∷ []))) 2 (ended_so endings.Unanswered) [] }
 {}
 
 /// In worked transcripts the confirmed values are those of the devices; of a command that failed nothing is said.
 pub fn worked_values()
-    ensures plain { ConfirmsLast (listing_of (the_switch ∷ [])) 2 plain_exchange (with_journal the_switch turned_on) }
-    ensures repeated { ConfirmsLast (listing_of (the_switch ∷ [])) 2 repeated_exchange (with_journal the_switch turned_on) }
-    ensures lossy { ConfirmsLast (listing_of (the_switch ∷ [])) 2 lossy_exchange (with_journal the_switch turned_on_and_off) }
-    ensures cancelled { ConfirmsLast (listing_of (the_switch ∷ [])) 2 cancelled_order (with_journal the_switch turned_on) }
-    ensures restarted { ConfirmsLast (listing_of (the_switch ∷ [])) 2 restarted_host (with_journal the_switch turned_on) }
-    ensures sleeping { ConfirmsLast (listing_of (the_sensor ∷ [])) 5 sleeping_node (with_journal the_sensor set_apart) }
-    ensures sealed { ConfirmsLast (listing_of (the_lock ∷ [])) 4 sealed_exchange (with_journal the_lock secured) }
-    ensures cut { ConfirmsLast (listing_of (the_plug ∷ [])) 8 long_message (with_journal the_plug configured) }
-    ensures failed { ConfirmsLast (listing_of (the_switch ∷ [])) 2 (ended_so endings.Fail) (with_journal the_switch turned_on) }
+    ensures plain { ConfirmsLast (always (listing_of (the_switch ∷ []))) 2 plain_exchange (with_journal the_switch turned_on) }
+    ensures repeated { ConfirmsLast (always (listing_of (the_switch ∷ []))) 2 repeated_exchange (with_journal the_switch turned_on) }
+    ensures lossy { ConfirmsLast (always (listing_of (the_switch ∷ []))) 2 lossy_exchange (with_journal the_switch turned_on_and_off) }
+    ensures cancelled { ConfirmsLast (always (listing_of (the_switch ∷ []))) 2 cancelled_order (with_journal the_switch turned_on) }
+    ensures restarted { ConfirmsLast (always (listing_of (the_switch ∷ []))) 2 restarted_host (with_journal the_switch turned_on) }
+    ensures sleeping { ConfirmsLast (always (listing_of (the_sensor ∷ []))) 5 sleeping_node (with_journal the_sensor set_apart) }
+    ensures sealed { ConfirmsLast (always (listing_of (the_lock ∷ []))) 4 sealed_exchange (with_journal the_lock secured) }
+    ensures cut { ConfirmsLast (always (listing_of (the_plug ∷ []))) 8 long_message (with_journal the_plug configured) }
+    ensures failed { ConfirmsLast (always (listing_of (the_switch ∷ []))) 2 (ended_so endings.Fail) (with_journal the_switch turned_on) }
 {}
 
 /// The confirmed value is that of the last session that succeeded, and none where none did, of another property or node.
 pub fn worked_confirmed()
-    ensures last { confirmed (listing_of (the_switch ∷ [])) lossy_exchange 2 (record { end = 0; name = names.Switch }) ≡ Some 0 }
-    ensures failed { confirmed (listing_of (the_switch ∷ [])) (ended_so endings.Fail) 2 (record { end = 0; name = names.Switch }) ≡ None }
-    ensures other { confirmed (listing_of (the_switch ∷ [])) plain_exchange 2 (record { end = 0; name = names.Level }) ≡ None }
-    ensures node { confirmed (listing_of (the_switch ∷ [])) plain_exchange 3 (record { end = 0; name = names.Switch }) ≡ None }
+    ensures last { confirmed (always (listing_of (the_switch ∷ []))) lossy_exchange 2 (record { end = 0; name = names.Switch }) ≡ Some 0 }
+    ensures failed { confirmed (always (listing_of (the_switch ∷ []))) (ended_so endings.Fail) 2 (record { end = 0; name = names.Switch }) ≡ None }
+    ensures other { confirmed (always (listing_of (the_switch ∷ []))) plain_exchange 2 (record { end = 0; name = names.Level }) ≡ None }
+    ensures node { confirmed (always (listing_of (the_switch ∷ []))) plain_exchange 3 (record { end = 0; name = names.Switch }) ≡ None }
 {}
 
 /// Each of these breaks one part of the laws of sessions and successes: a session that begins twice, before one that comes first, by the count of all nodes,
@@ -136,23 +136,23 @@ pub fn rejected_sessions()
 /// of a command that failed, was not supported, was taken back, or still waits, which is one without its session; a change without a session; and a
 /// confirmed value that is not the device's, of the only change or where an earlier one is the device's last.
 pub fn rejected_once()
-    ensures twice { Once (listing_of (the_switch ∷ [])) 2 plain_exchange turned_twice → ⊥ }
-    ensures changed_backwards { Once (listing_of (the_switch ∷ [])) 2 lossy_exchange turned_off_and_on → ⊥ }
-    ensures later { Once (listing_of (the_switch ∷ [])) 2 plain_exchange turned_later → ⊥ }
-    ensures none { Once (listing_of (the_switch ∷ [])) 2 plain_exchange turned_before → ⊥ }
-    ensures backwards { Once (listing_of (the_switch ∷ [])) 2 begun_backwards turned_off → ⊥ }
-    ensures again { Once (listing_of (the_switch ∷ [])) 2 begun_again turned_on → ⊥ }
-    ensures unasked { Once (listing_of (the_switch ∷ [])) 2 begun_unasked [] → ⊥ }
-    ensures for_another { Once (listing_of (the_switch ∷ [])) 2 begun_for_another [] → ⊥ }
-    ensures off { Once (listing_of (the_switch ∷ [])) 2 plain_exchange turned_off → ⊥ }
-    ensures unchanged { Once (listing_of (the_switch ∷ [])) 2 plain_exchange [] → ⊥ }
-    ensures otherwise { Once (listing_of (the_switch ∷ [])) 2 (ended_so endings.Fail) turned_on → ⊥ }
-    ensures unsupported { Once (listing_of (the_switch ∷ [])) 2 (ended_so endings.NoSupport) turned_on → ⊥ }
-    ensures taken_back { Once (listing_of (the_switch ∷ [])) 2 (ended_so endings.Cancelled) turned_on → ⊥ }
-    ensures waits { Once (listing_of (the_switch ∷ [])) 2 not_begun turned_on → ⊥ }
-    ensures plainly { Once (listing_of (the_switch ∷ [])) 2 plain_exchange turned_plainly → ⊥ }
-    ensures value { ConfirmsLast (listing_of (the_switch ∷ [])) 2 plain_exchange (with_journal the_switch turned_off) → ⊥ }
-    ensures earlier { ConfirmsLast (listing_of (the_switch ∷ [])) 2 lossy_exchange (with_journal the_switch turned_off_and_on) → ⊥ }
+    ensures twice { Once (always (listing_of (the_switch ∷ []))) 2 plain_exchange turned_twice → ⊥ }
+    ensures changed_backwards { Once (always (listing_of (the_switch ∷ []))) 2 lossy_exchange turned_off_and_on → ⊥ }
+    ensures later { Once (always (listing_of (the_switch ∷ []))) 2 plain_exchange turned_later → ⊥ }
+    ensures none { Once (always (listing_of (the_switch ∷ []))) 2 plain_exchange turned_before → ⊥ }
+    ensures backwards { Once (always (listing_of (the_switch ∷ []))) 2 begun_backwards turned_off → ⊥ }
+    ensures again { Once (always (listing_of (the_switch ∷ []))) 2 begun_again turned_on → ⊥ }
+    ensures unasked { Once (always (listing_of (the_switch ∷ []))) 2 begun_unasked [] → ⊥ }
+    ensures for_another { Once (always (listing_of (the_switch ∷ []))) 2 begun_for_another [] → ⊥ }
+    ensures off { Once (always (listing_of (the_switch ∷ []))) 2 plain_exchange turned_off → ⊥ }
+    ensures unchanged { Once (always (listing_of (the_switch ∷ []))) 2 plain_exchange [] → ⊥ }
+    ensures otherwise { Once (always (listing_of (the_switch ∷ []))) 2 (ended_so endings.Fail) turned_on → ⊥ }
+    ensures unsupported { Once (always (listing_of (the_switch ∷ []))) 2 (ended_so endings.NoSupport) turned_on → ⊥ }
+    ensures taken_back { Once (always (listing_of (the_switch ∷ []))) 2 (ended_so endings.Cancelled) turned_on → ⊥ }
+    ensures waits { Once (always (listing_of (the_switch ∷ []))) 2 not_begun turned_on → ⊥ }
+    ensures plainly { Once (always (listing_of (the_switch ∷ []))) 2 plain_exchange turned_plainly → ⊥ }
+    ensures value { ConfirmsLast (always (listing_of (the_switch ∷ []))) 2 plain_exchange (with_journal the_switch turned_off) → ⊥ }
+    ensures earlier { ConfirmsLast (always (listing_of (the_switch ∷ []))) 2 lossy_exchange (with_journal the_switch turned_off_and_on) → ⊥ }
 {}
 
 /// The headline holds of the worked transcripts, each with its device as its maker leaves it. Of a device that takes no commands in sessions it says

@@ -1,7 +1,7 @@
 //! What the laws of units and payloads say of worked transcripts, and of others with one thing wrong.
 
 ghost use Rattle.std.specs.Prelude.{[], ◌∷◌};
-ghost use Rattle.law_transcript.specs.Nodes.{listing_of};
+ghost use Rattle.law_transcript.specs.Nodes.{always, listing_of};
 ghost use Rattle.law_transcript.specs.Carrying.{CarriesUnits, BringsWhatWasHeard};
 ghost use Rattle.law_transcript.specs.Payloads.{SendsWhatIsDue, BeginsWithUnit};
 ghost use Rattle.law_transcript.specs.Worked.{
@@ -118,22 +118,22 @@ pub fn worked_begins()
 /// Set or Get of a line, and a message or a Set by the classes that were known when its command was accepted or its line was said. A node asks for a nonce,
 /// and gives one, openly or in a message that it sealed.
 pub fn worked_payloads()
-    ensures plain { SendsWhatIsDue (listing_of (the_switch ∷ [])) [] plain_exchange }
-    ensures repeated { SendsWhatIsDue (listing_of (the_switch ∷ [])) [] repeated_exchange }
-    ensures lossy { SendsWhatIsDue (listing_of (the_switch ∷ [])) [] lossy_exchange }
-    ensures cancelled { SendsWhatIsDue (listing_of (the_switch ∷ [])) [] cancelled_order }
-    ensures restarted { SendsWhatIsDue (listing_of (the_switch ∷ [])) [] restarted_host }
-    ensures sleeping { SendsWhatIsDue (listing_of (the_sensor ∷ [])) [] sleeping_node }
-    ensures sealed { SendsWhatIsDue (listing_of (the_lock ∷ [])) network_key sealed_exchange }
-    ensures cut { SendsWhatIsDue (listing_of (the_plug ∷ [])) [] long_message }
-    ensures set { SendsWhatIsDue (listing_of (the_switch ∷ [])) [] set_asked }
-    ensures get { SendsWhatIsDue (listing_of (the_switch ∷ [])) [] get_asked }
-    ensures old_list { SendsWhatIsDue (listing_of (the_dimmer ∷ [])) [] sent_by_old_list }
-    ensures nonces { SendsWhatIsDue (listing_of (the_lock ∷ [])) network_key nonces_counted }
-    ensures wrapped { SendsWhatIsDue (listing_of (the_lock ∷ [])) network_key nonces_wrapped }
-    ensures asked_sealed { SendsWhatIsDue (listing_of (the_lock ∷ [])) network_key nonce_asked_sealed }
-    ensures given_sealed { SendsWhatIsDue (listing_of (the_lock ∷ [])) network_key nonce_given_sealed }
-    ensures set_old_list { SendsWhatIsDue (listing_of (the_dimmer ∷ [])) [] set_by_old_list }
+    ensures plain { SendsWhatIsDue (always (listing_of (the_switch ∷ []))) [] plain_exchange }
+    ensures repeated { SendsWhatIsDue (always (listing_of (the_switch ∷ []))) [] repeated_exchange }
+    ensures lossy { SendsWhatIsDue (always (listing_of (the_switch ∷ []))) [] lossy_exchange }
+    ensures cancelled { SendsWhatIsDue (always (listing_of (the_switch ∷ []))) [] cancelled_order }
+    ensures restarted { SendsWhatIsDue (always (listing_of (the_switch ∷ []))) [] restarted_host }
+    ensures sleeping { SendsWhatIsDue (always (listing_of (the_sensor ∷ []))) [] sleeping_node }
+    ensures sealed { SendsWhatIsDue (always (listing_of (the_lock ∷ []))) network_key sealed_exchange }
+    ensures cut { SendsWhatIsDue (always (listing_of (the_plug ∷ []))) [] long_message }
+    ensures set { SendsWhatIsDue (always (listing_of (the_switch ∷ []))) [] set_asked }
+    ensures get { SendsWhatIsDue (always (listing_of (the_switch ∷ []))) [] get_asked }
+    ensures old_list { SendsWhatIsDue (always (listing_of (the_dimmer ∷ []))) [] sent_by_old_list }
+    ensures nonces { SendsWhatIsDue (always (listing_of (the_lock ∷ []))) network_key nonces_counted }
+    ensures wrapped { SendsWhatIsDue (always (listing_of (the_lock ∷ []))) network_key nonces_wrapped }
+    ensures asked_sealed { SendsWhatIsDue (always (listing_of (the_lock ∷ []))) network_key nonce_asked_sealed }
+    ensures given_sealed { SendsWhatIsDue (always (listing_of (the_lock ∷ []))) network_key nonce_given_sealed }
+    ensures set_old_list { SendsWhatIsDue (always (listing_of (the_dimmer ∷ []))) [] set_by_old_list }
 {}
 
 /// Each of these breaks one part of the law of what is sent: the message of another session, of an earlier one, before one begins, or by
@@ -143,32 +143,32 @@ pub fn worked_payloads()
 /// node, openly or sealed, or for a message that seals nothing, of seven bytes, or another payload in its place; and a Set that no line asked
 /// for, or one that was refused, with another value, for another node, or by classes that came to be known later, and such a Get.
 pub fn rejected_payloads()
-    ensures otherwise { SendsWhatIsDue (listing_of (the_switch ∷ [])) [] sent_otherwise → ⊥ }
-    ensures earlier { SendsWhatIsDue (listing_of (the_switch ∷ [])) [] sent_earlier → ⊥ }
-    ensures new_list { SendsWhatIsDue (listing_of (the_dimmer ∷ [])) [] sent_by_new_list → ⊥ }
-    ensures unbegun { SendsWhatIsDue (listing_of (the_switch ∷ [])) [] sent_unbegun → ⊥ }
-    ensures sealed_unasked { SendsWhatIsDue (listing_of (the_switch ∷ [])) network_key sealed_unasked → ⊥ }
-    ensures openly { SendsWhatIsDue (listing_of (the_lock ∷ [])) network_key sent_openly → ⊥ }
-    ensures for_none { SendsWhatIsDue (listing_of (the_lock ∷ [])) network_key sealed_for_none → ⊥ }
-    ensures for_longer { SendsWhatIsDue (listing_of (the_lock ∷ [])) network_key sealed_for_longer → ⊥ }
-    ensures sealed_otherwise { SendsWhatIsDue (listing_of (the_lock ∷ [])) network_key sealed_otherwise → ⊥ }
-    ensures longer { SendsWhatIsDue (listing_of (the_lock ∷ [])) network_key sealed_longer → ⊥ }
-    ensures whole { SendsWhatIsDue (listing_of (the_plug ∷ [])) [] sent_whole → ⊥ }
-    ensures cut_otherwise { SendsWhatIsDue (listing_of (the_plug ∷ [])) [] cut_otherwise → ⊥ }
-    ensures cut_of_another { SendsWhatIsDue (listing_of (the_plug ∷ [])) [] cut_of_another → ⊥ }
-    ensures past_end { SendsWhatIsDue (listing_of (the_plug ∷ [])) [] cut_past_end → ⊥ }
-    ensures nonce_unasked { SendsWhatIsDue (listing_of (the_lock ∷ [])) network_key nonce_unasked → ⊥ }
-    ensures nonce_of_another { SendsWhatIsDue (listing_of (the_lock ∷ [])) network_key nonce_of_another → ⊥ }
-    ensures nonce_of_another_sealed { SendsWhatIsDue (listing_of (the_lock ∷ [])) network_key nonce_of_another_sealed → ⊥ }
-    ensures nonce_for_nothing { SendsWhatIsDue (listing_of (the_lock ∷ [])) network_key nonce_for_nothing → ⊥ }
-    ensures nonce_otherwise { SendsWhatIsDue (listing_of (the_lock ∷ [])) network_key nonce_otherwise → ⊥ }
-    ensures nonce_shorter { SendsWhatIsDue (listing_of (the_lock ∷ [])) network_key nonce_shorter → ⊥ }
-    ensures set_unasked { SendsWhatIsDue (listing_of (the_switch ∷ [])) [] set_unasked → ⊥ }
-    ensures set_otherwise { SendsWhatIsDue (listing_of (the_switch ∷ [])) [] set_otherwise → ⊥ }
-    ensures set_new_list { SendsWhatIsDue (listing_of (the_dimmer ∷ [])) [] set_by_new_list → ⊥ }
-    ensures set_of_another { SendsWhatIsDue (listing_of (the_switch ∷ [])) [] set_of_another → ⊥ }
-    ensures set_refused { SendsWhatIsDue (listing_of (the_switch ∷ [])) [] set_refused → ⊥ }
-    ensures get_unasked { SendsWhatIsDue (listing_of (the_switch ∷ [])) [] get_unasked → ⊥ }
+    ensures otherwise { SendsWhatIsDue (always (listing_of (the_switch ∷ []))) [] sent_otherwise → ⊥ }
+    ensures earlier { SendsWhatIsDue (always (listing_of (the_switch ∷ []))) [] sent_earlier → ⊥ }
+    ensures new_list { SendsWhatIsDue (always (listing_of (the_dimmer ∷ []))) [] sent_by_new_list → ⊥ }
+    ensures unbegun { SendsWhatIsDue (always (listing_of (the_switch ∷ []))) [] sent_unbegun → ⊥ }
+    ensures sealed_unasked { SendsWhatIsDue (always (listing_of (the_switch ∷ []))) network_key sealed_unasked → ⊥ }
+    ensures openly { SendsWhatIsDue (always (listing_of (the_lock ∷ []))) network_key sent_openly → ⊥ }
+    ensures for_none { SendsWhatIsDue (always (listing_of (the_lock ∷ []))) network_key sealed_for_none → ⊥ }
+    ensures for_longer { SendsWhatIsDue (always (listing_of (the_lock ∷ []))) network_key sealed_for_longer → ⊥ }
+    ensures sealed_otherwise { SendsWhatIsDue (always (listing_of (the_lock ∷ []))) network_key sealed_otherwise → ⊥ }
+    ensures longer { SendsWhatIsDue (always (listing_of (the_lock ∷ []))) network_key sealed_longer → ⊥ }
+    ensures whole { SendsWhatIsDue (always (listing_of (the_plug ∷ []))) [] sent_whole → ⊥ }
+    ensures cut_otherwise { SendsWhatIsDue (always (listing_of (the_plug ∷ []))) [] cut_otherwise → ⊥ }
+    ensures cut_of_another { SendsWhatIsDue (always (listing_of (the_plug ∷ []))) [] cut_of_another → ⊥ }
+    ensures past_end { SendsWhatIsDue (always (listing_of (the_plug ∷ []))) [] cut_past_end → ⊥ }
+    ensures nonce_unasked { SendsWhatIsDue (always (listing_of (the_lock ∷ []))) network_key nonce_unasked → ⊥ }
+    ensures nonce_of_another { SendsWhatIsDue (always (listing_of (the_lock ∷ []))) network_key nonce_of_another → ⊥ }
+    ensures nonce_of_another_sealed { SendsWhatIsDue (always (listing_of (the_lock ∷ []))) network_key nonce_of_another_sealed → ⊥ }
+    ensures nonce_for_nothing { SendsWhatIsDue (always (listing_of (the_lock ∷ []))) network_key nonce_for_nothing → ⊥ }
+    ensures nonce_otherwise { SendsWhatIsDue (always (listing_of (the_lock ∷ []))) network_key nonce_otherwise → ⊥ }
+    ensures nonce_shorter { SendsWhatIsDue (always (listing_of (the_lock ∷ []))) network_key nonce_shorter → ⊥ }
+    ensures set_unasked { SendsWhatIsDue (always (listing_of (the_switch ∷ []))) [] set_unasked → ⊥ }
+    ensures set_otherwise { SendsWhatIsDue (always (listing_of (the_switch ∷ []))) [] set_otherwise → ⊥ }
+    ensures set_new_list { SendsWhatIsDue (always (listing_of (the_dimmer ∷ []))) [] set_by_new_list → ⊥ }
+    ensures set_of_another { SendsWhatIsDue (always (listing_of (the_switch ∷ []))) [] set_of_another → ⊥ }
+    ensures set_refused { SendsWhatIsDue (always (listing_of (the_switch ∷ []))) [] set_refused → ⊥ }
+    ensures get_unasked { SendsWhatIsDue (always (listing_of (the_switch ∷ []))) [] get_unasked → ⊥ }
 {}
 
 /// Each of these breaks one part of the laws: a frame that no unit asked for, for another node, twice for one unit, in another order, for a unit that was

@@ -8,7 +8,8 @@ use Rattle.run_lines.specs.declared.reader.TheConstants.{PIECE, MAX_INPUT}
 use Rattle.host_model.specs.State.{HostParts}
 use Rattle.host_model.specs.declared.out.HostOut.{HostOut}
 use Rattle.host_model.proofs.EventLists.{none_added, did_nothing}
-use Rattle.host_core.specs.Calls.{beside, Stops}
+use Rattle.host_keep.specs.Keeping.{Shelf}
+use Rattle.host_core.specs.Calls.{Stops}
 use Rattle.port_run.specs.declared.stop.Stop.{Stop}
 use Rattle.port_run.specs.declared.stop.Stop.TheVariants.{ReadFault, WriteFault, InputTooLong, NoMemory}
 use Rattle.port_run.specs.Steps.{Place, Step, Asks, Takes, Ticks, Pumps, Ran}
@@ -77,7 +78,7 @@ broke_write Cut step stop old new outs s t l m n ran part reads within cut = rec
 }
 
 -- there was no memory before the step was done; nothing was written
-pub broke_host : (Cut : Stop → List Step → Type 0) (old new : Place) (outs : List HostOut) (s l : Option (List ℕ)) (n : ℕ) → Stops (beside old.shelf old.host.state []) (beside new.shelf new.host.state outs)
+pub broke_host : (Cut : Stop → List Step → Type 0) (old new : Place) (outs : List HostOut) (s l : Option (List ℕ)) (n : ℕ) → Stops (scene old.host.state [] old.shelf) (scene new.host.state outs new.shelf)
     → n ≤ MAX_INPUT → Cut NoMemory [] → Broke Cut NoMemory old new s s l l n
 broke_host Cut old new outs s l n stops within cut = record {
   steps = [];
@@ -167,33 +168,33 @@ broke_feed old new bytes outs s l m n fed took short within =
 
 -- ---- calls of the host
 
-pub pump_ran : (host host' : HostParts) (r r' : Option (List (List ℕ))) (puts outs : List HostOut) (f g : ℕ) → puts ≡ [] → Does (pump_events host.state) (scene host.state puts r f) (scene host'.state outs r' g)
-    → host'.decoder ≡ host.decoder → Ran Pumps (place host r f) (place host' r' g) outs
-pump_ran host host' r r' puts outs f g none does decoder =
-    (subst (λ (o : List HostOut). Does (pump_events host.state) (scene host.state o r f) (scene host'.state outs r' g)) none does, decoder)
+pub pump_ran : (host host' : HostParts) (a b : Shelf) (puts outs : List HostOut) → puts ≡ [] → Does (pump_events host.state) (scene host.state puts a) (scene host'.state outs b)
+    → host'.decoder ≡ host.decoder → Ran Pumps (place host a) (place host' b) outs
+pump_ran host host' a b puts outs none does decoder =
+    (subst (λ (o : List HostOut). Does (pump_events host.state) (scene host.state o a) (scene host'.state outs b)) none does, decoder)
 
-pub tick_ran : (host host' : HostParts) (r r' : Option (List (List ℕ))) (puts outs : List HostOut) (f g : ℕ) → puts ≡ [] → Does (Are (tick_events host.state)) (scene host.state puts r f) (scene host'.state outs r' g)
-    → host'.decoder ≡ after_tick host.decoder → Ran Ticks (place host r f) (place host' r' g) outs
-tick_ran host host' r r' puts outs f g none does decoder =
-    (subst (λ (o : List HostOut). Does (Are (tick_events host.state)) (scene host.state o r f) (scene host'.state outs r' g)) none does, decoder)
+pub tick_ran : (host host' : HostParts) (a b : Shelf) (puts outs : List HostOut) → puts ≡ [] → Does (Are (tick_events host.state)) (scene host.state puts a) (scene host'.state outs b)
+    → host'.decoder ≡ after_tick host.decoder → Ran Ticks (place host a) (place host' b) outs
+tick_ran host host' a b puts outs none does decoder =
+    (subst (λ (o : List HostOut). Does (Are (tick_events host.state)) (scene host.state o a) (scene host'.state outs b)) none does, decoder)
 
-pub feed_ran : (host host' : HostParts) (bytes : List ℕ) (r r' : Option (List (List ℕ))) (puts outs : List HostOut) (f g : ℕ) → puts ≡ []
-    → Fed host bytes host' puts outs (record { records = r; faults = f }) (record { records = r'; faults = g }) → Ran (Takes bytes) (place host r f) (place host' r' g) outs
-feed_ran host host' bytes r r' puts outs f g none fed =
-    subst (λ (o : List HostOut). Fed host bytes host' o outs (record { records = r; faults = f }) (record { records = r'; faults = g })) none fed
+pub feed_ran : (host host' : HostParts) (bytes : List ℕ) (a b : Shelf) (puts outs : List HostOut) → puts ≡ []
+    → Fed host bytes host' puts outs a b → Ran (Takes bytes) (place host a) (place host' b) outs
+feed_ran host host' bytes a b puts outs none fed =
+    subst (λ (o : List HostOut). Fed host bytes host' o outs a b) none fed
 
-pub call_stopped : (Cut : Stop → List Step → Type 0) (host host' : HostParts) (r r' : Option (List (List ℕ))) (puts outs : List HostOut) (f g : ℕ) (s : Option (List ℕ)) → puts ≡ [] → Stops (scene host.state puts r f) (scene host'.state outs r' g)
-    → Cut NoMemory [] → BrokeStill Cut NoMemory (place host r f) (place host' r' g) s s
-call_stopped Cut host host' r r' puts outs f g s none stops cut = λ l n within.
-    broke_host Cut (place host r f) (place host' r' g) outs s l n
-    (subst (λ (o : List HostOut). Stops (scene host.state o r f) (scene host'.state outs r' g)) none stops) within cut
+pub call_stopped : (Cut : Stop → List Step → Type 0) (host host' : HostParts) (a b : Shelf) (puts outs : List HostOut) (s : Option (List ℕ)) → puts ≡ [] → Stops (scene host.state puts a) (scene host'.state outs b)
+    → Cut NoMemory [] → BrokeStill Cut NoMemory (place host a) (place host' b) s s
+call_stopped Cut host host' a b puts outs s none stops cut = λ l n within.
+    broke_host Cut (place host a) (place host' b) outs s l n
+    (subst (λ (o : List HostOut). Stops (scene host.state o a) (scene host'.state outs b)) none stops) within cut
 
-pub feed_stopped : (host host' : HostParts) (bytes : List ℕ) (r r' : Option (List (List ℕ))) (puts outs : List HostOut) (f g : ℕ) (s : Option (List ℕ)) → puts ≡ []
-    → FedPrefix host bytes host' puts outs (record { records = r; faults = f }) (record { records = r'; faults = g }) → length bytes ≤ PIECE
-    → (l m : Option (List ℕ)) (n : ℕ) → Consumes l m bytes → n + length bytes ≤ MAX_INPUT → Broke (CutTaking bytes) NoMemory (place host r f) (place host' r' g) s s l m n
-feed_stopped host host' bytes r r' puts outs f g s none fed short l m n took within =
-    broke_feed (place host r f) (place host' r' g) bytes outs s l m n
-    (subst (λ (o : List HostOut). FedPrefix host bytes host' o outs (record { records = r; faults = f }) (record { records = r'; faults = g })) none fed) took short within
+pub feed_stopped : (host host' : HostParts) (bytes : List ℕ) (a b : Shelf) (puts outs : List HostOut) (s : Option (List ℕ)) → puts ≡ []
+    → FedPrefix host bytes host' puts outs a b → length bytes ≤ PIECE
+    → (l m : Option (List ℕ)) (n : ℕ) → Consumes l m bytes → n + length bytes ≤ MAX_INPUT → Broke (CutTaking bytes) NoMemory (place host a) (place host' b) s s l m n
+feed_stopped host host' bytes a b puts outs s none fed short l m n took within =
+    broke_feed (place host a) (place host' b) bytes outs s l m n
+    (subst (λ (o : List HostOut). FedPrefix host bytes host' o outs a b) none fed) took short within
 
 -- ---- units
 

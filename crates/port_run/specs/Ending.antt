@@ -3,10 +3,9 @@ use Rattle.std.specs.Prelude.{◌≡◌, ℕ, ◌+◌, ◌<◌, ◌≤◌, ◌�
 use Rattle.run_lines.specs.declared.reader.TheConstants.{MAX_INPUT}
 use Rattle.zw_text.specs.declared.entry.Outcome.{Outcome}
 use Rattle.zw_text.specs.declared.entry.Outcome.TheVariants.{Success}
-use Rattle.host_keep.specs.Keeping.{OptAdds}
+use Rattle.host_keep.specs.Keeping.{OptAdds, Shelf}
 use Rattle.host_keep.specs.Legal.{IsFirstBad as IsFirstBadRecord}
 use Rattle.host_model.specs.State.{HostState, HostParts, command_at}
-use Rattle.host_model.specs.Did.{Shelf}
 use Rattle.s0_crypto.specs.declared.key_pair.Keys.{Keys}
 use Rattle.host_core.specs.Network.{keys_of}
 use Rattle.host_core.specs.Opening.{Opens}
@@ -68,8 +67,8 @@ pub record Desk : Type 0 where
   pub written : Option (List ℕ)
   pub shelf : Shelf
 
-abbrev pub desk : Option (List ℕ) → Option (List ℕ) → Option (List (List ℕ)) → ℕ → Desk
-desk left written records faults = record { left = left; written = written; shelf = record { records = records; faults = faults } }
+abbrev pub desk : Option (List ℕ) → Option (List ℕ) → Shelf → Desk
+desk left written shelf = record { left = left; written = written; shelf = shelf }
 
 -- no line was run: nothing was read and written, and no record was added
 pub record IsUntouched (old new : Desk) : Type 0 where

@@ -4,7 +4,7 @@ use Rattle.serial_frame.specs.Stream.{after_tick}
 use Rattle.zw_base.specs.Faults.{Rose}
 use Rattle.zw_text.specs.declared.line.Line.{Line}
 use Rattle.zw_text.specs.declared.line.Line.TheVariants.{Command, Send, Get, Join, Interview, Probe}
-use Rattle.host_keep.specs.Keeping.{OptAdds}
+use Rattle.host_keep.specs.Keeping.{OptAdds, Shelf}
 use Rattle.host_orders.specs.declared.refused.Refused.{Refused}
 use Rattle.host_orders.specs.Errands.{send_refusal, send_text, get_refusal, get_text}
 use Rattle.host_orders.specs.Refusals.{classes_of}
@@ -13,12 +13,11 @@ use Rattle.host_model.specs.State.{HostState, HostParts, node_of}
 use Rattle.host_model.specs.Events.{HostEvent, Accepts, Joins, Queues, Queues_interview, Queues_probe}
 use Rattle.host_model.specs.May.{known_of}
 use Rattle.host_model.specs.Asking.{carriage_for, refusal_for, join_refusal, interview_refusal, places_refusal}
-use Rattle.host_model.specs.Did.{Shelf}
 use Rattle.host_model.specs.Pumping.{Pumps as pump_events}
 use Rattle.host_model.specs.Taking.{Fed}
 use Rattle.host_model.specs.Ticking.{tick_events}
 use Rattle.host_model.specs.declared.out.HostOut.{HostOut}
-use Rattle.host_core.specs.Calls.{beside, Are, Does}
+use Rattle.host_core.specs.Calls.{scene, Are, Does}
 use Rattle.port_run.specs.declared.asking.Answer.{Answer}
 use Rattle.port_run.specs.declared.asking.Answer.TheVariants.{Taken, Command as numbered, Refused as refused}
 
@@ -27,8 +26,8 @@ pub record Place : Type 0 where
   pub host : HostParts
   pub shelf : Shelf
 
-abbrev pub place : HostParts → Option (List (List ℕ)) → ℕ → Place
-place host records faults = record { host = host; shelf = record { records = records; faults = faults } }
+abbrev pub place : HostParts → Shelf → Place
+place host shelf = record { host = host; shelf = shelf }
 
 -- the host is asked for something, and answers; it takes bytes of the chip, at least one unless there was no memory for more; a read
 -- gives no bytes; a tick of 100 ms passes; the host submits what it may
@@ -79,7 +78,7 @@ IsRefusedBy None faults faults' = Rose faults faults'
 
 -- events of this kind happened, and the host put this out
 abbrev pub HostDoes : (List HostEvent → Type 0) → Place → Place → List HostOut → Type 0
-HostDoes Kind old new outs = Does Kind (beside old.shelf old.host.state []) (beside new.shelf new.host.state outs)
+HostDoes Kind old new outs = Does Kind (scene old.host.state [] old.shelf) (scene new.host.state outs new.shelf)
 
 -- no rule refuses, the host does what was asked, and answers
 pub record IsTaken (line : Line) (answer : Answer) (old new : Place) : Type 0 where

@@ -26,10 +26,10 @@ pub(crate) fn ask<P: Keeper>(
     line: &Line,
     keeper: &mut P,
 ) -> Result<Answer, NoMemory>
-    ensures ok { IfOk result (λ answer. Asked line.now answer (place host.old (P.records keeper.old) (P.faults keeper.old))
-        (place host.new (P.records keeper.new) (P.faults keeper.new))) }
-    ensures err { OnErr result (IsStill (place host.old (P.records keeper.old) (P.faults keeper.old))
-        (place host.new (P.records keeper.new) (P.faults keeper.new))) }
+    ensures ok { IfOk result (λ answer. Asked line.now answer (place host.old (P.shelf keeper.old))
+        (place host.new (P.shelf keeper.new))) }
+    ensures err { OnErr result (IsStill (place host.old (P.shelf keeper.old))
+        (place host.new (P.shelf keeper.new))) }
 {
     match line {
         Line::Command { order } => match host.command(order, keeper) {

@@ -23,15 +23,15 @@ pub fn run_host<S: Source, K: Sink, D: Draw, P: Keeper>(
     keeper: &mut P,
 ) -> Status
     ensures ran { HostRan result key (P.number keeper.old) (texts_of lines.now)
-        (desk (S.left source.old) (K.written sink.old) (P.records keeper.old) (P.faults keeper.old))
-        (desk (S.left source.new) (K.written sink.new) (P.records keeper.new) (P.faults keeper.new)) }
+        (desk (S.left source.old) (K.written sink.old) (P.shelf keeper.old))
+        (desk (S.left source.new) (K.written sink.new) (P.shelf keeper.new)) }
     ensures source_never_falls { S.faults source.old ≤ S.faults source.new }
     ensures sink_never_falls { K.faults sink.old ≤ K.faults sink.new }
     ensures read_fault { result ≡ Status.ReadFault → Rose (S.faults source.old) (S.faults source.new) }
     ensures write_fault { result ≡ Status.WriteFault → Rose (K.faults sink.old) (K.faults sink.new) }
-    ensures keeper_fault { result ≡ Status.KeeperFault → Rose (P.faults keeper.old) (P.faults keeper.new) }
+    ensures keeper_fault { result ≡ Status.KeeperFault → Rose (P.shelf keeper.old).faults (P.shelf keeper.new).faults }
     ensures complete { HasGoodPort (texts_of lines.now) (S.left source.old) → (Rose (S.faults source.old) (S.faults source.new) → ⊥)
-        → (Rose (K.faults sink.old) (K.faults sink.new) → ⊥) → (Rose (P.faults keeper.old) (P.faults keeper.new) → ⊥) → IsServed result }
+        → (Rose (K.faults sink.old) (K.faults sink.new) → ⊥) → (Rose (P.shelf keeper.old).faults (P.shelf keeper.new).faults → ⊥) → IsServed result }
 {
     let mut clock = QuietClock;
     let served = serve(alloc, lines, source, sink, &mut clock, key, draw, keeper);

@@ -35,13 +35,13 @@ pub fn serve<S: Source, K: Sink, C: Clock, D: Draw, P: Keeper>(
     keeper: &mut P,
 ) -> Served
     ensures ended { Ended result C.may_tell (keys_of key) (P.number keeper.old) (texts_of lines.now)
-        (desk (S.left source.old) (K.written sink.old) (P.records keeper.old) (P.faults keeper.old))
-        (desk (S.left source.new) (K.written sink.new) (P.records keeper.new) (P.faults keeper.new)) }
+        (desk (S.left source.old) (K.written sink.old) (P.shelf keeper.old))
+        (desk (S.left source.new) (K.written sink.new) (P.shelf keeper.new)) }
     ensures source_never_falls { S.faults source.old ≤ S.faults source.new }
     ensures sink_never_falls { K.faults sink.old ≤ K.faults sink.new }
     ensures not_read { result ≡ Served.ReadFault → Rose (S.faults source.old) (S.faults source.new) }
     ensures not_written { result ≡ Served.WriteFault → Rose (K.faults sink.old) (K.faults sink.new) }
-    ensures not_kept { result ≡ Served.Opening no_keeper → Rose (P.faults keeper.old) (P.faults keeper.new) }
+    ensures not_kept { result ≡ Served.Opening no_keeper → Rose (P.shelf keeper.old).faults (P.shelf keeper.new).faults }
 {
     let lines = match read_lines(alloc, lines) {
         Ok(lines) => lines,
@@ -107,12 +107,12 @@ fn run_all<S: Source, K: Sink, C: Clock, D: Draw, P: Keeper>(
     requires empty { answers.old.items ≡ [] }
     requires room { length lines.now ≤ answers.old.room }
     ensures ok { OnOk result ((steps : Items Step) × (taken : ℕ) × RunSteps C.may_tell lines.now answers.new.items steps ×
-        Went steps (place host.old (P.records keeper.old) (P.faults keeper.old))
-        (place host.new (P.records keeper.new) (P.faults keeper.new)) (K.written sink.old) (K.written sink.new) (S.left source.old)
+        Went steps (place host.old (P.shelf keeper.old))
+        (place host.new (P.shelf keeper.new)) (K.written sink.old) (K.written sink.new) (S.left source.old)
         (S.left source.new) 0 taken × (taken ≤ MAX_INPUT)) }
     ensures count { OnOk result (length answers.new.items ≡ length lines.now) }
     ensures err { IfErr result (λ stop. Broke (CutRun C.may_tell lines.now) stop
-        (place host.old (P.records keeper.old) (P.faults keeper.old)) (place host.new (P.records keeper.new) (P.faults keeper.new))
+        (place host.old (P.shelf keeper.old)) (place host.new (P.shelf keeper.new))
         (K.written sink.old) (K.written sink.new) (S.left source.old) (S.left source.new) 0) }
     ensures source_never_falls { S.faults source.old ≤ S.faults source.new }
     ensures sink_never_falls { K.faults sink.old ≤ K.faults sink.new }
@@ -142,12 +142,12 @@ fn run_lines<S: Source, K: Sink, C: Clock, D: Draw, P: Keeper>(
     requires empty { answers.old.items ≡ [] }
     requires room { length lines.now ≤ answers.old.room }
     ensures ok { OnOk result ((steps : Items Step) × (taken : ℕ) × AllSteps C.may_tell lines.now answers.new.items steps ×
-        Went steps (place host.old (P.records keeper.old) (P.faults keeper.old))
-        (place host.new (P.records keeper.new) (P.faults keeper.new)) (K.written sink.old) (K.written sink.new) (S.left source.old)
+        Went steps (place host.old (P.shelf keeper.old))
+        (place host.new (P.shelf keeper.new)) (K.written sink.old) (K.written sink.new) (S.left source.old)
         (S.left source.new) 0 taken × (taken ≤ MAX_INPUT)) }
     ensures count { OnOk result (length answers.new.items ≡ length lines.now) }
     ensures err { IfErr result (λ stop. Broke (CutLines C.may_tell lines.now) stop
-        (place host.old (P.records keeper.old) (P.faults keeper.old)) (place host.new (P.records keeper.new) (P.faults keeper.new))
+        (place host.old (P.shelf keeper.old)) (place host.new (P.shelf keeper.new))
         (K.written sink.old) (K.written sink.new) (S.left source.old) (S.left source.new) 0) }
     ensures source_never_falls { S.faults source.old ≤ S.faults source.new }
     ensures sink_never_falls { K.faults sink.old ≤ K.faults sink.new }
@@ -180,12 +180,12 @@ fn run_line<S: Source, K: Sink, C: Clock, D: Draw, P: Keeper>(
 ) -> Result<Answer, Stop>
     requires { taken.old ≤ MAX_INPUT }
     ensures ok { IfOk result (λ answer. (steps : Items Step) × LineSteps C.may_tell line.now answer steps ×
-        Went steps (place host.old (P.records keeper.old) (P.faults keeper.old))
-        (place host.new (P.records keeper.new) (P.faults keeper.new)) (K.written sink.old) (K.written sink.new) (S.left source.old)
+        Went steps (place host.old (P.shelf keeper.old))
+        (place host.new (P.shelf keeper.new)) (K.written sink.old) (K.written sink.new) (S.left source.old)
         (S.left source.new) taken.old taken.new) }
     ensures within { OnOk result (taken.new ≤ MAX_INPUT) }
     ensures err { IfErr result (λ stop. Broke (CutLine C.may_tell line.now) stop
-        (place host.old (P.records keeper.old) (P.faults keeper.old)) (place host.new (P.records keeper.new) (P.faults keeper.new))
+        (place host.old (P.shelf keeper.old)) (place host.new (P.shelf keeper.new))
         (K.written sink.old) (K.written sink.new) (S.left source.old) (S.left source.new) taken.old) }
     ensures source_never_falls { S.faults source.old ≤ S.faults source.new }
     ensures sink_never_falls { K.faults sink.old ≤ K.faults sink.new }

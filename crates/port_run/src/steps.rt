@@ -63,11 +63,11 @@ pub(crate) fn pump<K: Sink, D: Draw, P: Keeper>(
     keeper: &mut P,
 ) -> Result<(), Stop>
     ensures ok { OnOk result ((left : Option (Items ℕ)) (taken : ℕ) →
-        Went (Pumps ∷ []) (place host.old (P.records keeper.old) (P.faults keeper.old))
-        (place host.new (P.records keeper.new) (P.faults keeper.new)) (K.written sink.old) (K.written sink.new) left left taken taken) }
+        Went (Pumps ∷ []) (place host.old (P.shelf keeper.old))
+        (place host.new (P.shelf keeper.new)) (K.written sink.old) (K.written sink.new) left left taken taken) }
     ensures err { IfErr result (λ stop. (left : Option (Items ℕ)) (taken : ℕ) → taken ≤ MAX_INPUT →
-        Broke (CutIn (Pumps ∷ [])) stop (place host.old (P.records keeper.old) (P.faults keeper.old))
-        (place host.new (P.records keeper.new) (P.faults keeper.new)) (K.written sink.old) (K.written sink.new) left left taken) }
+        Broke (CutIn (Pumps ∷ [])) stop (place host.old (P.shelf keeper.old))
+        (place host.new (P.shelf keeper.new)) (K.written sink.old) (K.written sink.new) left left taken) }
     ensures never_falls { K.faults sink.old ≤ K.faults sink.new }
     ensures failed { IsErrOf result Stop.WriteFault → Rose (K.faults sink.old) (K.faults sink.new) }
 {
@@ -89,12 +89,12 @@ fn take<K: Sink, D: Draw, P: Keeper>(
 ) -> Result<(), Stop>
     requires { length piece.now ≤ PIECE }
     ensures ok { OnOk result ((left left' : Option (Items ℕ)) (taken : ℕ) → Consumes left left' piece.now →
-        Went (Takes piece.now ∷ []) (place host.old (P.records keeper.old) (P.faults keeper.old))
-        (place host.new (P.records keeper.new) (P.faults keeper.new)) (K.written sink.old) (K.written sink.new) left left' taken (taken + length piece.now)) }
+        Went (Takes piece.now ∷ []) (place host.old (P.shelf keeper.old))
+        (place host.new (P.shelf keeper.new)) (K.written sink.old) (K.written sink.new) left left' taken (taken + length piece.now)) }
     ensures err { IfErr result (λ stop. (left left' : Option (Items ℕ)) (taken : ℕ) → Consumes left left' piece.now →
         taken + length piece.now ≤ MAX_INPUT →
-        Broke (CutTaking piece.now) stop (place host.old (P.records keeper.old) (P.faults keeper.old))
-        (place host.new (P.records keeper.new) (P.faults keeper.new)) (K.written sink.old) (K.written sink.new) left left' taken) }
+        Broke (CutTaking piece.now) stop (place host.old (P.shelf keeper.old))
+        (place host.new (P.shelf keeper.new)) (K.written sink.old) (K.written sink.new) left left' taken) }
     ensures never_falls { K.faults sink.old ≤ K.faults sink.new }
     ensures failed { IsErrOf result Stop.WriteFault → Rose (K.faults sink.old) (K.faults sink.new) }
 {
@@ -114,11 +114,11 @@ fn tick<K: Sink, D: Draw, P: Keeper>(
     keeper: &mut P,
 ) -> Result<(), Stop>
     ensures ok { OnOk result ((left : Option (Items ℕ)) (taken : ℕ) →
-        Went (Ticks ∷ []) (place host.old (P.records keeper.old) (P.faults keeper.old))
-        (place host.new (P.records keeper.new) (P.faults keeper.new)) (K.written sink.old) (K.written sink.new) left left taken taken) }
+        Went (Ticks ∷ []) (place host.old (P.shelf keeper.old))
+        (place host.new (P.shelf keeper.new)) (K.written sink.old) (K.written sink.new) left left taken taken) }
     ensures err { IfErr result (λ stop. (left : Option (Items ℕ)) (taken : ℕ) → taken ≤ MAX_INPUT →
-        Broke (CutIn (Ticks ∷ [])) stop (place host.old (P.records keeper.old) (P.faults keeper.old))
-        (place host.new (P.records keeper.new) (P.faults keeper.new)) (K.written sink.old) (K.written sink.new) left left taken) }
+        Broke (CutIn (Ticks ∷ [])) stop (place host.old (P.shelf keeper.old))
+        (place host.new (P.shelf keeper.new)) (K.written sink.old) (K.written sink.new) left left taken) }
     ensures never_falls { K.faults sink.old ≤ K.faults sink.new }
     ensures failed { IsErrOf result Stop.WriteFault → Rose (K.faults sink.old) (K.faults sink.new) }
 {
@@ -138,11 +138,11 @@ fn tick_and_pump<K: Sink, D: Draw, P: Keeper>(
     keeper: &mut P,
 ) -> Result<(), Stop>
     ensures ok { OnOk result ((left : Option (Items ℕ)) (taken : ℕ) →
-        Went (Ticks ∷ Pumps ∷ []) (place host.old (P.records keeper.old) (P.faults keeper.old))
-        (place host.new (P.records keeper.new) (P.faults keeper.new)) (K.written sink.old) (K.written sink.new) left left taken taken) }
+        Went (Ticks ∷ Pumps ∷ []) (place host.old (P.shelf keeper.old))
+        (place host.new (P.shelf keeper.new)) (K.written sink.old) (K.written sink.new) left left taken taken) }
     ensures err { IfErr result (λ stop. (left : Option (Items ℕ)) (taken : ℕ) → taken ≤ MAX_INPUT →
-        Broke (CutIn (Ticks ∷ Pumps ∷ [])) stop (place host.old (P.records keeper.old) (P.faults keeper.old))
-        (place host.new (P.records keeper.new) (P.faults keeper.new)) (K.written sink.old) (K.written sink.new) left left taken) }
+        Broke (CutIn (Ticks ∷ Pumps ∷ [])) stop (place host.old (P.shelf keeper.old))
+        (place host.new (P.shelf keeper.new)) (K.written sink.old) (K.written sink.new) left left taken) }
     ensures never_falls { K.faults sink.old ≤ K.faults sink.new }
     ensures failed { IsErrOf result Stop.WriteFault → Rose (K.faults sink.old) (K.faults sink.new) }
 {
@@ -162,11 +162,11 @@ pub(crate) fn tick_all<K: Sink, D: Draw, P: Keeper>(
     keeper: &mut P,
 ) -> Result<(), Stop>
     ensures ok { OnOk result ((left : Option (Items ℕ)) (taken : ℕ) →
-        Went (tick_steps ticks) (place host.old (P.records keeper.old) (P.faults keeper.old))
-        (place host.new (P.records keeper.new) (P.faults keeper.new)) (K.written sink.old) (K.written sink.new) left left taken taken) }
+        Went (tick_steps ticks) (place host.old (P.shelf keeper.old))
+        (place host.new (P.shelf keeper.new)) (K.written sink.old) (K.written sink.new) left left taken taken) }
     ensures err { IfErr result (λ stop. (left : Option (Items ℕ)) (taken : ℕ) → taken ≤ MAX_INPUT →
-        Broke (CutIn (tick_steps ticks)) stop (place host.old (P.records keeper.old) (P.faults keeper.old))
-        (place host.new (P.records keeper.new) (P.faults keeper.new)) (K.written sink.old) (K.written sink.new) left left taken) }
+        Broke (CutIn (tick_steps ticks)) stop (place host.old (P.shelf keeper.old))
+        (place host.new (P.shelf keeper.new)) (K.written sink.old) (K.written sink.new) left left taken) }
     ensures never_falls { K.faults sink.old ≤ K.faults sink.new }
     ensures failed { IsErrOf result Stop.WriteFault → Rose (K.faults sink.old) (K.faults sink.new) }
 {
@@ -189,12 +189,12 @@ pub(crate) fn take_and_pump<K: Sink, D: Draw, P: Keeper>(
 ) -> Result<(), Stop>
     requires { length piece.now ≤ PIECE }
     ensures ok { OnOk result ((left left' : Option (Items ℕ)) (taken : ℕ) → Consumes left left' piece.now →
-        Went (Takes piece.now ∷ Pumps ∷ []) (place host.old (P.records keeper.old) (P.faults keeper.old))
-        (place host.new (P.records keeper.new) (P.faults keeper.new)) (K.written sink.old) (K.written sink.new) left left' taken (taken + length piece.now)) }
+        Went (Takes piece.now ∷ Pumps ∷ []) (place host.old (P.shelf keeper.old))
+        (place host.new (P.shelf keeper.new)) (K.written sink.old) (K.written sink.new) left left' taken (taken + length piece.now)) }
     ensures err { IfErr result (λ stop. (left left' : Option (Items ℕ)) (taken : ℕ) → Consumes left left' piece.now →
         taken + length piece.now ≤ MAX_INPUT →
-        Broke (CutPiece piece.now) stop (place host.old (P.records keeper.old) (P.faults keeper.old))
-        (place host.new (P.records keeper.new) (P.faults keeper.new)) (K.written sink.old) (K.written sink.new) left left' taken) }
+        Broke (CutPiece piece.now) stop (place host.old (P.shelf keeper.old))
+        (place host.new (P.shelf keeper.new)) (K.written sink.old) (K.written sink.new) left left' taken) }
     ensures never_falls { K.faults sink.old ≤ K.faults sink.new }
     ensures failed { IsErrOf result Stop.WriteFault → Rose (K.faults sink.old) (K.faults sink.new) }
 {
@@ -214,11 +214,11 @@ pub(crate) fn run_plain<K: Sink, D: Draw, P: Keeper>(
     keeper: &mut P,
 ) -> Result<Answer, Stop>
     ensures ok { IfOk result (λ answer. (left : Option (Items ℕ)) (taken : ℕ) →
-        Went (Asks line.now answer ∷ Pumps ∷ []) (place host.old (P.records keeper.old) (P.faults keeper.old))
-        (place host.new (P.records keeper.new) (P.faults keeper.new)) (K.written sink.old) (K.written sink.new) left left taken taken) }
+        Went (Asks line.now answer ∷ Pumps ∷ []) (place host.old (P.shelf keeper.old))
+        (place host.new (P.shelf keeper.new)) (K.written sink.old) (K.written sink.new) left left taken taken) }
     ensures err { IfErr result (λ stop. (left : Option (Items ℕ)) (taken : ℕ) → taken ≤ MAX_INPUT →
-        Broke (CutPlain line.now) stop (place host.old (P.records keeper.old) (P.faults keeper.old))
-        (place host.new (P.records keeper.new) (P.faults keeper.new)) (K.written sink.old) (K.written sink.new) left left taken) }
+        Broke (CutPlain line.now) stop (place host.old (P.shelf keeper.old))
+        (place host.new (P.shelf keeper.new)) (K.written sink.old) (K.written sink.new) left left taken) }
     ensures never_falls { K.faults sink.old ≤ K.faults sink.new }
     ensures failed { IsErrOf result Stop.WriteFault → Rose (K.faults sink.old) (K.faults sink.new) }
 {

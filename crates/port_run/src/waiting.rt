@@ -29,12 +29,12 @@ pub(crate) fn wait<S: Source, K: Sink, C: Clock, D: Draw, P: Keeper>(
 ) -> Result<(), Stop>
     requires { taken.old ≤ MAX_INPUT }
     ensures ok { OnOk result ((steps : Items Step) × Waited C.may_tell ticks 0 steps ×
-        Went steps (place host.old (P.records keeper.old) (P.faults keeper.old))
-        (place host.new (P.records keeper.new) (P.faults keeper.new)) (K.written sink.old) (K.written sink.new) (S.left source.old)
+        Went steps (place host.old (P.shelf keeper.old))
+        (place host.new (P.shelf keeper.new)) (K.written sink.old) (K.written sink.new) (S.left source.old)
         (S.left source.new) taken.old taken.new) }
     ensures within { OnOk result (taken.new ≤ MAX_INPUT) }
-    ensures err { IfErr result (λ stop. Broke (CutWait C.may_tell ticks) stop (place host.old (P.records keeper.old) (P.faults keeper.old))
-        (place host.new (P.records keeper.new) (P.faults keeper.new)) (K.written sink.old) (K.written sink.new) (S.left source.old)
+    ensures err { IfErr result (λ stop. Broke (CutWait C.may_tell ticks) stop (place host.old (P.shelf keeper.old))
+        (place host.new (P.shelf keeper.new)) (K.written sink.old) (K.written sink.new) (S.left source.old)
         (S.left source.new) taken.old) }
     ensures source_never_falls { S.faults source.old ≤ S.faults source.new }
     ensures sink_never_falls { K.faults sink.old ≤ K.faults sink.new }
@@ -66,15 +66,15 @@ fn turn<S: Source, K: Sink, C: Clock, D: Draw, P: Keeper>(
     requires some { 0 < left }
     requires short { taken.old ≤ MAX_INPUT }
     ensures ok { IfOk result (λ ticks. (one : Turn) × IsTurn C.may_tell left one × (ticks ≡ one.ticks) ×
-        Went (turn_steps one) (place host.old (P.records keeper.old) (P.faults keeper.old))
-        (place host.new (P.records keeper.new) (P.faults keeper.new)) (K.written sink.old) (K.written sink.new) (S.left source.old)
+        Went (turn_steps one) (place host.old (P.shelf keeper.old))
+        (place host.new (P.shelf keeper.new)) (K.written sink.old) (K.written sink.new) (S.left source.old)
         (S.left source.new) taken.old taken.new) }
     ensures within { OnOk result (taken.new ≤ MAX_INPUT) }
     ensures some_ticks { IfOk result (λ ticks. (0 < ticks) ⊎ (taken.old < taken.new)) }
     ensures few { IfOk result (λ ticks. ticks ≤ left) }
     ensures more { taken.old ≤ taken.new }
-    ensures err { IfErr result (λ stop. Broke (CutTurn C.may_tell left) stop (place host.old (P.records keeper.old) (P.faults keeper.old))
-        (place host.new (P.records keeper.new) (P.faults keeper.new)) (K.written sink.old) (K.written sink.new) (S.left source.old)
+    ensures err { IfErr result (λ stop. Broke (CutTurn C.may_tell left) stop (place host.old (P.shelf keeper.old))
+        (place host.new (P.shelf keeper.new)) (K.written sink.old) (K.written sink.new) (S.left source.old)
         (S.left source.new) taken.old) }
     ensures source_never_falls { S.faults source.old ≤ S.faults source.new }
     ensures sink_never_falls { K.faults sink.old ≤ K.faults sink.new }
@@ -112,12 +112,12 @@ fn take_read<K: Sink, D: Draw, P: Keeper>(
     requires { length piece.now ≤ PIECE }
     ensures ok { OnOk result ((left left' : Option (Items ℕ)) (taken : ℕ) → Consumes left left' piece.now →
         (length piece.now ≡ 0 → IsAtEnd left') →
-        Went (piece_steps piece.now) (place host.old (P.records keeper.old) (P.faults keeper.old))
-        (place host.new (P.records keeper.new) (P.faults keeper.new)) (K.written sink.old) (K.written sink.new) left left' taken (taken + length piece.now)) }
+        Went (piece_steps piece.now) (place host.old (P.shelf keeper.old))
+        (place host.new (P.shelf keeper.new)) (K.written sink.old) (K.written sink.new) left left' taken (taken + length piece.now)) }
     ensures err { IfErr result (λ stop. (left left' : Option (Items ℕ)) (taken : ℕ) → Consumes left left' piece.now →
         taken + length piece.now ≤ MAX_INPUT →
-        Broke (CutRead piece.now) stop (place host.old (P.records keeper.old) (P.faults keeper.old))
-        (place host.new (P.records keeper.new) (P.faults keeper.new)) (K.written sink.old) (K.written sink.new) left left' taken) }
+        Broke (CutRead piece.now) stop (place host.old (P.shelf keeper.old))
+        (place host.new (P.shelf keeper.new)) (K.written sink.old) (K.written sink.new) left left' taken) }
     ensures never_falls { K.faults sink.old ≤ K.faults sink.new }
     ensures failed { IsErrOf result Stop.WriteFault → Rose (K.faults sink.old) (K.faults sink.new) }
 {

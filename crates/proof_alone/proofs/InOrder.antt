@@ -1,5 +1,5 @@
 -- What a host alone does of itself, for a line and for an item is in order, and answers no line but the one that asks.
-use Rattle.std.proofs.Common.{◌≡◌, ℕ, Bool, true, false, if◌then◌else◌, inl, inr, List, [], ◌∷◌, refl, sym, subst, append-nil}
+use Rattle.std.proofs.Common.{◌≡◌, Bool, true, false, if◌then◌else◌, List, [], ◌∷◌, refl, sym, subst, append-nil}
 use Rattle.std.specs.Prelude.{Option, Some, None}
 use Rattle.zw_base.proofs.Each.{all-weaker}
 use Rattle.serial_frame.specs.declared.item.Item.{Item}
@@ -8,20 +8,16 @@ use Rattle.zw_text.specs.declared.line.Line.TheVariants as lines
 use Rattle.host_orders.specs.declared.refused.Refused.{Refused}
 use Rattle.host_orders.specs.declared.refused.Refused.TheVariants.{NotJoined}
 use Rattle.host_orders.specs.Refusals.{classes_of}
-use Rattle.host_requests.specs.declared.task.Task.{Task}
-use Rattle.host_node.specs.Search.{next_of}
-use Rattle.host_node.specs.declared.series.Series.{Series}
-use Rattle.host_node.specs.declared.series.Series.TheVariants.{Idle, Due, Running}
 use Rattle.host_model.specs.State.{HostState, node_of}
-use Rattle.host_model.specs.Events.{HostEvent, Accepts, Cancels, Joins, Queues_probe, Hears, Queues, Queues_interview, Requests_do, Queues_no_more, Drops_no_more}
-use Rattle.host_model.specs.After.{after, is_full}
+use Rattle.host_model.specs.Events.{HostEvent, Accepts, Cancels, Joins, Queues_probe, Hears, Queues, Queues_interview, Requests_do}
+use Rattle.host_model.specs.After.{after}
 use Rattle.host_model.specs.May.{known_of}
 use Rattle.host_model.specs.Asking.{places_refusal}
 use Rattle.host_model.specs.Outs.{answers, outs}
-use Rattle.host_model.specs.Pumping.{GivesNext, IsNextOf, IsNextOfNodes, IsServedBy, no_more_event}
 use Rattle.host_model.specs.Taking.{AreJudged, IsFollowed}
 use Rattle.host_model.specs.Ticking.{tick_events}
 use Rattle.host_model.proofs.Own.{IsOwn, tick_own}
+use Rattle.host_model.proofs.Submitted.{SleepersAre, SubmittedAre, next_is as submitted_is, no_more_is}
 use Rattle.host_model.proofs.Silence.{judged_silent, tick_silent}
 use Rattle.proof_line.specs.Lines.{AsksNothing}
 use Rattle.proof_line.proofs.Always.{AlwaysInOrder, IsInOrder}
@@ -49,31 +45,19 @@ own_ordered event own = λ h. tt
 pub tick_in_order : (h : HostState) → AreInOrder (tick_events h)
 tick_in_order h = record { silent = tick_silent h; ordered = all-weaker IsOwn AlwaysInOrder own_ordered (tick_events h) (tick_own h) }
 
-as_ordered : (event these : HostEvent) → event ≡ these → AlwaysInOrder these → AlwaysInOrder event
-as_ordered event these is ordered = subst AlwaysInOrder (sym is) ordered
+sleepers_ordered : SleepersAre AlwaysInOrder
+sleepers_ordered = record { queues = λ n h. tt; drops = λ n h. tt }
 
-no_more_ordered : (n : ℕ) (full : Bool) → AlwaysInOrder (if full then Drops_no_more n else Queues_no_more n)
-no_more_ordered n true = λ h. tt
-no_more_ordered n false = λ h. tt
-
-gives_ordered : (h : HostState) (n : ℕ) (text : Option (List ℕ)) (event : HostEvent) → GivesNext h n text event → AlwaysInOrder event
-gives_ordered h n (Some text) event is = as_ordered event _ is (λ g. tt)
-gives_ordered h n None event (payload, there, is) = as_ordered event _ is (λ g. tt)
-
-served_ordered : (h : HostState) (n : ℕ) (series : Series) (event : HostEvent) → IsServedBy h n series event → AlwaysInOrder event
-served_ordered h n Running event is = gives_ordered h n (node_of h n).text event is
-served_ordered h n Due event (plan, more, payload, start, is) = as_ordered event _ is (λ g. tt)
-served_ordered h n Idle event (inl is) = as_ordered event _ is (λ g. tt)
-served_ordered h n Idle event (inr is) = as_ordered event _ is (λ g. tt)
-
-node_ordered : (h : HostState) (next : Option ℕ) (event : HostEvent) → IsNextOfNodes h next event → AlwaysInOrder event
-node_ordered h None event is = absurd is
-node_ordered h (Some n) event is = served_ordered h n (node_of h n).series event is
-
-next_ordered : (h : HostState) (owes : Bool) (queue : List Task) (event : HostEvent) → IsNextOf h owes queue event → AlwaysInOrder event
-next_ordered h true queue event is = as_ordered event _ is (λ g. tt)
-next_ordered h false (task ∷ more) event is = as_ordered event _ is (λ g. tt)
-next_ordered h false [] event is = node_ordered h (next_of h.nodes h.served) event is
+submitted_ordered : SubmittedAre AlwaysInOrder
+submitted_ordered = record {
+  abort = λ h. tt;
+  front = λ h. tt;
+  starts = λ n plan more payload h. tt;
+  text = λ n payload h. tt;
+  segment = λ n more payload h. tt;
+  begins = λ n session command h. tt;
+  unkept = λ n h. tt;
+}
 
 -- ---- behind an item
 
@@ -105,12 +89,12 @@ event_in_part (Behind []) next h event goes order = absurd goes
 event_in_part (Behind (first ∷ left)) next h event goes order = of_these Behind (λ l. refl) next h event first left goes.0 goes.1 order
 event_in_part Sleeping next h event (node, wants, is, next_is) order = record {
   silent = subst (λ (e : HostEvent). answers h e ≡ []) (sym is) ((no_more_silent h node).0 h);
-  ordered = as_ordered event (no_more_event h node) is (no_more_ordered node (is_full h)) h;
+  ordered = subst (λ (e : HostEvent). IsInOrder h e) (sym is) (no_more_is AlwaysInOrder sleepers_ordered h node h);
   left = subst (λ (p : Phase). AreInOrder (to_come p)) (sym next_is) none_to_come;
 }
 event_in_part Submitting next h event (is, next_is) order = record {
-  silent = (next_silent h h.requests.owes h.requests.queue event is.1).0 h;
-  ordered = next_ordered h h.requests.owes h.requests.queue event is.1 h;
+  silent = (next_silent h event is).0 h;
+  ordered = submitted_is AlwaysInOrder submitted_ordered h event is h;
   left = subst (λ (p : Phase). AreInOrder (to_come p)) (sym next_is) none_to_come;
 }
 event_in_part Resting next h event goes order = absurd goes

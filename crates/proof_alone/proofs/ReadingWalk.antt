@@ -155,7 +155,7 @@ module _ (start : HostMachine) where
   event_keeps (Submitting passes ticks) next past m event (asked, is, event_is, next_is) may fine marks reads =
       comes next (Submitting passes ticks) event (Host_does asked) past m event_is next_is may fine
       (λ may_it fine_it.
-      does_reads start alone.Submitting alone.Submitting ticks past m asked (is, refl) ((next_silent m.host.state m.host.state.requests.owes m.host.state.requests.queue asked is.1).0 m.host.state) may_it fine_it
+      does_reads start alone.Submitting alone.Submitting ticks past m asked (is, refl) ((next_silent m.host.state asked is).0 m.host.state) may_it fine_it
       reads)
   event_keeps (Moving passes ticks) next past m event (rest, ways, event_is, next_is) may fine marks reads =
       let count : ℕ = length m.outside.outer.to_chip.bytes in

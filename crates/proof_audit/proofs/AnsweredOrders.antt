@@ -34,7 +34,7 @@ use Rattle.host_orders.specs.declared.refused.Refused.TheVariants as host
 use Rattle.host_model.proofs.Accepted.{holds, not_so}
 use Rattle.law_transcript.specs.Answers.{AnswersLines, Follows, IsAnswer, IsRefusal, MayAnswer, answer_to, answered_by, before_last, known_of, properties_with, refusal_entry, refusals_around, refusals_by_host, refusals_to, refused_unless, refused_without}
 use Rattle.law_transcript.specs.Lists.{listed}
-use Rattle.law_transcript.specs.Nodes.{device_of, host_list, is_interviewed, known_at_first, listed_by, listing_of}
+use Rattle.law_transcript.specs.Nodes.{device_of, host_list, is_interviewed, known_at_first, listed_by, listing_of, always}
 use Rattle.law_transcript.specs.Repeats.{refused_repeat, frame_of, repeat_entry}
 use Rattle.air_frames.specs.declared.ages.Refusal.{Refusal as AirRefusal}
 use Rattle.air_frames.specs.declared.ages.Refusal.TheVariants as air
@@ -70,7 +70,7 @@ repeat-only (air.NeverSent ∷ all) = (tt, repeat-only all)
 repeat-only (air.Forgotten ∷ all) = (tt, repeat-only all)
 repeat-only (air.Stale later ∷ all) = (tt, repeat-only all)
 
-by-host-only : (listing : ℕ → List ℕ) (past : List Entry) (line : Line) → AllByRecursion IsRefused (refusals_by_host listing past line)
+by-host-only : (listing : ℕ → List ℕ) (past : List Entry) (line : Line) → AllByRecursion IsRefused (refusals_by_host (always listing) past line)
 by-host-only listing past (lines.Cancel command) = unless-only _ _
 by-host-only listing past (lines.Join node) = unless-only _ _
 by-host-only listing past (lines.Send node word) = refusals-only (listed _)
@@ -87,7 +87,7 @@ around-only devices past _ = tt
 
 all-only : (devices : List State) (past : List Entry) (line : Line) → AllByRecursion IsRefused (refusals_to devices past line)
 all-only devices past line =
-    all-append IsRefused (refusals_by_host (listing_of devices) past line) (refusals_around devices past line) (by-host-only (listing_of devices) past line) (around-only devices past line)
+    all-append IsRefused (refusals_by_host (always (listing_of devices)) past line) (refusals_around devices past line) (by-host-only (listing_of devices) past line) (around-only devices past line)
 
 -- no other line than an order has an accepted command after it
 refused-accepts : (line : Line) (due : List Entry) (command node : ℕ) → AllByRecursion IsRefused due → IsRefusal line due (Accepted command node) → ⊥
@@ -171,8 +171,8 @@ at-first node supervised = by (eqb node 2) refl supervised
         record { known = ap (λ (n : ℕ). actuator_by (kind_at n)) two; takes = sym (ap (λ (n : ℕ). kind_lists (kind_at n) 0x6C) two) }
     by false same supervised = absurd (true≢false (sym supervised))
 
-known-kind : (devices : List State) (past : List Entry) (node : ℕ) → AllByRecursion IsOfItsKind devices → lists (host_list (listing_of devices) past node) 0x6C ≡ true
-    → IsKnown (host_list (listing_of devices) past node) node
+known-kind : (devices : List State) (past : List Entry) (node : ℕ) → AllByRecursion IsOfItsKind devices → lists (host_list (always (listing_of devices)) past node) 0x6C ≡ true
+    → IsKnown (host_list (always (listing_of devices)) past node) node
 known-kind devices past node kinds supervised = by (is_interviewed past node) supervised
   where
     by : (b : Bool) → lists (unwrap_or (cond b (Some (listing_of devices node)) (known_at_first node)) []) 0x6C ≡ true
@@ -255,11 +255,11 @@ ordered (first ∷ rest) order node said =
     }
 
 -- what the host knows of the node is what it knew before the line
-same-list : (listing : ℕ → List ℕ) (past : List Entry) (order : Order) (node : ℕ) → (is : IsOrdered past order node) → host_list listing (before_last past) node ≡ host_list listing past node
+same-list : (listing : ℕ → List ℕ) (past : List Entry) (order : Order) (node : ℕ) → (is : IsOrdered past order node) → host_list (always listing) (before_last past) node ≡ host_list (always listing) past node
 same-list listing past order node is =
     let same : interviews node past ≡ interviews node is.before =
     ap (interviews node) is.cut ∙ (shown-append (interview_at node) is.before (is.line ∷ []) ∙ ap (λ (l : List Bool). interviews node is.before ++ (l ++ [])) is.shown.untold ∙ append-nil (interviews node is.before)) in
-    ap (λ (l : List Entry). host_list listing l node) is.is
+    ap (λ (l : List Entry). host_list (always listing) l node) is.is
     ∙ ap (λ (told : List Bool). unwrap_or (cond (list_any (λ succeeded. succeeded) told) (Some (listing node)) (known_at_first node)) []) (sym same)
 
 -- ---- the answer to an order
@@ -296,34 +296,34 @@ accepted-so answer command node (inr (lets, other)) = absurd cc
 
 module _ (devices : List State) (kinds : AllByRecursion IsOfItsKind devices) where
   asked-order : (past : List Entry) (order : Order) (command node : ℕ) → line_last past ≡ lines.Command order ∷ []
-      → IsAnswer (answer_to (listing_of devices) (before_last past) order) (Accepted command node) → IsAsked (listing_of devices) past node
+      → IsAnswer (answer_to (always (listing_of devices)) (before_last past) order) (Accepted command node) → IsAsked (listing_of devices) past node
   asked-order past order command node said answer =
       let listing = listing_of devices in
-      let known = known_of listing (before_last past) order.node in
-      let taken = answer-of (before_last past) order.node (refusal_of known (properties_with listing (before_last past) order) order) command node (accepted-so _ command node answer) in
+      let known = known_of (always listing) (before_last past) order.node in
+      let taken = answer-of (before_last past) order.node (refusal_of known (properties_with (always listing) (before_last past) order) order) command node (accepted-so _ command node answer) in
       let ordered_so = ordered past order order.node said in
-      let good = passes known order (rule-none (first_refusal known order) (properties_with listing (before_last past) order) taken.none) in
-      let same : host_list listing (before_last past) order.node ≡ host_list listing past order.node = same-list listing past order order.node ordered_so in
+      let good = passes known order (rule-none (first_refusal known order) (properties_with (always listing) (before_last past) order) taken.none) in
+      let same : host_list (always listing) (before_last past) order.node ≡ host_list (always listing) past order.node = same-list listing past order order.node ordered_so in
       let kind = known-kind devices past order.node kinds (subst (λ (l : List ℕ). lists l 0x6C ≡ true) same good.supervised) in
       record {
         order = order;
         said = said;
         of_node = taken.same;
-        known = subst (λ (n : ℕ). actuator_of (host_list listing past n) ≡ actuator_by (kind_at n)) taken.same kind.known;
+        known = subst (λ (n : ℕ). actuator_of (host_list (always listing) past n) ≡ actuator_by (kind_at n)) taken.same kind.known;
         takes = subst (λ (n : ℕ). kind_lists (kind_at n) 0x6C ≡ true) taken.same kind.takes;
         named = what-named (actuator_by (kind_at order.node)) _ order.end order.what ordered_so.shown.reads.stands.2.0 ordered_so.shown.reads.stands.2.1 good.good;
       }
 
   follows-asked : (past : List Entry) (line : List Line) (command node : ℕ) → line_last past ≡ line
-      → Follows (listing_of devices) (refusals_to devices) (before_last past) line (Accepted command node) → IsAsked (listing_of devices) past node
+      → Follows (always (listing_of devices)) (refusals_to devices) (before_last past) line (Accepted command node) → IsAsked (listing_of devices) past node
   follows-asked past [] command node said follows = absurd follows
   follows-asked past (lines.Command order ∷ more) command node said follows = asked-order past order command node (one-line past order more said) follows
   follows-asked past (line ∷ more) command node said follows = absurd (refused-accepts line (refusals_to devices (before_last past) line) command node (all-only devices (before_last past) line) follows)
 
-  may-be-asked : (past : List Entry) (entry : Entry) → MayAnswer (listing_of devices) (refusals_to devices) past entry → MayBeAsked (listing_of devices) past entry
+  may-be-asked : (past : List Entry) (entry : Entry) → MayAnswer (always (listing_of devices)) (refusals_to devices) past entry → MayBeAsked (listing_of devices) past entry
   may-be-asked past (Accepted command node) may = follows-asked past (line_last past) command node refl may
   may-be-asked past entry may = tt
 
   pub are-asked : (whole : Bool) (transcript : List Entry) → AnswersLines whole devices transcript → AreAsked (listing_of devices) transcript
   are-asked whole transcript answers =
-      each-weaker (MayAnswer (listing_of devices) (refusals_to devices)) (MayBeAsked (listing_of devices)) may-be-asked [] transcript answers.between
+      each-weaker (MayAnswer (always (listing_of devices)) (refusals_to devices)) (MayBeAsked (listing_of devices)) may-be-asked [] transcript answers.between

@@ -15,7 +15,7 @@ use Rattle.host_orders.specs.Settings.{settings}
 use Rattle.host_orders.specs.declared.actuator.Actuator.{Actuator}
 use Rattle.law_transcript.specs.Commands.{before_accepted, order_of as order_in, settings_by as settings_with, settings_for}
 use Rattle.law_transcript.specs.Lists.{EachAfter}
-use Rattle.law_transcript.specs.Nodes.{host_list}
+use Rattle.law_transcript.specs.Nodes.{host_list, always}
 use Rattle.law_transcript.specs.Stores.{node_at}
 use Rattle.proof_host.specs.Laws.{MayAccept, accepted_for}
 use Rattle.audit_books.specs.Accepting.{order_there}
@@ -46,14 +46,14 @@ same-order command (one ∷ commands) = ap (λ (o : Option Order). cond (eqb one
 
 -- what the laws say that a command asks for is what its order asks of a device of the node's kind
 pub settings-are : (listing : ℕ → List ℕ) (past : List Entry) (command node : ℕ) → EachAfter MayAccept [] past → (given : IsGiven listing past command node)
-    → settings_for listing past node command ≡ settings_asked given.asked.order
+    → settings_for (always listing) past node command ≡ settings_asked given.asked.order
 settings-are listing past command node accepts given =
     let order = given.asked.order in
     let next = each-cut MayAccept past given.before (Accepted command node) given.later given.is accepts in
     let below = all-weaker (λ number. number ≤ length (accepted_numbers given.before)) (λ number. number < command) (λ number low. omega (arith, low, next)) (accepted_numbers given.before)
     (are-up-to given.before (each-before MayAccept past given.before (Accepted command node ∷ given.later) given.is accepts)) in
     let front : before_accepted command past ≡ given.before = ap (before_accepted command) given.is ∙ before-first given.before command node given.later below in
-    ap₂ (λ (l : List Entry) (o : Option Order). settings_with (host_list listing l node) o) front (same-order command (accepted node past) ∙ given.among)
+    ap₂ (λ (l : List Entry) (o : Option Order). settings_with (host_list (always listing) l node) o) front (same-order command (accepted node past) ∙ given.among)
     ∙ ap (λ (a : Actuator). settings a order) given.asked.known
     ∙ ap (λ (n : ℕ). settings (actuator_by (kind_at n)) order) (sym given.asked.of_node)
 

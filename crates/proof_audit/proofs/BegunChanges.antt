@@ -14,7 +14,7 @@ use Rattle.zw_text.specs.Transcript.{by_session, session_at, sessions}
 use Rattle.zw_text.proofs.Views.{shown-append}
 use Rattle.law_transcript.specs.Headline.{HeadlineOf}
 use Rattle.law_transcript.specs.Lists.{EachAfter, Has}
-use Rattle.law_transcript.specs.Nodes.{device_of, is_supervised}
+use Rattle.law_transcript.specs.Nodes.{device_of, is_supervised, always}
 use Rattle.law_transcript.specs.Once.{HasBegun, sessions_by}
 use Rattle.law_transcript.proofs.Having.{all_has, has_shown}
 use Rattle.proof_device.specs.Showing.{AreApart}
@@ -61,7 +61,7 @@ asides-begin node [] asides = refl
 asides-begin node (entry ∷ entries) asides =
     ap (λ (l : List ℕ). l ++ sessions node entries) (aside-begins node entry asides.0) ∙ asides-begin node entries asides.1
 
-may-front : (m : Machine) (a b : List Event) → MayAll m (a ++ b) → MayAll m a
+pub may-front : (m : Machine) (a b : List Event) → MayAll m (a ++ b) → MayAll m a
 may-front m [] b may = tt
 may-front m (event ∷ a) b may = (may.0, may-front (happens m event) a b may.1)
 
@@ -99,7 +99,7 @@ module _ (first : Machine) where
 
 module _ (first : Machine) (listing : ℕ → List ℕ)
     (headline : (lines : List Spoken) (node : ℕ) (device : State) → AreDone first lines → device_of node (after_all first lines).outside.devices ≡ Some device → is_supervised device ≡ true
-    → HeadlineOf listing node (transcript_of first lines) device)
+    → HeadlineOf (always listing) node (transcript_of first lines) device)
     (pieces : (lines : List Spoken) → AreDone first lines → ArePieces (after_all first lines).outside.devices (transcript_of first lines))
     (apart : (lines : List Spoken) → AreDone first lines → AreApart (after_all first lines).outside.devices)
     (supervised : (lines : List Spoken) → AreDone first lines → SetBySupervised (after_all first lines).outside.devices) where

@@ -23,7 +23,7 @@ use Rattle.law_transcript.specs.Commands.{numbers_of, settings_for}
 use Rattle.law_transcript.specs.Devices.{made_by}
 use Rattle.law_transcript.specs.Headline.{Headline}
 use Rattle.law_transcript.specs.Lists.{EachAfter, Has, listed}
-use Rattle.law_transcript.specs.Nodes.{device_of, is_supervised, listing_of}
+use Rattle.law_transcript.specs.Nodes.{device_of, is_supervised, listing_of, always}
 use Rattle.law_transcript.specs.Once.{HasBegun, Once, IsShownApplied, IsUndone, MayEnd, carried_by, commands_applied, sessions_by}
 use Rattle.law_transcript.proofs.Having.{all_has, has_either, has_left, has_right, has_shown, shown_has}
 use Rattle.proof_device.specs.Showing.{AreApart, IsShown, NeverFalls}
@@ -197,7 +197,7 @@ module _ (over_stays : Stays) (before after : List State) (transcript : List Ent
   record Told (node session : ℕ) : Type 0 where
     pub device : State
     pub found : device_of node after ≡ Some device
-    pub once : Once listing node transcript device.journal
+    pub once : Once (always listing) node transcript device.journal
     pub journal : made node transcript ≡ flat_map made_by device.journal
     pub done : Has (sessions_by device.journal) session
 
@@ -406,9 +406,9 @@ module _ (over_stays : Stays) (before after : List State) (transcript : List Ent
       let carried : Has (carried_by (sessions node transcript) (by_session change.change.by)) command =
       subst (λ (how : By). Has (carried_by (sessions node transcript) (by_session how)) command) (sym change.by)
       (in_carried (command_in (sessions node transcript) session) (same-command (sessions node transcript) session ∙ begun_then)) in
-      let asks : change.change.settings ≡ settings_for listing transcript node command =
-      all_has (λ number. change.change.settings ≡ settings_for listing transcript node number) (carried_by (sessions node transcript) (by_session change.change.by)) command
-      (all_has (λ (one : Change). AllByRecursion (λ number. one.settings ≡ settings_for listing transcript node number) (carried_by (sessions node transcript) (by_session one.by))) it.device.journal change.change
+      let asks : change.change.settings ≡ settings_for (always listing) transcript node command =
+      all_has (λ number. change.change.settings ≡ settings_for (always listing) transcript node number) (carried_by (sessions node transcript) (by_session change.change.by)) command
+      (all_has (λ (one : Change). AllByRecursion (λ number. one.settings ≡ settings_for (always listing) transcript node number) (carried_by (sessions node transcript) (by_session one.by))) it.device.journal change.change
       it.once.changes.settings change.among) carried in
       let later : order_among command (accepted node transcript) ≡ Some given.asked.order =
       ap (λ (l : List Entry). order_among command (accepted node l)) is

@@ -1,4 +1,5 @@
 -- The values of the nodes are the same by the rule of the table and by the law of the table.
+use Rattle.law_transcript.specs.Nodes.{always}
 use Rattle.std.proofs.Common.{◌≡◌, ◌⊎◌, ℕ, cond, eqb, Bool, true, false, List, [], ◌∷◌, ◌++◌, Option, Some, None, inl, inr, refl, sym, ap, ap₂, subst, ◌∙◌}
 use Rattle.std.specs.Prelude.{filter}
 use Rattle.std.specs.List.{AllByRecursion, flat_map}
@@ -81,10 +82,10 @@ all-named (one ∷ made) all =
     ap (λ (b : Bool). cond b (one ∷ filter is_setting made) (filter is_setting made)) all.0 ∙ ap (λ (l : List Setting). one ∷ l) (all-named made all.1)
 
 confirms-alike : (listing : ℕ → List ℕ) (transcript : List Entry) (node command : ℕ) → HostLaws transcript → IsGiven listing transcript command node
-    → confirmed_by transcript command ≡ cond (is_successful_outcome (outcome command transcript)) (settings_for listing transcript node command) []
+    → confirmed_by transcript command ≡ cond (is_successful_outcome (outcome command transcript)) (settings_for (always listing) transcript node command) []
 confirms-alike listing transcript node command laws given =
     let order = given.asked.order in
-    let asks : filter is_setting (settings_of transcript command) ≡ settings_for listing transcript node command =
+    let asks : filter is_setting (settings_of transcript command) ≡ settings_for (always listing) transcript node command =
     ap (λ (o : Option _). filter is_setting (settings_by o)) given.found
     ∙ (all-named (settings_asked order) given.asked.named ∙ sym (settings-are listing transcript command node laws.accepts given)) in
     ap₂ (λ (b : Bool) (l : List Setting). cond b l []) (successful-alike transcript command) asks
@@ -103,18 +104,18 @@ module _ (listing : ℕ → List ℕ) (transcript : List Entry) (laws : HostLaws
   abbrev Begun : List ℕ
   Begun = sessions node transcript
 
-  confirms-of : (command : ℕ) → Has Begun command → confirmed_by transcript command ≡ cond (is_successful_outcome (outcome command transcript)) (settings_for listing transcript node command) []
+  confirms-of : (command : ℕ) → Has Begun command → confirmed_by transcript command ≡ cond (is_successful_outcome (outcome command transcript)) (settings_for (always listing) transcript node command) []
   confirms-of command has = confirms-alike listing transcript node command laws (session-given listing transcript laws asked node command has)
 
-  confirmed-alike : (property : Property) → confirmed transcript node property ≡ confirmed_law listing transcript node property
+  confirmed-alike : (property : Property) → confirmed transcript node property ≡ confirmed_law (always listing) transcript node property
   confirmed-alike property =
-      given-alike (λ command. value_among (confirmed_by transcript command) property) (confirmed_one listing transcript node property) Begun
-      (all_of (λ command. value_among (confirmed_by transcript command) property ≡ confirmed_one listing transcript node property command) Begun (λ command has.
+      given-alike (λ command. value_among (confirmed_by transcript command) property) (confirmed_one (always listing) transcript node property) Begun
+      (all_of (λ command. value_among (confirmed_by transcript command) property ≡ confirmed_one (always listing) transcript node property command) Begun (λ command has.
       ap (λ (l : List Setting). value_among l property) (confirms-of command has)
-      ∙ value-if (is_successful_outcome (outcome command transcript)) (settings_for listing transcript node command) property))
+      ∙ value-if (is_successful_outcome (outcome command transcript)) (settings_for (always listing) transcript node command) property))
 
   abbrev line_law : Property → List Entry
-  line_law property = value_line node property (confirmed_law listing transcript node property) (heard_value transcript node property)
+  line_law property = value_line node property (confirmed_law (always listing) transcript node property) (heard_value transcript node property)
 
   abbrev line_rule : Property → List Entry
   line_rule property = value_line node property (confirmed transcript node property) (heard_value transcript node property)
@@ -123,7 +124,7 @@ module _ (listing : ℕ → List ℕ) (transcript : List Entry) (laws : HostLaws
   by_rule = flat_map (λ command. properties_of (confirmed_by transcript command)) Begun
 
   abbrev by_law : List Property
-  by_law = flat_map (λ command. properties_of (settings_for listing transcript node command)) Begun
+  by_law = flat_map (λ command. properties_of (settings_for (always listing) transcript node command)) Begun
 
   abbrev heard_since : List Property
   heard_since = properties_of (reported node (since_restart transcript))
@@ -132,15 +133,15 @@ module _ (listing : ℕ → List ℕ) (transcript : List Entry) (laws : HostLaws
   rule-in-law : (property : Property) → Has by_rule property → Has by_law property
   rule-in-law property has =
       let one = shown_has (λ command. properties_of (confirmed_by transcript command)) Begun property has in
-      has_shown (λ command. properties_of (settings_for listing transcript node command)) Begun one.by property one.among
-      (if_has (is_successful_outcome (outcome one.by transcript)) (settings_for listing transcript node one.by)
+      has_shown (λ command. properties_of (settings_for (always listing) transcript node command)) Begun one.by property one.among
+      (if_has (is_successful_outcome (outcome one.by transcript)) (settings_for (always listing) transcript node one.by)
       (subst (λ (l : List Setting). Has (properties_of l) property) (confirms-of one.by one.among) one.shows))
     where
       if_has : (b : Bool) (made : List Setting) → Has (properties_of (cond b made [])) property → Has (properties_of made) property
       if_has true made has = has
       if_has false made has = absurd has
 
-  known-in-law : (property : Property) → Has (properties_known transcript node) property → Has (properties_by listing transcript node) property
+  known-in-law : (property : Property) → Has (properties_known transcript node) property → Has (properties_by (always listing) transcript node) property
   known-in-law property has =
       in_order_has property_total property_exact (by_law ++ heard_since) property
       (by (has_either by_rule heard_since property (has_in_order property_total property_exact (by_rule ++ heard_since) property has)))
@@ -151,7 +152,7 @@ module _ (listing : ℕ → List ℕ) (transcript : List Entry) (laws : HostLaws
 
   -- what has a value is known
   valued-known : (property : Property) → (line_law property ≡ []) ⊎ Has (properties_known transcript node) property
-  valued-known property = by (confirmed_law listing transcript node property) (heard_value transcript node property) refl refl
+  valued-known property = by (confirmed_law (always listing) transcript node property) (heard_value transcript node property) refl refl
     where
       known : Has (by_rule ++ heard_since) property → Has (properties_known transcript node) property
       known has = in_order_has property_total property_exact (by_rule ++ heard_since) property has
@@ -165,7 +166,7 @@ module _ (listing : ℕ → List ℕ) (transcript : List Entry) (laws : HostLaws
       is-heard value (inl none) = absurd cc
       is-heard value (inr has) = has
 
-      by : (c h : Option ℕ) → confirmed_law listing transcript node property ≡ c → heard_value transcript node property ≡ h
+      by : (c h : Option ℕ) → confirmed_law (always listing) transcript node property ≡ c → heard_value transcript node property ≡ h
           → (value_line node property c h ≡ []) ⊎ Has (properties_known transcript node) property
       by None None first later = inl refl
       by (Some c) h first later = inr (known (has_left by_rule heard_since property (is-confirmed c (confirmed-alike property ∙ first))))
@@ -173,13 +174,13 @@ module _ (listing : ℕ → List ℕ) (transcript : List Entry) (laws : HostLaws
           inr (known (has_right by_rule heard_since property (is-heard h (last_has None (reported node (since_restart transcript)) property h later))))
 
   -- the lines of the values are the same
-  pub values-alike : flat_map line_rule (properties_known transcript node) ≡ value_lines listing transcript node
+  pub values-alike : flat_map line_rule (properties_known transcript node) ≡ value_lines (always listing) transcript node
   values-alike =
-      let agree : Agree property_total property_exact line_law (properties_known transcript node) (properties_by listing transcript node) = record {
+      let agree : Agree property_total property_exact line_law (properties_known transcript node) (properties_by (always listing) transcript node) = record {
         sorted = in_order_sorted property_total property_exact (by_rule ++ heard_since);
         too = in_order_sorted property_total property_exact (by_law ++ heard_since);
         there = λ property has. inr (known-in-law property has);
         back = λ property has. valued-known property;
       } in
       flat_same line_rule line_law (properties_known transcript node) (λ property. ap (λ (c : Option ℕ). value_line node property c (heard_value transcript node property)) (confirmed-alike property))
-      ∙ same_shown property_total property_exact line_law (properties_known transcript node) (properties_by listing transcript node) agree
+      ∙ same_shown property_total property_exact line_law (properties_known transcript node) (properties_by (always listing) transcript node) agree

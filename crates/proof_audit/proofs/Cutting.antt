@@ -5,6 +5,7 @@ use Rattle.law_transcript.specs.Lists.{EachAfter, Has}
 use Rattle.audit_books.specs.OnceRule.{breaks_once}
 use Rattle.audit_books.specs.SessionRule.{EachKeeps}
 use Rattle.proof_audit.specs.Whole.{EachKeepsOnce, following_of}
+use Rattle.proof_host.proofs.Over.{each-right as each-rest}
 
 -- ---- from each cut
 
@@ -53,11 +54,6 @@ pub each-before : {A : Type 0} (Allowed : List A → A → Type 0) (whole past r
 each-before Allowed whole past rest is all = each-front Allowed [] past rest (subst (λ (l : List _). EachAfter Allowed [] l) is all)
 
 -- and those from it on
-each-rest : {A : Type 0} (Allowed : List A → A → Type 0) (before past rest : List A) → EachAfter Allowed before (past ++ rest) → EachAfter Allowed (before ++ past) rest
-each-rest Allowed before [] rest all = subst (λ (l : List _). EachAfter Allowed l rest) (sym (append-nil before)) all
-each-rest Allowed before (item ∷ past) rest all =
-    subst (λ (l : List _). EachAfter Allowed l rest) (append_assoc before (item ∷ []) past) (each-rest Allowed (before ++ (item ∷ [])) past rest all.1)
-
 pub each-from : {A : Type 0} (Allowed : List A → A → Type 0) (whole past rest : List A) → whole ≡ past ++ rest → EachAfter Allowed [] whole → EachAfter Allowed past rest
 each-from Allowed whole past rest is all = each-rest Allowed [] past rest (subst (λ (l : List _). EachAfter Allowed [] l) is all)
 

@@ -134,7 +134,7 @@ pub record AreGiven (past : List Entry) : Type 0 where
   pub count : length (accepting_at past).orders ≡ length (accepted_numbers past)
   pub line : lines_of (accepting_at past).line ≡ line_last past
 
-given-more : (past : List Entry) (entry : Entry) → accepting_at (past ++ (entry ∷ [])) ≡ accepting_after (accepting_at past) entry
+pub given-more : (past : List Entry) (entry : Entry) → accepting_at (past ++ (entry ∷ [])) ≡ accepting_after (accepting_at past) entry
 given-more past entry = folded-append accepting_after (record { orders = []; line = None }) past (entry ∷ [])
 
 accepted-one : (n : ℕ) (past : List Entry) (entry : Entry) (lines : List Line) → lines ≡ line_last past → accepted n (past ++ (entry ∷ [])) ≡ accepted n past ++ accepted_at n lines entry

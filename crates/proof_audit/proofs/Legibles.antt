@@ -1,4 +1,5 @@
 -- Entries whose numbers are in their ranges are read back as they were written, and so are those of the table at the end.
+use Rattle.law_transcript.specs.Nodes.{always}
 use Rattle.std.proofs.Common.{ℕ, List}
 use Rattle.zw_base.proofs.Each.{all-both}
 use Rattle.zw_text.specs.Fits.{EntryFits}
@@ -29,7 +30,7 @@ table_line (TableValue node property confirmed heard) fits is = record { is = re
 table_line (Device node setting) fits is = record { is = record { fits = fits; shows = tt }; one_line = tt }
 table_line told fits is = absurd is
 
-pub table_legible : (listing : ℕ → List ℕ) (past : List Entry) (devices : List State) (clock : ℕ) → AreInRange (table_of listing clock past devices)
-    → AreLegible (table_of listing clock past devices)
+pub table_legible : (listing : ℕ → List ℕ) (past : List Entry) (devices : List State) (clock : ℕ) → AreInRange (table_of (always listing) clock past devices)
+    → AreLegible (table_of (always listing) clock past devices)
 table_legible listing past devices clock fit =
-    all-both EntryFits IsOfTable IsLegible table_line (table_of listing clock past devices) fit (table-is-lines listing clock past devices)
+    all-both EntryFits IsOfTable IsLegible table_line (table_of (always listing) clock past devices) fit (table-is-lines listing clock past devices)

@@ -1,6 +1,6 @@
 mod AnsweredOrders
 mod AskedSettings
-mod BegunChanges
+pub mod BegunChanges
 mod BegunCommands
 mod BegunSessions
 mod ChangedOnce

@@ -16,12 +16,9 @@ use Rattle.zw_text.specs.Transcript.{Made, made}
 use Rattle.law_transcript.specs.Devices.{made_by}
 use Rattle.law_transcript.specs.Stores.{last_value}
 use Rattle.audit_table.specs.TableRule.{settings_made, value_shown}
+use Rattle.proof_transcript.proofs.TicksBegun.{last_append as last-append}
 
 -- ---- the last value
-
-last-append : (before : Option ℕ) (xs ys : List Setting) (property : Property) → last_value before (xs ++ ys) property ≡ last_value (last_value before xs property) ys property
-last-append before [] ys property = refl
-last-append before (one ∷ xs) ys property = last-append (cond (same_property one.property property) (Some one.value) before) xs ys property
 
 last-by : (before : Option ℕ) (settings : List Setting) (property : Property) → unwrap_or (last_value before settings property) 0 ≡ value_by settings property (unwrap_or before 0)
 last-by before [] property = refl

@@ -1,4 +1,5 @@
 -- What the table of the host has of a command that succeeded is what the transcript says that it asks for.
+use Rattle.law_transcript.specs.Nodes.{always}
 use Rattle.std.proofs.Common.{◌≡◌, ℕ, List, [], ◌∷◌, ◌++◌, map, inl, inr, refl, sym, ap, ap₂, subst, ◌∙◌, append_assoc, append-nil}
 use Rattle.std.specs.List.{flat_map}
 use Rattle.std.proofs.lemmas.Bool.{cases_eq}
@@ -85,7 +86,7 @@ module _ (listing : ℕ → List ℕ) (commands : List Command) (transcript : Li
       ∙ (ap (λ (n : ℕ). map (Store order.node) (settings (actuator_by (kind_at n)) order)) (sym given.asked.of_node)
       ∙ sym (ap stores_by given.found)))
 
-  success-alike : (past rest : List Entry) (command : ℕ) → transcript ≡ past ++ Out command ended.Success ∷ rest → flat_map (stores_of listing past command) (accepted_for command past) ≡ asks_by commands command
+  success-alike : (past rest : List Entry) (command : ℕ) → transcript ≡ past ++ Out command ended.Success ∷ rest → flat_map (stores_of (always listing) past command) (accepted_for command past) ≡ asks_by commands command
   success-alike past rest command is =
       let entry = Out command ended.Success in
       let accepts = each-before MayAccept transcript past (entry ∷ rest) is laws.accepts in

@@ -1,4 +1,5 @@
 -- A transcript in which each success has its values directly after it keeps the rule of confirmed values.
+use Rattle.law_transcript.specs.Nodes.{always}
 use Rattle.std.proofs.Common.{◌≡◌, ℕ, zero, suc, ◌+◌, eqb, not, false, List, [], ◌∷◌, ◌++◌, map, drop, drop-drop, Option, Some, None, inl, inr, refl, sym, ap, ap₂, subst, ◌∙◌, append_assoc, append-nil}
 use Rattle.std.specs.Prelude.{slice_get}
 use Rattle.std.specs.List.{flat_map}
@@ -16,14 +17,14 @@ use Rattle.proof_host.specs.Laws.{MayAccept, accepted_for}
 use Rattle.audit_books.specs.Accepting.{order_at}
 use Rattle.audit_books.specs.Asking.{is_there, settings_asked}
 use Rattle.audit_books.specs.SessionRule.{EachKeeps}
-use Rattle.audit_table.specs.OrdersGiven.{Accepting as Given, accepting_after, accepting_at, order_of}
+use Rattle.audit_table.specs.OrdersGiven.{Accepting as Given, order_of}
 use Rattle.audit_table.specs.StoreRule.{breaks_next, breaks_order, breaks_store, breaks_storing, is_store, one_more, storing_after, storing_last}
 use Rattle.audit_table.specs.declared.stores.Storing.{Storing}
 use Rattle.proof_audit.specs.Books.{AreAsked, MayBeAsked}
 use Rattle.proof_audit.specs.Tables.{IsToStore, to_store, to_store_from, to_store_step}
 use Rattle.proof_audit.proofs.AskedSettings.{accepted-or-none, settings-are}
 use Rattle.proof_audit.proofs.Cutting.{each-before, each-cut, keeps-each}
-use Rattle.proof_audit.proofs.GivenOrders.{is-given-for}
+use Rattle.proof_audit.proofs.GivenOrders.{is-given-for, given-more as given-one}
 use Rattle.proof_audit.proofs.SameSettings.{setting-itself}
 
 -- ---- values from a place on
@@ -68,9 +69,6 @@ to-store-one listing past entry = to-store-from listing [] [] past entry
 storing-one : (past : List Entry) (entry : Entry) → storing_last (past ++ (entry ∷ [])) ≡ storing_after (storing_last past) entry
 storing-one past entry = folded-append storing_after None past (entry ∷ [])
 
-given-one : (past : List Entry) (entry : Entry) → accepting_at (past ++ (entry ∷ [])) ≡ accepting_after (accepting_at past) entry
-given-one past entry = folded-append accepting_after (record { orders = []; line = None }) past (entry ∷ [])
-
 -- an entry that accepts nothing leaves the orders
 orders-out : (past : List Entry) (number : ℕ) (how : Ended) (command : ℕ) → order_of (past ++ (Out number how ∷ [])) command ≡ order_of past command
 orders-out past number how command = ap (λ (one : Given). order_at one.orders command) (given-one past (Out number how))
@@ -81,17 +79,17 @@ orders-store past node setting command = ap (λ (one : Given). order_at one.orde
 module _ (listing : ℕ → List ℕ) where
   -- the values of a success
   pub success-due : (past : List Entry) (command : ℕ) → EachAfter MayAccept [] past → AreAsked listing past
-      → flat_map (stores_of listing past command) (accepted_for command past) ≡ stores_by (order_of past command)
+      → flat_map (stores_of (always listing) past command) (accepted_for command past) ≡ stores_by (order_of past command)
   success-due past command accepts asked = elim (accepted-or-none past command accepts) [
-    | inl (none, no_order) ↦ ap (flat_map (stores_of listing past command)) none ∙ sym (ap stores_by no_order)
+    | inl (none, no_order) ↦ ap (flat_map (stores_of (always listing) past command)) none ∙ sym (ap stores_by no_order)
     | inr (node, one) ↦ of_node node one
   ]
     where
-      of_node : (node : ℕ) → accepted_for command past ≡ node ∷ [] → flat_map (stores_of listing past command) (accepted_for command past) ≡ stores_by (order_of past command)
+      of_node : (node : ℕ) → accepted_for command past ≡ node ∷ [] → flat_map (stores_of (always listing) past command) (accepted_for command past) ≡ stores_by (order_of past command)
       of_node node one =
           let given = is-given-for listing past accepts asked command node one in
-          ap (flat_map (stores_of listing past command)) one
-          ∙ append-nil (stores_of listing past command node)
+          ap (flat_map (stores_of (always listing) past command)) one
+          ∙ append-nil (stores_of (always listing) past command node)
           ∙ ap₂ (λ (n : ℕ) (l : List Setting). map (Store n) l) (sym given.asked.of_node) (settings-are listing past command node accepts given)
           ∙ sym (ap stores_by given.found)
 

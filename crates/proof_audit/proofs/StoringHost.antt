@@ -1,10 +1,8 @@
 -- At each event of a host, the values of a success stand directly after it, by what its table has of the command.
-use Rattle.std.proofs.Common.{◌≡◌, ℕ, zero, suc, Bool, true, false, List, [], ◌∷◌, ◌++◌, All, drop, Option, Some, refl, sym, ap, ap₂, subst, ◌∙◌}
+use Rattle.std.proofs.Common.{◌≡◌, ℕ, Bool, true, false, List, [], ◌∷◌, ◌++◌, drop, Option, Some, refl, sym, ap, ap₂, subst, ◌∙◌}
 use Rattle.std.specs.List.{AllByRecursion}
 use Rattle.zw_base.proofs.Each.{all-append, all-weaker}
 use Rattle.zw_base.specs.declared.property.Setting.{Setting}
-use Rattle.supervision.specs.Host.{command_at as command_in}
-use Rattle.supervision.proofs.OnceLemmas.{All-slice_get}
 use Rattle.zw_text.specs.declared.entry.Ended.TheVariants as ended
 use Rattle.zw_text.specs.declared.entry.Entry.{Entry}
 use Rattle.zw_text.specs.declared.entry.Entry.TheVariants.{Accepted, Begin, Out, Store}
@@ -18,16 +16,18 @@ use Rattle.host_model.specs.State.{Command, HostState, command_at}
 use Rattle.host_model.specs.Events.{HostEvent, Finishes, Interviews}
 use Rattle.host_model.specs.After.{after, is_held}
 use Rattle.host_model.specs.May.{May as MayHost}
-use Rattle.host_model.specs.Outs.{held_entries, noted, stored_entries}
+use Rattle.host_model.specs.Outs.{held_entries, stored_entries}
 use Rattle.host_model.specs.Sessions.{settings_with}
 use Rattle.host_model.specs.Facts.{IsCommandOf}
-use Rattle.proof_host.specs.Entries.{IsAside, entries_at, notes_of}
+use Rattle.proof_host.specs.Entries.{IsAside, entries_at}
 use Rattle.proof_host.specs.Facts.{Facts}
 use Rattle.proof_host.specs.Stores.{stores_at, stores_by}
 use Rattle.proof_host.specs.Tables.{taken_at, taken_by}
 use Rattle.proof_once.specs.Tied.{KeepsOrders}
 use Rattle.proof_transcript.proofs.RoutineNotes.{IsRoutine, event_routine}
 use Rattle.proof_audit.specs.Tables.{IsToStore}
+use Rattle.proof_host.proofs.Effects.{notes_noted as notes-noted}
+use Rattle.proof_headline.proofs.Succeeding.{owned}
 
 -- ---- values in their place, by what each command asks for
 
@@ -201,19 +201,9 @@ calm-event past entries old new keeps facts later known none =
     ∙ ap (λ (l : List Entry). l ++ shown (stores_at new.commands) entries) (asked-alike old.commands new.commands keeps past known ∙ sym facts.stored.entered))) in
     calm-of entries none (left-cancel (shown store_at past) (shown store_at entries) (shown (stores_at new.commands) entries) same ∙ none-asked new.commands entries none)
 
--- what is noted is what is entered
-notes-noted : (entries : List Entry) → notes_of (noted entries) ≡ entries
-notes-noted [] = refl
-notes-noted (entry ∷ entries) = ap (λ (l : List Entry). entry ∷ l) (notes-noted entries)
-
 held-calm : (node : ℕ) (held : Bool) → AllByRecursion IsCalm (held_entries node held)
 held-calm node true = (tt, tt)
 held-calm node false = tt
-
--- the command of a session of a node was accepted for it
-owned : (commands : List Command) (node : ℕ) (numbers : List ℕ) (session number : ℕ) → All (IsCommandOf commands node) numbers → command_in numbers session ≡ Some number → IsCommandOf commands node number
-owned commands node numbers zero number all is = absurd cc
-owned commands node numbers (suc before) number all is = All-slice_get (IsCommandOf commands node) numbers before number all is
 
 -- a success, with the values that it confirms
 success-stores : (old new : List Command) (node number : ℕ) (more : List Entry) → KeepsOrders old new → IsCommandOf old node number → AllByRecursion IsCalm more

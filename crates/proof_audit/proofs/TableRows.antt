@@ -16,7 +16,7 @@ use Rattle.zw_text.specs.Transcript.{Made, joined, made, made_at, sessions}
 use Rattle.zw_text.proofs.Views.{shown-append}
 use Rattle.device_stack.specs.State.{State}
 use Rattle.device_stack.specs.Showing.{shown_of}
-use Rattle.law_transcript.specs.Nodes.{device_of}
+use Rattle.law_transcript.specs.Nodes.{device_of, always}
 use Rattle.law_transcript.specs.Stores.{last_value}
 use Rattle.law_transcript.specs.Table.{device_lines, in_order, node_lines, table_of, value_line, value_lines}
 use Rattle.value_store.proofs.Keys.{same_property_laws}
@@ -192,23 +192,23 @@ module _ (transcript : List Entry) (ticks : ℕ) (none : has_end transcript ≡ 
   )
 
   module _ (listing : ℕ → List ℕ) (devices : List State)
-      (alike : (node : ℕ) → node_rows transcript node ≡ TableNode node (sessions node transcript) ∷ value_lines listing transcript node)
+      (alike : (node : ℕ) → node_rows transcript node ≡ TableNode node (sessions node transcript) ∷ value_lines (always listing) transcript node)
       (shows : (node : ℕ) (device : State) → device_of node devices ≡ Some device → AllByRecursion (IsLastShown transcript node) (shown_of device)) where
     device-lines-keep : (node : ℕ) (found : Option State) → device_of node devices ≡ found → (rest done due : List Entry) → Left done due → AllByRecursion IsOfTable done
         → ((now : List Entry) → Left now due → AllByRecursion IsOfTable now → EachKeeps breaks_table (upto now) rest) → EachKeeps breaks_table (upto done) (device_lines node found ++ rest)
     device-lines-keep node None is rest done due left of_table then_keeps = then_keeps done left of_table
     device-lines-keep node (Some device) is rest done due left of_table then_keeps = devices-keep node (shown_of device) rest done due (shows node device is) left of_table then_keeps
 
-    node-split : (node : ℕ) (rest : List Entry) → node_lines listing transcript devices node ++ rest ≡ node_rows transcript node ++ (device_lines node (device_of node devices) ++ rest)
+    node-split : (node : ℕ) (rest : List Entry) → node_lines (always listing) transcript devices node ++ rest ≡ node_rows transcript node ++ (device_lines node (device_of node devices) ++ rest)
     node-split node rest =
-        ap (λ (l : List Entry). TableNode node (sessions node transcript) ∷ l) (append_assoc (value_lines listing transcript node) (device_lines node (device_of node devices)) rest)
+        ap (λ (l : List Entry). TableNode node (sessions node transcript) ∷ l) (append_assoc (value_lines (always listing) transcript node) (device_lines node (device_of node devices)) rest)
         ∙ ap (λ (l : List Entry). l ++ (device_lines node (device_of node devices) ++ rest)) (sym (alike node))
 
     nodes-keep : (nodes : List ℕ) (done : List Entry) → Left done (flat_map (node_rows transcript) nodes) → AllByRecursion IsOfTable done
-        → EachKeeps breaks_table (upto done) (flat_map (node_lines listing transcript devices) nodes)
+        → EachKeeps breaks_table (upto done) (flat_map (node_lines (always listing) transcript devices) nodes)
     nodes-keep [] done left of_table = tt
     nodes-keep (node ∷ nodes) done left of_table =
-        let rest = flat_map (node_lines listing transcript devices) nodes in
+        let rest = flat_map (node_lines (always listing) transcript devices) nodes in
         let due = flat_map (node_rows transcript) nodes in
         subst (λ (l : List Entry). EachKeeps breaks_table (upto done) l) (sym (node-split node rest))
         (rows-keep (node_rows transcript node) (device_lines node (device_of node devices) ++ rest) done due (all-rows transcript node) left of_table
@@ -220,7 +220,7 @@ module _ (transcript : List Entry) (ticks : ℕ) (none : has_end transcript ≡ 
         ap (λ (b : Bool). b && breaks_end past entry)
         (or_parts (has_end past) (has_end (entry ∷ rest)) (sym (list_any-append is_end past (entry ∷ rest)) ∙ (sym (ap has_end is) ∙ none))).0)
 
-    pub keeps-table : EachKeeps breaks_table [] (transcript ++ table_of listing ticks transcript devices)
+    pub keeps-table : EachKeeps breaks_table [] (transcript ++ table_of (always listing) ticks transcript devices)
     keeps-table =
-        each-end breaks_table [] transcript (table_of listing ticks transcript devices) run-keeps
+        each-end breaks_table [] transcript (table_of (always listing) ticks transcript devices) run-keeps
         (ap (λ (b : Bool). b && false) none, nodes-keep (in_order nat_cmp (joined transcript)) [] refl tt)

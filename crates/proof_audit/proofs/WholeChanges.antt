@@ -25,6 +25,7 @@ use Rattle.proof_device.proofs.KeptKinds.{event_same}
 use Rattle.proof_device.proofs.Others.{IsOther, Others, ends_other, sends_other, to_chip_other}
 use Rattle.proof_audit.specs.Books.{ArePieces, IsChangeOf, IsNoChange, IsPiece, Piece, piece_entries}
 use Rattle.proof_audit.specs.Books.Piece.{Loose, Whole}
+use Rattle.proof_once.proofs.CommandsOfSessions.{stands_has as at-has}
 
 -- ---- pieces
 
@@ -59,12 +60,6 @@ all-changes devices node (change ∷ changes) all =
     pieces-then devices (change_entries node (Some change)) (changes_entries node changes)
     (one-change devices node (Some change) (λ other is. let same : change ≡ other = cc in subst (IsChangeOf devices node) same all.0))
     (all-changes devices node changes all.1)
-
--- an item at a place
-at-has : {A : Type 0} (items : List A) (at : ℕ) (item : A) → slice_get items at ≡ Some item → Has items item
-at-has [] at item is = absurd cc
-at-has (first ∷ items) zero item is = let same : first ≡ item = cc in inl same
-at-has (first ∷ items) (suc at) item is = inr (at-has items at item is)
 
 -- ---- events of the air
 

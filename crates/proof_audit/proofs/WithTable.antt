@@ -15,7 +15,7 @@ use Rattle.zw_text.specs.declared.entry.Entry.{Entry}
 use Rattle.zw_text.specs.declared.entry.Entry.TheVariants.{Device, Said, TableEnd, TableNode, TableValue}
 use Rattle.zw_text.specs.Transcript.{joined, line_of}
 use Rattle.law_transcript.specs.Lists.{EachAfter}
-use Rattle.law_transcript.specs.Nodes.{device_of}
+use Rattle.law_transcript.specs.Nodes.{device_of, always}
 use Rattle.law_transcript.specs.Stores.{heard_value}
 use Rattle.law_transcript.specs.Table.{device_lines, in_order, node_lines, properties_known, table_of, value_line, value_lines}
 use Rattle.law_transcript.specs.Values.{confirmed}
@@ -56,17 +56,17 @@ values-table node stored heard (property ∷ properties) =
     all-append IsOfTable (value_line node property (stored property) (heard property)) (flat_map (λ one. value_line node one (stored one) (heard one)) properties)
     (value-table node property (stored property) (heard property)) (values-table node stored heard properties)
 
-nodes-table : (listing : ℕ → List ℕ) (transcript : List Entry) (devices : List State) (nodes : List ℕ) → AllByRecursion IsOfTable (flat_map (node_lines listing transcript devices) nodes)
+nodes-table : (listing : ℕ → List ℕ) (transcript : List Entry) (devices : List State) (nodes : List ℕ) → AllByRecursion IsOfTable (flat_map (node_lines (always listing) transcript devices) nodes)
 nodes-table listing transcript devices [] = tt
 nodes-table listing transcript devices (node ∷ nodes) =
-    all-append IsOfTable (node_lines listing transcript devices node) (flat_map (node_lines listing transcript devices) nodes) (
+    all-append IsOfTable (node_lines (always listing) transcript devices node) (flat_map (node_lines (always listing) transcript devices) nodes) (
       tt,
-      all-append IsOfTable (value_lines listing transcript node) (device_lines node (device_of node devices))
-          (values-table node (confirmed listing transcript node) (heard_value transcript node) (properties_known listing transcript node)) (device-lines-table node (device_of node devices)),
+      all-append IsOfTable (value_lines (always listing) transcript node) (device_lines node (device_of node devices))
+          (values-table node (confirmed (always listing) transcript node) (heard_value transcript node) (properties_known (always listing) transcript node)) (device-lines-table node (device_of node devices)),
     )
     (nodes-table listing transcript devices nodes)
 
-pub table-is-lines : (listing : ℕ → List ℕ) (ticks : ℕ) (transcript : List Entry) (devices : List State) → AllByRecursion IsOfTable (table_of listing ticks transcript devices)
+pub table-is-lines : (listing : ℕ → List ℕ) (ticks : ℕ) (transcript : List Entry) (devices : List State) → AllByRecursion IsOfTable (table_of (always listing) ticks transcript devices)
 table-is-lines listing ticks transcript devices = (tt, nodes-table listing transcript devices (in_order nat_cmp (joined transcript)))
 
 -- ---- rules that a line of the table does not concern

@@ -15,7 +15,7 @@ use Rattle.zw_text.specs.declared.entry.Entry.TheVariants.{Accepted, Dev}
 use Rattle.zw_text.specs.Transcript.{line_last}
 use Rattle.outside_model.specs.Air.{change_entries}
 use Rattle.law_transcript.specs.Lists.{EachAfter, Has}
-use Rattle.law_transcript.specs.Nodes.{host_list}
+use Rattle.law_transcript.specs.Nodes.{host_list, always}
 use Rattle.law_transcript.specs.Once.{HasBegun}
 use Rattle.audit_books.specs.Asking.{actuator_by, is_setting, kind_at, settings_asked}
 
@@ -31,7 +31,7 @@ pub record IsAsked (listing : ℕ → List ℕ) (past : List Entry) (node : ℕ)
   pub order : Order
   pub said : line_last past ≡ Commanded order ∷ []
   pub of_node : order.node ≡ node
-  pub known : actuator_of (host_list listing past node) ≡ actuator_by (kind_at node)
+  pub known : actuator_of (host_list (always listing) past node) ≡ actuator_by (kind_at node)
   pub takes : lists (kind_at node) 0x6C ≡ true
   pub named : AllByRecursion (λ (made : Setting). is_setting made ≡ true) (settings_asked order)
 

@@ -1,4 +1,5 @@
 -- What a transcript shows of confirmed values and of the table at its end, besides the laws of values, where it keeps the rules of both (this project's own rule).
+use Rattle.law_transcript.specs.Nodes.{always}
 use Rattle.std.specs.Prelude.{◌≡◌, ℕ, List, [], ◌∷◌, ◌++◌, drop, ⊤}
 use Rattle.std.specs.List.{flat_map}
 use Rattle.zw_text.specs.declared.entry.Ended.TheVariants.{Success}
@@ -12,7 +13,7 @@ use Rattle.law_transcript.specs.Stores.{node_at, stores_of}
 
 -- the values that are still to stand directly after an entry
 abbrev pub to_store_step : (ℕ → List ℕ) → List Entry → List Entry → Entry → List Entry
-to_store_step listing past due (Out command Success) = flat_map (stores_of listing past command) (shown (node_at command) past)
+to_store_step listing past due (Out command Success) = flat_map (stores_of (always listing) past command) (shown (node_at command) past)
 to_store_step listing past due (Store node setting) = drop 1 due
 to_store_step listing past due _ = []
 

@@ -3,7 +3,7 @@
 ghost use Rattle.std.specs.Prelude.{◌++◌, ℕ, List as Items};
 ghost use Rattle.zw_text.specs.declared.entry.Entry.{Entry};
 ghost use Rattle.device_stack.specs.State.{State};
-ghost use Rattle.law_transcript.specs.Nodes.{listing_of};
+ghost use Rattle.law_transcript.specs.Nodes.{always, listing_of};
 ghost use Rattle.law_transcript.specs.Table.{table_of};
 ghost use Rattle.proof_audit.specs.Rules.{KeepsLaws};
 ghost use Rattle.proof_audit.specs.Whole.{KeepsRules};
@@ -16,7 +16,7 @@ use crate::tables::{a_table_is_its_lines, tables_are_as_due, values_stand_after_
 /// A transcript that keeps these laws keeps every rule, with the table that it shows after it.
 pub fn laws_keep_every_rule()
     ensures { (before after : Items State) (ticks : ℕ) (transcript : Items Entry) → KeepsLaws before after transcript →
-        KeepsRules (transcript ++ table_of (listing_of before) ticks transcript after) }
+        KeepsRules (transcript ++ table_of (always (listing_of before)) ticks transcript after) }
 {
     sessions_are_in_order();
     changes_are_made_once();

@@ -5,7 +5,7 @@ ghost use Rattle.std.specs.List.{AllByRecursion};
 ghost use Rattle.s0_crypto.specs.declared.key_pair.Keys.{Keys};
 ghost use Rattle.device_stack.specs.State.{State};
 ghost use Rattle.zw_text.specs.declared.entry.Entry.{Entry};
-ghost use Rattle.law_transcript.specs.Nodes.{listing_of};
+ghost use Rattle.law_transcript.specs.Nodes.{always, listing_of};
 ghost use Rattle.law_transcript.specs.Table.{table_of};
 ghost use Rattle.law_wire.specs.Shown.{ShowsDevices};
 ghost use Rattle.proof_device.specs.Showing.{IsShown};
@@ -37,12 +37,13 @@ pub fn values_stand_after_success()
 pub fn tables_are_as_due()
     ensures { (before after : Items State) (ticks : ℕ) (transcript : Items Entry) → HostLaws transcript → AreAsked (listing_of before) transcript →
         AllByRecursion (IsShown transcript) after → ShowsDevices before transcript →
-        EachKeeps breaks_table [] (transcript ++ table_of (listing_of before) ticks transcript after) }
+        EachKeeps breaks_table [] (transcript ++ table_of (always (listing_of before)) ticks transcript after) }
 {}
 
 /// The lines of the table are lines of a table, whatever the transcript and the devices are.
 pub fn a_table_is_its_lines()
-    ensures { (listing : ℕ → Items ℕ) (ticks : ℕ) (transcript : Items Entry) (devices : Items State) → AllByRecursion IsOfTable (table_of listing ticks transcript devices) }
+    ensures { (listing : ℕ → Items ℕ) (ticks : ℕ) (transcript : Items Entry) (devices : Items State) →
+        AllByRecursion IsOfTable (table_of (always listing) ticks transcript devices) }
 {}
 
 /// Over any lines, the last of which an allocation failure may have cut short, the values that the command of each success asks for stand directly after it, all of

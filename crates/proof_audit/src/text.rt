@@ -1,5 +1,6 @@
 //! That each entry of a run, and of the table after it, is read back as it was written.
 
+ghost use Rattle.law_transcript.specs.Nodes.{always};
 ghost use Rattle.std.specs.Prelude.{ℕ, List as Items};
 ghost use Rattle.std.specs.List.{AllByRecursion};
 ghost use Rattle.zw_text.specs.declared.entry.Entry.{Entry};
@@ -19,6 +20,7 @@ pub fn lines_show_texts()
 /// shows none.
 pub fn entries_are_legible()
     ensures entries { (transcript : Items Entry) → AreInRange transcript → ShowTexts transcript → AreLegible transcript }
-    ensures table { (listing : ℕ → Items ℕ) (clock : ℕ) (past : Items Entry) (devices : Items State) → AreInRange (table_of listing clock past devices) →
-        AreLegible (table_of listing clock past devices) }
+    ensures table { (listing : ℕ → Items ℕ) (clock : ℕ) (past : Items Entry) (devices : Items State) →
+        AreInRange (table_of (always listing) clock past devices) →
+        AreLegible (table_of (always listing) clock past devices) }
 {}

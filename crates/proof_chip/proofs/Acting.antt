@@ -1,8 +1,9 @@
 -- What devices and the air do puts no frame of the controller on the air, since node 1 has not joined; so what is known of the law of what goes on the air goes on.
-use Rattle.std.proofs.Common.{◌≡◌, ℕ, zero, suc, ◌+◌, ◌-◌, ◌==◌, Bool, true, false, List, [], ◌∷◌, length, refl, sym, ap, ◌∙◌, eqb-true}
+use Rattle.std.proofs.Common.{◌≡◌, ℕ, zero, suc, ◌+◌, ◌-◌, ◌==◌, Bool, true, false, List, [], ◌∷◌, ◌++◌, length, refl, sym, ap, ◌∙◌, eqb-true}
 use Rattle.std.specs.Prelude.{Option, Some, None, option_map, slice_get, slice_set}
 use Rattle.std.specs.List.{AllByRecursion, flat_map}
 use Rattle.zw_base.proofs.Each.{all-append, all-weaker}
+use Rattle.serial_link.specs.Rules.{Step}
 use Rattle.route_table.specs.declared.route.Route.{Route}
 use Rattle.device_sim.specs.State.{State}
 use Rattle.device_sim.specs.Event.{DeviceEvent, Hears, device_after, device_replies}
@@ -27,10 +28,11 @@ use Rattle.outside_model.specs.Devices.{acts, changes_entries, new_changes}
 use Rattle.outside_model.specs.Events.{mesh_of, steps}
 use Rattle.proof_device.proofs.Entered.{IsChange, changes_entered}
 use Rattle.proof_walk.specs.Outside.{Comes, IsHearing}
-use Rattle.proof_walk.proofs.Moving.{moves_both, moves_none}
+use Rattle.proof_line.proofs.ChipAccounts.{steps_account, steps_by}
 use Rattle.proof_chip.specs.Knowing.{AnyEntry}
 use Rattle.proof_chip.specs.Sending.{KnowsAir}
-use Rattle.proof_chip.proofs.Going.{AreApart, IsApart, IsNotOwn, air_goes, apart_goes, change_apart}
+use Rattle.proof_chip.proofs.Going.{AreApart, IsApart, IsNotOwn, account_goes, apart_goes, change_apart, deals_other}
+use Rattle.proof_chip.proofs.Passing.{IsOther}
 
 -- the controller has not joined the air
 abbrev pub NotHome : AirState → Type 0
@@ -142,24 +144,22 @@ hearing_outs_own there step hearing home = absurd hearing
 
 -- ---- what goes on
 
+all_other : (there : List State) (events : List AirEvent) (o : OuterState) → AreNotOwn events → AllByRecursion IsOther (each (deals there) o events).entries
+all_other there [] o own = tt
+all_other there (event ∷ events) o own =
+    let one : Outcome = deals there o event in
+    all-append IsOther one.entries (each (deals there) one.outer events).entries (deals_other there o event own.0) (all_other there events one.outer own.1)
+
 module _ (devices : List State) (Are : List Sending → Type 0) where
-  pub acts_go : (w : Outside) (place : ℕ) (device : State) (event : DeviceEvent) (route : Option Route) → NotHome w.outer.air
-      → Comes AnyEntry (KnowsAir devices Are) w (acts w.outer device event route) (slice_set w.devices place (device_after device event)) (KnowsAir devices Are)
-  acts_go w place device event route home =
-      apart_goes devices Are w (outside (acts w.outer device event route).outer (slice_set w.devices place (device_after device event))) (acts w.outer device event route).entries
+  pub acts_go : (did : List Step) (w : Outside) (place : ℕ) (device : State) (event : DeviceEvent) (route : Option Route) → NotHome w.outer.air
+      → Comes AnyEntry (KnowsAir devices Are did) w (acts w.outer device event route) (slice_set w.devices place (device_after device event)) (KnowsAir devices Are did)
+  acts_go did w place device event route home =
+      apart_goes devices Are did w (outside (acts w.outer device event route).outer (slice_set w.devices place (device_after device event))) (acts w.outer device event route).entries
       (acts_apart w.outer device event route home) refl
 
-  all_go : (there : List State) (events : List AirEvent) (o : OuterState) → AreNotOwn events → Comes AnyEntry (KnowsAir devices Are) (outside o there) (each (deals there) o events) there (KnowsAir devices Are)
-  all_go there [] o own = moves_none AnyEntry (KnowsAir devices Are) (outside o there)
-  all_go there (event ∷ events) o own =
-      let one : Outcome = deals there o event in
-      let rest : Outcome = each (deals there) one.outer events in
-      moves_both AnyEntry (KnowsAir devices Are) (KnowsAir devices Are) (KnowsAir devices Are) (outside o there) (outside one.outer there) (outside rest.outer there) one.entries rest.entries
-      (air_goes devices Are there o event own.0) (all_go there events one.outer own.1)
-
-  pub steps_go : (w : Outside) (step : AirStep) → IsHearing step → NotHome w.outer.air → Comes AnyEntry (KnowsAir devices Are) w (steps w step) (mesh_after (mesh_of w) step).devices (KnowsAir devices Are)
-  steps_go w step hearing home =
+  pub steps_go : (did : List Step) (w : Outside) (step : AirStep) → IsHearing step → NotHome w.outer.air
+      → Comes AnyEntry (KnowsAir devices Are did) w (steps w step) (mesh_after (mesh_of w) step).devices (KnowsAir devices Are (did ++ steps_by (steps_account w step)))
+  steps_go did w step hearing home =
       let there : List State = (mesh_after (mesh_of w) step).devices in
       let o : OuterState = record w.outer { air = (mesh_after (mesh_of w) step).air } in
-      moves_both AnyEntry (KnowsAir devices Are) (KnowsAir devices Are) (KnowsAir devices Are) w (outside o there) (outside (steps w step).outer there) [] (steps w step).entries
-      (apart_goes devices Are w (outside o there) [] tt refl) (all_go there (mesh_outs (mesh_of w) step) o (hearing_outs_own (mesh_of w) step hearing home))
+      account_goes devices Are there did (steps_account w step) (all_other there (mesh_outs (mesh_of w) step) o (hearing_outs_own (mesh_of w) step hearing home))

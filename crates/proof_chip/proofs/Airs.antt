@@ -4,14 +4,13 @@ use Rattle.std.specs.Prelude.{Option, None}
 use Rattle.std.specs.List.{AllByRecursion}
 use Rattle.zw_base.proofs.Each.{all-weaker}
 use Rattle.s0_crypto.specs.declared.key_pair.Keys.{Keys}
-use Rattle.serial_link.specs.Rules.{SideObeys}
+use Rattle.serial_link.specs.Rules.{SideObeys, Step}
 use Rattle.chip_sim.specs.Waiting.{no_port}
 use Rattle.chip_sim.specs.declared.out.Sending.{Sending as SendingParts}
 use Rattle.zw_text.specs.declared.line.Line.{Line}
 use Rattle.zw_text.specs.declared.line.Line.TheVariants as lines
 use Rattle.zw_text.specs.declared.entry.Entry.{Entry}
 use Rattle.zw_text.specs.declared.entry.Entry.TheVariants as entry
-use Rattle.law_transcript.specs.Lists.{EachAfter}
 use Rattle.law_wire.specs.Asked.{Sending, in_tick}
 use Rattle.host_model.specs.Ticking.{tick_events}
 use Rattle.outside_model.specs.Devices.{State}
@@ -22,18 +21,15 @@ use Rattle.world_model.specs.Events.{Event, Outside_does, May, entries, happens}
 use Rattle.proof_walk.specs.ByLine.{CoversLine}
 use Rattle.proof_walk.specs.Outside.{CoversOuter}
 use Rattle.proof_walk.specs.Phases.{Phase, Between, Said_line, Begun, Doing, To_tick, Ticked, Arriving, Giving, Ticking_devices, Ticking_chip, Ticking_decoder, Ticking_host, Sleeping, Submitting, Moving, Moved, Goes, Turns}
-use Rattle.proof_walk.specs.Walk.{WalkOver}
 use Rattle.proof_walk.proofs.ByLine.{effect_covered}
-use Rattle.proof_walk.proofs.Stepping.{event_then}
 use Rattle.proof_walk.proofs.Times.{IsWithin, outcome_time}
-use Rattle.proof_chip.specs.Knowing.{AnyEntry}
 use Rattle.proof_chip.specs.Sending.{AirSo, AreBefore, AreNow, AreSending, GroundAir, IsMild, KnowAir}
-use Rattle.proof_chip.proofs.Ending.{service_first}
+use Rattle.proof_line.proofs.ChipAccounts.{event_steps, outer_steps}
+use Rattle.proof_chip.proofs.Ending.{serves_none}
 use Rattle.proof_chip.proofs.Going.{apart_goes}
 use Rattle.proof_chip.proofs.Judges.{now_as, takes_event, weaker}
 use Rattle.proof_chip.proofs.Keeping.{TakesNone, event_keeps}
 use Rattle.proof_chip.proofs.Mild.{entered_alike, event_alike}
-use Rattle.proof_chip.proofs.Walking.{any_each}
 
 -- ---- SendData of earlier ticks
 
@@ -77,48 +73,58 @@ covers_line (lines.Local node value) = λ route. tt
 covers_line lines.Restart = (tt, tt)
 covers_line line = tt
 
-module _ (devices : List State) (Ground : Phase → List Entry → Machine → Type 0) (law : GroundAir devices Ground) where
+module _ (devices : List State) (Ground : Phase → List Entry → Machine → Type 0) (law : GroundAir devices Ground) (did : List Step) where
   abbrev Steps : Phase → List Entry → Machine → Event → Type 0
-  Steps next past m event = EachAfter AnyEntry past (entries m event) × KnowAir devices next (past ++ entries m event) (happens m event)
+  Steps next past m event = KnowAir devices (did ++ event_steps m event) next (past ++ entries m event) (happens m event)
 
   abbrev Now : List Entry → Machine → Type 0
-  Now past m = AirSo devices (AreNow m.outside.outer) past m.outside.outer.chip.state.port
+  Now past m = AirSo devices (AreNow m.outside.outer) did past m.outside.outer.chip.state.port
 
   abbrev Before : List Entry → Machine → Type 0
-  Before past m = AirSo devices (AreBefore m.outside.outer) past m.outside.outer.chip.state.port
+  Before past m = AirSo devices (AreBefore m.outside.outer) did past m.outside.outer.chip.state.port
+
+  -- and after an event
+  abbrev NowAfter : List Entry → Machine → Event → Type 0
+  NowAfter past m event =
+      AirSo devices (AreNow (happens m event).outside.outer) (did ++ event_steps m event) (past ++ entries m event) (happens m event).outside.outer.chip.state.port
+
+  abbrev BeforeAfter : List Entry → Machine → Event → Type 0
+  BeforeAfter past m event =
+      AirSo devices (AreBefore (happens m event).outside.outer) (did ++ event_steps m event) (past ++ entries m event) (happens m event).outside.outer.chip.state.port
 
   -- an event, and what is known after it
-  goes_to : (next to : Phase) (event is : Event) (past : List Entry) (m : Machine) → event ≡ is → next ≡ to → KnowAir devices to (past ++ entries m is) (happens m is) → Steps next past m event
-  goes_to next to event is past m event_is next_is known = event_then AnyEntry (KnowAir devices) next to event is past m event_is next_is (any_each past (entries m is), known)
+  goes_to : (next to : Phase) (event is : Event) (past : List Entry) (m : Machine) → event ≡ is → next ≡ to → Steps to past m is → Steps next past m event
+  goes_to next to event is past m event_is next_is known =
+      subst (λ (e : Event). Steps next past m e) (sym event_is) (subst (λ (q : Phase). Steps q past m is) (sym next_is) known)
 
   -- the chip has under way what it had
-  mild_now : (past : List Entry) (m : Machine) (event : Event) → CoversOuter IsMild event → May m event → (here : Phase) → Ground here past m → Now past m → Now (past ++ entries m event) (happens m event)
+  mild_now : (past : List Entry) (m : Machine) (event : Event) → CoversOuter IsMild event → May m event → (here : Phase) → Ground here past m → Now past m → NowAfter past m event
   mild_now past m event mild may here ground now =
       let alike = event_alike m event mild in
-      weaker devices (AreNow m.outside.outer) (AreNow (happens m event).outside.outer) (past ++ entries m event) (happens m event).outside.outer.chip.state.port
+      weaker devices (AreNow m.outside.outer) (AreNow (happens m event).outside.outer) (did ++ event_steps m event) (past ++ entries m event) (happens m event).outside.outer.chip.state.port
       (now_as devices m.outside.outer (happens m event).outside.outer alike.0 alike.1)
-      (event_keeps devices (AreNow m.outside.outer) m event (mild_takes event mild) (law.home here past m ground) may past now)
+      (event_keeps devices (AreNow m.outside.outer) did m event (mild_takes event mild) (law.home here past m ground) may past now)
 
   -- within a tick, before its results have come
   mild_before : (past : List Entry) (m : Machine) (event : OuterEvent) → TakesNone (Outside_does event) → IsWithin event → May m (Outside_does event) → (here : Phase) → Ground here past m → Before past m
-      → Before (past ++ entries m (Outside_does event)) (happens m (Outside_does event))
+      → BeforeAfter past m (Outside_does event)
   mild_before past m event none within may here ground before =
-      weaker devices (AreBefore m.outside.outer) (AreBefore (happens m (Outside_does event)).outside.outer) (past ++ entries m (Outside_does event))
+      weaker devices (AreBefore m.outside.outer) (AreBefore (happens m (Outside_does event)).outside.outer) (did ++ event_steps m (Outside_does event)) (past ++ entries m (Outside_does event))
       (happens m (Outside_does event)).outside.outer.chip.state.port (before_then m.outside.outer (happens m (Outside_does event)).outside.outer (within_clock m event within))
-      (event_keeps devices (AreBefore m.outside.outer) m (Outside_does event) none (law.home here past m ground) may past before)
+      (event_keeps devices (AreBefore m.outside.outer) did m (Outside_does event) none (law.home here past m ground) may past before)
 
   begins_tick : (past : List Entry) (m : Machine) → May m (Outside_does Begins_tick) → (here : Phase) → Ground here past m → Now past m
-      → Before (past ++ entries m (Outside_does Begins_tick)) (happens m (Outside_does Begins_tick))
+      → BeforeAfter past m (Outside_does Begins_tick)
   begins_tick past m may here ground now =
-      weaker devices (AreNow m.outside.outer) (AreBefore (happens m (Outside_does Begins_tick)).outside.outer) (past ++ entries m (Outside_does Begins_tick))
-      (happens m (Outside_does Begins_tick)).outside.outer.chip.state.port (tick_before m) (event_keeps devices (AreNow m.outside.outer) m (Outside_does Begins_tick) tt (law.home here past m ground) may past now)
+      weaker devices (AreNow m.outside.outer) (AreBefore (happens m (Outside_does Begins_tick)).outside.outer) (did ++ event_steps m (Outside_does Begins_tick)) (past ++ entries m (Outside_does Begins_tick))
+      (happens m (Outside_does Begins_tick)).outside.outer.chip.state.port (tick_before m) (event_keeps devices (AreNow m.outside.outer) did m (Outside_does Begins_tick) tt (law.home here past m ground) may past now)
 
   takes : (passes ticks : ℕ) (past : List Entry) (m : Machine) (count : ℕ) (rest : _) (ways : _) → May m (Outside_does (Chip_takes count rest ways)) → Ground (Moving passes ticks) past m → Now past m
-      → Now (past ++ entries m (Outside_does (Chip_takes count rest ways))) (happens m (Outside_does (Chip_takes count rest ways)))
-  unfolding happens entries May MayOutside
-  takes passes ticks past m count rest ways may ground now = takes_event devices m.outside count rest ways may.1 past (law.agrees passes ticks past m ground) now
+      → NowAfter past m (Outside_does (Chip_takes count rest ways))
+  unfolding happens entries May MayOutside event_steps outer_steps
+  takes passes ticks past m count rest ways may ground now = takes_event devices did m.outside count rest ways may.1 past (law.agrees passes ticks past m ground) now
 
-  event_goes : (here next : Phase) (past : List Entry) (m : Machine) (event : Event) → Goes here m event next → May m event → Ground here past m → KnowAir devices here past m → Steps next past m event
+  pub event_goes : (here next : Phase) (past : List Entry) (m : Machine) (event : Event) → Goes here m event next → May m event → Ground here past m → KnowAir devices did here past m → Steps next past m event
   event_goes (Said_line line) next past m event (event_is, next_is) may ground known =
       goes_to next (Begun line) event _ past m event_is next_is (mild_now past m _ tt (subst (May m) event_is may) (Said_line line) ground known.0, tt)
   event_goes (Doing line (first ∷ left)) next past m event (event_is, next_is) may ground known =
@@ -151,10 +157,10 @@ module _ (devices : List State) (Ground : Phase → List Entry → Machine → T
 
   -- ---- a part begins
 
-  to : (next phase : Phase) (past : List Entry) (m : Machine) → next ≡ phase → KnowAir devices phase past m → KnowAir devices next past m
-  to next phase past m is known = subst (λ (q : Phase). KnowAir devices q past m) (sym is) known
+  to : (next phase : Phase) (past : List Entry) (m : Machine) → next ≡ phase → KnowAir devices did phase past m → KnowAir devices did next past m
+  to next phase past m is known = subst (λ (q : Phase). KnowAir devices did q past m) (sym is) known
 
-  turn_goes : (here next : Phase) (past : List Entry) (m : Machine) → Turns here m next → Ground here past m → KnowAir devices here past m → KnowAir devices next past m
+  pub turn_goes : (here next : Phase) (past : List Entry) (m : Machine) → Turns here m next → Ground here past m → KnowAir devices did here past m → KnowAir devices did next past m
   turn_goes (Begun line) next past m (inl (events, is, next_is)) ground known = to next (Doing line events) past m next_is (known.0, effect_covered IsMild line m events (covers_line line) is)
   turn_goes (Begun line) next past m (inr (ticks, line_is, next_is)) ground known = to next (To_tick ticks) past m next_is known
   turn_goes (Doing line []) next past m next_is ground known = to next (Sleeping 64 0) past m next_is (known.0, tt)
@@ -163,7 +169,7 @@ module _ (devices : List State) (Ground : Phase → List Entry → Machine → T
   turn_goes (Arriving zero ticks) next past m next_is ground known = to next (Giving _ ticks) past m next_is known
   turn_goes (Giving zero ticks) next past m next_is ground known =
       to next (Ticking_devices 0 _ ticks) past m next_is (
-        weaker devices (AreBefore m.outside.outer) (AreNow m.outside.outer) past m.outside.outer.chip.state.port (now_before m.outside.outer (law.none ticks past m ground)) known.0,
+        weaker devices (AreBefore m.outside.outer) (AreNow m.outside.outer) did past m.outside.outer.chip.state.port (now_before m.outside.outer (law.none ticks past m ground)) known.0,
         tt,
       )
   turn_goes (Ticking_devices place zero ticks) next past m next_is ground known = to next (Ticking_chip ticks) past m next_is known
@@ -175,25 +181,15 @@ module _ (devices : List State) (Ground : Phase → List Entry → Machine → T
   turn_goes (Moved has_moved passes ticks) next past m (still, next_is) ground known = to next (Sleeping _ ticks) past m next_is known
   turn_goes here next past m turns ground known = absurd turns
 
-  -- ---- all of it
+  -- ---- the words of a line
 
-  pub air_walk : WalkOver Ground AnyEntry (KnowAir devices)
-  air_walk = record {
-    said = λ past m words line read ground known. (
-      tt,
-      (
-        (apart_goes devices (AreNow m.outside.outer) m.outside m.outside (entry.Said words ∷ []) ((tt, tt), tt) refl false past (λ (is : false ≡ true). absurd cc) known.0).1,
-        tt,
-      ),
-    );
-    event = event_goes;
-    turn = turn_goes;
-  }
+  pub said_goes : (past : List Entry) (m : Machine) (words : List ℕ) (line : Line) → KnowAir devices did Between past m → KnowAir devices did (Said_line line) (past ++ entry.Said words ∷ []) m
+  said_goes past m words line known =
+      ((apart_goes devices (AreNow m.outside.outer) did m.outside m.outside (entry.Said words ∷ []) ((tt, tt), tt) refl false past (λ (is : false ≡ true). absurd cc) known.0).1, tt)
 
 -- ---- at first
 
-pub air_first : (keys : Keys) (records : Option (List (List ℕ))) (devices : List State) → SideObeys [] no_port.port.side → KnowAir devices Between [] (first_machine keys records devices)
+pub air_first : (keys : Keys) (records : Option (List (List ℕ))) (devices : List State) → SideObeys [] no_port.port.side → KnowAir devices [] Between [] (first_machine keys records devices)
 unfolding first_outer
 air_first keys records devices obeys =
-    let (steps, frames, serves) = (service_first keys records devices obeys).0 in
-    ((steps, frames, serves, λ later goes. record { so = tt; over = tt; are = (refl, tt) }), tt)
+    (([], serves_none (first_machine keys records devices).outside.outer.chip.state.port refl obeys, λ later goes. record { so = tt; over = tt; are = (refl, tt) }), tt)

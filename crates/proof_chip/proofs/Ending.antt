@@ -18,8 +18,8 @@ use Rattle.proof_walk.specs.Phases.{Phase, Between}
 use Rattle.proof_walk.specs.Walk.{Walk}
 use Rattle.proof_walk.proofs.Joining.{along}
 use Rattle.proof_walk.proofs.Lines.{line_part, whole_line}
-use Rattle.proof_chip.specs.Serving.{as_given}
-use Rattle.proof_chip.specs.Knowing.{KnownService, ServesSo}
+use Rattle.proof_chip.specs.Serving.{Serves, as_given}
+use Rattle.proof_chip.specs.Knowing.{KnownService}
 use Rattle.proof_chip.proofs.Walking.{any_each}
 
 module _ (Asks : List Entry → Entry → Type 0) (Know : Phase → List Entry → Machine → Type 0) (walk : Walk Asks Know) where
@@ -45,23 +45,19 @@ module _ (Asks : List Entry → Entry → Type 0) (Know : Phase → List Entry �
 
 -- ---- at first
 
-pub serves_first : (port : PortState) → port ≡ no_port.port → SideObeys [] port.side → ServesSo [] port
-serves_first port is obeys = (
-  [],
-  [],
-  record {
-    obeys = obeys;
-    units = refl;
-    starts = refl;
-    passed = refl;
-    kept = ap (λ (p : PortState). as_given p.waiting) (sym is);
-    places = tt;
-    count = let none : length port.waiting ≡ 0 = ap (λ (p : PortState). length p.waiting) is in omega (arith, none);
-    waits = subst (λ (p : PortState). WaitsWell p) (sym is) (record { busy = refl; few = lit≤ tt });
-  },
-)
+pub serves_none : (port : PortState) → port ≡ no_port.port → SideObeys [] port.side → Serves [] [] [] port
+serves_none port is obeys = record {
+  obeys = obeys;
+  units = refl;
+  starts = refl;
+  passed = refl;
+  kept = ap (λ (p : PortState). as_given p.waiting) (sym is);
+  places = tt;
+  count = let none : length port.waiting ≡ 0 = ap (λ (p : PortState). length p.waiting) is in omega (arith, none);
+  waits = subst (λ (p : PortState). WaitsWell p) (sym is) (record { busy = refl; few = lit≤ tt });
+}
 
 pub service_first : (keys : Keys) (records : Option (List (List ℕ))) (devices : List State) → SideObeys [] no_port.port.side → KnownService [] (first_machine keys records devices)
 unfolding first_outer
 service_first keys records devices obeys =
-    (serves_first (first_machine keys records devices).outside.outer.chip.state.port refl obeys, any_each [] (ticked_entry (first_machine keys records devices).outside.outer))
+    (([], [], serves_none (first_machine keys records devices).outside.outer.chip.state.port refl obeys), any_each [] (ticked_entry (first_machine keys records devices).outside.outer))

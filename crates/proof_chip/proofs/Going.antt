@@ -1,9 +1,9 @@
 -- What is known of the law of what goes on the air, whatever is so of the SendData that are not over, goes on with each event at which no frame is answered: what the chip is given, its ticks,
 -- what the air tells, and what lines do.
-use Rattle.std.proofs.Common.{◌≡◌, ◌==◌, Bool, true, false, List, [], ◌∷◌, ◌++◌, refl, sym, ap, subst}
+use Rattle.std.proofs.Common.{◌≡◌, ◌==◌, Bool, true, false, List, [], ◌∷◌, ◌++◌, refl, sym, ap, subst, append-nil, append_assoc}
 use Rattle.std.specs.Prelude.{Option}
 use Rattle.std.specs.List.{AllByRecursion}
-use Rattle.zw_base.proofs.Each.{all-both, all-weaker}
+use Rattle.zw_base.proofs.Each.{all-append, all-both, all-left, all-right, all-weaker}
 use Rattle.serial_frame.specs.Stream.{after_tick}
 use Rattle.serial_frame.specs.Items.{unit_text}
 use Rattle.serial_frame.specs.declared.unit.Unit.{Unit as LineUnit}
@@ -25,16 +25,17 @@ use Rattle.law_transcript.specs.Nodes.{controller}
 use Rattle.law_wire.specs.Asked.{Course, Sending}
 use Rattle.law_wire.specs.Taking.{MayAir}
 use Rattle.outside_model.specs.Devices.{State, shown_entries}
-use Rattle.outside_model.specs.State.{OuterState, Outcome, Outside, outside, silent, tells, with_chip}
+use Rattle.serial_link.specs.Rules.{Step}
+use Rattle.outside_model.specs.State.{OuterState, Outcome, Outside, and_then, outside, silent, tells, with_chip}
 use Rattle.outside_model.specs.Chip.{chip_does, chip_ticks}
 use Rattle.outside_model.specs.Results.{device_at, gives}
 use Rattle.outside_model.specs.Nodes.{listens_at}
-use Rattle.outside_model.specs.Air.{deals, sent_entries, change_entries, change_at}
+use Rattle.outside_model.specs.Air.{deals, change_entries, change_at}
 use Rattle.outside_model.specs.Events.{OuterEvent, Host_writes, Host_takes, Host_notes, Shows, Joins, Discovers, Links, Loses, Loses_acks, Marks_loss, Marks_change, Clears_pipe, Collides_next, Stalls, Cuts, outcome}
 use Rattle.proof_device.proofs.Entered.{IsChange, IsCleared, IsMark, IsShown, all_cleared, all_shown, change_entered, told_by_marks}
 use Rattle.proof_device.proofs.Results.{Gives, IsGiven, ends_go, gives_go, to_chip_goes}
 use Rattle.proof_host.proofs.Lists.{each-append}
-use Rattle.proof_walk.specs.Outside.{Comes, IsNote, IsSimple, Moves}
+use Rattle.proof_walk.specs.Outside.{Comes, IsNote, IsOfAir, IsSimple, Moves}
 use Rattle.proof_walk.proofs.Moving.{moves_both}
 use Rattle.proof_walk.proofs.Times.{does_chip}
 use Rattle.proof_chip.specs.Serving.{Serves}
@@ -46,7 +47,8 @@ use Rattle.proof_chip.proofs.Judged.{goes_back}
 use Rattle.proof_chip.proofs.Passing.{IsOther, others_no_ack, others_stand, puts_other}
 use Rattle.proof_chip.proofs.Quieting.{IsUnanswered, event_none}
 use Rattle.proof_chip.proofs.Telling.{AreAside, IsAside}
-use Rattle.proof_chip.proofs.Walking.{any_each, cleared_aside, discovers_port, host_aside, joins_port, shown_aside}
+use Rattle.proof_line.proofs.ChipAccounts.{Account, Still, Both, Later, Does, Forgotten as ForgottenLink, Of_air, In_air, gives_account, steps_by}
+use Rattle.proof_chip.proofs.Walking.{air_aside, any_each, cleared_aside, discovers_port, host_aside, joins_port, shown_aside}
 
 -- ---- entries
 
@@ -108,6 +110,40 @@ abbrev pub IsNotOwn : AirEvent → Type 0
 IsNotOwn (air_event.Sent frame from to route payload) = (from == controller) ≡ false
 IsNotOwn event = Unit {0}
 
+-- ---- what the chip is given, and what the air tells
+
+abbrev Others : OuterState → Outcome → Type 0
+Others o x = AllByRecursion IsOther x.entries
+
+does_other : (o : OuterState) (event : ChipEvent) → IsGiven event → Others o (chip_does o event)
+unfolding chip_does
+does_other o event given =
+    let s : ChipState = o.chip.state in puts_other (outs s event) (with_chip o (after s event)) (event_none s event (given_answers (collides s) event given))
+
+given_other : Gives Others
+given_other = record {
+  still = λ o p is. tt;
+  both = λ o first next one later. all-append IsOther first.entries (next first.outer).entries one (later first.outer);
+  later = λ o p x is goes. goes;
+  does = does_other;
+  forgotten = λ o a b. (tt, tt);
+}
+
+-- one thing that the air tells
+pub deals_other : (there : List State) (o : OuterState) (event : AirEvent) → IsNotOwn event → Others o (deals there o event)
+deals_other there o (air_event.Heard frame) own = (tt, tt)
+deals_other there o (air_event.Lost frame) own = (tt, tt)
+deals_other there o (air_event.Unheard frame) own = (tt, tt)
+deals_other there o (air_event.Sent frame from to route payload) own = (own, tt)
+deals_other there o (air_event.Changed node at) own =
+    let change = change_at (device_at there (place_of node there)) at in
+    all-weaker IsChange IsOther (λ e is. (change_apart e is).1) (change_entries node change) (change_entered node change)
+deals_other there o (air_event.ToChip frame from payload) own = to_chip_goes Others given_other o from payload
+deals_other there o (air_event.Done frame status dead) own = ends_go Others given_other o status dead
+
+results_other : (o : OuterState) (there : List State) (route : Option Route) → Others o (gives o there o.due route)
+results_other o there route = gives_go Others given_other o there o.due route
+
 module _ (devices : List State) (Are : List Sending → Type 0) where
   keeps_others : (later : Course) (past told : List Entry) → AllByRecursion IsOther told → KeepsAir devices Are later past → KeepsAir devices Are later (past ++ told)
   keeps_others later past told others was =
@@ -119,116 +155,109 @@ module _ (devices : List State) (Are : List Sending → Type 0) where
       }
 
   -- the port stays
-  pub apart_goes : (w later : Outside) (told : List Entry) → AreApart told → later.outer.chip.state.port ≡ w.outer.chip.state.port
-      → Moves AnyEntry (KnowsAir devices Are) w told (KnowsAir devices Are) later
-  apart_goes w later told apart same awaits past silent (steps, frames, serves, keeps) = (
+  pub apart_goes : (did : List Step) (w later : Outside) (told : List Entry) → AreApart told → later.outer.chip.state.port ≡ w.outer.chip.state.port
+      → Moves AnyEntry (KnowsAir devices Are did) w told (KnowsAir devices Are did) later
+  apart_goes did w later told apart same awaits past silent (frames, serves, keeps) = (
     any_each past told,
     (
-      steps,
       frames,
-      serves_aside steps frames past told w.outer.chip.state.port later.outer.chip.state.port (all-weaker IsApart IsAside (λ e is. is.0) told apart) (ap (λ (p : PortState). p.side) same)
+      serves_aside did frames past told w.outer.chip.state.port later.outer.chip.state.port (all-weaker IsApart IsAside (λ e is. is.0) told apart) (ap (λ (p : PortState). p.side) same)
           (ap (λ (p : PortState). p.waiting) same) serves,
       λ course goes. keeps_others course past told (all-weaker IsApart IsOther (λ e is. is.1) told apart) (keeps course goes),
     ),
   )
 
   -- an event of the chip that answers no frame
-  pub chip_goes : (w : Outside) (event : ChipEvent) → IsUnanswered (collides w.outer.chip.state) event → Comes AnyEntry (KnowsAir devices Are) w (chip_does w.outer event) w.devices (KnowsAir devices Are)
+  pub chip_goes : (did : List Step) (w : Outside) (event : ChipEvent) → IsUnanswered (collides w.outer.chip.state) event
+      → Comes AnyEntry (KnowsAir devices Are did) w (chip_does w.outer event) w.devices (KnowsAir devices Are (did ++ link_steps w.outer.chip.state event))
   unfolding chip_does
-  chip_goes w event none awaits past silent (steps, frames, serves, keeps) =
+  chip_goes did w event none awaits past silent (frames, serves, keeps) =
       let s : ChipState = w.outer.chip.state in
       let entered : List Entry = (chip_does w.outer event).entries in
       let others = puts_other (outs s event) (with_chip w.outer (after s event)) (event_none s event none) in (
         any_each past entered,
         (
-          steps ++ link_steps s event,
           frames ++ posts s event,
-          subst (λ (x : ChipState). Serves (steps ++ link_steps s event) (frames ++ posts s event) (past ++ entered) x.port) (sym (does_chip w.outer event)) (serves_event steps frames past w.outer event serves),
-          λ course goes. keeps_others course past entered others (keeps course (goes_back steps (link_steps s event) course goes)),
+          subst (λ (x : ChipState). Serves (did ++ link_steps s event) (frames ++ posts s event) (past ++ entered) x.port) (sym (does_chip w.outer event)) (serves_event did frames past w.outer event serves),
+          λ course goes. keeps_others course past entered others (keeps course (goes_back did (link_steps s event) course goes)),
         ),
       )
 
-  -- ---- what the chip is given
+  -- ---- what the chip is given, by the account of it
 
   module _ (there : List State) where
-    abbrev Goes : OuterState → Outcome → Type 0
-    Goes o x = Comes AnyEntry (KnowsAir devices Are) (outside o there) x there (KnowsAir devices Are)
+    abbrev Goes : List Step → OuterState → Outcome → List Step → Type 0
+    Goes did o x now = Comes AnyEntry (KnowsAir devices Are did) (outside o there) x there (KnowsAir devices Are now)
 
-    same_port : (o p : OuterState) → p.chip.state ≡ o.chip.state → Goes o (silent p)
-    same_port o p same = apart_goes (outside o there) (outside p there) [] tt (ap (λ (s : ChipState). s.port) same)
+    apart_on : (did : List Step) (o : OuterState) (x : Outcome) → AreApart x.entries → x.outer.chip.state.port ≡ o.chip.state.port → Goes did o x (did ++ [])
+    apart_on did o x apart same =
+        subst (λ (l : List Step). Goes did o x l) (sym (append-nil did)) (apart_goes did (outside o there) (outside x.outer there) x.entries apart same)
 
-    after_same : (o p : OuterState) (x : Outcome) → p.chip.state ≡ o.chip.state → Goes p x → Goes o x
-    after_same o p x same goes =
-        moves_both AnyEntry (KnowsAir devices Are) (KnowsAir devices Are) (KnowsAir devices Are) (outside o there) (outside p there) (outside x.outer there) [] x.entries (same_port o p same) goes
+    after_same : (did now : List Step) (o p : OuterState) (x : Outcome) → p.chip.state ≡ o.chip.state → Goes did p x now → Goes did o x now
+    after_same did now o p x same goes =
+        moves_both AnyEntry (KnowsAir devices Are did) (KnowsAir devices Are did) (KnowsAir devices Are now) (outside o there) (outside p there) (outside x.outer there) [] x.entries
+        (apart_goes did (outside o there) (outside p there) [] tt (ap (λ (s : ChipState). s.port) same)) goes
 
-    given_go : Gives Goes
-    given_go = record {
-      still = λ o p is. same_port o p is.chip;
-      both = λ o first next one later.
-          moves_both AnyEntry (KnowsAir devices Are) (KnowsAir devices Are) (KnowsAir devices Are) (outside o there) (outside first.outer there) (outside (next first.outer).outer there) first.entries
-          (next first.outer).entries one (later first.outer);
-      later = λ o p x is goes. after_same o p x is.chip goes;
-      does = λ o event is. chip_goes (outside o there) event (given_answers (collides o.chip.state) event is);
-      forgotten = λ o a b. apart_goes (outside o there) (outside (with_chip o (after o.chip.state (Forgets a b))) there) (entry.Forget a b ∷ []) ((tt, tt), tt) refl;
-    }
-
-    told_goes : (o : OuterState) (told : List Entry) → AreApart told → Goes o (tells o told)
-    told_goes o told apart = apart_goes (outside o there) (outside o there) told apart refl
-
-    -- one thing that the air tells
-    pub air_goes : (o : OuterState) (event : AirEvent) → IsNotOwn event → Goes o (deals there o event)
-    air_goes o (air_event.Heard frame) own = told_goes o (entry.Heard frame ∷ []) ((tt, tt), tt)
-    air_goes o (air_event.Lost frame) own = told_goes o (entry.Lost frame ∷ []) ((tt, tt), tt)
-    air_goes o (air_event.Unheard frame) own = told_goes o (entry.Unheard frame ∷ []) ((tt, tt), tt)
-    air_goes o (air_event.Sent frame from to route payload) own = told_goes o (sent_entries (air_event.Sent frame from to route payload)) ((tt, own), tt)
-    air_goes o (air_event.Changed node at) own =
-        told_goes o (change_entries node (change_at (device_at there (place_of node there)) at))
-        (all-weaker IsChange IsApart change_apart _ (change_entered node (change_at (device_at there (place_of node there)) at)))
-    air_goes o (air_event.ToChip frame from payload) own = to_chip_goes Goes given_go o from payload
-    air_goes o (air_event.Done frame status dead) own = ends_go Goes given_go o status dead
+    pub account_goes : (did : List Step) {o : OuterState} {x : Outcome} (account : Account o x) → Others o x → Goes did o x (did ++ steps_by account)
+    account_goes did (Still o p is) others = apart_on did o (silent p) tt (ap (λ (s : ChipState). s.port) is.chip)
+    account_goes did (Both o first next one later) others =
+        let more : List Step = did ++ steps_by one in
+        let x : Outcome = and_then first next in
+        subst (λ (l : List Step). Goes did o x l) (append_assoc did (steps_by one) (steps_by later))
+        (moves_both AnyEntry (KnowsAir devices Are did) (KnowsAir devices Are more) (KnowsAir devices Are (more ++ steps_by later)) (outside o there) (outside first.outer there)
+        (outside (next first.outer).outer there) first.entries (next first.outer).entries
+        (account_goes did one (all-left IsOther first.entries (next first.outer).entries others)) (account_goes more later (all-right IsOther first.entries (next first.outer).entries others)))
+    account_goes did (Later o p x is account) others = after_same did (did ++ steps_by account) o p x is.chip (account_goes did account others)
+    account_goes did (Does o event given) others = chip_goes did (outside o there) event (given_answers (collides o.chip.state) event given)
+    account_goes did (ForgottenLink o a b) others = apart_on did o (tells (with_chip o (after o.chip.state (Forgets a b))) (entry.Forget a b ∷ [])) ((tt, tt), tt) refl
+    account_goes did (Of_air o x of_air to_host to_chip port) others = apart_on did o x (both_apart x.entries (all-weaker IsOfAir IsAside air_aside x.entries of_air) others) port
+    account_goes did (In_air o air x account) others = after_same did (did ++ steps_by account) o (record o { air = air }) x refl (account_goes did account others)
 
   -- the results of the ticks before, and a tick of the chip
-  pub results_go : (w : Outside) (route : Option Route) → Comes AnyEntry (KnowsAir devices Are) w (gives w.outer w.devices w.outer.due route) w.devices (KnowsAir devices Are)
-  results_go w route = gives_go (Goes w.devices) (given_go w.devices) w.outer w.devices w.outer.due route
+  pub results_go : (did : List Step) (w : Outside) (route : Option Route)
+      → Comes AnyEntry (KnowsAir devices Are did) w (gives w.outer w.devices w.outer.due route) w.devices (KnowsAir devices Are (did ++ steps_by (gives_account w route)))
+  results_go did w route = account_goes w.devices did (gives_account w route) (results_other w.outer w.devices route)
 
-  pub tick_goes : (w : Outside) → Comes AnyEntry (KnowsAir devices Are) w (chip_ticks w.outer) w.devices (KnowsAir devices Are)
-  tick_goes w =
+  pub tick_goes : (did : List Step) (w : Outside) → Comes AnyEntry (KnowsAir devices Are did) w (chip_ticks w.outer) w.devices (KnowsAir devices Are (did ++ link_steps w.outer.chip.state Ticked))
+  tick_goes did w =
       let fed : OuterState = record w.outer { chip = record { decoder = after_tick w.outer.chip.decoder; state = w.outer.chip.state } } in
-      after_same w.devices w.outer fed (chip_does fed Ticked) refl (chip_goes (outside fed w.devices) Ticked (ticked_answers (collides w.outer.chip.state)))
+      after_same w.devices did (did ++ link_steps w.outer.chip.state Ticked) w.outer fed (chip_does fed Ticked) refl (chip_goes did (outside fed w.devices) Ticked (ticked_answers (collides w.outer.chip.state)))
+
+  pub collides_goes : (did : List Step) (w : Outside) → Comes AnyEntry (KnowsAir devices Are did) w (outcome w Collides_next) w.devices (KnowsAir devices Are (did ++ link_steps w.outer.chip.state Collides))
+  unfolding outcome chip_does
+  collides_goes did w = chip_goes did w Collides (collides_answers (collides w.outer.chip.state))
 
   -- ---- what lines do, and hosts
 
-  pub simple_goes : (w : Outside) (event : OuterEvent) → IsSimple event → Comes AnyEntry (KnowsAir devices Are) w (outcome w event) w.devices (KnowsAir devices Are)
+  pub simple_goes : (did : List Step) (w : Outside) (event : OuterEvent) → IsSimple event → (event ≡ Collides_next → ⊥) → Comes AnyEntry (KnowsAir devices Are did) w (outcome w event) w.devices (KnowsAir devices Are did)
   unfolding outcome chip_does
-  simple_goes w (Host_writes unit) simple = apart_goes w (outside (outcome w (Host_writes unit)).outer w.devices) (told by_host w.outer.to_chip unit) (host_apart w.outer.to_chip unit) refl
-  simple_goes w (Host_takes count) simple = apart_goes w (outside (outcome w (Host_takes count)).outer w.devices) [] tt refl
-  simple_goes w (Host_notes note) simple = apart_goes w w (note ∷ []) (note_apart note simple.0, tt) refl
-  simple_goes w (Shows node) simple =
+  simple_goes did w (Host_writes unit) simple other =
+      apart_goes did w (outside (outcome w (Host_writes unit)).outer w.devices) (told by_host w.outer.to_chip unit) (host_apart w.outer.to_chip unit) refl
+  simple_goes did w (Host_takes count) simple other = apart_goes did w (outside (outcome w (Host_takes count)).outer w.devices) [] tt refl
+  simple_goes did w (Host_notes note) simple other = apart_goes did w w (note ∷ []) (note_apart note simple.0, tt) refl
+  simple_goes did w (Shows node) simple other =
       let shown : List Entry = shown_entries node (device_at w.devices (place_of node w.devices)) in
       let are = all_shown node (device_at w.devices (place_of node w.devices)) in
-      apart_goes w w shown (both_apart shown (all-weaker IsShown IsAside shown_aside shown are) (all-weaker IsShown IsOther shown_other shown are)) refl
-  simple_goes w (Joins node) simple =
-      apart_goes w (outside (outcome w (Joins node)).outer w.devices) [] tt (joins_port w.outer node (listens_at (device_at w.devices (place_of node w.devices))))
-  simple_goes w Discovers simple = apart_goes w (outside (outcome w Discovers).outer w.devices) [] tt (discovers_port w.outer)
-  simple_goes w (Links a b live) simple = apart_goes w (outside (outcome w (Links a b live)).outer w.devices) [] tt refl
-  simple_goes w (Loses count) simple = apart_goes w (outside (outcome w (Loses count)).outer w.devices) [] tt refl
-  simple_goes w (Loses_acks count) simple = apart_goes w (outside (outcome w (Loses_acks count)).outer w.devices) [] tt refl
-  simple_goes w (Marks_loss by_host) simple = apart_goes w (outside (outcome w (Marks_loss by_host)).outer w.devices) [] tt refl
-  simple_goes w (Marks_loss by_chip) simple = apart_goes w (outside (outcome w (Marks_loss by_chip)).outer w.devices) [] tt refl
-  simple_goes w (Marks_change by_host garble) simple = apart_goes w (outside (outcome w (Marks_change by_host garble)).outer w.devices) [] tt refl
-  simple_goes w (Marks_change by_chip garble) simple = apart_goes w (outside (outcome w (Marks_change by_chip garble)).outer w.devices) [] tt refl
-  simple_goes w (Clears_pipe by_host) simple =
+      apart_goes did w w shown (both_apart shown (all-weaker IsShown IsAside shown_aside shown are) (all-weaker IsShown IsOther shown_other shown are)) refl
+  simple_goes did w (Joins node) simple other =
+      apart_goes did w (outside (outcome w (Joins node)).outer w.devices) [] tt (joins_port w.outer node (listens_at (device_at w.devices (place_of node w.devices))))
+  simple_goes did w Discovers simple other = apart_goes did w (outside (outcome w Discovers).outer w.devices) [] tt (discovers_port w.outer)
+  simple_goes did w (Links a b live) simple other = apart_goes did w (outside (outcome w (Links a b live)).outer w.devices) [] tt refl
+  simple_goes did w (Loses count) simple other = apart_goes did w (outside (outcome w (Loses count)).outer w.devices) [] tt refl
+  simple_goes did w (Loses_acks count) simple other = apart_goes did w (outside (outcome w (Loses_acks count)).outer w.devices) [] tt refl
+  simple_goes did w (Marks_loss by_host) simple other = apart_goes did w (outside (outcome w (Marks_loss by_host)).outer w.devices) [] tt refl
+  simple_goes did w (Marks_loss by_chip) simple other = apart_goes did w (outside (outcome w (Marks_loss by_chip)).outer w.devices) [] tt refl
+  simple_goes did w (Marks_change by_host garble) simple other = apart_goes did w (outside (outcome w (Marks_change by_host garble)).outer w.devices) [] tt refl
+  simple_goes did w (Marks_change by_chip garble) simple other = apart_goes did w (outside (outcome w (Marks_change by_chip garble)).outer w.devices) [] tt refl
+  simple_goes did w (Clears_pipe by_host) simple other =
       let cleared : List Entry = (outcome w (Clears_pipe by_host)).entries in
-      apart_goes w (outside (outcome w (Clears_pipe by_host)).outer w.devices) cleared
+      apart_goes did w (outside (outcome w (Clears_pipe by_host)).outer w.devices) cleared
       (both_apart cleared (all-weaker IsCleared IsAside cleared_aside cleared (all_cleared by_host _)) (all-weaker IsCleared IsOther cleared_other cleared (all_cleared by_host _))) refl
-  simple_goes w (Clears_pipe by_chip) simple =
+  simple_goes did w (Clears_pipe by_chip) simple other =
       let cleared : List Entry = (outcome w (Clears_pipe by_chip)).entries in
-      apart_goes w (outside (outcome w (Clears_pipe by_chip)).outer w.devices) cleared
+      apart_goes did w (outside (outcome w (Clears_pipe by_chip)).outer w.devices) cleared
       (both_apart cleared (all-weaker IsCleared IsAside cleared_aside cleared (all_cleared by_chip _)) (all-weaker IsCleared IsOther cleared_other cleared (all_cleared by_chip _))) refl
-  simple_goes w Collides_next simple = collides_goes w
-    where
-      collides_goes : (u : Outside) → Comes AnyEntry (KnowsAir devices Are) u (chip_does u.outer Collides) u.devices (KnowsAir devices Are)
-      collides_goes u = chip_goes u Collides (collides_answers (collides u.outer.chip.state))
-  simple_goes w (Stalls ticks) simple = apart_goes w (outside (outcome w (Stalls ticks)).outer w.devices) [] tt refl
-  simple_goes w (Cuts size) simple = apart_goes w (outside (outcome w (Cuts size)).outer w.devices) [] tt refl
-  simple_goes w event simple = absurd simple
+  simple_goes did w Collides_next simple other = absurd (other refl)
+  simple_goes did w (Stalls ticks) simple other = apart_goes did w (outside (outcome w (Stalls ticks)).outer w.devices) [] tt refl
+  simple_goes did w (Cuts size) simple other = apart_goes did w (outside (outcome w (Cuts size)).outer w.devices) [] tt refl
+  simple_goes did w event simple other = absurd simple

@@ -18,7 +18,7 @@ use Rattle.chip_sim.specs.Requests.{heard, judged_frame}
 use Rattle.chip_sim.specs.Did.{MayAll, judged_all}
 use Rattle.chip_sim.specs.Events.{ChipEvent, Judged, May, after, collides}
 use Rattle.chip_sim.specs.Link.{link_steps}
-use Rattle.chip_sim.specs.Rules.{posts}
+use Rattle.chip_sim.specs.Rules.{over, posts}
 use Rattle.chip_sim.specs.declared.out.ChipOut.{ChipOut}
 use Rattle.chip_sim.specs.declared.out.Sending.{Sending as SendingParts}
 use Rattle.zw_text.specs.declared.entry.Entry.{Entry}
@@ -46,29 +46,35 @@ both_none (x ∷ xs) ys none = absurd cc
 
 module _ (devices : List State) where
   -- one item
-  item_keeps : (past : List Entry) (o : OuterState) (item : Item) (route : Option Route) → May o.chip.state (Judged item route) → ItemsSo devices past o
-      → ItemsSo devices (past ++ (chip_does o (Judged item route)).entries) (chip_does o (Judged item route)).outer
+  item_keeps : (did : List Step) (past : List Entry) (o : OuterState) (item : Item) (route : Option Route) → May o.chip.state (Judged item route) → ItemsSo devices did past o
+      → ItemsSo devices (did ++ link_steps o.chip.state (Judged item route)) (past ++ (chip_does o (Judged item route)).entries) (chip_does o (Judged item route)).outer
   unfolding chip_does
-  item_keeps past o item route may (steps, frames, serves, ties) =
+  item_keeps did past o item route may (frames, serves, ties) =
       let e : ChipEvent = Judged item route in
-      let all : List Step = steps ++ link_steps o.chip.state e in
+      let all : List Step = did ++ link_steps o.chip.state e in
       let more : List FrameParts = frames ++ posts o.chip.state e in (
-        all,
         more,
-        subst (λ (s : ChipState). Serves all more (past ++ (chip_does o e).entries) s.port) (sym (does_chip o e)) (serves_event steps frames past o e serves),
-        judged_ties devices steps frames past o (chip_does o e).outer serves ties (ap (λ (t : Bool × Bool × ℕ). t.2) (does_time o e)) route item (does_chip o e) may,
+        subst (λ (s : ChipState). Serves all more (past ++ (chip_does o e).entries) s.port) (sym (does_chip o e)) (serves_event did frames past o e serves),
+        judged_ties devices did frames past o (chip_does o e).outer serves ties (ap (λ (t : Bool × Bool × ℕ). t.2) (does_time o e)) route item (does_chip o e) may,
       )
 
   -- and all of them
-  all_keep : (ways : List (Item × Option Route)) (past : List Entry) (o : OuterState) → MayAll o.chip.state (judged_all ways) → ItemsSo devices past o
-      → ItemsSo devices (past ++ (each chip_does o (judged_all ways)).entries) (each chip_does o (judged_all ways)).outer
-  all_keep [] past o may knows = subst (λ (l : List Entry). ItemsSo devices l o) (sym (append-nil past)) knows
-  all_keep (one ∷ ways) past o may knows =
-      let first : Outcome = chip_does o (Judged one.0 one.1) in
+  all_keep : (did : List Step) (ways : List (Item × Option Route)) (past : List Entry) (o : OuterState) → MayAll o.chip.state (judged_all ways) → ItemsSo devices did past o
+      → ItemsSo devices (did ++ over link_steps o.chip.state (judged_all ways)) (past ++ (each chip_does o (judged_all ways)).entries) (each chip_does o (judged_all ways)).outer
+  all_keep did [] past o may knows =
+      subst (λ (l : List Step). ItemsSo devices l (past ++ []) o) (sym (append-nil did)) (subst (λ (l : List Entry). ItemsSo devices did l o) (sym (append-nil past)) knows)
+  all_keep did (one ∷ ways) past o may knows =
+      let e : ChipEvent = Judged one.0 one.1 in
+      let first : Outcome = chip_does o e in
       let rest : Outcome = each chip_does first.outer (judged_all ways) in
-      subst (λ (l : List Entry). ItemsSo devices l rest.outer) (append_assoc past first.entries rest.entries)
-      (all_keep ways (past ++ first.entries) first.outer (subst (λ (s : ChipState). MayAll s (judged_all ways)) (sym (does_chip o (Judged one.0 one.1))) may.1)
-      (item_keeps past o one.0 one.1 may.0 knows))
+      let now : List Step = did ++ link_steps o.chip.state e in
+      let got =
+      all_keep now ways (past ++ first.entries) first.outer (subst (λ (s : ChipState). MayAll s (judged_all ways)) (sym (does_chip o e)) may.1)
+      (item_keeps did past o one.0 one.1 may.0 knows) in
+      let is : now ++ over link_steps first.outer.chip.state (judged_all ways) ≡ did ++ over link_steps o.chip.state (judged_all (one ∷ ways)) =
+      ap (λ (s : ChipState). now ++ over link_steps s (judged_all ways)) (does_chip o e) ∙ append_assoc did (link_steps o.chip.state e) (over link_steps (after o.chip.state e) (judged_all ways)) in
+      subst (λ (l : List Step). ItemsSo devices l (past ++ (each chip_does o (judged_all (one ∷ ways))).entries) rest.outer) is
+      (subst (λ (l : List Entry). ItemsSo devices (now ++ over link_steps first.outer.chip.state (judged_all ways)) l rest.outer) (append_assoc past first.entries rest.entries) got)
 
   -- only the chip and the clock matter
   ties_same : (steps : List Step) (past : List Entry) (o p : OuterState) → p.chip.state ≡ o.chip.state → p.clock ≡ o.clock → TieItems devices steps past o → TieItems devices steps past p
@@ -90,21 +96,20 @@ module _ (devices : List State) where
     };
   }
 
-  pub items_same : (past : List Entry) (o p : OuterState) → p.chip.state ≡ o.chip.state → p.clock ≡ o.clock → ItemsSo devices past o → ItemsSo devices past p
-  items_same past o p chip clock (steps, frames, serves, ties) =
-      (steps, frames, subst (λ (s : ChipState). Serves steps frames past s.port) (sym chip) serves, ties_same steps past o p chip clock ties)
+  pub items_same : (did : List Step) (past : List Entry) (o p : OuterState) → p.chip.state ≡ o.chip.state → p.clock ≡ o.clock → ItemsSo devices did past o → ItemsSo devices did past p
+  items_same did past o p chip clock (frames, serves, ties) =
+      (frames, subst (λ (s : ChipState). Serves did frames past s.port) (sym chip) serves, ties_same did past o p chip clock ties)
 
-  takes_keep : (past : List Entry) (o : OuterState) (count : ℕ) (rest : Rest) (ways : List (Item × Option Route)) → MayTake o count rest ways → ItemsSo devices past o
-      → ItemsSo devices (past ++ (chip_takes o count rest ways).entries) (chip_takes o count rest ways).outer
-  takes_keep past o count rest ways may knows =
+  takes_keep : (did : List Step) (past : List Entry) (o : OuterState) (count : ℕ) (rest : Rest) (ways : List (Item × Option Route)) → MayTake o count rest ways → ItemsSo devices did past o
+      → ItemsSo devices (did ++ over link_steps o.chip.state (judged_all ways)) (past ++ (chip_takes o count rest ways).entries) (chip_takes o count rest ways).outer
+  takes_keep did past o count rest ways may knows =
       let fed : OuterState = record o { to_chip = way.after o.to_chip (Takes count); chip = record { decoder = rest; state = o.chip.state } } in
-      all_keep ways past fed may.judges (items_same past o fed refl refl knows)
+      all_keep did ways past fed may.judges (items_same did past o fed refl refl knows)
 
   -- ---- from what is known at any time, and back
 
-  items_of : (past : List Entry) (o : OuterState) → Agrees devices past o → AirSo devices (AreNow o) past o.chip.state.port → ItemsSo devices past o
-  items_of past o agrees (steps, frames, serves, keeps) = (
-    steps,
+  items_of : (did : List Step) (past : List Entry) (o : OuterState) → Agrees devices past o → AirSo devices (AreNow o) did past o.chip.state.port → ItemsSo devices did past o
+  items_of did past o agrees (frames, serves, keeps) = (
     frames,
     serves,
     record {
@@ -113,9 +118,9 @@ module _ (devices : List State) where
     },
   )
 
-  air_so : (past : List Entry) (o : OuterState) → ItemsSo devices past o → AirSo devices (AreNow o) past o.chip.state.port
-  air_so past o (steps, frames, serves, ties) =
-      (steps, frames, serves, λ later goes. let was = ties.airs later goes in record { so = was.so; over = was.over; are = (was.under, was.few) })
+  air_so : (did : List Step) (past : List Entry) (o : OuterState) → ItemsSo devices did past o → AirSo devices (AreNow o) did past o.chip.state.port
+  air_so did past o (frames, serves, ties) =
+      (frames, serves, λ later goes. let was = ties.airs later goes in record { so = was.so; over = was.over; are = (was.under, was.few) })
 
   -- ---- where nothing is entered
 
@@ -136,29 +141,35 @@ module _ (devices : List State) where
 
   module _ (there : List State) (Are : List Sending → Type 0) where
     -- what is known stays so, and so does what the chip has under way
-    silent_all : (ways : List (Item × Option Route)) (past : List Entry) (o : OuterState) → (each chip_does o (judged_all ways)).entries ≡ [] → AirSo devices Are past o.chip.state.port
-        → AirSo devices Are past (each chip_does o (judged_all ways)).outer.chip.state.port × ((each chip_does o (judged_all ways)).outer.chip.state.sending ≡ o.chip.state.sending)
-    silent_all [] past o none knows = (knows, refl)
-    silent_all (one ∷ ways) past o none knows =
-        let first : Outcome = chip_does o (Judged one.0 one.1) in
+    silent_all : (did : List Step) (ways : List (Item × Option Route)) (past : List Entry) (o : OuterState) → (each chip_does o (judged_all ways)).entries ≡ [] → AirSo devices Are did past o.chip.state.port
+        → AirSo devices Are (did ++ over link_steps o.chip.state (judged_all ways)) past (each chip_does o (judged_all ways)).outer.chip.state.port
+        × ((each chip_does o (judged_all ways)).outer.chip.state.sending ≡ o.chip.state.sending)
+    silent_all did [] past o none knows = (subst (λ (l : List Step). AirSo devices Are l past o.chip.state.port) (sym (append-nil did)) knows, refl)
+    silent_all did (one ∷ ways) past o none knows =
+        let e : ChipEvent = Judged one.0 one.1 in
+        let first : Outcome = chip_does o e in
         let rest : Outcome = each chip_does first.outer (judged_all ways) in
+        let now : List Step = did ++ link_steps o.chip.state e in
         let both = both_none first.entries rest.entries none in
         let quiet = silent_item o one.0 one.1 both.0 in
-        let goes = (chip_goes devices Are (outside o there) (Judged one.0 one.1) quiet false past (λ (is : false ≡ true). absurd cc) knows).1 in
-        let here : AirSo devices Are past first.outer.chip.state.port =
-        subst (λ (l : List Entry). AirSo devices Are l first.outer.chip.state.port) (ap (λ (l : List Entry). past ++ l) both.0 ∙ append-nil past) goes in
-        let later = silent_all ways past first.outer both.1 here in
+        let goes = (chip_goes devices Are did (outside o there) e quiet false past (λ (is : false ≡ true). absurd cc) knows).1 in
+        let here : AirSo devices Are now past first.outer.chip.state.port =
+        subst (λ (l : List Entry). AirSo devices Are now l first.outer.chip.state.port) (ap (λ (l : List Entry). past ++ l) both.0 ∙ append-nil past) goes in
+        let later = silent_all now ways past first.outer both.1 here in
+        let is : now ++ over link_steps first.outer.chip.state (judged_all ways) ≡ did ++ over link_steps o.chip.state (judged_all (one ∷ ways)) =
+        ap (λ (s : ChipState). now ++ over link_steps s (judged_all ways)) (does_chip o e) ∙ append_assoc did (link_steps o.chip.state e) (over link_steps (after o.chip.state e) (judged_all ways)) in
         let same : first.outer.chip.state.sending ≡ o.chip.state.sending =
-        ap (λ (s : ChipState). s.sending) (does_chip o (Judged one.0 one.1))
+        ap (λ (s : ChipState). s.sending) (does_chip o e)
         ∙ ap (λ (passes : Option FrameParts). (judged_frame passes (heard o.chip.state one.0)).sending) (none_passed (collides o.chip.state) one.0 one.1 quiet) in
-        (later.0, later.1 ∙ same)
+        (subst (λ (l : List Step). AirSo devices Are l past rest.outer.chip.state.port) is later.0, later.1 ∙ same)
 
   -- ---- all of it, with the number of the tick
 
   -- what is known of them is weaker, or said of another state
-  pub weaker : (Are Other : List Sending → Type 0) (past : List Entry) (port : PortState) → ((sendings : List Sending) → Are sendings → Other sendings) → AirSo devices Are past port → AirSo devices Other past port
-  weaker Are Other past port goes (steps, frames, serves, keeps) =
-      (steps, frames, serves, λ later goes_on. let was = keeps later goes_on in record { so = was.so; over = was.over; are = goes (last_sending later past) was.are })
+  pub weaker : (Are Other : List Sending → Type 0) (did : List Step) (past : List Entry) (port : PortState) → ((sendings : List Sending) → Are sendings → Other sendings) → AirSo devices Are did past port
+      → AirSo devices Other did past port
+  weaker Are Other did past port goes (frames, serves, keeps) =
+      (frames, serves, λ later goes_on. let was = keeps later goes_on in record { so = was.so; over = was.over; are = goes (last_sending later past) was.are })
 
   pub now_as : (o p : OuterState) → p.chip.state.sending ≡ o.chip.state.sending → p.clock ≡ o.clock → (sendings : List Sending) → AreNow o sendings → AreNow p sendings
   now_as o p sending clock sendings are = (
@@ -166,8 +177,11 @@ module _ (devices : List State) where
     subst (λ (n : ℕ). AllByRecursion (λ (one : Sending). one.clock ≤ n) sendings) (sym clock) are.1,
   )
 
-  module _ (w : Outside) (count : ℕ) (rest : Rest) (ways : List (Item × Option Route)) (may : MayTake w.outer count rest ways) (past : List Entry)
-      (agrees : Agrees devices (past ++ ticked_entry w.outer) w.outer) (knows : AirSo devices (AreNow w.outer) past w.outer.chip.state.port) where
+  module _ (did : List Step) (w : Outside) (count : ℕ) (rest : Rest) (ways : List (Item × Option Route)) (may : MayTake w.outer count rest ways) (past : List Entry)
+      (agrees : Agrees devices (past ++ ticked_entry w.outer) w.outer) (knows : AirSo devices (AreNow w.outer) did past w.outer.chip.state.port) where
+    abbrev now : List Step
+    now = did ++ over link_steps w.outer.chip.state (judged_all ways)
+
     abbrev fed : OuterState
     fed = record w.outer { to_chip = way.after w.outer.to_chip (Takes count); chip = record { decoder = rest; state = w.outer.chip.state } }
 
@@ -183,22 +197,22 @@ module _ (devices : List State) where
     same_number : ticked_entry x.outer ≡ ticked_entry w.outer
     same_number = ap (λ (t : Bool × Bool × ℕ). if t.0 && not t.1 then entry.Time t.2 ∷ [] else []) same_time
 
-    as_entered : (told : List Entry) → x.entries ≡ told → AirSo devices (AreNow (has_entered x.outer told)) (past ++ stamp x.outer told) (has_entered x.outer told).chip.state.port
+    as_entered : (told : List Entry) → x.entries ≡ told → AirSo devices (AreNow (has_entered x.outer told)) now (past ++ stamp x.outer told) (has_entered x.outer told).chip.state.port
     as_entered [] none =
-        let got = silent_all w.devices (AreNow w.outer) ways past fed none knows in
-        subst (λ (l : List Entry). AirSo devices (AreNow x.outer) l x.outer.chip.state.port) (sym (append-nil past))
-        (weaker (AreNow w.outer) (AreNow x.outer) past x.outer.chip.state.port (now_as w.outer x.outer got.1 same_clock) got.0)
+        let got = silent_all w.devices (AreNow w.outer) did ways past fed none knows in
+        subst (λ (l : List Entry). AirSo devices (AreNow x.outer) now l x.outer.chip.state.port) (sym (append-nil past))
+        (weaker (AreNow w.outer) (AreNow x.outer) now past x.outer.chip.state.port (now_as w.outer x.outer got.1 same_clock) got.0)
     as_entered (first ∷ told) is =
         let here : List Entry = past ++ ticked_entry w.outer in
-        let numbered : AirSo devices (AreNow w.outer) here w.outer.chip.state.port =
-        (apart_goes devices (AreNow w.outer) w w (ticked_entry w.outer) (number_apart (w.outer.in_tick && not w.outer.stamped) w.outer.clock) refl false past (λ (is : false ≡ true). absurd cc) knows).1 in
-        let got = takes_keep here w.outer count rest ways may (items_of here w.outer agrees numbered) in
+        let numbered : AirSo devices (AreNow w.outer) did here w.outer.chip.state.port =
+        (apart_goes devices (AreNow w.outer) did w w (ticked_entry w.outer) (number_apart (w.outer.in_tick && not w.outer.stamped) w.outer.clock) refl false past (λ (is : false ≡ true). absurd cc) knows).1 in
+        let got = takes_keep did here w.outer count rest ways may (items_of did here w.outer agrees numbered) in
         let at : here ++ x.entries ≡ past ++ (ticked_entry x.outer ++ first ∷ told) =
         append_assoc past (ticked_entry w.outer) x.entries ∙ ap₂ (λ (a b : List Entry). past ++ (a ++ b)) (sym same_number) is in
         let later : OuterState = has_entered x.outer (first ∷ told) in
-        subst (λ (l : List Entry). AirSo devices (AreNow later) l later.chip.state.port) at (air_so (here ++ x.entries) later (items_same (here ++ x.entries) x.outer later refl refl got))
+        subst (λ (l : List Entry). AirSo devices (AreNow later) now l later.chip.state.port) at (air_so now (here ++ x.entries) later (items_same now (here ++ x.entries) x.outer later refl refl got))
 
     -- Where chip and transcript agree once the number of the tick is entered, and the chip has under way what the transcript has, it is so again after all items that the chip takes.
-    pub takes_event : AirSo devices (AreNow (happens w (Chip_takes count rest ways)).outer) (past ++ entries w (Chip_takes count rest ways)) (happens w (Chip_takes count rest ways)).outer.chip.state.port
+    pub takes_event : AirSo devices (AreNow (happens w (Chip_takes count rest ways)).outer) now (past ++ entries w (Chip_takes count rest ways)) (happens w (Chip_takes count rest ways)).outer.chip.state.port
     unfolding outcome
     takes_event = as_entered x.entries refl

@@ -1,6 +1,7 @@
 -- What is known of the law of what goes on the air goes on with each event of the machine but one at which the chip takes bytes, with the number of the tick that may stand before its entries.
 use Rattle.std.proofs.Common.{◌≡◌, ℕ, ◌&&◌, not, Bool, true, false, if◌then◌else◌, List, [], ◌∷◌, ◌++◌, refl, sym, subst, append_assoc, append-nil}
 use Rattle.std.specs.Prelude.{Option, Some, None, slice_get}
+use Rattle.serial_link.specs.Rules.{Step}
 use Rattle.route_table.specs.declared.route.Route.{Route}
 use Rattle.serial_frame.specs.declared.unit.Unit.{Unit as LineUnit}
 use Rattle.device_sim.specs.State.{State}
@@ -26,12 +27,13 @@ use Rattle.outside_model.specs.Events.{OuterEvent, Begins_line, Begins_tick, Hos
 use Rattle.outside_model.specs.Did.{happens_all as happens_all_outside, entries_all as entries_all_outside}
 use Rattle.world_model.specs.State.{Machine, begun_in, host_does, routed}
 use Rattle.world_model.specs.Events.{Event, Outside_does, Host_does, Host_takes, Decoder_ticks, Refuses, Shows_values, Restarts, May, entries, happens, notes}
-use Rattle.proof_walk.specs.Outside.{Comes, IsNote, Moves}
+use Rattle.proof_walk.specs.Outside.{Comes, IsNote, IsSimple, Moves}
 use Rattle.proof_walk.proofs.Machines.{UnitsAre, answers_keep, any_told, outs_keep}
 use Rattle.proof_chip.specs.Knowing.{AnyEntry}
 use Rattle.proof_chip.specs.Sending.{AirSo, KnowsAir}
 use Rattle.proof_chip.proofs.Acting.{NotHome, acts_go, steps_go}
-use Rattle.proof_chip.proofs.Going.{AreApart, apart_goes, results_go, simple_goes, tick_goes}
+use Rattle.proof_line.proofs.ChipAccounts.{event_steps, outer_steps, repeat_steps}
+use Rattle.proof_chip.proofs.Going.{AreApart, apart_goes, collides_goes, results_go, simple_goes, tick_goes}
 
 abbrev pub TakesNone : Event → Type 0
 TakesNone (Outside_does (Chip_takes count rest ways)) = ⊥
@@ -49,41 +51,55 @@ any_units (Note note ∷ outs) = any_units outs
 not_own : false ≡ true → ⊥
 not_own is = cc
 
-module _ (devices : List State) (Are : List Sending → Type 0) where
+module _ (devices : List State) (Are : List Sending → Type 0) (did : List Step) where
+  abbrev Grows : List Step → Outside → List Entry → Outside → Type 0
+  Grows now w told later = (past : List Entry) → AirSo devices Are did past w.outer.chip.state.port → AirSo devices Are now (past ++ told) later.outer.chip.state.port
+
   abbrev pub Keeps : Outside → List Entry → Outside → Type 0
-  Keeps w told later = (past : List Entry) → AirSo devices Are past w.outer.chip.state.port → AirSo devices Are (past ++ told) later.outer.chip.state.port
+  Keeps w told later = Grows did w told later
 
   keeps_none : (w : Outside) → Keeps w [] w
-  keeps_none w past knows = subst (λ (l : List Entry). AirSo devices Are l w.outer.chip.state.port) (sym (append-nil past)) knows
+  keeps_none w past knows = subst (λ (l : List Entry). AirSo devices Are did l w.outer.chip.state.port) (sym (append-nil past)) knows
+
+  grows_both : (now : List Step) (w u v : Outside) (xs ys : List Entry) → Keeps w xs u → Grows now u ys v → Grows now w (xs ++ ys) v
+  grows_both now w u v xs ys first later past knows =
+      subst (λ (l : List Entry). AirSo devices Are now l v.outer.chip.state.port) (append_assoc past xs ys) (later (past ++ xs) (first past knows))
 
   keeps_both : (w u v : Outside) (xs ys : List Entry) → Keeps w xs u → Keeps u ys v → Keeps w (xs ++ ys) v
-  keeps_both w u v xs ys first later past knows =
-      subst (λ (l : List Entry). AirSo devices Are l v.outer.chip.state.port) (append_assoc past xs ys) (later (past ++ xs) (first past knows))
+  keeps_both w u v xs ys first later = grows_both did w u v xs ys first later
 
   -- ---- the number of the tick
 
-  moved : (w later : Outside) (told : List Entry) → Moves AnyEntry (KnowsAir devices Are) w told (KnowsAir devices Are) later → Keeps w told later
-  moved w later told moves past knows = (moves false past (λ (is : false ≡ true). absurd (not_own is)) knows).1
+  abbrev Makes : List Step → Outside → Outcome → List State → Type 0
+  Makes now w x there = Comes AnyEntry (KnowsAir devices Are did) w x there (KnowsAir devices Are now)
 
-  stamped_as : (w : Outside) (p : OuterState) (told : List Entry) (there : List State) → Moves AnyEntry (KnowsAir devices Are) w told (KnowsAir devices Are) (outside p there)
-      → Keeps w (stamp p told) (outside (has_entered p told) there)
-  stamped_as w p [] there moves = moved w (outside p there) [] moves
-  stamped_as w p (first ∷ told) there moves =
-      keeps_both w w (outside p there) (ticked_entry p) (first ∷ told) (moved w w (ticked_entry p) (apart_goes devices Are w w (ticked_entry p) (number_apart (p.in_tick && not p.stamped) p.clock) refl))
-      (moved w (outside p there) (first ∷ told) moves)
+  moved : (now : List Step) (w later : Outside) (told : List Entry) → Moves AnyEntry (KnowsAir devices Are did) w told (KnowsAir devices Are now) later → Grows now w told later
+  moved now w later told moves past knows = (moves false past (λ (is : false ≡ true). absurd (not_own is)) knows).1
 
-  stamped : (w : Outside) (x : Outcome) (there : List State) → Comes AnyEntry (KnowsAir devices Are) w x there (KnowsAir devices Are) → Keeps w (stamp x.outer x.entries) (outside (has_entered x.outer x.entries) there)
-  stamped w x there comes = stamped_as w x.outer x.entries there comes
+  stamped_as : (now : List Step) (w : Outside) (p : OuterState) (told : List Entry) (there : List State) → Moves AnyEntry (KnowsAir devices Are did) w told (KnowsAir devices Are now) (outside p there)
+      → Grows now w (stamp p told) (outside (has_entered p told) there)
+  stamped_as now w p [] there moves = moved now w (outside p there) [] moves
+  stamped_as now w p (first ∷ told) there moves =
+      grows_both now w w (outside p there) (ticked_entry p) (first ∷ told)
+      (moved did w w (ticked_entry p) (apart_goes devices Are did w w (ticked_entry p) (number_apart (p.in_tick && not p.stamped) p.clock) refl)) (moved now w (outside p there) (first ∷ told) moves)
+
+  stamped : (now : List Step) (w : Outside) (x : Outcome) (there : List State) → Makes now w x there → Grows now w (stamp x.outer x.entries) (outside (has_entered x.outer x.entries) there)
+  stamped now w x there comes = stamped_as now w x.outer x.entries there comes
 
   -- ---- events outside the host
 
-  refused_goes : (w : Outside) (refused : Refusal) → Comes AnyEntry (KnowsAir devices Are) w (tells w.outer (entry.Refused refused ∷ [])) w.devices (KnowsAir devices Are)
-  refused_goes w refused = apart_goes devices Are w w (entry.Refused refused ∷ []) ((tt, tt), tt) refl
+  refused_goes : (w : Outside) (refused : Refusal) → Makes did w (tells w.outer (entry.Refused refused ∷ [])) w.devices
+  refused_goes w refused = apart_goes devices Are did w w (entry.Refused refused ∷ []) ((tt, tt), tt) refl
+
+  -- where the link does nothing
+  no_more : (w : Outside) (x : Outcome) (there : List State) → Makes did w x there → Makes (did ++ []) w x there
+  no_more w x there makes = subst (λ (l : List Step). Makes l w x there) (sym (append-nil did)) makes
 
   repeats_go : (w : Outside) (refused : Option RepeatRefusal) (number : ℕ) (drawn : List ℕ) (route : Option Route) → NotHome w.outer.air
-      → Comes AnyEntry (KnowsAir devices Are) w (repeats w refused (mesh.Repeats number drawn route)) (devices_repeated w refused (mesh.Repeats number drawn route)) (KnowsAir devices Are)
-  repeats_go w None number drawn route home = steps_go devices Are w (mesh.Repeats number drawn route) tt home
-  repeats_go w (Some refused) number drawn route home = apart_goes devices Are w w _ (refusal_apart refused) refl
+      → Makes (did ++ repeat_steps w refused (mesh.Repeats number drawn route)) w (repeats w refused (mesh.Repeats number drawn route)) (devices_repeated w refused (mesh.Repeats number drawn route))
+  repeats_go w None number drawn route home = steps_go devices Are did w (mesh.Repeats number drawn route) tt home
+  repeats_go w (Some refused) number drawn route home =
+      no_more w (repeats w (Some refused) (mesh.Repeats number drawn route)) w.devices (apart_goes devices Are did w w _ (refusal_apart refused) refl)
     where
       refusal_apart : (refused : RepeatRefusal) → AreApart (repeats w (Some refused) (mesh.Repeats number drawn route)).entries
       refusal_apart NeverSent = ((tt, tt), tt)
@@ -91,58 +107,66 @@ module _ (devices : List State) (Are : List Sending → Type 0) where
       refusal_apart (Stale later) = ((tt, tt), tt)
 
   at_goes : (w : Outside) (place : ℕ) (found : Option State) (event : DeviceEvent) (route : Option Route) → NotHome w.outer.air → MayAct w.outer found event route
-      → Comes AnyEntry (KnowsAir devices Are) w (acts_at w.outer found event route) (device_set w.devices place found event) (KnowsAir devices Are)
+      → Makes did w (acts_at w.outer found event route) (device_set w.devices place found event)
   at_goes w place None event route home may = absurd may
-  at_goes w place (Some device) event route home may = acts_go devices Are w place device event route home
+  at_goes w place (Some device) event route home may = acts_go devices Are did w place device event route home
 
   hand_goes : (w : Outside) (place : Option ℕ) (event : DeviceEvent) (route : Option Route) → NotHome w.outer.air → MayActByHand w.outer w.devices place event route
-      → Comes AnyEntry (KnowsAir devices Are) w (acts_by_hand w.outer w.devices place event route) (set_by_hand w.devices place event) (KnowsAir devices Are)
+      → Makes did w (acts_by_hand w.outer w.devices place event route) (set_by_hand w.devices place event)
   hand_goes w None event route home may = refused_goes w _
   hand_goes w (Some place) event route home may = at_goes w place (slice_get w.devices place) event route home may
 
+  simple : (w : Outside) (event : OuterEvent) → IsSimple event → (event ≡ Collides_next → ⊥) → Makes (did ++ []) w (outcome w event) w.devices
+  simple w event is other = no_more w (outcome w event) w.devices (simple_goes devices Are did w event is other)
+
   outer_goes : (w : Outside) (event : OuterEvent) → TakesNone (Outside_does event) → is_own event ≡ true → NotHome w.outer.air → MayOutside w event
-      → Comes AnyEntry (KnowsAir devices Are) w (outcome w event) (devices_after w event) (KnowsAir devices Are)
-  unfolding outcome devices_after MayOutside
+      → Makes (did ++ outer_steps w event) w (outcome w event) (devices_after w event)
+  unfolding outcome devices_after MayOutside outer_steps
   outer_goes w (Host_writes unit) none own home may = absurd (not_own own)
   outer_goes w (host_takes count) none own home may = absurd (not_own own)
   outer_goes w (Host_notes note) none own home may = absurd (not_own own)
   outer_goes w (Host_begins node sessions) none own home may = absurd (not_own own)
   outer_goes w (Chip_takes count rest ways) none own home may = absurd none
-  outer_goes w Begins_line none own home may = apart_goes devices Are w (outside (outcome w Begins_line).outer w.devices) [] tt refl
-  outer_goes w Begins_tick none own home may = apart_goes devices Are w (outside (outcome w Begins_tick).outer w.devices) [] tt refl
-  outer_goes w (Arrives drawn route) none own home may = steps_go devices Are w (mesh.Arrives drawn route) tt home
-  outer_goes w (Gives route) none own home may = results_go devices Are w route
-  outer_goes w (Device_ticks place drawn route) none own home may = at_goes w place (slice_get w.devices place) (Ticks drawn) route home may
-  outer_goes w Chip_ticks none own home may = tick_goes devices Are w
+  outer_goes w Begins_line none own home may = no_more w (outcome w Begins_line) w.devices (apart_goes devices Are did w (outside (outcome w Begins_line).outer w.devices) [] tt refl)
+  outer_goes w Begins_tick none own home may = no_more w (outcome w Begins_tick) w.devices (apart_goes devices Are did w (outside (outcome w Begins_tick).outer w.devices) [] tt refl)
+  outer_goes w (Arrives drawn route) none own home may = steps_go devices Are did w (mesh.Arrives drawn route) tt home
+  outer_goes w (Gives route) none own home may = results_go devices Are did w route
+  outer_goes w (Device_ticks place drawn route) none own home may =
+      no_more w (acts_at w.outer (slice_get w.devices place) (Ticks drawn) route) (device_set w.devices place (slice_get w.devices place) (Ticks drawn))
+      (at_goes w place (slice_get w.devices place) (Ticks drawn) route home may)
+  outer_goes w Chip_ticks none own home may = tick_goes devices Are did w
   outer_goes w (Repeats number drawn route) none own home may = repeats_go w (refusal_of w.outer.air.frames number) number drawn route home
-  outer_goes w (Wakes_device node route) none own home may = hand_goes w (place_of node w.devices) Wakes route home may
-  outer_goes w (Sets_device node value route) none own home may = hand_goes w (place_of node w.devices) (Sets value) route home may
-  outer_goes w (Shows node) none own home may = simple_goes devices Are w (Shows node) tt
-  outer_goes w (Joins node) none own home may = simple_goes devices Are w (Joins node) tt
-  outer_goes w Discovers none own home may = simple_goes devices Are w Discovers tt
-  outer_goes w (Links a b live) none own home may = simple_goes devices Are w (Links a b live) tt
-  outer_goes w (Loses count) none own home may = simple_goes devices Are w (Loses count) tt
-  outer_goes w (Loses_acks count) none own home may = simple_goes devices Are w (Loses_acks count) tt
-  outer_goes w (Marks_loss side) none own home may = simple_goes devices Are w (Marks_loss side) tt
-  outer_goes w (Marks_change side garble) none own home may = simple_goes devices Are w (Marks_change side garble) tt
-  outer_goes w (Clears_pipe side) none own home may = simple_goes devices Are w (Clears_pipe side) tt
-  outer_goes w Collides_next none own home may = simple_goes devices Are w Collides_next tt
-  outer_goes w (Stalls ticks) none own home may = simple_goes devices Are w (Stalls ticks) tt
-  outer_goes w (Cuts size) none own home may = simple_goes devices Are w (Cuts size) tt
+  outer_goes w (Wakes_device node route) none own home may =
+      no_more w (acts_by_hand w.outer w.devices (place_of node w.devices) Wakes route) (set_by_hand w.devices (place_of node w.devices) Wakes) (hand_goes w (place_of node w.devices) Wakes route home may)
+  outer_goes w (Sets_device node value route) none own home may =
+      no_more w (acts_by_hand w.outer w.devices (place_of node w.devices) (Sets value) route) (set_by_hand w.devices (place_of node w.devices) (Sets value))
+      (hand_goes w (place_of node w.devices) (Sets value) route home may)
+  outer_goes w (Shows node) none own home may = simple w (Shows node) tt (λ is. cc)
+  outer_goes w (Joins node) none own home may = simple w (Joins node) tt (λ is. cc)
+  outer_goes w Discovers none own home may = simple w Discovers tt (λ is. cc)
+  outer_goes w (Links a b live) none own home may = simple w (Links a b live) tt (λ is. cc)
+  outer_goes w (Loses count) none own home may = simple w (Loses count) tt (λ is. cc)
+  outer_goes w (Loses_acks count) none own home may = simple w (Loses_acks count) tt (λ is. cc)
+  outer_goes w (Marks_loss side) none own home may = simple w (Marks_loss side) tt (λ is. cc)
+  outer_goes w (Marks_change side garble) none own home may = simple w (Marks_change side garble) tt (λ is. cc)
+  outer_goes w (Clears_pipe side) none own home may = simple w (Clears_pipe side) tt (λ is. cc)
+  outer_goes w Collides_next none own home may = collides_goes devices Are did w
+  outer_goes w (Stalls ticks) none own home may = simple w (Stalls ticks) tt (λ is. cc)
+  outer_goes w (Cuts size) none own home may = simple w (Cuts size) tt (λ is. cc)
 
   -- ---- events of the host
 
   writes_keep : (w : Outside) (unit : LineUnit) → Unit {0} → Keeps w (entries_outside w (Host_writes unit)) (happens_outside w (Host_writes unit))
   unfolding devices_after
-  writes_keep w unit any = stamped w (outcome w (Host_writes unit)) w.devices (simple_goes devices Are w (Host_writes unit) tt)
+  writes_keep w unit any = stamped did w (outcome w (Host_writes unit)) w.devices (simple_goes devices Are did w (Host_writes unit) tt (λ is. cc))
 
   takes_keep : (w : Outside) (count : ℕ) → Keeps w [] (happens_outside w (host_takes count))
   unfolding outcome devices_after
-  takes_keep w count = stamped w (outcome w (host_takes count)) w.devices (simple_goes devices Are w (host_takes count) tt)
+  takes_keep w count = stamped did w (outcome w (host_takes count)) w.devices (simple_goes devices Are did w (host_takes count) tt (λ is. cc))
 
   note_keeps : (w : Outside) (note : Entry) → IsNote note → begun_in note ≡ None → Unit {0} → Keeps w (entries_outside w (Host_notes note)) (happens_outside w (Host_notes note))
   unfolding devices_after
-  note_keeps w note is unbegun any = stamped w (outcome w (Host_notes note)) w.devices (simple_goes devices Are w (Host_notes note) (is, unbegun))
+  note_keeps w note is unbegun any = stamped did w (outcome w (Host_notes note)) w.devices (simple_goes devices Are did w (Host_notes note) (is, unbegun) (λ same. cc))
 
   session_keeps : (w : Outside) (node session command : ℕ)
       → Keeps w (entries_outside w (Host_begins node session) ++ entries_outside (happens_outside w (Host_begins node session)) (Host_notes (entry.Begin node session command)))
@@ -153,8 +177,8 @@ module _ (devices : List State) (Are : List Sending → Type 0) where
       let later : Outside = happens_outside w (Host_begins node session) in
       let first : Outside = outside (outcome w (Host_begins node session)).outer w.devices in
       keeps_both w later (happens_outside later (Host_notes told)) (entries_outside w (Host_begins node session)) (entries_outside later (Host_notes told))
-      (stamped w (outcome w (Host_begins node session)) w.devices (apart_goes devices Are w first [] tt refl))
-      (stamped later (outcome later (Host_notes told)) later.devices (apart_goes devices Are later later (told ∷ []) ((tt, tt), tt) refl))
+      (stamped did w (outcome w (Host_begins node session)) w.devices (apart_goes devices Are did w first [] tt refl))
+      (stamped did later (outcome later (Host_notes told)) later.devices (apart_goes devices Are did later later (told ∷ []) ((tt, tt), tt) refl))
 
   abbrev Any : LineUnit → Type 0
   Any unit = Unit {0}
@@ -167,19 +191,29 @@ module _ (devices : List State) (Are : List Sending → Type 0) where
 
   -- ---- any event
 
-  pub event_keeps : (m : Machine) (event : Event) → TakesNone event → NotHome m.outside.outer.air → May m event → Keeps m.outside (entries m event) (happens m event).outside
-  unfolding happens entries May
-  event_keeps m (Outside_does event) none home may = stamped m.outside (outcome m.outside event) (devices_after m.outside event) (outer_goes m.outside event none may.0 home may.1)
+  still : (w : Outside) (told : List Entry) (later : Outside) → Keeps w told later → Grows (did ++ []) w told later
+  still w told later keeps = subst (λ (l : List Step). Grows l w told later) (sym (append-nil did)) keeps
+
+  pub event_keeps : (m : Machine) (event : Event) → TakesNone event → NotHome m.outside.outer.air → May m event
+      → (past : List Entry) → AirSo devices Are did past m.outside.outer.chip.state.port
+      → AirSo devices Are (did ++ event_steps m event) (past ++ entries m event) (happens m event).outside.outer.chip.state.port
+  unfolding happens entries May event_steps
+  event_keeps m (Outside_does event) none home may =
+      stamped (did ++ outer_steps m.outside event) m.outside (outcome m.outside event) (devices_after m.outside event) (outer_goes m.outside event none may.0 home may.1)
   event_keeps m (Host_does event) none home may =
       let later : Outside = (host_does m (event ∷ [])).outside in
-      keeps_both m.outside later (happens_all_outside later (notes (answers m.host.state event))) (entries_all_outside m.outside (routed (outs_all m.host.state (event ∷ []))))
+      still m.outside (entries m (Host_does event)) (happens m (Host_does event)).outside
+      (keeps_both m.outside later (happens_all_outside later (notes (answers m.host.state event))) (entries_all_outside m.outside (routed (outs_all m.host.state (event ∷ []))))
       (entries_all_outside later (notes (answers m.host.state event))) (host_keeps m.outside m.host.state (event ∷ []) (any_units (outs_all m.host.state (event ∷ []))))
-      (answers_keep Any AnyNote Keeps keeps_none keeps_both writes_keep note_keeps session_keeps later m.host.state event (any_told (answers m.host.state event)))
+      (answers_keep Any AnyNote Keeps keeps_none keeps_both writes_keep note_keeps session_keeps later m.host.state event (any_told (answers m.host.state event))))
   event_keeps m (Host_takes count rest items events) none home may =
       let later : Outside = happens_outside m.outside (host_takes count) in
-      keeps_both m.outside later (happens_all_outside later (routed (outs_all m.host.state events))) [] (entries_all_outside later (routed (outs_all m.host.state events))) (takes_keep m.outside count)
-      (host_keeps later m.host.state events (any_units (outs_all m.host.state events)))
-  event_keeps m Decoder_ticks none home may = keeps_none m.outside
-  event_keeps m (Refuses line refusal) none home may = note_keeps m.outside (entry.Refused refusal) tt refl tt
-  event_keeps m (Shows_values node) none home may = note_keeps m.outside _ tt refl tt
-  event_keeps m (Restarts state) none home may = keeps_none m.outside
+      still m.outside (entries m (Host_takes count rest items events)) (happens m (Host_takes count rest items events)).outside
+      (keeps_both m.outside later (happens_all_outside later (routed (outs_all m.host.state events))) [] (entries_all_outside later (routed (outs_all m.host.state events))) (takes_keep m.outside count)
+      (host_keeps later m.host.state events (any_units (outs_all m.host.state events))))
+  event_keeps m Decoder_ticks none home may = still m.outside [] m.outside (keeps_none m.outside)
+  event_keeps m (Refuses line refusal) none home may =
+      still m.outside (entries m (Refuses line refusal)) (happens m (Refuses line refusal)).outside (note_keeps m.outside (entry.Refused refusal) tt refl tt)
+  event_keeps m (Shows_values node) none home may =
+      still m.outside (entries m (Shows_values node)) (happens m (Shows_values node)).outside (note_keeps m.outside _ tt refl tt)
+  event_keeps m (Restarts state) none home may = still m.outside [] m.outside (keeps_none m.outside)

@@ -28,3 +28,7 @@ mod Judges
 mod Mild
 pub mod Airs
 mod Members
+mod Grounds
+mod Served
+mod Calling
+mod CallWalk

@@ -50,7 +50,7 @@ note_aside (entry.Written side unit) note = absurd note
 note_aside entry.ChipFull note = absurd note
 note_aside e note = tt
 
-air_aside : (e : Entry) → IsOfAir e → IsAside e
+pub air_aside : (e : Entry) → IsOfAir e → IsAside e
 air_aside (entry.Written side unit) of_air = absurd of_air
 air_aside entry.ChipFull of_air = absurd of_air
 air_aside e of_air = tt

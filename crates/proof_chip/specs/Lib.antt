@@ -1,3 +1,5 @@
 pub mod Serving
 pub mod Knowing
 pub mod Sending
+pub mod Calling
+pub mod Served

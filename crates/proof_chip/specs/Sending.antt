@@ -63,10 +63,9 @@ pub record TieItems (devices : List State) (steps : List Step) (past : List Entr
   pub airs : (later : Course) → GoesOn (course_of steps) later → TieAir devices later past o
   pub agrees : Agrees devices past o
 
--- the link did some steps, and was given some frames, with which all this is so
-abbrev pub ItemsSo : List State → List Entry → OuterState → Type 0
-ItemsSo devices past o =
-    (steps : List Step) × (frames : List FrameParts) × Serves steps frames past o.chip.state.port × TieItems devices steps past o
+-- with these steps of the link, it was given some frames, with which all this is so
+abbrev pub ItemsSo : List State → List Step → List Entry → OuterState → Type 0
+ItemsSo devices did past o = (frames : List FrameParts) × Serves did frames past o.chip.state.port × TieItems devices did past o
 
 -- ---- at any time
 
@@ -76,14 +75,13 @@ pub record KeepsAir (devices : List State) (Are : List Sending → Type 0) (cour
   pub over : IsPassedOver false devices course past
   pub are : Are (last_sending course past)
 
--- the link did some steps, and was given some frames, with which this is so of each course that goes on
-abbrev pub AirSo : List State → (List Sending → Type 0) → List Entry → PortState → Type 0
-AirSo devices Are past port =
-    (steps : List Step) × (frames : List FrameParts) × Serves steps frames past port
-    × ((later : Course) → GoesOn (course_of steps) later → KeepsAir devices Are later past)
+-- with these steps of the link, it was given some frames, with which this is so of each course that goes on
+abbrev pub AirSo : List State → (List Sending → Type 0) → List Step → List Entry → PortState → Type 0
+AirSo devices Are did past port =
+    (frames : List FrameParts) × Serves did frames past port × ((later : Course) → GoesOn (course_of did) later → KeepsAir devices Are later past)
 
-abbrev pub KnowsAir : List State → (List Sending → Type 0) → Knowing
-KnowsAir devices Are awaits past w = AirSo devices Are past w.outer.chip.state.port
+abbrev pub KnowsAir : List State → (List Sending → Type 0) → List Step → Knowing
+KnowsAir devices Are did awaits past w = AirSo devices Are did past w.outer.chip.state.port
 
 -- the SendData that are not over where the chip may take another: the chip has the same under way, and none is of a later tick
 abbrev pub AreNow : OuterState → List Sending → Type 0
@@ -114,8 +112,8 @@ AreAt (Arriving frames ticks) o sendings = AreBefore o sendings
 AreAt (Giving results ticks) o sendings = AreBefore o sendings
 AreAt here o sendings = AreNow o sendings
 
-abbrev pub KnowAir : List State → Phase → List Entry → Machine → Type 0
-KnowAir devices here past m = AirSo devices (AreAt here m.outside.outer) past m.outside.outer.chip.state.port × LeavesMild here
+abbrev pub KnowAir : List State → List Step → Phase → List Entry → Machine → Type 0
+KnowAir devices did here past m = AirSo devices (AreAt here m.outside.outer) did past m.outside.outer.chip.state.port × LeavesMild here
 
 -- What other walks are to tell: node 1 has not joined the air; where the chip may take bytes, it agrees with the transcript once the number of the tick is entered; and once all results of a
 -- tick have come, it has nothing under way.

@@ -1,13 +1,17 @@
 //! What the chip does for the host in every run: the frames that it has for the host, which it writes in order, drops or lets wait.
 //!
 //! Each is the contract of a function with an empty body, over lines that are said one after another (`world_lines`) and the events of the machine that each
-//! line is, and is proved on the walk of `proof_walk`: `service_goes_on`, the tie, and with it `chips_serve_in_order`, where the events of the lines end; and
-//! `nodes_go_on`.
+//! line is, and is proved on the walk of `proof_walk`: `service_goes_on`, the tie, and with it `chips_serve_in_order`, where the events of the lines end;
+//! `nodes_go_on`; `calls_go_on`; and over all of these, with the walk of both links (`proof_line`), `chips_air_what_is_taken`.
 //! The definitions are in `specs/`: `Serving` (what the chip's link did and was given, beside the transcript), `Knowing` (what is known of it at each phase
-//! of a line) and `Sending` (which SendData it has under way, and what that needs to be known of chip and transcript). `proofs/Airs` has a walk for the law
-//! of what goes on the air, on the ground of what other walks tell.
+//! of a line), `Sending` (which SendData it has under way, and what that needs to be known of chip and transcript), `Calling` (the results that it waits
+//! for) and `Served` (all of that with both links, by the same steps).
 #![tactic(auto)]
 
+mod aired;
+mod calls;
 mod order;
 
+pub use aired::chips_air_what_is_taken;
+pub use calls::calls_go_on;
 pub use order::{chips_serve_in_order, nodes_go_on, service_goes_on};

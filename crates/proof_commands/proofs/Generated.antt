@@ -33,7 +33,7 @@ use Rattle.run_lines.specs.declared.status.Status.TheVariants as status
 use Rattle.run_generate.specs.Generate.{AllDone, IsCutShort, SomeDone, SumsUp, command_lines, first_lines, generated_lines, is_accepted, is_success, joining_lines, loss_lines, node_at, summary_text, word_at}
 use Rattle.run_sim.specs.Sim.{Point, at, said}
 use Rattle.world_lines.specs.Done.{IsRead}
-use Rattle.proof_commands.specs.Around.{Around}
+use Rattle.proof_commands.specs.Around.{Around, shelf_in}
 use Rattle.proof_commands.specs.Laws.{AreBegun, IsReadAs, IsStory, Ran, TellsAtRestarts, events_of, first, has_restart, lines_of, transcript}
 use Rattle.proof_commands.specs.Generate.{HasStory, RunsGenerate, Tells, TellsInPart, Writes, plain_lines}
 use Rattle.proof_commands.proofs.Reading.{are_prefix}
@@ -204,13 +204,13 @@ same_summary a b table same =
     rw (accepted, succeeded) refl
 
 module _ (again : ReadAgain) (tables : TablesShown) (hundreds : ℕ) (key : List ℕ) (old new : Around) (text : List ℕ)
-    (sums : SumsUp hundreds key old.devices new.devices old.records new.records old.keeper_faults new.keeper_faults text) where
+    (sums : SumsUp hundreds key old.devices new.devices (shelf_in old) (shelf_in new) text) where
   texts : Texts (generated_lines hundreds)
   texts = scenario hundreds
 
-  told : Told texts.texts (scene (first_world key) old.devices old.records [] old.keeper_faults) sums.last
-  told = told_of texts.texts (scene (first_world key) old.devices old.records [] old.keeper_faults) sums.last
-      (subst (λ (l : List Line). AllDone l (scene (first_world key) old.devices old.records [] old.keeper_faults) sums.last) (sym texts.lines_are) sums.done)
+  told : Told texts.texts (scene (first_world key) old.devices (shelf_in old) []) sums.last
+  told = told_of texts.texts (scene (first_world key) old.devices (shelf_in old) []) sums.last
+      (subst (λ (l : List Line). AllDone l (scene (first_world key) old.devices (shelf_in old) []) sums.last) (sym texts.lines_are) sums.done)
 
   begun : AreBegun (first key old) told.tale.story
   begun = schedules_begun (first key old) told.tale.story told.tale.schedules
@@ -350,11 +350,11 @@ part_story lines m new (inr cut) =
     }
 
 module _ (hundreds : ℕ) (key : List ℕ) (old new : Around)
-    (cut : IsCutShort hundreds key old.devices new.devices old.records new.records old.keeper_faults new.keeper_faults) where
+    (cut : IsCutShort hundreds key old.devices new.devices (shelf_in old) (shelf_in new)) where
   part : PartStory (scenario hundreds).texts (first key old) cut.last.machine
   part = part_story (scenario hundreds).texts (first key old) cut.last
-      (some_told (scenario hundreds).texts (scene (first_world key) old.devices old.records [] old.keeper_faults) cut.last
-      (subst (λ (l : List Line). SomeDone l (scene (first_world key) old.devices old.records [] old.keeper_faults) cut.last) (sym (scenario hundreds).lines_are) cut.done))
+      (some_told (scenario hundreds).texts (scene (first_world key) old.devices (shelf_in old) []) cut.last
+      (subst (λ (l : List Line). SomeDone l (scene (first_world key) old.devices (shelf_in old) []) cut.last) (sym (scenario hundreds).lines_are) cut.done))
 
   -- the lines that were run, and those that were not
   abbrev run : List (TextLine Line)

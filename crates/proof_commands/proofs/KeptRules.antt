@@ -10,7 +10,7 @@ use Rattle.device_kinds.specs.Sealing.{keys_of as device_keys}
 use Rattle.law_transcript.specs.Answers.{AnswersLines}
 use Rattle.law_transcript.specs.Carrying.{CarriesUnits}
 use Rattle.law_transcript.specs.Headline.{IsAsMade}
-use Rattle.law_transcript.specs.Nodes.{listing_of}
+use Rattle.law_transcript.specs.Nodes.{listing_of, always}
 use Rattle.law_transcript.specs.Restarts.{ticks_asked}
 use Rattle.law_transcript.specs.Table.{table_of}
 use Rattle.world_model.specs.State.{Machine, first_machine}
@@ -67,7 +67,7 @@ pub record Keeping : Type 0 where
       → CarriesUnits (transcript_of (first_machine keys (Some []) devices) lines)
   pub stores : (keys : Keys) (devices : List State) (lines : List Spoken) → AllByRecursion IsOfItsKind devices → AreDone (first_machine keys (Some []) devices) lines
       → StoresDirectly (listing_of devices) (transcript_of (first_machine keys (Some []) devices) lines)
-  pub rules : (before after : List State) (ticks : ℕ) (T : List Entry) → KeepsLaws before after T → KeepsRules (T ++ table_of (listing_of before) ticks T after)
+  pub rules : (before after : List State) (ticks : ℕ) (T : List Entry) → KeepsLaws before after T → KeepsRules (T ++ table_of (always (listing_of before)) ticks T after)
 
 module _ (laws : Keeping) (key : List ℕ) (old new : Around) (story : List Ran) (unentered : List Event) (tells : Tells all_well false key old new story unentered)
     (good : IsAuditable key old story) where
@@ -102,26 +102,26 @@ module _ (laws : Keeping) (key : List ℕ) (old new : Around) (story : List Ran)
   keeps =
       let each = laws.stories key old new in
       let is = tells.is in
-      let well = each.kept story unentered is at_restarts in
+      let well = each.of_host.kept story unentered is at_restarts in
       let fair = good.world.run in
-      let same = each.same story unentered is in
+      let same = each.of_devices.same story unentered is in
       record {
-        host = each.orders story unentered is well;
+        host = each.of_host.orders story unentered is well;
         asked = laws.asked true old.devices T good.kinds
             (subst (AnswersLines true old.devices) as_read (laws.answered (keys_of key) old.devices (all_said story) done whole));
         headline = each.whole_headline story unentered is fair good.first;
-        changes = of_all IsShown (each.shown story unentered is fair.made good.world.apart);
+        changes = of_all IsShown (each.of_devices.shown story unentered is fair.made good.world.apart);
         kinds = kinds_stay old.devices new.devices same good.kinds;
-        groups = of_all GroupsSessions (each.groups story unentered is fair.made good.world.apart);
+        groups = of_all GroupsSessions (each.of_devices.groups story unentered is fair.made good.world.apart);
         apart = stays_apart old.devices new.devices same good.world.apart;
         whole = subst (λ (l : List State). ArePieces l T) (sym (whole_devices key old new story unentered is at_restarts none))
             (subst (ArePieces (after_all (fresh key old) (all_said story)).outside.devices) as_read (laws.whole (fresh key old) (all_said story) done));
         begun = subst ChangesBegun as_read
             (laws.begun key old.devices (all_said story) fair.made good.world.apart done);
         lines = laws.lines T (entries_back laws.back key old new false story unentered tells at_restarts);
-        numbers = each.numbers story unentered is;
-        fates = each.fares story unentered is (inr well) false (λ whole. absurd cc);
-        ticks = each.ticks story unentered is false (λ whole. absurd cc);
+        numbers = each.of_air.numbers story unentered is;
+        fates = each.of_air.fares story unentered is (inr well) false (λ whole. absurd cc);
+        ticks = each.of_line.ticks story unentered is false (λ whole. absurd cc);
         carries = subst CarriesUnits as_read (laws.carries (keys_of key) old.devices (all_said story) done);
         stores = subst (StoresDirectly (listing_of old.devices)) as_read (laws.stores (keys_of key) old.devices (all_said story) good.kinds done);
         shows = subst (ShowsDevices old.devices) as_read (laws.shown (keys_of key) old.devices (all_said story) done good.world.apart);

@@ -12,6 +12,7 @@ pub mod Unentered
 pub mod Further
 pub mod Tables
 pub mod AsSaid
+mod Meshed
 pub mod ReadBack
 mod KeptRules
 pub mod Generated
@@ -20,6 +21,9 @@ pub mod Living
 pub mod HostKeeping
 pub mod Succeeding
 pub mod Entering
+mod ReplayWords
+mod PortWords
+mod PortHearing
 pub mod Replaying
 pub mod Recording
 pub mod Including

@@ -9,7 +9,7 @@ use Rattle.zw_text.specs.Transcript.{lines_run}
 use Rattle.zw_text.specs.declared.line.Line.{Line}
 use Rattle.zw_text.specs.declared.entry.Entry.{Entry}
 use Rattle.device_sim.specs.State.{State}
-use Rattle.law_transcript.specs.Nodes.{listing_of}
+use Rattle.law_transcript.specs.Nodes.{listing_of, always}
 use Rattle.law_transcript.specs.Restarts.{ticks_asked}
 use Rattle.law_transcript.specs.Table.{table_of}
 use Rattle.world_model.specs.State.{Machine}
@@ -46,8 +46,8 @@ pub record ReadingBack : Type 0 where
   pub tables : TablesShown
   pub texts : (m : Machine) (lines : List Spoken) → AreDone m lines → AllByRecursion SaysWords lines → ShowTexts (transcript_of m lines)
   pub legible : (T : List Entry) → AreInRange T → ShowTexts T → AreLegible T
-  pub table : (listing : ℕ → List ℕ) (clock : ℕ) (past : List Entry) (devices : List State) → AreInRange (table_of listing clock past devices)
-      → AreLegible (table_of listing clock past devices)
+  pub table : (listing : ℕ → List ℕ) (clock : ℕ) (past : List Entry) (devices : List State) → AreInRange (table_of (always listing) clock past devices)
+      → AreLegible (table_of (always listing) clock past devices)
   pub judged : (T table : List Entry) → AreLegible (T ++ table) → KeepsRules (T ++ table) → AnswersYes (transcript_text T ++ transcript_text table)
 
 -- the transcript alone

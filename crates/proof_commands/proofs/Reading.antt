@@ -17,15 +17,18 @@ use Rattle.proof_commands.specs.Sim.{AreRun}
 use Rattle.proof_commands.specs.Generate.{plain_lines}
 
 -- the line of a text was read from it
-listed_read : (text : List ℕ) (reading : Result (Option Line) LineFault) (more : List (TextLine Line)) → line_at text ≡ reading → AllByRecursion IsReadAs more
-    → AllByRecursion IsReadAs (listed text reading ++ more)
-listed_read text (Ok None) more is all = all
-listed_read text (Ok (Some line)) more is all = (is, all)
-listed_read text (Err fault) more is all = all
+abbrev pub IsReadBy : {L : Type 0} → (List ℕ → Result (Option L) LineFault) → TextLine L → Type 0
+IsReadBy reading one = reading one.text ≡ Ok (Some one.line)
 
-all_read : (texts : List (List ℕ)) → AllByRecursion IsReadAs (lines_in line_at texts)
-all_read [] = tt
-all_read (text ∷ texts) = listed_read text (line_at text) (lines_in line_at texts) refl (all_read texts)
+listed_read : {L : Type 0} (reading : List ℕ → Result (Option L) LineFault) (text : List ℕ) (found : Result (Option L) LineFault) (more : List (TextLine L)) → reading text ≡ found
+    → AllByRecursion (IsReadBy reading) more → AllByRecursion (IsReadBy reading) (listed text found ++ more)
+listed_read reading text (Ok None) more is all = all
+listed_read reading text (Ok (Some line)) more is all = (is, all)
+listed_read reading text (Err fault) more is all = all
+
+pub all_read : {L : Type 0} (reading : List ℕ → Result (Option L) LineFault) (texts : List (List ℕ)) → AllByRecursion (IsReadBy reading) (lines_in reading texts)
+all_read reading [] = tt
+all_read reading (text ∷ texts) = listed_read reading text (reading text) (lines_in reading texts) refl (all_read reading texts)
 
 -- so of the lines of a story
 abbrev pub AreRead : List Ran → Type 0
@@ -49,7 +52,7 @@ prefix_read (one ∷ a) b all = (all.0, prefix_read a b all.1)
 pub texts_read : (end : LinesEnd) (story : List Ran) (texts : List (List ℕ)) → AreRun end story (lines_in line_at texts) → AreRead story
 texts_read end story texts are =
     let prefix = are_prefix end story (lines_in line_at texts) are in
-    prefix_read (lines_of story) prefix.0 (subst (λ (l : List (TextLine Line)). AllByRecursion IsReadAs l) (sym prefix.1) (all_read texts))
+    prefix_read (lines_of story) prefix.0 (subst (λ (l : List (TextLine Line)). AllByRecursion IsReadAs l) (sym prefix.1) (all_read line_at texts))
 
 -- its events are the schedules of these lines
 before_same : (more : List Ran) (line : Line) (m : Machine) (events : List Event) → IsLineBefore more line m events → IsLineBefore (plain_lines more) line m events

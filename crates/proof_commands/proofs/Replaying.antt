@@ -1,6 +1,8 @@
 -- The lines of `replay` keep the facts of its host.
 use Rattle.std.proofs.Common.{ℕ, zero, suc, inl, inr, List, [], ◌∷◌, ◌++◌, sym, ap, subst, ◌∙◌, append_assoc, append-nil}
-use Rattle.std.specs.List.{flat_map}
+use Rattle.std.specs.List.{AllByRecursion, flat_map}
+use Rattle.zw_base.proofs.Each.{all-left}
+use Rattle.zw_text.specs.Line.{replay_at}
 use Rattle.zw_text.specs.declared.line.Line.{Line}
 use Rattle.zw_text.specs.declared.line.Line.TheVariants.{Tick}
 use Rattle.zw_text.specs.declared.line.ReplayLine.{ReplayLine}
@@ -23,8 +25,9 @@ use Rattle.host_model.proofs.Silence.{Silent, judged_silent, pump_silent, silent
 use Rattle.run_replay.specs.Machine.{Lone, Event, Does_itself, Does_asked, Takes, Ticks, Refuses, Shows_values, happens, entries, May, happens_all, entries_all, MayAll, Then}
 use Rattle.run_replay.specs.Lines.{by_host, IsEffect, IsPump, IsTaking, IsTick, AreTicks, IsPlain, IsLine}
 use Rattle.run_replay.specs.Replay.{Point, LineRan, PartRan, said}
-use Rattle.proof_commands.specs.Replay.{KeepsHost, IsKept}
+use Rattle.proof_commands.specs.Replay.{IsKept, LinesLaw}
 use Rattle.proof_commands.proofs.Entering.{asked_following, after_keeps, silent_keeps, timed_keeps}
+use Rattle.proof_commands.proofs.Reading.{IsReadBy}
 
 -- ---- what a host does of itself answers no line
 
@@ -123,15 +126,23 @@ module _ (each : (past : List Entry) (h : HostState) (event : HostEvent) → Fac
 
 -- ---- the whole run
 
-module _ (old : Point) (keeps : (lines : List (TextLine ReplayLine)) (new : Point) (T : List Entry) → AllRan LineRan lines old new T → KeepsHost T new.lone.host.state) where
-  some_kept : (lines : List (TextLine ReplayLine)) (new : Point) (T : List Entry) → RanLines NoMemory LineRan PartRan lines old new T → IsKept NoMemory lines old new T
-  some_kept lines new T (inl ran) = inl (keeps lines new T ran)
-  some_kept lines new T (inr stops) = inr (record { stops = stops; keeps = keeps stops.prefix stops.mid stops.before stops.ran })
+abbrev pub AreReplayLines : List (TextLine ReplayLine) → Type 0
+AreReplayLines lines = AllByRecursion (IsReadBy replay_at) lines
 
-  pub is_kept : (end : LinesEnd) (lines : List (TextLine ReplayLine)) (new : Point) (T : List Entry) → RanLines end LineRan PartRan lines old new T → IsKept end lines old new T
-  is_kept All lines new T ran = keeps lines new T ran
-  is_kept (Bad number fault) lines new T ran = keeps lines new T ran
-  is_kept ReadFailed lines new T ran = keeps lines new T ran
-  is_kept TooMuch lines new T ran = keeps lines new T ran
-  is_kept WriteFailed lines new T ran = keeps lines new T ran
-  is_kept NoMemory lines new T ran = some_kept lines new T ran
+-- what holds of any lines that were read and run whole
+module _ (Law : LinesLaw) (old : Point) (keeps : (lines : List (TextLine ReplayLine)) (new : Point) (T : List Entry) → AreReplayLines lines → AllRan LineRan lines old new T → Law lines new T) where
+  some_kept : (lines : List (TextLine ReplayLine)) (new : Point) (T : List Entry) → AreReplayLines lines → RanLines NoMemory LineRan PartRan lines old new T
+      → IsKept Law NoMemory lines old new T
+  some_kept lines new T read (inl ran) = inl (keeps lines new T read ran)
+  some_kept lines new T read (inr stops) =
+      let first : AreReplayLines stops.prefix = all-left (IsReadBy replay_at) stops.prefix (stops.last ∷ []) (subst AreReplayLines stops.lines_are read) in
+      inr (record { stops = stops; keeps = keeps stops.prefix stops.mid stops.before first stops.ran })
+
+  pub is_kept : (end : LinesEnd) (lines : List (TextLine ReplayLine)) (new : Point) (T : List Entry) → AreReplayLines lines → RanLines end LineRan PartRan lines old new T
+      → IsKept Law end lines old new T
+  is_kept All lines new T read ran = keeps lines new T read ran
+  is_kept (Bad number fault) lines new T read ran = keeps lines new T read ran
+  is_kept ReadFailed lines new T read ran = keeps lines new T read ran
+  is_kept TooMuch lines new T read ran = keeps lines new T read ran
+  is_kept WriteFailed lines new T read ran = keeps lines new T read ran
+  is_kept NoMemory lines new T read ran = some_kept lines new T read ran

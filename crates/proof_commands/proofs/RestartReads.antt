@@ -19,7 +19,7 @@ use Rattle.run_lines.specs.declared.status.Status.{Status}
 use Rattle.run_lines.specs.Lines.{TextLine, lines_in, AllRan, StopsIn, RanLines}
 use Rattle.run_sim.specs.Sim.{Point, point_of, LineRan, PartRan, said}
 use Rattle.law_transcript.specs.Restarts.{begins_refused}
-use Rattle.proof_commands.specs.Around.{Around}
+use Rattle.proof_commands.specs.Around.{Around, shelf_in}
 use Rattle.proof_commands.specs.Laws.{Ran, lines_of}
 use Rattle.proof_commands.specs.Sim.{AreRun, RunsSim}
 use Rattle.proof_commands.specs.RestartReads.{accepts, reads_of, reads_in, ReadsRecords}
@@ -162,7 +162,7 @@ end_read NoMemory lines old new T (inr stops) = some_read lines old new T stops
 
 pub reads_records : (ended : Status) (key : List ℕ) (old new : Around) (quiet : Bool) (ran : RunsSim ended quiet key old new) → ReadsRecords ended quiet key old new ran
 reads_records ended key old new quiet ran =
-    let start = point_of (first_world key) old.devices old.records old.keeper_faults old.kept old.keeper_reads in
+    let start = point_of (first_world key) old.devices (shelf_in old) old.kept old.keeper_reads in
     let read = end_read ran.told.end (lines_in line_at ran.told.texts) start ran.point ran.told.transcript ran.told.ran in
     record {
       story = read.tale.story;

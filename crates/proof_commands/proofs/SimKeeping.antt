@@ -17,12 +17,9 @@ use Rattle.proof_world.specs.Devices.{GroupsSessions}
 use Rattle.proof_world.specs.Restarts.{AllStartWell}
 use Rattle.run_sim.specs.Sim.{said}
 use Rattle.proof_commands.specs.Laws.{Ran, events_of, transcript_from}
+use Rattle.proof_audit.proofs.BegunChanges.{may-front as may_prefix}
 
 -- ---- events of two lists
-
-pub may_prefix : (m : Machine) (a b : List Event) → MayAll m (a ++ b) → MayAll m a
-may_prefix m [] b may = tt
-may_prefix m (e ∷ a) b may = (may.0, may_prefix (happens m e) a b may.1)
 
 pub may_rest : (m : Machine) (a b : List Event) → MayAll m (a ++ b) → MayAll (happens_all m a) b
 may_rest m [] b may = may

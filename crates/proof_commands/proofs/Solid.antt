@@ -78,7 +78,7 @@ digit_tests false false false x y z e = absurd cc
 digit_solid : (c : ℕ) → is_hex_digit c ≡ true → ltb 32 c ≡ true
 digit_solid c e = grind (arith, e)
 
-hex : (text bytes : List ℕ) → decode_of text ≡ Ok bytes → Solid text
+pub hex : (text bytes : List ℕ) → decode_of text ≡ Ok bytes → Solid text
 hex text bytes e = list_all-from_AllPass (λ b. ltb 32 b) text (λ k d below. digit_solid (get_or text k d) ((decode_of-ok text bytes e).1 k d below))
 
 value : (word : Word) → IsValue word → Solid (value_word word)

@@ -15,7 +15,8 @@ use Rattle.world_lines.specs.Spoken.{Spoken, after_all, transcript_of}
 use Rattle.world_lines.specs.Done.{AreDone, events_of as events_said}
 use Rattle.proof_commands.specs.Around.{Around}
 use Rattle.proof_commands.specs.Laws.{Ran, AreBegun, IsStory, events_of, first, transcript_from}
-use Rattle.proof_commands.proofs.SimKeeping.{may_prefix, may_rest}
+use Rattle.proof_commands.proofs.SimKeeping.{may_rest}
+use Rattle.proof_audit.proofs.BegunChanges.{may-front as may_prefix}
 use Rattle.proof_commands.proofs.Reading.{AreRead}
 
 -- ---- the same story

@@ -19,7 +19,7 @@ use Rattle.run_lines.specs.declared.running.LinesEnd.TheVariants.{All, Bad, Read
 use Rattle.run_lines.specs.declared.status.Status.{Status}
 use Rattle.run_lines.specs.Lines.{TextLine, lines_in, AllRan, StopsIn, RanLines}
 use Rattle.run_sim.specs.Sim.{Point, point_of, at, LineRan, PartRan, said}
-use Rattle.proof_commands.specs.Around.{Around}
+use Rattle.proof_commands.specs.Around.{Around, shelf_in}
 use Rattle.proof_commands.specs.Laws.{Ran, events_of, lines_of, transcript_from, AreSchedules, AreBegun, with_last, IsUnentered}
 use Rattle.proof_commands.specs.Sim.{AreRun, EndsAs, EndsWhole, RunsSim, Tells}
 use Rattle.proof_commands.proofs.Reading.{texts_read}
@@ -263,7 +263,7 @@ story_of NoMemory lines old new T ran = some_story lines old new T ran
 pub has_story : (ended : Status) (key : List ℕ) (old new : Around) (quiet : Bool) → RunsSim ended quiet key old new
     → (story : List Ran) × (unentered : List Event) × Tells ended quiet key old new story unentered
 has_story ended key old new quiet ran =
-    let s = story_of ran.told.end (lines_in line_at ran.told.texts) (point_of (first_world key) old.devices old.records old.keeper_faults old.kept old.keeper_reads) ran.point ran.told.transcript ran.told.ran in (
+    let s = story_of ran.told.end (lines_in line_at ran.told.texts) (point_of (first_world key) old.devices (shelf_in old) old.kept old.keeper_reads) ran.point ran.told.transcript ran.told.ran in (
       s.story,
       s.unentered,
       record {

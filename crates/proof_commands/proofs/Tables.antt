@@ -12,7 +12,7 @@ use Rattle.zw_text.specs.Transcript.{lines_run}
 use Rattle.zw_text.specs.Line.{line_at}
 use Rattle.zw_text.specs.declared.line.Line.{Line}
 use Rattle.zw_text.specs.declared.entry.Entry.{Entry}
-use Rattle.law_transcript.specs.Nodes.{listing_of}
+use Rattle.law_transcript.specs.Nodes.{listing_of, always}
 use Rattle.law_transcript.specs.Restarts.{ticks_asked}
 use Rattle.law_transcript.specs.Table.{table_of}
 use Rattle.world_model.specs.State.{Machine, first_machine}
@@ -31,7 +31,7 @@ use Rattle.run_sim.specs.World.{first_world}
 use Rattle.world_lines.specs.Spoken.{Spoken, after_all, transcript_of}
 use Rattle.world_lines.specs.Done.{AreDone}
 use Rattle.world_lines.specs.Whole.{AreWhole}
-use Rattle.proof_commands.specs.Around.{Around}
+use Rattle.proof_commands.specs.Around.{Around, shelf_in}
 use Rattle.proof_commands.specs.Laws.{Ran, AreSchedules, IsStory, TellsAtRestarts, events_of, first, last, transcript}
 use Rattle.proof_commands.specs.Sim.{EndsAs, EndsWhole, Tells, WritesTable}
 use Rattle.proof_commands.proofs.Speaking.{ReadAgain, all_done, all_said, same_machine, same_transcript}
@@ -45,14 +45,14 @@ whole_said m (ran ∷ more) are = (are.0, whole_said (happens_all m ran.events) 
 
 -- the table that a transcript shows, with these devices
 abbrev pub shown_table : Around → List Entry → List State → List Entry
-shown_table old past devices = table_of (listing_of old.devices) (ticks_asked (lines_run past)) past devices
+shown_table old past devices = table_of (always (listing_of old.devices)) (ticks_asked (lines_run past)) past devices
 
 -- the table after lines from the first machine on
 abbrev pub TablesShown : Type 0
 TablesShown = (keys : Keys) (devices : List State) (lines : List Spoken) →
     let m = first_machine keys (Some []) devices in
     AreDone m lines → AreWhole m lines → table_entries (after_all m lines)
-    ≡ table_of (listing_of devices) (ticks_asked (lines_run (transcript_of m lines))) (transcript_of m lines) (after_all m lines).outside.devices
+    ≡ table_of (always (listing_of devices)) (ticks_asked (lines_run (transcript_of m lines))) (transcript_of m lines) (after_all m lines).outside.devices
 
 module _ (again : ReadAgain) (tables : TablesShown) (key : List ℕ) (old new : Around) (story : List Ran) (is : IsStory key old new story [])
     (schedules : AreSchedules (first key old) story)
@@ -169,7 +169,7 @@ module _ (again : ReadAgain) (tables : TablesShown) where
       = ap table_entries ended.whole.is_last ∙ table_shown again tables key old new story is ended.whole.schedules restarts in
       record {
         entered = subst (AllByRecursion EntryFits) tells.entered
-            (lines_fit (lines_in line_at told.texts) (point_of (first_world key) old.devices old.records old.keeper_faults old.kept old.keeper_reads) point told.transcript
-            (all_ran told.end (lines_in line_at told.texts) (point_of (first_world key) old.devices old.records old.keeper_faults old.kept old.keeper_reads) point told.transcript told.mid new.written told.ran told.closes));
+            (lines_fit (lines_in line_at told.texts) (point_of (first_world key) old.devices (shelf_in old) old.kept old.keeper_reads) point told.transcript
+            (all_ran told.end (lines_in line_at told.texts) (point_of (first_world key) old.devices (shelf_in old) old.kept old.keeper_reads) point told.transcript told.mid new.written told.ran told.closes));
         table = subst (AllByRecursion EntryFits) entries (table_fits point ended.pieces ended.are);
       }

@@ -15,7 +15,7 @@ use Rattle.world_model.specs.Did.{happens_all, MayAll, last_of, IsOfHost}
 use Rattle.world_model.proofs.EventLists.{happens_all-append}
 use Rattle.world_model.proofs.Hosting.{devices_host-all, routed_still}
 use Rattle.proof_commands.specs.Laws.{Ran, events_of, lines_of, with_last, IsUnentered}
-use Rattle.proof_commands.proofs.SimKeeping.{may_prefix}
+use Rattle.proof_audit.proofs.BegunChanges.{may-front as may_prefix}
 
 -- ---- the devices
 

@@ -2,7 +2,7 @@
 use Rattle.std.specs.Prelude.{ℕ, List, drop}
 use Rattle.run_lines.specs.declared.status.Status.{Status}
 use Rattle.port_run.specs.Ending.{desk}
-use Rattle.proof_commands.specs.Around.{Around}
+use Rattle.proof_commands.specs.Around.{Around, shelf_in}
 use Rattle.proof_commands.specs.Laws.{StoriesKeepLaws}
 use Rattle.proof_commands.specs.Sim.{SimKeepsLaws}
 use Rattle.proof_commands.specs.RestartReads.{ReadsAtRestarts}
@@ -18,8 +18,8 @@ pub record KeepsLaws (ended : Status) (words : List (List ℕ)) (key : List ℕ)
   pub restarts : ReadsAtRestarts ended key old new
   pub generate : GenerateKeepsLaws ended key old new
   pub stories : StoriesKeepLaws key old new
-  pub replay : ReplayKeepsLaws ended key old.left new.left old.records new.records old.keeper_faults new.keeper_faults old.written new.written
+  pub replay : ReplayKeepsLaws ended key old.left new.left (shelf_in old) (shelf_in new) old.written new.written
   pub include : IncludeKeepsLaws ended key old.left new.left old.written new.written
   pub host :
-      PortKeepsLaws ended key old.kept (drop 1 words) (desk old.left old.written old.records old.keeper_faults)
-      (desk new.left new.written new.records new.keeper_faults)
+      PortKeepsLaws ended key old.kept (drop 1 words) (desk old.left old.written (shelf_in old))
+      (desk new.left new.written (shelf_in new))

@@ -10,16 +10,16 @@ use Rattle.run_lines.specs.Writing.{AppendsPrefix}
 use Rattle.run_lines.specs.declared.status.Status.{Status}
 use Rattle.run_lines.specs.declared.status.Status.TheVariants.{Ok, WriteFault, NoMemory}
 use Rattle.run_generate.specs.Generate.{GenerateRan, generated_lines, summary_text}
-use Rattle.law_transcript.specs.Nodes.{listing_of}
+use Rattle.law_transcript.specs.Nodes.{listing_of, always}
 use Rattle.law_transcript.specs.Restarts.{ticks_asked}
 use Rattle.law_transcript.specs.Table.{table_of}
-use Rattle.proof_commands.specs.Around.{Around}
+use Rattle.proof_commands.specs.Around.{Around, shelf_in}
 use Rattle.proof_commands.specs.Laws.{AreSchedules, IsStory, Ran, first, lines_of, transcript}
 
 -- `generate` ran so, with what it was given and what it leaves
 abbrev pub RunsGenerate : Status → ℕ → List ℕ → Around → Around → Type 0
 RunsGenerate ended hundreds key old new =
-    GenerateRan ended hundreds key old.devices new.devices old.records new.records old.keeper_faults new.keeper_faults old.written new.written
+    GenerateRan ended hundreds key old.devices new.devices (shelf_in old) (shelf_in new) old.written new.written
 
 -- the lines of a story, without their texts
 abbrev pub plain_lines : List Ran → List Line
@@ -39,7 +39,7 @@ pub record Tells (ended : Status) (hundreds : ℕ) (key : List ℕ) (old new : A
   pub schedules : AreSchedules (first key old) story
   pub written : Writes ended
       (summary_text (transcript key old story)
-      (table_of (listing_of old.devices) (ticks_asked (lines_run (transcript key old story))) (transcript key old story) new.devices)) old.written new.written
+      (table_of (always (listing_of old.devices)) (ticks_asked (lines_run (transcript key old story))) (transcript key old story) new.devices)) old.written new.written
 
 -- A run of `generate` without memory for all of it has this story, and then did what was not entered: the first lines of the scenario, each run whole, the
 -- last one perhaps in part. Nothing was written.

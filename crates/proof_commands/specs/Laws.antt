@@ -26,7 +26,7 @@ use Rattle.law_transcript.specs.Carrying.{BringsWhatWasHeard, CarriesUnits}
 use Rattle.law_transcript.specs.Fates.{FaresInTurn, LosesMarked, NumbersFrames}
 use Rattle.law_transcript.specs.Lists.{EachAfter}
 use Rattle.law_transcript.specs.Headline.{Headline, HeadlineOf, IsAsMade}
-use Rattle.law_transcript.specs.Nodes.{device_of, first_node, is_supervised, listing_of}
+use Rattle.law_transcript.specs.Nodes.{device_of, first_node, is_supervised, listing_of, always}
 use Rattle.law_transcript.specs.Payloads.{BeginsWithUnit, SendsWhatIsDue}
 use Rattle.law_transcript.specs.Restarts.{is_restart}
 use Rattle.law_transcript.specs.Stores.{StoresConfirmed}
@@ -43,7 +43,8 @@ use Rattle.law_wire.specs.Shown.{ShowsDevices}
 use Rattle.law_wire.specs.Times.{TellsTime}
 use Rattle.law_time.specs.Waking.{WakesAsTold}
 use Rattle.law_host.specs.HostLegal.{ShowsValues}
-use Rattle.proof_sending.specs.Line.{AnswersFrames, ClearsAtRestarts, ClearsNowhereElse, OverrunsOnlyWhenFull}
+use Rattle.proof_chip.specs.Served.{AirsByLink}
+use Rattle.proof_sending.specs.Line.{ClearsAtRestarts, ClearsNowhereElse, OverrunsOnlyWhenFull}
 use Rattle.proof_audit.specs.Transcript.{IsNoRepeat, HasRecords}
 use Rattle.proof_world.specs.Devices.{GroupsSessions}
 use Rattle.proof_world.specs.Restarts.{AllKeepWell, BeginsEmpty}
@@ -193,7 +194,7 @@ TakesBackWhenAsked key old new = AlwaysOf key old new (λ story. KeepsRecords ke
 
 -- the values entered as confirmed are all those that the successful commands ask for, in order, each after its success
 abbrev pub StoresValues : List ℕ → Around → Around → Type 0
-StoresValues key old new = AlwaysOf key old new (λ story. TellsAtRestarts old story → StoresConfirmed true (listing_of old.devices) (transcript key old story))
+StoresValues key old new = AlwaysOf key old new (λ story. TellsAtRestarts old story → StoresConfirmed true (always (listing_of old.devices)) (transcript key old story))
 
 -- directly after a session that begins stands its unit
 abbrev pub WritesSessions : List ℕ → Around → Around → Type 0
@@ -219,7 +220,7 @@ ShowsKeptDevices key old new = AlwaysOf key old new
 abbrev pub ShowsStoredValues : List ℕ → Around → Around → Type 0
 ShowsStoredValues key old new = AlwaysOf key old new
     (λ story. TellsAtRestarts old story → (whole : Bool) → (whole ≡ true → AreSchedules (first key old) story)
-    → EachAfter (ShowsValues (listing_of old.devices)) [] (ended whole (transcript key old story)))
+    → EachAfter (ShowsValues (always (listing_of old.devices))) [] (ended whole (transcript key old story)))
 
 -- Where every line was run whole and all that was done is entered, over a keeper that tells its records and had none at first: the records at exit are legal, and
 -- give exactly what the transcript shows.
@@ -328,7 +329,7 @@ CarriesWhatWasAsked key old new = AlwaysOf key old new (λ story. TellsAtRestart
 
 -- and what it asks to be sent is due by what lines and nodes told, openly or sealed
 abbrev pub SendsAsDue : List ℕ → Around → Around → Type 0
-SendsAsDue key old new = AlwaysOf key old new (λ story. TellsAtRestarts old story → SendsWhatIsDue (listing_of old.devices) key (transcript key old story))
+SendsAsDue key old new = AlwaysOf key old new (λ story. TellsAtRestarts old story → SendsWhatIsDue (always (listing_of old.devices)) key (transcript key old story))
 
 -- each payload that the chip writes the host from a node was heard before
 abbrev pub BringsHeard : List ℕ → Around → Around → Type 0
@@ -343,16 +344,17 @@ abbrev pub OverrunsAsDue : List ℕ → Around → Around → Type 0
 OverrunsAsDue key old new = AlwaysOf key old new
     (λ story. TellsAtRestarts old story → (whole : Bool) → (whole ≡ true → AreSchedules (first key old) story) → OverrunsWhenFull (ended whole (transcript key old story)))
 
--- an answer stands only where a data frame of the other side has arrived and has none yet, over a new keeper
-abbrev pub AnswersData : List ℕ → Around → Around → Type 0
-AnswersData key old new = AlwaysOf key old new (λ story. TellsAtRestarts old story → AnswersFrames (transcript key old story))
-
 -- over a new keeper, both sides keep the rules of the link in time
 abbrev pub KeepsBothLinks : List ℕ → Around → Around → Type 0
 KeepsBothLinks key old new = AlwaysOf key old new
     (λ story. TellsAtRestarts old story → (whole : Bool) → (whole ≡ true → AreSchedules (first key old) story) → KeepsLinks whole (transcript key old story))
 
--- and with links that do, just what was on its way is told at each restart, and nowhere else
+-- by what the chip's link did, the controller puts on the air just what it takes, each frame by the least route of its table
+abbrev pub AirsAsTaken : List ℕ → Around → Around → Type 0
+AirsAsTaken key old new = AlwaysOf key old new
+    (λ story. TellsAtRestarts old story → (whole : Bool) → (whole ≡ true → AreSchedules (first key old) story) → AirsByLink whole old.devices (transcript key old story))
+
+-- and with links that keep their rules, just what was on its way is told at each restart, and nowhere else
 abbrev pub ClearsWhatIsLost : List ℕ → Around → Around → Type 0
 ClearsWhatIsLost key old new = AlwaysOf key old new
     (λ story. TellsAtRestarts old story → (whole : Bool) → (whole ≡ true → AreSchedules (first key old) story) → ClearsLine whole (transcript key old story))
@@ -388,7 +390,7 @@ InFairRuns key old new Law = AlwaysOf key old new (λ story. IsFairRun key old s
 -- successful is in it; and where the last change of a property came from a command reported successful, the confirmed value is the device's.
 abbrev pub HasHeadline : List ℕ → Around → Around → Type 0
 HasHeadline key old new = InFairRuns key old new
-    (λ story. (node : ℕ) (device : State) → device_of node new.devices ≡ Some device → is_supervised device ≡ true → HeadlineOf (listing_of old.devices) node (transcript key old story) device)
+    (λ story. (node : ℕ) (device : State) → device_of node new.devices ≡ Some device → is_supervised device ≡ true → HeadlineOf (always (listing_of old.devices)) node (transcript key old story) device)
 
 -- success of a command of such a node is reported after its change
 abbrev pub ReportsAfterChange : List ℕ → Around → Around → Type 0
@@ -402,27 +404,34 @@ HasWholeHeadline key old new =
 
 -- ---- all of them
 
--- What every story keeps true, of a run that ended as it may.
-pub record StoriesKeepLaws (key : List ℕ) (old new : Around) : Type 0 where
+-- What the host does with commands, lines and values; over a new keeper the laws of it have what they assume.
+pub record KeepsHostLaws (key : List ℕ) (old new : Around) : Type 0 where
   pub kept : KeepsWell key old new
   pub orders : KeepsOrders key old new
   pub tables : ShowsTables key old new
   pub values : ConfirmsValues key old new
   pub answers : AnswersAsDue key old new
   pub reads : ReadsWhatItKept key old new
-  pub shows : ShowsKeptDevices key old new
   pub shows_stored : ShowsStoredValues key old new
   pub taken_back : TakesBackWhenAsked key old new
   pub stores : StoresValues key old new
   pub written : WritesSessions key old new
   pub records : KeepsWhatIsShown key old new
+  pub sends : SendsAsDue key old new
+  pub wakes : WakesNodes key old new
+
+-- what the devices do
+pub record KeepsDeviceLaws (key : List ℕ) (old new : Around) : Type 0 where
   pub once : AppliesOnce key old new
   pub same : KeepsDevices key old new
+  pub shows : ShowsKeptDevices key old new
   pub shown : ShowsChanges key old new
   pub groups : GroupsChanges key old new
-  pub headline : HasHeadline key old new
-  pub after_change : ReportsAfterChange key old new
-  pub whole_headline : HasWholeHeadline key old new
+  pub done_by : DoneByNodes key old new
+  pub devices : DoesAsShown key old new
+
+-- what becomes of frames on the air
+pub record KeepsAirLaws (key : List ℕ) (old new : Around) : Type 0 where
   pub numbers : NumbersAir key old new
   pub loses : LosesFrames key old new
   pub fares : FaresFrames key old new
@@ -432,19 +441,28 @@ pub record StoriesKeepLaws (key : List ℕ) (old new : Around) : Type 0 where
   pub repeats : RepeatsAsAsked key old new
   pub meets : MeetsFates key old new
   pub air : KeepsAir key old new
-  pub done_by : DoneByNodes key old new
-  pub devices : DoesAsShown key old new
+
+-- what becomes of units on the serial line, in time
+pub record KeepsLineLaws (key : List ℕ) (old new : Around) : Type 0 where
   pub carries : CarriesWhatWasAsked key old new
-  pub sends : SendsAsDue key old new
   pub brings : BringsHeard key old new
   pub collides : CollidesAsAsked key old new
   pub marks : MarksAsAsked key old new
   pub overruns : OverrunsWithoutRoom key old new
   pub overrun : OverrunsAsDue key old new
-  pub acknowledges : AnswersData key old new
-  pub clears : ClearsWhenRestarted key old new
   pub links : KeepsBothLinks key old new
+  pub airs : AirsAsTaken key old new
+  pub clears : ClearsWhenRestarted key old new
   pub clears_line : ClearsWhatIsLost key old new
   pub clears_only : ClearsNothingElse key old new
-  pub wakes : WakesNodes key old new
   pub ticks : NumbersTicks key old new
+
+-- What every story keeps true, of a run that ended as it may.
+pub record StoriesKeepLaws (key : List ℕ) (old new : Around) : Type 0 where
+  pub headline : HasHeadline key old new
+  pub after_change : ReportsAfterChange key old new
+  pub whole_headline : HasWholeHeadline key old new
+  pub of_host : KeepsHostLaws key old new
+  pub of_devices : KeepsDeviceLaws key old new
+  pub of_air : KeepsAirLaws key old new
+  pub of_line : KeepsLineLaws key old new

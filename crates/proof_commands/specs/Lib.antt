@@ -1,4 +1,5 @@
 pub mod Around
+pub mod Mesh
 pub mod Laws
 pub mod Sim
 pub mod RestartReads

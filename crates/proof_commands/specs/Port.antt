@@ -1,16 +1,17 @@
 -- What a run of `host` keeps true (this project's own): its story is the events of the host that its steps are, and the laws are of this story.
-use Rattle.std.specs.Prelude.{◌≡◌, ℕ, ◌⊎◌, List, [], ◌∷◌, ◌++◌, Option, IsSome}
+use Rattle.std.proofs.Common.{inl, inr}
+use Rattle.std.specs.Prelude.{◌≡◌, ℕ, ◌⊎◌, true, false, List, [], ◌∷◌, ◌++◌, Option, Some, IsSome}
 use Rattle.std.specs.List.{AllByRecursion}
 use Rattle.zw_text.specs.Transcript.{outcome}
 use Rattle.zw_text.specs.declared.entry.Entry.{Entry}
 use Rattle.zw_text.specs.declared.entry.Outcome.TheVariants.{Success}
-use Rattle.host_keep.specs.Keeping.{OptAdds}
+use Rattle.host_keep.specs.Keeping.{OptAdds, Shelf}
 use Rattle.host_keep.specs.declared.record.Record.{Record}
 use Rattle.s0_crypto.specs.declared.key_pair.Keys.{Keys}
 use Rattle.host_core.specs.Network.{keys_of}
 use Rattle.host_model.specs.State.{HostState, HostParts}
 use Rattle.host_model.specs.Events.{HostEvent}
-use Rattle.host_model.specs.Did.{Did, Shelf, after_all, records_all, texts_of}
+use Rattle.host_model.specs.Did.{Did, after_all, records_all, texts_of}
 use Rattle.host_model.specs.declared.out.HostOut.{HostOut}
 use Rattle.host_model.specs.Opening.{opened}
 use Rattle.run_lines.specs.declared.status.Status.{Status}
@@ -27,8 +28,9 @@ use Rattle.port_run.specs.declared.ending.Served.TheVariants.{Ok, Undone, BadLin
 use Rattle.port_run.specs.Steps.{Place, Step}
 use Rattle.port_run.specs.Schedule.{Telling, is_quiet}
 use Rattle.port_run.specs.Serving.{Halts}
-use Rattle.port_run.specs.Ending.{Desk, Started, start_of, RanAll, RanSome, HostRan, IsUntouched, status_of}
+use Rattle.port_run.specs.Ending.{Desk, Started, start_of, RanAll, RanSome, Ended, HostRan, IsUntouched, status_of}
 use Rattle.host_model.specs.Recording.{AllOfJoined}
+use Rattle.proof_replay.specs.HostSteps.{HaveHeard, HearsMore, Holds}
 use Rattle.proof_commands.specs.Lives.{GoesOn, entries_of}
 
 -- ---- stories
@@ -151,6 +153,47 @@ abbrev pub AddsRecords : Status → List ℕ → ℕ → List (List ℕ) → Des
 AddsRecords ended key number texts old new =
     (story : Story) → Tells ended key number texts old new story → OptAdds old.shelf.records new.shelf.records (texts_of (records_all (first key story) story.events))
 
+-- ---- what the host heard
+
+-- where the steps of a run that stopped led: where there was no memory, some events of the next step may have come after
+abbrev pub reached : (reason : Stop) (steps : List Step) (old new : Place) (sink sink' : Option (List ℕ)) → Halts reason steps old new sink sink' → Place
+reached stop.ReadFault steps old new sink sink' halts = new
+reached stop.InputTooLong steps old new sink sink' halts = new
+reached stop.WriteFault steps old new sink sink' halts = new
+reached stop.NoMemory steps old new sink sink' halts = halts.mid
+
+-- All lines were run, or some, after hosts had heard this; and over what they have heard by now the laws of hosts hold.
+abbrev pub HearsAll : (end : Served) (Tells : Telling) (keys : Keys) (number : ℕ) (texts : List (List ℕ)) (old new : Desk) → RanAll end Tells keys number texts old new → List Entry → ℕ → Type 0
+HearsAll end Tells keys number texts old new ran past clock =
+    HearsMore keys past clock true ran.steps (start_of ran.started) (record { host = ran.host; shelf = new.shelf })
+
+abbrev pub HearsSome : (reason : Stop) (Tells : Telling) (keys : Keys) (number : ℕ) (texts : List (List ℕ)) (old new : Desk) → RanSome reason Tells keys number texts old new → List Entry → ℕ → Type 0
+HearsSome reason Tells keys number texts old new ran past clock =
+    HearsMore keys past clock false ran.broke.steps (start_of ran.started)
+    (reached reason ran.broke.steps (start_of ran.started) (record { host = ran.host; shelf = new.shelf }) old.written new.written ran.broke.halts)
+
+-- so it is of a run that ended so, where it started its host
+abbrev pub HearsSo : (end : Served) (Tells : Telling) (keys : Keys) (number : ℕ) (texts : List (List ℕ)) (old new : Desk) → Ended end Tells keys number texts old new → List Entry → ℕ → Type 0
+HearsSo Ok Tells keys number texts old new ran past clock = HearsAll Ok Tells keys number texts old new ran past clock
+HearsSo (Undone line) Tells keys number texts old new ran past clock = HearsAll (Undone line) Tells keys number texts old new ran past clock
+HearsSo (BadLine line fault) Tells keys number texts old new ran past clock = Unit {0}
+HearsSo (Opening fault) Tells keys number texts old new ran past clock = Unit {0}
+HearsSo ReadFault Tells keys number texts old new ran past clock = HearsSome stop.ReadFault Tells keys number texts old new ran past clock
+HearsSo WriteFault Tells keys number texts old new ran past clock = HearsSome stop.WriteFault Tells keys number texts old new ran past clock
+HearsSo InputTooLong Tells keys number texts old new ran past clock = HearsSome stop.InputTooLong Tells keys number texts old new ran past clock
+HearsSo NoMemory Tells keys number texts old new (inl untouched) past clock = Unit {0}
+HearsSo NoMemory Tells keys number texts old new (inr ran) past clock = HearsSome stop.NoMemory Tells keys number texts old new ran past clock
+
+-- whatever came to the host, over what hosts have heard since the first run over this keeper the laws hold
+abbrev pub HearsAlone : Status → List ℕ → ℕ → List (List ℕ) → Desk → Desk → Type 0
+HearsAlone ended key number texts old new =
+    (ran : HostRan ended key number texts old new) (past : List Entry) (before : HaveHeard (keys_of key) number old.shelf.records past)
+    → HearsSo ran.end is_quiet (keys_of key) number texts old new ran.ended past before.clock
+
+-- where the keeper holds nothing, no host has heard anything before
+abbrev pub BeginsUnheard : List ℕ → ℕ → Desk → Type 0
+BeginsUnheard key number old = Holds number old.shelf.records (Some []) → HaveHeard (keys_of key) number old.shelf.records []
+
 -- What holds of every run of `host`, at every status.
 pub record PortKeepsLaws (ended : Status) (key : List ℕ) (number : ℕ) (texts : List (List ℕ)) (old new : Desk) : Type 0 where
   pub story : HasStory ended key number texts old new
@@ -160,3 +203,5 @@ pub record PortKeepsLaws (ended : Status) (key : List ℕ) (number : ℕ) (texts
   pub success : DoneIsSuccess key number texts old new
   pub next : LeavesALife ended key number texts old new
   pub adds : AddsRecords ended key number texts old new
+  pub unheard : BeginsUnheard key number old
+  pub heard : HearsAlone ended key number texts old new

@@ -4,7 +4,7 @@ use Rattle.std.specs.List.{flat_map}
 use Rattle.zw_text.specs.Line.{replay_at}
 use Rattle.zw_text.specs.declared.line.ReplayLine.{ReplayLine}
 use Rattle.zw_text.specs.declared.entry.Entry.{Entry}
-use Rattle.host_keep.specs.Keeping.{OptAdds}
+use Rattle.host_keep.specs.Keeping.{OptAdds, Shelf}
 use Rattle.host_model.specs.State.{HostState}
 use Rattle.host_model.specs.Events.{HostEvent}
 use Rattle.host_model.specs.Did.{records_all, texts_of}
@@ -17,6 +17,7 @@ use Rattle.proof_host.specs.Laws.{HostLaws}
 use Rattle.proof_host.specs.Stores.{StoresLaw}
 use Rattle.run_replay.specs.Machine.{Lone, Event, Does_itself, Does_asked, Takes, Ticks, Refuses, Shows_values, MayAll, entries_all, first_replay, happens_all, lone_of}
 use Rattle.run_replay.specs.Replay.{Point, point_of, LineRan, PartRan, ReplayRan, said}
+use Rattle.proof_replay.specs.Laws.{HearsLines}
 
 -- A transcript keeps the laws of orders, sessions and outcomes, shows the tables of this host, and its confirmed values are those of the last
 -- successful sessions.
@@ -25,15 +26,21 @@ pub record KeepsHost (transcript : List Entry) (host : HostState) : Type 0 where
   pub tables : AreShown transcript host
   pub values : StoresLaw transcript host
 
+-- ---- of which lines
+
+-- a law of lines that were run whole, of the host that they led to, and of the transcript that tells them
+abbrev pub LinesLaw : Type 1
+LinesLaw = List (TextLine ReplayLine) → Point → List Entry → Type 0
+
 -- so it is of all lines but the last, which was run in part
-pub record KeepsButLast (lines : List (TextLine ReplayLine)) (old new : Point) (transcript : List Entry) : Type 0 where
+pub record AllButLast (Law : List (TextLine ReplayLine) → Point → List Entry → Type 0) (lines : List (TextLine ReplayLine)) (old new : Point) (transcript : List Entry) : Type 0 where
   pub stops : StopsIn LineRan PartRan lines old new transcript
-  pub keeps : KeepsHost stops.before stops.mid.lone.host.state
+  pub keeps : Law stops.prefix stops.mid stops.before
 
 -- so it is of the whole transcript; where there was no memory, perhaps without the last line
-abbrev pub IsKept : LinesEnd → List (TextLine ReplayLine) → Point → Point → List Entry → Type 0
-IsKept NoMemory lines old new transcript = KeepsHost transcript new.lone.host.state ⊎ KeepsButLast lines old new transcript
-IsKept end lines old new transcript = KeepsHost transcript new.lone.host.state
+abbrev pub IsKept : LinesLaw → LinesEnd → List (TextLine ReplayLine) → Point → Point → List Entry → Type 0
+IsKept Law NoMemory lines old new transcript = Law lines new transcript ⊎ AllButLast Law lines old new transcript
+IsKept Law end lines old new transcript = Law lines new transcript
 
 -- ---- the records
 
@@ -85,18 +92,27 @@ pub record KeepsRecords (end : LinesEnd) (lines : List (TextLine ReplayLine)) (o
 -- ---- all of them
 
 -- the laws of orders, tables and confirmed values
-abbrev pub KeepsHostLaws : Status → List ℕ → Option (List ℕ) → Option (List ℕ) → Option (List (List ℕ)) → Option (List (List ℕ)) → ℕ → ℕ → Option (List ℕ) → Option (List ℕ) → Type 0
-KeepsHostLaws status key left left' records records' faults faults' sink sink' =
-    (ran : ReplayRan status key left left' records records' faults faults' sink sink')
-    → IsKept ran.told.end (lines_in replay_at ran.told.texts) (point_of (first_replay key) records faults) ran.point ran.told.transcript
+abbrev pub KeepsHostLaws : Status → List ℕ → Option (List ℕ) → Option (List ℕ) → Shelf → Shelf → Option (List ℕ) → Option (List ℕ) → Type 0
+KeepsHostLaws status key left left' shelf shelf' sink sink' =
+    (ran : ReplayRan status key left left' shelf shelf' sink sink')
+    → IsKept (λ lines point transcript. KeepsHost transcript point.lone.host.state)
+    ran.told.end (lines_in replay_at ran.told.texts) (point_of (first_replay key) shelf) ran.point ran.told.transcript
+
+-- and over what the host heard, with the units that came in the bytes, it keeps the laws of hosts, whatever its keeper holds
+abbrev pub HearsAlone : Status → List ℕ → Option (List ℕ) → Option (List ℕ) → Shelf → Shelf → Option (List ℕ) → Option (List ℕ) → Type 0
+HearsAlone status key left left' shelf shelf' sink sink' =
+    (ran : ReplayRan status key left left' shelf shelf' sink sink')
+    → IsKept (λ lines point transcript. HearsLines lines (lone_of (first_replay key) shelf.records) transcript)
+    ran.told.end (lines_in replay_at ran.told.texts) (point_of (first_replay key) shelf) ran.point ran.told.transcript
 
 -- the records at exit are those at entry and those of what the host did
-abbrev pub AddsRecords : Status → List ℕ → Option (List ℕ) → Option (List ℕ) → Option (List (List ℕ)) → Option (List (List ℕ)) → ℕ → ℕ → Option (List ℕ) → Option (List ℕ) → Type 0
-AddsRecords status key left left' records records' faults faults' sink sink' =
-    (ran : ReplayRan status key left left' records records' faults faults' sink sink')
-    → KeepsRecords ran.told.end (lines_in replay_at ran.told.texts) (lone_of (first_replay key) records) ran.told.transcript records'
+abbrev pub AddsRecords : Status → List ℕ → Option (List ℕ) → Option (List ℕ) → Shelf → Shelf → Option (List ℕ) → Option (List ℕ) → Type 0
+AddsRecords status key left left' shelf shelf' sink sink' =
+    (ran : ReplayRan status key left left' shelf shelf' sink sink')
+    → KeepsRecords ran.told.end (lines_in replay_at ran.told.texts) (lone_of (first_replay key) shelf.records) ran.told.transcript shelf'.records
 
 -- What holds of every run of `replay`, at every status.
-pub record ReplayKeepsLaws (status : Status) (key : List ℕ) (left left' : Option (List ℕ)) (records records' : Option (List (List ℕ))) (faults faults' : ℕ) (sink sink' : Option (List ℕ)) : Type 0 where
-  pub laws : KeepsHostLaws status key left left' records records' faults faults' sink sink'
-  pub adds : AddsRecords status key left left' records records' faults faults' sink sink'
+pub record ReplayKeepsLaws (status : Status) (key : List ℕ) (left left' : Option (List ℕ)) (shelf shelf' : Shelf) (sink sink' : Option (List ℕ)) : Type 0 where
+  pub laws : KeepsHostLaws status key left left' shelf shelf' sink sink'
+  pub heard : HearsAlone status key left left' shelf shelf' sink sink'
+  pub adds : AddsRecords status key left left' shelf shelf' sink sink'

@@ -4,7 +4,7 @@ ghost use Rattle.std.specs.Prelude.{ℕ, List};
 ghost use Rattle.proof_commands.specs.Around.{Around};
 ghost use Rattle.proof_commands.specs.Laws.{
   AnswersAsDue,
-  AnswersData,
+  AirsAsTaken,
   AppliesOnce,
   BringsHeard,
   CarriesWhatWasAsked,
@@ -61,6 +61,7 @@ use proof_audit::transcript::{
     records_are_what_is_shown, sessions_begin_with_their_unit, ticks_decide_each_frame,
     values_are_stored_as_asked,
 };
+use proof_chip::chips_air_what_is_taken;
 use proof_fates::devices::air::{
     lines_are_done_by_devices, lines_bring_what_was_heard, lines_land_in_time,
 };
@@ -70,13 +71,13 @@ use proof_fates::devices::routes::{
 };
 use proof_fates::{lines_meet_what_is_due, lines_repeat_what_is_asked};
 use proof_host::{asides_keep_facts, laws_follow};
+use proof_replay::waking::lines_wake_as_told;
 use proof_sending::line::{
-    lines_answer_frames, lines_clear_at_restarts, lines_clear_nowhere_else, lines_clear_the_line,
+    lines_clear_at_restarts, lines_clear_nowhere_else, lines_clear_the_line,
     lines_collide_when_asked, lines_keep_links, lines_mark_units, lines_overrun_only_when_full,
     lines_overrun_when_full, ticks_are_told,
 };
 use proof_sending::lines_send_what_is_due;
-use proof_waking::lines_wake_as_told;
 use proof_world::{
     lines_keep_and_ask_well, restarts_go_on, runs_take_once, the_machine_keeps_facts,
 };
@@ -94,6 +95,7 @@ pub fn every_story_keeps_laws()
     stories_have_the_headline();
     stories_keep_air_laws();
     stories_are_legal_on_air();
+    stories_air_what_is_taken();
     stories_send_what_is_due();
     stories_wake_as_told();
     stories_do_as_shown();
@@ -195,7 +197,6 @@ fn stories_keep_air_laws()
     ensures overruns { (key : List ℕ) (old new : Around) → OverrunsWithoutRoom key old new }
     ensures overrun { (key : List ℕ) (old new : Around) → OverrunsAsDue key old new }
     ensures clears { (key : List ℕ) (old new : Around) → ClearsWhenRestarted key old new }
-    ensures acknowledges { (key : List ℕ) (old new : Around) → AnswersData key old new }
     ensures links { (key : List ℕ) (old new : Around) → KeepsBothLinks key old new }
     ensures clears_line { (key : List ℕ) (old new : Around) → ClearsWhatIsLost key old new }
     ensures nowhere { (key : List ℕ) (old new : Around) → ClearsNothingElse key old new }
@@ -223,7 +224,6 @@ fn stories_keep_air_laws()
     lines_clear_nowhere_else();
     lines_keep_links();
     lines_clear_the_line();
-    lines_answer_frames();
     ticks_are_told();
 }
 
@@ -233,6 +233,14 @@ fn stories_are_legal_on_air()
 {
     stories_keep_records();
     stories_keep_air_laws();
+}
+
+/// What the controller puts on the air is what the chip takes.
+fn stories_air_what_is_taken()
+    ensures { (key : List ℕ) (old new : Around) → AirsAsTaken key old new }
+{
+    lines_are_read_as_said();
+    chips_air_what_is_taken();
 }
 
 /// What hosts send has its reason in lines that were said, and in what nodes told.

@@ -15,10 +15,12 @@ mod all;
 mod generate;
 mod include;
 mod laws;
+mod mesh;
 mod port;
 mod replay;
 mod sim;
 mod words;
 
 pub use all::commands_keep_laws;
-pub use words::{lines_are_read_as_said, said_lines_are_entries};
+pub use mesh::the_mesh_is_auditable;
+pub use words::{lines_are_read_as_said, replayed_lines_are_read_as_said, said_lines_are_entries};

@@ -10,11 +10,12 @@ ghost use Rattle.host_model.specs.Opening.{opened};
 ghost use Rattle.proof_host.specs.Facts.{Facts};
 ghost use Rattle.port_run.specs.Ending.{Desk};
 ghost use Rattle.proof_commands.specs.Lives.{AreLivesOf, GoesOn, entries_of, records_of};
-ghost use Rattle.proof_commands.specs.Port.{AddsRecords, ConfirmsValues, DoneIsSuccess, HasStory, KeepsOrders, LeavesALife, PortKeepsLaws, ShowsTables};
+ghost use Rattle.proof_commands.specs.Port.{AddsRecords, BeginsUnheard, ConfirmsValues, DoneIsSuccess, HasStory, HearsAlone, KeepsOrders, LeavesALife, PortKeepsLaws, ShowsTables};
 
 use host_keep::a_text_is_of_one_record;
 use host_model::{a_host_begins_with_what_is_kept, a_restart_keeps_what_is_held};
 use proof_host::{events_keep_facts, first_facts_hold, laws_follow, lives_keep_facts};
+use proof_replay::served_steps_are_heard;
 
 /// Every run of `host` that starts its host has a story, and each story that it has keeps the laws.
 pub fn port_keeps_laws()
@@ -23,6 +24,7 @@ pub fn port_keeps_laws()
     runs_have_stories();
     stories_keep_laws();
     done_is_success();
+    runs_are_heard();
 }
 
 /// Each run that starts its host has a story: the events of the host that its steps are.
@@ -63,4 +65,12 @@ fn done_is_success()
     ensures { (key : List ℕ) (number : ℕ) (texts : List (List ℕ)) (old new : Desk) → DoneIsSuccess key number texts old new }
 {
     stories_keep_laws();
+}
+
+/// Over what its host heard, and hosts before it that left their records, a run keeps the laws of hosts.
+fn runs_are_heard()
+    ensures first { (key : List ℕ) (number : ℕ) (old : Desk) → BeginsUnheard key number old }
+    ensures heard { (ended : Status) (key : List ℕ) (number : ℕ) (texts : List (List ℕ)) (old new : Desk) → HearsAlone ended key number texts old new }
+{
+    served_steps_are_heard();
 }

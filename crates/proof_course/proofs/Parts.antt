@@ -69,11 +69,11 @@ picked_part {A = A} (item ∷ items) (suc (suc n) ∷ numbers) positive rises =
 -- ---- successes
 
 -- they are numbers from the first on
-from_or : (b : Bool) (at : ℕ) (later : List ℕ) → AllByRecursion (λ n. at + 1 ≤ n) later → AllByRecursion (λ n. at ≤ n) (if b then at ∷ later else later)
+pub from_or : (b : Bool) (at : ℕ) (later : List ℕ) → AllByRecursion (λ n. at + 1 ≤ n) later → AllByRecursion (λ n. at ≤ n) (if b then at ∷ later else later)
 from_or true at later all = (omega arith, all-weaker (λ n. at + 1 ≤ n) (λ n. at ≤ n) (λ n more. omega (arith, more)) later all)
 from_or false at later all = all-weaker (λ n. at + 1 ≤ n) (λ n. at ≤ n) (λ n more. omega (arith, more)) later all
 
-successes_from : (at : ℕ) (ends : List ℕ) → AllByRecursion (λ n. at ≤ n) (successes at ends)
+pub successes_from : (at : ℕ) (ends : List ℕ) → AllByRecursion (λ n. at ≤ n) (successes at ends)
 successes_from at [] = tt
 successes_from at (status ∷ more) = from_or (status == SUCCESS) at (successes (at + 1) more) (successes_from (at + 1) more)
 

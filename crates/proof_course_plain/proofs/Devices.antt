@@ -27,8 +27,8 @@ use Rattle.device_stack.specs.State.{Outcome}
 use Rattle.device_sim.specs.State.{State, fresh}
 use Rattle.device_sim.specs.Event.{DeviceEvent, Hears, Ticks, Wakes, Sets, outcome_of, device_after, device_replies}
 use Rattle.proof_device.specs.GoingOn.{IsSame}
-use Rattle.proof_messages.specs.Ending.{one_at_work, HasEnded}
-use Rattle.proof_messages.proofs.DeviceEnds.{numbered_last}
+use Rattle.proof_messages.specs.Ending.{HasEnded}
+use Rattle.proof_messages.proofs.DeviceEnds.{numbered_last, one_none, one_some}
 use Rattle.proof_messages.specs.Asking.{message_in, takes_openly, verdict_on, IsLeft, Follows}
 use Rattle.proof_messages.specs.Landing.{HasLanded, IsOf, LandsAs}
 use Rattle.proof_messages.specs.Others.{IsOther}
@@ -52,12 +52,6 @@ one_more : (ends more : List ℕ) (at status : ℕ) → length (ends ++ more) �
 one_more ends [] at status e is n = let long = length-append ends [] in absurd (omega (arith, e, is, long))
 one_more ends (x ∷ []) at status e is n = sym (numbered_last ends x) ∙ (ap (numbered (ends ++ x ∷ [])) (sym is) ∙ n)
 one_more ends (x ∷ y ∷ more) at status e is n = let long = length-append ends (x ∷ y ∷ more) in absurd (omega (arith, e, is, long))
-
-one_none : (left : ℕ) → left ≡ 0 → one_at_work left ≡ 0
-one_none left none = rw none refl
-
-one_some : (left : ℕ) → 0 < left → one_at_work left ≡ 1
-one_some left some = let test : left == 0 ≡ false = grind (arith, nat_tests) in rw test refl
 
 -- how many statuses there are
 at_work : (device : State) (ends : List ℕ) → HasEnded device ends → device.sessions.status ≡ WORKING → length ends + 1 ≡ device.sessions.taken

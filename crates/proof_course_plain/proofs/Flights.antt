@@ -4,7 +4,6 @@ use Rattle.std.proofs.lemmas.Bool.{eqb-true}
 use Rattle.std.specs.Prelude.{slice_get, nat_lt, nat_le, ◌&&◌, ◌||◌}
 use Rattle.supervision.specs.Host.{HostBook, no_sessions, begins, begun_of}
 use Rattle.proof_course.specs.Flying.{Flight}
-use Rattle.proof_course.specs.Parts.{numbered}
 use Rattle.proof_course.specs.Sessions.{Cargo, Command, Of_host, Answer, Of_node, IsFresh, IsFreshCargo}
 use Rattle.air_frames.specs.declared.frame.Departure.{Departure}
 use Rattle.air_frames.specs.declared.frame.Heading.{Heading}
@@ -21,6 +20,7 @@ use Rattle.transport_segments.specs.Segment.{with_check}
 use Rattle.transport_segments.specs.Parts.{slice_at}
 use Rattle.proof_course_plain.specs.Meaning.{Asked, IsMessageOf, IsSegmentOf, IsMessage, HostMeans, NodeMeans}
 use Rattle.proof_course_plain.specs.Air.{BearsBy, Bears, OnAir, Lands, WasThere}
+use Rattle.proof_messages.proofs.NonceNumbers.{numbered-more as numbered-append}
 
 -- ---- lists beside each other
 
@@ -48,12 +48,6 @@ beside-get {A} {B} R (x ∷ xs) (y ∷ ys) zero a is e = let same : x ≡ a = cc
 beside-get R (x ∷ xs) (y ∷ ys) (suc at) a is e = let later = beside-get R xs ys at a is.1 e in record { other = later.other; found = later.found; beside = later.beside }
 
 -- ---- messages stay those of their sessions
-
-pub numbered-append : {A : Type 0} (items more : List A) (n : ℕ) (item : A) → numbered items n ≡ item ∷ [] → numbered (items ++ more) n ≡ item ∷ []
-numbered-append items more zero item e = absurd (grind (arith, e))
-numbered-append [] more (suc n) item e = absurd (grind (arith, e))
-numbered-append (x ∷ items) more (suc zero) item e = e
-numbered-append (x ∷ items) more (suc (suc n)) item e = numbered-append items more (suc n) item e
 
 pub message_stays : (orders more : List Asked) (commands later : List ℕ) (session : ℕ) (payload : List ℕ) → IsMessageOf orders commands session payload → IsMessageOf (orders ++ more) (commands ++ later) session payload
 message_stays orders more commands later session payload is = record {

@@ -43,7 +43,6 @@ use Rattle.host_model.specs.declared.out.HostOut.TheVariants.{Write, Note}
 use Rattle.host_model.specs.After.{after as after_host, node_does, is_busy}
 use Rattle.host_model.specs.May.{May}
 use Rattle.host_model.specs.Facts.{HostFacts}
-use Rattle.host_model.specs.Events.{HostEvent}
 use Rattle.host_model.specs.Events as host
 use Rattle.proof_serial.specs.Way.{Carries, items_all, written_all}
 use Rattle.proof_serial.specs.Line.{host_units}
@@ -69,6 +68,7 @@ use Rattle.proof_course_plain.specs.Told.{KeepsOutcomes}
 use Rattle.proof_course_plain.proofs.Told.{outcomes_stay, outcomes_begin}
 use Rattle.proof_course_plain.proofs.KeptHosts.{SameHost, same_host, same_then, other_same, outcome_orders}
 use Rattle.proof_course_plain.proofs.KeptSessions.{plain_course}
+use Rattle.proof_host.proofs.HostsFromRecords.{open_alike as open_same}
 
 -- ---- more orders
 
@@ -308,11 +308,6 @@ waits_somewhere h n facts some = by (nat_lt n 233) refl
         let far : length h.nodes ≤ n = let places = facts.nodes.places in let out : 233 ≤ n = grind (arith, e) in omega (arith, places, out) in
         let none : node_of h n ≡ unknown 0 = get_or_past h.nodes n (unknown 0) far in
         absurd (let bad : 0 < length (unknown 0).waiting = subst (λ (s : NodeState). 0 < length s.waiting) none some in omega (arith, bad))
-
--- an open session is told by commands and outcome alone
-pub open_same : (a b : HostBook) → a.commands ≡ b.commands → a.outcome ≡ b.outcome → open_session a ≡ open_session b
-open_same a b commands outcomes =
-    ap (λ (cs : List ℕ). open_session (record { commands = cs; outcome = a.outcome; attempts = 0 })) commands ∙ ap (λ (o : Option ℕ). open_session (record { commands = b.commands; outcome = o; attempts = 0 })) outcomes
 
 pub set_here : {A : Type 0} (xs : List A) (n : ℕ) (y d : A) → n < length xs → get_or (set xs n y) n d ≡ y
 set_here [] n y d within = absurd (omega (arith, within))

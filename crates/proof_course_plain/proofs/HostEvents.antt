@@ -51,7 +51,7 @@ use Rattle.proof_messages.specs.Others.{IsOther}
 use Rattle.proof_course_plain.specs.Meaning.{Asked, IsMessageOf, IsSegmentOf, IsMessage}
 use Rattle.proof_course_plain.specs.Lines.{Asks, Moves}
 use Rattle.proof_course_plain.specs.HostGoing.{IsAside}
-use Rattle.proof_course_plain.specs.Host.{NodeAs, asked_of, IsPlainFor, IsTaskFor, AtHost, AsksPlainly}
+use Rattle.proof_course_plain.specs.Host.{asked_of, IsPlainFor, IsTaskFor, AtHost, AsksPlainly}
 use Rattle.proof_course_plain.proofs.WayLabels.{move_sign, move_heard, move_ticked, copies_of}
 use Rattle.proof_course_plain.proofs.KeptHosts.{IsQuiet, StartsQuietly, SameHost, same_host, same_then, does_same, works_same, other_same, requests_same, request_same, room_same, holding_same, failing_same, ended_same, unchanged, outcome_orders}
 use Rattle.proof_course_plain.proofs.KeptSessions.{plain_course}

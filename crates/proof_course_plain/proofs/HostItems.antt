@@ -66,7 +66,8 @@ use Rattle.proof_course_plain.proofs.Outer.{has_same, mesh_down}
 use Rattle.proof_course_plain.proofs.KeptHosts.{SameHost, holding_same, outcome_orders}
 use Rattle.proof_course_plain.proofs.KeptSessions.{plain_course}
 use Rattle.proof_course_plain.proofs.HostActs.{AirLaws, SameAir, routed_air, writes_go, begin_goes, set_here}
-use Rattle.proof_course_plain.proofs.HostEvents.{event_wrote, noted_none, open_is, owned}
+use Rattle.proof_course_plain.proofs.HostEvents.{event_wrote, open_is, owned}
+use Rattle.proof_traffic.proofs.HostLinks.{no_units as noted_none}
 use Rattle.host_model.proofs.OpenSessions.{final_session}
 use Rattle.proof_once.proofs.TieSteps.{told_more}
 use Rattle.proof_host.proofs.Commands.{outcome_same}

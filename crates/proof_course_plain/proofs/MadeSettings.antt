@@ -38,7 +38,8 @@ use Rattle.proof_messages.specs.Segments.{KeepsSegment, MakesWhole}
 use Rattle.proof_course_plain.specs.Meaning.{Asked, IsMessageOf, IsSegmentOf, IsMessage, HostMeans}
 use Rattle.proof_course_plain.specs.Making.{IsAskedFor, MakesBy, MakesAsked, KeepsNext, Makes, AllMake, NamesNext, Names, HearsNone}
 use Rattle.proof_course_plain.specs.Device.{AtDevice}
-use Rattle.proof_course_plain.proofs.Flights.{numbered-append, message_stays}
+use Rattle.proof_course_plain.proofs.Flights.{message_stays}
+use Rattle.proof_messages.proofs.NonceNumbers.{numbered-more as numbered-append}
 use Rattle.proof_messages.proofs.SessionMessages.{knows_supervision}
 use Rattle.proof_course_plain.proofs.Segments.{Laws as SegmentLaws, IsNext, IsAnother, segment_heard}
 use Rattle.proof_course_plain.proofs.Devices.{at_rest}

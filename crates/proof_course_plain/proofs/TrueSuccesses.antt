@@ -97,7 +97,7 @@ true-append node h devices (event ∷ a) b first later = (first.0, true-append n
 
 -- ---- the report that ends a session
 
-final_works : SUCCESS ≡ WORKING → ⊥
+pub final_works : SUCCESS ≡ WORKING → ⊥
 final_works e = absurd (grind (arith, e))
 
 -- a report that the host judges is of one session

@@ -46,6 +46,7 @@ use Rattle.proof_course_sealed.specs.Courses.{Courses, HasSeen}
 use Rattle.proof_course_sealed.specs.Meaning.{Past}
 use Rattle.proof_course_sealed.specs.Lock.{IsUnsaid, AtLock}
 use Rattle.proof_course_sealed.specs.Device.{Gives, given_by, with_more}
+use Rattle.proof_serial.proofs.Outer.{wrong as not_true}
 
 -- ---- the laws of devices, of messages and of each end's nonces
 
@@ -89,9 +90,6 @@ pub record Laws : Type 0 where
       → (new.sealing.pending ≡ old.sealing.pending) ⊎ (new.sealing.pending ≡ None) → WaitsOwn old → WaitsOwn new
   pub says : (device new : State) (shown : List (List ℕ)) (number seen : ℕ) (nonce drawn : List ℕ) (replies : List (List ℕ)) → SealsFor nonce drawn seen device new replies
       → IsNonce shown number nonce → length drawn ≡ 8 → WaitsOwn device → SaysSealed shown number device replies
-
-not_true : {A : Type 0} → false ≡ true → A
-not_true e = absurd (grind (arith, e))
 
 -- ---- where it takes no session
 

@@ -14,7 +14,7 @@ use Rattle.proof_course.specs.Parts.{numbered}
 use Rattle.proof_messages.specs.Numbers.{IsNonce}
 use Rattle.proof_messages.specs.Payloads.{IsOffer, IsSealed}
 use Rattle.proof_messages.proofs.NonceNumbers.{nonce_stays as more_given}
-use Rattle.proof_course_plain.proofs.Flights.{numbered-append}
+use Rattle.proof_messages.proofs.NonceNumbers.{numbered-more as numbered-append}
 use Rattle.proof_course_sealed.specs.Labels.{Held, Sealed, Offer, Reports, Shows, Up, Of_host, Down, Of_node}
 use Rattle.proof_course_sealed.specs.Meaning.{Past, GoesOn, Grows, IsSealedMessage, HostMeans, NodeMeans}
 use Rattle.proof_course_sealed.specs.Air.{MeansBy}

@@ -1,12 +1,12 @@
 -- Each success that the host is told of a lock is what the lock did: the items that it judges, one after another.
-use Rattle.std.proofs.Common.{◌≡◌, ℕ, ◌<◌, ◌⊎◌, inl, inr, Bool, Option, Some, None, List, [], ◌∷◌, ◌++◌, ap, sym, ◌∙◌, subst, arith}
+use Rattle.std.proofs.Common.{◌≡◌, ℕ, ◌<◌, ◌⊎◌, inl, inr, Bool, Option, Some, None, List, [], ◌∷◌, ◌++◌, ap, sym, ◌∙◌, subst}
 use Rattle.std.specs.List.{AllByRecursion}
 use Rattle.std.specs.Option.{option_to_list}
 use Rattle.supervision.specs.Session.{wire_id}
 use Rattle.supervision.specs.Host.{told_of, command_at as session_at}
 use Rattle.supervision.specs.Ends.{Report}
 use Rattle.supervision.specs.declared.host_node.Told.TheVariants.{Final}
-use Rattle.supervision.specs.declared.session.TheConstants.{SUCCESS, WORKING}
+use Rattle.supervision.specs.declared.session.TheConstants.{SUCCESS}
 use Rattle.proof_course.specs.SessionFacts.{CourseFacts, IsOnTime}
 use Rattle.serial_frame.specs.Stream.{Rest}
 use Rattle.serial_frame.specs.declared.item.Item.{Item}
@@ -34,7 +34,7 @@ use Rattle.proof_course_plain.proofs.HostItems.{well_prefix, told_same}
 use Rattle.proof_course_plain.proofs.Taken.{changes_taken}
 use Rattle.proof_device.proofs.ChangesOutside.{place_is}
 use Rattle.world_model.proofs.Hosting.{routed_still}
-use Rattle.proof_course_plain.proofs.TrueSuccesses.{Judged, got_has, none_true, true-append}
+use Rattle.proof_course_plain.proofs.TrueSuccesses.{Judged, got_has, none_true, true-append, final_works}
 use Rattle.proof_course_sealed.specs.Labels.{Said, Late, Reports, Shows, picked, report_of}
 use Rattle.proof_course_sealed.specs.Courses.{Courses, CoursesFacts}
 use Rattle.proof_course_sealed.specs.Meaning.{Past}
@@ -55,9 +55,6 @@ asides_true node h devices [] all = tt
 asides_true node h devices (event ∷ events) all = (none_true node h devices event (aside_ends node event all.0.1), asides_true node (after_host h event) devices events all.1)
 
 -- ---- the report that ends a session
-
-final_works : SUCCESS ≡ WORKING → ⊥
-final_works e = absurd (grind (arith, e))
 
 module _ (judged : Judged) (past : Past) (node : ℕ) (c : Courses) (rest : Rest) (up yet down : List Item) (h : HostState) (w : Outside) (f : HostFollows past node c rest up yet down h w) (course : CourseFacts c.sessions)
     (report : Report) (now : List Report) (are : c.sessions.down ≡ report ∷ now) where

@@ -1,5 +1,5 @@
 mod Shown
-mod Succeeding
+pub mod Succeeding
 mod Running
 mod Heading
 mod Unasked

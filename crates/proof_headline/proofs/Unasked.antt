@@ -46,6 +46,7 @@ use Rattle.proof_spoken.proofs.Plain.{ArePlain, spoken_part, line_kind, line_ord
 use Rattle.proof_spoken.proofs.SaidOrders.{events_kept, machine_kept, may_accept, taken_then}
 use Rattle.proof_headline.specs.Truly.{IsAskable, LinesAreTrue}
 use Rattle.proof_headline.proofs.Succeeding.{owned}
+use Rattle.proof_messages.proofs.DeviceSegments.{never_true as not_true}
 
 -- ---- what an order needs
 
@@ -81,10 +82,6 @@ unlisted_by : (found : Option State) → ((device : State) → found ≡ Some de
 unfolding lists
 unlisted_by None none = refl
 unlisted_by (Some device) none = kind_lists device (none device refl)
-
-not_true : (b : Bool) → (b ≡ true → ⊥) → b ≡ false
-not_true true never = absurd (never refl)
-not_true false never = refl
 
 pub unlisted : (devices : List State) (node : ℕ) → (IsAskable devices node → ⊥) → lists (listing_of devices node) 0x6C ≡ false
 unlisted devices node other = unlisted_by (device_of node devices) (λ device found. not_true (is_supervised device) (λ knows. other (inr (device, found, knows))))

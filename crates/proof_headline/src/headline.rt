@@ -7,7 +7,7 @@ ghost use Rattle.device_sim.specs.State.{State};
 ghost use Rattle.proof_device.specs.Showing.{AreUnchanged, IsShownAmong};
 ghost use Rattle.zw_text.specs.declared.entry.Entry.{Entry};
 ghost use Rattle.law_transcript.specs.Headline.{Headline, HeadlineOf};
-ghost use Rattle.law_transcript.specs.Nodes.{device_of, is_supervised, listing_of};
+ghost use Rattle.law_transcript.specs.Nodes.{always, device_of, is_supervised, listing_of};
 ghost use Rattle.law_transcript.specs.Once.{SucceedsAfterChange};
 ghost use Rattle.proof_host.specs.Facts.{Facts};
 ghost use Rattle.world_model.specs.State.{Machine, first_machine};
@@ -80,7 +80,7 @@ pub fn runs_have_the_headline()
         AreSpoken (first_machine keys records devices) lines → LinesTell (listing_of devices) (first_machine keys records devices) lines →
         device_of node (after_all (first_machine keys records devices) further).outside.devices ≡ Some device → is_supervised device ≡ true →
         AreTied (after_all (first_machine keys records devices) lines).host.state node device →
-        HeadlineOf (listing_of devices) node (transcript_of (first_machine keys records devices) lines) device }
+        HeadlineOf (always (listing_of devices)) node (transcript_of (first_machine keys records devices) lines) device }
     ensures whole { (keys : Keys) (records : Option (List (List ℕ))) (devices : List State) (lines further : List Spoken) → AreUnchanged devices →
         AreSpoken (first_machine keys records devices) lines →
         ((node : ℕ) → IsAskable devices node → LinesAreTrue node (first_machine keys records devices) lines) →
@@ -106,7 +106,7 @@ pub fn lines_have_the_headline()
         AreDone (first_machine keys (Some []) devices) lines →
         device_of node (after_all (first_machine keys (Some []) devices) further).outside.devices ≡ Some device → is_supervised device ≡ true →
         AreTied (after_all (first_machine keys (Some []) devices) lines).host.state node device →
-        HeadlineOf (listing_of devices) node (transcript_of (first_machine keys (Some []) devices) lines) device }
+        HeadlineOf (always (listing_of devices)) node (transcript_of (first_machine keys (Some []) devices) lines) device }
     ensures whole { (keys : Keys) (devices : List State) (lines further : List Spoken) → AreUnchanged devices →
         AreDone (first_machine keys (Some []) devices) lines →
         ((node : ℕ) → IsAskable devices node → LinesAreTrue node (first_machine keys (Some []) devices) lines) →

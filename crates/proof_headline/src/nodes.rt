@@ -5,7 +5,7 @@ ghost use Rattle.s0_crypto.specs.declared.key_pair.Keys.{Keys};
 ghost use Rattle.device_sim.specs.State.{State};
 ghost use Rattle.proof_device.specs.Showing.{AreUnchanged};
 ghost use Rattle.law_transcript.specs.Headline.{Headline, HeadlineOf};
-ghost use Rattle.law_transcript.specs.Nodes.{device_of, is_supervised, listing_of};
+ghost use Rattle.law_transcript.specs.Nodes.{always, device_of, is_supervised, listing_of};
 ghost use Rattle.world_model.specs.State.{first_machine};
 ghost use Rattle.proof_once.specs.Tied.{AreTied};
 ghost use Rattle.world_lines.specs.Spoken.{Spoken, after_all, transcript_of};
@@ -45,7 +45,7 @@ pub fn nodes_have_the_headline()
         AreDone (first_machine keys (Some []) devices) lines → AreDone (first_machine keys (Some []) devices) further →
         (after_all (first_machine keys (Some []) devices) further).host.state ≡ (after_all (first_machine keys (Some []) devices) lines).host.state →
         device_of node (after_all (first_machine keys (Some []) devices) further).outside.devices ≡ Some device → is_supervised device ≡ true →
-        HeadlineOf (listing_of devices) node (transcript_of (first_machine keys (Some []) devices) lines) device }
+        HeadlineOf (always (listing_of devices)) node (transcript_of (first_machine keys (Some []) devices) lines) device }
 {
     nodes_are_tied();
     lines_have_the_headline();

@@ -114,7 +114,7 @@ listed_place nodes n classes listed = place_of nodes n (λ e. by (ap (λ (s : No
 
 -- ---- entries
 
-notes_noted : (entries : List Entry) → notes_of (noted entries) ≡ entries
+pub notes_noted : (entries : List Entry) → notes_of (noted entries) ≡ entries
 notes_noted [] = refl
 notes_noted (e ∷ entries) = ap (λ (l : List Entry). e ∷ l) (notes_noted entries)
 
@@ -129,7 +129,7 @@ answer_notes (refused_item (Stray x)) = refl
 answer_notes (refused_item (BadLength n)) = refl
 answer_notes (refused_item Aborted) = refl
 
-copy_notes : (copy : Option FrameParts) (entries : List Entry) → notes_of (copy_out copy ++ noted entries) ≡ entries
+pub copy_notes : (copy : Option FrameParts) (entries : List Entry) → notes_of (copy_out copy ++ noted entries) ≡ entries
 copy_notes None entries = notes_noted entries
 copy_notes (Some f) entries = notes_noted entries
 
@@ -242,7 +242,7 @@ pub held_commands : (h : HostState) (n : ℕ) (held : Bool) → (holding h n hel
 held_commands h n true = refl
 held_commands h n false = refl
 
-held_store : (h : HostState) (n : ℕ) (held : Bool) → (holding h n held).store ≡ h.store
+pub held_store : (h : HostState) (n : ℕ) (held : Bool) → (holding h n held).store ≡ h.store
 held_store h n true = refl
 held_store h n false = refl
 

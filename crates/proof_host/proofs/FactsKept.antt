@@ -23,7 +23,8 @@ use Rattle.host_model.specs.State.{HostState, Command, command_at, first_host, f
 use Rattle.host_model.specs.Events.{HostEvent}
 use Rattle.host_model.specs.After.{after}
 use Rattle.host_model.specs.May.{May}
-use Rattle.host_model.specs.Did.{after_all, Did, MayAll, Shelf}
+use Rattle.host_keep.specs.Keeping.{Shelf}
+use Rattle.host_model.specs.Did.{after_all, Did, MayAll}
 use Rattle.host_model.specs.declared.out.HostOut.{HostOut}
 use Rattle.host_model.specs.Facts.{HostFacts, IsCommandOf, OwnsCommands}
 use Rattle.proof_host.specs.Entries.{IsAside, entries_at, entries_all}

@@ -44,7 +44,7 @@ as_recorded_so NoSupport = refl
 as_recorded_so Unanswered = refl
 as_recorded_so Cancelled = refl
 
-open_alike : (a b : HostBook) → a.commands ≡ b.commands → a.outcome ≡ b.outcome → open_session a ≡ open_session b
+pub open_alike : (a b : HostBook) → a.commands ≡ b.commands → a.outcome ≡ b.outcome → open_session a ≡ open_session b
 open_alike a b commands outcome = ap₂ (λ (l : List ℕ) (o : Option ℕ). open_session (record { commands = l; outcome = o; attempts = 0 })) commands outcome
 
 same_order : (a b : Command) → taken_by (Some b) ≡ taken_by (Some a) → b.order ≡ a.order

@@ -3,7 +3,7 @@ pub mod Commands
 pub mod Views
 mod Owned
 mod Effect
-mod Values
+pub mod Values
 pub mod Effects
 mod InOrder
 mod CommandEnds
@@ -15,4 +15,4 @@ mod EntryOrder
 mod FactsKept
 mod Restarts
 pub mod HostsFromRecords
-mod Over
+pub mod Over

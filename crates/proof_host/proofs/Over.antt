@@ -12,7 +12,7 @@ use Rattle.law_transcript.specs.Lists.{EachAfter}
 use Rattle.proof_host.specs.Laws.{IsOver, IsUnderWay, MayCarry, MayEnd, HostLaws}
 use Rattle.proof_host.proofs.Views.{outcome-silent, outcome-other, outcome-begun_other, outcome-accepted}
 
-each-right : {A : Type 0} (Allowed : List A → A → Type 0) (past xs ys : List A) → EachAfter Allowed past (xs ++ ys) → EachAfter Allowed (past ++ xs) ys
+pub each-right : {A : Type 0} (Allowed : List A → A → Type 0) (past xs ys : List A) → EachAfter Allowed past (xs ++ ys) → EachAfter Allowed (past ++ xs) ys
 each-right Allowed past [] ys all = subst (λ (p : List _). EachAfter Allowed p ys) (sym (append-nil past)) all
 each-right Allowed past (x ∷ xs) ys all = subst (λ (p : List _). EachAfter Allowed p ys) (append_assoc past (x ∷ []) xs) (each-right Allowed (past ++ x ∷ []) xs ys all.1)
 

@@ -145,10 +145,10 @@ settings_distinct actuator order = by actuator order.end order.what
 
 -- ---- the order of properties
 
-same_number : (n : ℕ) → nat_cmp n n ≡ Equal
+pub same_number : (n : ℕ) → nat_cmp n n ≡ Equal
 same_number n = ap₂ (λ (a b : Bool). cond a Less (cond b Equal Greater)) (le-ltb n n (omega arith)) (eq-eqb n n refl)
 
-less_number : (m n : ℕ) → m < n → nat_cmp m n ≡ Less
+pub less_number : (m n : ℕ) → m < n → nat_cmp m n ≡ Less
 less_number m n below = ap (λ (a : Bool). cond a Less (cond (m == n) Equal Greater)) (lt-ltb m n below)
 
 config_below : (end first later : ℕ) → first < later → compare_properties (record { end = end; name = names.Config first }) (record { end = end; name = names.Config later }) ≡ Less

@@ -112,13 +112,13 @@ first_stands key node sixteen from to =
 
 -- ---- an exchange begins
 
-added_is : (w : WorldState) (node : ℕ) (drawn : List ℕ) → Accepts node w → (does w (Says (Add node) drawn)).world ≡ (begins w node).world
+pub added_is : (w : WorldState) (node : ℕ) (drawn : List ℕ) → Accepts node w → (does w (Says (Add node) drawn)).world ≡ (begins w node).world
 unfolding does
 added_is w node drawn a =
     ap (λ (o : Option _). (adds w node o).world) a.idle
     ∙ ap (λ (b : Bool). (let d : Doing = cond b (refused w HostSecure) (begins w node) in d).world) a.insecure
 
-begins_calm : (air : AirState) (node : ℕ) → air.losing ≡ 0 → (departing air node Outward scheme_get).losing ≡ 0
+pub begins_calm : (air : AirState) (node : ℕ) → air.losing ≡ 0 → (departing air node Outward scheme_get).losing ≡ 0
 unfolding departing
 begins_calm air node calm = omega (arith, calm)
 

@@ -257,11 +257,11 @@ going_passes : (node left : ℕ) (s : Stage) (i : ℕ) (w : WorldState) → Goin
 unfolding does
 going_passes node left s i w g = record { under = g.under; lock = g.lock; frame = g.frame; spot = g.spot; node_is = g.node_is; found = g.found; heading = g.heading; is_for = g.is_for }
 
-same_air_passes : (w : WorldState) → (does w Passes).world.air ≡ w.air
+pub same_air_passes : (w : WorldState) → (does w Passes).world.air ≡ w.air
 unfolding does
 same_air_passes w = refl
 
-same_air_ends : (w : WorldState) → (does w Ends).world.air ≡ w.air
+pub same_air_ends : (w : WorldState) → (does w Ends).world.air ≡ w.air
 unfolding does
 same_air_ends w = refl
 

@@ -1,11 +1,11 @@
 -- Ticks and lines keep what holds of a node: as a tick ends, all frames have landed that were there as it began.
-use Rattle.std.proofs.Common.{◌≡◌, ℕ, zero, suc, ◌+◌, ◌≤◌, List, [], ◌∷◌, ◌++◌, length, map, refl, ap, sym, subst, ◌∙◌, arith}
+use Rattle.std.proofs.Common.{◌≡◌, ℕ, zero, suc, ◌+◌, ◌≤◌, List, [], ◌∷◌, ◌++◌, length, map, ap, sym, subst, ◌∙◌, arith}
 use Rattle.include_text.specs.declared.line.IncludeLine.{IncludeLine}
 use Rattle.include_world.specs.Air.{AirState, arriving, flying}
 use Rattle.include_world.specs.World.{WorldState, IncludeEvent, Says, Passes, Lands, Ends, does, after_all, lands_by, AllSent, AllDrawn}
 use Rattle.include_world.specs.Line.{IsTick, IsTicks, IsLine, ticks_of}
 use Rattle.include_world.proofs.DoneEvents.{after_all-append, lands_grows, says_sent}
-use Rattle.proof_include.proofs.Ticking.{drawn_prefix, drawn_rest}
+use Rattle.proof_include.proofs.Ticking.{drawn_prefix, drawn_rest, same_air_passes, same_air_ends}
 use Rattle.proof_include.specs.Lines.{AreLines}
 use Rattle.proof_include.proofs.Sound.{Sound, sound_most, sound_says, sound_lands, sound_passes, sound_ends}
 
@@ -34,14 +34,6 @@ all_land key node most w [] drawn s count within = record { sound = s; landed = 
 all_land key node most w (d ∷ draws) drawn s count within =
     let one = one_lands w d in
     all_land key node most (does w (Lands d)).world draws drawn.1 (sound_lands key node most w d drawn.0 s) (omega (arith, one.0, count)) (omega (arith, one.1, within))
-
-same_air_passes : (w : WorldState) → (does w Passes).world.air ≡ w.air
-unfolding does
-same_air_passes w = refl
-
-same_air_ends : (w : WorldState) → (does w Ends).world.air ≡ w.air
-unfolding does
-same_air_ends w = refl
 
 tick_by : (key : List ℕ) (node : ℕ) (w : WorldState) (draws : List (List ℕ)) → length draws ≡ flying w.air → AllDrawn (map Lands draws) → Stands key node w
     → Stands key node (after_all w (Passes ∷ map Lands draws ++ Ends ∷ []))

@@ -27,7 +27,7 @@ use Rattle.proof_serial.proofs.Ways.{carries_more}
 use Rattle.proof_line.specs.Arrivals.{arrived_step, arrived_from, arrived, AreTexts, Comes}
 use Rattle.proof_line.proofs.Standing.{same_itself}
 use Rattle.proof_line.proofs.Holding.{NoMark, Joins, TellsNothing, lost_same, refused_then, apart_mark}
-use Rattle.proof_line.proofs.Filling.{no_refusal}
+use Rattle.proof_serial.proofs.Outer.{wrong as no_refusal}
 
 -- ---- what stands next may say what became of the last
 

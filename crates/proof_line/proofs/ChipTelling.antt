@@ -286,9 +286,9 @@ results = record {
 
 -- ---- the air and the devices
 
-change_beside : (e : Entry) → IsChange e → IsBeside e
-change_beside (entry.Dev node by setting) change = (tt, refl)
-change_beside e change = absurd change
+change_of_air : (e : Entry) → IsChange e → IsOfAir e
+change_of_air (entry.Dev node by setting) change = tt
+change_of_air e change = absurd change
 
 -- an event there
 abbrev pub IsArriving : OuterEvent → Type 0
@@ -297,12 +297,12 @@ IsArriving (Gives route) = Unit {0}
 IsArriving (Device_ticks place drawn route) = Unit {0}
 IsArriving event = ⊥
 
--- What goes on through all that the chip may be given, where nothing but such entries is told, and whatever the air is, goes on through what happens there.
+-- What goes on through all that the chip may be given, where nothing but entries of the air is told, and whatever the air is, goes on through what happens there.
 module _ (Goes : OuterState → Outcome → Type 0) (law : GivesSo Goes)
-    (beside : (o : OuterState) (x : Outcome) → AllByRecursion IsBeside x.entries → x.outer.to_host ≡ o.to_host → x.outer.to_chip ≡ o.to_chip → x.outer.chip.state.port ≡ o.chip.state.port → Goes o x)
+    (of_air : (o : OuterState) (x : Outcome) → AllByRecursion IsOfAir x.entries → x.outer.to_host ≡ o.to_host → x.outer.to_chip ≡ o.to_chip → x.outer.chip.state.port ≡ o.chip.state.port → Goes o x)
     (in_air : (o : OuterState) (air : AirState) (x : Outcome) → Goes (record o { air = air }) x → Goes o x) where
   air_goes : (o : OuterState) (told : List Entry) → AllByRecursion IsOfAir told → Goes o (tells o told)
-  air_goes o told of_air = beside o (tells o told) (all-weaker IsOfAir IsBeside beside_air told of_air) refl refl refl
+  air_goes o told all = of_air o (tells o told) all refl refl refl
 
   deals_go : (devices : List State) (o : OuterState) (event : AirEvent) → Goes o (deals devices o event)
   deals_go devices o (air_event.Heard frame) = air_goes o (entry.Heard frame ∷ []) (tt, tt)
@@ -311,12 +311,12 @@ module _ (Goes : OuterState → Outcome → Type 0) (law : GivesSo Goes)
   deals_go devices o (air_event.Sent frame from to route payload) = air_goes o (sent_entries (air_event.Sent frame from to route payload)) (tt, tt)
   deals_go devices o (air_event.Changed node at) =
       let change = change_at (device_at devices (place_of node devices)) at in
-      beside o (deals devices o (air_event.Changed node at)) (all-weaker IsChange IsBeside change_beside (change_entries node change) (change_entered node change)) refl refl refl
+      of_air o (deals devices o (air_event.Changed node at)) (all-weaker IsChange IsOfAir change_of_air (change_entries node change) (change_entered node change)) refl refl refl
   deals_go devices o (air_event.ToChip frame from payload) = to_chip_goes Goes law o from payload
   deals_go devices o (air_event.Done frame status dead) = ends_go Goes law o status dead
 
   all_deal : (devices : List State) (events : List AirEvent) (o : OuterState) → Goes o (each (deals devices) o events)
-  all_deal devices [] o = beside o (silent o) tt refl refl refl
+  all_deal devices [] o = of_air o (silent o) tt refl refl refl
   all_deal devices (event ∷ events) o =
       law.both o (deals devices o event) (λ later. each (deals devices) later events) (deals_go devices o event) (λ later. all_deal devices events later)
 
@@ -325,10 +325,9 @@ module _ (Goes : OuterState → Outcome → Type 0) (law : GivesSo Goes)
       in_air w.outer (mesh_after (mesh_of w) step).air (steps w step)
       (all_deal (mesh_after (mesh_of w) step).devices (mesh_outs (mesh_of w) step) (record w.outer { air = (mesh_after (mesh_of w) step).air }))
 
-  pub at_goes : (o : OuterState) (found : Option State) (event : DeviceEvent) (route : Option Route) → Goes o (acts_at o found event route)
-  at_goes o None event route = beside o (silent o) tt refl refl refl
-  at_goes o (Some device) event route =
-      beside o (acts_at o (Some device) event route) (all-weaker IsOfAir IsBeside beside_air (acts_at o (Some device) event route).entries (acts_of_air o device event route)) refl refl refl
+  unfoldable pub at_goes : (o : OuterState) (found : Option State) (event : DeviceEvent) (route : Option Route) → Goes o (acts_at o found event route)
+  at_goes o None event route = of_air o (silent o) tt refl refl refl
+  at_goes o (Some device) event route = of_air o (acts_at o (Some device) event route) (acts_of_air o device event route) refl refl refl
 
   -- in a tick, before the chip
   pub arriving_goes : (w : Outside) (event : OuterEvent) → IsArriving event → Goes w.outer (outcome w event)
@@ -337,6 +336,9 @@ module _ (Goes : OuterState → Outcome → Type 0) (law : GivesSo Goes)
   arriving_goes w (Gives route) arriving = gives_go Goes law w.outer w.devices w.outer.due route
   arriving_goes w (Device_ticks place drawn route) arriving = at_goes w.outer (slice_get w.devices place) (Ticks drawn) route
   arriving_goes w event arriving = absurd arriving
+
+still_air : (o : OuterState) (x : Outcome) → AllByRecursion IsOfAir x.entries → x.outer.to_host ≡ o.to_host → x.outer.to_chip ≡ o.to_chip → x.outer.chip.state.port ≡ o.chip.state.port → Telling o x
+still_air o x of_air to_host to_chip port = still_tells o x (all-weaker IsOfAir IsBeside beside_air x.entries of_air) to_host to_chip port
 
 in_air_tells : (o : OuterState) (air : AirState) (x : Outcome) → Telling (record o { air = air }) x → Telling o x
 in_air_tells o air x got = record {
@@ -384,7 +386,7 @@ pub quietly : (o : OuterState) (x : Outcome) → AllByRecursion TellsNothing x.e
 quietly o x told to_host to_chip = record { units = []; told = told; to_host = to_host; to_chip = to_chip; frames = refl; fit = λ has. tt }
 
 pub arriving_tells : (w : Outside) (event : OuterEvent) → IsArriving event → OutcomeTells IsBeside w.outer (outcome w event)
-arriving_tells w event arriving = strictly w.outer (outcome w event) (arriving_goes Telling results still_tells in_air_tells w event arriving)
+arriving_tells w event arriving = strictly w.outer (outcome w event) (arriving_goes Telling results still_air in_air_tells w event arriving)
 
 -- a tick of the chip
 pub tick_fit : (s : ChipState) → HasFrames s.port → Fit (chip_units (outs s Ticked))
@@ -410,14 +412,14 @@ tick_tells w has = ticks_tell w.outer has
 
 -- by hand
 repeats_tell : (w : Outside) (refused : Option RepeatRefusal) (step : AirStep) → OutcomeTells TellsNothing w.outer (repeats w refused step)
-repeats_tell w None step = loosely w.outer (steps w step) (steps_go Telling results still_tells in_air_tells w step)
+repeats_tell w None step = loosely w.outer (steps w step) (steps_go Telling results still_air in_air_tells w step)
 repeats_tell w (Some NeverSent) step = quietly w.outer (repeats w (Some NeverSent) step) (tt, tt) refl refl
 repeats_tell w (Some Forgotten) step = quietly w.outer (repeats w (Some Forgotten) step) (tt, tt) refl refl
 repeats_tell w (Some (Stale later)) step = quietly w.outer (repeats w (Some (Stale later)) step) (tt, tt) refl refl
 
 hand_tells : (w : Outside) (place : Option ℕ) (event : DeviceEvent) (route : Option Route) → OutcomeTells TellsNothing w.outer (acts_by_hand w.outer w.devices place event route)
 hand_tells w None event route = quietly w.outer (acts_by_hand w.outer w.devices None event route) (tt, tt) refl refl
-hand_tells w (Some place) event route = loosely w.outer (acts_at w.outer (slice_get w.devices place) event route) (at_goes Telling results still_tells in_air_tells w.outer (slice_get w.devices place) event route)
+hand_tells w (Some place) event route = loosely w.outer (acts_at w.outer (slice_get w.devices place) event route) (at_goes Telling results still_air in_air_tells w.outer (slice_get w.devices place) event route)
 
 pub line_tells : (w : Outside) (event : OuterEvent) → IsByHand event → OutcomeTells TellsNothing w.outer (outcome w event)
 unfolding outcome

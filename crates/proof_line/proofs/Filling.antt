@@ -16,8 +16,9 @@ use Rattle.law_wire.specs.Pipes.{Pipe, empty_pipe, with_answer, gone_on, with_tu
 use Rattle.outside_model.specs.State.{OuterState}
 use Rattle.proof_device.proofs.Entered.{IsMark, told_by_marks}
 use Rattle.proof_line.specs.Pipes.{MayTell, Mode, most, Resting, Turned, Waits, AtMost, Taken, Heard, Held}
-use Rattle.proof_line.proofs.Standing.{line_then}
+use Rattle.proof_walk.proofs.ByLine.{last_is as line_then}
 use Rattle.proof_line.proofs.Holding.{pipe_grows, TellsNothing, apart_mark, apart_step, apart_line, apart_stands, Grown, other_pipe, unit_grows, unit_stands, grown_most, grown_frames, long_answer, gone_frames, gone_written, gone_none}
+use Rattle.proof_serial.proofs.Outer.{wrong as no_refusal}
 
 abbrev pub Up : List Entry → Pipe
 Up past = pipe_from by_host empty_pipe past
@@ -38,9 +39,6 @@ unsaid past e none = ap is_restart (line_then past e ∙ none)
 pub never : {P : Type 0} (b : Bool) → b ≡ false → b ≡ true → P
 never true is other = absurd (let none : true ≡ false = is in cc)
 never false is other = absurd (let none : false ≡ true = other in cc)
-
-pub no_refusal : {P : Type 0} → false ≡ true → P
-no_refusal is = absurd (let none : false ≡ true = is in cc)
 
 module _ (mode : Mode) (empty : HoldsEmpty mode) where
   -- with nothing on its way, whatever the pipes are shown to hold

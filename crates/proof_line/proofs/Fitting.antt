@@ -31,7 +31,7 @@ use Rattle.proof_serial.proofs.Ways.{carries_more}
 use Rattle.proof_line.specs.Rooms.{MayFit, LastFits, HasUnanswered, answers_due, Fills}
 use Rattle.proof_line.proofs.Standing.{last_only, but_last, same_itself, frame_long}
 use Rattle.proof_line.proofs.Holding.{pipe_grows, own_pipe, other_pipe}
-use Rattle.proof_line.proofs.Filling.{no_refusal}
+use Rattle.proof_serial.proofs.Outer.{wrong as no_refusal}
 
 -- ---- the unit that stands last
 
@@ -139,7 +139,7 @@ arrives side way unit = by (nat_lt 0 way.marks.drops)
 
 -- ---- what it makes of the pipe of its side
 
-sum_more : (counts : List ℕ) (n : ℕ) → sum_of (counts ++ n ∷ []) ≡ sum_of counts + n
+pub sum_more : (counts : List ℕ) (n : ℕ) → sum_of (counts ++ n ∷ []) ≡ sum_of counts + n
 sum_more [] n = omega arith
 sum_more (count ∷ counts) n = let more = sum_more counts n in omega (arith, more)
 

@@ -18,7 +18,7 @@ use Rattle.proof_line.specs.Arrivals.{arrived, Comes}
 use Rattle.proof_line.specs.Rooms.{MayFit, LastFits, Fills}
 use Rattle.proof_line.proofs.Arriving.{time_same, comes_at}
 use Rattle.proof_line.proofs.Holding.{Joins, TellsNothing, pipe_grows}
-use Rattle.proof_line.proofs.Filling.{no_refusal}
+use Rattle.proof_serial.proofs.Outer.{wrong as no_refusal}
 use Rattle.proof_line.proofs.Fitting.{apart_fits}
 use Rattle.proof_line.proofs.Tellings.{Tells, tells_none, answers_all, AreFew, Written, writes}
 use Rattle.proof_line.proofs.Numbering.{IsNumber, Numbered}

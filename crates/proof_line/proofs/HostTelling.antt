@@ -33,7 +33,7 @@ use Rattle.host_model.specs.Sessions.{settings_with}
 use Rattle.host_model.specs.Events.{HostEvent, Accepts, Cancels, Hears, Line_ticks, Requests_do, Finishes, Offers, Gives, Spends, Spends_unread, Takes_nonce, Unreads, Is_unkept, Reports_old, Works, Notifies, Resends, Hears_value, Has_no_room}
 use Rattle.host_model.specs.After.{after, is_full, is_held}
 use Rattle.host_model.specs.Did.{after_all, outs_all}
-use Rattle.host_model.specs.Outs.{answer_to, noted, request_entries, dropped_if, stored_entries, held_entries, ended_of, outs, answers}
+use Rattle.host_model.specs.Outs.{answer_to, request_entries, dropped_if, stored_entries, held_entries, ended_of, outs, answers}
 use Rattle.host_model.specs.Taking.{told_requests, told_if, InterviewEvents, ResponseEvents, NoticeEvents, FrameEvents, IsFollowed, AreJudged}
 use Rattle.host_model.specs.declared.out.HostOut.{HostOut}
 use Rattle.host_model.specs.declared.out.HostOut.TheVariants.{Write, Note}
@@ -57,6 +57,7 @@ use Rattle.proof_line.proofs.Chipping.{IsFrame}
 use Rattle.proof_line.proofs.Hosting.{note_apart}
 use Rattle.proof_line.proofs.Tellings.{Tells, IsBeside, tells_both, tells_one, answers_all, answers_both}
 use Rattle.proof_line.proofs.Numbering.{Enters, enters_both, enters_none, outer_enters}
+use Rattle.proof_traffic.proofs.HostLinks.{no_units as noted_none}
 
 -- ---- what is told
 
@@ -176,10 +177,6 @@ takes_tells m count rest items events = outs_tell (outs_all m.host.state events)
 
 pub units_both : (a b : List HostOut) → host_units (a ++ b) ≡ host_units a ++ host_units b
 units_both a b = flat_map-append host_unit a b
-
-pub noted_none : (es : List Entry) → host_units (noted es) ≡ []
-noted_none [] = refl
-noted_none (e ∷ es) = noted_none es
 
 -- no answer among frames
 pub frames_unanswered : (outs : List HostOut) → UnitsAre IsFrame outs → answers_all (host_units outs) ≡ 0

@@ -1,5 +1,5 @@
 -- What is known of the pipes goes on through what the host writes and notes: of itself it writes data frames alone, and answers only where it takes bytes.
-use Rattle.std.proofs.Common.{◌≡◌, ◌≤◌, ℕ, Bool, true, false, if◌then◌else◌, List, [], ◌∷◌, ◌++◌, length, map, inl, inr, refl, sym, subst, append-nil, append_assoc}
+use Rattle.std.proofs.Common.{◌≡◌, ◌≤◌, ℕ, Bool, true, false, if◌then◌else◌, List, [], ◌∷◌, ◌++◌, length, map, refl, sym, subst, append-nil, append_assoc}
 use Rattle.std.specs.Prelude.{Option, Some, None}
 use Rattle.std.specs.List.{AllByRecursion}
 use Rattle.zw_base.proofs.Each.{all-append}
@@ -14,11 +14,7 @@ use Rattle.zw_text.specs.declared.entry.Entry.TheVariants as entry
 use Rattle.law_transcript.specs.Lists.{EachAfter}
 use Rattle.law_wire.specs.Pipes.{Pipe, with_answer, gone_on, with_turn}
 use Rattle.proof_host.proofs.Lists.{each-append}
-use Rattle.host_requests.specs.declared.task.Task.{Task}
 use Rattle.host_node.specs.Steps.{tick_end}
-use Rattle.host_node.specs.Search.{next_of}
-use Rattle.host_node.specs.declared.series.Series.{Series}
-use Rattle.host_node.specs.declared.series.Series.TheVariants.{Idle, Due, Running}
 use Rattle.host_model.specs.State.{HostState, node_of, command_at}
 use Rattle.host_model.specs.Sessions.{open_command, settings_with}
 use Rattle.host_model.specs.Ends.{attempt_entries}
@@ -26,7 +22,8 @@ use Rattle.host_model.specs.After.{is_full, is_held, gives_up, line_ticked}
 use Rattle.host_model.specs.Events.{HostEvent, Accepts, Cancels, Joins, Queues, Queues_interview, Queues_probe, Hears, Requests_do, Finishes, Offers, Gives, Resends, Line_ticks, Node_ticks, Submits_abort, Submits_front, Starts, Gives_text, Gives_segment, Drops_no_more, Queues_no_more}
 use Rattle.host_model.specs.Outs.{copy_out, noted, request_entries, failing_entries, dropped_if, stored_entries, held_entries, ended_of, outs, answers}
 use Rattle.host_model.specs.Did.{outs_all}
-use Rattle.host_model.specs.Pumping.{no_more_event, GivesNext, IsServedBy, IsNextOfNodes, IsNextOf, IsNext}
+use Rattle.host_model.specs.Pumping.{no_more_event, IsNext}
+use Rattle.host_model.proofs.Submitted.{SubmittedAre, next_is}
 use Rattle.host_model.specs.Ticking.{first_ticks, tick_events, ticking_nodes}
 use Rattle.host_model.specs.Did.{after_all}
 use Rattle.host_model.specs.declared.out.HostOut.{HostOut}
@@ -122,30 +119,25 @@ tick_nothing h = all-append HearsNothing first_ticks (map Node_ticks (ticking_no
 abbrev IsAlone : HostEvent → Type 0
 IsAlone event = HearsNothing event × TicksNot event
 
-gives_alone : (h : HostState) (n : ℕ) (text : Option (List ℕ)) (event : HostEvent) → GivesNext h n text event → IsAlone event
-gives_alone h n (Some text) event is = subst IsAlone (sym is) (tt, tt)
-gives_alone h n None event (payload, opens, is) = subst IsAlone (sym is) (tt, tt)
-
-served_alone : (h : HostState) (n : ℕ) (series : Series) (event : HostEvent) → IsServedBy h n series event → IsAlone event
-served_alone h n Running event is = gives_alone h n (node_of h n).text event is
-served_alone h n Due event (plan, more, payload, start, is) = subst IsAlone (sym is) (tt, tt)
-served_alone h n Idle event (inl is) = subst IsAlone (sym is) (tt, tt)
-served_alone h n Idle event (inr is) = subst IsAlone (sym is) (tt, tt)
-
-nodes_alone : (h : HostState) (node : Option ℕ) (event : HostEvent) → IsNextOfNodes h node event → IsAlone event
-nodes_alone h None event is = absurd is
-nodes_alone h (Some n) event is = served_alone h n (node_of h n).series event is
-
-next_of_alone : (h : HostState) (owes : Bool) (queue : List Task) (event : HostEvent) → IsNextOf h owes queue event → IsAlone event
-next_of_alone h true queue event is = subst IsAlone (sym is) (tt, tt)
-next_of_alone h false (task ∷ more) event is = subst IsAlone (sym is) (tt, tt)
-next_of_alone h false [] event is = nodes_alone h (next_of h.nodes h.served) event is
+next_alone : (h : HostState) (event : HostEvent) → IsNext h event → IsAlone event
+next_alone h event next = next_is IsAlone each h event next
+  where
+    each : SubmittedAre IsAlone
+    each = record {
+      abort = (tt, tt);
+      front = (tt, tt);
+      starts = λ n plan more payload. (tt, tt);
+      text = λ n payload. (tt, tt);
+      segment = λ n more payload. (tt, tt);
+      begins = λ n session command. (tt, tt);
+      unkept = λ n. (tt, tt);
+    }
 
 pub next_nothing : (h : HostState) (event : HostEvent) → IsNext h event → HearsNothing event
-next_nothing h event is = (next_of_alone h h.requests.owes h.requests.queue event is.1).0
+next_nothing h event is = (next_alone h event is).0
 
 pub next_apart : (h : HostState) (event : HostEvent) → IsNext h event → TicksNot event
-next_apart h event is = (next_of_alone h h.requests.owes h.requests.queue event is.1).1
+next_apart h event is = (next_alone h event is).1
 
 -- ---- what the host puts out
 

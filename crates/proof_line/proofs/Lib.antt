@@ -18,6 +18,7 @@ mod Numbering
 mod HostTelling
 pub mod ChipTelling
 mod Goings
+pub mod ChipAccounts
 mod Roomy
 pub mod Rooming
 mod Moments
@@ -27,6 +28,7 @@ mod LinkKnown
 mod LinkUntil
 mod LinkTime
 mod LinkTold
+mod LinkCourse
 mod LinkGoes
 mod LinkLines
 mod LinkChip
@@ -42,8 +44,8 @@ mod LinkEffects
 mod LinkPlain
 mod LinkRestarts
 mod LinkOnes
-mod LinkSome
-mod LinkWalk
+pub mod LinkSome
+pub mod LinkWalk
 pub use Rattle.proof_spoken.proofs.Orders
 pub use Rattle.proof_spoken.proofs.Plain
 pub use Rattle.proof_spoken.proofs.RoutineNotes

@@ -116,7 +116,7 @@ module _ (side : Side) (timed all : List Entry) (now : LinkNow) (knows : KnowsLi
 -- ---- both
 
 -- where the machine is that has just begun the line
-module _ (before : List Entry) (first : Machine) (is_tick : Bool) (up down : LinkNow) (both : KnowsBoth is_tick before first up down) (may : MayBothEnd up down) where
+module _ {did : List Step} (before : List Entry) (first : Machine) (is_tick : Bool) (up down : LinkNow) (both : KnowsBoth did is_tick before first up down) (may : MayBothEnd up down) where
   abbrev o : OuterState
   o = first.outside.outer
 
@@ -141,16 +141,16 @@ module _ (before : List Entry) (first : Machine) (is_tick : Bool) (up down : Lin
       begins.clears ∙ sym (timed_clears before o) ∙ both.line.clears
       ∙ sym (ap₂ (λ (a b : List ℕ). to_clear a b) begins.chip_is.3 begins.host_is.3)
 
-  pub begins_cuts : (tail : List Entry) (later after_it : LinkNow) → Begins tail later after_it → Cuts (before ++ tail)
+  pub begins_cuts : (tail : List Entry) (later after_it : LinkNow) → Begins tail later after_it → Cuts later.life (before ++ tail)
   begins_cuts tail later after_it begins =
       cuts_of (before ++ tail) later after_it begins.chip begins.host (all_told (clears (before ++ tail)) (to_clear later.lost after_it.lost) (cleared_so tail later after_it begins))
 
   -- of a machine at which it has begun, and that is at their time
-  pub begins_both : (tail : List Entry) (n : Machine) (later after_it : LinkNow) → Begins tail later after_it → n.outside.outer.in_tick ≡ false → n.outside.outer.clock ≡ o.clock
+  pub begins_both : (tail : List Entry) (n : Machine) (now : List Step) (later after_it : LinkNow) → later.life ≡ now → Begins tail later after_it → n.outside.outer.in_tick ≡ false → n.outside.outer.clock ≡ o.clock
       → n.outside.outer.to_chip.bytes ≡ o.to_chip.bytes → n.outside.outer.to_host.bytes ≡ o.to_host.bytes → later.until ≡ n.outside.outer.stalled_until → after_it.until ≡ n.outside.outer.stalled_until
       → later.link ≡ n.outside.outer.chip.state.port.side → WaitsWell n.outside.outer.chip.state.port → after_it.link ≡ n.host.state.side → KeepsItsLink after_it.life n.host.state
-      → HasFrames n.outside.outer.chip.state.port × AreAtRest n → KnowsBoth false (before ++ tail) n later after_it
-  begins_both tail n later after_it begins quiet clock to_chip to_host up_until down_until chip_link waits host_link keeps whole =
+      → HasFrames n.outside.outer.chip.state.port × AreAtRest n → KnowsBoth now false (before ++ tail) n later after_it
+  begins_both tail n now later after_it life begins quiet clock to_chip to_host up_until down_until chip_link waits host_link keeps whole =
       let all : List Entry = before ++ tail in
       let none : ticked_entry n.outside.outer ≡ [] = ticked_none n.outside.outer (not_awaited n.outside.outer quiet) in
       let up_clock : later.clock ≡ n.outside.outer.clock = begins.chip_is.1 ∙ both.chip_time.clock ∙ sym clock in
@@ -172,6 +172,7 @@ module _ (before : List Entry) (first : Machine) (is_tick : Bool) (up down : Lin
         chip_way = subst (λ (l : List (List ℕ)). Brings n.outside.outer.to_chip l) (sym begins.chip_is.2) (brings_same o.to_chip n.outside.outer.to_chip up.coming to_chip both.chip_way);
         chip_time = record { clock = up_clock; until = up_until };
         host_time = record { clock = begins.host_is.1 ∙ both.host_time.clock ∙ sym clock; until = down_until };
+        life = life;
         chip_round = begins.chip_is.0;
         host_round = begins.host_is.0;
         host_link = host_link;
@@ -270,7 +271,7 @@ refused_said before words refusal clock due = says before words (entry.Refused r
 
 -- ---- a line that was counted
 
-pub done_of : (past : List Entry) (n : Machine) (up down : LinkNow) → n.outside.outer.in_tick ≡ false → KnowsBoth false past n up down → LinksDone past n
+pub done_of : {did : List Step} (past : List Entry) (n : Machine) (up down : LinkNow) → n.outside.outer.in_tick ≡ false → KnowsBoth did false past n up down → LinksDone did past n
 done_of past n up down quiet both = (
   (
     up,
@@ -282,10 +283,10 @@ done_of past n up down quiet both = (
 )
 
 -- the machine begins the line
-pub begins_line : (line : Line) (past : List Entry) (m : Machine) → Cuts past → LinksBefore line past m → Then (LinksBegun line) past m (Outside_does Begins_line)
+pub begins_line : {did : List Step} (line : Line) (past : List Entry) (m : Machine) → Cuts did past → LinksBefore did line past m → Then did (LinksBegun did line) past m (Outside_does Begins_line)
 unfolding happens entries outcome
-begins_line line past m cuts just = (
-  subst Cuts (sym (append-nil past)) cuts,
+begins_line {did} line past m cuts just = (
+  subst (Cuts did) (sym (append-nil past)) cuts,
   (
     m,
     record { before = just.before; words = just.words; read = just.read; is = append-nil past ∙ just.is; is_tick = just.is_tick; both = just.both; due = just.due },

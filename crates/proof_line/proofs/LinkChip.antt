@@ -1,6 +1,8 @@
 -- The chip at the line: what is known of both links goes on with its events, and with all items that it judges, one after another.
 use Rattle.std.proofs.Common.{length, take, false, nat_lt, ◌≡◌, ℕ, ◌+◌, true, List, [], ◌∷◌, ◌++◌, map, refl, sym, ap, ◌∙◌, subst, append-nil, append_assoc, arith}
 use Rattle.std.specs.Prelude.{Option}
+use Rattle.std.specs.List.{AllByRecursion}
+use Rattle.zw_base.proofs.Each.{all-append}
 use Rattle.serial_frame.specs.Frame.{FrameParts}
 use Rattle.serial_frame.specs.declared.unit.Unit.{Unit as LineUnit}
 use Rattle.serial_frame.specs.declared.item.Item.{Item}
@@ -9,11 +11,11 @@ use Rattle.serial_link.specs.Rules.{Step, SideObeys, items_of, ticks_of}
 use Rattle.serial_link.specs.Calls.{submit_step}
 use Rattle.serial_link.proofs.Counting.{ticks_of-append}
 use Rattle.route_table.specs.declared.route.Route.{Route}
-use Rattle.chip_sim.specs.Link.{chip_units, link_steps}
+use Rattle.chip_sim.specs.Link.{chip_units, link_steps, link_units}
 use Rattle.chip_sim.specs.State.{ChipState}
 use Rattle.chip_sim.specs.Events.{ChipEvent, Judged, after, outs}
 use Rattle.chip_sim.specs.Did.{after_all, judged_all}
-use Rattle.chip_sim.specs.Rules.{WaitsWell, begun_at}
+use Rattle.chip_sim.specs.Rules.{WaitsWell, begun_at, over}
 use Rattle.chip_sim.proofs.Histories.{well_all}
 use Rattle.chip_sim.proofs.Links.{units_event}
 use Rattle.zw_words.specs.declared.side.Side.{Side}
@@ -26,11 +28,12 @@ use Rattle.serial_pipes.specs.Events.{Takes}
 use Rattle.serial_pipes.specs.Events as way
 use Rattle.outside_model.specs.Chip.{chip_does, chip_takes, MayTake}
 use Rattle.proof_walk.proofs.Times.{does_chip}
-use Rattle.proof_line.specs.Links.{Brings, KnowsEvents, KnowsLink, LinkNow, MayHear, MayOfChip, gone, with_arriving}
-use Rattle.proof_line.proofs.Tellings.{IsBeside, Tells}
+use Rattle.proof_line.specs.Links.{Brings, IsMute, KnowsEvents, KnowsLink, LinkNow, MayHear, MayOfChip, gone, with_arriving}
+use Rattle.proof_line.proofs.Tellings.{IsBeside, Tells, tells_none}
 use Rattle.proof_line.proofs.ChipTelling.{does_tell}
 use Rattle.proof_line.proofs.LinkTold.{arriving_all, brings_taken, none_first, others_known, steps_known, takes_split}
 use Rattle.proof_line.proofs.LinkGoes.{chip_goes}
+use Rattle.proof_line.proofs.LinkCourse.{mute_of}
 
 pub obeyed : (side : Side) (events : List SerialEvent) (now : LinkNow) → KnowsEvents side events now → SideObeys now.life now.link
 obeyed side events now knows = subst (λ (l : List Step). SideObeys l now.link) knows.at.life knows.does.obeys
@@ -52,6 +55,23 @@ pub chip_event_arrives : (o : OuterState) (e : ChipEvent) (past : List Entry) (n
     → KnowsLink Host (past ++ (chip_does o e).entries) (with_arriving now (arriving_all Chip o.to_host (chip_units (outs o.chip.state e))))
 chip_event_arrives o e past now knows = others_known (chip_units (outs o.chip.state e)) Host past now o.to_host (chip_does o e).entries knows (does_tell o e).told
 
+-- where nothing is told nothing was written
+pub does_mute : (o : OuterState) (e : ChipEvent) → (chip_does o e).entries ≡ [] → AllByRecursion IsMute (link_steps o.chip.state e)
+does_mute o e none =
+    mute_of (link_steps o.chip.state e)
+    (tells_none IsBeside Chip o.to_host (link_units (link_steps o.chip.state e))
+    (subst (λ (l : List Entry). Tells IsBeside Chip o.to_host (link_units (link_steps o.chip.state e)) l) none
+    (subst (λ (l : List LineUnit). Tells IsBeside Chip o.to_host l (chip_does o e).entries) (units_event o.chip.state e) (does_tell o e).told)))
+
+pub judged_mute : (ways : List (Item × Option Route)) (o : OuterState) → (each chip_does o (judged_all ways)).entries ≡ [] → AllByRecursion IsMute (over link_steps o.chip.state (judged_all ways))
+judged_mute [] o none = tt
+judged_mute (way ∷ ways) o none =
+    let e : ChipEvent = Judged way.0 way.1 in
+    let one : Outcome = chip_does o e in
+    let both = none_first one.entries (each chip_does one.outer (judged_all ways)).entries none in
+    all-append IsMute (link_steps o.chip.state e) (over link_steps (after o.chip.state e) (judged_all ways)) (does_mute o e both.0)
+    (subst (λ (t : ChipState). AllByRecursion IsMute (over link_steps t (judged_all ways))) (does_chip o e) (judged_mute ways one.outer both.1))
+
 -- ---- items that are judged, one after another
 
 pub submits_hear_none : (frames : List FrameParts) → items_of (map (λ (f : FrameParts). submit_step f) frames) ≡ []
@@ -71,9 +91,10 @@ pub record StaysInRound (old new : LinkNow) : Type 0 where
   pub lost : new.lost ≡ old.lost
   pub ticks : ticks_of new.round ≡ ticks_of old.round
 
--- this is left on its way, and the link is that of the chip
-pub record Judges (past : List Entry) (now : LinkNow) (side : LinkSide) (rest : List (List ℕ)) : Type 0 where
+-- with these steps this is left on its way, and the link is that of the chip
+pub record Judges (steps : List Step) (past : List Entry) (now : LinkNow) (side : LinkSide) (rest : List (List ℕ)) : Type 0 where
   pub later : LinkNow
+  pub life : later.life ≡ now.life ++ steps
   pub knows : KnowsLink Chip past later
   pub link : later.link ≡ side
   pub left : later.coming ≡ rest
@@ -81,9 +102,10 @@ pub record Judges (past : List Entry) (now : LinkNow) (side : LinkSide) (rest : 
 
 pub chip_judges_known : (ways : List (Item × Option Route)) (o : OuterState) (past : List Entry) (now : LinkNow) (left : List (List ℕ)) → KnowsLink Chip past now → now.link ≡ o.chip.state.port.side
     → WaitsWell o.chip.state.port → (now.is_tick ≡ true → ticks_of now.round ≡ 1) → MayHear now (map (λ (w : Item × Option Route). w.0) ways) left
-    → Judges (past ++ (each chip_does o (judged_all ways)).entries) now (after_all o.chip.state (judged_all ways)).port.side left
+    → Judges (over link_steps o.chip.state (judged_all ways)) (past ++ (each chip_does o (judged_all ways)).entries) now (after_all o.chip.state (judged_all ways)).port.side left
 chip_judges_known [] o past now left knows link waits may hears = record {
   later = now;
+  life = sym (append-nil now.life);
   knows = subst (λ (l : List Entry). KnowsLink Chip l now) (sym (append-nil past)) knows;
   link = link;
   left = hears.0;
@@ -111,6 +133,7 @@ chip_judges_known (way ∷ ways) o past now left knows link waits may hears =
     (more, λ stalls. (none_first (way.0 ∷ []) rest_items (hears.1 stalls)).1) in
     record {
       later = later.later;
+      life = later.life ∙ ap (λ (t : ChipState). (now.life ++ steps) ++ over link_steps t (judged_all ways)) is ∙ append_assoc now.life steps (over link_steps (after s e) (judged_all ways));
       knows = subst (λ (l : List Entry). KnowsLink Chip l later.later) (append_assoc past one.entries (each chip_does one.outer (judged_all ways)).entries) later.knows;
       link = later.link ∙ ap (λ (t : ChipState). (after_all t (judged_all ways)).port.side) is;
       left = later.left;
@@ -129,7 +152,7 @@ each_state (event ∷ events) o = each_state events (chip_does o event).outer �
 pub chip_takes_known : (o : OuterState) (count : ℕ) (rest : Rest) (ways : List (Item × Option Route)) (past : List Entry) (now : LinkNow) → KnowsLink Chip past now
     → now.link ≡ o.chip.state.port.side → WaitsWell o.chip.state.port → (now.is_tick ≡ true → ticks_of now.round ≡ 1) → Brings o.to_chip now.coming → nat_lt now.clock now.until ≡ false
     → o.chip.decoder ≡ no_rest → count ≡ length o.to_chip.bytes → MayTake o count rest ways
-    → Judges (past ++ (chip_takes o count rest ways).entries) now (after_all o.chip.state (judged_all ways)).port.side []
+    → Judges (over link_steps o.chip.state (judged_all ways)) (past ++ (chip_takes o count rest ways).entries) now (after_all o.chip.state (judged_all ways)).port.side []
 chip_takes_known o count rest ways past now knows link waits once brings moves rests whole may =
     let started : OuterState = record o { to_chip = way.after o.to_chip (Takes count); chip = record { decoder = rest; state = o.chip.state } } in
     let items : List Item = map (λ (w : Item × Option Route). w.0) ways in

@@ -7,10 +7,12 @@ use Rattle.serial_frame.specs.declared.unit.Unit.{Unit as LineUnit}
 use Rattle.serial_pipes.specs.State.{WayState}
 use Rattle.chip_sim.specs.State.{ChipParts}
 use Rattle.chip_sim.specs.Rules.{WaitsWell}
-use Rattle.serial_link.specs.Rules.{Step, ticks_of}
+use Rattle.serial_link.specs.Rules.{SideObeys, Step, ticks_of}
 use Rattle.zw_words.specs.declared.side.Side.TheVariants.{Host, Chip}
 use Rattle.zw_text.specs.declared.entry.Entry.{Entry}
+use Rattle.law_wire.specs.Asked.{course_of}
 use Rattle.law_wire.specs.Clearing.{to_clear}
+use Rattle.law_wire.specs.Serial.{serial_events}
 use Rattle.outside_model.specs.State.{OuterState, Outcome}
 use Rattle.outside_model.specs.Events.{OuterEvent, has_entered, outcome, stamp, ticked_entry}
 use Rattle.world_model.specs.State.{Machine}
@@ -23,7 +25,7 @@ use Rattle.proof_serial.proofs.Events.{at_rest, rests_after, whole_after}
 use Rattle.proof_serial.proofs.Outer.{entered_still}
 use Rattle.proof_traffic.specs.Links.{KeepsItsLink}
 use Rattle.proof_walk.proofs.Times.{IsWithin, outcome_time}
-use Rattle.proof_line.specs.Links.{AtLine, Brings, KnowsLink, LinkNow, tick_told, with_arriving}
+use Rattle.proof_line.specs.Links.{AtLine, Brings, IsMute, KnowsLink, LinkNow, tick_told, with_arriving}
 use Rattle.proof_line.specs.Linked.{Cuts, IsTimed, KnowsBoth}
 use Rattle.proof_line.proofs.Numbering.{Enters, enters_timed, outer_enters, ticked_none}
 use Rattle.proof_line.proofs.Tellings.{IsBeside, Tells}
@@ -32,7 +34,9 @@ use Rattle.proof_line.proofs.LinkUntil.{StallsNot, outcome_leaves}
 use Rattle.proof_line.proofs.LinkTime.{Apart, tells_apart}
 use Rattle.proof_line.proofs.LinkTold.{arriving_all, brings_more, others_known}
 use Rattle.proof_line.proofs.LinkGiven.{AfterGiven, GoesGiven, GrowsChip, GrowsHost, brings_same, line_other}
-use Rattle.proof_line.proofs.LinkEnds.{line_cuts}
+use Rattle.proof_line.proofs.LinkCourse.{course_mute}
+use Rattle.proof_line.proofs.LinkChip.{obeyed}
+use Rattle.proof_line.proofs.LinkEnds.{cuts_as, line_cuts}
 
 -- ---- what stays
 
@@ -46,7 +50,7 @@ same_timed : (o n : OuterState) (old new : LinkNow) → n.clock ≡ o.clock → 
 same_timed o n old new clock until same timed = record { clock = same.clock ∙ timed.clock ∙ sym clock; until = same.until ∙ timed.until ∙ sym until }
 
 -- what is on its way is whole, and stays so
-pub whole_both : (is_tick : Bool) (past : List Entry) (m : Machine) (up down : LinkNow) → KnowsBoth is_tick past m up down → IsWhole m
+pub whole_both : {did : List Step} (is_tick : Bool) (past : List Entry) (m : Machine) (up down : LinkNow) → KnowsBoth did is_tick past m up down → IsWhole m
 whole_both is_tick past m up down both = record {
   up = both.chip_way.items;
   down = both.line.way.items;
@@ -57,7 +61,7 @@ whole_both is_tick past m up down both = record {
   frames = both.frames;
 }
 
-pub later_both : (is_tick : Bool) (past : List Entry) (m : Machine) (event : Event) (up down : LinkNow) → KnowsBoth is_tick past m up down → May m event → TakesWhole m event → WritesWell m event
+pub later_both : {did : List Step} (is_tick : Bool) (past : List Entry) (m : Machine) (event : Event) (up down : LinkNow) → KnowsBoth did is_tick past m up down → May m event → TakesWhole m event → WritesWell m event
     → HasFrames (happens m event).outside.outer.chip.state.port × AreAtRest (happens m event)
 later_both is_tick past m event up down both may takes well =
     let whole = whole_both is_tick past m up down both in
@@ -65,12 +69,22 @@ later_both is_tick past m event up down both may takes well =
 
 -- ---- any event
 
+-- the chip's link did more, and wrote nothing where nothing is told
+pub record DidMore (did now : List Step) (told : List Entry) : Type 0 where
+  pub more : List Step
+  pub is : now ≡ did ++ more
+  pub quiet : told ≡ [] → AllByRecursion IsMute more
+
+pub no_more : (did : List Step) (told : List Entry) → DidMore did did told
+no_more did told = record { more = []; is = sym (append-nil did); quiet = λ none. tt }
+
 -- where this is entered
-pub goes_both : (is_tick : Bool) (past told : List Entry) (m n : Machine) (told_all : List Entry) (up later down after_it : LinkNow) → KnowsBoth is_tick past m up down → Cuts past
+pub goes_both : {did now : List Step} (is_tick : Bool) (past told : List Entry) (m n : Machine) (told_all : List Entry) (up later down after_it : LinkNow) → KnowsBoth did is_tick past m up down → Cuts did past
+    → DidMore did now told → later.life ≡ now
     → Enters m.outside.outer n.outside.outer told_all told → n.outside.outer.clock ≡ m.outside.outer.clock → n.outside.outer.stalled_until ≡ m.outside.outer.stalled_until
     → AtLine ((past ++ ticked_entry m.outside.outer) ++ told) n.outside.outer later after_it → SameRound up later → SameRound down after_it → Brings n.outside.outer.to_chip later.coming
-    → after_it.link ≡ n.host.state.side → KeepsItsLink after_it.life n.host.state → HasFrames n.outside.outer.chip.state.port × AreAtRest n → Cuts (past ++ told_all) × KnowsBoth is_tick (past ++ told_all) n later after_it
-goes_both is_tick past told m n told_all up later down after_it both cuts enters clock until at same_up same_down way link keeps whole = (
+    → after_it.link ≡ n.host.state.side → KeepsItsLink after_it.life n.host.state → HasFrames n.outside.outer.chip.state.port × AreAtRest n → Cuts now (past ++ told_all) × KnowsBoth now is_tick (past ++ told_all) n later after_it
+goes_both {did} {now} is_tick past told m n told_all up later down after_it both cuts grows life enters clock until at same_up same_down way link keeps whole = (
   cuts_then enters,
   record {
     line = line;
@@ -78,6 +92,7 @@ goes_both is_tick past told m n told_all up later down after_it both cuts enters
     chip_way = way;
     chip_time = same_timed m.outside.outer n.outside.outer up later clock until same_up both.chip_time;
     host_time = same_timed m.outside.outer n.outside.outer down after_it clock until same_down both.host_time;
+    life = life;
     chip_round = same_up.is_tick ∙ both.chip_round;
     host_round = same_down.is_tick ∙ both.host_round;
     host_link = link;
@@ -102,9 +117,17 @@ goes_both is_tick past told m n told_all up later down after_it both cuts enters
     nothing_more : told_all ≡ [] → past ++ told_all ≡ past
     nothing_more none = ap (λ (l : List Entry). past ++ l) none ∙ append-nil past
 
-    cuts_then : Enters m.outside.outer n.outside.outer told_all told → Cuts (past ++ told_all)
-    cuts_then (inl (none, nothing, same)) = subst Cuts (sym (nothing_more nothing)) cuts
-    cuts_then (inr (is, ended)) = line_cuts (past ++ told_all) n.outside.outer later after_it (unstamped (ticked_none n.outside.outer ended))
+    -- what it did more wrote nothing
+    same_course : told ≡ [] → course_of did ≡ course_of now
+    same_course none =
+        sym (ap course_of grows.is
+        ∙ course_mute did grows.more later.link
+        (subst (λ (l : List Step). SideObeys l later.link) (life ∙ grows.is) (obeyed Chip (serial_events ((past ++ ticked_entry m.outside.outer) ++ told)) later at.chip)) (grows.quiet none))
+
+    cuts_then : Enters m.outside.outer n.outside.outer told_all told → Cuts now (past ++ told_all)
+    cuts_then (inl (none, nothing, same)) = subst (Cuts now) (sym (nothing_more nothing)) (cuts_as did now past (same_course none) cuts)
+    cuts_then (inr (is, ended)) =
+        cuts_as later.life now (past ++ told_all) (ap course_of life) (line_cuts (past ++ told_all) n.outside.outer later after_it (unstamped (ticked_none n.outside.outer ended)))
 
     behind_then : Enters m.outside.outer n.outside.outer told_all told → tick_told (past ++ told_all) ≤ n.outside.outer.clock
     behind_then (inl (none, nothing, same)) =
@@ -146,13 +169,13 @@ pub record ChipSays (o : OuterState) (x : Outcome) (units : List LineUnit) (late
   pub link : later.link ≡ x.outer.chip.state.port.side
   pub waits : WaitsWell x.outer.chip.state.port
 
-pub chip_writes_both : (is_tick : Bool) (past : List Entry) (m : Machine) (event : OuterEvent) (up later down : LinkNow) (units : List LineUnit) → IsWithin event → StallsNot event → KnowsBoth is_tick past m up down
-    → Cuts past → KnowsLink Chip ((past ++ ticked_entry m.outside.outer) ++ (outcome m.outside event).entries) later → ChipSays m.outside.outer (outcome m.outside event) units later → SameRound up later
+pub chip_writes_both : {did now : List Step} (is_tick : Bool) (past : List Entry) (m : Machine) (event : OuterEvent) (up later down : LinkNow) (units : List LineUnit) → IsWithin event → StallsNot event
+    → KnowsBoth did is_tick past m up down → Cuts did past → DidMore did now (outcome m.outside event).entries → later.life ≡ now → KnowsLink Chip ((past ++ ticked_entry m.outside.outer) ++ (outcome m.outside event).entries) later → ChipSays m.outside.outer (outcome m.outside event) units later → SameRound up later
     → later.lost ≡ up.lost → HasFrames (happens m (Outside_does event)).outside.outer.chip.state.port × AreAtRest (happens m (Outside_does event))
-    → Cuts (past ++ entries m (Outside_does event))
-    × KnowsBoth is_tick (past ++ entries m (Outside_does event)) (happens m (Outside_does event)) later (with_arriving down (arriving_all Chip m.outside.outer.to_host units))
+    → Cuts now (past ++ entries m (Outside_does event))
+    × KnowsBoth now is_tick (past ++ entries m (Outside_does event)) (happens m (Outside_does event)) later (with_arriving down (arriving_all Chip m.outside.outer.to_host units))
 unfolding happens entries
-chip_writes_both is_tick past m event up later down units within apart both cuts chip says same lost whole =
+chip_writes_both is_tick past m event up later down units within apart both cuts grows life chip says same lost whole =
     let o : OuterState = m.outside.outer in
     let x : Outcome = outcome m.outside event in
     let n : OuterState = has_entered x.outer x.entries in
@@ -171,33 +194,35 @@ chip_writes_both is_tick past m event up later down units within apart both cuts
       many = ap (λ (l : List ℕ). length l) lost ∙ both.line.many;
       clears = told.clears ∙ both.line.clears ∙ ap (λ (l : List ℕ). to_clear l down.lost) (sym lost);
     } in
-    goes_both is_tick past x.entries m (happens m (Outside_does event)) (stamp x.outer x.entries) up later down (with_arriving down arriving) both cuts
+    goes_both is_tick past x.entries m (happens m (Outside_does event)) (stamp x.outer x.entries) up later down (with_arriving down arriving) both cuts grows life
     (outer_enters o x.outer x.entries (outcome_time m.outside event within)) (clock_stays m event within) (until_stays m event apart)
     (line_other (timed ++ x.entries) x.outer later (with_arriving down arriving) n (ap (λ (c : ChipParts). c.state.port) still.chip) (ap (λ (w : WayState). w.bytes) still.to_host) line)
     same (record { is_tick = refl; clock = refl; until = refl }) (subst (λ (w : WayState). Brings w later.coming) (sym still.to_chip) says.way) both.host_link both.keeps whole
 
 -- the chip is given something, or it goes on beside the line
-abbrev pub Grown : Bool → List Entry → Machine → LinkNow → LinkNow → Type 0
-Grown is_tick past m up down = (later : LinkNow) × (after_it : LinkNow) × (Cuts past × KnowsBoth is_tick past m later after_it) × GrowsChip up later × GrowsHost down after_it
+abbrev pub Grown : (did steps : List Step) → Bool → List Entry → Machine → LinkNow → LinkNow → Type 0
+Grown did steps is_tick past m up down =
+    (later : LinkNow) × (after_it : LinkNow) × (Cuts (did ++ steps) past × KnowsBoth (did ++ steps) is_tick past m later after_it) × GrowsChip steps up later × GrowsHost down after_it
 
-pub given_both : (is_tick : Bool) (past : List Entry) (m : Machine) (event : OuterEvent) (up down : LinkNow) → IsWithin event → StallsNot event → KnowsBoth is_tick past m up down → Cuts past
-    → (up.is_tick ≡ true → ticks_of up.round ≡ 0) → GoesGiven m.outside.outer (outcome m.outside event) → (outcome m.outside event).outer.to_chip.bytes ≡ m.outside.outer.to_chip.bytes
+pub given_both : {did : List Step} (steps : List Step) (is_tick : Bool) (past : List Entry) (m : Machine) (event : OuterEvent) (up down : LinkNow) → IsWithin event → StallsNot event
+    → KnowsBoth did is_tick past m up down → Cuts did past → (up.is_tick ≡ true → ticks_of up.round ≡ 0) → GoesGiven steps m.outside.outer (outcome m.outside event) → (outcome m.outside event).outer.to_chip.bytes ≡ m.outside.outer.to_chip.bytes
     → HasFrames (happens m (Outside_does event)).outside.outer.chip.state.port × AreAtRest (happens m (Outside_does event))
-    → Grown is_tick (past ++ entries m (Outside_does event)) (happens m (Outside_does event)) up down
+    → Grown did steps is_tick (past ++ entries m (Outside_does event)) (happens m (Outside_does event)) up down
 unfolding happens entries
-given_both is_tick past m event up down within apart both cuts early goes to_chip whole =
+given_both {did} steps is_tick past m event up down within apart both cuts early goes to_chip whole =
     let o : OuterState = m.outside.outer in
     let x : Outcome = outcome m.outside event in
     let n : OuterState = has_entered x.outer x.entries in
     let timed : List Entry = past ++ ticked_entry o in
     let still = entered_still x.outer x.entries in
     let has : HasFrames x.outer.chip.state.port = subst (λ (c : ChipParts). HasFrames c.state.port) still.chip whole.0 in
-    let got : AfterGiven (timed ++ x.entries) x.outer up down = goes.goes timed up down has (record { line = both.line; early = early }) in
-    let up_grows : GrowsChip up got.up_later = got.chip_grows in
+    let got : AfterGiven steps (timed ++ x.entries) x.outer up down = goes.goes timed up down has (record { line = both.line; early = early }) in
+    let up_grows : GrowsChip steps up got.up_later = got.chip_grows in
     let down_grows : GrowsHost down got.down_later = got.host_grows in (
       got.up_later,
       got.down_later,
       goes_both is_tick past x.entries m (happens m (Outside_does event)) (stamp x.outer x.entries) up got.up_later down got.down_later both cuts
+          (record { more = steps; is = refl; quiet = goes.quiet }) (up_grows.life ∙ ap (λ (l : List Step). l ++ steps) both.life)
           (outer_enters o x.outer x.entries (outcome_time m.outside event within)) (clock_stays m event within)
           (until_stays m event apart)
           (line_other (timed ++ x.entries) x.outer got.up_later got.down_later n (ap (λ (c : ChipParts). c.state.port) still.chip) (ap (λ (w : WayState). w.bytes) still.to_host) got.at.line)
@@ -221,11 +246,12 @@ pub record HostSays (m n : Machine) (units : List LineUnit) (told_all told : Lis
   pub to_chip : n.outside.outer.to_chip ≡ written_all m.outside.outer.to_chip units
   pub fit : AllByRecursion IsUnit units
 
-pub host_writes_both : (is_tick : Bool) (past : List Entry) (m n : Machine) (up down after_it : LinkNow) (units : List LineUnit) (told_all told : List Entry) → KnowsBoth is_tick past m up down → Cuts past
+pub host_writes_both : {did : List Step} (is_tick : Bool) (past : List Entry) (m n : Machine) (up down after_it : LinkNow) (units : List LineUnit) (told_all told : List Entry) → KnowsBoth did is_tick past m up down
+    → Cuts did past
     → HostSays m n units told_all told → KnowsLink Host ((past ++ ticked_entry m.outside.outer) ++ told) after_it → SameRound down after_it → after_it.lost ≡ down.lost → after_it.link ≡ n.host.state.side
     → KeepsItsLink after_it.life n.host.state → Brings n.outside.outer.to_host after_it.coming → HasFrames n.outside.outer.chip.state.port × AreAtRest n
-    → Cuts (past ++ told_all) × KnowsBoth is_tick (past ++ told_all) n (with_arriving up (arriving_all Host m.outside.outer.to_chip units)) after_it
-host_writes_both is_tick past m n up down after_it units told_all told both cuts says host same lost link keeps way whole =
+    → Cuts did (past ++ told_all) × KnowsBoth did is_tick (past ++ told_all) n (with_arriving up (arriving_all Host m.outside.outer.to_chip units)) after_it
+host_writes_both {did} is_tick past m n up down after_it units told_all told both cuts says host same lost link keeps way whole =
     let o : OuterState = m.outside.outer in
     let p : OuterState = n.outside.outer in
     let arriving : List (List ℕ) = arriving_all Host o.to_chip units in
@@ -243,6 +269,6 @@ host_writes_both is_tick past m n up down after_it units told_all told both cuts
       many = both.line.many ∙ ap (λ (l : List ℕ). length l) (sym lost);
       clears = apart.clears ∙ both.line.clears ∙ ap (λ (l : List ℕ). to_clear up.lost l) (sym lost);
     } in
-    goes_both is_tick past told m n told_all up later down after_it both cuts says.enters (ap (λ (t : Bool × ℕ × ℕ). t.1) says.time) (ap (λ (t : Bool × ℕ × ℕ). t.2) says.time) line
+    goes_both is_tick past told m n told_all up later down after_it both cuts (no_more did told) both.life says.enters (ap (λ (t : Bool × ℕ × ℕ). t.1) says.time) (ap (λ (t : Bool × ℕ × ℕ). t.2) says.time) line
     (record { is_tick = refl; clock = refl; until = refl }) same (subst (λ (w : WayState). Brings w (up.coming ++ arriving)) (sym says.to_chip) (brings_more Host units o.to_chip up.coming says.fit both.chip_way))
     link keeps whole

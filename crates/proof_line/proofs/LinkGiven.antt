@@ -1,8 +1,9 @@
 -- What the chip is given, in a line or before its own tick: what is known of both links goes on with it.
-use Rattle.std.proofs.Common.{◌≡◌, ◌⊎◌, inl, inr, ℕ, ◌+◌, true, List, [], ◌∷◌, ◌++◌, map, refl, sym, ap, ◌∙◌, subst, append_assoc, arith}
+use Rattle.std.proofs.Common.{◌≡◌, ◌⊎◌, inl, inr, ℕ, ◌+◌, true, List, [], ◌∷◌, ◌++◌, map, refl, sym, ap, ◌∙◌, subst, append-nil, append_assoc, arith}
 use Rattle.std.specs.Prelude.{Option, Some, None, slice_get}
 use Rattle.std.specs.List.{AllByRecursion}
 use Rattle.zw_base.specs.declared.property.Setting.{Setting}
+use Rattle.zw_base.proofs.Each.{all-append, all-weaker}
 use Rattle.serial_frame.specs.Frame.{FrameParts}
 use Rattle.serial_frame.specs.Stream.{Feeds, no_rest}
 use Rattle.serial_frame.specs.declared.unit.Unit.{Unit as LineUnit}
@@ -19,7 +20,7 @@ use Rattle.chip_sim.specs.Events.{ChipEvent, Heard, Done, Informed, after, outs}
 use Rattle.chip_sim.specs.Rules.{WaitsWell, begun_at}
 use Rattle.chip_sim.proofs.Histories.{well_all}
 use Rattle.device_sim.specs.State.{State}
-use Rattle.device_sim.specs.Event.{DeviceEvent, Wakes, Sets}
+use Rattle.device_sim.specs.Event.{DeviceEvent, Ticks, Wakes, Sets}
 use Rattle.air_frames.specs.Ages.{refusal_of}
 use Rattle.air_frames.specs.declared.ages.Refusal.{Refusal as RepeatRefusal}
 use Rattle.air_frames.specs.declared.ages.Refusal.TheVariants.{NeverSent, Forgotten, Stale}
@@ -32,22 +33,24 @@ use Rattle.zw_text.specs.declared.entry.Entry.{Entry}
 use Rattle.zw_text.specs.declared.entry.Entry.TheVariants as entry
 use Rattle.zw_text.specs.declared.entry.Refusal.{Refusal}
 use Rattle.zw_text.specs.declared.entry.Refusal.TheVariants as refusal
-use Rattle.outside_model.specs.State.{OuterState, Outside, Outcome, silent, tells}
+use Rattle.outside_model.specs.State.{OuterState, Outside, Outcome, and_then, silent, tells}
 use Rattle.outside_model.specs.Chip.{chip_does}
 use Rattle.outside_model.specs.Nodes.{listens_at}
 use Rattle.outside_model.specs.Results.{device_at}
-use Rattle.outside_model.specs.Devices.{acts_by_hand, shown_entries}
-use Rattle.outside_model.specs.Events.{OuterEvent, Repeats, Wakes_device, Sets_device, Shows, Joins, Discovers, Links, Loses, Loses_acks, Marks_loss, Marks_change, Cuts, outcome, repeats}
-use Rattle.proof_device.proofs.Results.{Gives as GivesSo, IsGiven}
+use Rattle.outside_model.specs.Devices.{acts_at, acts_by_hand, shown_entries}
+use Rattle.outside_model.specs.Events.{OuterEvent, Arrives, Device_ticks, Gives, Repeats, Wakes_device, Sets_device, Shows, Joins, Discovers, Links, Loses, Loses_acks, Marks_loss, Marks_change, Cuts, outcome, repeats}
+use Rattle.proof_device.proofs.Results.{IsGiven, IsSameChip}
 use Rattle.proof_serial.specs.Chip.{HasFrames}
+use Rattle.proof_walk.specs.Outside.{IsOfAir}
 use Rattle.proof_walk.proofs.Times.{does_chip}
-use Rattle.proof_line.specs.Links.{AtLine, Brings, LinkNow, MayOfChip, TakesTexts}
+use Rattle.proof_line.specs.Links.{AtLine, Brings, IsMute, LinkNow, MayOfChip, TakesTexts}
 use Rattle.proof_line.specs.Linked.{IsHandPlain}
 use Rattle.proof_line.proofs.Colliding.{discovers_port, joins_port}
-use Rattle.proof_line.proofs.ChipTelling.{IsArriving, arriving_goes, at_goes, does_tell, given_back, steps_go}
+use Rattle.proof_line.proofs.ChipTelling.{IsArriving, beside_air, does_tell, given_back}
+use Rattle.proof_line.proofs.ChipAccounts.{Account, Still, Both, Later, Does, Forgotten as ForgottenLink, Of_air, In_air, at_account, at_none, gives_account, outer_steps, repeat_steps, steps_account, steps_by}
 use Rattle.proof_line.proofs.LinkTime.{Apart, tells_apart}
-use Rattle.proof_line.proofs.LinkTold.{arriving_all, besides_known, brings_more}
-use Rattle.proof_line.proofs.LinkChip.{chip_event_arrives, chip_event_known, submits_hear_none, submits_tick_none}
+use Rattle.proof_line.proofs.LinkTold.{arriving_all, besides_known, brings_more, none_first}
+use Rattle.proof_line.proofs.LinkChip.{chip_event_arrives, chip_event_known, does_mute, submits_hear_none, submits_tick_none}
 use Rattle.proof_line.proofs.Tellings.{IsBeside}
 
 -- ---- what is known
@@ -56,8 +59,9 @@ pub record AtChip (past : List Entry) (o : OuterState) (up down : LinkNow) : Typ
   pub line : AtLine past o up down
   pub early : up.is_tick ≡ true → ticks_of up.round ≡ 0
 
--- of the chip's, only what it did grows; of the host's, what is on its way
-pub record GrowsChip (old new : LinkNow) : Type 0 where
+-- of the chip's, only what it did grows, by these steps; of the host's, what is on its way
+pub record GrowsChip (steps : List Step) (old new : LinkNow) : Type 0 where
+  pub life : new.life ≡ old.life ++ steps
   pub is_tick : new.is_tick ≡ old.is_tick
   pub clock : new.clock ≡ old.clock
   pub until : new.until ≡ old.until
@@ -72,17 +76,18 @@ pub record GrowsHost (old new : LinkNow) : Type 0 where
   pub round : new.round ≡ old.round
   pub link : new.link ≡ old.link
 
-pub record AfterGiven (all : List Entry) (o : OuterState) (up down : LinkNow) : Type 0 where
+pub record AfterGiven (steps : List Step) (all : List Entry) (o : OuterState) (up down : LinkNow) : Type 0 where
   pub up_later : LinkNow
   pub down_later : LinkNow
   pub at : AtChip all o up_later down_later
-  pub chip_grows : GrowsChip up up_later
+  pub chip_grows : GrowsChip steps up up_later
   pub host_grows : GrowsHost down down_later
 
--- where the frames that the chip then has are such as the format carries
-pub record GoesGiven (o : OuterState) (x : Outcome) : Type 0 where
+-- by these steps of the chip's link, where the frames that the chip then has are such as the format carries; where nothing is told nothing was written
+pub record GoesGiven (steps : List Step) (o : OuterState) (x : Outcome) : Type 0 where
+  pub quiet : x.entries ≡ [] → AllByRecursion IsMute steps
   pub back : HasFrames x.outer.chip.state.port → HasFrames o.chip.state.port
-  pub goes : (past : List Entry) (up down : LinkNow) → HasFrames x.outer.chip.state.port → AtChip past o up down → AfterGiven (past ++ x.entries) x.outer up down
+  pub goes : (past : List Entry) (up down : LinkNow) → HasFrames x.outer.chip.state.port → AtChip past o up down → AfterGiven steps (past ++ x.entries) x.outer up down
 
 -- ---- lists
 
@@ -128,20 +133,21 @@ module _ (past : List Entry) (o : OuterState) (up down : LinkNow) where
       }
 
   -- nothing grows
-  just : (told : List Entry) → AtChip (past ++ told) o up down → AfterGiven (past ++ told) o up down
+  just : (told : List Entry) → AtChip (past ++ told) o up down → AfterGiven [] (past ++ told) o up down
   just told at = record {
     up_later = up;
     down_later = down;
     at = at;
-    chip_grows = record { is_tick = refl; clock = refl; until = refl; coming = refl; ticks = refl };
+    chip_grows = record { life = sym (append-nil up.life); is_tick = refl; clock = refl; until = refl; coming = refl; ticks = refl };
     host_grows = record { is_tick = refl; clock = refl; until = refl; life = refl; round = refl; link = refl };
   }
 
 -- one after the other
-then_given : (middle all : List Entry) (p q : OuterState) (up down : LinkNow) (first : AfterGiven middle p up down) → AfterGiven all q first.up_later first.down_later → AfterGiven all q up down
-then_given middle all p q up down first later =
-    let a : GrowsChip up first.up_later = first.chip_grows in
-    let b : GrowsChip first.up_later later.up_later = later.chip_grows in
+then_given : (one more : List Step) (middle all : List Entry) (p q : OuterState) (up down : LinkNow) (first : AfterGiven one middle p up down) → AfterGiven more all q first.up_later first.down_later
+    → AfterGiven (one ++ more) all q up down
+then_given one more middle all p q up down first later =
+    let a : GrowsChip one up first.up_later = first.chip_grows in
+    let b : GrowsChip more first.up_later later.up_later = later.chip_grows in
     let c : GrowsHost down first.down_later = first.host_grows in
     let d : GrowsHost first.down_later later.down_later = later.host_grows in
     record {
@@ -149,6 +155,7 @@ then_given middle all p q up down first later =
       down_later = later.down_later;
       at = later.at;
       chip_grows = record {
+        life = b.life ∙ ap (λ (l : List Step). l ++ more) a.life ∙ append_assoc up.life one more;
         is_tick = b.is_tick ∙ a.is_tick;
         clock = b.clock ∙ a.clock;
         until = b.until ∙ a.until;
@@ -166,8 +173,9 @@ then_given middle all p q up down first later =
     }
 
 -- entries beside the line, where the chip's port and the bytes on their way to the host stay
-pub beside_given : (o : OuterState) (x : Outcome) → AllByRecursion IsBeside x.entries → x.outer.to_host.bytes ≡ o.to_host.bytes → x.outer.chip.state.port ≡ o.chip.state.port → GoesGiven o x
+pub beside_given : (o : OuterState) (x : Outcome) → AllByRecursion IsBeside x.entries → x.outer.to_host.bytes ≡ o.to_host.bytes → x.outer.chip.state.port ≡ o.chip.state.port → GoesGiven [] o x
 beside_given o x beside to_host port = record {
+  quiet = λ none. tt;
   back = λ has. subst HasFrames port has;
   goes = λ past up down has at.
       just past x.outer up down x.entries (at_other (past ++ x.entries) o up down x.outer port to_host (record { line = line_beside past o up down x.entries beside at.line; early = at.early }));
@@ -175,7 +183,7 @@ beside_given o x beside to_host port = record {
 
 -- ---- an event that it is given
 
-event_given : (o : OuterState) (e : ChipEvent) → IsGiven e → link_event o.chip.state e ≡ [] → ((up : LinkNow) → (up.is_tick ≡ true → ticks_of up.round ≡ 0) → MayOfChip up e) → GoesGiven o (chip_does o e)
+event_given : (o : OuterState) (e : ChipEvent) → IsGiven e → link_event o.chip.state e ≡ [] → ((up : LinkNow) → (up.is_tick ≡ true → ticks_of up.round ≡ 0) → MayOfChip up e) → GoesGiven (link_steps o.chip.state e) o (chip_does o e)
 event_given o e given none may =
     let s : ChipState = o.chip.state in
     let x : Outcome = chip_does o e in
@@ -187,6 +195,7 @@ event_given o e given none may =
     let mute : items_of steps ≡ [] = ap (λ (l : List Step). items_of l) are ∙ submits_hear_none (begun_at s e) in
     let quiet : ticks_of steps ≡ 0 = ap (λ (l : List Step). ticks_of l) are ∙ submits_tick_none (begun_at s e) in
     record {
+      quiet = does_mute o e;
       back = λ has. (given_back s e given (subst (λ (t : ChipState). HasFrames t.port) is has)).0;
       goes = λ past up down has at.
           let line = at.line in
@@ -212,7 +221,7 @@ event_given o e given none may =
               };
               early = λ tick. same ∙ at.early tick;
             };
-            chip_grows = record { is_tick = refl; clock = refl; until = refl; coming = refl; ticks = same };
+            chip_grows = record { life = refl; is_tick = refl; clock = refl; until = refl; coming = refl; ticks = same };
             host_grows = record { is_tick = refl; clock = refl; until = refl; life = refl; round = refl; link = refl };
           };
     }
@@ -220,7 +229,7 @@ event_given o e given none may =
     hears_none : (up : LinkNow) (items : List Item) → items ≡ [] → TakesTexts items up.coming up.coming
     hears_none up items is_none = subst (λ (l : List Item). TakesTexts l up.coming up.coming) (sym is_none) refl
 
-given_goes : (o : OuterState) (event : ChipEvent) → IsGiven event → GoesGiven o (chip_does o event)
+given_goes : (o : OuterState) (event : ChipEvent) → IsGiven event → GoesGiven (link_steps o.chip.state event) o (chip_does o event)
 given_goes o (Heard n payload) given = event_given o (Heard n payload) given refl (λ up early. early)
 given_goes o (Done status) given = event_given o (Done status) given refl (λ up early. early)
 given_goes o (Informed n profile) given = event_given o (Informed n profile) given refl (λ up early. early)
@@ -228,68 +237,85 @@ given_goes o event given = absurd given
 
 -- ---- all that it may be given
 
-given_known : GivesSo GoesGiven
-given_known = record {
-  still = λ o p is. beside_given o (silent p) tt (ap (λ (w : WayState). w.bytes) is.to_host) (ap (λ (s : ChipState). s.port) is.chip);
-  both = λ o first next one later. record {
-    back = λ has. one.back ((later first.outer).back has);
-    goes = λ past up down has at.
-        let before = one.goes past up down ((later first.outer).back has) at in
-        let after_it = (later first.outer).goes (past ++ first.entries) before.up_later before.down_later has before.at in
-        then_given (past ++ first.entries) (past ++ (first.entries ++ (next first.outer).entries)) first.outer (next first.outer).outer up down before
-        (subst (λ (l : List Entry). AfterGiven l (next first.outer).outer before.up_later before.down_later) (append_assoc past first.entries (next first.outer).entries) after_it);
-  };
-  later = λ o p x is goes. record {
-    back = λ has. subst HasFrames (ap (λ (s : ChipState). s.port) is.chip) (goes.back has);
-    goes = λ past up down has at. goes.goes past up down has (at_other past o up down p (ap (λ (s : ChipState). s.port) is.chip) (ap (λ (w : WayState). w.bytes) is.to_host) at);
-  };
-  does = given_goes;
-  forgotten = λ o a b. beside_given o _ ((tt, refl), tt) refl refl;
+both_given : (one more : List Step) (o : OuterState) (first : Outcome) (next : OuterState → Outcome) → GoesGiven one o first → GoesGiven more first.outer (next first.outer)
+    → GoesGiven (one ++ more) o (and_then first next)
+both_given one more o first next before later = record {
+  quiet = λ none.
+      let both = none_first first.entries (next first.outer).entries none in
+      all-append IsMute one more (before.quiet both.0) (later.quiet both.1);
+  back = λ has. before.back (later.back has);
+  goes = λ past up down has at.
+      let here = before.goes past up down (later.back has) at in
+      let after_it = later.goes (past ++ first.entries) here.up_later here.down_later has here.at in
+      then_given one more (past ++ first.entries) (past ++ (first.entries ++ (next first.outer).entries)) first.outer (next first.outer).outer up down here
+      (subst (λ (l : List Entry). AfterGiven more l (next first.outer).outer here.up_later here.down_later) (append_assoc past first.entries (next first.outer).entries) after_it);
 }
 
-still_given : (o : OuterState) (x : Outcome) → AllByRecursion IsBeside x.entries → x.outer.to_host ≡ o.to_host → x.outer.to_chip ≡ o.to_chip → x.outer.chip.state.port ≡ o.chip.state.port → GoesGiven o x
-still_given o x beside to_host to_chip port = beside_given o x beside (ap (λ (w : WayState). w.bytes) to_host) port
+later_given : (steps : List Step) (o p : OuterState) (x : Outcome) → IsSameChip o p → GoesGiven steps p x → GoesGiven steps o x
+later_given steps o p x is goes = record {
+  quiet = goes.quiet;
+  back = λ has. subst HasFrames (ap (λ (s : ChipState). s.port) is.chip) (goes.back has);
+  goes = λ past up down has at. goes.goes past up down has (at_other past o up down p (ap (λ (s : ChipState). s.port) is.chip) (ap (λ (w : WayState). w.bytes) is.to_host) at);
+}
 
-in_air_given : (o : OuterState) (air : AirState) (x : Outcome) → GoesGiven (record o { air = air }) x → GoesGiven o x
-in_air_given o air x goes = record {
+in_air_given : (steps : List Step) (o : OuterState) (air : AirState) (x : Outcome) → GoesGiven steps (record o { air = air }) x → GoesGiven steps o x
+in_air_given steps o air x goes = record {
+  quiet = goes.quiet;
   back = λ has. goes.back has;
   goes = λ past up down has at. goes.goes past up down has (at_other past o up down (record o { air = air }) refl refl at);
 }
 
+given_by : {o : OuterState} {x : Outcome} (account : Account o x) → GoesGiven (steps_by account) o x
+given_by (Still o p is) = beside_given o (silent p) tt (ap (λ (w : WayState). w.bytes) is.to_host) (ap (λ (s : ChipState). s.port) is.chip)
+given_by (Both o first next one later) = both_given (steps_by one) (steps_by later) o first next (given_by one) (given_by later)
+given_by (Later o p x is account) = later_given (steps_by account) o p x is (given_by account)
+given_by (Does o event given) = given_goes o event given
+given_by (ForgottenLink o a b) = beside_given o _ ((tt, refl), tt) refl refl
+given_by (Of_air o x of_air to_host to_chip port) =
+    beside_given o x (all-weaker IsOfAir IsBeside beside_air x.entries of_air) (ap (λ (w : WayState). w.bytes) to_host) port
+given_by (In_air o air x account) = in_air_given (steps_by account) o air x (given_by account)
+
+at_given : (o : OuterState) (found : Option State) (event : DeviceEvent) (route : Option Route) → GoesGiven [] o (acts_at o found event route)
+at_given o found event route = subst (λ (l : List Step). GoesGiven l o (acts_at o found event route)) (at_none o found event route) (given_by (at_account o found event route))
+
 -- in a tick
-pub arriving_given : (w : Outside) (event : OuterEvent) → IsArriving event → GoesGiven w.outer (outcome w event)
-arriving_given w event arriving = arriving_goes GoesGiven given_known still_given in_air_given w event arriving
+pub arriving_given : (w : Outside) (event : OuterEvent) → IsArriving event → GoesGiven (outer_steps w event) w.outer (outcome w event)
+unfolding outcome outer_steps
+arriving_given w (Arrives drawn route) arriving = given_by (steps_account w (mesh.Arrives drawn route))
+arriving_given w (Gives route) arriving = given_by (gives_account w route)
+arriving_given w (Device_ticks place drawn route) arriving = at_given w.outer (slice_get w.devices place) (Ticks drawn) route
+arriving_given w event arriving = absurd arriving
 
 -- ---- by hand
 
--- what happens is refused, and nothing else; or it goes on
-abbrev pub HandGoes : OuterState → Outcome → Type 0
-HandGoes o x = ((refused : Refusal) × (x ≡ tells o (entry.Refused refused ∷ []))) ⊎ GoesGiven o x
+-- what happens is refused, and nothing else; or it goes on by these steps
+abbrev pub HandGoes : List Step → OuterState → Outcome → Type 0
+HandGoes steps o x = ((refused : Refusal) × (x ≡ tells o (entry.Refused refused ∷ [])) × (steps ≡ [])) ⊎ GoesGiven steps o x
 
-repeats_go : (w : Outside) (refused : Option RepeatRefusal) (step : AirStep) → HandGoes w.outer (repeats w refused step)
-repeats_go w None step = inr (steps_go GoesGiven given_known still_given in_air_given w step)
-repeats_go w (Some NeverSent) step = inl (refusal.NeverSent, refl)
-repeats_go w (Some Forgotten) step = inl (refusal.Forgotten, refl)
-repeats_go w (Some (Stale later)) step = inl (refusal.Stale later, refl)
+repeats_go : (w : Outside) (refused : Option RepeatRefusal) (step : AirStep) → HandGoes (repeat_steps w refused step) w.outer (repeats w refused step)
+repeats_go w None step = inr (given_by (steps_account w step))
+repeats_go w (Some NeverSent) step = inl (refusal.NeverSent, refl, refl)
+repeats_go w (Some Forgotten) step = inl (refusal.Forgotten, refl, refl)
+repeats_go w (Some (Stale later)) step = inl (refusal.Stale later, refl, refl)
 
-hand_acts : (w : Outside) (place : Option ℕ) (event : DeviceEvent) (route : Option Route) → HandGoes w.outer (acts_by_hand w.outer w.devices place event route)
-hand_acts w None event route = inl (refusal.NoDevice, refl)
-hand_acts w (Some place) event route = inr (at_goes GoesGiven given_known still_given in_air_given w.outer (slice_get w.devices place) event route)
+hand_acts : (w : Outside) (place : Option ℕ) (event : DeviceEvent) (route : Option Route) → HandGoes [] w.outer (acts_by_hand w.outer w.devices place event route)
+hand_acts w None event route = inl (refusal.NoDevice, refl, refl)
+hand_acts w (Some place) event route = inr (at_given w.outer (slice_get w.devices place) event route)
 
-shows : (o : OuterState) (node : ℕ) (device : Option State) → HandGoes o (tells o (shown_entries node device))
-shows o node None = inl (refusal.NoDevice, refl)
+shows : (o : OuterState) (node : ℕ) (device : Option State) → HandGoes [] o (tells o (shown_entries node device))
+shows o node None = inl (refusal.NoDevice, refl, refl)
 shows o node (Some device) = inr (beside_given o (tells o (shown_entries node (Some device))) (settings _) refl refl)
   where
     settings : (l : List Setting) → AllByRecursion IsBeside (map (λ (setting : Setting). entry.Device node setting) l)
     settings [] = tt
     settings (one ∷ l) = ((tt, refl), settings l)
 
-pub joins_given : (w : Outside) (node : ℕ) → GoesGiven w.outer (outcome w (Joins node))
+pub joins_given : (w : Outside) (node : ℕ) → GoesGiven [] w.outer (outcome w (Joins node))
 unfolding outcome
 joins_given w node = beside_given w.outer (outcome w (Joins node)) tt refl (joins_port w.outer node (listens_at (device_at w.devices (place_of node w.devices))))
 
-pub hand_goes : (w : Outside) (event : OuterEvent) → IsHandPlain event → HandGoes w.outer (outcome w event)
-unfolding outcome
+pub hand_goes : (w : Outside) (event : OuterEvent) → IsHandPlain event → HandGoes (outer_steps w event) w.outer (outcome w event)
+unfolding outcome outer_steps
 hand_goes w (Repeats number drawn route) plain = repeats_go w (refusal_of w.outer.air.frames number) (mesh.Repeats number drawn route)
 hand_goes w (Wakes_device node route) plain = hand_acts w (place_of node w.devices) Wakes route
 hand_goes w (Sets_device node value route) plain = hand_acts w (place_of node w.devices) (Sets value) route

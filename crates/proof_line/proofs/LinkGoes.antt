@@ -9,7 +9,7 @@ use Rattle.serial_frame.specs.declared.unit.Unit.TheVariants.{Ack, Nak, Can, Fra
 use Rattle.serial_frame.specs.declared.item.Item.{Item}
 use Rattle.serial_frame.specs.declared.item.Item.TheVariants.{Good, Refused}
 use Rattle.serial_frame.specs.declared.item.Refusal.TheVariants.{Stray, BadLength, BadSum, BadKind, Aborted}
-use Rattle.serial_link.specs.State.{Side as LinkSide, answer, hear, hear_outs, outs_ended, outs_heard, outs_refused, outs_ticked, pause_after, tick_side, turn_ended, turn_ticked}
+use Rattle.serial_link.specs.State.{Side as LinkSide, answer, hear, hear_outs, outs_ended, outs_heard, outs_ticked, pause_after, tick_side, turn_ended, turn_ticked}
 use Rattle.serial_link.specs.Rules.{Step, SideObeys, heard as hears, ticked as ticks, asked as asks_collision, submitted, tick_count, ticks_of}
 use Rattle.serial_link.specs.Calls.{submit_step, tick_step}
 use Rattle.serial_link.specs.declared.turn.Turn.{Turn}
@@ -32,6 +32,7 @@ use Rattle.zw_words.specs.declared.side.Side.{Side}
 use Rattle.zw_words.specs.declared.side.Side.TheVariants.{Host, Chip}
 use Rattle.law_wire.specs.Links.{MayDo, MayDoInTick, end_quietly, is_quiet_tick}
 use Rattle.proof_line.specs.Links.{IsOne, LinkNow, MayGo, MayOfChip, MayStep, stepped}
+use Rattle.proof_traffic.proofs.HostLinks.{refused_mute as none_refused}
 
 -- ---- each step writes at most one unit
 
@@ -46,11 +47,6 @@ none_ended copies = by (copies == 4)
     by : (b : Bool) → flat_map link_unit (if b then outs_ended 4 else []) ≡ []
     by true = refl
     by false = refl
-
-none_refused : (turn : Turn) → flat_map link_unit (outs_refused turn) ≡ []
-none_refused Idle = refl
-none_refused (Copied f copies count) = none_ended copies
-none_refused (Paused f copies count) = refl
 
 none_heard : (turn : Turn) (item : Item) → flat_map link_unit (outs_heard turn item) ≡ []
 none_heard turn (Good Ack) = none_acknowledged turn

@@ -1,5 +1,5 @@
 -- What is known of a link goes on with steps, units and events of the serial line, and in the end is the law.
-use Rattle.std.proofs.Common.{◌≡◌, ◌≤◌, ℕ, ◌+◌, ◌-◌, ◌&&◌, not, nat_lt, Bool, true, false, if◌then◌else◌, List, [], ◌∷◌, ◌++◌, length, refl, sym, ap, ◌∙◌, subst, append-nil, append_assoc, length-append, arith}
+use Rattle.std.proofs.Common.{◌≡◌, ◌≤◌, ℕ, ◌+◌, ◌-◌, ◌&&◌, not, nat_lt, Bool, true, false, if◌then◌else◌, List, [], ◌∷◌, ◌++◌, map, length, refl, sym, ap, ◌∙◌, subst, append-nil, append_assoc, length-append, arith}
 use Rattle.std.specs.List.{flat_map, list_any}
 use Rattle.zw_base.proofs.Each.{all-append}
 use Rattle.serial_frame.specs.Items.{unit_text}
@@ -17,7 +17,7 @@ use Rattle.law_transcript.specs.Restarts.{is_restart}
 use Rattle.law_wire.specs.Clearing.{lost_by}
 use Rattle.law_wire.specs.Serial.{SerialEvent, arriving_of, serial_events}
 use Rattle.law_wire.specs.Serial.SerialEvent.{Line_begins, Tick_begins, Writes}
-use Rattle.law_wire.specs.Links.{HasTicked, KeepsLink, LeavesFew, Moment, Round, WriteLast, arrivals_of, ends_round, most_left, stall_by, MayDo, Obeys, WritesThere, arrival_of, clock_in, is_stalled, moments_of, other, round_of, steps_in, texts_of, unit_by}
+use Rattle.law_wire.specs.Links.{HasTicked, KeepsLink, LeavesFew, Moment, Round, WriteLast, arrivals_of, ends_round, most_left, stall_by, MayDo, Obeys, WritesThere, arrival_of, clock_in, is_stalled, joined, moments_of, other, round_of, steps_in, texts_of, unit_by}
 use Rattle.proof_line.specs.Links.{Does, Hears, IsAt, IsMute, KeepsSoFar, KnowsEvents, KnowsLink, LinkNow, MayEnd, MayEndNow, MayHear, MayStep, TakesTexts, begun_line, begun_tick, life_of, most_of, round_steps, stalls_in, stepped, with_arriving}
 use Rattle.proof_line.proofs.Moments.{arrivals_one, moments_one, round_one}
 use Rattle.proof_line.proofs.Serials.{beside_serials, unit_serials}
@@ -51,6 +51,17 @@ keeps_link side past now knows = record {
 pub keeps_lost : (side : Side) (past : List Entry) (now : LinkNow) (knows : KnowsLink side past now) → lost_by side past (keeps_link side past now knows).parts ≡ now.lost
 unfolding keeps_link
 keeps_lost side past now knows = knows.at.lost
+
+-- the parts are what it did, but for what it did since the last event
+parts_again : (events : List SerialEvent) (parts : List (List Step)) → length parts ≡ length events → map (λ (one : Moment). one.steps) (moments_of events parts) ≡ parts
+parts_again [] [] same = refl
+parts_again [] (part ∷ parts) same = absurd (omega (arith, same))
+parts_again (event ∷ events) [] same = absurd (omega (arith, same))
+parts_again (event ∷ events) (part ∷ parts) same = ap (λ (l : List (List Step)). part ∷ l) (parts_again events parts (omega (arith, same)))
+
+pub keeps_parts : (past : List Entry) (now : LinkNow) (knows : KnowsLink Chip past now) → now.life ≡ joined (keeps_link Chip past now knows).parts ++ knows.steps
+unfolding keeps_link
+keeps_parts past now knows = sym knows.at.life ∙ ap (λ (l : List (List Step)). joined l ++ knows.steps) (parts_again (serial_events past) knows.parts knows.each)
 
 -- ---- a step
 

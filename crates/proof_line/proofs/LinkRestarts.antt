@@ -6,7 +6,7 @@ use Rattle.std.proofs.lemmas.Bool.{ltb-true, ltb-false}
 use Rattle.std.proofs.lemmas.List.{map-append}
 use Rattle.zw_base.proofs.Each.{all-append}
 use Rattle.serial_link.specs.State.{Side as LinkSide}
-use Rattle.serial_link.specs.Rules.{SideObeys}
+use Rattle.serial_link.specs.Rules.{SideObeys, Step}
 use Rattle.chip_sim.specs.State.{ChipParts}
 use Rattle.chip_sim.specs.Waiting.{PortState}
 use Rattle.chip_sim.specs.Rules.{WaitsWell}
@@ -19,6 +19,7 @@ use Rattle.zw_text.specs.declared.entry.Entry.{Entry}
 use Rattle.zw_text.specs.declared.entry.Entry.TheVariants as entry
 use Rattle.zw_text.specs.Transcript.{line_of}
 use Rattle.law_transcript.specs.Restarts.{is_restart, begins_refused}
+use Rattle.law_wire.specs.Asked.{course_of}
 use Rattle.law_wire.specs.Clearing.{AreTold, Cleared_there, bytes_in, cleared, clears, clears_first, goes_on_after, to_clear}
 use Rattle.law_wire.specs.Serial.{SerialEvent, serial_events}
 use Rattle.law_wire.specs.Serial.SerialEvent.{Line_begins}
@@ -28,6 +29,8 @@ use Rattle.host_model.specs.State.{HostParts, HostState}
 use Rattle.outside_model.specs.State.{OuterState}
 use Rattle.outside_model.specs.Events.{Clears_pipe, cleared_entries, outcome, ticked_entry}
 use Rattle.world_model.specs.State.{Machine}
+use Rattle.zw_text.specs.declared.line.Line.{Line}
+use Rattle.zw_text.specs.declared.entry.Refusal.{Refusal}
 use Rattle.world_model.specs.Events.{Event, Outside_does, Refuses, Restarts, OpensFrom, happens, entries, May}
 use Rattle.proof_device.proofs.Entered.{IsCleared}
 use Rattle.serial_frame.specs.Stream.{Rest}
@@ -46,11 +49,12 @@ use Rattle.proof_line.proofs.Serials.{refused_same, serials_grow, told_grows}
 use Rattle.proof_line.proofs.LinkLines.{Says, TellsNone, chip_restarts, host_restarts, restarted, says}
 use Rattle.proof_line.proofs.LinkTime.{first_same, timed_clears}
 use Rattle.proof_line.proofs.LinkTold.{brings_none}
-use Rattle.proof_line.proofs.LinkEnds.{cuts_of, line_cuts, some_told}
+use Rattle.proof_line.proofs.ChipAccounts.{event_steps, outer_steps}
+use Rattle.proof_line.proofs.LinkEnds.{cuts_as, cuts_of, line_cuts, some_told}
 use Rattle.proof_line.proofs.LinkEvents.{clock_stays, until_stays, whole_both}
 use Rattle.proof_line.proofs.LinkTicks.{Then}
 use Rattle.proof_line.proofs.LinkBegins.{done_of, begun_serials}
-use Rattle.proof_line.proofs.LinkPlain.{begun_whole, refuses}
+use Rattle.proof_line.proofs.LinkPlain.{begun_whole, refuses, then_more}
 
 -- ---- bytes that were lost, as entries
 
@@ -146,7 +150,7 @@ clear_more (x ∷ us) (y ∷ ds) u d same =
 -- so much of a restart is told, and this is to be
 restart_cuts : (before : List Entry) (words : List ℕ) (told more : List Entry) (up down : LinkNow) (ups downs : List ℕ) (u d : ℕ) → is_restart (line_of (entry.Said words)) ≡ true → AllByRecursion IsCleared told
     → cleared Host u ++ cleared Chip d ≡ told ++ more → KnowsLink Chip (before ++ entry.Said words ∷ told) up → KnowsLink Host (before ++ entry.Said words ∷ told) down → up.lost ≡ ups ++ u ∷ []
-    → down.lost ≡ downs ++ d ∷ [] → length ups ≡ length downs → cleared_in before ≡ to_clear ups downs → Cuts (before ++ entry.Said words ∷ told)
+    → down.lost ≡ downs ++ d ∷ [] → length ups ≡ length downs → cleared_in before ≡ to_clear ups downs → Cuts up.life (before ++ entry.Said words ∷ told)
 restart_cuts before words told more up down ups downs u d restarts all is chip host up_lost down_lost many clears_so =
     let (there, are, old) = last_restart before words told restarts all in
     let dues : to_clear up.lost down.lost ≡ to_clear ups downs ++ (told ++ more) ∷ [] =
@@ -157,7 +161,7 @@ restart_cuts before words told more up down ups downs u d restarts all is chip h
 
 -- ---- the words of a restart
 
-module _ (before : List Entry) (words : List ℕ) (first : Machine) (is_tick : Bool) (up down : LinkNow) (both : KnowsBoth is_tick before first up down) (may : MayBothEnd up down)
+module _ {did : List Step} (before : List Entry) (words : List ℕ) (first : Machine) (is_tick : Bool) (up down : LinkNow) (both : KnowsBoth did is_tick before first up down) (may : MayBothEnd up down)
     (read : line_of (entry.Said words) ≡ lines.Restart ∷ []) (due : due_from 0 before ≡ first.outside.outer.clock) where
   abbrev timed : List Entry
   timed = before ++ ticked_entry first.outside.outer
@@ -188,7 +192,7 @@ module _ (before : List Entry) (words : List ℕ) (first : Machine) (is_tick : B
   cleared_before = sym (timed_clears before first.outside.outer) ∙ both.line.clears
 
   -- whatever host goes on
-  pub restart_said : (new : LinkSide) → SideObeys [] new → Cuts all
+  pub restart_said : (new : LinkSide) → SideObeys [] new → Cuts up.life all
   restart_said new obeys =
       restart_cuts before words [] (cleared Host (bytes_in up.coming) ++ cleared Chip (bytes_in down.coming)) (restarted up up.life up.link) (restarted down [] new) up.lost down.lost (bytes_in up.coming) (bytes_in down.coming)
       (ap is_restart read) tt refl chip_on (host_on new obeys) refl refl both.line.many cleared_before
@@ -207,25 +211,25 @@ begun_is_whole first m begun whole = record {
 }
 
 -- the next event, with the events and the entries that follow
-abbrev Next : List Event → List Entry → Machine → Event → Type 0
-Next left past m event = Then (LinksRestarting left) past m event
+abbrev Next : List Step → List Event → List Entry → Machine → Event → Type 0
+Next did left past m event = Then did (LinksRestarting did left) past m event
 
 module _ (opened_keeps : (keys : Keys) (records : List Record) → KeepsItsLink [] (opened keys records)) where
   opens_so : (keys : Keys) (records : Option (List (List ℕ))) (state : HostState) → IsSome records → OpensFrom keys records state → KeepsItsLink [] state
   opens_so keys None state some opens = absurd (let none : false ≡ true = some in cc)
   opens_so keys (Some texts) state some (records, texts_are, legal, is) = subst (λ (h : HostState). KeepsItsLink [] h) (sym is) (opened_keeps keys records)
 
-  restarts_goes : (past : List Entry) (m : Machine) (state : HostState) → May m (Restarts state) → IsOrderly m (Restarts state) → Cuts past → LinksBegun lines.Restart past m
-      → Then (LinksClearing false) past m (Restarts state)
+  restarts_goes : {did : List Step} (past : List Entry) (m : Machine) (state : HostState) → May m (Restarts state) → IsOrderly m (Restarts state) → Cuts did past → LinksBegun did lines.Restart past m
+      → Then did (LinksClearing did false) past m (Restarts state)
   unfolding happens entries May
-  restarts_goes past m state may orderly cuts (first, just, begun) =
+  restarts_goes {did} past m state may orderly cuts (first, just, begun) =
       let (up, down, both, ends) = just.both in
       let o : OuterState = first.outside.outer in
       let whole : IsWhole m = begun_is_whole first m begun (whole_both just.is_tick just.before first up down both) in
       let rests : AreAtRest m = (begun_whole just.is_tick just.before first m up down both begun).1 in
       let keeps : KeepsItsLink [] state = opens_so m.keys m.records state orderly.asks may in
       let is : past ++ [] ≡ just.before ++ entry.Said just.words ∷ [] = append-nil past ∙ just.is in (
-        subst Cuts (sym (append-nil past)) cuts,
+        subst (Cuts did) (sym (append-nil past)) cuts,
         record {
           before = just.before;
           words = just.words;
@@ -239,6 +243,7 @@ module _ (opened_keeps : (keys : Keys) (records : List Record) → KeepsItsLink 
           is = is;
           chip = subst (λ (l : List Entry). KnowsLink Chip l (restarted up up.life up.link)) (sym is) (chip_on just.before just.words first just.is_tick up down both ends just.read just.due);
           host = subst (λ (l : List Entry). KnowsLink Host l (restarted down [] state.side)) (sym is) (host_on just.before just.words first just.is_tick up down both ends just.read just.due state.side keeps.obeys);
+          life = both.life;
           chip_is = (refl, refl, refl);
           host_is = (refl, refl, refl);
           many = both.line.many;
@@ -259,10 +264,10 @@ module _ (opened_keeps : (keys : Keys) (records : List Record) → KeepsItsLink 
       )
 
 -- the pipe to the chip is cleared
-clears_host : (past : List Entry) (m : Machine) → May m (Outside_does (Clears_pipe Host)) → IsOrderly m (Outside_does (Clears_pipe Host)) → LinksClearing false past m
-    → Then (LinksClearing true) past m (Outside_does (Clears_pipe Host))
+clears_host : {did : List Step} (past : List Entry) (m : Machine) → May m (Outside_does (Clears_pipe Host)) → IsOrderly m (Outside_does (Clears_pipe Host)) → LinksClearing did false past m
+    → Then did (LinksClearing did true) past m (Outside_does (Clears_pipe Host))
 unfolding happens outcome
-clears_host past m may orderly known =
+clears_host {did} past m may orderly known =
     let event : Event = Outside_does (Clears_pipe Host) in
     let n : Machine = happens m event in
     let u : ℕ = known.to_chip in
@@ -276,10 +281,10 @@ clears_host past m may orderly known =
     let of_host : KnowsLink Host (past ++ told) known.down = lost_known Host past told known.down (all_lost Host u) known.host in
     let clock = clock_stays m (Clears_pipe Host) tt in
     let until = until_stays m (Clears_pipe Host) tt in
-    subst (λ (l : List Entry). Cuts (past ++ l) × LinksClearing true (past ++ l) n) (sym alone) (
-      subst Cuts (sym is)
-          (restart_cuts known.before known.words told (cleared Chip known.to_host) known.up known.down known.ups known.downs u known.to_host (ap is_restart known.read) (all_lost Host u) refl
-          (subst (λ (l : List Entry). KnowsLink Chip l known.up) is of_chip) (subst (λ (l : List Entry). KnowsLink Host l known.down) is of_host) known.chip_is.2 known.host_is.2 known.many known.clears),
+    subst (λ (l : List Entry). Cuts did (past ++ l) × LinksClearing did true (past ++ l) n) (sym alone) (
+      subst (Cuts did) (sym is)
+          (cuts_as known.up.life did (known.before ++ entry.Said known.words ∷ told) (ap course_of known.life) (restart_cuts known.before known.words told (cleared Chip known.to_host) known.up known.down known.ups known.downs u known.to_host (ap is_restart known.read) (all_lost Host u) refl
+          (subst (λ (l : List Entry). KnowsLink Chip l known.up) is of_chip) (subst (λ (l : List Entry). KnowsLink Host l known.down) is of_host) known.chip_is.2 known.host_is.2 known.many known.clears)),
       record {
         before = known.before;
         words = known.words;
@@ -293,6 +298,7 @@ clears_host past m may orderly known =
         is = is;
         chip = of_chip;
         host = of_host;
+        life = known.life;
         chip_is = known.chip_is;
         host_is = known.host_is;
         many = known.many;
@@ -313,10 +319,10 @@ clears_host past m may orderly known =
     )
 
 -- and that to the host
-clears_chip : (past : List Entry) (m : Machine) → May m (Outside_does (Clears_pipe Chip)) → IsOrderly m (Outside_does (Clears_pipe Chip)) → LinksClearing true past m
-    → Then LinksDone past m (Outside_does (Clears_pipe Chip))
+clears_chip : {did : List Step} (past : List Entry) (m : Machine) → May m (Outside_does (Clears_pipe Chip)) → IsOrderly m (Outside_does (Clears_pipe Chip)) → LinksClearing did true past m
+    → Then did (LinksDone did) past m (Outside_does (Clears_pipe Chip))
 unfolding happens outcome
-clears_chip past m may orderly known =
+clears_chip {did} past m may orderly known =
     let event : Event = Outside_does (Clears_pipe Chip) in
     let n : Machine = happens m event in
     let u : ℕ = known.to_chip in
@@ -347,13 +353,14 @@ clears_chip past m may orderly known =
           ∙ ap (λ (l : List (List Entry)). l ++ both_told ∷ []) known.clears ∙ sym (clear_more known.ups known.downs u d known.many)
           ∙ sym (ap₂ (λ (a b : List ℕ). to_clear a b) known.chip_is.2 known.host_is.2);
     } in
-    let known_both : KnowsBoth false (past ++ told) n known.up known.down =
+    let known_both : KnowsBoth did false (past ++ told) n known.up known.down =
     record {
       line = subst (λ (l : List Entry). AtLine l n.outside.outer known.up known.down) (sym (ap (λ (l : List Entry). (past ++ told) ++ l) unticked ∙ append-nil (past ++ told))) line;
       behind = omega (arith, later);
       chip_way = subst (λ (l : List (List ℕ)). Brings n.outside.outer.to_chip l) (sym known.chip_is.1) (brings_none n.outside.outer.to_chip (none.1 ∙ known.chip_bytes));
       chip_time = record { clock = known.chip_time.clock ∙ sym clock; until = known.chip_time.until ∙ sym until };
       host_time = record { clock = known.host_time.clock ∙ sym clock; until = known.host_time.until ∙ sym until };
+      life = known.life;
       chip_round = known.chip_is.0;
       host_round = known.host_is.0;
       host_link = known.host_link;
@@ -361,8 +368,8 @@ clears_chip past m may orderly known =
       frames = (whole_after m event known.whole may (at_rest m event known.rests) orderly.writes).frames;
       rests = rests_after m event known.whole known.rests may tt orderly.writes;
     } in
-    subst (λ (l : List Entry). Cuts (past ++ l) × LinksDone (past ++ l) n) (sym alone)
-    (line_cuts (past ++ told) n.outside.outer known.up known.down line, done_of (past ++ told) n known.up known.down got.1 known_both)
+    subst (λ (l : List Entry). Cuts did (past ++ l) × LinksDone did (past ++ l) n) (sym alone)
+    (cuts_as known.up.life did (past ++ told) (ap course_of known.life) (line_cuts (past ++ told) n.outside.outer known.up known.down line), done_of (past ++ told) n known.up known.down got.1 known_both)
   where
     same_many : (a b us ds : List ℕ) (u d : ℕ) → a ≡ us ++ u ∷ [] → b ≡ ds ++ d ∷ [] → length us ≡ length ds → length a ≡ length b
     same_many a b us ds u d a_is b_is many =
@@ -372,34 +379,48 @@ clears_chip past m may orderly known =
 
 -- ---- its effect
 
-as_first : (left : List Event) (first is : Event) (past : List Entry) (m : Machine) → first ≡ is → Next left past m is → Next left past m first
-as_first left first is past m same goes = subst (Next left past m) (sym same) goes
+as_first : {did : List Step} (left : List Event) (first is : Event) (past : List Entry) (m : Machine) → first ≡ is → event_steps m is ≡ [] → Next did left past m is → Next (did ++ event_steps m first) left past m first
+as_first {did} left first is past m same none goes =
+    subst (λ (e : Event). Next (did ++ event_steps m e) left past m e) (sym same) (then_more (λ l. LinksRestarting l left) (event_steps m is) past m is none goes)
+
+clears_none : (m : Machine) (side : Side) → event_steps m (Outside_does (Clears_pipe side)) ≡ []
+unfolding event_steps outer_steps
+clears_none m side = refl
+
+restarts_none : (m : Machine) (state : HostState) → event_steps m (Restarts state) ≡ []
+unfolding event_steps
+restarts_none m state = refl
+
+refuses_none : (m : Machine) (line : Line) (refusal : Refusal) → event_steps m (Refuses line refusal) ≡ []
+unfolding event_steps
+refuses_none m line refusal = refl
 
 module _ (opened_keeps : (keys : Keys) (records : List Record) → KeepsItsLink [] (opened keys records)) where
-  pub restart_goes : (first : Event) (left : List Event) (past : List Entry) (m : Machine) → May m first → IsOrderly m first → Cuts past → LinksRestarting (first ∷ left) past m → Next left past m first
+  pub restart_goes : {did : List Step} (first : Event) (left : List Event) (past : List Entry) (m : Machine) → May m first → IsOrderly m first → Cuts did past → LinksRestarting did (first ∷ left) past m
+      → Next (did ++ event_steps m first) left past m first
   restart_goes first left past m may orderly cuts (inl (inl (state, is), begun)) =
       let head : first ≡ Restarts state = cc in
       let tail : left ≡ Outside_does (Clears_pipe Host) ∷ Outside_does (Clears_pipe Chip) ∷ [] = cc in
       let got = restarts_goes opened_keeps past m state (subst (May m) head may) (subst (IsOrderly m) head orderly) cuts begun in
-      as_first left first (Restarts state) past m head (got.0, inr (inl (tail, got.1)))
+      as_first left first (Restarts state) past m head (restarts_none m state) (got.0, inr (inl (tail, got.1)))
   restart_goes first left past m may orderly cuts (inl (inr (refusal, is), begun)) =
       let head : first ≡ Refuses lines.Restart refusal = cc in
       let tail : left ≡ [] = cc in
       let got = refuses lines.Restart past m lines.Restart refusal begun in
-      as_first left first (Refuses lines.Restart refusal) past m head (got.0, inr (inr (inr (tail, got.1))))
+      as_first left first (Refuses lines.Restart refusal) past m head (refuses_none m lines.Restart refusal) (got.0, inr (inr (inr (tail, got.1))))
   restart_goes first left past m may orderly cuts (inr (inl (is, known))) =
       let head : first ≡ Outside_does (Clears_pipe Host) = cc in
       let tail : left ≡ Outside_does (Clears_pipe Chip) ∷ [] = cc in
       let got = clears_host past m (subst (May m) head may) (subst (IsOrderly m) head orderly) known in
-      as_first left first (Outside_does (Clears_pipe Host)) past m head (got.0, inr (inr (inl (tail, got.1))))
+      as_first left first (Outside_does (Clears_pipe Host)) past m head (clears_none m Host) (got.0, inr (inr (inl (tail, got.1))))
   restart_goes first left past m may orderly cuts (inr (inr (inl (is, known)))) =
       let head : first ≡ Outside_does (Clears_pipe Chip) = cc in
       let tail : left ≡ [] = cc in
       let got = clears_chip past m (subst (May m) head may) (subst (IsOrderly m) head orderly) known in
-      as_first left first (Outside_does (Clears_pipe Chip)) past m head (got.0, inr (inr (inr (tail, got.1))))
+      as_first left first (Outside_does (Clears_pipe Chip)) past m head (clears_none m Chip) (got.0, inr (inr (inr (tail, got.1))))
   restart_goes first left past m may orderly cuts (inr (inr (inr (is, done)))) = absurd cc
 
-pub restart_done : (past : List Entry) (m : Machine) → LinksRestarting [] past m → LinksDone past m
+pub restart_done : {did : List Step} (past : List Entry) (m : Machine) → LinksRestarting did [] past m → LinksDone did past m
 restart_done past m (inl (inl (state, is), begun)) = absurd cc
 restart_done past m (inl (inr (refusal, is), begun)) = absurd cc
 restart_done past m (inr (inl (is, known))) = absurd cc

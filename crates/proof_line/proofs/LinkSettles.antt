@@ -12,10 +12,10 @@ use Rattle.serial_pipes.specs.State.{WayState}
 use Rattle.serial_pipes.specs.Events.{Takes}
 use Rattle.serial_pipes.specs.Events as way
 use Rattle.route_table.specs.declared.route.Route.{Route}
-use Rattle.chip_sim.specs.Link.{link_units}
+use Rattle.chip_sim.specs.Link.{link_units, link_steps}
 use Rattle.chip_sim.specs.State.{ChipState}
 use Rattle.chip_sim.specs.Did.{judged_all, after_all as chip_after_all}
-use Rattle.chip_sim.specs.Rules.{WaitsWell}
+use Rattle.chip_sim.specs.Rules.{WaitsWell, over}
 use Rattle.chip_sim.proofs.Histories.{well_all}
 use Rattle.zw_words.specs.declared.side.Side.TheVariants.{Host, Chip}
 use Rattle.zw_text.specs.declared.entry.Entry.{Entry}
@@ -46,7 +46,7 @@ use Rattle.proof_line.proofs.Roomy.{none_carried}
 use Rattle.proof_line.proofs.HostTelling.{HostTells, hosts_time, judged_items, judged_ticks, takes_tells}
 use Rattle.proof_line.proofs.ChipTelling.{takes_tell}
 use Rattle.proof_line.proofs.LinkTold.{arriving_all, brings_none, brings_taken}
-use Rattle.proof_line.proofs.LinkChip.{Judges, chip_takes_known, each_state}
+use Rattle.proof_line.proofs.LinkChip.{Judges, chip_takes_known, each_state, judged_mute}
 use Rattle.proof_line.proofs.LinkHost.{all_keep, all_quiet, host_known}
 use Rattle.proof_line.proofs.LinkEvents.{chip_writes_both, host_writes_both, later_both, tick_stays}
 use Rattle.proof_line.proofs.LinkTicks.{Then, does_tick, host_does_both, in_round}
@@ -76,10 +76,10 @@ stalled_now o now timed = ap₂ (λ (a b : ℕ). nat_lt a b) timed.clock timed.u
 -- ---- it begins and ends
 
 -- after all that a line or tick does
-pub settles : (past : List Entry) (m : Machine) → Round HaveTickedOnce past m → Settling 64 past m
+pub settles : {did : List Step} (past : List Entry) (m : Machine) → Round did HaveTickedOnce past m → Settling did 64 past m
 settles past m (up, down, both, once) = (up, down, both, (once, λ few. absurd (let none : 64 < 64 = few in omega (arith, none))))
 
-pub ends : (past : List Entry) (m : Machine) → Settling 0 past m → LinksEnded past m
+pub ends : {did : List Step} (past : List Entry) (m : Machine) → Settling did 0 past m → LinksEnded did past m
 ends past m (up, down, both, (once, heard)) = (
   m.outside.outer.in_tick,
   (
@@ -114,13 +114,14 @@ took_one passes m up down heard moves some = by (nat_lt (suc passes) 64) refl
     by true is = let few : suc passes < 64 = ltb-true (suc passes) 64 is in counted few (heard few moves).1
     by false is = let many : 64 ≤ suc passes = ltb-false (suc passes) 64 is in omega (arith, many)
 
-abbrev pub HasMoved : Bool → ℕ → List Entry → Machine → Type 0
-HasMoved has_moved passes past m = Round (λ up down. HaveTickedOnce up down × HaveMoved has_moved passes m up down) past m
+abbrev pub HasMoved : List Step → Bool → ℕ → List Entry → Machine → Type 0
+HasMoved did has_moved passes past m = Round did (λ up down. HaveTickedOnce up down × HaveMoved has_moved passes m up down) past m
 
 -- the chip takes its bytes
-pub chip_moves : (passes : ℕ) (past : List Entry) (m : Machine) (rest : Rest) (ways : List (Item × Option Route)) → May m (Outside_does (Chip_takes (length m.outside.outer.to_chip.bytes) rest ways))
-    → IsOrderly m (Outside_does (Chip_takes (length m.outside.outer.to_chip.bytes) rest ways)) → Cuts past → Passing passes past m
-    → Then (HasMoved true passes) past m (Outside_does (Chip_takes (length m.outside.outer.to_chip.bytes) rest ways))
+pub chip_moves : {did : List Step} (passes : ℕ) (past : List Entry) (m : Machine) (rest : Rest) (ways : List (Item × Option Route)) → May m (Outside_does (Chip_takes (length m.outside.outer.to_chip.bytes) rest ways))
+    → IsOrderly m (Outside_does (Chip_takes (length m.outside.outer.to_chip.bytes) rest ways)) → Cuts did past → Passing did passes past m
+    → Then (did ++ over link_steps m.outside.outer.chip.state (judged_all ways)) (HasMoved (did ++ over link_steps m.outside.outer.chip.state (judged_all ways)) true passes) past m
+    (Outside_does (Chip_takes (length m.outside.outer.to_chip.bytes) rest ways))
 unfolding May MayOutside outcome
 chip_moves passes past m rest ways may orderly cuts ((up, down, both, (once, heard)), quiet) =
     let o : OuterState = m.outside.outer in
@@ -130,7 +131,8 @@ chip_moves passes past m rest ways may orderly cuts ((up, down, both, (once, hea
     let n : Machine = happens m (Outside_does event) in
     let timed : List Entry = past ++ ticked_entry o in
     let may_take : MayTake o (length o.to_chip.bytes) rest ways = may.1 in
-    let judges : Judges (timed ++ x.entries) up (chip_after_all s (judged_all ways)).port.side [] =
+    let did_more : List Step = over link_steps s (judged_all ways) in
+    let judges : Judges did_more (timed ++ x.entries) up (chip_after_all s (judged_all ways)).port.side [] =
     chip_takes_known o (length o.to_chip.bytes) rest ways timed up both.line.chip both.line.link both.line.waits once.0 both.chip_way (stalled_now o up both.chip_time ∙ may_take.moves) both.rests.chip refl may_take in
     let tells = takes_tell m.outside (length o.to_chip.bytes) rest ways both.frames may_take.judges in
     let later : LinkNow = judges.later in
@@ -138,7 +140,9 @@ chip_moves passes past m rest ways may orderly cuts ((up, down, both, (once, hea
     let empty : x.outer.to_chip.bytes ≡ [] = tells.to_chip ∙ drop_whole o.to_chip.bytes in
     let whole = later_both o.in_tick past m (Outside_does event) up down both may refl orderly.writes in
     let got =
-    chip_writes_both o.in_tick past m event up later down tells.units tt tt both cuts judges.knows (record {
+    chip_writes_both o.in_tick past m event up later down tells.units tt tt both cuts
+    (record { more = did_more; is = refl; quiet = judged_mute ways (record o { to_chip = way.after o.to_chip (Takes (length o.to_chip.bytes)); chip = record { decoder = rest; state = s } }) })
+    (judges.life ∙ ap (λ (l : List Step). l ++ did_more) both.life) judges.knows (record {
       tells = tells.told;
       to_host = tells.to_host;
       fit = tells.fit;
@@ -159,7 +163,7 @@ chip_moves passes past m rest ways may orderly cuts ((up, down, both, (once, hea
     )
 
 -- none move to it
-pub chip_still : (passes : ℕ) (past : List Entry) (m : Machine) → IsStill (is_stalled m.outside.outer) m.outside.outer.to_chip.bytes → Passing passes past m → HasMoved false passes past m
+pub chip_still : {did : List Step} (passes : ℕ) (past : List Entry) (m : Machine) → IsStill (is_stalled m.outside.outer) m.outside.outer.to_chip.bytes → Passing did passes past m → HasMoved did false passes past m
 chip_still passes past m still ((up, down, both, (once, heard)), quiet) =
     (up, down, both, (once, (quiet, λ moves. (none still moves, λ few. (heard (omega (arith, few)) moves).0))))
   where
@@ -172,8 +176,8 @@ host_none : (o : OuterState) (coming : List (List ℕ)) → IsStill (is_stalled 
 host_none o coming (inl stalled) way moves = never (is_stalled o) moves stalled
 host_none o coming (inr empty) way moves = coming_none o.to_host coming way empty
 
-pub host_still : (has_moved : Bool) (passes : ℕ) (past : List Entry) (m : Machine) → IsStill (is_stalled m.outside.outer) m.outside.outer.to_host.bytes → HasMoved has_moved passes past m
-    → Settling (passes_after has_moved passes) past m
+pub host_still : {did : List Step} (has_moved : Bool) (passes : ℕ) (past : List Entry) (m : Machine) → IsStill (is_stalled m.outside.outer) m.outside.outer.to_host.bytes → HasMoved did has_moved passes past m
+    → Settling did (passes_after has_moved passes) past m
 host_still true passes past m still (up, down, both, (once, many)) =
     (up, down, both, (once, λ few moves. (host_none m.outside.outer down.coming still both.line.way moves, inl many)))
 host_still false passes past m still (up, down, both, (once, moved)) =
@@ -199,9 +203,9 @@ before_host false passes m up down moved moves some = by (nat_lt passes 63) refl
 module _ (each : (h : HostState) (event : HostEvent) (steps : List Step) → KeepsItsLink steps h → MayHost h event → KeepsItsLink (steps ++ host_link_steps h event) (host_after h event))
     (units : (h : HostState) (event : HostEvent) → h.side.collisions ≡ 0 → host_units (host_outs h event) ≡ link_units (host_link_steps h event)) where
   -- the host takes its bytes
-  pub host_moves : (has_moved : Bool) (passes : ℕ) (past : List Entry) (m : Machine) (rest : Rest) (items : List Item) (events : List HostEvent)
-      → May m (Host_takes (length m.outside.outer.to_host.bytes) rest items events) → IsOrderly m (Host_takes (length m.outside.outer.to_host.bytes) rest items events) → Cuts past → HasMoved has_moved passes past m
-      → Then (Settling passes) past m (Host_takes (length m.outside.outer.to_host.bytes) rest items events)
+  pub host_moves : {did : List Step} (has_moved : Bool) (passes : ℕ) (past : List Entry) (m : Machine) (rest : Rest) (items : List Item) (events : List HostEvent)
+      → May m (Host_takes (length m.outside.outer.to_host.bytes) rest items events) → IsOrderly m (Host_takes (length m.outside.outer.to_host.bytes) rest items events) → Cuts did past → HasMoved did has_moved passes past m
+      → Then did (Settling did passes) past m (Host_takes (length m.outside.outer.to_host.bytes) rest items events)
   unfolding May happens outcome
   host_moves has_moved passes past m rest items events may orderly cuts (up, down, both, (once, moved)) =
       let h : HostState = m.host.state in
@@ -244,8 +248,8 @@ module _ (each : (h : HostState) (event : HostEvent) (steps : List Step) → Kee
 
   -- ---- a pump
 
-  pump_moves : (passes : ℕ) (past : List Entry) (m : Machine) (event : HostEvent) → TicksNot event → HearsNothing event → (IsQuiet m.host.state → (host_writes m (Host_does event) ≡ []) × IsQuiet (happens m (Host_does event)).host.state)
-      → May m (Host_does event) → IsOrderly m (Host_does event) → Cuts past → Settling passes past m → Then (Settling passes) past m (Host_does event)
+  pump_moves : {did : List Step} (passes : ℕ) (past : List Entry) (m : Machine) (event : HostEvent) → TicksNot event → HearsNothing event → (IsQuiet m.host.state → (host_writes m (Host_does event) ≡ []) × IsQuiet (happens m (Host_does event)).host.state)
+      → May m (Host_does event) → IsOrderly m (Host_does event) → Cuts did past → Settling did passes past m → Then did (Settling did passes) past m (Host_does event)
   pump_moves passes past m event apart nothing quiet may orderly cuts (up, down, both, (once, heard)) =
       let o : OuterState = m.outside.outer in
       let n : Machine = happens m (Host_does event) in
@@ -286,15 +290,15 @@ module _ (each : (h : HostState) (event : HostEvent) (steps : List Step) → Kee
       by true = tt
       by false = tt
 
-  pub sleeps : (passes : ℕ) (past : List Entry) (m : Machine) (node : ℕ) → first_wanting m.host.state.nodes ≡ Some node → May m (Host_does (no_more_event m.host.state node))
-      → IsOrderly m (Host_does (no_more_event m.host.state node)) → Cuts past → Settling passes past m → Then (Settling passes) past m (Host_does (no_more_event m.host.state node))
+  pub sleeps : {did : List Step} (passes : ℕ) (past : List Entry) (m : Machine) (node : ℕ) → first_wanting m.host.state.nodes ≡ Some node → May m (Host_does (no_more_event m.host.state node))
+      → IsOrderly m (Host_does (no_more_event m.host.state node)) → Cuts did past → Settling did passes past m → Then did (Settling did passes) past m (Host_does (no_more_event m.host.state node))
   unfolding happens
   sleeps passes past m node wants may orderly cuts known =
       pump_moves passes past m (no_more_event m.host.state node) (no_more_apart m.host.state node) (no_more_nothing m.host.state node) (no_more_quiet m.host.state node wants) may orderly cuts known
 
   -- it submits a request
-  pub submits : (passes : ℕ) (past : List Entry) (m : Machine) (asked : HostEvent) → IsNext m.host.state asked → May m (Host_does asked) → IsOrderly m (Host_does asked) → Cuts past
-      → Settling passes past m × WantsNone m.host.state → Then (λ all n. Settling passes all n × WantsNone n.host.state) past m (Host_does asked)
+  pub submits : {did : List Step} (passes : ℕ) (past : List Entry) (m : Machine) (asked : HostEvent) → IsNext m.host.state asked → May m (Host_does asked) → IsOrderly m (Host_does asked) → Cuts did past
+      → Settling did passes past m × WantsNone m.host.state → Then did (λ all n. Settling did passes all n × WantsNone n.host.state) past m (Host_does asked)
   unfolding happens
   submits passes past m asked is may orderly cuts known =
       let got =
@@ -302,5 +306,5 @@ module _ (each : (h : HostState) (event : HostEvent) (steps : List Step) → Kee
       (got.0, (got.1, next_wants m.host.state asked is known.1))
 
 -- and then bytes may move
-pub passes_on : (passes : ℕ) (past : List Entry) (m : Machine) → IsPumped m.host.state → Settling (suc passes) past m × WantsNone m.host.state → Passing passes past m
+pub passes_on : {did : List Step} (passes : ℕ) (past : List Entry) (m : Machine) → IsPumped m.host.state → Settling did (suc passes) past m × WantsNone m.host.state → Passing did passes past m
 passes_on passes past m pumped known = (known.0, pumped_quiet m.host.state pumped known.1)

@@ -23,6 +23,7 @@ use Rattle.proof_line.specs.Arrivals.{AreTexts}
 use Rattle.proof_line.specs.Links.{Does, Hears, IsMute, KeepsSoFar, MayEnd, life_of, life_steps, round_steps, stalls_in}
 use Rattle.proof_line.proofs.Arriving.{texts_both}
 use Rattle.proof_line.proofs.Moments.{all_lives, arrivals_one, life_after, restarts_at, round_one, start_one, steps_one}
+use Rattle.proof_walk.proofs.Shown.{shown_one as shown_last}
 
 -- ---- lists
 
@@ -34,12 +35,6 @@ items_last : (a b : List Step) (step : Step) → items_of (a ++ (b ++ step ∷ [
 items_last a b step =
     ap (λ (l : List Step). items_of l) (sym (append_assoc a b (step ∷ []))) ∙ items-append (a ++ b) (step ∷ [])
     ∙ ap (λ (l : List Item). items_of (a ++ b) ++ l) (append-nil (item_of step.event))
-
-shown_last : {A B : Type 0} (shows : List A → A → List B) (before xs : List A) (x : A) → shown_after shows before (xs ++ x ∷ []) ≡ shown_after shows before xs ++ shows (before ++ xs) x
-shown_last shows before [] x = append-nil (shows before x) ∙ ap (λ (l : List _). shows l x) (sym (append-nil before))
-shown_last shows before (first ∷ xs) x =
-    ap (λ (l : List _). shows before first ++ l) (shown_last shows (before ++ first ∷ []) xs x ∙ ap (λ (l : List _). shown_after shows (before ++ first ∷ []) xs ++ shows l x) (append_assoc before (first ∷ []) xs))
-    ∙ sym (append_assoc (shows before first) (shown_after shows (before ++ first ∷ []) xs) (shows (before ++ first ∷ xs) x))
 
 -- ---- time and stalls
 

@@ -48,14 +48,15 @@ use Rattle.proof_line.proofs.LinkKnown.{tick_known}
 use Rattle.proof_line.proofs.LinkTime.{tick_serials, time_clears, timed_clears}
 use Rattle.proof_line.proofs.Serials.{time_serials}
 use Rattle.proof_line.proofs.LinkTold.{arriving_all}
-use Rattle.proof_line.proofs.LinkChip.{chip_event_known, submits_hear_none, submits_tick_none}
+use Rattle.proof_line.proofs.ChipAccounts.{outer_steps}
+use Rattle.proof_line.proofs.LinkChip.{chip_event_known, does_mute, submits_hear_none, submits_tick_none}
 use Rattle.proof_line.proofs.LinkGiven.{arriving_given}
 use Rattle.proof_line.proofs.LinkHost.{all_keep, all_quiet, host_known, host_tick_known}
 use Rattle.proof_line.proofs.LinkEvents.{chip_writes_both, given_both, host_writes_both, later_both, tick_stays}
 
 -- an event, after which this is known
-abbrev pub Then : KnownOf → List Entry → Machine → Event → Type 0
-Then Known past m event = Cuts (past ++ entries m event) × Known (past ++ entries m event) (happens m event)
+abbrev pub Then : List Step → KnownOf → List Entry → Machine → Event → Type 0
+Then did Known past m event = Cuts did (past ++ entries m event) × Known (past ++ entries m event) (happens m event)
 
 -- ---- a tick begins
 
@@ -64,9 +65,9 @@ ticks_on : (side : Side) (timed all : List Entry) (now : LinkNow) → KnowsLink 
 ticks_on side timed all now knows may serials =
     subst (λ (l : List SerialEvent). KnowsEvents side l (begun_tick now)) serials (tick_known side (serial_events timed) now knows may)
 
-pub begins_tick : (past : List Entry) (m : Machine) → Cuts past → LinksEnded past m → Then (InTick 0 0) past m (Outside_does Begins_tick)
+pub begins_tick : {did : List Step} (past : List Entry) (m : Machine) → Cuts did past → LinksEnded did past m → Then did (InTick did 0 0) past m (Outside_does Begins_tick)
 unfolding happens entries outcome devices_after
-begins_tick past m cuts (is_tick, (up, down, both, may)) =
+begins_tick {did} past m cuts (is_tick, (up, down, both, may)) =
     let o : OuterState = m.outside.outer in
     let n : Machine = happens m (Outside_does Begins_tick) in
     let timed : List Entry = past ++ ticked_entry o in
@@ -85,13 +86,14 @@ begins_tick past m cuts (is_tick, (up, down, both, may)) =
       many = both.line.many;
       clears = time_clears past (o.clock + 1) ∙ sym (timed_clears past o) ∙ both.line.clears;
     } in
-    let known : KnowsBoth true past n (begun_tick up) (begun_tick down) =
+    let known : KnowsBoth did true past n (begun_tick up) (begun_tick down) =
     record {
       line = line;
       behind = omega (arith, behind);
       chip_way = both.chip_way;
       chip_time = record { clock = ap (λ (k : ℕ). k + 1) clock; until = both.chip_time.until };
       host_time = record { clock = ap (λ (k : ℕ). k + 1) both.host_time.clock; until = both.host_time.until };
+      life = both.life;
       chip_round = refl;
       host_round = refl;
       host_link = both.host_link;
@@ -99,25 +101,26 @@ begins_tick past m cuts (is_tick, (up, down, both, may)) =
       frames = both.frames;
       rests = record { host = both.rests.host; chip = both.rests.chip };
     } in (
-      subst Cuts (sym (append-nil past)) cuts,
-      (subst (λ (l : List Entry). Round (HaveTicked 0 0) l n) (sym (append-nil past)) (begun_tick up, begun_tick down, known, (refl, refl)), refl),
+      subst (Cuts did) (sym (append-nil past)) cuts,
+      (subst (λ (l : List Entry). Round did (HaveTicked 0 0) l n) (sym (append-nil past)) (begun_tick up, begun_tick down, known, (refl, refl)), refl),
     )
 
 -- in a round as the machine has it then
-pub in_round : (is_tick : Bool) (past : List Entry) (n : Machine) (up down : LinkNow) → n.outside.outer.in_tick ≡ is_tick → KnowsBoth is_tick past n up down → KnowsBoth n.outside.outer.in_tick past n up down
-in_round is_tick past n up down is both = subst (λ (b : Bool). KnowsBoth b past n up down) (sym is) both
+pub in_round : {did : List Step} (is_tick : Bool) (past : List Entry) (n : Machine) (up down : LinkNow) → n.outside.outer.in_tick ≡ is_tick → KnowsBoth did is_tick past n up down
+    → KnowsBoth did n.outside.outer.in_tick past n up down
+in_round {did} is_tick past n up down is both = subst (λ (b : Bool). KnowsBoth did b past n up down) (sym is) both
 
 -- ---- before the chip's tick
 
-pub arrives : (past : List Entry) (m : Machine) (event : OuterEvent) → IsArriving event → May m (Outside_does event) → IsOrderly m (Outside_does event) → Cuts past → InTick 0 0 past m
-    → Then (InTick 0 0) past m (Outside_does event)
+pub arrives : {did : List Step} (past : List Entry) (m : Machine) (event : OuterEvent) → IsArriving event → May m (Outside_does event) → IsOrderly m (Outside_does event) → Cuts did past → InTick did 0 0 past m
+    → Then (did ++ outer_steps m.outside event) (InTick (did ++ outer_steps m.outside event) 0 0) past m (Outside_does event)
 arrives past m event arriving may orderly cuts ((up, down, both, ticked), runs) =
     let n : Machine = happens m (Outside_does event) in
     let all : List Entry = past ++ entries m (Outside_does event) in
     let within = arriving_within event arriving in
     let whole = later_both m.outside.outer.in_tick past m (Outside_does event) up down both may (arriving_whole m event arriving) orderly.writes in
     let (later, after_it, known, up_grows, down_grows) =
-    given_both m.outside.outer.in_tick past m event up down within (apart event arriving) both cuts (λ tick. ticked.0) (arriving_given m.outside event arriving)
+    given_both (outer_steps m.outside event) m.outside.outer.in_tick past m event up down within (apart event arriving) both cuts (λ tick. ticked.0) (arriving_given m.outside event arriving)
     (arriving_tells m.outside event arriving).to_chip whole in
     let same = tick_stays m event within in (
       known.0,
@@ -138,8 +141,9 @@ arrives past m event arriving may orderly cuts ((up, down, both, ticked), runs) 
 
 -- ---- the chip's tick
 
-pub chip_ticks : (past : List Entry) (m : Machine) → May m (Outside_does Chip_ticks) → IsOrderly m (Outside_does Chip_ticks) → Cuts past → InTick 0 0 past m → Then (InTick 1 0) past m (Outside_does Chip_ticks)
-unfolding outcome
+pub chip_ticks : {did : List Step} (past : List Entry) (m : Machine) → May m (Outside_does Chip_ticks) → IsOrderly m (Outside_does Chip_ticks) → Cuts did past → InTick did 0 0 past m
+    → Then (did ++ outer_steps m.outside Chip_ticks) (InTick (did ++ outer_steps m.outside Chip_ticks) 1 0) past m (Outside_does Chip_ticks)
+unfolding outcome outer_steps
 chip_ticks past m may orderly cuts ((up, down, both, ticked), runs) =
     let o : OuterState = m.outside.outer in
     let s : ChipState = o.chip.state in
@@ -158,7 +162,7 @@ chip_ticks past m may orderly cuts ((up, down, both, ticked), runs) =
     (subst (λ (l : List Item). TakesTexts l up.coming up.coming) (sym none) refl, λ stalls. none) in
     let whole = later_both o.in_tick past m (Outside_does Chip_ticks) up down both may tt orderly.writes in
     let got =
-    chip_writes_both o.in_tick past m Chip_ticks up later down units tt tt both cuts chip (record {
+    chip_writes_both o.in_tick past m Chip_ticks up later down units tt tt both cuts (record { more = steps; is = refl; quiet = does_mute p chip_ticked }) (ap (λ (l : List Step). l ++ steps) both.life) chip (record {
       tells = says.told;
       to_host = says.to_host;
       fit = tick_fit s both.frames;
@@ -180,21 +184,23 @@ nodes_apart [] = tt
 nodes_apart (node ∷ nodes) = (tt, nodes_apart nodes)
 
 -- the host is about to tick
-abbrev pub HostTicks : List HostEvent → KnownOf
-HostTicks events past m = InTick 1 (host_ticked events) past m × AllByRecursion HearsNothing events × TicksFirst events
+abbrev pub HostTicks : List Step → List HostEvent → KnownOf
+HostTicks did events past m = InTick did 1 (host_ticked events) past m × AllByRecursion HearsNothing events × TicksFirst events
 
-pub decoder_ticks : (past : List Entry) (m : Machine) → May m Decoder_ticks → IsOrderly m Decoder_ticks → Cuts past → InTick 1 0 past m → Then (HostTicks (tick_events m.host.state)) past m Decoder_ticks
+pub decoder_ticks : {did : List Step} (past : List Entry) (m : Machine) → May m Decoder_ticks → IsOrderly m Decoder_ticks → Cuts did past → InTick did 1 0 past m
+    → Then did (HostTicks did (tick_events m.host.state)) past m Decoder_ticks
 unfolding happens entries
-decoder_ticks past m may orderly cuts ((up, down, both, ticked), runs) =
+decoder_ticks {did} past m may orderly cuts ((up, down, both, ticked), runs) =
     let n : Machine = happens m Decoder_ticks in
     let whole = later_both m.outside.outer.in_tick past m Decoder_ticks up down both may tt orderly.writes in
-    let known : KnowsBoth m.outside.outer.in_tick past n up down =
+    let known : KnowsBoth did m.outside.outer.in_tick past n up down =
     record {
       line = both.line;
       behind = both.behind;
       chip_way = both.chip_way;
       chip_time = both.chip_time;
       host_time = both.host_time;
+      life = both.life;
       chip_round = both.chip_round;
       host_round = both.host_round;
       host_link = both.host_link;
@@ -202,9 +208,9 @@ decoder_ticks past m may orderly cuts ((up, down, both, ticked), runs) =
       frames = whole.0;
       rests = whole.1;
     } in (
-      subst Cuts (sym (append-nil past)) cuts,
+      subst (Cuts did) (sym (append-nil past)) cuts,
       (
-        (subst (λ (l : List Entry). Round (HaveTicked 1 0) l n) (sym (append-nil past)) (up, down, known, ticked), runs),
+        (subst (λ (l : List Entry). Round did (HaveTicked 1 0) l n) (sym (append-nil past)) (up, down, known, ticked), runs),
         tick_nothing m.host.state,
         (tt, nodes_apart (ticking_nodes (after_all m.host.state first_ticks))),
       ),
@@ -224,10 +230,10 @@ none_heard h event nothing = refl
 module _ (each : (h : HostState) (event : HostEvent) (steps : List Step) → KeepsItsLink steps h → MayHost h event → KeepsItsLink (steps ++ host_link_steps h event) (host_after h event))
     (units : (h : HostState) (event : HostEvent) → h.side.collisions ≡ 0 → host_units (host_outs h event) ≡ link_units (host_link_steps h event)) where
   -- of itself, or where a line asks for it
-  pub host_does_both : (is_tick : Bool) (past : List Entry) (m : Machine) (event : HostEvent) (up down : LinkNow) → TicksNot event → HearsNothing event → May m (Host_does event) → IsOrderly m (Host_does event)
-      → KnowsBoth is_tick past m up down → Cuts past → (down.is_tick ≡ true → ticks_of down.round ≡ 1)
-      → Cuts (past ++ entries m (Host_does event))
-      × KnowsBoth is_tick (past ++ entries m (Host_does event)) (happens m (Host_does event)) (with_arriving up (arriving_all Host m.outside.outer.to_chip (host_writes m (Host_does event))))
+  pub host_does_both : {did : List Step} (is_tick : Bool) (past : List Entry) (m : Machine) (event : HostEvent) (up down : LinkNow) → TicksNot event → HearsNothing event → May m (Host_does event) → IsOrderly m (Host_does event)
+      → KnowsBoth did is_tick past m up down → Cuts did past → (down.is_tick ≡ true → ticks_of down.round ≡ 1)
+      → Cuts did (past ++ entries m (Host_does event))
+      × KnowsBoth did is_tick (past ++ entries m (Host_does event)) (happens m (Host_does event)) (with_arriving up (arriving_all Host m.outside.outer.to_chip (host_writes m (Host_does event))))
       (gone down (host_link_steps_all m.host.state (event ∷ [])) (after_all m.host.state (event ∷ [])).side down.coming)
   unfolding happens May
   host_does_both is_tick past m event up down apart nothing may orderly both cuts once =
@@ -247,7 +253,8 @@ module _ (each : (h : HostState) (event : HostEvent) (steps : List Step) → Kee
       (later_both is_tick past m (Host_does event) up down both may tt orderly.writes)
 
   -- its link ticks
-  host_ticks_both : (past : List Entry) (m : Machine) → May m (Host_does Line_ticks) → IsOrderly m (Host_does Line_ticks) → Cuts past → InTick 1 0 past m → Then (InTick 1 1) past m (Host_does Line_ticks)
+  host_ticks_both : {did : List Step} (past : List Entry) (m : Machine) → May m (Host_does Line_ticks) → IsOrderly m (Host_does Line_ticks) → Cuts did past → InTick did 1 0 past m
+      → Then did (InTick did 1 1) past m (Host_does Line_ticks)
   unfolding happens May
   host_ticks_both past m may orderly cuts ((up, down, both, ticked), runs) =
       let h : HostState = m.host.state in
@@ -274,8 +281,8 @@ module _ (each : (h : HostState) (event : HostEvent) (steps : List Step) → Kee
       (got.0, ((with_arriving up (arriving_all Host o.to_chip written), later, in_round o.in_tick (past ++ entries m (Host_does Line_ticks)) n _ later same got.1, (ticked.0, once)), same ∙ runs))
 
   -- it does something else
-  host_apart : (past : List Entry) (m : Machine) (event : HostEvent) → TicksNot event → HearsNothing event → May m (Host_does event) → IsOrderly m (Host_does event) → Cuts past → InTick 1 1 past m
-      → Then (InTick 1 1) past m (Host_does event)
+  host_apart : {did : List Step} (past : List Entry) (m : Machine) (event : HostEvent) → TicksNot event → HearsNothing event → May m (Host_does event) → IsOrderly m (Host_does event) → Cuts did past
+      → InTick did 1 1 past m → Then did (InTick did 1 1) past m (Host_does event)
   host_apart past m event apart nothing may orderly cuts ((up, down, both, ticked), runs) =
       let o : OuterState = m.outside.outer in
       let n : Machine = happens m (Host_does event) in
@@ -293,12 +300,12 @@ module _ (each : (h : HostState) (event : HostEvent) (steps : List Step) → Kee
   later_ticked (Line_ticks ∷ events) apart = absurd apart.0
   later_ticked (event ∷ events) apart = (refl, apart)
 
-  then_apart : (events : List HostEvent) (past : List Entry) (m : Machine) → AllByRecursion HearsNothing events → AllByRecursion TicksNot events → InTick 1 1 past m → HostTicks events past m
-  then_apart events past m nothing apart known =
-      let is = later_ticked events apart in (subst (λ (n : ℕ). InTick 1 n past m) (sym is.0) known, nothing, is.1)
+  then_apart : {did : List Step} (events : List HostEvent) (past : List Entry) (m : Machine) → AllByRecursion HearsNothing events → AllByRecursion TicksNot events → InTick did 1 1 past m → HostTicks did events past m
+  then_apart {did} events past m nothing apart known =
+      let is = later_ticked events apart in (subst (λ (n : ℕ). InTick did 1 n past m) (sym is.0) known, nothing, is.1)
 
-  pub host_ticks : (past : List Entry) (m : Machine) (first : HostEvent) (events : List HostEvent) → May m (Host_does first) → IsOrderly m (Host_does first) → Cuts past → HostTicks (first ∷ events) past m
-      → Then (HostTicks events) past m (Host_does first)
+  pub host_ticks : {did : List Step} (past : List Entry) (m : Machine) (first : HostEvent) (events : List HostEvent) → May m (Host_does first) → IsOrderly m (Host_does first) → Cuts did past
+      → HostTicks did (first ∷ events) past m → Then did (HostTicks did events) past m (Host_does first)
   host_ticks past m Line_ticks events may orderly cuts known =
       let got = host_ticks_both past m may orderly cuts known.0 in (got.0, then_apart events _ _ known.1.1 known.2 got.1)
   host_ticks past m first events may orderly cuts known =

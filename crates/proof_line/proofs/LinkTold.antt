@@ -36,7 +36,7 @@ besides_known side past now (e ∷ es) all knows =
 
 -- ---- what steps write and hear
 
-text_is : (outs : List LinkOut) → flat_map text_of outs ≡ map (λ (unit : LineUnit). unit_text unit) (flat_map link_unit outs)
+pub text_is : (outs : List LinkOut) → flat_map text_of outs ≡ map (λ (unit : LineUnit). unit_text unit) (flat_map link_unit outs)
 text_is [] = refl
 text_is (Write unit ∷ outs) = ap (λ (l : List (List ℕ)). unit_text unit ∷ l) (text_is outs)
 text_is (Got f ∷ outs) = text_is outs
@@ -49,7 +49,7 @@ takes_split [] ys coming left takes = (coming, refl, takes)
 takes_split (x ∷ xs) ys [] left takes = absurd takes
 takes_split (x ∷ xs) ys (text ∷ coming) left takes = let rest = takes_split xs ys coming left takes.1 in (rest.0, (takes.0, rest.1), rest.2)
 
-pub none_first : (xs ys : List Item) → xs ++ ys ≡ [] → (xs ≡ []) × (ys ≡ [])
+pub none_first : {A : Type 0} (xs ys : List A) → xs ++ ys ≡ [] → (xs ≡ []) × (ys ≡ [])
 none_first [] ys is = (refl, is)
 none_first (x ∷ xs) ys is = absurd (let none : x ∷ (xs ++ ys) ≡ [] = is in cc)
 

@@ -1,13 +1,18 @@
 -- What is known of both links at each phase of a line goes on with each event, where time is known too; so it is known where the events of lines end.
 use Rattle.std.proofs.Common.{◌≡◌, ◌≤◌, ℕ, zero, suc, ◌+◌, nat_lt, true, false, inl, inr, List, [], ◌∷◌, ◌++◌, length, refl, sym, ap, ◌∙◌, subst, arith, Bool, ◌<◌}
 use Rattle.std.specs.Prelude.{Option}
+use Rattle.serial_frame.specs.Stream.{Rest}
+use Rattle.serial_frame.specs.declared.item.Item.{Item}
+use Rattle.route_table.specs.declared.route.Route.{Route}
 use Rattle.std.proofs.lemmas.Bool.{ltb-true}
 use Rattle.s0_crypto.specs.declared.key_pair.Keys.{Keys}
 use Rattle.device_sim.specs.State.{State}
 use Rattle.serial_link.specs.State.{Side as LinkSide}
 use Rattle.serial_link.specs.Rules.{Step, SideObeys}
 use Rattle.serial_link.specs.declared.turn.Turn.TheVariants.{Idle}
-use Rattle.chip_sim.specs.Link.{link_units}
+use Rattle.chip_sim.specs.Link.{link_steps, link_units}
+use Rattle.chip_sim.specs.Did.{judged_all}
+use Rattle.chip_sim.specs.Rules.{over}
 use Rattle.zw_words.specs.declared.side.Side.{Side}
 use Rattle.zw_words.specs.declared.side.Side.TheVariants.{Host, Chip}
 use Rattle.zw_text.specs.declared.line.Line.{Line}
@@ -25,26 +30,27 @@ use Rattle.host_model.specs.May.{May as MayHost}
 use Rattle.host_model.specs.Outs.{outs as host_outs}
 use Rattle.host_model.specs.Ticking.{tick_events}
 use Rattle.outside_model.specs.State.{first_outer}
-use Rattle.outside_model.specs.Events.{Begins_line, Begins_tick, Arrives, Gives, Device_ticks, Chip_ticks, Collides_next, Stalls}
+use Rattle.outside_model.specs.Events.{OuterEvent, Begins_line, Begins_tick, Arrives, Chip_takes, Gives, Device_ticks, Chip_ticks, Collides_next, Stalls}
 use Rattle.world_model.specs.State.{Machine, first_machine}
-use Rattle.world_model.specs.Events.{Event, Outside_does, Host_does, Decoder_ticks, entries, May}
+use Rattle.world_model.specs.Events.{Event, Outside_does, Host_does, Host_takes, Decoder_ticks, entries, May}
 use Rattle.world_model.specs.Lines.{IsEffect}
 use Rattle.proof_serial.specs.Line.{host_units}
 use Rattle.proof_serial.proofs.First.{first_at_rest, first_frames}
 use Rattle.proof_traffic.specs.Links.{KeepsItsLink, host_link_steps}
 use Rattle.proof_walk.specs.Phases.{Phase, Between, Said_line, Begun, Doing, To_tick, Ticked, Arriving, Giving, Ticking_devices, Ticking_chip, Ticking_decoder, Ticking_host, Sleeping, Submitting, Moving, Moved, Turns, Goes}
 use Rattle.proof_walk.specs.Time.{KnowTime, MayCount}
-use Rattle.proof_walk.specs.Walk.{Walk, WalkWhere, both_know}
+use Rattle.proof_walk.specs.Walk.{Walk, WalkWhere}
 use Rattle.proof_line.specs.Links.{AtLine, KeepsSoFar, KnowsLink, LinkNow, MayEndNow, due_from, most_of}
 use Rattle.proof_line.specs.Linked.{Cuts, IsOrderly, KnowCuts, KnowLinks, KnowsBoth, LinksBegun, LinksDone, LinksLeft, HaveTickedOnce, InTick, Round}
 use Rattle.proof_line.proofs.LinkKnown.{no_steps}
 use Rattle.proof_line.proofs.LinkTold.{brings_none}
+use Rattle.proof_line.proofs.ChipAccounts.{event_steps, outer_steps}
 use Rattle.proof_line.proofs.LinkEnds.{line_cuts}
 use Rattle.proof_line.proofs.LinkTicks.{Then, arrives, begins_tick, chip_ticks, decoder_ticks, host_ticks}
 use Rattle.proof_line.proofs.LinkSettles.{chip_moves, chip_still, ends, host_moves, host_still, passes_on, settles, sleeps, submits}
 use Rattle.proof_line.proofs.LinkBegins.{begins_line}
 use Rattle.proof_line.proofs.LinkEffects.{effect_plain}
-use Rattle.proof_line.proofs.LinkPlain.{plain_done, plain_goes}
+use Rattle.proof_line.proofs.LinkPlain.{plain_done, plain_goes, then_more}
 use Rattle.proof_line.proofs.LinkRestarts.{restart_done, restart_goes}
 use Rattle.proof_line.proofs.LinkOnes.{collide_goes, due_is, ended_cuts, one_done, stall_goes, ticks_begun, words_cut}
 
@@ -59,8 +65,9 @@ all_stand past (e ∷ told) = (tt, all_stand (past ++ e ∷ []) told)
 
 -- ---- with time
 
+-- the chip's link did some steps
 abbrev pub KnowAll : Phase → List Entry → Machine → Type 0
-KnowAll here past m = both_know KnowTime KnowCuts here past m
+KnowAll here past m = KnowTime here past m × ((did : List Step) × KnowCuts did here past m)
 
 -- the ticks that lines have asked for have begun
 due_now : (past : List Entry) (m : Machine) → KnowTime Between past m → due_from 0 past ≡ m.outside.outer.clock
@@ -70,113 +77,167 @@ due_now past m time =
     let same : due_from 0 past ≡ m.outside.outer.clock = omega (arith, is, clock) in
     same
 
-said : (past : List Entry) (m : Machine) (words : List ℕ) (line : Line) → line_of (Said words) ≡ line ∷ [] → KnowTime Between past m → KnowCuts Between past m → KnowCuts (Said_line line) (past ++ Said words ∷ []) m
-said past m words line read time (cuts, (is_tick, (up, down, both, may))) =
+pub said_knows : {did : List Step} (past : List Entry) (m : Machine) (words : List ℕ) (line : Line) → line_of (Said words) ≡ line ∷ [] → KnowTime Between past m → KnowCuts did Between past m
+    → KnowCuts did (Said_line line) (past ++ Said words ∷ []) m
+said_knows past m words line read time (cuts, (is_tick, (up, down, both, may))) =
     let due = due_now past m time in (
       words_cut past m is_tick up down both may due words line read,
       record { before = past; words = words; read = read; is = refl; is_tick = is_tick; both = (up, down, both, may); due = due },
     )
 
 -- at the end of a whole run
-pub ended_known : (past : List Entry) (m : Machine) → KnowAll Between past m → Cuts (past ++ Said [] ∷ [])
-ended_known past m (time, (cuts, (is_tick, (up, down, both, may)))) = ended_cuts past m is_tick up down both may (due_now past m time)
+pub ended_known : {did : List Step} (past : List Entry) (m : Machine) → KnowTime Between past m → KnowCuts did Between past m → Cuts did (past ++ Said [] ∷ [])
+ended_known past m time (cuts, (is_tick, (up, down, both, may))) = ended_cuts past m is_tick up down both may (due_now past m time)
 
 -- ---- phases
 
--- the event is this one, and the phase after it
-event_is : (next to : Phase) (event is : Event) (past : List Entry) (m : Machine) → event ≡ is → next ≡ to → Then (KnowLinks to) past m is → Then (KnowLinks next) past m event
-event_is next to event is past m event_same next_same known =
-    subst (λ (e : Event). Then (KnowLinks next) past m e) (sym event_same) (subst (λ (q : Phase). Then (KnowLinks q) past m is) (sym next_same) known)
+-- what is known after an event of the steps that the chip's link then did
+abbrev Steps : List Step → Phase → List Entry → Machine → Event → Type 0
+Steps did next past m event = Then (did ++ event_steps m event) (KnowLinks (did ++ event_steps m event) next) past m event
 
-to : (next phase : Phase) (past : List Entry) (m : Machine) → next ≡ phase → KnowLinks phase past m → KnowLinks next past m
-to next phase past m is known = subst (λ (q : Phase). KnowLinks q past m) (sym is) known
+-- the event is this one, and the phase after it
+event_is : (did : List Step) (next to : Phase) (event is : Event) (past : List Entry) (m : Machine) → event ≡ is → next ≡ to → Steps did to past m is → Steps did next past m event
+event_is did next to event is past m event_same next_same known =
+    subst (λ (e : Event). Steps did next past m e) (sym event_same) (subst (λ (q : Phase). Steps did q past m is) (sym next_same) known)
+
+-- and the chip's link does nothing at it
+event_still : (did : List Step) (next to : Phase) (event is : Event) (past : List Entry) (m : Machine) → event ≡ is → next ≡ to → event_steps m is ≡ [] → Then did (KnowLinks did to) past m is
+    → Steps did next past m event
+event_still did next to event is past m event_same next_same none known =
+    event_is did next to event is past m event_same next_same (then_more (λ l. KnowLinks l to) (event_steps m is) past m is none known)
+
+line_none : (m : Machine) → event_steps m (Outside_does Begins_line) ≡ []
+unfolding event_steps outer_steps
+line_none m = refl
+
+tick_none : (m : Machine) → event_steps m (Outside_does Begins_tick) ≡ []
+unfolding event_steps outer_steps
+tick_none m = refl
+
+host_none : (m : Machine) (event : HostEvent) → event_steps m (Host_does event) ≡ []
+unfolding event_steps
+host_none m event = refl
+
+takes_none : (m : Machine) (count : ℕ) (rest : Rest) (items : List Item) (events : List HostEvent) → event_steps m (Host_takes count rest items events) ≡ []
+unfolding event_steps
+takes_none m count rest items events = refl
+
+decoder_none : (m : Machine) → event_steps m Decoder_ticks ≡ []
+unfolding event_steps
+decoder_none m = refl
+
+outer_is : (m : Machine) (event : OuterEvent) → event_steps m (Outside_does event) ≡ outer_steps m.outside event
+unfolding event_steps
+outer_is m event = refl
+
+takes_is : (m : Machine) (count : ℕ) (rest : Rest) (ways : List (Item × Option Route)) → event_steps m (Outside_does (Chip_takes count rest ways)) ≡ over link_steps m.outside.outer.chip.state (judged_all ways)
+unfolding event_steps outer_steps
+takes_is m count rest ways = refl
+
+-- an event outside the host
+outer_goes : (did : List Step) (next : Phase) (past : List Entry) (m : Machine) (event : OuterEvent)
+    → Then (did ++ outer_steps m.outside event) (KnowLinks (did ++ outer_steps m.outside event) next) past m (Outside_does event) → Steps did next past m (Outside_does event)
+outer_goes did next past m event known = subst (λ (l : List Step). Then (did ++ l) (KnowLinks (did ++ l) next) past m (Outside_does event)) (sym (outer_is m event)) known
+
+to : (did : List Step) (next phase : Phase) (past : List Entry) (m : Machine) → next ≡ phase → KnowLinks did phase past m → KnowLinks did next past m
+to did next phase past m is known = subst (λ (q : Phase). KnowLinks did q past m) (sym is) known
 
 -- the effect of a line
-begins_effect : (line : Line) (past : List Entry) (m : Machine) (events : List Event) → IsEffect line m events → LinksBegun line past m → LinksLeft line events past m
+begins_effect : {did : List Step} (line : Line) (past : List Entry) (m : Machine) (events : List Event) → IsEffect line m events → LinksBegun did line past m → LinksLeft did line events past m
 begins_effect (lines.Tick count) past m events is begun = absurd is
 begins_effect lines.Restart past m events is begun = inl (is, begun)
 begins_effect lines.Collide past m events is begun = inl (is, begun)
 begins_effect (lines.Stall ticks) past m events is begun = inl (is, begun)
 begins_effect line past m events is begun = inl (effect_plain line m events tt is, begun)
 
-effect_done : (line : Line) (past : List Entry) (m : Machine) → LinksLeft line [] past m → LinksDone past m
+effect_done : {did : List Step} (line : Line) (past : List Entry) (m : Machine) → LinksLeft did line [] past m → LinksDone did past m
 effect_done lines.Restart past m known = restart_done past m known
 effect_done lines.Collide past m known = one_done (Outside_does Collides_next) lines.Collide past m known
 effect_done (lines.Stall ticks) past m known = one_done (Outside_does (Stalls ticks)) (lines.Stall ticks) past m known
 effect_done (lines.Tick count) past m known = absurd known
 effect_done line past m known = plain_done line past m tt known
 
-ticked_once : (past : List Entry) (m : Machine) → InTick 1 1 past m → Round HaveTickedOnce past m
+ticked_once : {did : List Step} (past : List Entry) (m : Machine) → InTick did 1 1 past m → Round did HaveTickedOnce past m
 ticked_once past m ((up, down, both, ticked), runs) = (up, down, both, (λ tick. ticked.0, λ tick. ticked.1))
 
 -- as the host obeys at each event
 module _ (each : (h : HostState) (event : HostEvent) (steps : List Step) → KeepsItsLink steps h → MayHost h event → KeepsItsLink (steps ++ host_link_steps h event) (host_after h event))
     (units : (h : HostState) (event : HostEvent) → h.side.collisions ≡ 0 → host_units (host_outs h event) ≡ link_units (host_link_steps h event))
     (opened_keeps : (keys : Keys) (records : List Record) → KeepsItsLink [] (opened keys records)) where
-  effect_goes : (line : Line) (first : Event) (left : List Event) (past : List Entry) (m : Machine) → May m first → IsOrderly m first → Cuts past → LinksLeft line (first ∷ left) past m → Then (LinksLeft line left) past m first
+  effect_goes : {did : List Step} (line : Line) (first : Event) (left : List Event) (past : List Entry) (m : Machine) → May m first → IsOrderly m first → Cuts did past → LinksLeft did line (first ∷ left) past m
+      → Then (did ++ event_steps m first) (LinksLeft (did ++ event_steps m first) line left) past m first
   effect_goes (lines.Tick count) first left past m may orderly cuts known = absurd known
   effect_goes lines.Restart first left past m may orderly cuts known = restart_goes opened_keeps first left past m may orderly cuts known
   effect_goes lines.Collide first left past m may orderly cuts known = collide_goes first left past m cuts known
   effect_goes (lines.Stall ticks) first left past m may orderly cuts known = stall_goes ticks first left past m cuts known
   effect_goes line first left past m may orderly cuts known = plain_goes each units line first left past m tt may orderly cuts known
 
-  event_knows : (here next : Phase) (past : List Entry) (m : Machine) (event : Event) → Goes here m event next → May m event → IsOrderly m event → KnowCuts here past m → Then (KnowLinks next) past m event
-  event_knows (Said_line line) next past m event (same, next_is) may orderly (cuts, known) = event_is next (Begun line) event (Outside_does Begins_line) past m same next_is (begins_line line past m cuts known)
-  event_knows (Doing line (first ∷ left)) next past m event (same, next_is) may orderly (cuts, known) =
-      event_is next (Doing line left) event first past m same next_is (effect_goes line first left past m (subst (May m) same may) (subst (IsOrderly m) same orderly) cuts known)
-  event_knows (To_tick (suc ticks)) next past m event (same, next_is) may orderly (cuts, known) = event_is next (Ticked ticks) event (Outside_does Begins_tick) past m same next_is (begins_tick past m cuts known)
-  event_knows (Arriving (suc frames) ticks) next past m event (drawn, route, same, next_is) may orderly (cuts, known) =
-      event_is next (Arriving frames ticks) event (Outside_does (Arrives drawn route)) past m same next_is
-      (arrives past m (Arrives drawn route) tt (subst (May m) same may) (subst (IsOrderly m) same orderly) cuts known)
-  event_knows (Giving (suc results) ticks) next past m event (route, same, next_is) may orderly (cuts, known) =
-      event_is next (Giving results ticks) event (Outside_does (Gives route)) past m same next_is (arrives past m (Gives route) tt (subst (May m) same may) (subst (IsOrderly m) same orderly) cuts known)
-  event_knows (Ticking_devices place (suc count) ticks) next past m event (drawn, route, same, next_is) may orderly (cuts, known) =
-      event_is next (Ticking_devices (place + 1) count ticks) event (Outside_does (Device_ticks place drawn route)) past m same next_is
-      (arrives past m (Device_ticks place drawn route) tt (subst (May m) same may) (subst (IsOrderly m) same orderly) cuts known)
-  event_knows (Ticking_chip ticks) next past m event (same, next_is) may orderly (cuts, known) =
-      event_is next (Ticking_decoder ticks) event (Outside_does Chip_ticks) past m same next_is (chip_ticks past m (subst (May m) same may) (subst (IsOrderly m) same orderly) cuts known)
-  event_knows (Ticking_decoder ticks) next past m event (same, next_is) may orderly (cuts, known) =
-      event_is next (Ticking_host (tick_events m.host.state) ticks) event Decoder_ticks past m same next_is (decoder_ticks past m (subst (May m) same may) (subst (IsOrderly m) same orderly) cuts known)
-  event_knows (Ticking_host (first ∷ events) ticks) next past m event (same, next_is) may orderly (cuts, known) =
-      event_is next (Ticking_host events ticks) event (Host_does first) past m same next_is
+  pub event_knows : {did : List Step} (here next : Phase) (past : List Entry) (m : Machine) (event : Event) → Goes here m event next → May m event → IsOrderly m event → KnowCuts did here past m → Steps did next past m event
+  event_knows {did} (Said_line line) next past m event (same, next_is) may orderly (cuts, known) =
+      event_still did next (Begun line) event (Outside_does Begins_line) past m same next_is (line_none m) (begins_line line past m cuts known)
+  event_knows {did} (Doing line (first ∷ left)) next past m event (same, next_is) may orderly (cuts, known) =
+      event_is did next (Doing line left) event first past m same next_is (effect_goes line first left past m (subst (May m) same may) (subst (IsOrderly m) same orderly) cuts known)
+  event_knows {did} (To_tick (suc ticks)) next past m event (same, next_is) may orderly (cuts, known) =
+      event_still did next (Ticked ticks) event (Outside_does Begins_tick) past m same next_is (tick_none m) (begins_tick past m cuts known)
+  event_knows {did} (Arriving (suc frames) ticks) next past m event (drawn, route, same, next_is) may orderly (cuts, known) =
+      event_is did next (Arriving frames ticks) event (Outside_does (Arrives drawn route)) past m same next_is
+      (outer_goes did (Arriving frames ticks) past m (Arrives drawn route) (arrives past m (Arrives drawn route) tt (subst (May m) same may) (subst (IsOrderly m) same orderly) cuts known))
+  event_knows {did} (Giving (suc results) ticks) next past m event (route, same, next_is) may orderly (cuts, known) =
+      event_is did next (Giving results ticks) event (Outside_does (Gives route)) past m same next_is
+      (outer_goes did (Giving results ticks) past m (Gives route) (arrives past m (Gives route) tt (subst (May m) same may) (subst (IsOrderly m) same orderly) cuts known))
+  event_knows {did} (Ticking_devices place (suc count) ticks) next past m event (drawn, route, same, next_is) may orderly (cuts, known) =
+      event_is did next (Ticking_devices (place + 1) count ticks) event (Outside_does (Device_ticks place drawn route)) past m same next_is
+      (outer_goes did (Ticking_devices (place + 1) count ticks) past m (Device_ticks place drawn route)
+      (arrives past m (Device_ticks place drawn route) tt (subst (May m) same may) (subst (IsOrderly m) same orderly) cuts known))
+  event_knows {did} (Ticking_chip ticks) next past m event (same, next_is) may orderly (cuts, known) =
+      event_is did next (Ticking_decoder ticks) event (Outside_does Chip_ticks) past m same next_is
+      (outer_goes did (Ticking_decoder ticks) past m Chip_ticks (chip_ticks past m (subst (May m) same may) (subst (IsOrderly m) same orderly) cuts known))
+  event_knows {did} (Ticking_decoder ticks) next past m event (same, next_is) may orderly (cuts, known) =
+      event_still did next (Ticking_host (tick_events m.host.state) ticks) event Decoder_ticks past m same next_is (decoder_none m)
+      (decoder_ticks past m (subst (May m) same may) (subst (IsOrderly m) same orderly) cuts known)
+  event_knows {did} (Ticking_host (first ∷ events) ticks) next past m event (same, next_is) may orderly (cuts, known) =
+      event_still did next (Ticking_host events ticks) event (Host_does first) past m same next_is (host_none m first)
       (host_ticks each units past m first events (subst (May m) same may) (subst (IsOrderly m) same orderly) cuts known)
-  event_knows (Sleeping passes ticks) next past m event (node, wants, same, next_is) may orderly (cuts, known) =
-      event_is next (Sleeping passes ticks) event _ past m same next_is (sleeps each units passes past m node wants (subst (May m) same may) (subst (IsOrderly m) same orderly) cuts known)
-  event_knows (Submitting passes ticks) next past m event (asked, is, same, next_is) may orderly (cuts, known) =
-      event_is next (Submitting passes ticks) event (Host_does asked) past m same next_is (submits each units passes past m asked is (subst (May m) same may) (subst (IsOrderly m) same orderly) cuts known)
-  event_knows (Moving passes ticks) next past m event (rest, ways, same, next_is) may orderly (cuts, known) =
-      event_is next (Moved true passes ticks) event _ past m same next_is (chip_moves passes past m rest ways (subst (May m) same may) (subst (IsOrderly m) same orderly) cuts known)
-  event_knows (Moved has_moved passes ticks) next past m event (rest, items, done, same, next_is) may orderly (cuts, known) =
-      event_is next (Sleeping passes ticks) event _ past m same next_is
+  event_knows {did} (Sleeping passes ticks) next past m event (node, wants, same, next_is) may orderly (cuts, known) =
+      event_still did next (Sleeping passes ticks) event _ past m same next_is (host_none m _) (sleeps each units passes past m node wants (subst (May m) same may) (subst (IsOrderly m) same orderly) cuts known)
+  event_knows {did} (Submitting passes ticks) next past m event (asked, is, same, next_is) may orderly (cuts, known) =
+      event_still did next (Submitting passes ticks) event (Host_does asked) past m same next_is (host_none m asked)
+      (submits each units passes past m asked is (subst (May m) same may) (subst (IsOrderly m) same orderly) cuts known)
+  event_knows {did} (Moving passes ticks) next past m event (rest, ways, same, next_is) may orderly (cuts, known) =
+      event_is did next (Moved true passes ticks) event _ past m same next_is
+      (subst (λ (l : List Step). Then (did ++ l) (KnowLinks (did ++ l) (Moved true passes ticks)) past m (Outside_does (Chip_takes (length m.outside.outer.to_chip.bytes) rest ways)))
+      (sym (takes_is m (length m.outside.outer.to_chip.bytes) rest ways)) (chip_moves passes past m rest ways (subst (May m) same may) (subst (IsOrderly m) same orderly) cuts known))
+  event_knows {did} (Moved has_moved passes ticks) next past m event (rest, items, done, same, next_is) may orderly (cuts, known) =
+      event_still did next (Sleeping passes ticks) event _ past m same next_is (takes_none m _ rest items done)
       (host_moves each units has_moved passes past m rest items done (subst (May m) same may) (subst (IsOrderly m) same orderly) cuts known)
   event_knows here next past m event goes may orderly known = absurd goes
 
-  turn_knows : (here next : Phase) (past : List Entry) (m : Machine) → Turns here m next → KnowLinks here past m → KnowLinks next past m
-  turn_knows (Begun line) next past m (inl (events, is, next_is)) known = to next (Doing line events) past m next_is (begins_effect line past m events is known)
-  turn_knows (Begun line) next past m (inr (ticks, line_is, next_is)) known =
-      to next (To_tick ticks) past m next_is (ticks_begun ticks past m (subst (λ (l : Line). LinksBegun l past m) line_is known))
-  turn_knows (Doing line []) next past m next_is known = to next (Sleeping 64 0) past m next_is (settles past m (effect_done line past m known).0)
-  turn_knows (To_tick zero) next past m next_is known = to next Between past m next_is known
-  turn_knows (Ticked ticks) next past m next_is known = to next _ past m next_is known
-  turn_knows (Arriving zero ticks) next past m next_is known = to next _ past m next_is known
-  turn_knows (Giving zero ticks) next past m next_is known = to next _ past m next_is known
-  turn_knows (Ticking_devices place zero ticks) next past m next_is known = to next _ past m next_is known
-  turn_knows (Ticking_host [] ticks) next past m next_is known = to next (Sleeping 64 ticks) past m next_is (settles past m (ticked_once past m known.0))
-  turn_knows (Sleeping passes ticks) next past m (wants, next_is) known = to next (Submitting passes ticks) past m next_is (known, inr wants)
-  turn_knows (Submitting zero ticks) next past m (pumped, next_is) known = to next (To_tick ticks) past m next_is (ends past m known.0)
-  turn_knows (Submitting (suc passes) ticks) next past m (pumped, next_is) known = to next (Moving passes ticks) past m next_is (passes_on passes past m pumped known)
-  turn_knows (Moving passes ticks) next past m (still, next_is) known = to next (Moved false passes ticks) past m next_is (chip_still passes past m still known)
-  turn_knows (Moved has_moved passes ticks) next past m (still, next_is) known = to next (Sleeping _ ticks) past m next_is (host_still has_moved passes past m still known)
-  turn_knows here next past m turns known = absurd turns
+  pub turn_knows : (did : List Step) (here next : Phase) (past : List Entry) (m : Machine) → Turns here m next → KnowLinks did here past m → KnowLinks did next past m
+  turn_knows did (Begun line) next past m (inl (events, is, next_is)) known = to did next (Doing line events) past m next_is (begins_effect line past m events is known)
+  turn_knows did (Begun line) next past m (inr (ticks, line_is, next_is)) known =
+      to did next (To_tick ticks) past m next_is (ticks_begun ticks past m (subst (λ (l : Line). LinksBegun did l past m) line_is known))
+  turn_knows did (Doing line []) next past m next_is known = to did next (Sleeping 64 0) past m next_is (settles past m (effect_done line past m known).0)
+  turn_knows did (To_tick zero) next past m next_is known = to did next Between past m next_is known
+  turn_knows did (Ticked ticks) next past m next_is known = to did next _ past m next_is known
+  turn_knows did (Arriving zero ticks) next past m next_is known = to did next _ past m next_is known
+  turn_knows did (Giving zero ticks) next past m next_is known = to did next _ past m next_is known
+  turn_knows did (Ticking_devices place zero ticks) next past m next_is known = to did next _ past m next_is known
+  turn_knows did (Ticking_host [] ticks) next past m next_is known = to did next (Sleeping 64 ticks) past m next_is (settles past m (ticked_once past m known.0))
+  turn_knows did (Sleeping passes ticks) next past m (wants, next_is) known = to did next (Submitting passes ticks) past m next_is (known, inr wants)
+  turn_knows did (Submitting zero ticks) next past m (pumped, next_is) known = to did next (To_tick ticks) past m next_is (ends past m known.0)
+  turn_knows did (Submitting (suc passes) ticks) next past m (pumped, next_is) known = to did next (Moving passes ticks) past m next_is (passes_on passes past m pumped known)
+  turn_knows did (Moving passes ticks) next past m (still, next_is) known = to did next (Moved false passes ticks) past m next_is (chip_still passes past m still known)
+  turn_knows did (Moved has_moved passes ticks) next past m (still, next_is) known = to did next (Sleeping _ ticks) past m next_is (host_still has_moved passes past m still known)
+  turn_knows did here next past m turns known = absurd turns
 
   pub links_walk : Walk MayCount KnowTime → WalkWhere IsOrderly Anything KnowAll
   links_walk time = record {
     said = λ past m words line read known.
         let one = time.said past m words line read known.0 in
-        (tt, (one.1, said past m words line read known.0 known.1));
+        (tt, (one.1, (known.1.0, said_knows past m words line read known.0 known.1.1)));
     event = λ here next past m event goes may orderly known.
-        (all_stand past (entries m event), ((time.event here next past m event goes may known.0).1, event_knows here next past m event goes may orderly known.1));
-    turn = λ here next past m turns known. (time.turn here next past m turns known.0, (known.1.0, turn_knows here next past m turns known.1.1));
+        (all_stand past (entries m event), ((time.event here next past m event goes may known.0).1, (known.1.0 ++ event_steps m event, event_knows here next past m event goes may orderly known.1.1)));
+    turn = λ here next past m turns known. (time.turn here next past m turns known.0, (known.1.0, (known.1.1.0, turn_knows known.1.0 here next past m turns known.1.1.1)));
   }
 
 -- ---- at first
@@ -220,7 +281,7 @@ first_link Chip link obeys = record {
 idle_obeys : SideObeys [] (record { turn = Idle; collisions = 0 })
 idle_obeys = record { answers = tt; collisions = refl; turns = record { past = []; now = []; parts = refl; are_past = tt; stands = tt } }
 
-pub links_first : (keys : Keys) (records : Option (List (List ℕ))) (devices : List State) → KeepsItsLink [] (first_host keys) → KnowCuts Between [] (first_machine keys records devices)
+pub links_first : (keys : Keys) (records : Option (List (List ℕ))) (devices : List State) → KeepsItsLink [] (first_host keys) → KnowCuts [] Between [] (first_machine keys records devices)
 unfolding first_outer
 links_first keys records devices keeps =
     let m : Machine = first_machine keys records devices in
@@ -237,13 +298,14 @@ links_first keys records devices keeps =
       many = refl;
       clears = refl;
     } in
-    let known : KnowsBoth false [] m up down =
+    let known : KnowsBoth [] false [] m up down =
     record {
       line = line;
       behind = omega arith;
       chip_way = brings_none m.outside.outer.to_chip refl;
       chip_time = record { clock = refl; until = refl };
       host_time = record { clock = refl; until = refl };
+      life = refl;
       chip_round = refl;
       host_round = refl;
       host_link = refl;

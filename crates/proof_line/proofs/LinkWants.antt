@@ -1,22 +1,21 @@
 -- After a pump the host writes nothing in another: it lets no node sleep, unless a request is under way or the line is busy.
-use Rattle.std.proofs.Common.{◌≡◌, ℕ, ◌+◌, ◌&&◌, Bool, true, false, if◌then◌else◌, List, [], ◌∷◌, length, inl, inr, refl, sym, ap, ◌∙◌, subst, arith}
-use Rattle.std.specs.Prelude.{Option, Some, None, nat_lt, slice_set}
+use Rattle.std.proofs.Common.{◌≡◌, ℕ, ◌&&◌, Bool, true, false, if◌then◌else◌, List, [], ◌∷◌, length, inl, inr, refl, sym, ap, ◌∙◌, subst, arith}
+use Rattle.std.specs.Prelude.{Option, Some, None, slice_set}
 use Rattle.std.proofs.lemmas.Bool.{cases_eq, cases_lt}
 use Rattle.std.proofs.lemmas.List.{get_or_past, get_or-set_same, get_or-set_other, length-set}
 use Rattle.host_requests.specs.declared.task.Task.{Task}
 use Rattle.host_node.specs.State.{NodeState, unknown, wants_no_more}
 use Rattle.host_node.specs.Steps.{after_begin, after_block}
-use Rattle.host_node.specs.declared.series.Series.{Series}
-use Rattle.host_node.specs.declared.series.Series.TheVariants.{Idle, Due, Running}
 use Rattle.host_node.specs.TableState.{node_of as node_among}
-use Rattle.host_node.specs.Search.{first_wanting, next_of}
+use Rattle.host_node.specs.Search.{first_wanting}
 use Rattle.host_node.proofs.Searches.{no_least_is_found, where_is_none}
-use Rattle.host_model.specs.State.{HostState, node_of}
+use Rattle.host_model.specs.State.{HostState}
 use Rattle.host_model.specs.After.{after, is_busy, is_full}
 use Rattle.host_model.specs.Did.{outs_all}
 use Rattle.host_model.specs.May.{IsFree}
 use Rattle.host_model.specs.Events.{HostEvent, Queues_no_more, Drops_no_more, Submits_abort, Submits_front, Starts, Gives_text, Gives_segment}
-use Rattle.host_model.specs.Pumping.{no_more_event, GivesNext, IsServedBy, IsNextOfNodes, IsNextOf, IsNext, IsPumped}
+use Rattle.host_model.specs.Pumping.{no_more_event, IsNextOfNodes, IsNextOf, IsNext, IsPumped}
+use Rattle.host_model.proofs.Submitted.{SubmittedAre, next_is}
 use Rattle.proof_serial.specs.Line.{host_units}
 use Rattle.proof_line.specs.Linked.{IsQuiet, WantsNone}
 use Rattle.proof_line.proofs.Filling.{never}
@@ -62,32 +61,20 @@ begun_wants node = six (after_begin node).awake _ _ _ _ _
 busy : (h : HostState) → is_busy h.side.turn ≡ true → WantsNone h
 busy h is = inl (λ (free : IsFree h). never (is_busy h.side.turn) free.free_line is)
 
-module _ (h : HostState) (none : first_wanting h.nodes ≡ None) where
-  gives_want : (n : ℕ) (text : Option (List ℕ)) (event : HostEvent) → GivesNext h n text event → WantsNone (after h event)
-  gives_want n (Some text) event is = subst (λ (e : HostEvent). WantsNone (after h e)) (sym is) (busy (after h (Gives_text n text)) refl)
-  gives_want n None event (payload, opens, is) =
-      let gives : HostEvent = Gives_segment n (nat_lt ((node_of h n).next_segment + 1) (node_of h n).segments) payload in
-      subst (λ (e : HostEvent). WantsNone (after h e)) (sym is) (busy (after h gives) refl)
-
-  served_wants : (n : ℕ) (series : Series) (event : HostEvent) → IsServedBy h n series event → WantsNone (after h event)
-  served_wants n Running event is = gives_want n (node_of h n).text event is
-  served_wants n Due event (plan, more, payload, start, is) = subst (λ (e : HostEvent). WantsNone (after h e)) (sym is) (busy (after h (Starts n plan more payload)) refl)
-  served_wants n Idle event (inl is) =
-      subst (λ (e : HostEvent). WantsNone (after h e)) (sym is) (inr (none_wants h.nodes n (after_begin (node_among h.nodes n)) (λ wants. begun_wants (node_among h.nodes n)) none))
-  served_wants n Idle event (inr is) = subst (λ (e : HostEvent). WantsNone (after h e)) (sym is) (inr (none_wants h.nodes n (after_block (node_among h.nodes n)) (λ wants. wants) none))
-
-  nodes_want : (node : Option ℕ) (event : HostEvent) → IsNextOfNodes h node event → WantsNone (after h event)
-  nodes_want None event is = absurd is
-  nodes_want (Some n) event is = served_wants n (node_of h n).series event is
-
-  next_wants_of : (owes : Bool) (queue : List Task) (event : HostEvent) → IsNextOf h owes queue event → WantsNone (after h event)
-  next_wants_of true queue event is = subst (λ (e : HostEvent). WantsNone (after h e)) (sym is) (busy (after h Submits_abort) refl)
-  next_wants_of false (task ∷ more) event is = subst (λ (e : HostEvent). WantsNone (after h e)) (sym is) (busy (after h Submits_front) refl)
-  next_wants_of false [] event is = nodes_want (next_of h.nodes h.served) event is
-
 pub next_wants : (h : HostState) (event : HostEvent) → IsNext h event → WantsNone h → WantsNone (after h event)
 next_wants h event is (inl busy_so) = absurd (busy_so is.0)
-next_wants h event is (inr none) = next_wants_of h none h.requests.owes h.requests.queue event is.1
+next_wants h event is (inr none) = next_is (λ (e : HostEvent). WantsNone (after h e)) each h event is
+  where
+    each : SubmittedAre (λ (e : HostEvent). WantsNone (after h e))
+    each = record {
+      abort = busy (after h Submits_abort) refl;
+      front = busy (after h Submits_front) refl;
+      starts = λ n plan more payload. busy (after h (Starts n plan more payload)) refl;
+      text = λ n payload. busy (after h (Gives_text n payload)) refl;
+      segment = λ n more payload. busy (after h (Gives_segment n more payload)) refl;
+      begins = λ n session command. inr (none_wants h.nodes n (after_begin (node_among h.nodes n)) (λ wants. begun_wants (node_among h.nodes n)) none);
+      unkept = λ n. inr (none_wants h.nodes n (after_block (node_among h.nodes n)) (λ wants. wants) none);
+    }
 
 -- where it writes nothing it submits nothing
 pub next_refuted : {P : Type 0} (h : HostState) (event : HostEvent) → IsNext h event → IsQuiet h → P

@@ -1,11 +1,12 @@
 -- The number of a tick stands before what is told at an event, where it is still to be entered, and nowhere else.
-use Rattle.std.proofs.Common.{◌≡◌, ◌⊎◌, ℕ, ◌&&◌, ◌||◌, not, Bool, true, false, if◌then◌else◌, List, [], ◌∷◌, ◌++◌, inl, inr, refl, sym, ap, ap₂, ◌∙◌, append-nil, append_assoc}
+use Rattle.std.proofs.Common.{◌≡◌, ◌⊎◌, ℕ, ◌&&◌, not, Bool, true, false, if◌then◌else◌, List, [], ◌∷◌, ◌++◌, inl, inr, refl, sym, ap, ap₂, ◌∙◌, append-nil, append_assoc}
 use Rattle.zw_text.specs.declared.entry.Entry.{Entry}
 use Rattle.zw_text.specs.declared.entry.Entry.TheVariants as entry
 use Rattle.outside_model.specs.State.{OuterState}
 use Rattle.outside_model.specs.Events.{stamp, has_entered, ticked_entry}
 use Rattle.proof_walk.specs.Outside.{awaits_number}
 use Rattle.proof_walk.proofs.Times.{IsSameTime}
+use Rattle.proof_walk.proofs.Stamping.{entered}
 
 -- ---- by the machine
 
@@ -40,10 +41,6 @@ enters_both o p q xs ys ts us clock (inr (is, ended)) (inr (more, later)) = inr 
 
 pub enters_none : (o n : OuterState) → awaits_number n ≡ awaits_number o → Enters o n [] []
 enters_none o n same = inl (refl, refl, same)
-
-entered : (in_tick stamped : Bool) → in_tick && not (in_tick || stamped) ≡ false
-entered true stamped = refl
-entered false stamped = refl
 
 -- an event outside
 pub outer_enters : (o p : OuterState) (told : List Entry) → IsSameTime o p → Enters o (has_entered p told) (stamp p told) told

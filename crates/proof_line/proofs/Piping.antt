@@ -40,7 +40,8 @@ use Rattle.proof_walk.proofs.Stepping.{Steps, event_then}
 use Rattle.proof_line.specs.Pipes.{MayLack, MayClear, MayTell, Mode, most, Resting, Turned, Waits, AtMost, Heard, Held, JustSaid, IsByHand, HasCleared, Restarts_next, LeftRestart, LeftPipes, InTick, HasMoved, HearsNothing, KnowPipes}
 use Rattle.proof_line.proofs.Standing.{frame_long}
 use Rattle.proof_line.proofs.Holding.{Grown, pipe_grows}
-use Rattle.proof_line.proofs.Filling.{Up, Down, held_empty, held_same, held_weaker, none_held, few_frames, never, no_refusal, resting_empty, turned_empty, heard_empty, turn_turned, turn_heard, resting_host, heard_host}
+use Rattle.proof_line.proofs.Filling.{Up, Down, held_empty, held_same, held_weaker, none_held, few_frames, never, resting_empty, turned_empty, heard_empty, turn_turned, turn_heard, resting_host, heard_host}
+use Rattle.proof_serial.proofs.Outer.{wrong as no_refusal}
 use Rattle.proof_line.proofs.Chipping.{IsFrame, IsGoing, going_keeps, drop_whole, takes_keep}
 use Rattle.proof_line.proofs.Hosting.{NoUnit, frames_alone, asked_none, any_of, no_more_nothing, tick_nothing, next_nothing, keeps_none, keeps_both, note_keeps, host_keeps, answer_keeps}
 

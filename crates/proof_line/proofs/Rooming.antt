@@ -44,10 +44,10 @@ use Rattle.proof_walk.proofs.Stepping.{Steps, event_then}
 use Rattle.proof_walk.proofs.Times.{IsWithin}
 use Rattle.proof_line.specs.Pipes.{IsByHand, MayLack}
 use Rattle.proof_line.specs.Arrivals.{arrived_from, arrived, Comes}
-use Rattle.proof_line.specs.Rooms.{MayFit, MayAnswer, LastFits, Fills, Shown, ShownBefore, BegunShown, IsClearing, StartsClearing, EndsClearing, LeftClearing, LeftShown, HasGone, InTickShown, SettlingShown, KnowRooms}
-use Rattle.proof_line.proofs.Standing.{line_then}
+use Rattle.proof_line.specs.Rooms.{MayFit, LastFits, Fills, Shown, ShownBefore, BegunShown, IsClearing, StartsClearing, EndsClearing, LeftClearing, LeftShown, HasGone, InTickShown, SettlingShown, KnowRooms}
+use Rattle.proof_walk.proofs.ByLine.{last_is as line_then}
 use Rattle.proof_line.proofs.Holding.{TellsNothing, pipe_grows}
-use Rattle.proof_line.proofs.Filling.{no_refusal}
+use Rattle.proof_serial.proofs.Outer.{wrong as no_refusal}
 use Rattle.proof_line.proofs.Hosting.{NoUnit, frames_alone, asked_none, tick_nothing}
 use Rattle.proof_line.proofs.Chipping.{IsFrame}
 use Rattle.proof_line.proofs.Piping.{covers_line, entered_same, stamp_quiet}
@@ -624,8 +624,3 @@ overruns past (e ∷ told) lack fit = (one_overruns past e lack.0 fit.0, overrun
 pub all_write : (m : Machine) (events : List Event) → AllWriteWell m events → AllAlong WritesWell m events
 all_write m [] well = tt
 all_write m (event ∷ events) well = (well.0, all_write (happens m event) events well.1)
-
--- and which answers are given
-pub answers : (past : List Entry) (e : Entry) → MayFit past e → MayAnswer past e
-answers past (entry.Written side unit) fit = fit.1
-answers past e fit = tt

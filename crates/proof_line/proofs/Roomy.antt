@@ -1,6 +1,6 @@
 -- What the pipes surely hold goes on at an event: outside the host, of the host of itself, where either takes bytes, and where the host submits.
 use Rattle.std.proofs.Common.{◌≡◌, ◌≤◌, ◌⊎◌, ℕ, ◌+◌, Bool, true, false, if◌then◌else◌, List, [], ◌∷◌, ◌++◌, length, map, take, drop, inl, inr, refl, sym, ap, subst, ◌∙◌, arith}
-use Rattle.std.specs.Prelude.{Option, Some, None, nat_lt, slice_index}
+use Rattle.std.specs.Prelude.{Option}
 use Rattle.std.specs.List.{AllByRecursion}
 use Rattle.std.proofs.lemmas.List.{drop_all, length-append}
 use Rattle.serial_frame.specs.Frame.{FrameParts, checksum}
@@ -18,18 +18,14 @@ use Rattle.zw_text.specs.Transcript.{line_of, line_last}
 use Rattle.law_transcript.specs.Lists.{EachAfter}
 use Rattle.law_transcript.specs.Restarts.{is_restart, begins_refused}
 use Rattle.law_wire.specs.Pipes.{Pipe, empty_pipe, pipe_from, sum_of}
-use Rattle.supervision.specs.Host.{begun_of}
-use Rattle.host_requests.specs.declared.task.Task.{Task}
-use Rattle.host_node.specs.Search.{next_of}
-use Rattle.host_node.specs.declared.series.Series.{Series}
-use Rattle.host_node.specs.declared.series.Series.TheVariants.{Idle, Due, Running}
-use Rattle.host_model.specs.State.{HostState, node_of}
+use Rattle.host_model.specs.State.{HostState}
 use Rattle.host_model.specs.Events.{HostEvent, Queues_no_more, Drops_no_more, Submits_abort, Submits_front, Starts, Gives_text, Begin_unkept, Gives_segment, Begins}
 use Rattle.host_model.specs.After.{after, is_busy, is_full}
 use Rattle.host_model.specs.May.{IsFree}
 use Rattle.host_model.specs.Did.{outs_all}
 use Rattle.host_model.specs.Taking.{AreJudged}
-use Rattle.host_model.specs.Pumping.{no_more_event, GivesNext, IsServedBy, IsNextOfNodes, IsNextOf, IsNext}
+use Rattle.host_model.specs.Pumping.{no_more_event, IsNext}
+use Rattle.host_model.proofs.Submitted.{SubmittedAre, next_is}
 use Rattle.outside_model.specs.State.{OuterState, Outside, Outcome, is_stalled}
 use Rattle.outside_model.specs.Chip.{MayTake}
 use Rattle.outside_model.specs.Events.{OuterEvent, Chip_takes, outcome, has_entered, stamp, May as MayOutside, happens as happens_outside, entries as entries_outside}
@@ -561,27 +557,19 @@ no_more_pumps h node = by (is_full h)
     by true fit = none_pumped h (after h (Drops_no_more node)) (λ later. record { none_under_way = later.none_under_way; free_line = later.free_line })
     by false fit = none_pumped h (after h (Queues_no_more node)) (λ later. record { none_under_way = later.none_under_way; free_line = later.free_line })
 
-module _ (h : HostState) (free : IsFree h) where
-  gives_pump : (n : ℕ) (text : Option (List ℕ)) (event : HostEvent) → GivesNext h n text event → PumpsAt h event
-  gives_pump n (Some text) event is = subst (PumpsAt h) (sym is) (λ fit. submitted h (after h (Gives_text n text)) _ free refl fit)
-  gives_pump n None event (payload, opens, is) =
-      subst (PumpsAt h) (sym is) (λ fit. submitted h (after h (Gives_segment n (nat_lt ((node_of h n).next_segment + 1) (node_of h n).segments) payload)) _ free refl fit)
-
-  served_pump : (n : ℕ) (series : Series) (event : HostEvent) → IsServedBy h n series event → PumpsAt h event
-  served_pump n Running event is = gives_pump n (node_of h n).text event is
-  served_pump n Due event (plan, more, payload, start, is) = subst (PumpsAt h) (sym is) (λ fit. submitted h (after h (Starts n plan more payload)) _ free refl fit)
-  served_pump n Idle event (inl is) =
-      subst (PumpsAt h) (sym is) (λ fit. none_pumped h (after h (Begins n (begun_of (node_of h n).book + 1) (slice_index (node_of h n).waiting 0))) (λ later. free))
-  served_pump n Idle event (inr is) = subst (PumpsAt h) (sym is) (λ fit. none_pumped h (after h (Begin_unkept n)) (λ later. free))
-
-  nodes_pump : (node : Option ℕ) (event : HostEvent) → IsNextOfNodes h node event → PumpsAt h event
-  nodes_pump None event is = absurd is
-  nodes_pump (Some n) event is = served_pump n (node_of h n).series event is
-
-  next_of_pumps : (owes : Bool) (queue : List Task) (event : HostEvent) → IsNextOf h owes queue event → PumpsAt h event
-  next_of_pumps true queue event is = subst (PumpsAt h) (sym is) (λ fit. submitted h (after h Submits_abort) _ free refl fit)
-  next_of_pumps false (task ∷ more) event is = subst (PumpsAt h) (sym is) (λ fit. submitted h (after h Submits_front) _ free refl fit)
-  next_of_pumps false [] event is = nodes_pump (next_of h.nodes h.served) event is
-
 pub next_pumps : (h : HostState) (event : HostEvent) → IsNext h event → PumpsAt h event
-next_pumps h event is = next_of_pumps h is.0 h.requests.owes h.requests.queue event is.1
+next_pumps h event is = next_is (PumpsAt h) each h event is
+  where
+    busy : (after_it : HostState) (f : FrameParts) → is_busy after_it.side.turn ≡ true → IsUnit (Framed f) × Unit {0} → Pumped h after_it (Framed f ∷ [])
+    busy after_it f = submitted h after_it f is.0
+
+    each : SubmittedAre (PumpsAt h)
+    each = record {
+      abort = λ fit. busy (after h Submits_abort) _ refl fit;
+      front = λ fit. busy (after h Submits_front) _ refl fit;
+      starts = λ n plan more payload fit. busy (after h (Starts n plan more payload)) _ refl fit;
+      text = λ n payload fit. busy (after h (Gives_text n payload)) _ refl fit;
+      segment = λ n more payload fit. busy (after h (Gives_segment n more payload)) _ refl fit;
+      begins = λ n session command fit. none_pumped h (after h (Begins n session command)) (λ later. is.0);
+      unkept = λ n fit. none_pumped h (after h (Begin_unkept n)) (λ later. is.0);
+    }

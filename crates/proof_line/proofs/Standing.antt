@@ -17,7 +17,7 @@ use Rattle.zw_words.specs.declared.side.Side.{Side}
 use Rattle.zw_words.specs.declared.side.Side.TheVariants.{Host as by_host, Chip as by_chip}
 use Rattle.zw_text.specs.declared.entry.Entry.{Entry}
 use Rattle.zw_text.specs.declared.entry.Entry.TheVariants as entry
-use Rattle.zw_text.specs.Transcript.{folded, same_side, line_of, line_after, line_last}
+use Rattle.zw_text.specs.Transcript.{folded, same_side}
 use Rattle.zw_text.proofs.Views.{folded-append}
 use Rattle.law_transcript.specs.Lists.{EachAfter}
 use Rattle.law_wire.specs.Marks.{Changing, Marks, marks_step, marks_of, changed_by, becomes, becomes_by, to_stand, IsMarked}
@@ -31,9 +31,6 @@ last_only (first ∷ past) x = ap (λ (n : ℕ). drop n (first ∷ (past ++ x �
   where
     more : length (past ++ x ∷ []) ≡ length past + 1 → length (first ∷ (past ++ x ∷ [])) - 1 ≡ suc (length (past ++ x ∷ []) - 1)
     more is = omega (arith, is)
-
-pub line_then : (past : List Entry) (e : Entry) → line_last (past ++ e ∷ []) ≡ line_of e
-line_then past e = folded-append line_after [] past (e ∷ [])
 
 -- all but the last
 pub but_last : {A : Type 0} (past : List A) (x : A) → take (length (past ++ x ∷ []) - 1) (past ++ x ∷ []) ≡ past

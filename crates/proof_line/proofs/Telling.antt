@@ -28,7 +28,8 @@ use Rattle.proof_walk.proofs.Untimed.{IsUntimed, AreUntimed, untimed_line, same_
 use Rattle.proof_walk.proofs.Ending.{EndsUntimed, event_ends}
 use Rattle.proof_walk.proofs.Clock.{no_ticks_asked}
 use Rattle.proof_line.specs.Times.{TieNumbers, GoesWithin, KnownNumbers, KnowNumbers}
-use Rattle.proof_line.proofs.Standing.{last_only, but_last, line_then}
+use Rattle.proof_line.proofs.Standing.{last_only, but_last}
+use Rattle.proof_walk.proofs.ByLine.{last_is as line_then}
 
 -- ---- the last entry
 

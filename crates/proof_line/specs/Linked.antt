@@ -2,7 +2,7 @@
 -- tick, and that nothing, or little, is left where a line or tick ends. A line that has entered nothing yet is not counted: whether it is refused is shown by what stands after it.
 use Rattle.std.specs.Prelude.{◌≡◌, ◌≤◌, ◌<◌, ◌⊎◌, ℕ, suc, ◌+◌, ◌-◌, Bool, true, false, None, List, [], ◌∷◌, ◌++◌, length}
 use Rattle.std.specs.List.{AllByRecursion}
-use Rattle.serial_link.specs.Rules.{ticks_of}
+use Rattle.serial_link.specs.Rules.{Step, ticks_of}
 use Rattle.chip_sim.specs.Rules.{WaitsWell}
 use Rattle.zw_words.specs.declared.side.Side.TheVariants.{Host, Chip}
 use Rattle.zw_text.specs.declared.line.Line.{Line}
@@ -10,8 +10,9 @@ use Rattle.zw_text.specs.declared.line.Line.TheVariants as lines
 use Rattle.zw_text.specs.declared.entry.Entry.{Entry}
 use Rattle.zw_text.specs.declared.entry.Entry.TheVariants.{Said}
 use Rattle.zw_text.specs.Transcript.{line_of}
+use Rattle.law_wire.specs.Asked.{course_of}
 use Rattle.law_wire.specs.Clearing.{AreTold, cleared, clears, lost_by, to_clear}
-use Rattle.law_wire.specs.Links.{KeepsLinks}
+use Rattle.law_wire.specs.Links.{KeepsLinks, joined}
 use Rattle.host_model.specs.Events.{HostEvent, Line_ticks}
 use Rattle.host_node.specs.Search.{first_wanting}
 use Rattle.host_model.specs.State.{HostState}
@@ -47,10 +48,11 @@ pub record IsOrderly (m : Machine) (event : Event) : Type 0 where
 
 -- ---- the laws of a run that is cut short here
 
--- both sides kept the rules, and so far it is told what restarts lost
-pub record Cuts (past : List Entry) : Type 0 where
+-- both sides kept the rules, and so far it is told what restarts lost; and by what the chip's link did it has the same course
+pub record Cuts (did : List Step) (past : List Entry) : Type 0 where
   pub links : KeepsLinks false past
   pub each : AreTold (clears past) (to_clear (lost_by Chip past links.chip.parts) (lost_by Host past links.host.parts))
+  pub course : course_of (joined links.chip.parts) ≡ course_of did
 
 -- ---- beside the machine
 
@@ -59,13 +61,14 @@ pub record IsTimed (o : OuterState) (now : LinkNow) : Type 0 where
   pub clock : now.clock ≡ o.clock
   pub until : now.until ≡ o.stalled_until
 
--- Both sides, the chip's first, in a round that is a tick or none: as they are once the number of the running tick is entered, where it is still to be.
-pub record KnowsBoth (is_tick : Bool) (past : List Entry) (m : Machine) (up down : LinkNow) : Type 0 where
+-- Both sides, the chip's first, in a round that is a tick or none: as they are once the number of the running tick is entered, where it is still to be. That of the chip did these steps.
+pub record KnowsBoth (did : List Step) (is_tick : Bool) (past : List Entry) (m : Machine) (up down : LinkNow) : Type 0 where
   pub line : AtLine (past ++ ticked_entry m.outside.outer) m.outside.outer up down
   pub behind : tick_told past ≤ m.outside.outer.clock
   pub chip_way : Brings m.outside.outer.to_chip up.coming
   pub chip_time : IsTimed m.outside.outer up
   pub host_time : IsTimed m.outside.outer down
+  pub life : up.life ≡ did
   pub chip_round : up.is_tick ≡ is_tick
   pub host_round : down.is_tick ≡ is_tick
   pub host_link : down.link ≡ m.host.state.side
@@ -73,12 +76,12 @@ pub record KnowsBoth (is_tick : Bool) (past : List Entry) (m : Machine) (up down
   pub frames : HasFrames m.outside.outer.chip.state.port
   pub rests : AreAtRest m
 
-abbrev pub Both : Bool → (LinkNow → LinkNow → Type 0) → KnownOf
-Both is_tick Has past m = (up : LinkNow) × (down : LinkNow) × KnowsBoth is_tick past m up down × Has up down
+abbrev pub Both : List Step → Bool → (LinkNow → LinkNow → Type 0) → KnownOf
+Both did is_tick Has past m = (up : LinkNow) × (down : LinkNow) × KnowsBoth did is_tick past m up down × Has up down
 
 -- in a round as the machine has it
-abbrev pub Round : (LinkNow → LinkNow → Type 0) → KnownOf
-Round Has past m = Both m.outside.outer.in_tick Has past m
+abbrev pub Round : List Step → (LinkNow → LinkNow → Type 0) → KnownOf
+Round did Has past m = Both did m.outside.outer.in_tick Has past m
 
 -- ---- what each side has done in the round
 
@@ -107,12 +110,12 @@ HaveHeard passes m up down =
     passes < 64 → is_stalled m.outside.outer ≡ false →
     (down.coming ≡ []) × (((63 - passes) + length up.coming ≤ up.brought) ⊎ ((up.coming ≡ []) × (passes ≡ 0) × IsQuiet m.host.state))
 
-abbrev pub Settling : ℕ → KnownOf
-Settling passes past m = Round (λ up down. HaveTickedOnce up down × HaveHeard passes m up down) past m
+abbrev pub Settling : List Step → ℕ → KnownOf
+Settling did passes past m = Round did (λ up down. HaveTickedOnce up down × HaveHeard passes m up down) past m
 
 -- where bytes are about to move, after a pump
-abbrev pub Passing : ℕ → KnownOf
-Passing passes past m = Settling (suc passes) past m × IsQuiet m.host.state
+abbrev pub Passing : List Step → ℕ → KnownOf
+Passing did passes past m = Settling did (suc passes) past m × IsQuiet m.host.state
 
 -- And where those to the chip have; or none did, and then it has heard all, and in all passes but the first so has the host.
 abbrev pub HaveMoved : Bool → ℕ → Machine → LinkNow → LinkNow → Type 0
@@ -122,13 +125,13 @@ HaveMoved false passes m up down = IsQuiet m.host.state × (is_stalled m.outside
 -- ---- a line
 
 -- its words are entered, and nothing since
-pub record LinksBefore (line : Line) (past : List Entry) (m : Machine) : Type 0 where
+pub record LinksBefore (did : List Step) (line : Line) (past : List Entry) (m : Machine) : Type 0 where
   pub before : List Entry
   pub words : List ℕ
   pub read : line_of (Said words) ≡ line ∷ []
   pub is : past ≡ before ++ Said words ∷ []
   pub is_tick : Bool
-  pub both : Both is_tick MayBothEnd before m
+  pub both : Both did is_tick MayBothEnd before m
   pub due : due_from 0 before ≡ m.outside.outer.clock
 
 -- of a machine at which it has begun, or that the chip only knows otherwise: all else that concerns the links is the same
@@ -143,12 +146,12 @@ pub record IsBegun (first m : Machine) : Type 0 where
   pub host : m.host ≡ first.host
 
 -- so once it has begun
-abbrev pub LinksBegun : Line → KnownOf
-LinksBegun line past m = (first : Machine) × LinksBefore line past first × IsBegun first m
+abbrev pub LinksBegun : List Step → Line → KnownOf
+LinksBegun did line past m = (first : Machine) × LinksBefore did line past first × IsBegun first m
 
 -- where the line is counted
-abbrev pub LinksDone : KnownOf
-LinksDone past m = Round HaveTickedOnce past m × (m.outside.outer.in_tick ≡ false)
+abbrev pub LinksDone : List Step → KnownOf
+LinksDone did past m = Round did HaveTickedOnce past m × (m.outside.outer.in_tick ≡ false)
 
 -- The host has started again: no pipe is cleared yet, or that to the chip is. So many bytes were on their way to the chip, and to the host.
 abbrev pub AreCleared : Bool → ℕ → List ℕ → Type 0
@@ -159,7 +162,7 @@ abbrev pub told_cleared : Bool → ℕ → List Entry
 told_cleared false lost = []
 told_cleared true lost = cleared Host lost
 
-pub record LinksClearing (has_cleared : Bool) (past : List Entry) (m : Machine) : Type 0 where
+pub record LinksClearing (did : List Step) (has_cleared : Bool) (past : List Entry) (m : Machine) : Type 0 where
   pub before : List Entry
   pub words : List ℕ
   pub read : line_of (Said words) ≡ lines.Restart ∷ []
@@ -172,6 +175,7 @@ pub record LinksClearing (has_cleared : Bool) (past : List Entry) (m : Machine) 
   pub is : past ≡ before ++ Said words ∷ told_cleared has_cleared to_chip
   pub chip : KnowsLink Chip past up
   pub host : KnowsLink Host past down
+  pub life : up.life ≡ did
   pub chip_is : (up.is_tick ≡ false) × (up.coming ≡ []) × (up.lost ≡ ups ++ to_chip ∷ [])
   pub host_is : (down.is_tick ≡ false) × (down.coming ≡ []) × (down.lost ≡ downs ++ to_host ∷ [])
   pub many : length ups ≡ length downs
@@ -213,33 +217,33 @@ ArePlain (Outside_does Discovers ∷ left) = ArePlain left
 ArePlain (first ∷ left) = IsPlain first × AllByRecursion IsLater left
 
 -- the event of its effect is to come, or was
-abbrev pub LinksOne : Event → Line → List Event → KnownOf
-LinksOne event line left past m = ((left ≡ event ∷ []) × LinksBegun line past m) ⊎ ((left ≡ []) × LinksDone past m)
+abbrev pub LinksOne : List Step → Event → Line → List Event → KnownOf
+LinksOne did event line left past m = ((left ≡ event ∷ []) × LinksBegun did line past m) ⊎ ((left ≡ []) × LinksDone did past m)
 
 -- a restart: nothing is done yet; the host has started again; the pipe to the chip is cleared; all is done
-abbrev pub LinksRestarting : List Event → KnownOf
-LinksRestarting left past m =
-    (IsEffect lines.Restart m left × LinksBegun lines.Restart past m)
-    ⊎ (((left ≡ Outside_does (Clears_pipe Host) ∷ Outside_does (Clears_pipe Chip) ∷ []) × LinksClearing false past m)
-    ⊎ (((left ≡ Outside_does (Clears_pipe Chip) ∷ []) × LinksClearing true past m) ⊎ ((left ≡ []) × LinksDone past m)))
+abbrev pub LinksRestarting : List Step → List Event → KnownOf
+LinksRestarting did left past m =
+    (IsEffect lines.Restart m left × LinksBegun did lines.Restart past m)
+    ⊎ (((left ≡ Outside_does (Clears_pipe Host) ∷ Outside_does (Clears_pipe Chip) ∷ []) × LinksClearing did false past m)
+    ⊎ (((left ≡ Outside_does (Clears_pipe Chip) ∷ []) × LinksClearing did true past m) ⊎ ((left ≡ []) × LinksDone did past m)))
 
 -- of its effect these are to come; a `tick` has none
-abbrev pub LinksLeft : Line → List Event → KnownOf
-LinksLeft (lines.Tick count) left past m = ⊥
-LinksLeft lines.Restart left past m = LinksRestarting left past m
-LinksLeft lines.Collide left past m = LinksOne (Outside_does Collides_next) lines.Collide left past m
-LinksLeft (lines.Stall ticks) left past m = LinksOne (Outside_does (Stalls ticks)) (lines.Stall ticks) left past m
-LinksLeft line left past m = (ArePlain left × LinksBegun line past m) ⊎ (AllByRecursion IsLater left × LinksDone past m)
+abbrev pub LinksLeft : List Step → Line → List Event → KnownOf
+LinksLeft did (lines.Tick count) left past m = ⊥
+LinksLeft did lines.Restart left past m = LinksRestarting did left past m
+LinksLeft did lines.Collide left past m = LinksOne did (Outside_does Collides_next) lines.Collide left past m
+LinksLeft did (lines.Stall ticks) left past m = LinksOne did (Outside_does (Stalls ticks)) (lines.Stall ticks) left past m
+LinksLeft did line left past m = (ArePlain left × LinksBegun did line past m) ⊎ (AllByRecursion IsLater left × LinksDone did past m)
 
 -- where a line or tick is over, also after the words of a `tick`, which begin no round
-abbrev pub LinksEnded : KnownOf
-LinksEnded past m = (is_tick : Bool) × Both is_tick MayBothEnd past m
+abbrev pub LinksEnded : List Step → KnownOf
+LinksEnded did past m = (is_tick : Bool) × Both did is_tick MayBothEnd past m
 
 -- ---- at each phase
 
 -- in a tick: before its own tick a side has none
-abbrev pub InTick : ℕ → ℕ → KnownOf
-InTick chip host past m = Round (HaveTicked chip host) past m × (m.outside.outer.in_tick ≡ true)
+abbrev pub InTick : List Step → ℕ → ℕ → KnownOf
+InTick did chip host past m = Round did (HaveTicked chip host) past m × (m.outside.outer.in_tick ≡ true)
 
 -- the host's link ticks first of all that the host does then
 abbrev pub host_ticked : List HostEvent → ℕ
@@ -250,24 +254,24 @@ abbrev pub TicksFirst : List HostEvent → Type 0
 TicksFirst (Line_ticks ∷ events) = AllByRecursion TicksNot events
 TicksFirst events = AllByRecursion TicksNot events
 
-abbrev pub KnowLinks : Phase → KnownOf
-KnowLinks Between past m = LinksEnded past m
-KnowLinks (Said_line line) past m = LinksBefore line past m
-KnowLinks (Begun line) past m = LinksBegun line past m
-KnowLinks (Doing line left) past m = LinksLeft line left past m
-KnowLinks (To_tick ticks) past m = LinksEnded past m
-KnowLinks (Ticked ticks) past m = InTick 0 0 past m
-KnowLinks (Arriving frames ticks) past m = InTick 0 0 past m
-KnowLinks (Giving results ticks) past m = InTick 0 0 past m
-KnowLinks (Ticking_devices place count ticks) past m = InTick 0 0 past m
-KnowLinks (Ticking_chip ticks) past m = InTick 0 0 past m
-KnowLinks (Ticking_decoder ticks) past m = InTick 1 0 past m
-KnowLinks (Ticking_host events ticks) past m = InTick 1 (host_ticked events) past m × AllByRecursion HearsNothing events × TicksFirst events
-KnowLinks (Sleeping passes ticks) past m = Settling passes past m
-KnowLinks (Submitting passes ticks) past m = Settling passes past m × WantsNone m.host.state
-KnowLinks (Moving passes ticks) past m = Passing passes past m
-KnowLinks (Moved has_moved passes ticks) past m = Round (λ up down. HaveTickedOnce up down × HaveMoved has_moved passes m up down) past m
+abbrev pub KnowLinks : List Step → Phase → KnownOf
+KnowLinks did Between past m = LinksEnded did past m
+KnowLinks did (Said_line line) past m = LinksBefore did line past m
+KnowLinks did (Begun line) past m = LinksBegun did line past m
+KnowLinks did (Doing line left) past m = LinksLeft did line left past m
+KnowLinks did (To_tick ticks) past m = LinksEnded did past m
+KnowLinks did (Ticked ticks) past m = InTick did 0 0 past m
+KnowLinks did (Arriving frames ticks) past m = InTick did 0 0 past m
+KnowLinks did (Giving results ticks) past m = InTick did 0 0 past m
+KnowLinks did (Ticking_devices place count ticks) past m = InTick did 0 0 past m
+KnowLinks did (Ticking_chip ticks) past m = InTick did 0 0 past m
+KnowLinks did (Ticking_decoder ticks) past m = InTick did 1 0 past m
+KnowLinks did (Ticking_host events ticks) past m = InTick did 1 (host_ticked events) past m × AllByRecursion HearsNothing events × TicksFirst events
+KnowLinks did (Sleeping passes ticks) past m = Settling did passes past m
+KnowLinks did (Submitting passes ticks) past m = Settling did passes past m × WantsNone m.host.state
+KnowLinks did (Moving passes ticks) past m = Passing did passes past m
+KnowLinks did (Moved has_moved passes ticks) past m = Round did (λ up down. HaveTickedOnce up down × HaveMoved has_moved passes m up down) past m
 
 -- with the laws of a run that is cut short there
-abbrev pub KnowCuts : Phase → KnownOf
-KnowCuts here past m = Cuts past × KnowLinks here past m
+abbrev pub KnowCuts : List Step → Phase → KnownOf
+KnowCuts did here past m = Cuts did past × KnowLinks did here past m

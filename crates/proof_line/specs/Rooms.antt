@@ -16,7 +16,6 @@ use Rattle.zw_text.specs.declared.entry.Entry.{Entry}
 use Rattle.zw_text.specs.declared.entry.Refusal.{Refusal}
 use Rattle.zw_text.specs.declared.entry.Entry.TheVariants.{Said, Written, Overrun}
 use Rattle.zw_text.specs.Transcript.{line_of, line_last}
-use Rattle.law_transcript.specs.Lists.{EachAfter}
 use Rattle.law_transcript.specs.Restarts.{is_restart}
 use Rattle.law_wire.specs.Pipes.{Pipe, empty_pipe, pipe_from, sum_of, unit_last, is_marked, may_fit}
 use Rattle.law_wire.specs.Links.{other}
@@ -52,13 +51,6 @@ abbrev pub MayFit : List Entry → Entry → Type 0
 MayFit past (Written side unit) = LastFits past × (length unit ≡ 1 → HasUnanswered side past)
 MayFit past (Overrun side) = ⊤
 MayFit past entry = is_marked entry || list_all may_fit (unit_last past) ≡ true
-
-abbrev pub MayAnswer : List Entry → Entry → Type 0
-MayAnswer past (Written side unit) = length unit ≡ 1 → HasUnanswered side past
-MayAnswer past entry = ⊤
-
-abbrev pub AnswersFrames : List Entry → Type 0
-AnswersFrames transcript = EachAfter MayAnswer [] transcript
 
 -- ---- items that are answered
 

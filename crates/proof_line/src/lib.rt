@@ -4,7 +4,7 @@
 //! line is; the laws themselves are those of `law_wire`, or parts of them (`Pipes`), and each is proved on the walk of `proof_walk`. `marks_go_on`,
 //! `collisions_go_on`, `pipes_go_on`, `rooms_go_on` and `numbers_go_on` tie the machine to the transcript at each phase of a line; from them follow
 //! `lines_mark_units`, `lines_collide_when_asked`, `lines_overrun_only_when_full`, `lines_overrun_when_full`, `lines_clear_at_restarts`,
-//! `lines_clear_nowhere_else`, `lines_answer_frames` and `ticks_are_told`.
+//! `lines_clear_nowhere_else` and `ticks_are_told`.
 //! The definitions are in `specs/`: `Collisions`, `Marks`, `Pipes`, `Rooms` and `Times` (what is known of each at each phase of a line), `Arrivals`
 //! (what arrives of the units of a side since the host started), `Links` (what is known of the link of a side between two events of the line) and `Linked`
 //! (what is known of both at each phase). From these two follow `lines_keep_links` and `lines_clear_the_line`: both sides keep the rules of the line, and
@@ -20,8 +20,8 @@ mod times;
 pub use links::{lines_clear_the_line, lines_keep_links};
 pub use marks::{lines_collide_when_asked, lines_mark_units};
 pub use pipes::{
-    lines_answer_frames, lines_clear_at_restarts, lines_clear_nowhere_else,
-    lines_overrun_only_when_full, lines_overrun_when_full,
+    lines_clear_at_restarts, lines_clear_nowhere_else, lines_overrun_only_when_full,
+    lines_overrun_when_full,
 };
 pub use proof_spoken as spoken;
 pub use ties::{collisions_go_on, marks_go_on, numbers_go_on, pipes_go_on, rooms_go_on};

@@ -10,7 +10,6 @@ ghost use Rattle.world_lines.specs.Spoken.{Spoken, transcript_of};
 ghost use Rattle.world_lines.specs.Done.{AreDone};
 ghost use Rattle.world_lines.specs.Whole.{AreWhole};
 ghost use Rattle.proof_line.specs.Pipes.{ClearsAtRestarts, ClearsNowhereElse, OverrunsOnlyWhenFull};
-ghost use Rattle.proof_line.specs.Rooms.{AnswersFrames};
 
 use crate::{pipes_go_on, rooms_go_on};
 use proof_serial::hosts_write_well;
@@ -55,18 +54,6 @@ pub fn lines_overrun_when_full()
         OverrunsWhenFull (ended whole (transcript_of (first_machine keys (Some []) devices) lines)) }
 {
     lines_overrun_only_when_full();
-    rooms_go_on();
-    hosts_write_well();
-    lines_keep_and_ask_well();
-}
-
-/// Over any such lines, over a keeper that tells its records and has none at first, a side answers, by a unit of one byte, only where a data frame of the other
-/// side has arrived that has no answer yet: so at most once each.
-pub fn lines_answer_frames()
-    ensures { (keys : Keys) (devices : List State) (lines : List Spoken) →
-        AreDone (first_machine keys (Some []) devices) lines →
-        AnswersFrames (transcript_of (first_machine keys (Some []) devices) lines) }
-{
     rooms_go_on();
     hosts_write_well();
     lines_keep_and_ask_well();

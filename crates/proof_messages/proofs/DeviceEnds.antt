@@ -38,8 +38,6 @@ parts device finals is = record { count = is.count; at_work = is.at_work; at_res
 whole : (device : State) (finals : List ℕ) → Ended device.journal device.sessions device.work_left finals → HasEnded device finals
 whole device finals is = record { count = is.count; at_work = is.at_work; at_rest = is.at_rest; told = is.told; changed = is.changed }
 
--- ---- numbers of changes
-
 -- ---- statuses that are added
 
 choose_then : (b : Bool) (n : ℕ) (xs ys zs : List ℕ) → zs ≡ xs ++ ys → (if b then n ∷ zs else zs) ≡ (if b then n ∷ xs else xs) ++ ys
@@ -57,10 +55,10 @@ pub numbered_last : (finals : List ℕ) (status : ℕ) → numbered (finals ++ s
 numbered_last [] status = refl
 numbered_last (x ∷ finals) status = numbered_last finals status
 
-one_none : (left : ℕ) → left ≡ 0 → one_at_work left ≡ 0
+pub one_none : (left : ℕ) → left ≡ 0 → one_at_work left ≡ 0
 one_none left none = rw none refl
 
-one_some : (left : ℕ) → 0 < left → one_at_work left ≡ 1
+pub one_some : (left : ℕ) → 0 < left → one_at_work left ≡ 1
 one_some left some = let test : left == 0 ≡ false = grind (arith, nat_tests) in rw test refl
 
 -- a session ends: with a change where it ends with success

@@ -119,7 +119,7 @@ none_told : (payload : List ℕ) (plan : Plan) (command : List ℕ) (fault : Cla
 unfolding heard_at
 none_told payload plan command fault unsealed opened read = rw (unsealed, opened, read) refl
 
-same_messages : (a b : List Told) → Messages a ≡ Messages b → a ≡ b
+pub same_messages : (a b : List Told) → Messages a ≡ Messages b → a ≡ b
 same_messages a b e = cc
 
 told_none : (payload : List ℕ) (told : Told) → IsNoReport told → heard_at payload ≡ Messages (told ∷ []) → TellsNone payload
@@ -138,7 +138,7 @@ bare_none : (text : List ℕ) (read : Result InfoMessage ClassFault) → IsComma
 bare_none text (Ok message) is unsealed read none = told_none text (told_by 0 message) (none message refl) (one_told text bare text message unsealed (bare_opens text is) read)
 bare_none text (Err fault) is unsealed read none = unread_none text (none_told text bare text fault unsealed (bare_opens text is) read)
 
-same_ok : (a b : InfoMessage) → ◌≡◌ {A = Result InfoMessage ClassFault} (Ok a) (Ok b) → a ≡ b
+pub same_ok : (a b : InfoMessage) → ◌≡◌ {A = Result InfoMessage ClassFault} (Ok a) (Ok b) → a ≡ b
 same_ok a b e = cc
 
 bare_read : (text : List ℕ) (message : InfoMessage) → IsCommand false text → begins_with text 152 129 ≡ false → info_at text ≡ Ok message → IsNoReport (told_by 0 message) → TellsNone text
@@ -240,7 +240,6 @@ asked_value kind values end None message e = no_some message e
 asked_value kind values end (Some name) message e = report_value name _ message (if_some (tells kind name) _ message e)
 
 -- members are nodes
-
 range_nodes : (low count : ℕ) → 1 ≤ low → low + count ≤ 233 → list_all is_node (range_with_len low count) ≡ true
 range_nodes low zero from to = refl
 range_nodes low (suc count) from to =

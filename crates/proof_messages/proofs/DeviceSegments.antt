@@ -195,7 +195,7 @@ next_segment device message segment drawn session awake kind part whole id agree
 
 -- ---- any other
 
-never_true : (c : Bool) → (c ≡ true → ⊥) → c ≡ false
+pub never_true : (c : Bool) → (c ≡ true → ⊥) → c ≡ false
 never_true true not = absurd (not refl)
 never_true false not = refl
 

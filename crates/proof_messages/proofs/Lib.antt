@@ -4,17 +4,17 @@ mod OpenedMessages
 mod Verdicts
 pub mod SessionMessages
 mod OtherMessages
-mod DeviceReports
+pub mod DeviceReports
 mod DevicePayloads
 mod SegmentParts
-mod DeviceSegments
+pub mod DeviceSegments
 mod Courses
 mod SealedAtLock
 pub mod NonceNumbers
 pub mod Texts
 mod LockPayloads
 mod HostNonces
-mod SealedByNumber
+pub mod SealedByNumber
 mod ShownNonces
 pub mod LockSessions
 mod Unnumbered

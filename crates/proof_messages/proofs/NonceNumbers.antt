@@ -12,7 +12,7 @@ use Rattle.s0_session.specs.declared.account.Account.{Account}
 use Rattle.s0_session.specs.Nonces.{new_nonce, nonce_given, after_give, nonce_spent, after_spend, unused}
 use Rattle.s0_session.specs.Sending.{seen_after, taken_from}
 use Rattle.proof_messages.specs.Numbers.{IsNonce, HasGiven, with_given}
-use Rattle.chip_functions.proofs.RowLaws.{none_is}
+use Rattle.chip_functions.proofs.RowLaws.{none_is, some_is as some_same}
 
 -- ---- lists
 
@@ -37,9 +37,6 @@ pub nonce_stays : (nonces more : List (List ℕ)) (number : ℕ) (nonce : List �
 nonce_stays nonces more number nonce is = record { given = numbered-more nonces more number nonce is.given; eight = is.eight; first = is.first }
 
 -- ---- who gives
-
-some_same : {A : Type 0} (a b : A) → Some a ≡ Some b → a ≡ b
-some_same a b e = cc
 
 for_none : (P : List ℕ → Type 0) → ForSome None P
 for_none P x e = absurd (none_is x e)

@@ -1,10 +1,10 @@
 -- What a lock makes of a message that was sealed for its live nonce.
-use Rattle.std.proofs.Common.{◌≡◌, ℕ, ◌+◌, ◌-◌, ◌/◌, ◌≤◌, ◌==◌, Bool, true, false, not, nat_lt, if◌then◌else◌, Option, Some, None, List, ◌∷◌, ◌++◌, length, get_or, refl, ap, sym, ◌∙◌, subst, arith}
+use Rattle.std.proofs.Common.{◌≡◌, ℕ, ◌+◌, ◌-◌, ◌≤◌, ◌==◌, Bool, true, false, not, nat_lt, if◌then◌else◌, Option, Some, None, List, ◌∷◌, ◌++◌, length, get_or, refl, ap, sym, ◌∙◌, subst, arith}
 use Rattle.std.specs.Prelude.{slice_index, nat_le, zero, suc}
 use Rattle.std.specs.Option.{option_map}
 use Rattle.std.proofs.lemmas.Bool.{eqb-true}
 use Rattle.std.proofs.lemmas.Bool.Decides.{Decides-eqb, nat_tests}
-use Rattle.std.proofs.lemmas.List.{length-take-le, get_or-append_right}
+use Rattle.std.proofs.lemmas.List.{get_or-append_right}
 use Rattle.zw_base.specs.declared.order.Order.{Order}
 use Rattle.supervision.specs.Session.{wire_id}
 use Rattle.supervision.specs.Device.{is_new, is_again, heard_of}
@@ -14,8 +14,8 @@ use Rattle.supervision.specs.declared.device_book.Heard.TheVariants.{New, Again,
 use Rattle.aes_block.specs.Cipher.{aes, add_round_key}
 use Rattle.s0_crypto.specs.declared.key_pair.Keys.{Keys}
 use Rattle.s0_crypto.specs.declared.ends.SealEnds.{SealEnds}
-use Rattle.s0_crypto.specs.Modes.{chained, cbc_mac}
-use Rattle.s0_crypto.specs.Seal.{Seals, covered, code_of}
+use Rattle.s0_crypto.specs.Modes.{chained}
+use Rattle.s0_crypto.specs.Seal.{Seals, code_of}
 use Rattle.s0_crypto.specs.Opening.{nonce_in}
 use Rattle.s0_crypto.proofs.MessageLemmas.{length_of_layout, nonce_of_layout}
 use Rattle.s0_crypto.proofs.OpeningLemmas.{one_plain_text}
@@ -51,20 +51,14 @@ use Rattle.proof_messages.specs.Reporting.{HasAnswered}
 use Rattle.proof_messages.proofs.OpenedMessages.{message_opens, target_is}
 use Rattle.proof_messages.proofs.SessionMessages.{supervised_follows, awake_after}
 use Rattle.proof_messages.proofs.DeviceReports.{spent, own_heard, taken_own, first_holds, second_holds}
+use Rattle.proof_messages.proofs.Texts.{length-code}
 
 -- ---- sealing and opening
 
-length-chained : (key text : List ℕ) (i : ℕ) → length (chained key text i) ≡ 16
+pub length-chained : (key text : List ℕ) (i : ℕ) → length (chained key text i) ≡ 16
 unfolding chained aes add_round_key
 length-chained key text zero = refl
 length-chained key text (suc i) = refl
-
-length-code : (keys : Keys) (vector : List ℕ) (ends : SealEnds) (text : List ℕ) → length (code_of keys vector ends text) ≡ 8
-unfolding code_of cbc_mac
-length-code keys vector ends text =
-    let blocks : ℕ = (length (covered vector ends text) + 15) / 16 in
-    let whole = length-chained keys.code (covered vector ends text) blocks in
-    length-take-le 8 (chained keys.code (covered vector ends text) blocks) (omega (arith, whole))
 
 -- the named byte of a message
 named_at : (own text code : List ℕ) (named : ℕ) → length own ≡ 8 → length code ≡ 8

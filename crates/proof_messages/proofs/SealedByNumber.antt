@@ -30,6 +30,7 @@ use Rattle.proof_messages.specs.Opened.{OpensAs}
 use Rattle.proof_messages.proofs.NonceNumbers.{found_live, none_named, same_sides}
 use Rattle.proof_messages.proofs.Texts.{IsText, is_text, length-code}
 use Rattle.proof_messages.proofs.LockSessions.{some_same}
+use Rattle.proof_messages.proofs.DeviceReports.{same_messages as messages_same}
 
 -- ---- what a sealed text is
 
@@ -64,9 +65,6 @@ heard_sealed : (nonce payload : List ℕ) → IsText nonce payload → heard_at 
 unfolding heard_at
 heard_sealed nonce payload text = rw text.begins refl
 
-messages_same : (a b : List Told) → Messages a ≡ Messages b → a ≡ b
-messages_same a b e = cc
-
 opened_so : (h : HostState) (n : ℕ) (nonce plain payload : List ℕ) (messages : List Told) (events : List HostEvent) → IsMade h.keys nonce (ends_from n) plain payload → heard_at plain ≡ Messages messages
     → IsOpened h n nonce payload events → OpensAs h n payload messages events true
 opened_so h n nonce plain payload messages events is heard (inl unkept) = inl unkept
@@ -100,13 +98,13 @@ sealed_opens h n nonces c number plain payload messages events has is itself hea
 
 -- ---- the host seals
 
-layout_length : (own text code : List ℕ) (named : ℕ) → length (0x98 ∷ 0x81 ∷ (own ++ (text ++ named ∷ code))) ≡ length own + (length text + length code) + 3
+pub layout_length : (own text code : List ℕ) (named : ℕ) → length (0x98 ∷ 0x81 ∷ (own ++ (text ++ named ∷ code))) ≡ length own + (length text + length code) + 3
 layout_length own text code named =
     let outer = length-append own (text ++ named ∷ code) in
     let inner = length-append text (named ∷ code) in
     omega (arith, outer, inner)
 
-sealed_length : (keys : Keys) (own nonce : List ℕ) (ends : SealEnds) (plain bytes : List ℕ) → Seals keys own nonce ends plain bytes → length bytes ≡ length own + length plain + 12
+pub sealed_length : (keys : Keys) (own nonce : List ℕ) (ends : SealEnds) (plain bytes : List ℕ) → Seals keys own nonce ends plain bytes → length bytes ≡ length own + length plain + 12
 sealed_length keys own nonce ends plain bytes s =
     let code : List ℕ = code_of keys (own ++ nonce) ends s.cipher_text in
     let whole = layout_length own s.cipher_text code (slice_index nonce 0) in

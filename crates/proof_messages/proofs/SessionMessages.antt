@@ -70,15 +70,15 @@ headed_not_sealed payload is =
     by_heads (λ p. begins_with p 0x98 0x81 ≡ false) payload (λ rest. never_begins _ _) (λ rest. never_begins _ _)
     (λ rest. never_begins _ _) is
 
-crc_unread : (rest : List ℕ) → info_at (86 ∷ 1 ∷ rest) ≡ Err (UnknownClass 86)
+pub crc_unread : (rest : List ℕ) → info_at (86 ∷ 1 ∷ rest) ≡ Err (UnknownClass 86)
 unfolding info_at message_at own_at byte_at
 crc_unread rest = refl
 
-channel_unread : (rest : List ℕ) → info_at (96 ∷ 13 ∷ rest) ≡ Err (UnknownClass 96)
+pub channel_unread : (rest : List ℕ) → info_at (96 ∷ 13 ∷ rest) ≡ Err (UnknownClass 96)
 unfolding info_at message_at own_at byte_at
 channel_unread rest = refl
 
-get_unread : (rest : List ℕ) → info_at (108 ∷ 1 ∷ rest) ≡ Err (UnknownCommand 108 1)
+pub get_unread : (rest : List ℕ) → info_at (108 ∷ 1 ∷ rest) ≡ Err (UnknownCommand 108 1)
 unfolding info_at message_at own_at byte_at in_class
 get_unread rest = refl
 

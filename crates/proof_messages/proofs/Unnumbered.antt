@@ -32,15 +32,14 @@ use Rattle.host_orders.specs.declared.errand.Gettable.{Gettable}
 use Rattle.host_orders.specs.declared.errand.Gettable.TheVariants as gettables
 use Rattle.proof_messages.specs.Payloads.{IsUnnumbered}
 use Rattle.proof_messages.proofs.Bare.{never_begins}
+use Rattle.proof_messages.proofs.SessionMessages.{crc_unread, channel_unread, get_unread as supervised_unread}
+use Rattle.proof_messages.proofs.DeviceReports.{same_ok as ok_same}
 
 -- ---- a message that is spelled
 
 abbrev IsNoReport : InfoMessage → Type 0
 IsNoReport (NonceReport nonce) = ⊥
 IsNoReport _ = Unit {0}
-
-ok_same : (a b : InfoMessage) → ◌≡◌ {A = Result InfoMessage ClassFault} (Ok a) (Ok b) → a ≡ b
-ok_same a b e = cc
 
 ok_never : (fault : ClassFault) (m : InfoMessage) → ◌≡◌ {A = Result InfoMessage ClassFault} (Err fault) (Ok m) → ⊥
 ok_never fault m e = cc
@@ -59,18 +58,6 @@ pub no_more_unnumbered : IsUnnumbered (form WakeUpNoMoreInformation)
 no_more_unnumbered = form_unnumbered WakeUpNoMoreInformation tt tt refl refl
 
 -- ---- in wraps
-
-crc_unread : (rest : List ℕ) → info_at (86 ∷ 1 ∷ rest) ≡ Err (UnknownClass 86)
-unfolding info_at message_at own_at byte_at
-crc_unread rest = refl
-
-channel_unread : (rest : List ℕ) → info_at (96 ∷ 13 ∷ rest) ≡ Err (UnknownClass 96)
-unfolding info_at message_at own_at byte_at
-channel_unread rest = refl
-
-supervised_unread : (rest : List ℕ) → info_at (108 ∷ 1 ∷ rest) ≡ Err (UnknownCommand 108 1)
-unfolding info_at message_at own_at byte_at in_class
-supervised_unread rest = refl
 
 third_false : (a b : Bool) → a && (false && b) ≡ false
 third_false true b = refl

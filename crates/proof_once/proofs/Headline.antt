@@ -4,7 +4,7 @@ use Rattle.std.specs.List.{AllByRecursion}
 use Rattle.device_sim.specs.State.{State}
 use Rattle.zw_text.specs.declared.entry.Entry.{Entry}
 use Rattle.law_transcript.specs.Headline.{Headline, HeadlineOf}
-use Rattle.law_transcript.specs.Nodes.{device_of, is_supervised, listing_of}
+use Rattle.law_transcript.specs.Nodes.{device_of, is_supervised, listing_of, always}
 use Rattle.law_transcript.specs.Once.{IsSupervisedChange, Once, SucceedsAfterChange}
 use Rattle.law_transcript.specs.Values.{ConfirmsLast}
 use Rattle.host_node.specs.TableState.{node_of}
@@ -34,11 +34,11 @@ module _ (laws : (past : List Entry) (h : HostState) → Facts past h → HostLa
     (confirms : (past : List Entry) (h : HostState) (node : ℕ) (device : State) (finals told : List ℕ) → Facts past h → IsTied h.commands (node_of h.nodes node).book device finals told
     → ConfirmsByTable node past h.store device)
     (once_so : (past : List Entry) (h : HostState) (listing : ℕ → List ℕ) (node : ℕ) (device : State) → IsTable listing h.commands node past → OnceByTable h.commands node past device.journal
-    → Once listing node past device.journal)
+    → Once (always listing) node past device.journal)
     (confirms_so : (past : List Entry) (h : HostState) (listing : ℕ → List ℕ) (node : ℕ) (device : State) → Facts past h → IsTable listing h.commands node past
-    → ConfirmsByTable node past h.store device → ConfirmsLast listing node past device) where
+    → ConfirmsByTable node past h.store device → ConfirmsLast (always listing) node past device) where
   pub headline_one : (past : List Entry) (h : HostState) (before : List State) (node : ℕ) (device : State) → Facts past h → AreTied h node device → is_supervised device ≡ true
-      → ChangesInSessions device → IsTable (listing_of before) h.commands node past → HeadlineOf (listing_of before) node past device
+      → ChangesInSessions device → IsTable (listing_of before) h.commands node past → HeadlineOf (always (listing_of before)) node past device
   headline_one past h before node device facts one knows in_sessions table = record {
     once = once_so past h (listing_of before) node device table (once past h node device one.finals one.told facts one.tied (in_sessions knows));
     confirms = confirms_so past h (listing_of before) node device facts table (confirms past h node device one.finals one.told facts one.tied);

@@ -1,4 +1,4 @@
-mod CommandsOfSessions
+pub mod CommandsOfSessions
 mod Successes
 pub mod BegunCommands
 mod Once

@@ -17,6 +17,7 @@ use Rattle.law_transcript.specs.Table.{compare_properties}
 use Rattle.law_transcript.specs.Values.{last_given, last_setter, sets}
 use Rattle.proof_host.specs.Stores.{AreSorted}
 use Rattle.host_model.proofs.Values.{one_property}
+use Rattle.device_kinds.proofs.CacheLemmas.{value_after-append as value_then}
 
 -- ---- settings in the order of properties
 
@@ -136,10 +137,6 @@ value_left : (later : List Change) (property : Property) (value : ℕ) → AllBy
 value_left [] property value none = refl
 value_left (change ∷ later) property value none =
     ap (λ (v : ℕ). value_after later property v) (left_so change.settings property value (none_set change.settings property none.0)) ∙ value_left later property value none.1
-
-value_then : (prefix later : List Change) (property : Property) (value : ℕ) → value_after (prefix ++ later) property value ≡ value_after later property (value_after prefix property value)
-value_then [] later property value = refl
-value_then (change ∷ prefix) later property value = value_then prefix later property (value_by change.settings property value)
 
 pub last_gives : (journal : List Change) (property : Property) (by : By) (last : IsLast journal property by) → AreSorted last.change.settings
     → value_among last.change.settings property ≡ Some (value_after journal property 0)

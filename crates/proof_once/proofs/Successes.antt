@@ -10,6 +10,7 @@ use Rattle.supervision.specs.declared.session.TheConstants.{SUCCESS}
 use Rattle.proof_course.specs.Parts.{successes}
 use Rattle.law_transcript.specs.Lists.{Has, Rises}
 use Rattle.law_transcript.proofs.Having.{all_of}
+use Rattle.proof_course.proofs.Parts.{successes_from}
 
 -- ---- which they are
 
@@ -60,14 +61,6 @@ has_success finals session has =
     subst (λ (n : ℕ). command_at finals n ≡ Some SUCCESS) same one.status
 
 -- ---- they rise
-
-from_or : (b : Bool) (at : ℕ) (later : List ℕ) → AllByRecursion (λ n. at + 1 ≤ n) later → AllByRecursion (λ n. at ≤ n) (if b then at ∷ later else later)
-from_or true at later all = (omega arith, all-weaker (λ n. at + 1 ≤ n) (λ n. at ≤ n) (λ n more. omega (arith, more)) later all)
-from_or false at later all = all-weaker (λ n. at + 1 ≤ n) (λ n. at ≤ n) (λ n more. omega (arith, more)) later all
-
-successes_from : (at : ℕ) (finals : List ℕ) → AllByRecursion (λ n. at ≤ n) (successes at finals)
-successes_from at [] = tt
-successes_from at (status ∷ more) = from_or (status == SUCCESS) at (successes (at + 1) more) (successes_from (at + 1) more)
 
 rise_or : (b : Bool) (at : ℕ) (later : List ℕ) → AllByRecursion (λ n. at + 1 ≤ n) later → Rises later → Rises (if b then at ∷ later else later)
 rise_or true at later all rises = (all-weaker (λ n. at + 1 ≤ n) (λ n. at < n) (λ n more. omega (arith, more)) later all, rises)

@@ -1,3 +1,6 @@
 mod Putting
 mod Replaying
 mod Ran
+mod Serving
+mod Starting
+mod Orderly

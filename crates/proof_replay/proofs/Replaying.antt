@@ -23,7 +23,7 @@ use Rattle.host_orders.specs.declared.refused.Refused.{Refused}
 use Rattle.host_model.specs.State.{HostState, node_of}
 use Rattle.host_model.specs.Events.{HostEvent, Accepts, Cancels, Joins, Queues, Queues_interview, Queues_probe}
 use Rattle.host_model.specs.Asking.{carriage_for, interview_refusal, places_refusal}
-use Rattle.host_model.specs.Did.{after_all, outs_all}
+use Rattle.host_model.specs.Did.{after_all, outs_all, records_all, texts_of}
 use Rattle.host_model.specs.May.{known_of}
 use Rattle.host_model.specs.Outs.{answers}
 use Rattle.host_model.specs.Pumping.{Pumps}
@@ -31,6 +31,7 @@ use Rattle.host_model.specs.Ticking.{tick_events}
 use Rattle.host_model.specs.declared.out.HostOut.{HostOut}
 use Rattle.host_requests.specs.declared.task.Task.TheVariants as task
 use Rattle.outside_model.specs.State.{OuterState}
+use Rattle.world_model.specs.State.{with_texts}
 use Rattle.world_model.specs.Events.{Event as WorldEvent}
 use Rattle.world_model.specs.Lines.{Asks as WorldAsks}
 use Rattle.world_model.specs.Refusals.{IsRefused}
@@ -45,7 +46,7 @@ use Rattle.proof_alone.specs.Phases.{Phase, Resting, Asked, Risen, Open}
 use Rattle.proof_alone.specs.Runs.{Run}
 use Rattle.proof_alone.specs.Runs.Run.{Stepped, Turned}
 use Rattle.proof_alone.proofs.InOrder.{asked_puts, is_asked}
-use Rattle.proof_alone.proofs.Hosting.{items_run, pump_run, tick_and_pump}
+use Rattle.proof_alone.proofs.Hosting.{items_run, kept, pump_run, tick_and_pump}
 use Rattle.proof_replay.specs.Heard.{AreReplayed, IsRun, Replayed, came_of, heard_all, heard_at, heard_of, plain_of}
 use Rattle.proof_replay.proofs.Putting.{alone_at, alone_enters, alone_next, alone_put, clock_at, in_tick, untimed}
 
@@ -65,12 +66,18 @@ may_rest : (m : Lone) (a b : List Event) → MayAll m (a ++ b) → MayAll (happe
 may_rest m [] b may = may
 may_rest m (event ∷ a) b may = may_rest (happens m event) a b may.1
 
-module _ (start : HostMachine) (keys : Keys) where
+-- No line reads the records. So those of the run need not be the keeper's, but they stand so to them, and go on doing so.
+module _ (start : HostMachine) (keys : Keys) (Beside : Option (List (List ℕ)) → Option (List (List ℕ)) → Type 0)
+    (grows : (records held : Option (List (List ℕ))) (texts : List (List ℕ)) → Beside records held → Beside (with_texts records texts) (with_texts held texts)) where
   -- a run to here, with nothing that came left
-  abbrev At : Phase → ℕ → Bool → List Entry → Lone → Type 0
-  At here left awaits past m = Run start here past (host_machine keys m.records m.host.state [] m.clock left awaits)
+  abbrev pub At : Phase → ℕ → Bool → List Entry → Lone → Type 0
+  At here left awaits past m = (held : Option (List (List ℕ))) × Beside m.records held × Run start here past (host_machine keys held m.host.state [] m.clock left awaits)
 
-  abbrev Rests : ℕ → List Entry → Lone → Type 0
+  -- with the records of what was done
+  grown : (m : Lone) (held : Option (List (List ℕ))) (events : List HostEvent) → Beside m.records held → Beside (kept m.records m.host.state events) (kept held m.host.state events)
+  grown m held events beside = grows m.records held (texts_of (records_all m.host.state events)) beside
+
+  abbrev pub Rests : ℕ → List Entry → Lone → Type 0
   Rests left past m = (awaits : Bool) × At Resting left awaits past m
 
   -- one event, and then no more
@@ -101,13 +108,17 @@ module _ (start : HostMachine) (keys : Keys) where
 
   -- ---- a pump
 
-  pumped_run : (past : List Entry) (m : Lone) (pumped : List HostEvent) → Pumps m.host.state pumped → May m (Does_itself pumped) → At Open 0 false past m
+  pub pumped_run : (past : List Entry) (m : Lone) (pumped : List HostEvent) → Pumps m.host.state pumped → May m (Does_itself pumped) → At Open 0 false past m
       → At Resting 0 false (past ++ heard_at m (Does_itself pumped)) (happens m (Does_itself pumped))
   unfolding happens entries May
-  pumped_run past m pumped pumps may run =
+  pumped_run past m pumped pumps may (held, beside, run) =
       let n : Lone = happens m (Does_itself pumped) in
-      untimed start keys n.records n.host.state [] 0 m.clock Resting past (entries_of (outs_all m.host.state pumped))
-      (pump_run OuterState alone_at alone_put alone_next alone_enters start keys 0 pumped past m.records m.host.state [] (clock_at m.clock false) pumps may run)
+      let now : Option (List (List ℕ)) = kept held m.host.state pumped in (
+        now,
+        grown m held pumped beside,
+        untimed start keys now n.host.state [] 0 m.clock Resting past (entries_of (outs_all m.host.state pumped))
+            (pump_run OuterState alone_at alone_put alone_next alone_enters start keys 0 pumped past held m.host.state [] (clock_at m.clock false) pumps may run),
+      )
 
   pump_goes : (past : List Entry) (m : Lone) (events : List Event) → IsPump m events → MayAll m events → At Open 0 false past m → At Resting 0 false (past ++ heard_all m events) (happens_all m events)
   pump_goes past m events (pumped, pumps, are) may run =
@@ -115,32 +126,33 @@ module _ (start : HostMachine) (keys : Keys) where
 
   -- ---- bytes of the chip
 
-  comes_run : (units : List LineUnit) (past : List Entry) (came : List LineUnit) (m : Lone) → Run start Resting past (host_machine keys m.records m.host.state came m.clock 0 false)
-      → Run start Resting (past ++ came_of units) (host_machine keys m.records m.host.state (came ++ units) m.clock 0 false)
-  comes_run [] past came m run =
-      subst (λ (l : List Entry). Run start Resting l (host_machine keys m.records m.host.state (came ++ []) m.clock 0 false)) (sym (append-nil past))
-      (subst (λ (l : List LineUnit). Run start Resting past (host_machine keys m.records m.host.state l m.clock 0 false)) (sym (append-nil came)) run)
-  comes_run (unit ∷ units) past came m run =
-      let one : Run start Resting (past ++ entry.Written by_chip (unit_text unit) ∷ []) (host_machine keys m.records m.host.state (came ++ unit ∷ []) m.clock 0 false) =
+  comes_run : (units : List LineUnit) (past : List Entry) (came : List LineUnit) (held : Option (List (List ℕ))) (m : Lone) → Run start Resting past (host_machine keys held m.host.state came m.clock 0 false)
+      → Run start Resting (past ++ came_of units) (host_machine keys held m.host.state (came ++ units) m.clock 0 false)
+  comes_run [] past came held m run =
+      subst (λ (l : List Entry). Run start Resting l (host_machine keys held m.host.state (came ++ []) m.clock 0 false)) (sym (append-nil past))
+      (subst (λ (l : List LineUnit). Run start Resting past (host_machine keys held m.host.state l m.clock 0 false)) (sym (append-nil came)) run)
+  comes_run (unit ∷ units) past came held m run =
+      let one : Run start Resting (past ++ entry.Written by_chip (unit_text unit) ∷ []) (host_machine keys held m.host.state (came ++ unit ∷ []) m.clock 0 false) =
       Stepped (step.Comes unit) (tt, refl, refl) refl refl run in
-      let all = comes_run units (past ++ entry.Written by_chip (unit_text unit) ∷ []) (came ++ unit ∷ []) m one in
-      subst (λ (l : List Entry). Run start Resting l (host_machine keys m.records m.host.state (came ++ unit ∷ units) m.clock 0 false))
+      let all = comes_run units (past ++ entry.Written by_chip (unit_text unit) ∷ []) (came ++ unit ∷ []) held m one in
+      subst (λ (l : List Entry). Run start Resting l (host_machine keys held m.host.state (came ++ unit ∷ units) m.clock 0 false))
       (append_assoc past (entry.Written by_chip (unit_text unit) ∷ []) (came_of units))
-      (subst (λ (l : List LineUnit). Run start Resting ((past ++ entry.Written by_chip (unit_text unit) ∷ []) ++ came_of units) (host_machine keys m.records m.host.state l m.clock 0 false))
+      (subst (λ (l : List LineUnit). Run start Resting ((past ++ entry.Written by_chip (unit_text unit) ∷ []) ++ came_of units) (host_machine keys held m.host.state l m.clock 0 false))
       (append_assoc came (unit ∷ []) units) all)
 
-  taken_run : (past : List Entry) (m : Lone) (bytes : List ℕ) (rest : Rest) (items : List Item) (judged : List HostEvent) → May m (Takes bytes rest items judged) → At Resting 0 false past m
+  pub taken_run : (past : List Entry) (m : Lone) (bytes : List ℕ) (rest : Rest) (items : List Item) (judged : List HostEvent) → May m (Takes bytes rest items judged) → At Resting 0 false past m
       → At Open 0 false (past ++ heard_at m (Takes bytes rest items judged)) (happens m (Takes bytes rest items judged))
   unfolding happens entries May
-  taken_run past m bytes rest items judged may run =
+  taken_run past m bytes rest items judged may (held, beside, run) =
       let n : Lone = happens m (Takes bytes rest items judged) in
+      let now : Option (List (List ℕ)) = kept held m.host.state judged in
       let units : List LineUnit = good_units items in
-      let came : Run start Open (past ++ came_of units) (host_machine keys m.records m.host.state units m.clock 0 false) = Turned refl (comes_run units past [] m run) in
+      let came : Run start Open (past ++ came_of units) (host_machine keys held m.host.state units m.clock 0 false) = Turned refl (comes_run units past [] held m run) in
       let all =
-      untimed start keys n.records n.host.state [] 0 m.clock Open (past ++ came_of units) (entries_of (outs_all m.host.state judged))
-      (items_run OuterState alone_at alone_put alone_next alone_enters start keys 0 items judged (past ++ came_of units) m.records m.host.state [] (clock_at m.clock false) may.judged may.may
-      (subst (λ (l : List LineUnit). Run start Open (past ++ came_of units) (host_machine keys m.records m.host.state l m.clock 0 false)) (sym (append-nil units)) came)) in
-      subst (λ (l : List Entry). At Open 0 false l n) (append_assoc past (came_of units) (entries_of (outs_all m.host.state judged))) all
+      untimed start keys now n.host.state [] 0 m.clock Open (past ++ came_of units) (entries_of (outs_all m.host.state judged))
+      (items_run OuterState alone_at alone_put alone_next alone_enters start keys 0 items judged (past ++ came_of units) held m.host.state [] (clock_at m.clock false) may.judged may.may
+      (subst (λ (l : List LineUnit). Run start Open (past ++ came_of units) (host_machine keys held m.host.state l m.clock 0 false)) (sym (append-nil units)) came)) in
+      subst (λ (l : List Entry). At Open 0 false l n) (append_assoc past (came_of units) (entries_of (outs_all m.host.state judged))) (now, grown m held judged beside, all)
 
   take_goes : (bytes : List ℕ) (past : List Entry) (m : Lone) (events : List Event) → IsTaking bytes m events → MayAll m events → At Resting 0 false past m
       → At Open 0 false (past ++ heard_all m events) (happens_all m events)
@@ -152,28 +164,33 @@ module _ (start : HostMachine) (keys : Keys) where
   abbrev Goes : Line → List Entry → Lone → List Event → Type 0
   Goes line past m events = MayAll m events → At (Asked line) 0 false past m → At Open 0 false (past ++ heard_all m events) (happens_all m events)
 
+  pub asked_says : (line : Line) (past : List Entry) (m : Lone) (event : HostEvent) → IsAskedBy line m.host.state event → May m (Does_asked event) → At (Asked line) 0 false past m
+      → At Open 0 false (past ++ answers m.host.state event) (happens m (Does_asked event))
+  unfolding happens entries May
+  asked_says line past m event asked may (held, beside, run) =
+      (kept held m.host.state (event ∷ []), grown m held (event ∷ []) beside, Stepped (step.Asks event) (line, refl, asked, may, (λ (bad : false ≡ true). absurd cc), refl) refl refl run)
+
   asked_run : (line : Line) (past : List Entry) (m : Lone) (event : HostEvent) → IsAskedBy line m.host.state event → May m (Does_asked event) → At (Asked line) 0 false past m
       → At Open 0 false (past ++ heard_at m (Does_asked event)) (happens m (Does_asked event))
-  unfolding happens entries May
+  unfolding entries
   asked_run line past m event asked may run =
       let h : HostState = m.host.state in
       let none : entries_of (outs_all h (event ∷ [])) ++ answers h event ≡ answers h event =
       ap (λ (l : List HostOut). entries_of (l ++ []) ++ answers h event) (asked_puts h event (is_asked line h event asked)) in
-      let ran : At Open 0 false (past ++ answers h event) (happens m (Does_asked event)) =
-      Stepped (step.Asks event) (line, refl, asked, may, (λ (bad : false ≡ true). absurd cc), refl) refl refl run in
-      subst (λ (l : List Entry). At Open 0 false (past ++ l) (happens m (Does_asked event))) (sym none) ran
+      subst (λ (l : List Entry). At Open 0 false (past ++ l) (happens m (Does_asked event))) (sym none) (asked_says line past m event asked may run)
 
   asks_goes : (line : Line) (past : List Entry) (m : Lone) (event : HostEvent) (events : List Event) → events ≡ Does_asked event ∷ [] → IsAskedBy line m.host.state event → Goes line past m events
   asks_goes line past m event events are asked may run = heard_one Open past m (Does_asked event) events are (asked_run line past m event asked (may_one m (Does_asked event) events are may) run)
 
-  -- its refusal is of the host and its records alone
+  -- its refusal is of the host alone, whatever its records
   abbrev Same : Line → Lone → Type 0
-  Same line m = (refusal : Refusal) → IsRefused (alone m) line refusal → IsRefused (with_world (host_machine keys m.records m.host.state [] m.clock 0 false)) line refusal
+  Same line m =
+      (held : Option (List (List ℕ))) (refusal : Refusal) → IsRefused (alone m) line refusal → IsRefused (with_world (host_machine keys held m.host.state [] m.clock 0 false)) line refusal
 
   refused_run : (line : Line) (past : List Entry) (m : Lone) (refusal : Refusal) → Same line m → May m (Refuses line refusal) → At (Asked line) 0 false past m
       → At Open 0 false (past ++ heard_at m (Refuses line refusal)) (happens m (Refuses line refusal))
   unfolding happens entries May
-  refused_run line past m refusal same may run = Stepped (step.Refuses refusal) (line, refl, inl (same refusal may), refl, refl) refl refl run
+  refused_run line past m refusal same may (held, beside, run) = (held, beside, Stepped (step.Refuses refusal) (line, refl, inl (same held refusal may), refl, refl) refl refl run)
 
   refused_goes : (line : Line) (past : List Entry) (m : Lone) (refusal : Refusal) (events : List Event) → events ≡ Refuses line refusal ∷ [] → Same line m → Goes line past m events
   refused_goes line past m refusal events are same may run =
@@ -181,7 +198,7 @@ module _ (start : HostMachine) (keys : Keys) where
 
   shown_run : (past : List Entry) (m : Lone) (node : ℕ) → At (Asked (lines.Store node)) 0 false past m → At Open 0 false (past ++ heard_at m (Shows_values node)) (happens m (Shows_values node))
   unfolding happens entries
-  shown_run past m node run = Stepped (step.Shows node) (refl, refl, refl) refl refl run
+  shown_run past m node (held, beside, run) = (held, beside, Stepped (step.Shows node) (refl, refl, refl) refl refl run)
 
   by_rule : (line : Line) (past : List Entry) (m : Lone) (event : HostEvent) (rule : Option Refused) (there : List WorldEvent) (events : List Event) → WorldAsks rule line event there
       → events ≡ flat_map by_host there → (rule ≡ None → IsAskedBy line m.host.state event) → Same line m → Goes line past m events
@@ -196,27 +213,27 @@ module _ (start : HostMachine) (keys : Keys) where
   effect_goes (lines.Command order) past m events (there, inl is, are) replayed =
       asks_goes (lines.Command order) past m (Accepts order (carriage_for m.host.state order)) events (are ∙ ap (λ (l : List WorldEvent). flat_map by_host l) is) refl
   effect_goes (lines.Command order) past m events (there, inr (refusal, is), are) replayed =
-      refused_goes (lines.Command order) past m refusal events (are ∙ ap (λ (l : List WorldEvent). flat_map by_host l) is) (λ r x. x)
+      refused_goes (lines.Command order) past m refusal events (are ∙ ap (λ (l : List WorldEvent). flat_map by_host l) is) (λ held r x. x)
   effect_goes (lines.Join node) past m events (there, inl is, are) replayed =
       asks_goes (lines.Join node) past m (Joins node) events (are ∙ ap (λ (l : List WorldEvent). flat_map by_host l) is) refl
   effect_goes (lines.Join node) past m events (there, inr (refusal, is), are) replayed =
-      refused_goes (lines.Join node) past m refusal events (are ∙ ap (λ (l : List WorldEvent). flat_map by_host l) is) (λ r x. x)
+      refused_goes (lines.Join node) past m refusal events (are ∙ ap (λ (l : List WorldEvent). flat_map by_host l) is) (λ held r x. x)
   effect_goes (lines.Cancel command) past m events (there, inl is, are) replayed =
       asks_goes (lines.Cancel command) past m (Cancels command) events (are ∙ ap (λ (l : List WorldEvent). flat_map by_host l) is) refl
   effect_goes (lines.Cancel command) past m events (there, inr (refusal, is), are) replayed =
-      refused_goes (lines.Cancel command) past m refusal events (are ∙ ap (λ (l : List WorldEvent). flat_map by_host l) is) (λ r x. x)
+      refused_goes (lines.Cancel command) past m refusal events (are ∙ ap (λ (l : List WorldEvent). flat_map by_host l) is) (λ held r x. x)
   effect_goes (lines.Send node word) past m events (there, is, are) replayed =
-      by_rule (lines.Send node word) past m _ (send_refusal (known_of (node_of m.host.state node)) (length m.host.state.requests.queue) word) there events is are (λ none. (none, refl)) (λ r x. x)
+      by_rule (lines.Send node word) past m _ (send_refusal (known_of (node_of m.host.state node)) (length m.host.state.requests.queue) word) there events is are (λ none. (none, refl)) (λ held r x. x)
   effect_goes (lines.Get node end) past m events (there, is, are) replayed =
-      by_rule (lines.Get node end) past m _ (get_refusal (known_of (node_of m.host.state node)) (length m.host.state.requests.queue) end) there events is are (λ none. (none, refl)) (λ r x. x)
+      by_rule (lines.Get node end) past m _ (get_refusal (known_of (node_of m.host.state node)) (length m.host.state.requests.queue) end) there events is are (λ none. (none, refl)) (λ held r x. x)
   effect_goes (lines.Interview node) past m events (there, is, are) replayed =
-      by_rule (lines.Interview node) past m (Queues_interview node) (interview_refusal m.host.state node) there events is are (λ none. (none, refl)) (λ r x. x)
+      by_rule (lines.Interview node) past m (Queues_interview node) (interview_refusal m.host.state node) there events is are (λ none. (none, refl)) (λ held r x. x)
   effect_goes (lines.Neighbours node) past m events (there, is, are) replayed =
-      by_rule (lines.Neighbours node) past m (Queues (task.Neighbours node)) (places_refusal m.host.state 1) there events is are (λ none. (none, refl)) (λ r x. x)
+      by_rule (lines.Neighbours node) past m (Queues (task.Neighbours node)) (places_refusal m.host.state 1) there events is are (λ none. (none, refl)) (λ held r x. x)
   effect_goes (lines.Failed node) past m events (there, is, are) replayed =
-      by_rule (lines.Failed node) past m (Queues (task.IsFailed node)) (places_refusal m.host.state 1) there events is are (λ none. (none, refl)) (λ r x. x)
+      by_rule (lines.Failed node) past m (Queues (task.IsFailed node)) (places_refusal m.host.state 1) there events is are (λ none. (none, refl)) (λ held r x. x)
   effect_goes lines.Probe past m events (there, is, are) replayed =
-      by_rule lines.Probe past m Queues_probe (places_refusal m.host.state 3) there events is are (λ none. (none, refl)) (λ r x. x)
+      by_rule lines.Probe past m Queues_probe (places_refusal m.host.state 3) there events is are (λ none. (none, refl)) (λ held r x. x)
   effect_goes (lines.Store node) past m events (there, is, are) replayed =
       λ may run. heard_one Open past m (Shows_values node) events (are ∙ ap (λ (l : List WorldEvent). flat_map by_host l) is) (shown_run past m node run)
   effect_goes (lines.Tick count) past m events (there, is, are) replayed = absurd is
@@ -232,16 +249,19 @@ module _ (start : HostMachine) (keys : Keys) where
 
   -- ---- ticks
 
-  tick_one : (past : List Entry) (m : Lone) (pumped : List HostEvent) (more : ℕ) → Pumps (after_all m.host.state (tick_events m.host.state)) pumped
+  pub tick_one : (past : List Entry) (m : Lone) (pumped : List HostEvent) (more : ℕ) → Pumps (after_all m.host.state (tick_events m.host.state)) pumped
       → May m (Ticks (tick_events m.host.state ++ pumped)) → Rests (suc more) past m
       → Rests more (past ++ heard_at m (Ticks (tick_events m.host.state ++ pumped))) (happens m (Ticks (tick_events m.host.state ++ pumped)))
   unfolding happens entries May
-  tick_one past m pumped more pumps may (awaits, run) =
+  tick_one past m pumped more pumps may (awaits, (held, beside, run)) =
       let h : HostState = m.host.state in
       let n : Lone = happens m (Ticks (tick_events h ++ pumped)) in
-      let begun : Run start Risen past (host_machine keys m.records h [] (m.clock + 1) more true) = Stepped (step.Begins_tick more) (refl, refl, refl) (sym (append-nil past)) refl run in
-      in_tick start keys n.records n.host.state [] more (m.clock + 1) past (outs_all h (tick_events h ++ pumped))
-      (tick_and_pump OuterState alone_at alone_put alone_next alone_enters start keys more pumped past m.records h [] (clock_at (m.clock + 1) true) pumps may begun)
+      let now : Option (List (List ℕ)) = kept held h (tick_events h ++ pumped) in
+      let begun : Run start Risen past (host_machine keys held h [] (m.clock + 1) more true) = Stepped (step.Begins_tick more) (refl, refl, refl) (sym (append-nil past)) refl run in
+      let all =
+      in_tick start keys now n.host.state [] more (m.clock + 1) past (outs_all h (tick_events h ++ pumped))
+      (tick_and_pump OuterState alone_at alone_put alone_next alone_enters start keys more pumped past held h [] (clock_at (m.clock + 1) true) pumps may begun) in
+      (all.0, (now, grown m held (tick_events h ++ pumped) beside, all.1))
 
   ticks_goes : (count : ℕ) (past : List Entry) (m : Lone) (events : List Event) → AreTicks count m events → MayAll m events → Rests count past m
       → Rests 0 (past ++ heard_all m events) (happens_all m events)
@@ -259,7 +279,7 @@ module _ (start : HostMachine) (keys : Keys) where
 
   plain_goes : (line : Line) (past : List Entry) (m : Lone) (events : List Event) → IsPlain line m events → is_replayed (first_word line) ≡ true → MayAll m events
       → At (Asked line) (ticks_of line) false past m → Rests 0 (past ++ heard_all m events) (happens_all m events)
-  plain_goes (lines.Tick count) past m events is replayed may run = ticks_goes count past m events is may (false, Turned (inr (count, refl, refl)) run)
+  plain_goes (lines.Tick count) past m events is replayed may (held, beside, run) = ticks_goes count past m events is may (false, (held, beside, Turned (inr (count, refl, refl)) run))
   plain_goes line past m events is replayed may run = (false, effect_then line past m events is replayed may run)
 
   line_goes : (past : List Entry) (m : Lone) (said : Replayed) → IsRun m said → Rests 0 past m
@@ -276,14 +296,14 @@ module _ (start : HostMachine) (keys : Keys) where
           → Rests 0 (past ++ entry.Said said.words ∷ heard_all m said.events) (happens_all m said.events)
       by (Plain line) read replayed these =
           after_words
-          (plain_goes line (past ++ words) m said.events these replayed is.may (Stepped (step.Says said.words line) (refl, refl, read, refl) refl refl rests.1))
+          (plain_goes line (past ++ words) m said.events these replayed is.may (rests.1.0, rests.1.1, Stepped (step.Says said.words line) (refl, refl, read, refl) refl refl rests.1.2))
       by (Chip bytes) read replayed (first, rest, are, taking, pump) =
           let both : MayAll m (first ++ rest) = subst (MayAll m) are is.may in
           after_words (
             false,
             joined Resting 0 false (past ++ words) m first rest said.events are
                 (pump_goes ((past ++ words) ++ heard_all m first) (happens_all m first) rest pump (may_rest m first rest both)
-                (take_goes bytes (past ++ words) m first taking (may_first m first rest both) (Stepped (step.Says_nothing said.words) (refl, refl, read, refl) refl refl rests.1))),
+                (take_goes bytes (past ++ words) m first taking (may_first m first rest both) (rests.1.0, rests.1.1, Stepped (step.Says_nothing said.words) (refl, refl, read, refl) refl refl rests.1.2))),
           )
 
   pub all_go : (past : List Entry) (m : Lone) (lines : List Replayed) → AreReplayed m lines → Rests 0 past m → (last : Lone) × Rests 0 (past ++ heard_of m lines) last

@@ -62,6 +62,13 @@ abbrev pub told_of : Lone → List Replayed → List Entry
 told_of m [] = []
 told_of m (said ∷ more) = Said said.words ∷ (entries_all m said.events ++ told_of (happens_all m said.events) more)
 
+-- these texts were said, each of them its line
+abbrev pub AreSaid : List (TextLine ReplayLine) → List Replayed → Type 0
+AreSaid [] [] = Unit {0}
+AreSaid [] (said ∷ more) = ⊥
+AreSaid (text ∷ texts) [] = ⊥
+AreSaid (text ∷ texts) (said ∷ more) = (said.words ≡ said_text text.text) × (said.line ≡ text.line) × AreSaid texts more
+
 -- a text is read as its line by its words too
 pub record IsReadSo (text : TextLine ReplayLine) : Type 0 where
   pub read : line_of (Said (said_text text.text)) ≡ plain_of text.line

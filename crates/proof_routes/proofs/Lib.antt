@@ -2,7 +2,7 @@ mod Members
 mod Links
 mod Tables
 pub mod Books
-mod Walks
+pub mod Walks
 pub mod Turned
 mod Unrefused
 mod Ties

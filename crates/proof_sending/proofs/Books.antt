@@ -30,6 +30,7 @@ use Rattle.proof_host.proofs.Views.{sessions-begun_other}
 use Rattle.proof_messages.specs.Hosts.{IsAside, LeavesNonces, LeavesSealing}
 use Rattle.proof_line.proofs.RoutineNotes.{entries_are}
 use Rattle.proof_sending.specs.Reasons.{HasTexts}
+use Rattle.proof_messages.proofs.LockSessions.{some_same as same_some}
 
 -- ---- sessions
 
@@ -93,9 +94,6 @@ others_stay go_on past h n session command facts may m other =
 
 none_some : {A : Type 0} (x : A) → ◌≡◌ {A = Option A} None (Some x) → ⊥
 none_some x e = cc
-
-same_some : (a b : List ℕ) → Some a ≡ Some b → a ≡ b
-same_some a b e = cc
 
 -- nothing is left of an attempt
 abbrev pub IsBare : NodeState → Type 0

@@ -1,4 +1,5 @@
 -- What the effect of a line leaves to be done, and that each event of it keeps what the host has to send due.
+use Rattle.law_transcript.specs.Nodes.{always}
 use Rattle.std.proofs.Common.{◌≡◌, ℕ, false, true, inl, inr, List, [], ◌∷◌, ◌++◌, refl, sym, ap, subst, ◌∙◌, append-nil, append_assoc}
 use Rattle.std.specs.Prelude.{Option, Some, None, IsSome, length}
 use Rattle.std.specs.List.{AllByRecursion}
@@ -12,9 +13,6 @@ use Rattle.zw_text.specs.declared.entry.Entry.{Entry}
 use Rattle.zw_text.specs.declared.entry.Entry.TheVariants as entry
 use Rattle.law_transcript.specs.Lists.{EachAfter}
 use Rattle.law_transcript.specs.Payloads.{IsAskedFor, MayRequest}
-use Rattle.host_keep.specs.Legal.{AreTextsOf}
-use Rattle.host_keep.specs.Rows.{IsRecord}
-use Rattle.host_keep.specs.declared.record.Record.{Record}
 use Rattle.host_orders.specs.Errands.{get_refusal, get_text, send_refusal, send_text}
 use Rattle.host_orders.specs.Refusals.{classes_of}
 use Rattle.host_orders.specs.declared.carriage.Carriage.{Carriage}
@@ -26,7 +24,7 @@ use Rattle.host_model.specs.Asking.{carriage_for}
 use Rattle.host_model.specs.May.{known_of}
 use Rattle.host_model.specs.Events.{HostEvent, Accepts, Cancels, Joins, Queues, Queues_interview, Queues_probe}
 use Rattle.host_model.specs.Outs.{outs}
-use Rattle.outside_model.specs.Events.{Begins_line, outcome, entries as entries_outside, May as MayOutside}
+use Rattle.outside_model.specs.Events.{Begins_line, entries as entries_outside, May as MayOutside}
 use Rattle.world_model.specs.State.{Machine}
 use Rattle.world_model.specs.Events.{Event, Outside_does, Host_does, Host_takes, Decoder_ticks, Refuses, Shows_values, Restarts, OpensFrom, entered, happens, entries, shown_values, May}
 use Rattle.world_model.specs.Did.{happens_all, entries_all}
@@ -50,6 +48,8 @@ use Rattle.proof_sending.proofs.HostUnits.{FirstDue, entry_not, none_stand}
 use Rattle.proof_sending.proofs.OutsideUnits.{outside_not}
 use Rattle.proof_sending.proofs.Reasoned.{event_is, opened_is}
 use Rattle.proof_sending.proofs.Steps.{Stands, host_stands, keys_stay, reasoned_more}
+use Rattle.proof_serial.proofs.HostRuns.{in_range}
+use Rattle.proof_walk.proofs.ByLine.{begins_none}
 
 -- ---- events that need no reason
 
@@ -76,11 +76,6 @@ rest_reason Holds keys h Queues_probe rests = tt
 rest_reason Holds keys h event rests = absurd rests
 
 -- a host that starts from its records has nothing to send
-in_range : (records : List Record) (texts : List (List ℕ)) → AreTextsOf records texts → AllByRecursion IsRecord records
-in_range [] texts are = tt
-in_range (one ∷ more) [] are = absurd are
-in_range (one ∷ more) (text ∷ texts) are = (are.0.in_range, in_range more texts are.1)
-
 opens_reasoned : (Holds : Reason → Type 0) (keys : Keys) (kept : Option (List (List ℕ))) (state : HostState) → IsSome kept → OpensFrom keys kept state → IsReasoned Holds keys state
 opens_reasoned Holds keys None state some opens = absurd (let bad : false ≡ true = some in cc)
 opens_reasoned Holds keys (Some texts) state some (records, are, legal, is) =
@@ -125,10 +120,6 @@ rests_of : (line : Line) → AsksNone line → (m : Machine) (events : List Even
 rests_of line none m events is = anywhere IsRest m events (effect_along RestAt line (effect_rests line none) m events is)
 
 -- ---- a line that begins
-
-pub begins_none : (m : Machine) → entries m (Outside_does Begins_line) ≡ []
-unfolding entries outcome
-begins_none m = refl
 
 begins_may : (m : Machine) → May m (Outside_does Begins_line)
 unfolding May MayOutside
@@ -189,23 +180,23 @@ module _ (listing : ℕ → List ℕ) (key : List ℕ) (laws : WalkLaws) where
   -- ---- what the effect is
 
   send_asked : (past : List Entry) (m : Machine) (node : ℕ) (word : Word) → Opened listing key (lines.Send node word) past m
-      → IsAskedFor listing past (record { node = node; payload = send_text (classes_of (known_of (node_of m.host.state node))) word })
+      → IsAskedFor (always listing) past (record { node = node; payload = send_text (classes_of (known_of (node_of m.host.state node))) word })
   unfolding happens
   send_asked past m node word (n, saying, is) =
-      subst (λ (k : Machine). IsAskedFor listing past (record { node = node; payload = send_text (classes_of (known_of (node_of k.host.state node))) word })) (sym is)
-      (subst (λ (l : List Entry). IsAskedFor listing l (record { node = node; payload = send_text (classes_of (known_of (node_of n.host.state node))) word })) (sym saying.is)
+      subst (λ (k : Machine). IsAskedFor (always listing) past (record { node = node; payload = send_text (classes_of (known_of (node_of k.host.state node))) word })) (sym is)
+      (subst (λ (l : List Entry). IsAskedFor (always listing) l (record { node = node; payload = send_text (classes_of (known_of (node_of n.host.state node))) word })) (sym saying.is)
       (send_asks listing saying.before saying.words n.host.state node word saying.knew saying.read))
 
   get_asked : (past : List Entry) (m : Machine) (node end : ℕ) → Opened listing key (lines.Get node end) past m
-      → IsAskedFor listing past (record { node = node; payload = get_text (classes_of (known_of (node_of m.host.state node))) end })
+      → IsAskedFor (always listing) past (record { node = node; payload = get_text (classes_of (known_of (node_of m.host.state node))) end })
   unfolding happens
   get_asked past m node end (n, saying, is) =
-      subst (λ (k : Machine). IsAskedFor listing past (record { node = node; payload = get_text (classes_of (known_of (node_of k.host.state node))) end })) (sym is)
-      (subst (λ (l : List Entry). IsAskedFor listing l (record { node = node; payload = get_text (classes_of (known_of (node_of n.host.state node))) end })) (sym saying.is)
+      subst (λ (k : Machine). IsAskedFor (always listing) past (record { node = node; payload = get_text (classes_of (known_of (node_of k.host.state node))) end })) (sym is)
+      (subst (λ (l : List Entry). IsAskedFor (always listing) l (record { node = node; payload = get_text (classes_of (known_of (node_of n.host.state node))) end })) (sym saying.is)
       (get_asks listing saying.before saying.words n.host.state node end saying.knew saying.read))
 
   asks_left : (refused : Option Refused) (line : Line) (node : ℕ) (payload : List ℕ) (past : List Entry) (m : Machine) (events : List Event) → Opened listing key line past m
-      → IsAskedFor listing past (record { node = node; payload = payload }) → Asks refused line (Queues (Plain node payload)) events → Left listing key events past m
+      → IsAskedFor (always listing) past (record { node = node; payload = payload }) → Asks refused line (Queues (Plain node payload)) events → Left listing key events past m
   asks_left None line node payload past m events opened asked are =
       inr (inr (inl (record { node = node; payload = payload; sound = opened_sound line past m opened; asked = asked; are = are })))
   asks_left (Some refused) line node payload past m events opened asked (refusal, shown, are) =
@@ -233,7 +224,7 @@ module _ (listing : ℕ → List ℕ) (key : List ℕ) (laws : WalkLaws) where
   rest_first past h Queues_probe rests = tt
   rest_first past h event rests = absurd rests
 
-  rest_entries : (past : List Entry) (m : Machine) (event : Event) → IsRest event → May m event → EachAfter (MayRequest listing key) past (entries m event)
+  rest_entries : (past : List Entry) (m : Machine) (event : Event) → IsRest event → May m event → EachAfter (MayRequest (always listing) key) past (entries m event)
   unfolding entries May
   rest_entries past m (Outside_does event) rests may = none_stand listing key past (entries_outside m.outside event) (outside_not m.outside event may.0 may.1)
   rest_entries past m (Host_does event) rests may = host_stands listing key laws past m event (rest_first (past ++ _) m.host.state event rests)
@@ -259,7 +250,7 @@ module _ (listing : ℕ → List ℕ) (key : List ℕ) (laws : WalkLaws) where
 
   -- of the effect, this event and what is left after it
   abbrev Leaves : List Entry → Machine → Event → List Event → Type 0
-  Leaves past m event left = EachAfter (MayRequest listing key) past (entries m event) × Left listing key left (past ++ entries m event) (happens m event)
+  Leaves past m event left = EachAfter (MayRequest (always listing) key) past (entries m event) × Left listing key left (past ++ entries m event) (happens m event)
 
   rest_step : (past : List Entry) (m : Machine) (event : Event) (left : List Event) → May m event → IsWell listing m event → Resting listing key (event ∷ left) past m → Leaves past m event left
   rest_step past m event left may well is = (
@@ -336,7 +327,7 @@ module _ (listing : ℕ → List ℕ) (key : List ℕ) (laws : WalkLaws) where
 
   -- ---- a Set or a Get waits
 
-  queue_goes : (past : List Entry) (m : Machine) (node : ℕ) (payload : List ℕ) → IsSound listing key past m → IsAskedFor listing past (record { node = node; payload = payload })
+  queue_goes : (past : List Entry) (m : Machine) (node : ℕ) (payload : List ℕ) → IsSound listing key past m → IsAskedFor (always listing) past (record { node = node; payload = payload })
       → May m (Host_does (Queues (Plain node payload))) → IsWell listing m (Host_does (Queues (Plain node payload))) → Stands listing key laws past m (Host_does (Queues (Plain node payload)))
   unfolding happens entries May
   queue_goes past m node payload sound asked may well = (
@@ -358,7 +349,7 @@ module _ (listing : ℕ → List ℕ) (key : List ℕ) (laws : WalkLaws) where
   -- ---- any of these
 
   pub left_step : (past : List Entry) (m : Machine) (event : Event) (left : List Event) → May m event → IsWell listing m event → Left listing key (event ∷ left) past m
-      → EachAfter (MayRequest listing key) past (entries m event) × Left listing key left (past ++ entries m event) (happens m event)
+      → EachAfter (MayRequest (always listing) key) past (entries m event) × Left listing key left (past ++ entries m event) (happens m event)
   left_step past m event left may well (inl is) = rest_step past m event left may well is
   left_step past m event left may well (inr (inl is)) = order_step past m event left may well is
   left_step past m event left may well (inr (inr (inl is))) = queue_step past m event left may well is

@@ -9,7 +9,7 @@ use Rattle.zw_text.specs.Transcript.{accepted, interview_at, interviews, session
 use Rattle.zw_text.proofs.Views.{shown-append}
 use Rattle.law_transcript.specs.Commands.{classes_for, order_of}
 use Rattle.law_transcript.specs.Lists.{Has}
-use Rattle.law_transcript.specs.Nodes.{known_at_first}
+use Rattle.law_transcript.specs.Nodes.{known_at_first, always}
 use Rattle.host_keep.specs.Kept.{Taken}
 use Rattle.host_orders.specs.Wrapping.{carriage_of}
 use Rattle.host_requests.specs.State.{next_id}
@@ -44,7 +44,7 @@ pub record WalkLaws : Type 0 where
       → KnowsListing listing (past ++ entries m event) (happens m event).host.state
   pub carried : (listing : ℕ → List ℕ) (past : List Entry) (h : HostState) (node number : ℕ) (taken : Taken) → Facts past h → AreSaid listing h.commands past
       → Has (numbers_for node past) number → taken_at h.commands number ≡ Some taken
-      → (order_of number (accepted node past) ≡ Some taken.order) × (taken.carriage ≡ carriage_of (classes_for listing past node number) taken.order)
+      → (order_of number (accepted node past) ≡ Some taken.order) × (taken.carriage ≡ carriage_of (classes_for (always listing) past node number) taken.order)
   pub from : (last : ℕ) → 1 ≤ next_id last
   pub to : (last : ℕ) → next_id last ≤ 255
 

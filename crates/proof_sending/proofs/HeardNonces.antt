@@ -18,6 +18,7 @@ use Rattle.host_heard.specs.Telling.{end_of, heard_at, heard_by, told_all, told_
 use Rattle.host_heard.specs.declared.payload.Heard.TheVariants.{Messages, Sealed, Unread}
 use Rattle.host_heard.specs.declared.told.Told.{Told}
 use Rattle.host_heard.specs.declared.told.Told.TheVariants.{NonceReport}
+use Rattle.proof_messages.proofs.DeviceReports.{same_messages}
 
 -- ---- messages
 
@@ -185,9 +186,6 @@ all_told end (command ∷ commands) messages e = by (all_told end commands) (inf
     by others (Err fault) later is more =
         let none : told_all end (command ∷ commands) ≡ None = rw is refl in
         absurd (let bad : ◌≡◌ {A = Option (List Told)} None (Some messages) = sym none ∙ e in cc)
-
-same_messages : (a b : List Told) → Messages a ≡ Messages b → a ≡ b
-same_messages a b e = cc
 
 pub heard_eight : (payload : List ℕ) (messages : List Told) → heard_at payload ≡ Messages messages → AllByRecursion IsEightTold messages
 unfolding heard_at

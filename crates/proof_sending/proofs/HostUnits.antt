@@ -1,4 +1,5 @@
 -- What the host enters at an event may stand: its first unit asks for what is due, and the others for nothing.
+use Rattle.law_transcript.specs.Nodes.{always}
 use Rattle.std.proofs.Common.{ℕ, List, [], ◌∷◌, ◌++◌, sym, subst, append-nil}
 use Rattle.std.specs.Prelude.{Option, Some, None}
 use Rattle.std.specs.List.{AllByRecursion}
@@ -98,10 +99,10 @@ mark_not e mark = tt
 
 module _ (listing : ℕ → List ℕ) (key : List ℕ) where
   abbrev Asks : List Entry → Entry → Type 0
-  Asks past e = MayRequest listing key past e
+  Asks past e = MayRequest (always listing) key past e
 
   abbrev DueAt : List Entry → LineUnit → Type 0
-  DueAt past unit = AllByRecursion (IsDue listing key past) (sending_in (unit_text unit))
+  DueAt past unit = AllByRecursion (IsDue (always listing) key past) (sending_in (unit_text unit))
 
   may_stand : (past : List Entry) (e : Entry) → IsNotWritten e → Asks past e
   may_stand past (entry.Written by_host unit) none = absurd none

@@ -1,5 +1,5 @@
 -- What the host judges gives its events their reasons.
-use Rattle.std.proofs.Common.{◌≡◌, ℕ, suc, ◌+◌, ◌-◌, ◌&&◌, nat_le, Bool, true, false, inl, inr, List, [], ◌∷◌, ◌++◌, length, refl, sym, ap, subst, ◌∙◌, arith, length-append}
+use Rattle.std.proofs.Common.{◌≡◌, ℕ, ◌+◌, ◌-◌, ◌&&◌, nat_le, Bool, true, false, inl, inr, List, [], ◌∷◌, ◌++◌, length, refl, sym, ap, subst, ◌∙◌, arith}
 use Rattle.std.specs.Prelude.{Option, Some, None, Result, Ok, Err, nat_lt, ◌==◌, if◌then◌else◌, slice_index}
 use Rattle.std.specs.List.{AllByRecursion}
 use Rattle.std.proofs.lemmas.Bool.{cases_Bool}
@@ -13,10 +13,8 @@ use Rattle.serial_frame.specs.declared.item.Item.TheVariants.{Good, Refused}
 use Rattle.serial_frame.specs.declared.unit.Unit.TheVariants.{Ack, Nak, Can, Framed}
 use Rattle.serial_link.specs.declared.turn.Turn.{Turn}
 use Rattle.s0_crypto.specs.declared.key_pair.Keys.{Keys}
-use Rattle.s0_crypto.specs.declared.ends.SealEnds.{SealEnds}
-use Rattle.s0_crypto.specs.Seal.{Seals, code_of}
+use Rattle.s0_crypto.specs.Seal.{Seals}
 use Rattle.s0_crypto.specs.Opening.{nonce_in}
-use Rattle.s0_crypto.proofs.StreamLemmas.{length-ofb_from}
 use Rattle.chip_functions.specs.declared.fault.BodyFault.{BodyFault}
 use Rattle.chip_functions.specs.declared.response.Response.{Response}
 use Rattle.chip_functions.specs.declared.notice.Notice.{Notice}
@@ -49,7 +47,6 @@ use Rattle.host_model.specs.Taking.{IsKeptOr, is_secure, named_by, FinalEvents, 
 use Rattle.proof_host.specs.Entries.{entries_at}
 use Rattle.proof_host.specs.Facts.{Facts}
 use Rattle.proof_messages.proofs.LockSessions.{some_same}
-use Rattle.proof_messages.proofs.Texts.{length-code}
 use Rattle.proof_line.proofs.Always.{one, none, either}
 use Rattle.proof_sending.specs.Reasons.{Reason, HasEight, HasReason, IsEight, IsReasoned}
 use Rattle.proof_sending.specs.Heard.{AreHeardOf, HaveReasons, IsHeardOf, ItemTells, PayloadTells, WritesNoFrame}
@@ -59,23 +56,9 @@ use Rattle.proof_sending.proofs.Waiting.{live_eight}
 use Rattle.s0_session.specs.Nonces.{live_of, unused}
 use Rattle.proof_serial.proofs.HostFits.{all_at}
 use Rattle.proof_sending.proofs.Reasoned.{Laws, event_is}
+use Rattle.proof_messages.proofs.SealedByNumber.{sealed_length}
 
 -- ---- the nonce under which a text is sealed
-
-layout_length : (own text code : List ℕ) (named : ℕ) → length (0x98 ∷ 0x81 ∷ (own ++ (text ++ named ∷ code))) ≡ length own + (length text + length code) + 3
-layout_length own text code named =
-    let outer = length-append own (text ++ named ∷ code) in
-    let inner = length-append text (named ∷ code) in
-    omega (arith, outer, inner)
-
-pub sealed_length : (keys : Keys) (own nonce : List ℕ) (ends : SealEnds) (plain bytes : List ℕ) → Seals keys own nonce ends plain bytes → length bytes ≡ length own + length plain + 12
-sealed_length keys own nonce ends plain bytes s =
-    let code : List ℕ = code_of keys (own ++ nonce) ends s.cipher_text in
-    let whole = layout_length own s.cipher_text code (slice_index nonce 0) in
-    let size : length bytes ≡ length own + (length s.cipher_text + length code) + 3 = ap length s.layout ∙ whole in
-    let text : length s.cipher_text ≡ suc (length plain) = ap length s.enciphers ∙ length-ofb_from keys.encrypt (own ++ nonce) 0 (0 ∷ plain) in
-    let last : length code ≡ 8 = length-code keys (own ++ nonce) ends s.cipher_text in
-    omega (arith, size, text, last)
 
 -- the host's own, where a payload names it, has eight bytes
 named_eight : (payload : List ℕ) (live : Option (List ℕ)) (nonce : List ℕ) → named_by payload live ≡ Some nonce → IsEight live → length nonce ≡ 8

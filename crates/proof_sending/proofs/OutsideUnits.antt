@@ -23,6 +23,7 @@ use Rattle.proof_walk.specs.Outside.{Knowing, Moves, Link, IsSimple, IsNote, IsO
 use Rattle.proof_walk.proofs.Alone.{each_alone}
 use Rattle.proof_walk.proofs.Linking.{of_link}
 use Rattle.proof_walk.proofs.Stamping.{Fits, outer_keeps}
+use Rattle.law_transcript.proofs.Deciding.{not_true as not_own}
 
 -- no unit of the host
 abbrev pub IsNotWritten : Entry → Type 0
@@ -118,9 +119,6 @@ law = record {
   air = λ w told of_air. moves w w (told ∷ []) (air_not told of_air, tt);
   same = λ awaits past w later is known. tt;
 }
-
-not_own : false ≡ true → ⊥
-not_own is = cc
 
 fits : (event : OuterEvent) → is_own event ≡ true → Fits Covers event
 fits (Host_writes unit) own = absurd (not_own own)

@@ -1,4 +1,5 @@
 -- Each event of the machine keeps what the host has to send due, and what it writes is.
+use Rattle.law_transcript.specs.Nodes.{always}
 use Rattle.std.proofs.Common.{◌≡◌, ℕ, ◌&&◌, not, Bool, true, false, if◌then◌else◌, inl, inr, List, [], ◌∷◌, ◌++◌, refl, sym, subst, ◌∙◌}
 use Rattle.std.specs.List.{AllByRecursion}
 use Rattle.serial_frame.specs.declared.item.Item.{Item}
@@ -217,7 +218,7 @@ module _ (listing : ℕ → List ℕ) (key : List ℕ) where
 
 module _ (listing : ℕ → List ℕ) (key : List ℕ) (laws : WalkLaws) where
   abbrev pub Stands : List Entry → Machine → Event → Type 0
-  Stands past m event = EachAfter (MayRequest listing key) past (entries m event) × IsSound listing key (past ++ entries m event) (happens m event)
+  Stands past m event = EachAfter (MayRequest (always listing) key) past (entries m event) × IsSound listing key (past ++ entries m event) (happens m event)
 
   first_of : (past : List Entry) (m : Machine) → Grounded listing past m → (puts : List HostOut) → WritesDue (IsShown listing key past) (keys_of key) m.host.state puts → FirstDue listing key past puts
   first_of past m ground [] due = tt
@@ -236,11 +237,11 @@ module _ (listing : ℕ → List ℕ) (key : List ℕ) (laws : WalkLaws) where
       (reasoned_more listing key past told m.host.state (ticked_none m.outside.outer) (ticked_brings past m.outside.outer) is))
 
   pub host_stands : (past : List Entry) (m : Machine) (event : HostEvent) → FirstDue listing key (past ++ ticked_entry m.outside.outer) (outs m.host.state event)
-      → EachAfter (MayRequest listing key) past (entries m (Host_does event))
+      → EachAfter (MayRequest (always listing) key) past (entries m (Host_does event))
   unfolding entries
   host_stands past m event due =
       let done : Machine = host_does m (event ∷ []) in
-      each-append (MayRequest listing key) past (host_entries m (event ∷ [])) (entries_all_outside done.outside (notes (answers m.host.state event)))
+      each-append (MayRequest (always listing) key) past (host_entries m (event ∷ [])) (entries_all_outside done.outside (notes (answers m.host.state event)))
       (event_stands listing key past m.outside m.host.state event due)
       (answers_stand listing key (past ++ host_entries m (event ∷ [])) done.outside m.host.state event)
 

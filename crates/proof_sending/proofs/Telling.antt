@@ -50,7 +50,7 @@ use Rattle.proof_line.specs.Rooms.{Shown}
 use Rattle.proof_sending.specs.Arriving.{ArrivesSo, all_arriving}
 use Rattle.proof_sending.specs.Heard.{IsHeardOf, ItemTells, PayloadTells}
 use Rattle.proof_sending.specs.Reasons.{Reason}
-use Rattle.proof_sending.proofs.Judged.{sealed_length}
+use Rattle.proof_messages.proofs.SealedByNumber.{sealed_length}
 use Rattle.proof_sending.specs.Due.{IsShown}
 
 -- ---- since the last restart

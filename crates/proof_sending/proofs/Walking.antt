@@ -1,22 +1,15 @@
 -- So the walk goes along all lines: at each phase, what the host has to send is due, and what it writes is.
-use Rattle.std.proofs.Common.{◌≡◌, ℕ, zero, suc, ◌+◌, Bool, true, false, if◌then◌else◌, List, [], ◌∷◌, ◌++◌, length, refl, inl, inr, sym, subst, append-nil}
-use Rattle.std.specs.Prelude.{Option, Some, None}
+use Rattle.law_transcript.specs.Nodes.{always}
+use Rattle.std.proofs.Common.{◌≡◌, ℕ, zero, suc, ◌+◌, true, false, List, [], ◌∷◌, ◌++◌, length, refl, inl, inr, sym, subst, append-nil}
 use Rattle.zw_text.specs.declared.line.Line.{Line}
 use Rattle.zw_text.specs.declared.entry.Entry.{Entry}
 use Rattle.zw_text.specs.declared.entry.Entry.TheVariants.{Said}
 use Rattle.zw_text.specs.Transcript.{line_of}
 use Rattle.law_transcript.specs.Lists.{EachAfter}
 use Rattle.law_transcript.specs.Payloads.{MayRequest}
-use Rattle.host_requests.specs.declared.task.Task.{Task}
-use Rattle.host_node.specs.Search.{next_of}
-use Rattle.host_node.specs.declared.series.Series.{Series}
-use Rattle.host_node.specs.declared.series.Series.TheVariants.{Idle, Due, Running}
-use Rattle.host_model.specs.State.{HostState, node_of}
-use Rattle.host_model.specs.After.{is_full}
-use Rattle.host_model.specs.Events.{HostEvent, Drops_no_more, Queues_no_more}
-use Rattle.host_model.specs.Pumping.{no_more_event, GivesNext, IsServedBy, IsNextOf, IsNextOfNodes}
 use Rattle.host_model.specs.Ticking.{tick_events}
-use Rattle.host_model.proofs.Own.{IsOwn, tick_own}
+use Rattle.host_model.proofs.Own.{IsOwn, sleepers_own, submitted_own, tick_own}
+use Rattle.host_model.proofs.Submitted.{next_is as submitted_is, no_more_is}
 use Rattle.outside_model.specs.Events.{Begins_line}
 use Rattle.world_model.specs.State.{Machine}
 use Rattle.world_model.specs.Events.{Event, Outside_does, Host_takes, entries, happens, May}
@@ -30,41 +23,11 @@ use Rattle.proof_line.specs.Rooms.{KnowRooms, MayFit}
 use Rattle.proof_walk.proofs.Stepping.{Steps, event_then}
 use Rattle.proof_line.specs.Restarts.{AllKeepWell, AllStartWell}
 use Rattle.proof_sending.specs.Knowing.{IsMine, IsSound, IsWell, KnowSending, Opened, Saying}
-use Rattle.proof_sending.proofs.Effects.{begins_none, effect_left, left_done, left_step, opened_sound}
+use Rattle.proof_sending.proofs.Effects.{effect_left, left_done, left_step, opened_sound}
+use Rattle.proof_walk.proofs.ByLine.{begins_none}
 use Rattle.proof_sending.proofs.Grounds.{WalkLaws, ground_said}
 use Rattle.proof_sending.proofs.Steps.{HearsTold, mine_step}
 use Rattle.proof_sending.proofs.Telling.{items_tell}
-
--- ---- what the host does of itself
-
-as_own : (event these : HostEvent) → event ≡ these → IsOwn these → IsOwn event
-as_own event these is own = subst IsOwn (sym is) own
-
-no_more_own : (h : HostState) (n : ℕ) → IsOwn (no_more_event h n)
-no_more_own h n = by (is_full h)
-  where
-    by : (full : Bool) → IsOwn (if full then Drops_no_more n else Queues_no_more n)
-    by true = tt
-    by false = tt
-
-gives_own : (h : HostState) (n : ℕ) (text : Option (List ℕ)) (event : HostEvent) → GivesNext h n text event → IsOwn event
-gives_own h n (Some text) event is = as_own event _ is tt
-gives_own h n None event (payload, there, is) = as_own event _ is tt
-
-served_own : (h : HostState) (n : ℕ) (series : Series) (event : HostEvent) → IsServedBy h n series event → IsOwn event
-served_own h n Running event is = gives_own h n (node_of h n).text event is
-served_own h n Due event (plan, more, payload, start, is) = as_own event _ is tt
-served_own h n Idle event (inl is) = as_own event _ is tt
-served_own h n Idle event (inr is) = as_own event _ is tt
-
-nodes_own : (h : HostState) (next : Option ℕ) (event : HostEvent) → IsNextOfNodes h next event → IsOwn event
-nodes_own h None event is = absurd is
-nodes_own h (Some n) event is = served_own h n (node_of h n).series event is
-
-next_own : (h : HostState) (owes : Bool) (queue : List Task) (event : HostEvent) → IsNextOf h owes queue event → IsOwn event
-next_own h true queue event is = as_own event _ is tt
-next_own h false (one ∷ more) event is = as_own event _ is tt
-next_own h false [] event is = nodes_own h (next_of h.nodes h.served) event is
 
 -- ---- the walk
 
@@ -80,11 +43,11 @@ module _ (listing : ℕ → List ℕ) (key : List ℕ) (laws : WalkLaws) where
   Know = KnowSending listing key
 
   abbrev Keeps : Phase → List Entry → Machine → Event → Type 0
-  Keeps = Steps (MayRequest listing key) Know
+  Keeps = Steps (MayRequest (always listing) key) Know
 
   -- a line is said, and begins
   said_keeps : (past : List Entry) (m : Machine) (words : List ℕ) (line : Line) → line_of (Said words) ≡ line ∷ [] → IsSound listing key past m
-      → MayRequest listing key past (Said words) × Saying listing key line (past ++ Said words ∷ []) m
+      → MayRequest (always listing) key past (Said words) × Saying listing key line (past ++ Said words ∷ []) m
   said_keeps past m words line read sound = (
     tt,
     record {
@@ -102,7 +65,7 @@ module _ (listing : ℕ → List ℕ) (key : List ℕ) (laws : WalkLaws) where
   begins : (line : Line) (past : List Entry) (m : Machine) → Saying listing key line past m → Keeps (Begun line) past m (Outside_does Begins_line)
   begins line past m saying =
       let opened : Opened listing key line past (begun m) = (m, saying, refl) in (
-        subst (λ (told : List Entry). EachAfter (MayRequest listing key) past told) (sym (begins_none m)) tt,
+        subst (λ (told : List Entry). EachAfter (MayRequest (always listing) key) past told) (sym (begins_none m)) tt,
         subst (λ (told : List Entry). Opened listing key line (past ++ told) (begun m)) (sym (begins_none m)) (subst (λ (l : List Entry). Opened listing key line l (begun m)) (sym (append-nil past)) opened),
       )
 
@@ -111,14 +74,14 @@ module _ (listing : ℕ → List ℕ) (key : List ℕ) (laws : WalkLaws) where
       → ((later : List Entry) (n : Machine) → IsSound listing key later n → Know to later n) → Keeps next past m event
   mine next to event is past m event_is next_is of_none may well hears sound there =
       let got = mine_step listing key laws past m is of_none (subst (May m) event_is may) (subst (IsWell listing m) event_is well) hears sound in
-      event_then (MayRequest listing key) Know next to event is past m event_is next_is (got.0, there (past ++ entries m is) (happens m is) got.1)
+      event_then (MayRequest (always listing) key) Know next to event is past m event_is next_is (got.0, there (past ++ entries m is) (happens m is) got.1)
 
   event_keeps : (here next : Phase) (past : List Entry) (m : Machine) (event : Event) → Goes here m event next → May m event → IsWell listing m event → KnowRooms here past m → Know here past m
       → Keeps next past m event
   event_keeps (Said_line line) next past m event (event_is, next_is) may well rooms known =
-      event_then (MayRequest listing key) Know next (Begun line) event (Outside_does Begins_line) past m event_is next_is (begins line past m known)
+      event_then (MayRequest (always listing) key) Know next (Begun line) event (Outside_does Begins_line) past m event_is next_is (begins line past m known)
   event_keeps (Doing line (first ∷ left)) next past m event (event_is, next_is) may well rooms known =
-      event_then (MayRequest listing key) Know next (Doing line left) event first past m event_is next_is
+      event_then (MayRequest (always listing) key) Know next (Doing line left) event first past m event_is next_is
       (left_step listing key laws past m first left (subst (May m) event_is may) (subst (IsWell listing m) event_is well) known)
   event_keeps (To_tick (suc ticks)) next past m event (event_is, next_is) may well rooms known = mine next (Ticked ticks) event _ past m event_is next_is tt may well tt known (λ p n k. k)
   event_keeps (Arriving (suc frames) ticks) next past m event (drawn, route, event_is, next_is) may well rooms known =
@@ -133,9 +96,9 @@ module _ (listing : ℕ → List ℕ) (key : List ℕ) (laws : WalkLaws) where
   event_keeps (Ticking_host (first ∷ events) ticks) next past m event (event_is, next_is) may well rooms known =
       mine next (Ticking_host events ticks) event _ past m event_is next_is known.0.0 may well tt known.1 (λ p n k. (known.0.1, k))
   event_keeps (Sleeping passes ticks) next past m event (node, wants, event_is, next_is) may well rooms known =
-      mine next (Sleeping passes ticks) event _ past m event_is next_is (no_more_own m.host.state node) may well tt known (λ p n k. k)
+      mine next (Sleeping passes ticks) event _ past m event_is next_is (no_more_is IsOwn sleepers_own m.host.state node) may well tt known (λ p n k. k)
   event_keeps (Submitting passes ticks) next past m event (asked, is, event_is, next_is) may well rooms known =
-      mine next (Submitting passes ticks) event _ past m event_is next_is (next_own m.host.state m.host.state.requests.owes m.host.state.requests.queue asked is.1) may well tt known (λ p n k. k)
+      mine next (Submitting passes ticks) event _ past m event_is next_is (submitted_is IsOwn submitted_own m.host.state asked is) may well tt known (λ p n k. k)
   event_keeps (Moving passes ticks) next past m event (rest, ways, event_is, next_is) may well rooms known =
       mine next (Moved true passes ticks) event _ past m event_is next_is tt may well tt known (λ p n k. k)
   event_keeps (Moved has_moved passes ticks) next past m event (rest, items, done, event_is, next_is) may well rooms known =
@@ -166,7 +129,7 @@ module _ (listing : ℕ → List ℕ) (key : List ℕ) (laws : WalkLaws) where
   turn_keeps here next past m turns known = absurd turns
 
   -- along with what is known of the pipes
-  pub sending_walk : WalkWhere WritesWell MayFit KnowRooms → WalkWhere (WritesToo listing) (MayRequest listing key) (KnowBoth listing key)
+  pub sending_walk : WalkWhere WritesWell MayFit KnowRooms → WalkWhere (WritesToo listing) (MayRequest (always listing) key) (KnowBoth listing key)
   sending_walk rooms = record {
     said = λ past m words line read known.
         let one = said_keeps past m words line read known.1 in

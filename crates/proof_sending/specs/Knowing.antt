@@ -1,5 +1,6 @@
 -- What is known, at each phase of a line, of what the host has to send (this project's own rule): it is due by what the transcript shows so far, but between the words of a line and
 -- the end of its effect by what stood before the words.
+use Rattle.law_transcript.specs.Nodes.{always}
 use Rattle.std.specs.Prelude.{◌≡◌, ◌⊎◌, ℕ, List, [], ◌∷◌, ◌++◌}
 use Rattle.std.specs.List.{AllByRecursion}
 use Rattle.device_kinds.specs.Sealing.{keys_of}
@@ -119,7 +120,7 @@ pub record Asking (listing : ℕ → List ℕ) (key : List ℕ) (left : List Eve
   pub node : ℕ
   pub payload : List ℕ
   pub sound : IsSound listing key past m
-  pub asked : IsAskedFor listing past (record { node = node; payload = payload })
+  pub asked : IsAskedFor (always listing) past (record { node = node; payload = payload })
   pub are : left ≡ Host_does (Queues (Plain node payload)) ∷ []
 
 abbrev pub Left : (ℕ → List ℕ) → List ℕ → List Event → List Entry → Machine → Type 0

@@ -3,7 +3,7 @@
 ghost use Rattle.std.specs.Prelude.{Some, ℕ, List, []};
 ghost use Rattle.device_sim.specs.State.{State};
 ghost use Rattle.device_kinds.specs.Sealing.{keys_of};
-ghost use Rattle.law_transcript.specs.Nodes.{listing_of};
+ghost use Rattle.law_transcript.specs.Nodes.{always, listing_of};
 ghost use Rattle.world_model.specs.State.{first_machine};
 ghost use Rattle.world_lines.specs.Spoken.{Spoken, transcript_of};
 ghost use Rattle.world_lines.specs.Done.{AreDone};
@@ -26,7 +26,7 @@ use proof_serial::hosts_write_well;
 /// a message is sealed for, stands in what the chip has brought from it by then, openly or sealed with the network key.
 pub fn lines_send_what_is_due()
     ensures { (key : List ℕ) (devices : List State) (lines : List Spoken) → AreDone (first_machine (keys_of key) (Some []) devices) lines →
-        SendsWhatIsDue (listing_of devices) key (transcript_of (first_machine (keys_of key) (Some []) devices) lines) }
+        SendsWhatIsDue (always (listing_of devices)) key (transcript_of (first_machine (keys_of key) (Some []) devices) lines) }
 {
     events_keep_facts();
     asides_keep_facts();

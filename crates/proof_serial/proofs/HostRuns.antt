@@ -106,7 +106,7 @@ opened_fits keys records all =
     let fits = all_restored (first_host keys) records (first_fits keys) all in
     record { turn = fits.turn; queue = fits.queue; texts = restarting_short (restored_all (first_host keys) records).nodes fits.texts; nonces = fits.nonces }
 
-in_range : (records : List Record) (texts : List (List ℕ)) → AreTextsOf records texts → AllByRecursion IsRecord records
+pub in_range : (records : List Record) (texts : List (List ℕ)) → AreTextsOf records texts → AllByRecursion IsRecord records
 in_range [] [] are = tt
 in_range [] (t ∷ texts) are = absurd are
 in_range (one ∷ records) [] are = absurd are

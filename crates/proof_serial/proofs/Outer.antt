@@ -9,7 +9,7 @@ use Rattle.zw_words.specs.declared.side.Side.{Side}
 use Rattle.zw_words.specs.declared.side.Side.TheVariants.{Host, Chip}
 use Rattle.zw_text.specs.declared.entry.Entry.{Entry}
 use Rattle.serial_pipes.specs.State.{WayState}
-use Rattle.serial_pipes.specs.Events.{Writes, Takes, Clears}
+use Rattle.serial_pipes.specs.Events.{Takes}
 use Rattle.serial_pipes.specs.Events as way
 use Rattle.serial_pipes.specs.declared.marks.Garble.{Garble}
 use Rattle.route_table.specs.declared.route.Route.{Route}
@@ -269,7 +269,7 @@ ticks_moves w rests =
 
 -- ---- events
 
-wrong : {X : Type 0} → false ≡ true → X
+pub wrong : {X : Type 0} → false ≡ true → X
 wrong bad = absurd cc
 
 still : (w : Outside) (n : OuterState) → n.chip ≡ w.outer.chip → n.to_host ≡ w.outer.to_host → n.to_chip ≡ w.outer.to_chip → ChipMoves w.outer n

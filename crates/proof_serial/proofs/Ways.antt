@@ -34,7 +34,7 @@ nothing_joins rest way true items carries = subst (λ (l : List Item). Carries r
 nothing_joins rest way false items carries = subst (λ (l : List Item). Carries rest way l) (sym (append-nil items)) carries
 
 -- a changed text has room where the text has
-same_room : (garble : Garble) (bytes text : List ℕ) → fits bytes (garbled garble text) ≡ fits bytes text
+pub same_room : (garble : Garble) (bytes text : List ℕ) → fits bytes (garbled garble text) ≡ fits bytes text
 same_room garble bytes text = ap (λ (n : ℕ). nat_le (length bytes + n) CAPACITY) (garbled_long garble text)
 
 -- a unit that is not lost

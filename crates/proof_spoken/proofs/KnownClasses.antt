@@ -9,7 +9,7 @@ use Rattle.zw_text.specs.declared.entry.Entry.TheVariants.{Accepted, Interviewed
 use Rattle.zw_text.specs.declared.entry.Ended.TheVariants as ended
 use Rattle.zw_text.specs.Transcript.{interview_at, interviews}
 use Rattle.zw_text.proofs.Views.{shown-append}
-use Rattle.law_transcript.specs.Nodes.{known_at_first, known_classes}
+use Rattle.law_transcript.specs.Nodes.{known_at_first, known_classes, always}
 use Rattle.host_node.specs.Steps.{after_interview, after_join}
 use Rattle.host_node.specs.TableState.{node_of, unknown_from, unknown_nodes, with_node}
 use Rattle.host_model.specs.State.{HostState, command_at, first_classes, first_host, first_nodes}
@@ -46,7 +46,7 @@ use Rattle.proof_spoken.proofs.Outside.{AreForeign, IsForeign, own_foreign, stam
 
 -- ---- what entries show of interviews
 
-or_none : (a b : Bool) → b ≡ false → a || b ≡ a
+pub or_none : (a b : Bool) → b ≡ false → a || b ≡ a
 or_none true b none = refl
 or_none false b none = none
 
@@ -75,7 +75,7 @@ module _ (listing : ℕ → List ℕ) where
   known_by node b = if b then Some (listing node) else known_at_first node
 
   -- entries of others change nothing
-  known_more : (past es : List Entry) (node : ℕ) → AreForeign es → known_classes listing (past ++ es) node ≡ known_classes listing past node
+  known_more : (past es : List Entry) (node : ℕ) → AreForeign es → known_classes (always listing) (past ++ es) node ≡ known_classes (always listing) past node
   known_more past es node foreign =
       ap (known_by node)
       (ap (λ (l : List Bool). list_any (λ one. one) l) (shown-append (interview_at node) past es) ∙ any_append (interviews node past) (interviews node es)
@@ -86,14 +86,14 @@ module _ (listing : ℕ → List ℕ) where
   or_true true b is = refl
   or_true false b is = is
 
-  interviewed_here : (past : List Entry) (node : ℕ) → known_classes listing (past ++ Interviewed node ∷ []) node ≡ Some (listing node)
+  interviewed_here : (past : List Entry) (node : ℕ) → known_classes (always listing) (past ++ Interviewed node ∷ []) node ≡ Some (listing node)
   interviewed_here past node =
       ap (known_by node)
       (ap (λ (l : List Bool). list_any (λ one. one) l) (shown-append (interview_at node) past (Interviewed node ∷ [])) ∙ any_append (interviews node past) (interviews node (Interviewed node ∷ []))
       ∙ or_true (list_any (λ one. one) (interviews node past)) (list_any (λ one. one) (interviews node (Interviewed node ∷ [])))
       (ap (λ (b : Bool). list_any (λ one. one) ((if b then true ∷ [] else []) ++ [])) (eq-eqb node node refl)))
 
-  interviewed_there : (past : List Entry) (node other : ℕ) → (other ≡ node → ⊥) → known_classes listing (past ++ Interviewed node ∷ []) other ≡ known_classes listing past other
+  interviewed_there : (past : List Entry) (node other : ℕ) → (other ≡ node → ⊥) → known_classes (always listing) (past ++ Interviewed node ∷ []) other ≡ known_classes (always listing) past other
   interviewed_there past node other differ =
       ap (known_by other)
       (ap (λ (l : List Bool). list_any (λ one. one) l) (shown-append (interview_at other) past (Interviewed node ∷ [])) ∙ any_append (interviews other past) (interviews other (Interviewed node ∷ []))
@@ -148,7 +148,7 @@ module _ (law : LeavesRecords) (listing : ℕ → List ℕ) where
       → KnowsListing listing (past ++ Interviewed n ∷ []) (host_after h (Interviews n listens classes update))
   interview_knows past h n listens classes update tells knows node = elim (cases_eq node n) [
     | inl same ↦
-        subst (λ (k : ℕ). classes_of (host_after h (Interviews n listens classes update)).nodes k ≡ known_classes listing (past ++ Interviewed n ∷ []) k) (sym same)
+        subst (λ (k : ℕ). classes_of (host_after h (Interviews n listens classes update)).nodes k ≡ known_classes (always listing) (past ++ Interviewed n ∷ []) k) (sym same)
         (set_here h.nodes n (after_interview (node_of h.nodes n) listens classes) (joined_place h.nodes n tells.joined)
         ∙ ap (λ (l : List ℕ). Some l) tells.lists ∙ sym (interviewed_here listing past n))
     | inr other ↦
@@ -225,7 +225,7 @@ module _ (law : LeavesRecords) (listing : ℕ → List ℕ) where
 
 -- ---- at first
 
-unknown_length : (from count : ℕ) → length (unknown_from from count) ≡ count
+pub unknown_length : (from count : ℕ) → length (unknown_from from count) ≡ count
 unknown_length from zero = refl
 unknown_length from (suc count) = ap suc (unknown_length (suc from) count)
 
@@ -239,7 +239,7 @@ unfolding unknown_nodes
 all_unknown zero = refl
 all_unknown (suc m) = unknown_classes 1 232 m
 
-all_length : length unknown_nodes ≡ 233
+pub all_length : length unknown_nodes ≡ 233
 unfolding unknown_nodes
 all_length = ap suc (unknown_length 1 232)
 

@@ -6,7 +6,7 @@ mod ReadOrders
 mod Outside
 pub mod Classes
 pub mod RoutineNotes
-mod KnownClasses
+pub mod KnownClasses
 pub mod NoticeLists
 pub mod Frames
 pub mod ListsAtChip

@@ -10,7 +10,7 @@ use Rattle.zw_text.specs.declared.entry.Entry.TheVariants.{Accepted, Said}
 use Rattle.zw_text.specs.declared.entry.Outcome.TheVariants.{Waiting}
 use Rattle.zw_text.specs.Transcript.{accepted_number, accepted_numbers, interview_at, interviews, line_after, line_last, line_of}
 use Rattle.zw_text.proofs.Views.{folded-append, shown-append}
-use Rattle.law_transcript.specs.Nodes.{host_list, known_at_first, known_classes}
+use Rattle.law_transcript.specs.Nodes.{host_list, known_at_first, known_classes, always}
 use Rattle.host_keep.specs.Kept.{Taken}
 use Rattle.host_orders.specs.Wrapping.{carriage_of}
 use Rattle.host_orders.specs.declared.carriage.Carriage.{Carriage}
@@ -125,10 +125,10 @@ said_more listing commands past es said none =
 
 -- ---- a line that is said
 
-last_said : (past : List Entry) (words : List ℕ) → line_last (past ++ Said words ∷ []) ≡ line_of (Said words)
+pub last_said : (past : List Entry) (words : List ℕ) → line_last (past ++ Said words ∷ []) ≡ line_of (Said words)
 last_said past words = folded-append line_after [] past (Said words ∷ [])
 
-known_said : (listing : ℕ → List ℕ) (past : List Entry) (words : List ℕ) (node : ℕ) → known_classes listing (past ++ Said words ∷ []) node ≡ known_classes listing past node
+known_said : (listing : ℕ → List ℕ) (past : List Entry) (words : List ℕ) (node : ℕ) → known_classes (always listing) (past ++ Said words ∷ []) node ≡ known_classes (always listing) past node
 known_said listing past words node =
     ap (λ (l : List Bool). if list_any (λ succeeded. succeeded) l then Some (listing node) else known_at_first node)
     (shown-append (interview_at node) past (Said words ∷ []) ∙ append-nil (interviews node past))
@@ -185,7 +185,7 @@ module _ (go_on : FactsGoOn) (listing : ℕ → List ℕ) where
       let old = m.host.state.commands in
       let one : Command = record { order = order; carriage = carriage; outcome = Waiting } in
       let is = may_accept m order carriage may in
-      let classes : host_list listing before order.node ≡ is.classes
+      let classes : host_list (always listing) before order.node ≡ is.classes
       = ap (λ (o : Option (List ℕ)). unwrap_or o []) (known_said listing past words order.node ∙ sym (knows order.node) ∙ is.listed) in
       let answer : IsSaid listing (old ++ one ∷ []) before (length old + 1) order.node = record {
         order = order;

@@ -6,7 +6,7 @@ use Rattle.zw_text.specs.declared.entry.Entry.{Entry}
 use Rattle.zw_text.specs.declared.entry.Entry.TheVariants.{Accepted}
 use Rattle.zw_text.specs.Transcript.{line_last}
 use Rattle.law_transcript.specs.Lists.{EachAfter}
-use Rattle.law_transcript.specs.Nodes.{host_list, known_classes}
+use Rattle.law_transcript.specs.Nodes.{host_list, known_classes, always}
 use Rattle.host_orders.specs.Wrapping.{carriage_of}
 use Rattle.host_orders.specs.declared.carriage.Carriage.{Carriage}
 use Rattle.host_node.specs.TableState.{node_of}
@@ -28,7 +28,7 @@ pub record IsSaid (listing : ℕ → List ℕ) (commands : List Command) (past :
   pub said : line_last past ≡ Commanded order ∷ []
   pub of_node : order.node ≡ node
   pub taken : taken_at commands command ≡ Some (record { order = order; carriage = carriage })
-  pub carried : carriage ≡ carriage_of (host_list listing past node) order
+  pub carried : carriage ≡ carriage_of (host_list (always listing) past node) order
 
 abbrev pub MayAnswer : (ℕ → List ℕ) → List Command → List Entry → Entry → Type 0
 MayAnswer listing commands past (Accepted command node) = IsSaid listing commands past command node
@@ -42,7 +42,7 @@ AreSaid listing commands transcript = EachAfter (MayAnswer listing commands) [] 
 
 -- the host knows of each node the classes that the transcript shows it to know
 abbrev pub KnowsListing : (ℕ → List ℕ) → List Entry → HostState → Type 0
-KnowsListing listing past h = (node : ℕ) → (node_of h.nodes node).classes ≡ known_classes listing past node
+KnowsListing listing past h = (node : ℕ) → (node_of h.nodes node).classes ≡ known_classes (always listing) past node
 
 -- so where each of these lines begins
 abbrev pub AllKnow : (ℕ → List ℕ) → List Entry → Machine → List Spoken → Type 0

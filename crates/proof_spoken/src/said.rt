@@ -1,5 +1,6 @@
 //! The laws of orders that were said.
 
+ghost use Rattle.law_transcript.specs.Nodes.{always};
 ghost use Rattle.std.specs.Prelude.{◌≡◌, ℕ, Option, Some, List, [], ◌++◌};
 ghost use Rattle.s0_crypto.specs.declared.key_pair.Keys.{Keys};
 ghost use Rattle.device_sim.specs.State.{State};
@@ -62,7 +63,7 @@ pub fn tables_are_what_was_said()
 pub fn orders_are_carried_as_said()
     ensures { (listing : ℕ → List ℕ) (past : List Entry) (h : HostState) (node number : ℕ) (taken : Taken) → Facts past h →
         AreSaid listing h.commands past → Has (numbers_for node past) number → taken_at h.commands number ≡ Some taken →
-        (order_of number (accepted node past) ≡ Some taken.order) × (taken.carriage ≡ carriage_of (classes_for listing past node number) taken.order) }
+        (order_of number (accepted node past) ≡ Some taken.order) × (taken.carriage ≡ carriage_of (classes_for (always listing) past node number) taken.order) }
 {}
 
 /// The host knows of each node the classes that the transcript shows, where each interview that ends well is of a joined node and tells what the node

@@ -178,7 +178,7 @@ run_keeps steps m (event ∷ events) keeps may asks =
 
 -- ---- what is written
 
-no_units : (entries : List Entry) → host_units (noted entries) ≡ []
+pub no_units : (entries : List Entry) → host_units (noted entries) ≡ []
 no_units [] = refl
 no_units (entry ∷ entries) = no_units entries
 
@@ -191,7 +191,7 @@ acknowledged_mute Idle = refl
 acknowledged_mute (Copied f copies ticks) = refl
 acknowledged_mute (Paused f copies ticks) = refl
 
-refused_mute : (turn : Turn) → flat_map link_unit (outs_refused turn) ≡ []
+pub refused_mute : (turn : Turn) → flat_map link_unit (outs_refused turn) ≡ []
 refused_mute Idle = refl
 refused_mute (Copied f copies ticks) = ended_mute (copies == 4)
 refused_mute (Paused f copies ticks) = refl

@@ -1,22 +1,15 @@
 -- Events of a host that are steps of the course, one after another.
-use Rattle.std.proofs.Common.{◌≡◌, List, [], ◌∷◌, ◌++◌, refl, sym, ap, ◌∙◌, subst, append_assoc, append-nil}
+use Rattle.std.proofs.Common.{◌≡◌, List, [], ◌++◌, refl, sym, ap, ◌∙◌, subst, append_assoc, append-nil}
 use Rattle.std.proofs.lemmas.List.Concat.{flat_map-append}
 use Rattle.host_model.specs.declared.out.HostOut.{HostOut}
 use Rattle.host_model.specs.State.{HostState}
 use Rattle.host_model.specs.Events.{HostEvent}
 use Rattle.host_model.specs.Did.{after_all, outs_all}
 use Rattle.host_model.proofs.EventLists.{after_all-append, outs_all-append}
-use Rattle.proof_traffic.specs.Requests.{Word, Traffic, Step}
+use Rattle.proof_traffic.specs.Requests.{Word, Traffic}
 use Rattle.proof_traffic.specs.Requests as course
 use Rattle.proof_traffic.specs.HostTraffic.{words_put, words_out, Knows, Writes, Goes}
-
-pub steps-append : (t : Traffic) (a b : List Step) → course.after_all t (a ++ b) ≡ course.after_all (course.after_all t a) b
-steps-append t [] b = refl
-steps-append t (step ∷ a) b = steps-append (course.after t step) a b
-
-pub may-append : (t : Traffic) (a b : List Step) → course.MayAll t a → course.MayAll (course.after_all t a) b → course.MayAll t (a ++ b)
-may-append t [] b first later = later
-may-append t (step ∷ a) b first later = (first.0, may-append (course.after t step) a b first.1 later)
+use Rattle.proof_traffic.proofs.CourseSteps.{steps_both as steps-append, may_both as may-append}
 
 pub words-append : (a b : List HostOut) → words_out (a ++ b) ≡ words_out a ++ words_out b
 words-append a b = flat_map-append words_put a b

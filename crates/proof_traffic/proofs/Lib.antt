@@ -1,7 +1,7 @@
 mod Words
 pub mod FactsKept
 mod HostSteps
-mod HostLinks
+pub mod HostLinks
 mod Quiet
 mod Submissions
 mod Items

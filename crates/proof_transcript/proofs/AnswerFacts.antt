@@ -22,7 +22,7 @@ use Rattle.law_transcript.specs.Answers.{known_of, properties_kept, properties_w
 use Rattle.law_transcript.specs.Commands.{is_waiting, waiting}
 use Rattle.law_transcript.specs.Lists.{Has}
 use Rattle.law_transcript.specs.Stores.{node_at}
-use Rattle.law_transcript.specs.Nodes.{device_of, host_list, known_classes, listing_of}
+use Rattle.law_transcript.specs.Nodes.{device_of, host_list, known_classes, listing_of, always}
 use Rattle.law_transcript.proofs.Having.{all_of, has_shown, shown_has}
 use Rattle.host_model.specs.State.{HostState, Command, command_at, node_of}
 use Rattle.host_model.specs.After.{node_for, node_with}
@@ -46,10 +46,11 @@ use Rattle.proof_transcript.proofs.KeptProperties.{same_count}
 use Rattle.proof_transcript.proofs.Nodes.{device_is}
 use Rattle.proof_transcript.proofs.StoredPlaces.{KeepsNoMore}
 use Rattle.proof_transcript.proofs.StoredValues.{number_among}
+use Rattle.proof_once.proofs.BegunCommands.{accepted_here as node_here}
 
 -- ---- lists of numbers
 
-has_any : (l : List ℕ) (number : ℕ) → Has l number → list_any (λ one. one == number) l ≡ true
+pub has_any : (l : List ℕ) (number : ℕ) → Has l number → list_any (λ one. one == number) l ≡ true
 has_any [] number has = absurd has
 has_any (first ∷ l) number (inl same) = ap (λ (b : Bool). b || list_any (λ one. one == number) l) (eq-eqb first number same)
 has_any (first ∷ l) number (inr has) = or_true (first == number) _ (has_any l number has)
@@ -58,7 +59,7 @@ has_any (first ∷ l) number (inr has) = or_true (first == number) _ (has_any l 
     or_true true b is = refl
     or_true false b is = is
 
-any_has : (l : List ℕ) (number : ℕ) → list_any (λ one. one == number) l ≡ true → Has l number
+pub any_has : (l : List ℕ) (number : ℕ) → list_any (λ one. one == number) l ≡ true → Has l number
 any_has [] number is = absurd (let none : false ≡ true = is in cc)
 any_has (first ∷ l) number is = by (first == number) refl is (any_has l number)
   where
@@ -69,7 +70,7 @@ any_has (first ∷ l) number is = by (first == number) refl is (any_has l number
 has_among : (l : List ℕ) (number : ℕ) → Has l number → is_among l number ≡ true
 has_among l number has = has_any l number has
 
-has_filter : (test : ℕ → Bool) (l : List ℕ) (number : ℕ) → Has l number → test number ≡ true → Has (filter test l) number
+pub has_filter : (test : ℕ → Bool) (l : List ℕ) (number : ℕ) → Has l number → test number ≡ true → Has (filter test l) number
 has_filter test [] number has is = absurd has
 has_filter test (first ∷ l) number has is = by (test first) refl has (λ later. has_filter test l number later is)
   where
@@ -85,12 +86,6 @@ where_number : (b : Bool) (node command n number : ℕ) → (node == n) ≡ b �
 where_number true node command n number e (inl is) = (eqb-true node n e, is)
 where_number true node command n number e (inr has) = absurd has
 where_number false node command n number e has = absurd has
-
-node_here : (n number : ℕ) (entry : Entry) → Has (number_for n entry) number → Has (node_at number entry) n
-node_here n number (Accepted command node) has =
-    let (of, same) = where_number (node == n) node command n number refl has in
-    subst (λ (l : List ℕ). Has l n) (sym (ap (λ (b : Bool). if b then node ∷ [] else []) (eq-eqb command number same))) (inl of)
-node_here n number entry has = absurd has
 
 -- each number of a node was accepted for it
 node_among : (T : List Entry) (n number : ℕ) → Has (numbers_for n T) number → Has (accepted_for number T) n
@@ -154,11 +149,11 @@ module _ (devices : List State) (past : List Entry) (m : Machine) (facts : Facts
   abbrev h : HostState
   h = m.host.state
 
-  known_is : (node : ℕ) → known_of (listing_of devices) past node ≡ known_of_host (node_of h node)
+  known_is : (node : ℕ) → known_of (always (listing_of devices)) past node ≡ known_of_host (node_of h node)
   known_is node =
       let waits : length (waiting node past) ≡ length (node_of h node).waiting =
       ap (λ (l : List ℕ). length (filter (λ number. is_waiting (outcome number past)) l)) (by_table node).numbers ∙ ap (λ (l : List ℕ). length l) (sym (tables.waiting node)) in
-      ap (λ (j : Bool). record { joined = j; classes = known_classes (listing_of devices) past node; waiting = length (waiting node past) }) (sym (told.are_joined node))
+      ap (λ (j : Bool). record { joined = j; classes = known_classes (always (listing_of devices)) past node; waiting = length (waiting node past) }) (sym (told.are_joined node))
       ∙ (ap (λ (c : Option (List ℕ)). record { joined = (node_of h node).joined; classes = c; waiting = length (waiting node past) }) (sym (knows node))
       ∙ ap (λ (k : ℕ). record { joined = (node_of h node).joined; classes = (node_of h node).classes; waiting = k }) waits)
 
@@ -171,18 +166,18 @@ module _ (devices : List State) (past : List Entry) (m : Machine) (facts : Facts
       by (Some command) (inl is) = ap (λ (n : ℕ). n ∷ []) is
       by (Some command) (inr has) = absurd has
 
-  count_is : (node : ℕ) (more : List Property) → count_with h.store node more ≡ distinct_count same_property (more ++ properties_kept (listing_of devices) past node)
+  count_is : (node : ℕ) (more : List Property) → count_with h.store node more ≡ distinct_count same_property (more ++ properties_kept (always (listing_of devices)) past node)
   count_is node more =
       same_count (listing_of devices) past h facts by_table told.heard no_more
       (λ number n is. number_among past n number (subst (λ (l : List ℕ). Has l n) (sym is) (inl refl)))
       (λ n. all_of (λ number. nodes_by (command_at h.commands number) ≡ n ∷ []) (numbers_for n past) (λ number has. nodes_of n number has)) node more
 
-  order_is : (order : Order) → refusal_of (known_of (listing_of devices) past order.node) (properties_with (listing_of devices) past order) order ≡ refusal_for h order
+  order_is : (order : Order) → refusal_of (known_of (always (listing_of devices)) past order.node) (properties_with (always (listing_of devices)) past order) order ≡ refusal_for h order
   order_is order =
       let node = order.node in
-      let classes : host_list (listing_of devices) past node ≡ classes_of (known_of_host (node_of h node)) = ap (λ (o : Option (List ℕ)). unwrap_or o []) (sym (knows node)) in
-      ap (λ (k : Known). refusal_of k (properties_with (listing_of devices) past order) order) (known_is node)
-      ∙ (ap (λ (l : List ℕ). refusal_of (known_of_host (node_of h node)) (distinct_count same_property (properties_of (settings (actuator_of l) order) ++ properties_kept (listing_of devices) past node)) order) classes
+      let classes : host_list (always (listing_of devices)) past node ≡ classes_of (known_of_host (node_of h node)) = ap (λ (o : Option (List ℕ)). unwrap_or o []) (sym (knows node)) in
+      ap (λ (k : Known). refusal_of k (properties_with (always (listing_of devices)) past order) order) (known_is node)
+      ∙ (ap (λ (l : List ℕ). refusal_of (known_of_host (node_of h node)) (distinct_count same_property (properties_of (settings (actuator_of l) order) ++ properties_kept (always (listing_of devices)) past node)) order) classes
       ∙ ap (λ (n : ℕ). refusal_of (known_of_host (node_of h node)) n order) (sym (count_is node (properties_of (settings (carriage_for h order).actuator order)))))
 
   -- a command that waits for its node may be taken back

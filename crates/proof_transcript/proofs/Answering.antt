@@ -35,7 +35,7 @@ use Rattle.zw_text.specs.declared.entry.Entry.TheVariants as entry
 use Rattle.zw_text.specs.Transcript.{line_of, line_last}
 use Rattle.law_transcript.specs.Lists.{EachAfter, listed}
 use Rattle.law_transcript.specs.Answers.{AsksNothing, Follows, IsAnswer, IsNoAnswer, IsNoBadRecord, IsRefusal, LetsIn, MayAnswer, MayStandAfter, ReadsItsRecords, answer_to, answered_by, before_last, refusal_entry, refusals_to, refused_without}
-use Rattle.law_transcript.specs.Nodes.{device_of, is_joined, listing_of}
+use Rattle.law_transcript.specs.Nodes.{device_of, is_joined, listing_of, always}
 use Rattle.law_transcript.specs.Repeats.{repeat_entry}
 use Rattle.proof_host.proofs.Lists.{each-weaker}
 use Rattle.host_model.specs.State.{HostState, node_of}
@@ -253,7 +253,7 @@ module _ (devices : List State) where
   no_refusal : (line : Line) (due : List Entry) (e : Entry) → due ≡ [] → MayStandAfter line e → IsRefusal line due e
   no_refusal line due e none stands = subst (λ (l : List Entry). IsRefusal line l e) (sym none) stands
 
-  answered_stands : (before : List Entry) (l : List Line) (e : Entry) → IsNoAnswer e → IsAnswered (refusals_to devices) before l → Follows (listing_of devices) (refusals_to devices) before l e
+  answered_stands : (before : List Entry) (l : List Line) (e : Entry) → IsNoAnswer e → IsAnswered (refusals_to devices) before l → Follows (always (listing_of devices)) (refusals_to devices) before l e
   answered_stands before [] e none answered = none
   answered_stands before (lines.Command order ∷ more) e none answered = absurd answered
   answered_stands before (lines.Cancel command ∷ more) e none answered = absurd answered
@@ -284,10 +284,10 @@ module _ (devices : List State) where
     before_line : before_last past ≡ asked.before
     before_line = ap (λ (l : List Entry). before_last l) asked.is ∙ before_is asked.before (entry.Said asked.words)
 
-    follows_here : (e : Entry) → Follows (listing_of devices) (refusals_to devices) asked.before (line ∷ []) e → MayAnswer (listing_of devices) (refusals_to devices) past e
+    follows_here : (e : Entry) → Follows (always (listing_of devices)) (refusals_to devices) asked.before (line ∷ []) e → MayAnswer (always (listing_of devices)) (refusals_to devices) past e
     follows_here e follows =
-        subst (λ (l : List Line). Follows (listing_of devices) (refusals_to devices) (before_last past) l e) (sym last_line)
-        (subst (λ (b : List Entry). Follows (listing_of devices) (refusals_to devices) b (line ∷ []) e) (sym before_line) follows)
+        subst (λ (l : List Line). Follows (always (listing_of devices)) (refusals_to devices) (before_last past) l e) (sym last_line)
+        (subst (λ (b : List Entry). Follows (always (listing_of devices)) (refusals_to devices) b (line ∷ []) e) (sym before_line) follows)
 
     answered_here : (m : Machine) → IsAnswered (refusals_to devices) asked.before (line ∷ []) → Answered devices past m
     answered_here m answered =
@@ -295,7 +295,7 @@ module _ (devices : List State) where
         (subst (λ (b : List Entry). IsAnswered (refusals_to devices) b (line ∷ [])) (sym before_line) answered)
 
     -- it answers the line
-    answers_it : (event : Event) (left : List Event) (e : Entry) → entries here event ≡ e ∷ [] → Follows (listing_of devices) (refusals_to devices) asked.before (line ∷ []) e → IsNoBadRecord e → line_of e ≡ []
+    answers_it : (event : Event) (left : List Event) (e : Entry) → entries here event ≡ e ∷ [] → Follows (always (listing_of devices)) (refusals_to devices) asked.before (line ∷ []) e → IsNoBadRecord e → line_of e ≡ []
         → AllByRecursion IsFreeEvent left → Goal line past here event left
     answers_it event left e enters follows sound none free =
         subst (λ (told : List Entry). EachAfter Stands past told × AwaitsAnswer devices line left (past ++ told) (happens here event)) (sym enters)
@@ -332,7 +332,7 @@ module _ (devices : List State) where
     opened = begun first
 
     refused_so : (event : Event) (left : List Event) (refusal : Refusal) → event ∷ left ≡ Refuses line refusal ∷ []
-        → Follows (listing_of devices) (refusals_to devices) asked.before (line ∷ []) (entry.Refused refusal) → IsNoBadRecord (entry.Refused refusal) → Goal line past opened event left
+        → Follows (always (listing_of devices)) (refusals_to devices) asked.before (line ∷ []) (entry.Refused refusal) → IsNoBadRecord (entry.Refused refusal) → Goal line past opened event left
     refused_so event left refusal are follows sound =
         as_these line past opened event (Refuses line refusal) left [] are
         (answers_it line past first opened asked (Refuses line refusal) [] (entry.Refused refusal) (refuses_enter first line refusal) follows sound refl tt)
@@ -357,7 +357,7 @@ module _ (devices : List State) where
 
   module _ (line : Line) (past : List Entry) (first here : Machine) (asked : Asked (AnswerTies devices) line past first)
       (enters : (refusal : Refusal) → entries here (Refuses line refusal) ≡ entry.Refused refusal ∷ [])
-      (to_follows : (e : Entry) → IsRefusal line (refusals_to devices asked.before line) e → Follows (listing_of devices) (refusals_to devices) asked.before (line ∷ []) e)
+      (to_follows : (e : Entry) → IsRefusal line (refusals_to devices asked.before line) e → Follows (always (listing_of devices)) (refusals_to devices) asked.before (line ∷ []) e)
       (to_answered : refusals_to devices asked.before line ≡ [] → IsAnswered (refusals_to devices) asked.before (line ∷ []))
       (stands : MayStandAfter line (entry.Refused (refusals.QueueFull 64))) where
     errand : (full free : Option HostRefusal) (flag : Bool) (ask : HostEvent) (event : Event) (left : List Event) → refusals_to devices asked.before line ≡ due_of free
@@ -409,12 +409,12 @@ module _ (devices : List State) where
   unrefused first order may = few_fit first.host.state order _ may.0.unrefused _ may.0.few
 
   order_answer : (past : List Entry) (m : Machine) (order : Order) → AnswerTies devices past m → refusal_for m.host.state order ≡ None
-      → answer_to (listing_of devices) past order ≡ entry.Accepted (length m.host.state.commands + 1) order.node ∷ []
+      → answer_to (always (listing_of devices)) past order ≡ entry.Accepted (length m.host.state.commands + 1) order.node ∷ []
   order_answer past m order ties none =
       ap (λ (o : Option HostRefusal). answered_by past order.node o) (ties.order order ∙ none) ∙ ap (λ (n : ℕ). entry.Accepted (n + 1) order.node ∷ []) ties.count
 
   order_refused : (past : List Entry) (first : Machine) (order : Order) (refusal : Refusal) → AnswerTies devices past first → (rule : Option HostRefusal) → refusal_for first.host.state order ≡ rule
-      → IsRefusedOrUnkept rule refusal → IsAnswer (answer_to (listing_of devices) past order) (entry.Refused refusal)
+      → IsRefusedOrUnkept rule refusal → IsAnswer (answer_to (always (listing_of devices)) past order) (entry.Refused refusal)
   order_refused past first order refusal ties None is (inl by_none) = absurd by_none
   order_refused past first order refusal ties None is (inr (none, keeper)) = inr (
     subst LetsIn (sym (order_answer past first order ties is)) tt,
@@ -681,7 +681,7 @@ module _ (devices : List State) where
   -- the line is refused where the node has no device
   module _ (line : Line) (past : List Entry) (first : Machine) (asked : Asked (AnswerTies devices) line past first) (node : ℕ) (done : DeviceEvent)
       (due : refusals_to devices asked.before line ≡ refused_without (device_of node devices))
-      (to_follows : (e : Entry) → IsRefusal line (refusals_to devices asked.before line) e → Follows (listing_of devices) (refusals_to devices) asked.before (line ∷ []) e)
+      (to_follows : (e : Entry) → IsRefusal line (refusals_to devices asked.before line) e → Follows (always (listing_of devices)) (refusals_to devices) asked.before (line ∷ []) e)
       (to_answered : refusals_to devices asked.before line ≡ [] → IsAnswered (refusals_to devices) asked.before (line ∷ [])) where
     due_at : (found : Option State) → device_at first.outside.devices (place_of node first.outside.devices) ≡ found → refusals_to devices asked.before line ≡ refused_without found
     due_at found is = due ∙ (asked.ties.absent node ∙ ap refused_without is)
@@ -910,8 +910,8 @@ module _ (devices : List State) where
   answers_walk = tied_walk_of Stands (Asked (AnswerTies devices)) (Opened (AnswerTies devices)) (AwaitsAnswer devices) (Answered devices) (AnswerTies devices) by_lines
 
   -- the two laws
-  pub answers_of : (past told : List Entry) → EachAfter Stands past told → EachAfter (MayAnswer (listing_of devices) (refusals_to devices)) past told
-  answers_of past told each = each-weaker Stands (MayAnswer (listing_of devices) (refusals_to devices)) (λ before e is. is.0) past told each
+  pub answers_of : (past told : List Entry) → EachAfter Stands past told → EachAfter (MayAnswer (always (listing_of devices)) (refusals_to devices)) past told
+  answers_of past told each = each-weaker Stands (MayAnswer (always (listing_of devices)) (refusals_to devices)) (λ before e is. is.0) past told each
 
   pub sound_of : (past told : List Entry) → EachAfter Stands past told → ReadsItsRecords told
   sound_of past [] each = tt

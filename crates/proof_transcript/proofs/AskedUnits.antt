@@ -21,7 +21,6 @@ use Rattle.serial_pipes.specs.Events.{Writes, told, told_by}
 use Rattle.serial_pipes.specs.Events as way
 use Rattle.serial_pipes.specs.declared.marks.Garble.{Garble}
 use Rattle.serial_pipes.specs.declared.marks.Mark.TheVariants.{Lost}
-use Rattle.serial_pipes.specs.declared.pipe.TheConstants.{CAPACITY}
 use Rattle.zw_words.specs.declared.side.Side.TheVariants.{Host as by_host}
 use Rattle.zw_text.specs.declared.entry.Entry.{Entry}
 use Rattle.zw_text.specs.declared.entry.Entry.TheVariants as entry
@@ -35,8 +34,8 @@ use Rattle.proof_device.proofs.Entered.{IsMark, told_by_marks}
 use Rattle.proof_host.proofs.Lists.{each-anywhere}
 use Rattle.outside_model.specs.State.{OuterState}
 use Rattle.proof_serial.specs.Way.{changed_item, items_of, unit_item}
-use Rattle.proof_serial.proofs.ChangedUnits.{changed_text, garbled_long}
-use Rattle.proof_serial.proofs.Ways.{carries_more}
+use Rattle.proof_serial.proofs.ChangedUnits.{changed_text}
+use Rattle.proof_serial.proofs.Ways.{carries_more, same_room}
 use Rattle.proof_walk.proofs.Bodies.{body_is}
 use Rattle.proof_transcript.specs.Carrying.{Underway, sends_in, sends_of}
 use Rattle.proof_transcript.proofs.Picked.{IsNoFrame, asked-append, picked_both, picked_same, same_sent}
@@ -126,9 +125,6 @@ joins us u text item false arrives is = ([], misses us u, tt)
 loses : (us : List Unit_on) (u : Unit_on) (room : Bool) → AsksMore us (us ++ u ∷ []) (entry.Dropped by_host ∷ []) (if room then [] else [])
 loses us u true = ([], misses us u, tt)
 loses us u false = ([], misses us u, tt)
-
-same_room : (garble : Garble) (bytes text : List ℕ) → fits bytes (garbled garble text) ≡ fits bytes text
-same_room garble bytes text = ap (λ (n : ℕ). nat_le (length bytes + n) CAPACITY) (garbled_long garble text)
 
 -- one that is not
 stays : (us : List Unit_on) (bytes : List ℕ) (garbles : List Garble) (unit : LineUnit) → IsUnit unit

@@ -39,7 +39,7 @@ or_later : (b : Bool) (numbers : List ℕ) (number : ℕ) → is_among numbers n
 or_later true numbers number among = refl
 or_later false numbers number among = among
 
-or_here : (b c : Bool) → b ≡ true → (b || c) ≡ true
+pub or_here : (b c : Bool) → b ≡ true → (b || c) ≡ true
 or_here true c is = refl
 or_here false c is = absurd cc
 

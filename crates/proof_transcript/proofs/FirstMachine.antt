@@ -15,6 +15,7 @@ use Rattle.law_transcript.specs.Nodes.{is_joined}
 use Rattle.world_model.specs.State.{first_machine}
 use Rattle.proof_transcript.proofs.Hosts.{joined_here, joined_in, joined_there}
 use Rattle.proof_transcript.specs.Told.{IsTold}
+use Rattle.proof_spoken.proofs.KnownClasses.{all_length}
 
 unknown_joined : (from count m : ℕ) → joined_in (unknown_from from count) m ≡ false
 unknown_joined from zero m = refl
@@ -25,14 +26,6 @@ none_joined : (m : ℕ) → joined_in unknown_nodes m ≡ false
 unfolding unknown_nodes
 none_joined zero = refl
 none_joined (suc m) = unknown_joined 1 232 m
-
-unknown_length : (from count : ℕ) → length (unknown_from from count) ≡ count
-unknown_length from zero = refl
-unknown_length from (suc count) = ap suc (unknown_length (suc from) count)
-
-all_length : length unknown_nodes ≡ 233
-unfolding unknown_nodes
-all_length = ap suc (unknown_length 1 232)
 
 or_same : (b : Bool) → b || false ≡ b
 or_same true = refl

@@ -1,4 +1,5 @@
 -- Over lines that were run whole, and the table at their end.
+use Rattle.law_transcript.specs.Nodes.{always}
 use Rattle.std.proofs.Common.{◌≡◌, ℕ, if◌then◌else◌, List, [], ◌∷◌, ◌++◌, map, Option, Some, None, refl, sym, ap, ap₂, subst, ◌∙◌, append_assoc, append-nil}
 use Rattle.std.specs.List.{AllByRecursion}
 use Rattle.std.specs.Ordering.{nat_cmp}
@@ -57,35 +58,35 @@ value_settings (Some taken) p = refl
 module _ (listing : ℕ → List ℕ) (past : List Entry) (m : Machine) (told : IsTold past m) (laws : HostLaws past) (tables : AreShown past m.host.state) (stores : StoresLaw past m.host.state)
     (by_table : (node : ℕ) → IsTable listing m.host.state.commands node past) where
   -- a command of a session asks for what the table says
-  asked : (node number : ℕ) → Has (sessions node past) number → settings_for listing past node number ≡ settings_taken (taken_at m.host.state.commands number)
+  asked : (node number : ℕ) → Has (sessions node past) number → settings_for (always listing) past node number ≡ settings_taken (taken_at m.host.state.commands number)
   asked node number has =
-      all_has (λ k. settings_for listing past node k ≡ settings_taken (taken_at m.host.state.commands k)) (numbers_for node past) number (by_table node).settings
+      all_has (λ k. settings_for (always listing) past node k ≡ settings_taken (taken_at m.host.state.commands k)) (numbers_for node past) number (by_table node).settings
       (all_has (Has (numbers_for node past)) (sessions node past) number (laws.accepted node) has)
 
   gives_same : (node : ℕ) (p : Property) (number : ℕ) → Has (sessions node past) number
-      → given_by m.host.state.commands (λ k. outcome k past) p number ≡ confirmed_by listing past node p number
+      → given_by m.host.state.commands (λ k. outcome k past) p number ≡ confirmed_by (always listing) past node p number
   gives_same node p number has =
       ap (λ (o : Option ℕ). if is_success (outcome number past) then o else None)
       (value_settings (taken_at m.host.state.commands number) p ∙ ap (λ (l : List Setting). value_among l p) (sym (asked node number has)))
 
-  confirmed_is : (node : ℕ) (p : Property) → (stored_of m.host.state.store node p).confirmed ≡ confirmed listing past node p
+  confirmed_is : (node : ℕ) (p : Property) → (stored_of m.host.state.store node p).confirmed ≡ confirmed (always listing) past node p
   confirmed_is node p =
       stores.confirmed node p
-      ∙ sym (last_agree (given_by m.host.state.commands (λ k. outcome k past) p) (confirmed_by listing past node p) (sessions node past)
-      (all_of (λ k. confirmed_by listing past node p k ≡ given_by m.host.state.commands (λ j. outcome j past) p k) (sessions node past) (λ k has. sym (gives_same node p k has))))
+      ∙ sym (last_agree (given_by m.host.state.commands (λ k. outcome k past) p) (confirmed_by (always listing) past node p) (sessions node past)
+      (all_of (λ k. confirmed_by (always listing) past node p k ≡ given_by m.host.state.commands (λ j. outcome j past) p k) (sessions node past) (λ k has. sym (gives_same node p k has))))
 
   -- the values of a node
-  pub values_so : (node : ℕ) → map (value_entry node) (held_of m.host.state.store node) ≡ value_lines listing past node
+  pub values_so : (node : ℕ) → map (value_entry node) (held_of m.host.state.store node) ≡ value_lines (always listing) past node
   values_so node = values_are listing past node m.host.state.store (confirmed_is node) (told.heard node)
 
   -- the lines of a node
-  node_is : (node : ℕ) → node_entries m node ≡ node_lines listing past m.outside.devices node
+  node_is : (node : ℕ) → node_entries m node ≡ node_lines (always listing) past m.outside.devices node
   node_is node =
       ap₂ (λ (a : List ℕ) (b : List Entry). TableNode node a ∷ b) (tables.sessions_are node)
       (ap₂ (λ (a b : List Entry). a ++ b) (values_so node) (devices_are node m.outside.devices))
 
-  pub table_is : table_entries m ≡ table_of listing (ticks_asked (lines_run past)) past m.outside.devices
+  pub table_is : table_entries m ≡ table_of (always listing) (ticks_asked (lines_run past)) past m.outside.devices
   table_is =
       ap₂ (λ (a : ℕ) (b : List Entry). TableEnd a ∷ b) told.clock
       (nodes_are (node_entries m) past m.host.state told.are_joined told.within
-      ∙ flat_same (node_entries m) (node_lines listing past m.outside.devices) (in_order nat_cmp (joined past)) node_is)
+      ∙ flat_same (node_entries m) (node_lines (always listing) past m.outside.devices) (in_order nat_cmp (joined past)) node_is)

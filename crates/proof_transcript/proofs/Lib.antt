@@ -13,7 +13,7 @@ mod Noted
 mod Hosts
 mod Judged
 mod Routed
-mod TicksBegun
+pub mod TicksBegun
 mod Mild
 mod Shown
 mod ToldState

@@ -89,11 +89,11 @@ walks = record {
   repeats = λ m words number drawn route any read may. repeats_so m words number drawn route read;
 }
 
-any_line : (line : Line) → RepeatsOnly (λ number. Unit {0}) line
+pub any_line : (line : Line) → RepeatsOnly (λ number. Unit {0}) line
 any_line (Repeat number) = tt
 any_line line = tt
 
-any_lines : (lines : List Spoken) → AllByRecursion (λ (spoken : Spoken). RepeatsOnly (λ number. Unit {0}) spoken.line) lines
+pub any_lines : (lines : List Spoken) → AllByRecursion (λ (spoken : Spoken). RepeatsOnly (λ number. Unit {0}) spoken.line) lines
 any_lines [] = tt
 any_lines (spoken ∷ more) = (any_line spoken.line, any_lines more)
 

@@ -1,12 +1,12 @@
 -- The joined nodes of a host, in order, are those that the transcript shows; and the device of a node is the first of the list.
-use Rattle.std.proofs.Common.{◌≡◌, ◌⊎◌, ℕ, zero, suc, ◌+◌, ◌≤◌, ◌<◌, ◌==◌, ◌||◌, Bool, true, false, cond, if◌then◌else◌, List, [], ◌∷◌, Option, Some, None, inl, inr, refl, sym, ap, ◌∙◌, arith}
+use Rattle.std.proofs.Common.{◌≡◌, ◌⊎◌, ℕ, zero, suc, ◌+◌, ◌≤◌, ◌<◌, ◌==◌, ◌||◌, Bool, true, false, if◌then◌else◌, List, [], ◌∷◌, Option, Some, None, inl, inr, refl, sym, ap, ◌∙◌, arith}
 use Rattle.std.specs.Prelude.{filter, option_map}
 use Rattle.std.specs.List.{AllByRecursion, flat_map, list_any, range_with_len}
-use Rattle.std.specs.declared.cmp.Ordering.TheVariants.{Less, Equal, Greater}
+use Rattle.std.specs.declared.cmp.Ordering.TheVariants.{Less}
 use Rattle.std.specs.Ordering.{nat_cmp}
 use Rattle.std.specs.FinMap.{nat_cmp-IsAntisymmetric}
 use Rattle.std.proofs.lemmas.Cmp.{nat_cmp_total}
-use Rattle.std.proofs.lemmas.Bool.{cases_eq, eq-eqb, eqb-true, lt-ltb}
+use Rattle.std.proofs.lemmas.Bool.{cases_eq, eq-eqb, eqb-true}
 use Rattle.device_sim.specs.State.{State}
 use Rattle.mesh_sim.specs.Fates.{place_of}
 use Rattle.zw_text.specs.Line.{IsNode}
@@ -21,11 +21,9 @@ use Rattle.outside_model.specs.Devices.{device_entries}
 use Rattle.outside_model.specs.Results.{device_at}
 use Rattle.world_model.specs.Table.{joined_nodes}
 use Rattle.proof_transcript.proofs.Ordered.{Agree, Sorted, has_in_order, in_order_has, in_order_sorted, same_shown}
+use Rattle.proof_host.proofs.Values.{less_number}
 
 -- ---- numbers in order
-
-less_number : (a b : ℕ) → a < b → nat_cmp a b ≡ Less
-less_number a b below = ap (λ (t : Bool). cond t Less (cond (a == b) Equal Greater)) (lt-ltb a b below)
 
 abbrev Rising : List ℕ → Type 0
 Rising l = Sorted nat_cmp_total nat_cmp-IsAntisymmetric l

@@ -67,14 +67,12 @@ use Rattle.proof_walk.proofs.Bodies.{body_is}
 use Rattle.proof_air.proofs.Judging.{JudgesNone, NoFrame, StartsSo, none_flies}
 use Rattle.proof_transcript.specs.Carrying.{sends_in, sends_of}
 use Rattle.proof_transcript.proofs.Picked.{AreQuiet, IsNoFrame, IsNoUnit, IsQuiet, none_sent, picked_both, quiet_no_frame, quiet_no_unit, sent-append}
+use Rattle.law_transcript.proofs.Deciding.{not_true as not_own}
 
 -- an event at which the chip takes no bytes
 abbrev pub TakesNone : OuterEvent → Type 0
 TakesNone (Chip_takes count rest ways) = ⊥
 TakesNone event = Unit {0}
-
-not_own : false ≡ true → ⊥
-not_own is = cc
 
 -- ---- what a frame asks to be sent, and what goes on the air for it
 

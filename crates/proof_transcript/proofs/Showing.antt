@@ -11,7 +11,7 @@ use Rattle.zw_text.specs.declared.entry.Entry.{Entry}
 use Rattle.zw_text.specs.declared.entry.Entry.TheVariants as entry
 use Rattle.zw_text.specs.Transcript.{line_of, line_last}
 use Rattle.law_transcript.specs.Lists.{EachAfter}
-use Rattle.law_transcript.specs.Nodes.{listing_of}
+use Rattle.law_transcript.specs.Nodes.{listing_of, always}
 use Rattle.law_wire.specs.Shown.{IsToShow, asked_to_show, to_show, to_show_from, to_show_step}
 use Rattle.law_host.specs.HostLegal.{IsShown, ShowsValues, values_now}
 use Rattle.outside_model.specs.Devices.{device_entries, kept_entries, shown_entries}
@@ -115,7 +115,7 @@ module _ (devices : List State) where
       by (entry.BadLine line fault) shows = shows
       by e shows = tt
 
-  no_values : (past : List Entry) (l : List Line) (e : Entry) → AsksForNone l → ShowsNone e → IsShown listing past l e
+  no_values : (past : List Entry) (l : List Line) (e : Entry) → AsksForNone l → ShowsNone e → IsShown (always listing) past l e
   no_values past [] (entry.Json text) asks shows = shows
   no_values past [] e asks shows = tt
   no_values past (lines.Store node ∷ more) e asks shows = absurd asks
@@ -157,7 +157,7 @@ module _ (devices : List State) where
         subst (λ (l : List Entry). NoneDue devices l m) (append_assoc past (e ∷ []) told) rest.1,
       )
     where
-      device_apart : (l : List Line) → AsksForNone l → IsShown listing past l (entry.Device node setting)
+      device_apart : (l : List Line) → AsksForNone l → IsShown (always listing) past l (entry.Device node setting)
       device_apart [] asks = tt
       device_apart (lines.Store other ∷ more) asks = absurd asks
       device_apart (line ∷ more) asks = tt
@@ -198,14 +198,14 @@ module _ (devices : List State) where
   values_enter first node = refl
 
   values_shown : (past : List Entry) (first : Machine) (node : ℕ) → (AreApart devices → to_show devices past ≡ []) → line_last past ≡ lines.Store node ∷ []
-      → values_now listing past node ≡ shown_values first.host.state node → Shown past (entries (begun first) (Shows_values node)) (happens (begun first) (Shows_values node))
+      → values_now (always listing) past node ≡ shown_values first.host.state node → Shown past (entries (begun first) (Shows_values node)) (happens (begun first) (Shows_values node))
   values_shown past first node none last values =
       let e : Entry = shown_values first.host.state node in
       subst (λ (l : List Entry). Shown past l (happens (begun first) (Shows_values node))) (sym (values_enter first node)) (
         (
           (
             λ apart. subst (λ (l : List Entry). IsToShow l e) (sym (none apart)) tt,
-            subst (λ (l : List Line). IsShown listing past l e) (sym last) (sym values),
+            subst (λ (l : List Line). IsShown (always listing) past l e) (sym last) (sym values),
           ),
           tt,
         ),
@@ -272,7 +272,7 @@ module _ (devices : List State) where
     is = is;
     none = λ apart. line_due (lines.Store node) past first asked;
     last = said_last (KnownThere devices) (lines.Store node) past first asked;
-    values = ap (λ (l : List Entry). values_now listing l node) asked.is ∙ asked.ties.0.values asked.words node asked.read;
+    values = ap (λ (l : List Entry). values_now (always listing) l node) asked.is ∙ asked.ties.0.values asked.words node asked.read;
   }))
   effect line past m events is opened = other_effect line tt past m events is opened
 
@@ -343,5 +343,5 @@ module _ (devices : List State) where
   pub devices_of : AreApart devices → (past told : List Entry) → EachAfter (Stands devices) past told → EachAfter (λ before e. IsToShow (to_show devices before) e) past told
   devices_of apart past told each = each-weaker (Stands devices) (λ before e. IsToShow (to_show devices before) e) (λ before e stands. stands.0 apart) past told each
 
-  pub values_of : (past told : List Entry) → EachAfter (Stands devices) past told → EachAfter (ShowsValues listing) past told
-  values_of past told each = each-weaker (Stands devices) (ShowsValues listing) (λ before e stands. stands.1) past told each
+  pub values_of : (past told : List Entry) → EachAfter (Stands devices) past told → EachAfter (ShowsValues (always listing)) past told
+  values_of past told each = each-weaker (Stands devices) (ShowsValues (always listing)) (λ before e stands. stands.1) past told each

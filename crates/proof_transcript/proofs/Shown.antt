@@ -1,5 +1,5 @@
 -- What a transcript shows once a line was said, and what its events enter: the lines that were done, the nodes that joined and the values heard since the last restart.
-use Rattle.std.proofs.Common.{◌≡◌, ◌⊎◌, ℕ, ◌+◌, ◌&&◌, not, Bool, true, false, if◌then◌else◌, List, [], ◌∷◌, ◌++◌, None, inl, inr, refl, sym, ap, ap₂, ◌∙◌, append_assoc, append-nil, true≢false, arith}
+use Rattle.std.proofs.Common.{◌≡◌, ◌⊎◌, ℕ, ◌+◌, ◌&&◌, not, Bool, true, false, if◌then◌else◌, List, [], ◌∷◌, ◌++◌, None, inl, inr, refl, sym, ap, ap₂, ◌∙◌, append_assoc, append-nil, true≢false}
 use Rattle.std.specs.List.{flat_map}
 use Rattle.std.proofs.lemmas.Grind.{flat_map-append}
 use Rattle.zw_base.specs.declared.property.Property.{Property}
@@ -9,16 +9,12 @@ use Rattle.zw_text.specs.declared.entry.Entry.{Entry}
 use Rattle.zw_text.specs.declared.entry.Entry.TheVariants.{Said, Refused}
 use Rattle.zw_text.specs.Transcript.{Doing, doing_lines, doing_step, folded, join_of, joined, line_of, lines_done, lines_run, reported, reported_at}
 use Rattle.zw_text.proofs.Views.{folded-append, shown-append}
-use Rattle.law_transcript.specs.Restarts.{begins_refused, is_restart, since_restart, since_restart_from, ticks_asked}
+use Rattle.law_transcript.specs.Restarts.{begins_refused, is_restart, since_restart, since_restart_from}
 use Rattle.law_transcript.specs.Stores.{heard_value, last_value}
 use Rattle.proof_transcript.proofs.Outer.{IsPlain, ArePlain}
 use Rattle.proof_transcript.proofs.TicksBegun.{last_append}
 
 -- ---- ticks that lines ask for
-
-pub asked-append : (a b : List Line) → ticks_asked (a ++ b) ≡ ticks_asked a + ticks_asked b
-asked-append [] b = omega arith
-asked-append (line ∷ a) b = let more = asked-append a b in omega (arith, more)
 
 module _ (refusals reports : Bool) where
   -- ---- entries that say no line

@@ -1,10 +1,9 @@
 -- A store has places only for the properties that commands set, and for those of which a value was heard.
 use Rattle.std.proofs.Common.{◌≡◌, ◌⊎◌, ℕ, zero, suc, ◌+◌, ◌&&◌, ◌||◌, Bool, true, false, cond, eqb, if◌then◌else◌, is_some, inl, inr, List, [], ◌∷◌, ◌++◌, map, length, All, Option, Some, None, refl, sym, ap, subst, ◌∙◌}
-use Rattle.std.specs.Prelude.{IsTrue, slice_get}
+use Rattle.std.specs.Prelude.{IsTrue}
 use Rattle.std.specs.List.{flat_map}
 use Rattle.std.specs.FinMap as finmap
 use Rattle.std.proofs.lemmas.Bool.{eqb-true, eq-eqb}
-use Rattle.std.proofs.lemmas.List.Elements.{All-head, All-tail}
 use Rattle.zw_base.specs.PropertyOrder.{same_property}
 use Rattle.zw_base.specs.declared.order.Order.{Order}
 use Rattle.zw_base.specs.declared.property.Property.{Property}
@@ -37,7 +36,7 @@ use Rattle.host_orders.specs.Settings.{properties_of, settings}
 use Rattle.host_model.specs.State.{HostState, Command, command_at}
 use Rattle.host_model.specs.Sessions.{open_command, settings_with}
 use Rattle.host_model.specs.Ends.{PartEnd, Good, Passed_over, Bad, part_end, after_part, after_task, after_end, after_end_if, attempt_ended}
-use Rattle.host_model.specs.After.{after, confirming, failing_if, gives_up, giving, hearing, holding, is_full, is_held, finishing, line_ticked, offering, requests_do}
+use Rattle.host_model.specs.After.{after, confirming, failing_if, gives_up, giving, hearing, is_full, is_held, finishing, line_ticked, offering, requests_do}
 use Rattle.host_model.specs.Events.{HostEvent, Accepts, Finishes, Gives, Hears_value, Line_ticks, Node_ticks, Offers, Requests_do, Resends}
 use Rattle.host_model.specs.Facts.{HostFacts, IsCommandOf}
 use Rattle.host_model.specs.May.{May}
@@ -46,6 +45,9 @@ use Rattle.host_model.proofs.Values.{get-one, heard-confirming, reserved-reservi
 use Rattle.proof_host.specs.Tables.{taken_at, taken_by}
 use Rattle.proof_once.specs.Tied.{KeepsOrders}
 use Rattle.proof_spoken.proofs.Orders.{push_is}
+use Rattle.supervision.proofs.OnceLemmas.{All-slice_get as at_place}
+use Rattle.host_model.proofs.Tests.{both_true as both}
+use Rattle.proof_host.proofs.Effects.{held_store}
 
 -- a command of the node sets the property
 pub record IsSet (commands : List Command) (n : ℕ) (p : Property) : Type 0 where
@@ -60,10 +62,6 @@ KeepsNoMore h = (n : ℕ) (p : Property) → IsReserved h.store n p → IsSet h.
 
 -- ---- lists
 
-both : (a b : Bool) → (a && b) ≡ true → (a ≡ true) × (b ≡ true)
-both true b is = (refl, is)
-both false b is = absurd (let none : false ≡ true = is in cc)
-
 or_later : (a b : Bool) → b ≡ true → (a || b) ≡ true
 or_later true b is = refl
 or_later false b is = is
@@ -73,11 +71,6 @@ either_of true b is = inl refl
 either_of false b is = inr is
 
 -- what holds of all holds at a place
-pub at_place : {X : Type 0} (P : X → Type 0) (l : List X) (k : ℕ) (x : X) → All P l → slice_get l k ≡ Some x → P x
-at_place P [] k x all is = absurd (let none : None ≡ Some x = is in cc)
-at_place P (first ∷ l) zero x all is = let same : first ≡ x = cc in subst P same (All-head P first l all)
-at_place P (first ∷ l) (suc k) x all is = at_place P l k x (All-tail P first l all) is
-
 pub of_session : (P : ℕ → Type 0) (l : List ℕ) (session command : ℕ) → All P l → command_of_session l session ≡ Some command → P command
 of_session P l zero command all is = absurd (let none : None ≡ Some command = is in cc)
 of_session P l (suc k) command all is = at_place P l k command all is
@@ -248,10 +241,6 @@ if_store false one other store is so = so
 offering_store : (h : HostState) (n : ℕ) (live : Option (List ℕ)) → (offering h n live).store ≡ h.store
 offering_store h n None = refl
 offering_store h n (Some nonce) = if_store (is_full h) h _ h.store refl refl
-
-pub held_store : (h : HostState) (n : ℕ) (held : Bool) → (holding h n held).store ≡ h.store
-held_store h n true = refl
-held_store h n false = refl
 
 -- it neither accepts an order nor ends a session, and hears no value
 abbrev IsStill : HostEvent → Type 0

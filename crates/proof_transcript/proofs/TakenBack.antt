@@ -8,8 +8,7 @@ use Rattle.zw_text.specs.declared.line.Line.TheVariants as line
 use Rattle.zw_text.specs.declared.entry.Ended.TheVariants as ended
 use Rattle.zw_text.specs.declared.entry.Entry.{Entry}
 use Rattle.zw_text.specs.declared.entry.Entry.TheVariants.{Out, Said}
-use Rattle.zw_text.specs.Transcript.{line_after, line_last, line_of}
-use Rattle.zw_text.proofs.Views.{folded-append}
+use Rattle.zw_text.specs.Transcript.{line_last}
 use Rattle.law_transcript.specs.Answers.{MayCancel}
 use Rattle.law_transcript.specs.Commands.{is_waiting}
 use Rattle.law_transcript.specs.Lists.{EachAfter}
@@ -35,6 +34,7 @@ use Rattle.world_lines.specs.Spoken.{Spoken, after, entries_of, transcript_of}
 use Rattle.world_lines.specs.Done.{AreDone, IsDone}
 use Rattle.proof_transcript.proofs.Common.{IsCommon, IsNoTaking, aside_common, event_common}
 use Rattle.proof_transcript.proofs.HostLaws.{IsOf, events_free}
+use Rattle.proof_spoken.proofs.SaidOrders.{last_said}
 
 -- ---- entries
 
@@ -227,9 +227,6 @@ events_ask past said m events asked is may = elim (line_kind said) [
 part_of : {A : Type 0} (more : List A) (said : Line) (m : Machine) (events : List Event) → IsLineBefore more said m events → LinePart said m events
 part_of [] said m events is = is
 part_of (next ∷ more) said m events is = inl is
-
-last_said : (past : List Entry) (words : List ℕ) → line_last (past ++ Said words ∷ []) ≡ line_of (Said words)
-last_said past words = folded-append line_after [] past (Said words ∷ [])
 
 line_asks : (past : List Entry) (m : Machine) (more : List Spoken) (spoken : Spoken) → IsDone more m spoken → EachAfter MayAsk past (entries_of m spoken)
 line_asks past m more spoken is =

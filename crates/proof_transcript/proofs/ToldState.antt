@@ -36,7 +36,9 @@ use Rattle.proof_transcript.proofs.Outer.{ArePlain}
 use Rattle.proof_transcript.proofs.Hosts.{LeavesRecords, SameJoined, heard_in, joined_in, joined_here, joined_there}
 use Rattle.proof_transcript.proofs.TicksBegun.{IsMild, AreMild, Goes, goes_both, mild_goes, mild_weaker}
 use Rattle.proof_transcript.proofs.Mild.{IsOther, effect_mild, may_both, settling_mild, ticks_go}
-use Rattle.proof_transcript.proofs.Shown.{asked-append, heard_again, heard_more, joined_more, joined_same, lines_more, unrefused}
+use Rattle.proof_transcript.proofs.Shown.{heard_again, heard_more, joined_more, joined_same, lines_more, unrefused}
+use Rattle.proof_walk.proofs.Clock.{asked-append}
+use Rattle.proof_spoken.proofs.KnownClasses.{or_none}
 
 -- a host has a place for each node; one that starts again has the nodes of the one before, and has heard nothing
 pub record StartsOver (old new : HostState) : Type 0 where
@@ -161,10 +163,6 @@ any_more wanted (first ∷ nodes) node = by (first == wanted) (any_more wanted n
 or_true : (a b : Bool) → b ≡ true → a || b ≡ true
 or_true true b is = refl
 or_true false b is = is
-
-or_none : (a b : Bool) → b ≡ false → a || b ≡ a
-or_none true b none = refl
-or_none false b none = none
 
 -- the node of a `join` line
 in_range : (node : ℕ) → IsRead (Join node) → IsNode 1 node

@@ -9,7 +9,7 @@ use Rattle.zw_text.specs.declared.line.Line.{Line}
 use Rattle.zw_text.specs.declared.line.Line.TheVariants.{Repeat}
 use Rattle.zw_text.specs.declared.entry.Entry.{Entry}
 use Rattle.zw_text.specs.declared.entry.Entry.TheVariants as entry
-use Rattle.zw_text.specs.Transcript.{line_after, line_last, line_of}
+use Rattle.zw_text.specs.Transcript.{line_last, line_of}
 use Rattle.zw_text.proofs.Views.{folded-append}
 use Rattle.law_transcript.specs.Lists.{EachAfter}
 use Rattle.law_transcript.specs.Restarts.{is_repeat, repeats as answers_repeat}
@@ -42,6 +42,8 @@ use Rattle.proof_transcript.proofs.Calm.{Arriving, ArrivingPrefix}
 use Rattle.proof_transcript.proofs.FramesWalking.{Stands, Walks, RepeatsOnly, begun, lines_lead, lines_stand}
 use Rattle.proof_transcript.proofs.Repeating.{repeat_keeps}
 use Rattle.proof_transcript.proofs.MarkedFrames.{shown_one}
+use Rattle.proof_walk.proofs.ByLine.{last_is as last_after}
+use Rattle.proof_transcript.proofs.LostFrames.{any_lines as all_any}
 
 -- so many more frames arrive in this tick: those that are due and have no fate yet. Until all have arrived, the last entry is not the words of a `repeat`.
 pub record Flies (left : ℕ) (past : List Entry) (air : AirState) : Type 0 where
@@ -55,9 +57,6 @@ pub record Flies (left : ℕ) (past : List Entry) (air : AirState) : Type 0 wher
 
 flying_after : (past : List Entry) (e : Entry) → flying (past ++ e ∷ []) ≡ flying_step (flying past) e
 flying_after past e = folded-append flying_step (record { sent = 0; due = 0 }) past (e ∷ [])
-
-last_after : (past : List Entry) (e : Entry) → line_last (past ++ e ∷ []) ≡ line_of e
-last_after past e = folded-append line_after [] past (e ∷ [])
 
 fates_after : (past : List Entry) (e : Entry) → length (first_fates (past ++ e ∷ [])) ≡ length (first_fates past) + length (first_fate past e)
 fates_after past e = ap length (shown_one first_fate [] past e) ∙ length-append (first_fates past) (first_fate past e)
@@ -527,14 +526,6 @@ lines_fare_once m lines are none past rests =
 -- what directly follows the words of a `repeat` is that frame
 abbrev pub IsNamed : List Entry → ℕ → Type 0
 IsNamed past frame = line_last past ≡ Repeat frame ∷ []
-
-any_line : (line : Line) → RepeatsOnly (λ number. Unit {0}) line
-any_line (Repeat number) = tt
-any_line line = tt
-
-all_any : (lines : List Spoken) → AllByRecursion (λ (spoken : Spoken). RepeatsOnly (λ number. Unit {0}) spoken.line) lines
-all_any [] = tt
-all_any (spoken ∷ more) = (any_line spoken.line, all_any more)
 
 pub lines_fare_named : (m : Machine) (lines : List Spoken) → AreDone m lines → Stands (MayFareBy IsNamed) Rests m.outside.outer (transcript_of m lines)
 lines_fare_named m lines are = lines_fare IsNamed (λ number. Unit {0}) (λ past number repeated said. said) m lines are (all_any lines)

@@ -13,7 +13,7 @@ use Rattle.zw_text.specs.declared.entry.Entry.TheVariants.{Said, Accepted, Refus
 use Rattle.zw_text.specs.Transcript.{accepted_numbers, line_last, outcome}
 use Rattle.law_transcript.specs.Answers.{IsNoBadRecord, MayAnswer, before_last, known_of, properties_with, refused_without, refusals_to}
 use Rattle.law_transcript.specs.Commands.{is_waiting}
-use Rattle.law_transcript.specs.Nodes.{device_of, listing_of}
+use Rattle.law_transcript.specs.Nodes.{device_of, listing_of, always}
 use Rattle.law_transcript.specs.Repeats.{frame_of, refused_repeat}
 use Rattle.host_model.specs.State.{node_of}
 use Rattle.host_model.specs.After.{node_for}
@@ -55,8 +55,8 @@ may_be_taken_back past command = list_any (λ number. number == command) (accept
 -- What decides the answer to a line, as the transcript so far shows it: the rule that refuses an order, and what the host knows of its node; the next number;
 -- the commands that wait; why a frame is not repeated; which nodes have a device; and that no record is invalid.
 pub record AnswerTies (devices : List State) (past : List Entry) (m : Machine) : Type 0 where
-  pub order : (order : Order) → refusal_of (known_of (listing_of devices) past order.node) (properties_with (listing_of devices) past order) order ≡ refusal_for m.host.state order
-  pub known : (node : ℕ) → known_of (listing_of devices) past node ≡ known_of_host (node_of m.host.state node)
+  pub order : (order : Order) → refusal_of (known_of (always (listing_of devices)) past order.node) (properties_with (always (listing_of devices)) past order) order ≡ refusal_for m.host.state order
+  pub known : (node : ℕ) → known_of (always (listing_of devices)) past node ≡ known_of_host (node_of m.host.state node)
   pub count : length (accepted_numbers past) ≡ length m.host.state.commands
   pub waits : (command : ℕ) → Contains (node_of m.host.state (node_for m.host.state command)).waiting command → may_be_taken_back past command ≡ true
   pub waits_not : (command : ℕ) → (Waits m.host.state command → ⊥) → may_be_taken_back past command ≡ false
@@ -95,4 +95,4 @@ KnowsAnswers devices here past m = by_line (Asked (AnswerTies devices)) (Opened 
 
 -- each entry is an answer exactly where it must be one, and refuses no restart for an invalid record
 abbrev pub IsAnswerOf : List State → List Entry → Entry → Type 0
-IsAnswerOf devices past entry = MayAnswer (listing_of devices) (refusals_to devices) past entry × IsNoBadRecord entry
+IsAnswerOf devices past entry = MayAnswer (always (listing_of devices)) (refusals_to devices) past entry × IsNoBadRecord entry

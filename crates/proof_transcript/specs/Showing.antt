@@ -7,7 +7,7 @@ use Rattle.zw_text.specs.declared.line.Line.TheVariants as lines
 use Rattle.zw_text.specs.declared.entry.Entry.{Entry}
 use Rattle.zw_text.specs.declared.entry.Entry.TheVariants.{Said, Device, Json, TableEnd, TableNode, TableValue, BadLine}
 use Rattle.zw_text.specs.Transcript.{line_of, line_last}
-use Rattle.law_transcript.specs.Nodes.{device_of, listing_of}
+use Rattle.law_transcript.specs.Nodes.{device_of, listing_of, always}
 use Rattle.law_transcript.specs.Table.{device_lines}
 use Rattle.law_wire.specs.Shown.{IsToShow, as_entered, to_show}
 use Rattle.law_host.specs.HostLegal.{ShowsValues, values_now}
@@ -23,7 +23,7 @@ use Rattle.proof_walk.specs.Phases.{Phase}
 
 -- an entry shows a device as its changes so far leave it, where no two devices are of one node; and the values of a node as they are stored
 abbrev pub Stands : List State → List Entry → Entry → Type 0
-Stands devices past entry = (AreApart devices → IsToShow (to_show devices past) entry) × ShowsValues (listing_of devices) past entry
+Stands devices past entry = (AreApart devices → IsToShow (to_show devices past) entry) × ShowsValues (always (listing_of devices)) past entry
 
 -- it shows none of these, and does not belong to what stands after a run
 abbrev pub ShowsNone : Entry → Type 0
@@ -45,7 +45,7 @@ IsPlain entry = ShowsNone entry
 -- The lines of a node's device and values are those that the transcript gives: of values, once the words that ask for them stand there.
 pub record ShownTies (devices : List State) (past : List Entry) (m : Machine) : Type 0 where
   pub device : (node : ℕ) → AreApart devices → device_lines node (option_map (as_entered past) (device_of node devices)) ≡ kept_entries node m.outside.devices
-  pub values : (words : List ℕ) (node : ℕ) → line_of (Said words) ≡ lines.Store node ∷ [] → values_now (listing_of devices) (past ++ Said words ∷ []) node ≡ shown_values m.host.state node
+  pub values : (words : List ℕ) (node : ℕ) → line_of (Said words) ≡ lines.Store node ∷ [] → values_now (always (listing_of devices)) (past ++ Said words ∷ []) node ≡ shown_values m.host.state node
 
 -- ---- what is known in a line
 
@@ -79,7 +79,7 @@ pub record AwaitsValues (devices : List State) (left : List Event) (past : List 
   pub is : left ≡ Shows_values node ∷ []
   pub none : AreApart devices → to_show devices past ≡ []
   pub last : line_last past ≡ lines.Store node ∷ []
-  pub values : values_now (listing_of devices) past node ≡ shown_values first.host.state node
+  pub values : values_now (always (listing_of devices)) past node ≡ shown_values first.host.state node
 
 -- what is left of the effect of a line shows what is due, or nothing
 abbrev pub LeftToShow : List State → Line → List Event → KnownOf

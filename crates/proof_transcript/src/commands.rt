@@ -4,7 +4,7 @@ ghost use Rattle.std.specs.Prelude.{ℕ, true, Option, Some, List, []};
 ghost use Rattle.s0_crypto.specs.declared.key_pair.Keys.{Keys};
 ghost use Rattle.device_sim.specs.State.{State};
 ghost use Rattle.law_transcript.specs.Answers.{CancelsWhenAsked};
-ghost use Rattle.law_transcript.specs.Nodes.{listing_of};
+ghost use Rattle.law_transcript.specs.Nodes.{always, listing_of};
 ghost use Rattle.law_transcript.specs.Payloads.{BeginsWithUnit};
 ghost use Rattle.law_transcript.specs.Stores.{StoresConfirmed};
 ghost use Rattle.proof_host.specs.Laws.{HostLaws};
@@ -33,7 +33,7 @@ pub fn commands_are_taken_back_when_asked()
 /// first.
 pub fn values_are_stored_as_asked()
     ensures { (keys : Keys) (devices : List State) (lines : List Spoken) → AreDone (first_machine keys (Some []) devices) lines →
-        StoresConfirmed true (listing_of devices) (transcript_of (first_machine keys (Some []) devices) lines) }
+        StoresConfirmed true (always (listing_of devices)) (transcript_of (first_machine keys (Some []) devices) lines) }
 {
     lines_tell_what_nodes_list();
     interviews_give_what_is_known();

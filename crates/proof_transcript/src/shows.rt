@@ -4,7 +4,7 @@ ghost use Rattle.std.specs.Prelude.{◌≡◌, Bool, true, Some, List, []};
 ghost use Rattle.s0_crypto.specs.declared.key_pair.Keys.{Keys};
 ghost use Rattle.device_sim.specs.State.{State};
 ghost use Rattle.law_transcript.specs.Lists.{EachAfter};
-ghost use Rattle.law_transcript.specs.Nodes.{listing_of};
+ghost use Rattle.law_transcript.specs.Nodes.{always, listing_of};
 ghost use Rattle.law_wire.specs.Serial.{ended};
 ghost use Rattle.law_wire.specs.Shown.{ShowsDevices};
 ghost use Rattle.law_host.specs.HostLegal.{ShowsValues};
@@ -33,7 +33,7 @@ pub fn lines_show_what_is_kept()
         ShowsDevices devices (ended whole (transcript_of (first_machine keys (Some []) devices) lines)) }
     ensures values { (keys : Keys) (devices : List State) (lines : List Spoken) (whole : Bool) → AreDone (first_machine keys (Some []) devices) lines →
         (whole ≡ true → AreWhole (first_machine keys (Some []) devices) lines) →
-        EachAfter (ShowsValues (listing_of devices)) [] (ended whole (transcript_of (first_machine keys (Some []) devices) lines)) }
+        EachAfter (ShowsValues (always (listing_of devices))) [] (ended whole (transcript_of (first_machine keys (Some []) devices) lines)) }
 {
     the_machine_keeps_facts();
     lines_tell_what_nodes_list();

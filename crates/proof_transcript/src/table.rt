@@ -4,7 +4,7 @@ ghost use Rattle.std.specs.Prelude.{◌≡◌, Some, List, []};
 ghost use Rattle.s0_crypto.specs.declared.key_pair.Keys.{Keys};
 ghost use Rattle.device_sim.specs.State.{State};
 ghost use Rattle.zw_text.specs.Transcript.{lines_run};
-ghost use Rattle.law_transcript.specs.Nodes.{listing_of};
+ghost use Rattle.law_transcript.specs.Nodes.{always, listing_of};
 ghost use Rattle.law_transcript.specs.Restarts.{ticks_asked};
 ghost use Rattle.law_transcript.specs.Table.{table_of};
 ghost use Rattle.world_model.specs.State.{first_machine};
@@ -46,7 +46,7 @@ pub fn tables_are_what_is_shown()
     ensures { (keys : Keys) (devices : List State) (lines : List Spoken) → AreDone (first_machine keys (Some []) devices) lines →
         AreWhole (first_machine keys (Some []) devices) lines →
         table_entries (after_all (first_machine keys (Some []) devices) lines)
-        ≡ table_of (listing_of devices) (ticks_asked (lines_run (transcript_of (first_machine keys (Some []) devices) lines)))
+        ≡ table_of (always (listing_of devices)) (ticks_asked (lines_run (transcript_of (first_machine keys (Some []) devices) lines)))
         (transcript_of (first_machine keys (Some []) devices) lines)
         (after_all (first_machine keys (Some []) devices) lines).outside.devices }
 {

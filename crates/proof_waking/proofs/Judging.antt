@@ -31,7 +31,8 @@ use Rattle.host_model.specs.After.{after, gives_up, is_busy}
 use Rattle.host_model.specs.Outs.{answer_to, answers, outs}
 use Rattle.host_model.specs.Taking.{IsFollowed, told_if}
 use Rattle.host_model.specs.Ticking.{tick_events}
-use Rattle.host_model.proofs.Own.{IsOwn, tick_own}
+use Rattle.host_model.proofs.Own.{IsOwn, sleepers_own, submitted_own, tick_own}
+use Rattle.host_model.proofs.Submitted.{next_is as submitted_is, no_more_is}
 use Rattle.world_model.specs.Events.{shown_values}
 use Rattle.proof_alone.specs.State.{HostMachine, done}
 use Rattle.proof_alone.specs.Steps.{AreTold, AsksNothing, DidNotCome, IsAskedBy, IsOfOthers, IsOfUnit, Step, Tells, Comes, Misses, Says, Says_nothing, Asks, Refuses, Shows, Restarts, Begins_tick, Numbers, Judges, Does, entries, happens}
@@ -39,7 +40,7 @@ use Rattle.proof_alone.specs.Phases.{Phase, Resting, Asked, Risen, Ticking, Open
 use Rattle.proof_alone.specs.Runs.{Walk}
 use Rattle.proof_waking.specs.Judged.{AfterWords, IsBehindFrame, IsOfRequest, KnowsJudged, Settled, TieFrames, TieJudged, frames_of}
 use Rattle.proof_waking.proofs.Apart.{IsApart, acknowledged_frames, anew_frames, apart_frames, apart_judged, come_frames, missed_frames, refused_frames, said_frames}
-use Rattle.proof_waking.proofs.Parts.{IsNoWaking, IsStill, mark_still, next_own, own_told, request_told, sleep_own}
+use Rattle.proof_waking.proofs.Parts.{IsNoWaking, IsStill, mark_still, own_told, request_told}
 use Rattle.proof_waking.proofs.Settling.{all_apart, behind_frames, behind_stands, event_behind, mark_stands, may_stand, owes_settled, settled_more, still_stand, unfollowed}
 
 abbrev Stands : List Entry → List Entry → Type 0
@@ -373,10 +374,10 @@ does (Behind (first ∷ left)) next past m event told may (frames, inr (requests
     leads next (Behind left) past m (Does event told) may.0.1 (got.0, (got.1.frames, inr (requests.1, got.1.settled)))
 does Sleeping next past m event told may known =
     let (node, wants, is, next_is) = may.0 in
-    leads next Sleeping past m (Does event told) next_is (own_goes past m event told (sleep_own m.state node event is) may.2 known)
+    leads next Sleeping past m (Does event told) next_is (own_goes past m event told (subst IsOwn (sym is) (no_more_is IsOwn sleepers_own m.state node)) may.2 known)
 does Submitting next past m event told may known =
     leads next Submitting past m (Does event told) may.0.1
-    (own_goes past m event told (next_own m.state m.state.requests.owes m.state.requests.queue event may.0.0.1) may.2 known)
+    (own_goes past m event told (submitted_is IsOwn submitted_own m.state event may.0.0) may.2 known)
 does (Ticking []) next past m event told may known = absurd may.0
 does (Behind []) next past m event told may known = absurd may.0
 does Resting next past m event told may known = absurd may.0

@@ -1,5 +1,5 @@
 -- What a host puts out in each part: of itself, and behind an item.
-use Rattle.std.proofs.Common.{◌≡◌, ℕ, Bool, true, false, if◌then◌else◌, inl, inr, List, [], ◌∷◌, ◌++◌, refl, sym, ◌∙◌, subst}
+use Rattle.std.proofs.Common.{◌≡◌, ℕ, List, [], ◌∷◌, ◌++◌, refl, sym, ◌∙◌, subst}
 use Rattle.std.specs.Prelude.{Option, Some, None}
 use Rattle.std.specs.List.{AllByRecursion}
 use Rattle.zw_base.proofs.Each.{all-append, all-weaker}
@@ -9,18 +9,13 @@ use Rattle.serial_link.specs.State.{copy_due, tick_side}
 use Rattle.zw_words.specs.declared.side.Side.TheVariants.{Host}
 use Rattle.zw_text.specs.declared.entry.Entry.{Entry}
 use Rattle.zw_text.specs.declared.entry.Entry.TheVariants as entry
-use Rattle.host_requests.specs.declared.task.Task.{Task}
-use Rattle.host_node.specs.Search.{next_of}
 use Rattle.host_node.specs.Steps.{tick_end}
-use Rattle.host_node.specs.declared.series.Series.{Series}
-use Rattle.host_node.specs.declared.series.Series.TheVariants.{Idle, Due, Running}
 use Rattle.host_model.specs.State.{HostState, command_at, node_of}
 use Rattle.host_model.specs.Sessions.{open_command, settings_with}
 use Rattle.host_model.specs.Ends.{attempt_entries}
 use Rattle.host_model.specs.After.{gives_up, is_full, is_held, line_ticked}
 use Rattle.host_model.specs.Events.{HostEvent, Requests_do, Interviews, Interview_unkept, Unreads, Is_unkept, Reports_old, Works, Finishes, Offers, Gives, Spends, Spends_unread, Takes_nonce, Notifies, Resends, Hears_value, Has_no_room, Line_ticks, Node_ticks, Queues_no_more, Drops_no_more, Submits_abort, Submits_front, Starts, Gives_text, Gives_segment, Begins, Begin_unkept}
 use Rattle.host_model.specs.Outs.{copy_out, dropped_if, failing_entries, held_entries, noted, outs, request_entries, stored_entries}
-use Rattle.host_model.specs.Pumping.{GivesNext, IsNextOf, IsNextOfNodes, IsServedBy, no_more_event}
 use Rattle.host_model.specs.declared.out.HostOut.{HostOut}
 use Rattle.host_model.specs.declared.out.HostOut.TheVariants.{Note, Write}
 use Rattle.host_model.proofs.Own.{IsOwn}
@@ -89,35 +84,6 @@ noted_shared = record {
 }
 
 -- ---- of itself
-
-as_own : (event these : HostEvent) → event ≡ these → IsOwn these → IsOwn event
-as_own event these is own = subst IsOwn (sym is) own
-
-no_more_own : (n : ℕ) (full : Bool) → IsOwn (if full then Drops_no_more n else Queues_no_more n)
-no_more_own n true = tt
-no_more_own n false = tt
-
-gives_own : (h : HostState) (n : ℕ) (text : Option (List ℕ)) (event : HostEvent) → GivesNext h n text event → IsOwn event
-gives_own h n (Some text) event is = as_own event _ is tt
-gives_own h n None event (payload, there, is) = as_own event _ is tt
-
-served_own : (h : HostState) (n : ℕ) (series : Series) (event : HostEvent) → IsServedBy h n series event → IsOwn event
-served_own h n Running event is = gives_own h n (node_of h n).text event is
-served_own h n Due event (plan, more, payload, start, is) = as_own event _ is tt
-served_own h n Idle event (inl is) = as_own event _ is tt
-served_own h n Idle event (inr is) = as_own event _ is tt
-
-node_own : (h : HostState) (next : Option ℕ) (event : HostEvent) → IsNextOfNodes h next event → IsOwn event
-node_own h None event is = absurd is
-node_own h (Some n) event is = served_own h n (node_of h n).series event is
-
-pub next_own : (h : HostState) (owes : Bool) (queue : List Task) (event : HostEvent) → IsNextOf h owes queue event → IsOwn event
-next_own h true queue event is = as_own event _ is tt
-next_own h false (task ∷ more) event is = as_own event _ is tt
-next_own h false [] event is = node_own h (next_of h.nodes h.served) event is
-
-pub sleep_own : (h : HostState) (n : ℕ) (event : HostEvent) → event ≡ no_more_event h n → IsOwn event
-sleep_own h n event is = as_own event (no_more_event h n) is (no_more_own n (is_full h))
 
 -- it writes frames alone
 abbrev IsFramed : HostOut → Type 0

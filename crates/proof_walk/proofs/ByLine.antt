@@ -1,5 +1,5 @@
 -- A law that tells apart what a line has done, and nothing else in a line, is a walk; and which events the effect of a line has.
-use Rattle.std.proofs.Common.{◌≡◌, ℕ, zero, suc, ◌+◌, Bool, true, false, if◌then◌else◌, inl, inr, List, [], ◌∷◌, ◌++◌, length, map, refl, sym, ap, ◌∙◌, subst, append-nil}
+use Rattle.std.proofs.Common.{◌≡◌, ℕ, zero, suc, ◌+◌, true, false, inl, inr, List, [], ◌∷◌, ◌++◌, length, map, refl, sym, ap, ◌∙◌, subst, append-nil}
 use Rattle.std.specs.Prelude.{Option, Some, None}
 use Rattle.std.specs.List.{AllByRecursion}
 use Rattle.zw_base.proofs.Each.{all-weaker}
@@ -13,17 +13,12 @@ use Rattle.law_transcript.specs.Lists.{EachAfter}
 use Rattle.host_orders.specs.declared.refused.Refused.{Refused}
 use Rattle.host_orders.specs.Refusals.{classes_of}
 use Rattle.host_orders.specs.Errands.{send_refusal, send_text, get_refusal, get_text}
-use Rattle.host_requests.specs.declared.task.Task.{Task}
 use Rattle.host_requests.specs.declared.task.Task.TheVariants as task
-use Rattle.host_node.specs.declared.series.Series.{Series}
-use Rattle.host_node.specs.declared.series.Series.TheVariants.{Idle, Due, Running}
-use Rattle.host_node.specs.Search.{next_of}
 use Rattle.host_model.specs.State.{HostState, node_of}
-use Rattle.host_model.specs.Events.{HostEvent, Accepts, Cancels, Joins as joins_host, Queues, Queues_interview, Queues_probe, Queues_no_more, Drops_no_more}
-use Rattle.host_model.specs.After.{is_full}
-use Rattle.host_model.specs.Pumping.{no_more_event, GivesNext, IsServedBy, IsNextOfNodes, IsNextOf}
-use Rattle.host_model.specs.Outs.{answers}
+use Rattle.host_model.specs.Events.{HostEvent, Accepts, Cancels, Joins as joins_host, Queues, Queues_interview, Queues_probe}
+use Rattle.host_model.specs.Pumping.{no_more_event, IsNext}
 use Rattle.host_model.proofs.Silence.{Silent, tick_silent}
+use Rattle.host_model.proofs.Submitted.{SubmittedAre, next_is, no_more_is}
 use Rattle.host_model.specs.May.{known_of}
 use Rattle.host_model.specs.Asking.{carriage_for, places_refusal, interview_refusal}
 use Rattle.host_model.specs.Ticking.{tick_events}
@@ -117,7 +112,7 @@ last_is before e = folded-append line_after [] before (e ∷ [])
 pub said_last : (Tied : KnownOf) (line : Line) (past : List Entry) (m : Machine) (asked : Asked Tied line past m) → line_last past ≡ line ∷ []
 said_last Tied line past m asked = ap (λ (l : List Entry). line_last l) asked.is ∙ (last_is asked.before (entry.Said asked.words) ∙ asked.read)
 
-begins_none : (m : Machine) → entries m (Outside_does Begins_line) ≡ []
+pub begins_none : (m : Machine) → entries m (Outside_does Begins_line) ≡ []
 unfolding entries outcome
 begins_none m = refl
 
@@ -131,33 +126,21 @@ opens Asks Tied line past m asked =
 
 -- what a host does in a pump answers no line
 pub no_more_silent : (h : HostState) (n : ℕ) → Silent (no_more_event h n ∷ [])
-no_more_silent h n = (λ g. by g (is_full h), tt)
+no_more_silent h n = no_more_is (λ event. Silent (event ∷ [])) (record { queues = λ n. (λ g. refl, tt); drops = λ n. (λ g. refl, tt) }) h n
+
+pub next_silent : (h : HostState) (event : HostEvent) → IsNext h event → Silent (event ∷ [])
+next_silent h event next = next_is (λ event. Silent (event ∷ [])) each h event next
   where
-    by : (g : HostState) (full : Bool) → answers g (if full then Drops_no_more n else Queues_no_more n) ≡ []
-    by g true = refl
-    by g false = refl
-
-as_silent : (event is : HostEvent) → event ≡ is → Silent (is ∷ []) → Silent (event ∷ [])
-as_silent event is same silent = subst (λ (e : HostEvent). Silent (e ∷ [])) (sym same) silent
-
-gives_silent : (h : HostState) (n : ℕ) (text : Option (List ℕ)) (event : HostEvent) → GivesNext h n text event → Silent (event ∷ [])
-gives_silent h n (Some text) event is = as_silent event _ is (λ g. refl, tt)
-gives_silent h n None event (payload, there, is) = as_silent event _ is (λ g. refl, tt)
-
-served_silent : (h : HostState) (n : ℕ) (series : Series) (event : HostEvent) → IsServedBy h n series event → Silent (event ∷ [])
-served_silent h n Running event is = gives_silent h n (node_of h n).text event is
-served_silent h n Due event (plan, more, payload, start, is) = as_silent event _ is (λ g. refl, tt)
-served_silent h n Idle event (inl is) = as_silent event _ is (λ g. refl, tt)
-served_silent h n Idle event (inr is) = as_silent event _ is (λ g. refl, tt)
-
-nodes_silent : (h : HostState) (next : Option ℕ) (event : HostEvent) → IsNextOfNodes h next event → Silent (event ∷ [])
-nodes_silent h None event is = absurd is
-nodes_silent h (Some n) event is = served_silent h n (node_of h n).series event is
-
-pub next_silent : (h : HostState) (owes : Bool) (queue : List Task) (event : HostEvent) → IsNextOf h owes queue event → Silent (event ∷ [])
-next_silent h true queue event is = as_silent event _ is (λ g. refl, tt)
-next_silent h false (one ∷ more) event is = as_silent event _ is (λ g. refl, tt)
-next_silent h false [] event is = nodes_silent h (next_of h.nodes h.served) event is
+    each : SubmittedAre (λ event. Silent (event ∷ []))
+    each = record {
+      abort = (λ g. refl, tt);
+      front = (λ g. refl, tt);
+      starts = λ n plan more payload. (λ g. refl, tt);
+      text = λ n payload. (λ g. refl, tt);
+      segment = λ n more payload. (λ g. refl, tt);
+      begins = λ n session command. (λ g. refl, tt);
+      unkept = λ n. (λ g. refl, tt);
+    }
 
 module _ (Asks : List Entry → Entry → Type 0) (Words Opened : Line → KnownOf) (Left : Line → List Event → KnownOf) (Else : KnownOf) (law : InLine Asks Words Opened Left Else) where
   abbrev Know : Phase → KnownOf
@@ -194,7 +177,7 @@ module _ (Asks : List Entry → Entry → Type 0) (Words Opened : Line → Known
   event_keeps (Sleeping passes ticks) next past m event (node, wants, event_is, next_is) may known =
       common next (Sleeping passes ticks) event _ past m event_is next_is (no_more_silent m.host.state node) may known (λ p n k. k)
   event_keeps (Submitting passes ticks) next past m event (asked, is, event_is, next_is) may known =
-      common next (Submitting passes ticks) event _ past m event_is next_is (next_silent m.host.state m.host.state.requests.owes m.host.state.requests.queue asked is.1) may known (λ p n k. k)
+      common next (Submitting passes ticks) event _ past m event_is next_is (next_silent m.host.state asked is) may known (λ p n k. k)
   event_keeps (Moving passes ticks) next past m event (rest, ways, event_is, next_is) may known =
       common next (Moved true passes ticks) event _ past m event_is next_is tt may known (λ p n k. k)
   event_keeps (Moved has_moved passes ticks) next past m event (rest, items, done, event_is, next_is) may known =

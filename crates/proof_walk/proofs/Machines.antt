@@ -23,9 +23,7 @@ use Rattle.world_model.specs.Events.{Event, Outside_does, Host_does, Host_takes,
 use Rattle.proof_walk.specs.Outside.{Pending, Knowing, Outer, Known, CoversOuter, CoversHost, CoversRefusal, CoversAnswer, IsNote, IsHostNote}
 use Rattle.proof_walk.proofs.HostNotes.{NoteOuts, is_note, all_outs_note}
 use Rattle.proof_walk.proofs.Stamping.{Fits, outer_keeps, session_keeps}
-
-not_own : false ≡ true → ⊥
-not_own is = cc
+use Rattle.law_transcript.proofs.Deciding.{not_true as not_own}
 
 own_fits : (Covers : OuterEvent → Type 0) (event : OuterEvent) → is_own event ≡ true → Covers event → CoversRefusal Covers event → Fits Covers event
 own_fits Covers (Host_writes unit) own covers refuses = absurd (not_own own)

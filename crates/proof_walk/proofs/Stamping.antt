@@ -54,7 +54,7 @@ abbrev number_at : Bool × Bool × ℕ → List Entry
 number_at time = number_if (time.0 && not time.1) time.2
 
 -- once something was entered it no longer is
-entered : (in_tick stamped : Bool) → in_tick && not (in_tick || stamped) ≡ false
+pub entered : (in_tick stamped : Bool) → in_tick && not (in_tick || stamped) ≡ false
 entered true stamped = refl
 entered false stamped = refl
 

@@ -1,6 +1,6 @@
 -- What is known of the host's work goes on from phase to phase of a line.
-use Rattle.std.proofs.Common.{◌≡◌, ℕ, zero, suc, ◌+◌, true, false, List, [], ◌∷◌, ◌++◌, length, refl, sym, subst, inl, inr}
-use Rattle.std.specs.Prelude.{Option, Some, None, IsSome}
+use Rattle.std.proofs.Common.{◌≡◌, ℕ, zero, suc, ◌+◌, true, false, List, [], ◌∷◌, ◌++◌, length, sym, subst, inl, inr}
+use Rattle.std.specs.Prelude.{IsSome}
 use Rattle.zw_text.specs.declared.entry.Entry.{Entry}
 use Rattle.law_transcript.specs.Lists.{EachAfter}
 use Rattle.host_model.specs.Events.{HostEvent}
@@ -8,7 +8,7 @@ use Rattle.host_model.specs.After.{is_full}
 use Rattle.host_model.specs.Pumping.{no_more_event, IsNext}
 use Rattle.host_model.specs.Ticking.{tick_events}
 use Rattle.outside_model.specs.Events.{OuterEvent, Begins_line, Begins_tick, Arrives, Gives, Device_ticks, Chip_ticks, Chip_takes}
-use Rattle.world_model.specs.State.{Machine, with_texts}
+use Rattle.world_model.specs.State.{Machine}
 use Rattle.world_model.specs.Events.{Event, Outside_does, Host_does, Host_takes, Decoder_ticks, Refuses, Shows_values, Restarts, happens, entries, May}
 use Rattle.proof_walk.specs.Phases.{Phase, Between, Said_line, Begun, Doing, To_tick, Ticked, Arriving, Giving, Ticking_devices, Ticking_chip, Ticking_decoder, Ticking_host, Sleeping, Submitting, Moving, Moved, Turns, Goes, after_pump, passes_after}
 use Rattle.proof_walk.specs.Walk.{Walk}
@@ -20,6 +20,7 @@ use Rattle.proof_work.proofs.Doing.{tick_done}
 use Rattle.proof_work.proofs.Hosts.{Keeps}
 use Rattle.proof_work.proofs.Pumping.{next_done, next_leaves, no_more_done, none_wants, tended}
 use Rattle.proof_work.proofs.Machines.{OpensWell, Tells, effect, machine_kept}
+use Rattle.proof_world.proofs.Runs.{still_told as tells_more}
 
 -- nothing is asked
 nothing_asked : (past : List Entry) (entries : List Entry) → EachAfter AsksNothing past entries
@@ -27,11 +28,6 @@ nothing_asked past [] = tt
 nothing_asked past (entry ∷ more) = (tt, nothing_asked (past ++ entry ∷ []) more)
 
 -- ---- one event
-
--- a keeper that tells its records goes on so
-tells_more : (records : Option (List (List ℕ))) (texts : List (List ℕ)) → IsSome records → IsSome (with_texts records texts)
-tells_more None texts tells = tells
-tells_more (Some records) texts tells = refl
 
 tells_on : (m : Machine) (event : Event) → IsSome m.records → IsSome (happens m event).records
 unfolding happens

@@ -20,10 +20,11 @@ use Rattle.host_node.proofs.Searches.{where_is_none}
 use Rattle.host_model.specs.State.{HostState, node_of}
 use Rattle.host_model.specs.After.{after, is_full}
 use Rattle.host_model.specs.Did.{after_all}
-use Rattle.host_model.specs.Events.{HostEvent, Queues_no_more, Drops_no_more, Submits_abort, Submits_front, Starts, Gives_text, Gives_segment, Begins, Begin_unkept}
+use Rattle.host_model.specs.Events.{HostEvent, Queues_no_more, Drops_no_more}
 use Rattle.host_model.specs.May.{May, IsFree}
-use Rattle.host_model.specs.Pumping.{GivesNext, HasNothing, IsNext, IsNextOf, IsNextOfNodes, IsPumped, IsServedBy, LetsSleep, Pumps, Submits, no_more_event}
+use Rattle.host_model.specs.Pumping.{HasNothing, IsNext, IsPumped, LetsSleep, Pumps, Submits, no_more_event}
 use Rattle.host_model.specs.Facts.{HostFacts}
+use Rattle.host_model.proofs.Submitted.{SubmittedAre, next_is}
 use Rattle.host_model.proofs.EventLists.{after_all-append}
 use Rattle.proof_work.specs.Doing.{IsDone}
 use Rattle.proof_work.specs.Work.{HostWork, NodeWork, Wakes, told_in, times_due}
@@ -61,65 +62,34 @@ started_busy n (Sealed plain) = busy (after_start n (Sealed plain)) refl
 
 -- ---- a turn of a pump
 
--- what a pump may submit, and that a session begins or does not
-abbrev IsTurn : HostEvent → Type 0
-IsTurn Submits_abort = Unit {0}
-IsTurn Submits_front = Unit {0}
-IsTurn (Starts n plan more payload) = Unit {0}
-IsTurn (Gives_text n payload) = Unit {0}
-IsTurn (Gives_segment n more payload) = Unit {0}
-IsTurn (Begins n session command) = Unit {0}
-IsTurn (Begin_unkept n) = Unit {0}
-IsTurn event = ⊥
-
-as_turn : (event these : HostEvent) → event ≡ these → IsTurn these → IsTurn event
-as_turn event these is turn = subst IsTurn (sym is) turn
-
-gives_turn : (h : HostState) (n : ℕ) (text : Option (List ℕ)) (event : HostEvent) → GivesNext h n text event → IsTurn event
-gives_turn h n (Some text) event is = as_turn event _ is tt
-gives_turn h n None event (payload, there_is, is) = as_turn event _ is tt
-
-served_turn : (h : HostState) (n : ℕ) (series : Series) (event : HostEvent) → IsServedBy h n series event → IsTurn event
-served_turn h n Running event is = gives_turn h n (node_of h n).text event is
-served_turn h n Due event (plan, more, payload, start, is) = as_turn event _ is tt
-served_turn h n Idle event (inl is) = as_turn event _ is tt
-served_turn h n Idle event (inr is) = as_turn event _ is tt
-
-node_turn : (h : HostState) (next : Option ℕ) (event : HostEvent) → IsNextOfNodes h next event → IsTurn event
-node_turn h None event is = absurd is
-node_turn h (Some n) event is = served_turn h n (node_of h n).series event is
-
-next_turn : (h : HostState) (owes : Bool) (queue : List Task) (event : HostEvent) → IsNextOf h owes queue event → IsTurn event
-next_turn h true queue event is = as_turn event _ is tt
-next_turn h false (task ∷ more) event is = as_turn event _ is tt
-next_turn h false [] event is = node_turn h (next_of h.nodes h.served) event is
-
-turn_done : (event : HostEvent) → IsTurn event → IsDone event
-turn_done Submits_abort turn = tt
-turn_done Submits_front turn = tt
-turn_done (Starts n plan more payload) turn = tt
-turn_done (Gives_text n payload) turn = tt
-turn_done (Gives_segment n more payload) turn = tt
-turn_done (Begins n session command) turn = tt
-turn_done (Begin_unkept n) turn = tt
-turn_done event turn = absurd turn
+pub next_done : (h : HostState) (event : HostEvent) → IsNext h event → IsDone event
+next_done h event next = next_is IsDone each h event next
+  where
+    each : SubmittedAre IsDone
+    each = record {
+      abort = tt;
+      front = tt;
+      starts = λ n plan more payload. tt;
+      text = λ n payload. tt;
+      segment = λ n more payload. tt;
+      begins = λ n session command. tt;
+      unkept = λ n. tt;
+    }
 
 -- none comes to be told by it
-turn_leaves : (h : HostState) (event : HostEvent) → IsTurn event → NoneWants h.nodes → NoneWants (after h event).nodes
-turn_leaves h Submits_abort turn none = none
-turn_leaves h Submits_front turn none = none
-turn_leaves h (Starts n plan more payload) turn none = none_then h.nodes n (after_start (node_of h n) plan) (λ _. started_busy (node_of h n) plan) none
-turn_leaves h (Gives_text n payload) turn none = none_then h.nodes n (after_text (node_of h n)) (λ so. so) none
-turn_leaves h (Gives_segment n more payload) turn none = none_then h.nodes n (after_segment (node_of h n)) (λ so. so) none
-turn_leaves h (Begins n session command) turn none = none_then h.nodes n (after_begin (node_of h n)) (λ _. busy (after_begin (node_of h n)) refl) none
-turn_leaves h (Begin_unkept n) turn none = none_then h.nodes n (after_block (node_of h n)) (λ so. so) none
-turn_leaves h event turn none = absurd turn
-
-pub next_done : (h : HostState) (event : HostEvent) → IsNext h event → IsDone event
-next_done h event next = turn_done event (next_turn h h.requests.owes h.requests.queue event next.1)
-
 pub next_leaves : (h : HostState) (event : HostEvent) → IsNext h event → NoneWants h.nodes → NoneWants (after h event).nodes
-next_leaves h event next none = turn_leaves h event (next_turn h h.requests.owes h.requests.queue event next.1) none
+next_leaves h event next none = next_is (λ (e : HostEvent). NoneWants (after h e).nodes) each h event next
+  where
+    each : SubmittedAre (λ (e : HostEvent). NoneWants (after h e).nodes)
+    each = record {
+      abort = none;
+      front = none;
+      starts = λ n plan more payload. none_then h.nodes n (after_start (node_of h n) plan) (λ _. started_busy (node_of h n) plan) none;
+      text = λ n payload. none_then h.nodes n (after_text (node_of h n)) (λ so. so) none;
+      segment = λ n more payload. none_then h.nodes n (after_segment (node_of h n)) (λ so. so) none;
+      begins = λ n session command. none_then h.nodes n (after_begin (node_of h n)) (λ _. busy (after_begin (node_of h n)) refl) none;
+      unkept = λ n. none_then h.nodes n (after_block (node_of h n)) (λ so. so) none;
+    }
 
 -- ---- a rest
 

@@ -12,7 +12,6 @@ use Rattle.law_time.specs.Rests.{interview_end}
 use Rattle.chip_functions.specs.declared.notice.Update.{Update}
 use Rattle.chip_functions.specs.declared.notice.Update.TheVariants.{Received}
 use Rattle.chip_functions.specs.declared.response.Response.TheVariants.{GetRoutingInfo, IsFailedNode as failed_node}
-use Rattle.serial_frame.specs.Frame.{FrameParts}
 use Rattle.serial_frame.specs.declared.item.Item.{Item}
 use Rattle.serial_frame.specs.declared.item.Item.TheVariants.{Good, Refused}
 use Rattle.serial_frame.specs.declared.item.Refusal.TheVariants.{Stray, BadLength, BadSum, BadKind, Aborted}
@@ -40,9 +39,10 @@ use Rattle.host_model.specs.Ends.{PartEnd, Good as well, Passed_over, Bad, part_
 use Rattle.host_model.specs.After.{gives_up, is_full, is_held, line_ticked, requests_do}
 use Rattle.host_model.specs.Events.{HostEvent, Accepts, Cancels, Hears, Requests_do, Interviews, Interview_unkept, Unreads, Is_unkept, Reports_old, Finishes, Offers, Gives, Spends_unread, Notifies, Resends, Hears_value, Has_no_room, Line_ticks, Node_ticks, Drops_no_more, Begins, Begin_unkept}
 use Rattle.host_model.specs.May.{May, IsInterviewed}
-use Rattle.host_model.specs.Outs.{answer_to, copy_out, dropped_if, ended_of, failing_entries, held_entries, noted, request_entries, stored_entries}
+use Rattle.host_model.specs.Outs.{answer_to, dropped_if, ended_of, failing_entries, held_entries, noted, request_entries, stored_entries}
 use Rattle.proof_host.specs.Entries.{entries_at, notes_of}
 use Rattle.proof_work.specs.Tasks.{KeepsInterview, ended, ended_if, errand_of, errands, interview_of, interviews, task_ended, task_of}
+use Rattle.proof_host.proofs.Effects.{notes_noted, copy_notes}
 
 -- an entry that tells of no end of an errand or interview
 abbrev IsOther : Entry → Type 0
@@ -94,16 +94,8 @@ stored_other : (n : ℕ) (settings : List Setting) → AreOther (stored_entries 
 stored_other n [] = tt
 stored_other n (setting ∷ settings) = (tt, stored_other n settings)
 
-notes_noted : (entries : List Entry) → notes_of (noted entries) ≡ entries
-notes_noted [] = refl
-notes_noted (e ∷ entries) = ap (λ (l : List Entry). e ∷ l) (notes_noted entries)
-
 noted_other : (entries : List Entry) → AreOther entries → AreOther (notes_of (noted entries))
 noted_other entries are = subst AreOther (sym (notes_noted entries)) are
-
-copy_notes : (copy : Option FrameParts) (entries : List Entry) → notes_of (copy_out copy ++ noted entries) ≡ entries
-copy_notes None entries = notes_noted entries
-copy_notes (Some f) entries = notes_noted entries
 
 answer_other : (item : Item) → AreOther (notes_of (answer_to item))
 answer_other (Good (Framed f)) = tt

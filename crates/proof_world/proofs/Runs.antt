@@ -55,7 +55,7 @@ record AsksOn (m : Machine) (event : Event) : Type 0 where
   keeps : KeepsWell m event
   asks : Asks (happens m event)
 
-still_told : (records : Option (List (List ℕ))) (texts : List (List ℕ)) → IsSome records → IsSome (with_texts records texts)
+pub still_told : (records : Option (List (List ℕ))) (texts : List (List ℕ)) → IsSome records → IsSome (with_texts records texts)
 still_told None texts told = let bad : false ≡ true = told in absurd cc
 still_told (Some before) texts told = refl
 

@@ -26,8 +26,9 @@ use Rattle.port_run.specs.declared.ending.Served.{Served}
 use Rattle.port_run.specs.declared.ending.Served.TheVariants as served
 use Rattle.run_audit.specs.Audited.{HasAudited}
 use Rattle.run_words.specs.declared.asked.Asked.TheVariants.{Host}
-use Rattle.proof_commands.specs.Around.{Around}
+use Rattle.proof_commands.specs.Around.{Around, shelf_in}
 use Rattle.run_all.specs.Commands.{Refuses, Runs, Does, HasGoodInputFor, ComesToItsEnd}
+use Rattle.host_keep.specs.Keeping.{Shelf}
 
 differ : (a b : Status) → a ≡ b → code_of a ≢ code_of b → ⊥
 differ a b e other = other (ap code_of e)
@@ -57,30 +58,30 @@ include_is ended key left left' sink sink' h e =
     let c : IncludeRan status.Usage key left left' sink sink' = subst (λ (s : Status). IncludeRan s key left left' sink sink') e h in
     closes_not _ c.told.end _ c.told.mid sink' c.told.closes
 
-pub sim_is : (ended : Status) (quiet : Bool) (key : List ℕ) (left left' : Option (List ℕ)) (before after : List State) (records records' : Option (List (List ℕ))) (faults faults' number number' reads reads' : ℕ)
-    (sink sink' : Option (List ℕ)) → SimRan ended quiet key left left' before after records records' faults faults' number number' reads reads' sink sink' → ended ≢ status.Usage
-sim_is ended quiet key left left' before after records records' faults faults' number number' reads reads' sink sink' h e =
-    let c : SimRan status.Usage quiet key left left' before after records records' faults faults' number number' reads reads' sink sink' =
-    subst (λ (s : Status). SimRan s quiet key left left' before after records records' faults faults' number number' reads reads' sink sink') e h in
+pub sim_is : (ended : Status) (quiet : Bool) (key : List ℕ) (left left' : Option (List ℕ)) (before after : List State) (shelf shelf' : Shelf) (number number' reads reads' : ℕ)
+    (sink sink' : Option (List ℕ)) → SimRan ended quiet key left left' before after shelf shelf' number number' reads reads' sink sink' → ended ≢ status.Usage
+sim_is ended quiet key left left' before after shelf shelf' number number' reads reads' sink sink' h e =
+    let c : SimRan status.Usage quiet key left left' before after shelf shelf' number number' reads reads' sink sink' =
+    subst (λ (s : Status). SimRan s quiet key left left' before after shelf shelf' number number' reads reads' sink sink') e h in
     closes_not _ c.told.end _ c.told.mid sink' c.told.closes
 
-pub generate_is : (ended : Status) (hundreds : ℕ) (key : List ℕ) (before after : List State) (records records' : Option (List (List ℕ))) (faults faults' : ℕ)
-    (sink sink' : Option (List ℕ)) → GenerateRan ended hundreds key before after records records' faults faults' sink sink' → ended ≢ status.Usage
-generate_is ended hundreds key before after records records' faults faults' sink sink' h e =
-    subst (λ (s : Status). GenerateRan s hundreds key before after records records' faults faults' sink sink') e h
+pub generate_is : (ended : Status) (hundreds : ℕ) (key : List ℕ) (before after : List State) (shelf shelf' : Shelf)
+    (sink sink' : Option (List ℕ)) → GenerateRan ended hundreds key before after shelf shelf' sink sink' → ended ≢ status.Usage
+generate_is ended hundreds key before after shelf shelf' sink sink' h e =
+    subst (λ (s : Status). GenerateRan s hundreds key before after shelf shelf' sink sink') e h
 
-pub replay_is : (ended : Status) (key : List ℕ) (left left' : Option (List ℕ)) (records records' : Option (List (List ℕ))) (faults faults' : ℕ)
-    (sink sink' : Option (List ℕ)) → ReplayRan ended key left left' records records' faults faults' sink sink' → ended ≢ status.Usage
-replay_is ended key left left' records records' faults faults' sink sink' h e =
-    let c : ReplayRan status.Usage key left left' records records' faults faults' sink sink' =
-    subst (λ (s : Status). ReplayRan s key left left' records records' faults faults' sink sink') e h in
+pub replay_is : (ended : Status) (key : List ℕ) (left left' : Option (List ℕ)) (shelf shelf' : Shelf)
+    (sink sink' : Option (List ℕ)) → ReplayRan ended key left left' shelf shelf' sink sink' → ended ≢ status.Usage
+replay_is ended key left left' shelf shelf' sink sink' h e =
+    let c : ReplayRan status.Usage key left left' shelf shelf' sink sink' =
+    subst (λ (s : Status). ReplayRan s key left left' shelf shelf' sink sink') e h in
     closes_not _ c.told.end _ c.told.mid sink' c.told.closes
 
 -- the scenario that is made reads nothing, so no read fails
-pub generate_never_reads : (ended : Status) (hundreds : ℕ) (key : List ℕ) (before after : List State) (records records' : Option (List (List ℕ))) (faults faults' : ℕ)
-    (sink sink' : Option (List ℕ)) → GenerateRan ended hundreds key before after records records' faults faults' sink sink' → ended ≢ status.ReadFault
-generate_never_reads ended hundreds key before after records records' faults faults' sink sink' h e =
-    subst (λ (s : Status). GenerateRan s hundreds key before after records records' faults faults' sink sink') e h
+pub generate_never_reads : (ended : Status) (hundreds : ℕ) (key : List ℕ) (before after : List State) (shelf shelf' : Shelf)
+    (sink sink' : Option (List ℕ)) → GenerateRan ended hundreds key before after shelf shelf' sink sink' → ended ≢ status.ReadFault
+generate_never_reads ended hundreds key before after shelf shelf' sink sink' h e =
+    subst (λ (s : Status). GenerateRan s hundreds key before after shelf shelf' sink sink') e h
 
 pub audited_is : (ended : Status) (left left' sink sink' : Option (List ℕ)) → HasAudited ended left left' sink sink' → ended ≢ status.Usage
 audited_is ended left left' sink sink' h e =
@@ -110,7 +111,7 @@ later_texts {A} (word ∷ words) later is = ap (λ (l : List (String A)). texts_
 
 -- `host` was run over the words after the first
 pub host_runs : (words lines : List (List ℕ)) (key : List ℕ) (ended : Status) (old new : Around) → lines ≡ drop 1 words
-    → HostRan ended key old.kept lines (desk old.left old.written old.records old.keeper_faults) (desk new.left new.written new.records new.keeper_faults)
+    → HostRan ended key old.kept lines (desk old.left old.written (shelf_in old)) (desk new.left new.written (shelf_in new))
     → new.devices ≡ old.devices → (ended ≡ status.KeeperFault → Rose old.keeper_faults new.keeper_faults)
     → (ended ≡ status.ReadFault → Rose old.read_faults new.read_faults) → (ended ≡ status.WriteFault → Rose old.write_faults new.write_faults)
     → (HasGoodPort lines old.left → (Rose old.read_faults new.read_faults → ⊥) → (Rose old.write_faults new.write_faults → ⊥)
@@ -119,7 +120,7 @@ pub host_runs : (words lines : List (List ℕ)) (key : List ℕ) (ended : Status
 unfolding Does HasGoodInputFor ComesToItsEnd
 host_runs words lines key ended old new are ran devices kept read written complete source sink = record {
   does = (
-    subst (λ (l : List (List ℕ)). HostRan ended key old.kept l (desk old.left old.written old.records old.keeper_faults) (desk new.left new.written new.records new.keeper_faults)) are ran,
+    subst (λ (l : List (List ℕ)). HostRan ended key old.kept l (desk old.left old.written (shelf_in old)) (desk new.left new.written (shelf_in new))) are ran,
     devices,
     kept,
   );

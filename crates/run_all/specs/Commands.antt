@@ -19,7 +19,7 @@ use Rattle.run_include.specs.Run.{IncludeRan}
 use Rattle.run_replay.specs.Replay.{ReplayRan}
 use Rattle.port_run.specs.Ending.{desk, HostRan, HasGoodPort, IsServed}
 use Rattle.run_audit.specs.Audited.{HasAudited, IsInOrder}
-use Rattle.proof_commands.specs.Around.{Around}
+use Rattle.proof_commands.specs.Around.{Around, shelf_in}
 use Rattle.proof_commands.specs.Sim.{RunsSim}
 use Rattle.proof_commands.specs.Generate.{RunsGenerate}
 
@@ -43,11 +43,11 @@ Does (Check from) words key ended old new = HasChecked ended from old.left new.l
 Does (Generate hundreds) words key ended old new =
     RunsGenerate ended hundreds key old new × (new.left ≡ old.left)
 Does Replay words key ended old new =
-    ReplayRan ended key old.left new.left old.records new.records old.keeper_faults new.keeper_faults old.written new.written × (new.devices ≡ old.devices)
+    ReplayRan ended key old.left new.left (shelf_in old) (shelf_in new) old.written new.written × (new.devices ≡ old.devices)
 Does Events words key ended old new = EventsRan ended old.left new.left old.written new.written × LeavesDevices old new
 Does Include words key ended old new = IncludeRan ended key old.left new.left old.written new.written × LeavesDevices old new
 Does Host words key ended old new =
-    HostRan ended key old.kept (drop 1 words) (desk old.left old.written old.records old.keeper_faults) (desk new.left new.written new.records new.keeper_faults)
+    HostRan ended key old.kept (drop 1 words) (desk old.left old.written (shelf_in old)) (desk new.left new.written (shelf_in new))
     × (new.devices ≡ old.devices) × (ended ≡ status.KeeperFault → Rose old.keeper_faults new.keeper_faults)
 Does Audit words key ended old new = HasAudited ended old.left new.left old.written new.written × LeavesDevices old new
 

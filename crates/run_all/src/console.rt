@@ -38,16 +38,16 @@ pub fn run<S: Source, K: Sink, D: Draw, P: Keeper>(
     // The words ask for a command exactly as its command line takes them, it is run, and the status says how that ended.
     ensures ran { RunsWords (texts_of words.now) key result
         (around (S.left source.old) (S.faults source.old) (K.written sink.old) (K.faults sink.old)
-        (map (λ d. state d) devices.old.items) (P.number keeper.old) (P.records keeper.old) (P.faults keeper.old) (P.reads keeper.old))
+        (map (λ d. state d) devices.old.items) (P.number keeper.old) (P.shelf keeper.old) (P.reads keeper.old))
         (around (S.left source.new) (S.faults source.new) (K.written sink.new) (K.faults sink.new)
-        (map (λ d. state d) devices.new.items) (P.number keeper.new) (P.records keeper.new) (P.faults keeper.new) (P.reads keeper.new)) }
+        (map (λ d. state d) devices.new.items) (P.number keeper.new) (P.shelf keeper.new) (P.reads keeper.new)) }
 
     // Where that was `sim`, `replay`, `include` or `host`, the run has a story, and each story that it has keeps the laws of that command.
     ensures laws { KeepsLaws result (texts_of words.now) key
         (around (S.left source.old) (S.faults source.old) (K.written sink.old) (K.faults sink.old)
-        (map (λ d. state d) devices.old.items) (P.number keeper.old) (P.records keeper.old) (P.faults keeper.old) (P.reads keeper.old))
+        (map (λ d. state d) devices.old.items) (P.number keeper.old) (P.shelf keeper.old) (P.reads keeper.old))
         (around (S.left source.new) (S.faults source.new) (K.written sink.new) (K.faults sink.new)
-        (map (λ d. state d) devices.new.items) (P.number keeper.new) (P.records keeper.new) (P.faults keeper.new) (P.reads keeper.new)) }
+        (map (λ d. state d) devices.new.items) (P.number keeper.new) (P.shelf keeper.new) (P.reads keeper.new)) }
 {
     commands_keep_laws();
     match read_words(alloc, words) {
@@ -74,9 +74,9 @@ fn run_asked<S: Source, K: Sink, D: Draw, P: Keeper>(
     requires { length devices.old.items < 2 ^ 64 }
     ensures { Runs asked (texts_of words.now) key result
         (around (S.left source.old) (S.faults source.old) (K.written sink.old) (K.faults sink.old)
-        (map (λ d. state d) devices.old.items) (P.number keeper.old) (P.records keeper.old) (P.faults keeper.old) (P.reads keeper.old))
+        (map (λ d. state d) devices.old.items) (P.number keeper.old) (P.shelf keeper.old) (P.reads keeper.old))
         (around (S.left source.new) (S.faults source.new) (K.written sink.new) (K.faults sink.new)
-        (map (λ d. state d) devices.new.items) (P.number keeper.new) (P.records keeper.new) (P.faults keeper.new) (P.reads keeper.new)) }
+        (map (λ d. state d) devices.new.items) (P.number keeper.new) (P.shelf keeper.new) (P.reads keeper.new)) }
 {
     match asked {
         Asked::Sim { quiet } => run_sim(alloc, quiet, key, source, sink, devices, draw, keeper),

@@ -11,3 +11,4 @@ mod console;
 
 pub use chacha::ChaChaDraw;
 pub use console::run;
+pub use proof_commands::the_mesh_is_auditable;

@@ -12,6 +12,7 @@ use Rattle.world_model.proofs.EventLists.{stopped_now}
 use Rattle.zw_world.specs.World.{WorldState, first_world, machine_of, scene}
 use Rattle.run_lines.proofs.Pieces.{OnErr-always}
 use Rattle.run_generate.specs.Generate.{AllDone, IsCutShort, SomeDone, SumsUp, generated_lines, summary_text}
+use Rattle.host_keep.specs.Keeping.{Shelf}
 
 done-more : (lines : List Line) (line : Line) (old mid new : Scene) → AllDone lines old mid → Does (IsLine line) mid new → AllDone (lines ++ line ∷ []) old new
 done-more [] line old mid new done does = (new, subst (λ (s : Scene). Does (IsLine line) s new) done does, refl)
@@ -48,61 +49,61 @@ stopped_at (first ∷ lines) (suc i) line old mid new within is done stops =
 -- ---- the scenario, from a world at its beginning
 
 -- it was cut short
-pub cut_short : (hundreds : ℕ) (key : List ℕ) (before after : List State) (records records' : Option (List (List ℕ))) (faults faults' : ℕ)
+pub cut_short : (hundreds : ℕ) (key : List ℕ) (before after : List State) (shelf shelf' : Shelf)
     (world world' : WorldState) (lines : List Line) (none entries : List Entry) → lines ≡ generated_lines hundreds → world ≡ first_world key → none ≡ []
-    → SomeDone lines (scene world before records none faults) (scene world' after records' entries faults')
-    → IsCutShort hundreds key before after records records' faults faults'
-cut_short hundreds key before after records records' faults faults' world world' lines none entries are first empty done = record {
-  last = scene world' after records' entries faults';
-  done = subst (λ (ls : List Line). SomeDone ls (scene (first_world key) before records [] faults) (scene world' after records' entries faults')) are
-      (subst (λ (w : WorldState). SomeDone lines (scene w before records [] faults) (scene world' after records' entries faults')) first
-      (subst (λ (es : List Entry). SomeDone lines (scene world before records es faults) (scene world' after records' entries faults')) empty done));
+    → SomeDone lines (scene world before shelf none) (scene world' after shelf' entries)
+    → IsCutShort hundreds key before after shelf shelf'
+cut_short hundreds key before after shelf shelf' world world' lines none entries are first empty done = record {
+  last = scene world' after shelf' entries;
+  done = subst (λ (ls : List Line). SomeDone ls (scene (first_world key) before shelf []) (scene world' after shelf' entries)) are
+      (subst (λ (w : WorldState). SomeDone lines (scene w before shelf []) (scene world' after shelf' entries)) first
+      (subst (λ (es : List Entry). SomeDone lines (scene world before shelf es) (scene world' after shelf' entries)) empty done));
   devices = refl;
   records_are = refl;
   faults_are = refl;
 }
 
 -- nothing was done
-pub not_begun : (hundreds : ℕ) (key : List ℕ) (devices : List State) (records : Option (List (List ℕ))) (faults : ℕ)
-    → IsCutShort hundreds key devices devices records records faults faults
-not_begun hundreds key devices records faults = record {
-  last = scene (first_world key) devices records [] faults;
-  done = none_done (generated_lines hundreds) (scene (first_world key) devices records [] faults);
+pub not_begun : (hundreds : ℕ) (key : List ℕ) (devices : List State) (shelf : Shelf)
+    → IsCutShort hundreds key devices devices shelf shelf
+not_begun hundreds key devices shelf = record {
+  last = scene (first_world key) devices shelf [];
+  done = none_done (generated_lines hundreds) (scene (first_world key) devices shelf []);
   devices = refl;
   records_are = refl;
   faults_are = refl;
 }
 
 -- at an error, whatever the key is
-module _ {T E : Type 0} (r : Result T E) (hundreds : ℕ) (before : List State) (records : Option (List (List ℕ))) (faults : ℕ) (world : WorldState) where
-  abbrev IsCut : List State → Option (List (List ℕ)) → ℕ → Type 0
-  IsCut after records' faults' = (key : List ℕ) → world ≡ first_world key → IsCutShort hundreds key before after records records' faults faults'
+module _ {T E : Type 0} (r : Result T E) (hundreds : ℕ) (before : List State) (shelf : Shelf) (world : WorldState) where
+  abbrev IsCut : List State → Shelf → Type 0
+  IsCut after shelf' = (key : List ℕ) → world ≡ first_world key → IsCutShort hundreds key before after shelf shelf'
 
-  pub cut_at_err : (after : List State) (records' : Option (List (List ℕ))) (faults' : ℕ) (world' : WorldState) (lines : List Line) (none entries : List Entry)
+  pub cut_at_err : (after : List State) (shelf' : Shelf) (world' : WorldState) (lines : List Line) (none entries : List Entry)
       → lines ≡ generated_lines hundreds → none ≡ []
-      → SomeDone lines (scene world before records none faults) (scene world' after records' entries faults') → OnErr r (IsCut after records' faults')
-  cut_at_err after records' faults' world' lines none entries are empty done = OnErr-always r (IsCut after records' faults')
-      (λ key first. cut_short hundreds key before after records records' faults faults' world world' lines none entries are first empty done)
+      → SomeDone lines (scene world before shelf none) (scene world' after shelf' entries) → OnErr r (IsCut after shelf')
+  cut_at_err after shelf' world' lines none entries are empty done = OnErr-always r (IsCut after shelf')
+      (λ key first. cut_short hundreds key before after shelf shelf' world world' lines none entries are first empty done)
 
-  pub not_begun_at_err : OnErr r (IsCut before records faults)
-  not_begun_at_err = OnErr-always r (IsCut before records faults) (λ key first. not_begun hundreds key before records faults)
+  pub not_begun_at_err : OnErr r (IsCut before shelf)
+  not_begun_at_err = OnErr-always r (IsCut before shelf) (λ key first. not_begun hundreds key before shelf)
 
 -- it was run whole, and summed up
-module _ (hundreds : ℕ) (key : List ℕ) (before after : List State) (records records' : Option (List (List ℕ))) (faults faults' : ℕ)
+module _ (hundreds : ℕ) (key : List ℕ) (before after : List State) (shelf shelf' : Shelf)
     (world world' : WorldState) (lines run : List Line) (none entries seen no_table table shown : List Entry) where
   pub sums_up : lines ≡ generated_lines hundreds → run ≡ lines → world ≡ first_world key → none ≡ []
-      → AllDone run (scene world before records none faults) (scene world' after records' entries faults')
+      → AllDone run (scene world before shelf none) (scene world' after shelf' entries)
       → no_table ≡ [] → ((kept : Option (List (List ℕ))) → table ≡ no_table ++ table_entries (machine_of world' after kept))
       → seen ≡ entries → shown ≡ table → (text : List ℕ) → text ≡ summary_text seen shown
-      → SumsUp hundreds key before after records records' faults faults' text
+      → SumsUp hundreds key before after shelf shelf' text
   sums_up are of_them first empty done begun listed all whole text is = record {
-    last = scene world' after records' entries faults';
-    done = subst (λ (ls : List Line). AllDone ls (scene (first_world key) before records [] faults) (scene world' after records' entries faults')) (of_them ∙ are)
-        (subst (λ (w : WorldState). AllDone run (scene w before records [] faults) (scene world' after records' entries faults')) first
-        (subst (λ (es : List Entry). AllDone run (scene world before records es faults) (scene world' after records' entries faults')) empty done));
+    last = scene world' after shelf' entries;
+    done = subst (λ (ls : List Line). AllDone ls (scene (first_world key) before shelf []) (scene world' after shelf' entries)) (of_them ∙ are)
+        (subst (λ (w : WorldState). AllDone run (scene w before shelf []) (scene world' after shelf' entries)) first
+        (subst (λ (es : List Entry). AllDone run (scene world before shelf es) (scene world' after shelf' entries)) empty done));
     devices = refl;
     records_are = refl;
     faults_are = refl;
     text_is = is ∙ ap (λ (es : List Entry). summary_text es shown) all
-        ∙ ap (λ (es : List Entry). summary_text entries es) (whole ∙ listed records' ∙ ap (λ (es : List Entry). es ++ table_entries (machine_of world' after records')) begun);
+        ∙ ap (λ (es : List Entry). summary_text entries es) (whole ∙ listed shelf'.records ∙ ap (λ (es : List Entry). es ++ table_entries (machine_of world' after shelf'.records)) begun);
   }

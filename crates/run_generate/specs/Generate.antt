@@ -20,6 +20,7 @@ use Rattle.run_lines.specs.Writing.{AppendsPrefix}
 use Rattle.run_lines.specs.declared.status.Status.{Status}
 use Rattle.run_lines.specs.declared.status.Status.TheVariants.{Ok, WriteFault, NoMemory}
 use Rattle.run_lines.specs.Pieces.{entry_line}
+use Rattle.host_keep.specs.Keeping.{Shelf}
 
 -- ---- the scenario
 
@@ -94,28 +95,28 @@ abbrev pub summary_text : List Entry → List Entry → List ℕ
 summary_text entries table = head_text entries ++ flat_map table_line table
 
 -- the scenario was run, and this is its summary
-pub record SumsUp (hundreds : ℕ) (key : List ℕ) (before after : List State) (records records' : Option (List (List ℕ))) (faults faults' : ℕ) (text : List ℕ) : Type 0 where
+pub record SumsUp (hundreds : ℕ) (key : List ℕ) (before after : List State) (shelf shelf' : Shelf) (text : List ℕ) : Type 0 where
   pub last : Scene
-  pub done : AllDone (generated_lines hundreds) (scene (first_world key) before records [] faults) last
+  pub done : AllDone (generated_lines hundreds) (scene (first_world key) before shelf []) last
   pub devices : last.machine.outside.devices ≡ after
-  pub records_are : last.machine.records ≡ records'
-  pub faults_are : last.faults ≡ faults'
+  pub records_are : last.machine.records ≡ shelf'.records
+  pub faults_are : last.faults ≡ shelf'.faults
   pub text_is : text ≡ summary_text last.entries (table_entries last.machine)
 
 -- there was no memory for all of the scenario, or for its summary
-pub record IsCutShort (hundreds : ℕ) (key : List ℕ) (before after : List State) (records records' : Option (List (List ℕ))) (faults faults' : ℕ) : Type 0 where
+pub record IsCutShort (hundreds : ℕ) (key : List ℕ) (before after : List State) (shelf shelf' : Shelf) : Type 0 where
   pub last : Scene
-  pub done : SomeDone (generated_lines hundreds) (scene (first_world key) before records [] faults) last
+  pub done : SomeDone (generated_lines hundreds) (scene (first_world key) before shelf []) last
   pub devices : last.machine.outside.devices ≡ after
-  pub records_are : last.machine.records ≡ records'
-  pub faults_are : last.faults ≡ faults'
+  pub records_are : last.machine.records ≡ shelf'.records
+  pub faults_are : last.faults ≡ shelf'.faults
 
 -- what is written at each status
-abbrev pub GenerateRan : Status → ℕ → List ℕ → List State → List State → Option (List (List ℕ)) → Option (List (List ℕ)) → ℕ → ℕ → Option (List ℕ) → Option (List ℕ) → Type 0
-GenerateRan Ok hundreds key before after records records' faults faults' sink sink' =
-    (text : List ℕ) × SumsUp hundreds key before after records records' faults faults' text × Appends sink sink' text
-GenerateRan WriteFault hundreds key before after records records' faults faults' sink sink' =
-    (text : List ℕ) × SumsUp hundreds key before after records records' faults faults' text × AppendsPrefix sink sink' text
-GenerateRan NoMemory hundreds key before after records records' faults faults' sink sink' =
-    IsCutShort hundreds key before after records records' faults faults' × (sink' ≡ sink)
-GenerateRan status hundreds key before after records records' faults faults' sink sink' = ⊥
+abbrev pub GenerateRan : Status → ℕ → List ℕ → List State → List State → Shelf → Shelf → Option (List ℕ) → Option (List ℕ) → Type 0
+GenerateRan Ok hundreds key before after shelf shelf' sink sink' =
+    (text : List ℕ) × SumsUp hundreds key before after shelf shelf' text × Appends sink sink' text
+GenerateRan WriteFault hundreds key before after shelf shelf' sink sink' =
+    (text : List ℕ) × SumsUp hundreds key before after shelf shelf' text × AppendsPrefix sink sink' text
+GenerateRan NoMemory hundreds key before after shelf shelf' sink sink' =
+    IsCutShort hundreds key before after shelf shelf' × (sink' ≡ sink)
+GenerateRan status hundreds key before after shelf shelf' sink sink' = ⊥

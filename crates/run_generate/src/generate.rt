@@ -28,7 +28,7 @@ pub fn run_generate<K: Sink, D: Draw, P: Keeper>(
 ) -> Status
     requires { length devices.old.items < 2 ^ 64 }
     ensures ran { GenerateRan result hundreds key (map (λ d. state d) devices.old.items) (map (λ d. state d) devices.new.items)
-        (P.records keeper.old) (P.records keeper.new) (P.faults keeper.old) (P.faults keeper.new) (K.written sink.old) (K.written sink.new) }
+        (P.shelf keeper.old) (P.shelf keeper.new) (K.written sink.old) (K.written sink.new) }
     ensures few { length devices.new.items < 2 ^ 64 }
     ensures never_falls { K.faults sink.old ≤ K.faults sink.new }
     ensures write_fault { result ≡ Status.WriteFault → Rose (K.faults sink.old) (K.faults sink.new) }
@@ -54,9 +54,9 @@ fn sum_up<D: Draw, P: Keeper>(
 ) -> Result<Bytes, NoMemory>
     requires { length devices.old.items < 2 ^ 64 }
     ensures ok { IfOk result (λ text. SumsUp hundreds key (map (λ d. state d) devices.old.items) (map (λ d. state d) devices.new.items)
-        (P.records keeper.old) (P.records keeper.new) (P.faults keeper.old) (P.faults keeper.new) text) }
+        (P.shelf keeper.old) (P.shelf keeper.new) text) }
     ensures err { OnErr result (IsCutShort hundreds key (map (λ d. state d) devices.old.items) (map (λ d. state d) devices.new.items)
-        (P.records keeper.old) (P.records keeper.new) (P.faults keeper.old) (P.faults keeper.new)) }
+        (P.shelf keeper.old) (P.shelf keeper.new)) }
     ensures kept { length devices.new.items ≡ length devices.old.items }
 {
     let mut world = World::new(alloc, key)?;
@@ -75,10 +75,10 @@ fn run_made<D: Draw, P: Keeper>(
     requires { length devices.old.items < 2 ^ 64 }
     ensures ok { IfOk result (λ text. (key : Items ℕ) → world.old ≡ first_world key →
         SumsUp hundreds key (map (λ d. state d) devices.old.items) (map (λ d. state d) devices.new.items)
-        (P.records keeper.old) (P.records keeper.new) (P.faults keeper.old) (P.faults keeper.new) text) }
+        (P.shelf keeper.old) (P.shelf keeper.new) text) }
     ensures err { OnErr result ((key : Items ℕ) → world.old ≡ first_world key →
         IsCutShort hundreds key (map (λ d. state d) devices.old.items) (map (λ d. state d) devices.new.items)
-        (P.records keeper.old) (P.records keeper.new) (P.faults keeper.old) (P.faults keeper.new)) }
+        (P.shelf keeper.old) (P.shelf keeper.new)) }
     ensures kept { length devices.new.items ≡ length devices.old.items }
 {
     let lines = generated(alloc, hundreds)?;
@@ -100,11 +100,11 @@ fn run_all<D: Draw, P: Keeper>(
 ) -> Result<(), NoMemory>
     requires { length devices.old.items < 2 ^ 64 }
     ensures ok { OnOk result (AllDone lines.now
-        (scene world.old (map (λ d. state d) devices.old.items) (P.records keeper.old) entries.old.items (P.faults keeper.old))
-        (scene world.new (map (λ d. state d) devices.new.items) (P.records keeper.new) entries.new.items (P.faults keeper.new))) }
+        (scene world.old (map (λ d. state d) devices.old.items) (P.shelf keeper.old) entries.old.items)
+        (scene world.new (map (λ d. state d) devices.new.items) (P.shelf keeper.new) entries.new.items)) }
     ensures err { OnErr result (SomeDone lines.now
-        (scene world.old (map (λ d. state d) devices.old.items) (P.records keeper.old) entries.old.items (P.faults keeper.old))
-        (scene world.new (map (λ d. state d) devices.new.items) (P.records keeper.new) entries.new.items (P.faults keeper.new))) }
+        (scene world.old (map (λ d. state d) devices.old.items) (P.shelf keeper.old) entries.old.items)
+        (scene world.new (map (λ d. state d) devices.new.items) (P.shelf keeper.new) entries.new.items)) }
     ensures kept { length devices.new.items ≡ length devices.old.items }
 {
     for line in lines {

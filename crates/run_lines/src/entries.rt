@@ -1,12 +1,12 @@
 //! The lines of entries.
 
-ghost use Rattle.std.specs.Prelude.{◌≡◌, ◌++◌, List as Items, ℕ, IfOk, OnOk, OnErr};
+ghost use Rattle.std.specs.Prelude.{◌≡◌, ◌++◌, List as Items, ℕ, OnOk, OnErr};
 ghost use Rattle.zw_text.specs.Entry.{is_loud};
-ghost use Rattle.run_lines.specs.Pieces.{entry_line, piece_of, pieces_of};
+ghost use Rattle.run_lines.specs.Pieces.{piece_of, pieces_of};
 
 use std::alloc::Global;
 use zw_base::{Bytes, List, NoMemory};
-use zw_print::print_entry;
+use zw_print::print_line;
 use zw_text::Entry;
 
 /// Adds the line of each entry, as a piece of its own. A quiet transcript leaves the loud ones out.
@@ -19,17 +19,19 @@ pub fn add_entries(
     ensures ok { OnOk result (out.new.items ≡ out.old.items ++ pieces_of quiet entries.now) }
     ensures prefix { OnErr result ((rest : Items (Items ℕ)) × (out.old.items ++ pieces_of quiet entries.now ≡ out.new.items ++ rest)) }
 {
+    let mut scratch = String::new(alloc);
     for entry in entries {
-        add_entry(alloc, quiet, entry, out)?;
+        add_entry(alloc, quiet, entry, &mut scratch, out)?;
     }
     Ok(())
 }
 
-/// Adds the line of an entry, unless it is left out.
+/// Adds the line of an entry, unless it is left out. It is made in `scratch`.
 fn add_entry(
     alloc: Global,
     quiet: bool,
     entry: &Entry,
+    scratch: &mut String,
     out: &mut List<Bytes>,
 ) -> Result<(), NoMemory>
     ensures ok { OnOk result (out.new.items ≡ out.old.items ++ piece_of quiet entry.now) }
@@ -38,7 +40,7 @@ fn add_entry(
     if quiet && is_loud(entry) {
         return Ok(());
     }
-    out.push(entry_line(alloc, entry)?)
+    out.push(print_line(alloc, entry, scratch)?)
 }
 
 /// Whether a quiet transcript leaves an entry out.
@@ -53,13 +55,4 @@ fn is_loud(entry: &Entry) -> bool
         Entry::Unheard { .. } => true,
         _ => false,
     }
-}
-
-/// The text of an entry, with its line feed.
-fn entry_line(alloc: Global, entry: &Entry) -> Result<Bytes, NoMemory>
-    ensures { IfOk result (λ line. line ≡ entry_line entry.now) }
-{
-    let mut text = print_entry(alloc, entry)?;
-    text.push(b'\n')?;
-    Ok(text)
 }

@@ -45,7 +45,8 @@ use Rattle.run_replay.specs.Machine.{Lone, Event, Does_asked, Refuses, Shows_val
 use Rattle.run_replay.specs.Lines.{IsEffect, by_host}
 use Rattle.run_replay.specs.Asking.{Answers, Enters, shown_uncancelled}
 use Rattle.run_replay.proofs.EventLists.{ran_one, stopped_in, stopped_still}
-use Rattle.run_replay.proofs.Hosting.{at, held, hosted_is, none_entered}
+use Rattle.host_core.specs.Calls.{shelf_of}
+use Rattle.run_replay.proofs.Hosting.{at, hosted_is, none_entered}
 
 -- ---- what is entered of a refusal
 
@@ -130,7 +131,7 @@ asked_rose e f g rose = subst (λ (n : ℕ). RoseBy n f g) (sym (unkept_alone e)
 
 -- the host does what was asked, and answers
 asked_ran : (e : HostEvent) (host host' : HostParts) (clock : ℕ) (r r' : Option (List (List ℕ))) (before all : List Entry) (f g : ℕ)
-    → Did (e ∷ []) host.state host'.state [] [] (held r f) (held r' g) → host'.decoder ≡ host.decoder → all ≡ before ++ answers host.state e
+    → Did (e ∷ []) host.state host'.state [] [] (shelf_of r f) (shelf_of r' g) → host'.decoder ≡ host.decoder → all ≡ before ++ answers host.state e
     → Run (Does_asked e ∷ []) (at host clock r before f) (at host' clock r' all g)
 unfolding happens entries May
 asked_ran e host host' clock r r' before all f g did decoder entered =
@@ -140,13 +141,13 @@ asked_ran e host host' clock r r' before all f g did decoder entered =
 
 -- it did it, and nothing of that was entered
 pub event_stops : {T E : Type 0} (answer : Result T E) (e : HostEvent) (host host' : HostParts) (clock : ℕ) (r r' : Option (List (List ℕ))) (before all : List Entry) (f g : ℕ)
-    → calls.Does (Are (e ∷ [])) (scene host.state [] r f) (scene host'.state [] r' g) → OnErr answer (all ≡ before)
+    → calls.Does (Are (e ∷ [])) (scene host.state [] (shelf_of r f)) (scene host'.state [] (shelf_of r' g)) → OnErr answer (all ≡ before)
     → OnErr answer (Stops (at host clock r before f) (at host' clock r' all g))
 unfolding happens May
 event_stops (Ok value) e host host' clock r r' before all f g does same = tt
 event_stops (Err fault) e host host' clock r r' before all f g does same =
-    let did : Did (e ∷ []) host.state host'.state [] [] (held r f) (held r' g) =
-    subst (λ (l : List HostEvent). Did l host.state host'.state [] [] (held r f) (held r' g)) does.are does.did in
+    let did : Did (e ∷ []) host.state host'.state [] [] (shelf_of r f) (shelf_of r' g) =
+    subst (λ (l : List HostEvent). Did l host.state host'.state [] [] (shelf_of r f) (shelf_of r' g)) does.are does.did in
     stopped_in (Does_asked e) _ _ before all f g did.may (adds_is r r' (texts_of (records_all host.state (e ∷ []))) did.records)
     (none_entered before all (entries _ (Does_asked e)) same) (asked_rose e f g did.rose) did.never_falls
 
@@ -177,10 +178,10 @@ asks : {A : Type 0} (answer : Result A Refused) (rule : Option Refused) (line : 
     → Answers answer before all
     → Does (λ (m : Lone) (es : List Event). AsksBy rule line e es) (at host clock r before f) (at host' clock r all f)
 asks (Ok value) rule line e host host' clock r before all f quiet silent refused judged does decoder same done =
-    let call = does (held r f) in (
+    let call = does (shelf_of r f) in (
       Does_asked e ∷ [],
       (Host_does e ∷ [], subst (λ (x : Option Refused). AsksThere x line e (Host_does e ∷ [])) (sym judged) refl, refl),
-      asked_ran e host host' clock r r before all f f (subst (λ (l : List HostEvent). Did l host.state host'.state [] [] (held r f) (held r f)) call.are call.did) decoder
+      asked_ran e host host' clock r r before all f f (subst (λ (l : List HostEvent). Did l host.state host'.state [] [] (shelf_of r f) (shelf_of r f)) call.are call.did) decoder
           (done ∙ (sym (append-nil before) ∙ ap (λ (l : List Entry). before ++ l) (sym silent))),
     )
 asks (Err why) rule line e host host' clock r before all f quiet silent refused (inl judged) does decoder same (entered, seen, is) = (
@@ -231,7 +232,7 @@ refusal_stops (Ok value) host host' clock r r' before all f g kept falls same = 
 refusal_stops (Err fault) host host' clock r r' before all f g kept falls same = stopped_still _ _ before all f g (none_more r r' kept) same falls
 
 pub accepted : {T E : Type 0} (answer : Result T E) (order : Order) (number : ℕ) (host host' : HostParts) (clock : ℕ) (r r' : Option (List (List ℕ))) (before all : List Entry) (f g : ℕ)
-    → calls.Does (Are (Accepts order (carriage_for host.state order) ∷ [])) (scene host.state [] r f) (scene host'.state [] r' g) → host'.decoder ≡ host.decoder
+    → calls.Does (Are (Accepts order (carriage_for host.state order) ∷ [])) (scene host.state [] (shelf_of r f)) (scene host'.state [] (shelf_of r' g)) → host'.decoder ≡ host.decoder
     → number ≡ length host.state.commands + 1 → OnOk answer (all ≡ before ++ Accepted number order.node ∷ [])
     → OnOk answer (Does (IsEffect (Command order)) (at host clock r before f) (at host' clock r' all g))
 accepted (Err fault) order number host host' clock r r' before all f g does decoder is entered = tt
@@ -239,28 +240,28 @@ accepted (Ok value) order number host host' clock r r' before all f g does decod
     let e : HostEvent = Accepts order (carriage_for host.state order) in (
       Does_asked e ∷ [],
       (Host_does e ∷ [], inl refl, refl),
-      asked_ran e host host' clock r r' before all f g (subst (λ (l : List HostEvent). Did l host.state host'.state [] [] (held r f) (held r' g)) does.are does.did) decoder
+      asked_ran e host host' clock r r' before all f g (subst (λ (l : List HostEvent). Did l host.state host'.state [] [] (shelf_of r f) (shelf_of r' g)) does.are does.did) decoder
           (entered ∙ ap (λ (n : ℕ). before ++ Accepted n order.node ∷ []) is),
     )
 
 pub cancelled : {T E : Type 0} (answer : Result T E) (command : ℕ) (host host' : HostParts) (clock : ℕ) (r r' : Option (List (List ℕ))) (before all : List Entry) (f g : ℕ)
-    → calls.Does (Are (Cancels command ∷ [])) (scene host.state [] r f) (scene host'.state [] r' g) → host'.decoder ≡ host.decoder
+    → calls.Does (Are (Cancels command ∷ [])) (scene host.state [] (shelf_of r f)) (scene host'.state [] (shelf_of r' g)) → host'.decoder ≡ host.decoder
     → OnOk answer (all ≡ before ++ Out command Cancelled ∷ [])
     → OnOk answer (Does (IsEffect (Cancel command)) (at host clock r before f) (at host' clock r' all g))
 cancelled (Err fault) command host host' clock r r' before all f g does decoder entered = tt
 cancelled (Ok value) command host host' clock r r' before all f g does decoder entered = (
   Does_asked (Cancels command) ∷ [],
   (Host_does (Cancels command) ∷ [], inl refl, refl),
-  asked_ran (Cancels command) host host' clock r r' before all f g (subst (λ (l : List HostEvent). Did l host.state host'.state [] [] (held r f) (held r' g)) does.are does.did) decoder entered,
+  asked_ran (Cancels command) host host' clock r r' before all f g (subst (λ (l : List HostEvent). Did l host.state host'.state [] [] (shelf_of r f) (shelf_of r' g)) does.are does.did) decoder entered,
 )
 
 pub joined : (node : ℕ) (host host' : HostParts) (clock : ℕ) (r r' : Option (List (List ℕ))) (before : List Entry) (f g : ℕ)
-    → calls.Does (Are (joins_host node ∷ [])) (scene host.state [] r f) (scene host'.state [] r' g) → host'.decoder ≡ host.decoder
+    → calls.Does (Are (joins_host node ∷ [])) (scene host.state [] (shelf_of r f)) (scene host'.state [] (shelf_of r' g)) → host'.decoder ≡ host.decoder
     → Does (IsEffect (Join node)) (at host clock r before f) (at host' clock r' before g)
 joined node host host' clock r r' before f g does decoder = (
   Does_asked (joins_host node) ∷ [],
   (_, inl refl, refl),
-  asked_ran (joins_host node) host host' clock r r' before before f g (subst (λ (l : List HostEvent). Did l host.state host'.state [] [] (held r f) (held r' g)) does.are does.did) decoder (sym (append-nil before)),
+  asked_ran (joins_host node) host host' clock r r' before before f g (subst (λ (l : List HostEvent). Did l host.state host'.state [] [] (shelf_of r f) (shelf_of r' g)) does.are does.did) decoder (sym (append-nil before)),
 )
 
 -- ---- the stored values of a node are shown

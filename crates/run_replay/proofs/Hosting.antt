@@ -6,13 +6,14 @@ use Rattle.serial_frame.specs.Stream.{Rest, after_tick}
 use Rattle.zw_text.specs.declared.entry.Entry.{Entry}
 use Rattle.host_model.specs.State.{HostState, HostParts}
 use Rattle.host_model.specs.Events.{HostEvent}
-use Rattle.host_model.specs.Did.{Shelf, Did, after_all, outs_all, records_all, texts_of}
+use Rattle.host_keep.specs.Keeping.{Shelf}
+use Rattle.host_model.specs.Did.{Did, after_all, outs_all, records_all, texts_of}
 use Rattle.host_model.specs.Pumping.{Pumps}
 use Rattle.host_model.specs.Taking.{Fed, FedPrefix}
 use Rattle.host_model.specs.Ticking.{tick_events}
 use Rattle.host_model.specs.declared.out.HostOut.{HostOut}
 use Rattle.host_model.proofs.EventLists.{did_both}
-use Rattle.host_core.specs.Calls.{Are, scene}
+use Rattle.host_core.specs.Calls.{Are, scene, shelf_of}
 use Rattle.host_core.specs.Calls as calls
 use Rattle.world_model.specs.State.{with_texts}
 use Rattle.world_model.proofs.Hosting.{adds_is}
@@ -23,9 +24,6 @@ use Rattle.run_replay.proofs.EventLists.{ran_one, stopped_in, stopped_then}
 -- a scene by its parts
 abbrev pub at : HostParts → ℕ → Option (List (List ℕ)) → List Entry → ℕ → Scene
 at host clock records before faults = record { lone = record { host = host; clock = clock; records = records }; entries = before; faults = faults }
-
-abbrev pub held : Option (List (List ℕ)) → ℕ → Shelf
-held records faults = record { records = records; faults = faults }
 
 -- ---- what is entered
 
@@ -41,7 +39,7 @@ told_more before some all done one entry so_far is more =
 -- ---- one event
 
 module _ (es : List HostEvent) (host : HostParts) (state : HostState) (puts : List HostOut) (r r' : Option (List (List ℕ))) (f g clock : ℕ)
-    (did : Did es host.state state [] puts (held r f) (held r' g)) where
+    (did : Did es host.state state [] puts (shelf_of r f) (shelf_of r' g)) where
   outs_are : puts ≡ outs_all host.state es
   outs_are = did.outs
 
@@ -99,7 +97,7 @@ afresh es h h' put puts s t did = record { may = did.may; state = did.state; out
 
 -- the host pumped
 pub pumped : {T E : Type 0} (answer : Result T E) (host host' : HostParts) (clock : ℕ) (r r' : Option (List (List ℕ))) (put puts : List HostOut) (before all : List Entry) (f g : ℕ)
-    → put ≡ [] → calls.Does (Pumps host.state) (scene host.state put r f) (scene host'.state puts r' g) → host'.decoder ≡ host.decoder
+    → put ≡ [] → calls.Does (Pumps host.state) (scene host.state put (shelf_of r f)) (scene host'.state puts (shelf_of r' g)) → host'.decoder ≡ host.decoder
     → OnOk answer (all ≡ before ++ entries_of puts)
     → OnOk answer (Does IsPump (at host clock r before f) (at host' clock r' all g))
 pumped (Err fault) host host' clock r r' put puts before all f g none does decoder entered = tt
@@ -107,28 +105,28 @@ pumped (Ok value) host host' clock r r' put puts before all f g none does decode
   Does_itself does.events ∷ [],
   (does.events, does.are, refl),
   subst (λ (d : Rest). Run (Does_itself does.events ∷ []) (at host clock r before f) (at (record { decoder = d; state = host'.state }) clock r' all g)) (sym decoder)
-      (itself_ran does.events host host'.state puts r r' f g clock (from_none does.events host.state host'.state put puts (held r f) (held r' g) none does.did) before all entered),
+      (itself_ran does.events host host'.state puts r r' f g clock (from_none does.events host.state host'.state put puts (shelf_of r f) (shelf_of r' g) none does.did) before all entered),
 )
 
 pub pump_stops : {T E : Type 0} (answer : Result T E) (host host' : HostParts) (clock : ℕ) (r r' : Option (List (List ℕ))) (put puts : List HostOut) (before all : List Entry) (f g : ℕ)
-    → put ≡ [] → calls.Does (Pumps host.state) (scene host.state put r f) (scene host'.state puts r' g)
+    → put ≡ [] → calls.Does (Pumps host.state) (scene host.state put (shelf_of r f)) (scene host'.state puts (shelf_of r' g))
     → OnErr answer (all ≡ before)
     → OnErr answer (Stops (at host clock r before f) (at host' clock r' all g))
 pump_stops (Ok value) host host' clock r r' put puts before all f g none does prefix = tt
 pump_stops (Err fault) host host' clock r r' put puts before all f g none does prefix =
-    itself_stops does.events host host'.state puts r r' f g clock (from_none does.events host.state host'.state put puts (held r f) (held r' g) none does.did) host' clock before all (none_entered before all (entries_of puts) prefix)
+    itself_stops does.events host host'.state puts r r' f g clock (from_none does.events host.state host'.state put puts (shelf_of r f) (shelf_of r' g) none does.did) host' clock before all (none_entered before all (entries_of puts) prefix)
 
 -- a call of the host was done in part
 pub call_stops : {T E : Type 0} (answer : Result T E) (host host' : HostParts) (clock : ℕ) (r r' : Option (List (List ℕ))) (put puts : List HostOut) (before : List Entry) (f g : ℕ)
-    → put ≡ [] → calls.Stops (scene host.state put r f) (scene host'.state puts r' g)
+    → put ≡ [] → calls.Stops (scene host.state put (shelf_of r f)) (scene host'.state puts (shelf_of r' g))
     → OnErr answer (Stops (at host clock r before f) (at host' clock r' before g))
 call_stops (Ok value) host host' clock r r' put puts before f g none stops = tt
 call_stops (Err fault) host host' clock r r' put puts before f g none stops =
-    itself_stops stops.events host host'.state puts r r' f g clock (from_none stops.events host.state host'.state put puts (held r f) (held r' g) none stops.did) host' clock before before
+    itself_stops stops.events host host'.state puts r r' f g clock (from_none stops.events host.state host'.state put puts (shelf_of r f) (shelf_of r' g) none stops.did) host' clock before before
     (none_entered before before (entries_of puts) refl)
 
 -- the host took bytes
-module _ (bytes : List ℕ) (host host' : HostParts) (clock : ℕ) (r r' : Option (List (List ℕ))) (puts : List HostOut) (f g : ℕ) (fed : Fed host bytes host' [] puts (held r f) (held r' g)) where
+module _ (bytes : List ℕ) (host host' : HostParts) (clock : ℕ) (r r' : Option (List (List ℕ))) (puts : List HostOut) (f g : ℕ) (fed : Fed host bytes host' [] puts (shelf_of r f) (shelf_of r' g)) where
   abbrev taken : Event
   taken = Takes bytes host'.decoder fed.items fed.events
 
@@ -153,54 +151,54 @@ fed_from_none : (bytes : List ℕ) (host host' : HostParts) (put puts : List Hos
 fed_from_none bytes host host' put puts s t none fed = subst (λ (l : List HostOut). Fed host bytes host' l puts s t) none fed
 
 pub bytes_taken : {T E : Type 0} (answer : Result T E) (bytes : List ℕ) (host host' : HostParts) (clock : ℕ) (r r' : Option (List (List ℕ))) (put puts : List HostOut) (before all : List Entry) (f g : ℕ)
-    → put ≡ [] → Fed host bytes host' put puts (held r f) (held r' g) → OnOk answer (all ≡ before ++ entries_of puts)
+    → put ≡ [] → Fed host bytes host' put puts (shelf_of r f) (shelf_of r' g) → OnOk answer (all ≡ before ++ entries_of puts)
     → OnOk answer (Does (IsTaking bytes) (at host clock r before f) (at host' clock r' all g))
 bytes_taken (Err fault) bytes host host' clock r r' put puts before all f g none fed entered = tt
 bytes_taken (Ok value) bytes host host' clock r r' put puts before all f g none fed entered =
-    let it : Fed host bytes host' [] puts (held r f) (held r' g) = fed_from_none bytes host host' put puts (held r f) (held r' g) none fed in (
+    let it : Fed host bytes host' [] puts (shelf_of r f) (shelf_of r' g) = fed_from_none bytes host host' put puts (shelf_of r f) (shelf_of r' g) none fed in (
       Takes bytes host'.decoder it.items it.events ∷ [],
       (host'.decoder, it.items, it.events, refl),
       take_ran bytes host host' clock r r' puts f g it before all entered,
     )
 
 pub bytes_stop : {T E : Type 0} (answer : Result T E) (bytes : List ℕ) (host host' : HostParts) (clock : ℕ) (r r' : Option (List (List ℕ))) (put puts : List HostOut) (before all : List Entry) (f g : ℕ)
-    → put ≡ [] → Fed host bytes host' put puts (held r f) (held r' g) → OnErr answer (all ≡ before)
+    → put ≡ [] → Fed host bytes host' put puts (shelf_of r f) (shelf_of r' g) → OnErr answer (all ≡ before)
     → OnErr answer (Stops (at host clock r before f) (at host' clock r' all g))
 bytes_stop (Ok value) bytes host host' clock r r' put puts before all f g none fed prefix = tt
 bytes_stop (Err fault) bytes host host' clock r r' put puts before all f g none fed prefix =
-    take_stops bytes host host' clock r r' puts f g (fed_from_none bytes host host' put puts (held r f) (held r' g) none fed) host' clock before all (none_entered before all (entries_of puts) prefix)
+    take_stops bytes host host' clock r r' puts f g (fed_from_none bytes host host' put puts (shelf_of r f) (shelf_of r' g) none fed) host' clock before all (none_entered before all (entries_of puts) prefix)
 
 -- a prefix of the bytes was taken, and some events of the next item
 pub bytes_cut : {T E : Type 0} (answer : Result T E) (bytes : List ℕ) (host host' : HostParts) (clock : ℕ) (r r' : Option (List (List ℕ))) (put puts : List HostOut) (before : List Entry) (f g : ℕ)
-    → put ≡ [] → FedPrefix host bytes host' put puts (held r f) (held r' g)
+    → put ≡ [] → FedPrefix host bytes host' put puts (shelf_of r f) (shelf_of r' g)
     → OnErr answer (Stops (at host clock r before f) (at host' clock r' before g))
 bytes_cut (Ok value) bytes host host' clock r r' put puts before f g none part = tt
 bytes_cut (Err fault) bytes host host' clock r r' put puts before f g none part =
-    let it : Fed host part.prefix part.mid [] part.some (held r f) part.kept = fed_from_none part.prefix host part.mid put part.some (held r f) part.kept none part.fed in
+    let it : Fed host part.prefix part.mid [] part.some (shelf_of r f) part.kept = fed_from_none part.prefix host part.mid put part.some (shelf_of r f) part.kept none part.fed in
     let some : List Entry = entries_of part.some in
     let more : List Entry = entries_of (outs_all part.mid.state part.begun) in
     stopped_then (IsTaking part.prefix) (at host clock r before f) (at part.mid clock part.kept.records (before ++ some) part.kept.faults) (at host' clock r' before g)
     (Takes part.prefix part.mid.decoder it.items it.events ∷ [], (part.mid.decoder, it.items, it.events, refl), take_ran part.prefix host part.mid clock r part.kept.records part.some f part.kept.faults it before (before ++ some) refl)
-    (itself_stops part.begun part.mid host'.state (outs_all part.mid.state part.begun) part.kept.records r' part.kept.faults g clock (afresh part.begun part.mid.state host'.state part.some puts part.kept (held r' g) part.did)
+    (itself_stops part.begun part.mid host'.state (outs_all part.mid.state part.begun) part.kept.records r' part.kept.faults g clock (afresh part.begun part.mid.state host'.state part.some puts part.kept (shelf_of r' g) part.did)
     host' clock (before ++ some) before (some ++ more, sym (append_assoc before some more)))
 
 -- the host ticked, and then it pumped
 pub ticked : (host mid host' : HostParts) (clock : ℕ) (r r1 r' : Option (List (List ℕ))) (put some puts : List HostOut) (f f1 g : ℕ)
-    → put ≡ [] → calls.Does (Are (tick_events host.state)) (scene host.state put r f) (scene mid.state some r1 f1) → calls.Does (Pumps mid.state) (scene mid.state some r1 f1) (scene host'.state puts r' g)
-    → (pump : List HostEvent) × Pumps (after_all host.state (tick_events host.state)) pump × Did (tick_events host.state ++ pump) host.state host'.state [] puts (held r f) (held r' g)
+    → put ≡ [] → calls.Does (Are (tick_events host.state)) (scene host.state put (shelf_of r f)) (scene mid.state some (shelf_of r1 f1)) → calls.Does (Pumps mid.state) (scene mid.state some (shelf_of r1 f1)) (scene host'.state puts (shelf_of r' g))
+    → (pump : List HostEvent) × Pumps (after_all host.state (tick_events host.state)) pump × Did (tick_events host.state ++ pump) host.state host'.state [] puts (shelf_of r f) (shelf_of r' g)
 ticked host mid host' clock r r1 r' put some puts f f1 g none ticks pumps =
     let es : List HostEvent = tick_events host.state in
-    let did : Did es host.state mid.state [] some (held r f) (held r1 f1) =
-    from_none es host.state mid.state put some (held r f) (held r1 f1) none (subst (λ (l : List HostEvent). Did l host.state mid.state put some (held r f) (held r1 f1)) ticks.are ticks.did) in (
+    let did : Did es host.state mid.state [] some (shelf_of r f) (shelf_of r1 f1) =
+    from_none es host.state mid.state put some (shelf_of r f) (shelf_of r1 f1) none (subst (λ (l : List HostEvent). Did l host.state mid.state put some (shelf_of r f) (shelf_of r1 f1)) ticks.are ticks.did) in (
       pumps.events,
       subst (λ (h : HostState). Pumps h pumps.events) did.state pumps.are,
-      did_both es pumps.events host.state mid.state host'.state [] some puts (held r f) (held r1 f1) (held r' g) did pumps.did,
+      did_both es pumps.events host.state mid.state host'.state [] some puts (shelf_of r f) (shelf_of r1 f1) (shelf_of r' g) did pumps.did,
     )
 
 pub tick_done : {T E : Type 0} (answer : Result T E) (host mid host' : HostParts) (clock later : ℕ) (r r1 r' : Option (List (List ℕ))) (put some puts : List HostOut) (before all : List Entry) (f f1 g : ℕ)
     → put ≡ [] → later ≡ clock + 1
-    → calls.Does (Are (tick_events host.state)) (scene host.state put r f) (scene mid.state some r1 f1) → mid.decoder ≡ after_tick host.decoder
-    → calls.Does (Pumps mid.state) (scene mid.state some r1 f1) (scene host'.state puts r' g) → host'.decoder ≡ mid.decoder
+    → calls.Does (Are (tick_events host.state)) (scene host.state put (shelf_of r f)) (scene mid.state some (shelf_of r1 f1)) → mid.decoder ≡ after_tick host.decoder
+    → calls.Does (Pumps mid.state) (scene mid.state some (shelf_of r1 f1)) (scene host'.state puts (shelf_of r' g)) → host'.decoder ≡ mid.decoder
     → OnOk answer (all ≡ before ++ timed later puts)
     → OnOk answer (Does IsTick (at host clock r before f) (at host' later r' all g))
 tick_done (Err fault) host mid host' clock later r r1 r' put some puts before all f f1 g none is ticks decoder pumps same entered = tt
@@ -217,8 +215,8 @@ tick_done (Ok value) host mid host' clock later r r1 r' put some puts before all
 
 pub tick_cut : {T E : Type 0} (answer : Result T E) (host mid host' : HostParts) (clock later : ℕ) (r r1 r' : Option (List (List ℕ))) (put some puts : List HostOut) (before all : List Entry) (f f1 g : ℕ)
     → put ≡ [] → later ≡ clock + 1
-    → calls.Does (Are (tick_events host.state)) (scene host.state put r f) (scene mid.state some r1 f1)
-    → calls.Does (Pumps mid.state) (scene mid.state some r1 f1) (scene host'.state puts r' g)
+    → calls.Does (Are (tick_events host.state)) (scene host.state put (shelf_of r f)) (scene mid.state some (shelf_of r1 f1))
+    → calls.Does (Pumps mid.state) (scene mid.state some (shelf_of r1 f1)) (scene host'.state puts (shelf_of r' g))
     → OnErr answer (all ≡ before)
     → OnErr answer (Stops (at host clock r before f) (at host' later r' all g))
 tick_cut (Ok value) host mid host' clock later r r1 r' put some puts before all f f1 g none is ticks pumps prefix = tt
@@ -228,12 +226,12 @@ tick_cut (Err fault) host mid host' clock later r r1 r' put some puts before all
 
 -- the host ticked, and pumped in part
 pub tick_pump_stops : {T E : Type 0} (answer : Result T E) (host mid host' : HostParts) (clock : ℕ) (r r1 r' : Option (List (List ℕ))) (put some puts : List HostOut) (before : List Entry) (f f1 g : ℕ)
-    → put ≡ [] → calls.Does (Are (tick_events host.state)) (scene host.state put r f) (scene mid.state some r1 f1)
-    → calls.Stops (scene mid.state some r1 f1) (scene host'.state puts r' g)
+    → put ≡ [] → calls.Does (Are (tick_events host.state)) (scene host.state put (shelf_of r f)) (scene mid.state some (shelf_of r1 f1))
+    → calls.Stops (scene mid.state some (shelf_of r1 f1)) (scene host'.state puts (shelf_of r' g))
     → OnErr answer (Stops (at host clock r before f) (at host' clock r' before g))
 tick_pump_stops (Ok value) host mid host' clock r r1 r' put some puts before f f1 g none ticks stops = tt
 tick_pump_stops (Err fault) host mid host' clock r r1 r' put some puts before f f1 g none ticks stops =
-    let first : Did ticks.events host.state mid.state [] some (held r f) (held r1 f1) = from_none ticks.events host.state mid.state put some (held r f) (held r1 f1) none ticks.did in
+    let first : Did ticks.events host.state mid.state [] some (shelf_of r f) (shelf_of r1 f1) = from_none ticks.events host.state mid.state put some (shelf_of r f) (shelf_of r1 f1) none ticks.did in
     itself_stops (ticks.events ++ stops.events) host host'.state puts r r' f g clock
-    (did_both ticks.events stops.events host.state mid.state host'.state [] some puts (held r f) (held r1 f1) (held r' g) first stops.did)
+    (did_both ticks.events stops.events host.state mid.state host'.state [] some puts (shelf_of r f) (shelf_of r1 f1) (shelf_of r' g) first stops.did)
     host' clock before before (none_entered before before (entries_of puts) refl)

@@ -21,6 +21,7 @@ use Rattle.run_lines.proofs.ToldLines.{lines_told, none_told}
 use Rattle.run_replay.specs.Machine.{ReplayState, Scene, Does, Stops, first_replay, lone_of}
 use Rattle.run_replay.specs.Lines.{IsLine}
 use Rattle.run_replay.specs.Replay.{Point, ReplayRan, ReplayRuns, ReplayStops, AnswersLine, StopsLine, LineRan, PartRan, IsTable, table_entries, at, point_of, said}
+use Rattle.host_keep.specs.Keeping.{Shelf}
 
 -- nothing of a line was done, and nothing of it was entered
 pub nothing_done : (line : TextLine ReplayLine) (point : Point) → PartRan line point point []
@@ -82,9 +83,9 @@ part_of line s u done = record {
 
 -- ---- the run
 
-module _ {A B C : Type 0} (records : C → Option (List (List ℕ))) (faults : C → ℕ) where
+module _ {A B C : Type 0} (shelf : C → Shelf) where
   abbrev pub point : Borrowed ReplayState A B C → Point
-  point x = point_of x.machine (records x.third) (faults x.third)
+  point x = point_of x.machine (shelf x.third)
 
   abbrev pub Runs : Borrowed ReplayState A B C → List ℕ → Borrowed ReplayState A B C → List (List ℕ) → Type 0
   Runs old text new pieces = ReplayRuns (point old) text (point new) pieces
@@ -110,21 +111,21 @@ module _ {A B C : Type 0} (records : C → Option (List (List ℕ))) (faults : C
 
   pub replay_ran : (key : List ℕ) (status : Status) (left left' : Option (List ℕ)) (old new : Borrowed ReplayState A B C) (sink sink' : Option (List ℕ))
       → HasRun status (fault_by replay_at) Runs StopsAt Ends left left' old new sink sink' → old.machine ≡ first_replay key
-      → ReplayRan status key left left' (records old.third) (records new.third) (faults old.third) (faults new.third) sink sink'
+      → ReplayRan status key left left' (shelf old.third) (shelf new.third) sink sink'
   replay_ran key status left left' old new sink sink' h start = record {
     point = point new;
     told = subst (λ (r : ReplayState). LinesTold status replay_at LineRan PartRan transcript_text IsTable left left'
-        (point_of r (records old.third) (faults old.third)) (point new) sink sink') start (told status left left' old new sink sink' h);
+        (point_of r (shelf old.third)) (point new) sink sink') start (told status left left' old new sink sink' h);
     records_are = refl;
     faults_are = refl;
   }
 
 -- no memory for the host
-pub no_host : (key : List ℕ) (left : Option (List ℕ)) (records : Option (List (List ℕ))) (faults : ℕ) (sink : Option (List ℕ))
-    → ReplayRan no_memory key left left records records faults faults sink sink
-no_host key left records faults sink = record {
-  point = point_of (first_replay key) records faults;
-  told = none_told replay_at LineRan PartRan transcript_text IsTable left (point_of (first_replay key) records faults) sink;
+pub no_host : (key : List ℕ) (left : Option (List ℕ)) (shelf : Shelf) (sink : Option (List ℕ))
+    → ReplayRan no_memory key left left shelf shelf sink sink
+no_host key left shelf sink = record {
+  point = point_of (first_replay key) shelf;
+  told = none_told replay_at LineRan PartRan transcript_text IsTable left (point_of (first_replay key) shelf) sink;
   records_are = refl;
   faults_are = refl;
 }
@@ -132,8 +133,8 @@ no_host key left records faults sink = record {
 -- what is told of the table are the lines of its entries
 pub is_table : (lone : ReplayState) (none table shown : List Entry) (sink out : List (List ℕ)) → none ≡ [] → sink ≡ []
     → ((records : Option (List (List ℕ))) → table ≡ none ++ table_entries (lone_of lone records)) → shown ≡ table → out ≡ sink ++ pieces_of false shown
-    → (records : Option (List (List ℕ))) (faults : ℕ) → IsTable (point_of lone records faults) out
+    → (shelf : Shelf) → IsTable (point_of lone shelf) out
 unfolding IsTable
-is_table lone none table shown sink out empty begun listed same is records faults =
-    is ∙ ap (λ (o : List (List ℕ)). o ++ pieces_of false shown) begun ∙ ap (λ (es : List Entry). pieces_of false es) (same ∙ listed records)
-    ∙ ap (λ (es : List Entry). pieces_of false (es ++ table_entries (lone_of lone records))) empty
+is_table lone none table shown sink out empty begun listed same is shelf =
+    is ∙ ap (λ (o : List (List ℕ)). o ++ pieces_of false shown) begun ∙ ap (λ (es : List Entry). pieces_of false es) (same ∙ listed shelf.records)
+    ∙ ap (λ (es : List Entry). pieces_of false (es ++ table_entries (lone_of lone shelf.records))) empty

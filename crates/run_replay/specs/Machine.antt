@@ -23,6 +23,7 @@ use Rattle.world_model.specs.State.{Machine, machine, with_texts}
 use Rattle.world_model.specs.Refusals.{IsRefused}
 use Rattle.world_model.specs.Events.{shown_values}
 use Rattle.world_model.specs.Did.{is_keeper_fault}
+use Rattle.host_keep.specs.Keeping.{Shelf}
 
 -- ---- states
 
@@ -158,8 +159,8 @@ pub record Scene : Type 0 where
   pub entries : List Entry
   pub faults : ℕ
 
-abbrev pub scene : ReplayState → Option (List (List ℕ)) → List Entry → ℕ → Scene
-scene r records entries faults = record { lone = lone_of r records; entries = entries; faults = faults }
+abbrev pub scene : ReplayState → Shelf → List Entry → Scene
+scene r shelf entries = record { lone = lone_of r shelf.records; entries = entries; faults = shelf.faults }
 
 -- These events were done, and entered. The keeper's count of faults never falls, and rose for each thing that was not done, since the keeper failed.
 pub record Run (events : List Event) (old new : Scene) : Type 0 where

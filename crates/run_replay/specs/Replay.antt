@@ -14,6 +14,7 @@ use Rattle.run_lines.specs.Pieces.{pieces_of, said_text}
 use Rattle.run_lines.specs.Lines.{TextLine, DoesText, StopsText, LinesTold}
 use Rattle.run_replay.specs.Machine.{Lone, ReplayState, Scene, Does, Stops, first_replay, lone_of}
 use Rattle.run_replay.specs.Lines.{IsLine}
+use Rattle.host_keep.specs.Keeping.{Shelf}
 
 -- ---- the final table: the clock; then for each joined node, in order, its sessions and its values
 
@@ -30,8 +31,8 @@ pub record Point : Type 0 where
   pub lone : Lone
   pub faults : ℕ
 
-abbrev pub point_of : ReplayState → Option (List (List ℕ)) → ℕ → Point
-point_of r records faults = record { lone = lone_of r records; faults = faults }
+abbrev pub point_of : ReplayState → Shelf → Point
+point_of r shelf = record { lone = lone_of r shelf.records; faults = shelf.faults }
 
 -- with the entries so far
 abbrev pub at : Point → List Entry → Scene
@@ -75,9 +76,9 @@ ReplayStops old text new pieces = StopsText PartRan (pieces_of false) text (repl
 
 -- Lines of an input were run on a host at its beginning, with this keeper, up to what is left of both; what is written is the text of
 -- their transcript, and the last lines that the status adds, or a prefix of it.
-pub record ReplayRan (status : Status) (key : List ℕ) (left left' : Option (List ℕ)) (records records' : Option (List (List ℕ))) (faults faults' : ℕ)
+pub record ReplayRan (status : Status) (key : List ℕ) (left left' : Option (List ℕ)) (shelf shelf' : Shelf)
     (sink sink' : Option (List ℕ)) : Type 0 where
   pub point : Point
-  pub told : LinesTold status replay_at LineRan PartRan transcript_text IsTable left left' (point_of (first_replay key) records faults) point sink sink'
-  pub records_are : point.lone.records ≡ records'
-  pub faults_are : point.faults ≡ faults'
+  pub told : LinesTold status replay_at LineRan PartRan transcript_text IsTable left left' (point_of (first_replay key) shelf) point sink sink'
+  pub records_are : point.lone.records ≡ shelf'.records
+  pub faults_are : point.faults ≡ shelf'.faults

@@ -6,6 +6,7 @@ ghost use Rattle.zw_text.specs.declared.line.Line.TheVariants.{Tick as tick_line
 ghost use Rattle.zw_text.specs.declared.line.ReplayLine.TheVariants.{Plain};
 ghost use Rattle.run_replay.specs.Machine.{Does, Stops, scene};
 ghost use Rattle.run_replay.specs.Lines.{IsEffect, IsReplayed};
+ghost use Rattle.host_core.specs.Calls.{shelf_of};
 
 use crate::refusals::{refuse, refuse_cancel, unless_refused};
 use crate::replay::Replay;
@@ -24,10 +25,10 @@ impl Replay {
     ) -> Result<(), NoMemory>
         requires replayed { IsReplayed (Plain line.now) }
         requires no_tick { (count : ℕ) → line.now ≡ tick_line count → ⊥ }
-        ensures ok { OnOk result (Does (IsEffect line.now) (scene self.old (P.records keeper.old) out.old.items (P.faults keeper.old))
-            (scene self.new (P.records keeper.new) out.new.items (P.faults keeper.new))) }
-        ensures err { OnErr result (Stops (scene self.old (P.records keeper.old) out.old.items (P.faults keeper.old))
-            (scene self.new (P.records keeper.new) out.new.items (P.faults keeper.new))) }
+        ensures ok { OnOk result (Does (IsEffect line.now) (scene self.old (P.shelf keeper.old) out.old.items)
+            (scene self.new (P.shelf keeper.new) out.new.items)) }
+        ensures err { OnErr result (Stops (scene self.old (P.shelf keeper.old) out.old.items)
+            (scene self.new (P.shelf keeper.new) out.new.items)) }
     {
         match line {
             Line::Command { order } => self.command(order, keeper, out),
@@ -52,10 +53,10 @@ impl Replay {
         out: &mut List<Entry>,
     ) -> Result<(), NoMemory>
         ensures ok { OnOk result (Does (IsEffect (line.Command order.now))
-            (scene self.old (P.records keeper.old) out.old.items (P.faults keeper.old))
-            (scene self.new (P.records keeper.new) out.new.items (P.faults keeper.new))) }
-        ensures err { OnErr result (Stops (scene self.old (P.records keeper.old) out.old.items (P.faults keeper.old))
-            (scene self.new (P.records keeper.new) out.new.items (P.faults keeper.new))) }
+            (scene self.old (P.shelf keeper.old) out.old.items)
+            (scene self.new (P.shelf keeper.new) out.new.items)) }
+        ensures err { OnErr result (Stops (scene self.old (P.shelf keeper.old) out.old.items)
+            (scene self.new (P.shelf keeper.new) out.new.items)) }
     {
         let command = match self.host.command(order, keeper) {
             Ok(command) => command,
@@ -70,7 +71,7 @@ impl Replay {
     // A Set that is not reported is asked for.
     fn send(&mut self, node: NodeId, word: Word, out: &mut List<Entry>) -> Result<(), NoMemory>
         ensures ok { OnOk result ((records : Option (Items (Items ℕ))) (faults : ℕ) →
-            Does (IsEffect (line.Send node word)) (scene self.old records out.old.items faults) (scene self.new records out.new.items faults)) }
+            Does (IsEffect (line.Send node word)) (scene self.old (shelf_of records faults) out.old.items) (scene self.new (shelf_of records faults) out.new.items)) }
         ensures err { OnErr result (out.new.items ≡ out.old.items) }
     {
         let answer = self.host.send(node, word);
@@ -80,7 +81,7 @@ impl Replay {
     // A Get is asked for.
     fn get(&mut self, node: NodeId, end: EndPoint, out: &mut List<Entry>) -> Result<(), NoMemory>
         ensures ok { OnOk result ((records : Option (Items (Items ℕ))) (faults : ℕ) →
-            Does (IsEffect (line.Get node end)) (scene self.old records out.old.items faults) (scene self.new records out.new.items faults)) }
+            Does (IsEffect (line.Get node end)) (scene self.old (shelf_of records faults) out.old.items) (scene self.new (shelf_of records faults) out.new.items)) }
         ensures err { OnErr result (out.new.items ≡ out.old.items) }
     {
         let answer = self.host.get(node, end);
@@ -90,7 +91,7 @@ impl Replay {
     // An interview is asked for.
     fn interview(&mut self, node: NodeId, out: &mut List<Entry>) -> Result<(), NoMemory>
         ensures ok { OnOk result ((records : Option (Items (Items ℕ))) (faults : ℕ) →
-            Does (IsEffect (line.Interview node)) (scene self.old records out.old.items faults) (scene self.new records out.new.items faults)) }
+            Does (IsEffect (line.Interview node)) (scene self.old (shelf_of records faults) out.old.items) (scene self.new (shelf_of records faults) out.new.items)) }
         ensures err { OnErr result (out.new.items ≡ out.old.items) }
     {
         let answer = self.host.interview(node);
@@ -100,7 +101,7 @@ impl Replay {
     // Which nodes hear a node is asked for.
     fn neighbours(&mut self, node: NodeId, out: &mut List<Entry>) -> Result<(), NoMemory>
         ensures ok { OnOk result ((records : Option (Items (Items ℕ))) (faults : ℕ) →
-            Does (IsEffect (line.Neighbours node)) (scene self.old records out.old.items faults) (scene self.new records out.new.items faults)) }
+            Does (IsEffect (line.Neighbours node)) (scene self.old (shelf_of records faults) out.old.items) (scene self.new (shelf_of records faults) out.new.items)) }
         ensures err { OnErr result (out.new.items ≡ out.old.items) }
     {
         let answer = self.host.ask(Question::Neighbours(node));
@@ -110,7 +111,7 @@ impl Replay {
     // Whether the chip counts a node as failed is asked for.
     fn failed(&mut self, node: NodeId, out: &mut List<Entry>) -> Result<(), NoMemory>
         ensures ok { OnOk result ((records : Option (Items (Items ℕ))) (faults : ℕ) →
-            Does (IsEffect (line.Failed node)) (scene self.old records out.old.items faults) (scene self.new records out.new.items faults)) }
+            Does (IsEffect (line.Failed node)) (scene self.old (shelf_of records faults) out.old.items) (scene self.new (shelf_of records faults) out.new.items)) }
         ensures err { OnErr result (out.new.items ≡ out.old.items) }
     {
         let answer = self.host.ask(Question::Failed(node));
@@ -120,7 +121,7 @@ impl Replay {
     // Version, home and functions of the chip are asked for.
     fn probe(&mut self, out: &mut List<Entry>) -> Result<(), NoMemory>
         ensures ok { OnOk result ((records : Option (Items (Items ℕ))) (faults : ℕ) →
-            Does (IsEffect line.Probe) (scene self.old records out.old.items faults) (scene self.new records out.new.items faults)) }
+            Does (IsEffect line.Probe) (scene self.old (shelf_of records faults) out.old.items) (scene self.new (shelf_of records faults) out.new.items)) }
         ensures err { OnErr result (out.new.items ≡ out.old.items) }
     {
         let answer = self.host.ask(Question::Probe);
@@ -135,10 +136,10 @@ impl Replay {
         out: &mut List<Entry>,
     ) -> Result<(), NoMemory>
         ensures ok { OnOk result (Does (IsEffect (line.Join node))
-            (scene self.old (P.records keeper.old) out.old.items (P.faults keeper.old))
-            (scene self.new (P.records keeper.new) out.new.items (P.faults keeper.new))) }
-        ensures err { OnErr result (Stops (scene self.old (P.records keeper.old) out.old.items (P.faults keeper.old))
-            (scene self.new (P.records keeper.new) out.new.items (P.faults keeper.new))) }
+            (scene self.old (P.shelf keeper.old) out.old.items)
+            (scene self.new (P.shelf keeper.new) out.new.items)) }
+        ensures err { OnErr result (Stops (scene self.old (P.shelf keeper.old) out.old.items)
+            (scene self.new (P.shelf keeper.new) out.new.items)) }
     {
         if let Err(refused) = self.host.join(node, keeper) {
             return refuse(refused, out);
@@ -154,10 +155,10 @@ impl Replay {
         out: &mut List<Entry>,
     ) -> Result<(), NoMemory>
         ensures ok { OnOk result (Does (IsEffect (line.Cancel command))
-            (scene self.old (P.records keeper.old) out.old.items (P.faults keeper.old))
-            (scene self.new (P.records keeper.new) out.new.items (P.faults keeper.new))) }
-        ensures err { OnErr result (Stops (scene self.old (P.records keeper.old) out.old.items (P.faults keeper.old))
-            (scene self.new (P.records keeper.new) out.new.items (P.faults keeper.new))) }
+            (scene self.old (P.shelf keeper.old) out.old.items)
+            (scene self.new (P.shelf keeper.new) out.new.items)) }
+        ensures err { OnErr result (Stops (scene self.old (P.shelf keeper.old) out.old.items)
+            (scene self.new (P.shelf keeper.new) out.new.items)) }
     {
         if let Err(fault) = self.host.cancel(command, keeper) {
             return refuse_cancel(command, fault, out);
@@ -171,7 +172,7 @@ impl Replay {
     // The stored values of a node are shown.
     fn store(&mut self, node: NodeId, out: &mut List<Entry>) -> Result<(), NoMemory>
         ensures ok { OnOk result ((records : Option (Items (Items ℕ))) (faults : ℕ) →
-            Does (IsEffect (line.Store node)) (scene self.old records out.old.items faults) (scene self.new records out.new.items faults)) }
+            Does (IsEffect (line.Store node)) (scene self.old (shelf_of records faults) out.old.items) (scene self.new (shelf_of records faults) out.new.items)) }
         ensures err { OnErr result (out.new.items ≡ out.old.items) }
     {
         let text = self.host.json(self.alloc, node)?;

@@ -49,13 +49,13 @@ impl<D: Draw, P: Keeper> Machine<(), D, P> for ReplayMachine {
 
     ghost refuses = { fault_by replay_at };
 
-    ghost runs = { λ old text new pieces. ReplayRuns (point_of old.machine (P.records old.third) (P.faults old.third)) text
-        (point_of new.machine (P.records new.third) (P.faults new.third)) pieces };
+    ghost runs = { λ old text new pieces. ReplayRuns (point_of old.machine (P.shelf old.third)) text
+        (point_of new.machine (P.shelf new.third)) pieces };
 
-    ghost stops = { λ old text new pieces. ReplayStops (point_of old.machine (P.records old.third) (P.faults old.third)) text
-        (point_of new.machine (P.records new.third) (P.faults new.third)) pieces };
+    ghost stops = { λ old text new pieces. ReplayStops (point_of old.machine (P.shelf old.third)) text
+        (point_of new.machine (P.shelf new.third)) pieces };
 
-    ghost ends = { λ last pieces. IsTable (point_of last.machine (P.records last.third) (P.faults last.third)) pieces };
+    ghost ends = { λ last pieces. IsTable (point_of last.machine (P.shelf last.third)) pieces };
 
     fn run_line(
         &mut self,
@@ -100,10 +100,10 @@ impl ReplayMachine {
     ) -> Result<(), NoMemory>
         requires replayed { IsReplayed line.now }
         requires empty { out.old.items ≡ [] }
-        ensures ok { OnOk result (AnswersLine text.now line.now (point_of self.old (P.records keeper.old) (P.faults keeper.old))
-            (point_of self.new (P.records keeper.new) (P.faults keeper.new)) out.new.items) }
-        ensures err { OnErr result (StopsLine text.now line.now (point_of self.old (P.records keeper.old) (P.faults keeper.old))
-            (point_of self.new (P.records keeper.new) (P.faults keeper.new)) out.new.items) }
+        ensures ok { OnOk result (AnswersLine text.now line.now (point_of self.old (P.shelf keeper.old))
+            (point_of self.new (P.shelf keeper.new)) out.new.items) }
+        ensures err { OnErr result (StopsLine text.now line.now (point_of self.old (P.shelf keeper.old))
+            (point_of self.new (P.shelf keeper.new)) out.new.items) }
     {
         let mut entries = List::new(self.alloc);
         entries.push(said_entry(self.alloc, text)?)?;

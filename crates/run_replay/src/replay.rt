@@ -54,10 +54,10 @@ impl Replay {
         out: &mut List<Entry>,
     ) -> Result<(), NoMemory>
         requires { IsReplayed line.now }
-        ensures ok { OnOk result (Does (IsLine line.now) (scene self.old (P.records keeper.old) out.old.items (P.faults keeper.old))
-            (scene self.new (P.records keeper.new) out.new.items (P.faults keeper.new))) }
-        ensures err { OnErr result (Stops (scene self.old (P.records keeper.old) out.old.items (P.faults keeper.old))
-            (scene self.new (P.records keeper.new) out.new.items (P.faults keeper.new))) }
+        ensures ok { OnOk result (Does (IsLine line.now) (scene self.old (P.shelf keeper.old) out.old.items)
+            (scene self.new (P.shelf keeper.new) out.new.items)) }
+        ensures err { OnErr result (Stops (scene self.old (P.shelf keeper.old) out.old.items)
+            (scene self.new (P.shelf keeper.new) out.new.items)) }
     {
         match line {
             ReplayLine::Plain { line } => self.plain(line, draw, keeper, out),
@@ -77,10 +77,10 @@ impl Replay {
         out: &mut List<Entry>,
     ) -> Result<(), NoMemory>
         requires { IsReplayed (plain line.now) }
-        ensures ok { OnOk result (Does (IsPlain line.now) (scene self.old (P.records keeper.old) out.old.items (P.faults keeper.old))
-            (scene self.new (P.records keeper.new) out.new.items (P.faults keeper.new))) }
-        ensures err { OnErr result (Stops (scene self.old (P.records keeper.old) out.old.items (P.faults keeper.old))
-            (scene self.new (P.records keeper.new) out.new.items (P.faults keeper.new))) }
+        ensures ok { OnOk result (Does (IsPlain line.now) (scene self.old (P.shelf keeper.old) out.old.items)
+            (scene self.new (P.shelf keeper.new) out.new.items)) }
+        ensures err { OnErr result (Stops (scene self.old (P.shelf keeper.old) out.old.items)
+            (scene self.new (P.shelf keeper.new) out.new.items)) }
     {
         if let Line::Tick { count } = line {
             return self.ticks(*count, draw, keeper, out);
@@ -97,10 +97,10 @@ impl Replay {
         keeper: &mut P,
         out: &mut List<Entry>,
     ) -> Result<(), NoMemory>
-        ensures ok { OnOk result (Does (AreTicks count) (scene self.old (P.records keeper.old) out.old.items (P.faults keeper.old))
-            (scene self.new (P.records keeper.new) out.new.items (P.faults keeper.new))) }
-        ensures err { OnErr result (Stops (scene self.old (P.records keeper.old) out.old.items (P.faults keeper.old))
-            (scene self.new (P.records keeper.new) out.new.items (P.faults keeper.new))) }
+        ensures ok { OnOk result (Does (AreTicks count) (scene self.old (P.shelf keeper.old) out.old.items)
+            (scene self.new (P.shelf keeper.new) out.new.items)) }
+        ensures err { OnErr result (Stops (scene self.old (P.shelf keeper.old) out.old.items)
+            (scene self.new (P.shelf keeper.new) out.new.items)) }
     {
         for _ in 0..count {
             self.tick(draw, keeper, out)?;
@@ -115,10 +115,10 @@ impl Replay {
         keeper: &mut P,
         out: &mut List<Entry>,
     ) -> Result<(), NoMemory>
-        ensures ok { OnOk result (Does IsTick (scene self.old (P.records keeper.old) out.old.items (P.faults keeper.old))
-            (scene self.new (P.records keeper.new) out.new.items (P.faults keeper.new))) }
-        ensures err { OnErr result (Stops (scene self.old (P.records keeper.old) out.old.items (P.faults keeper.old))
-            (scene self.new (P.records keeper.new) out.new.items (P.faults keeper.new))) }
+        ensures ok { OnOk result (Does IsTick (scene self.old (P.shelf keeper.old) out.old.items)
+            (scene self.new (P.shelf keeper.new) out.new.items)) }
+        ensures err { OnErr result (Stops (scene self.old (P.shelf keeper.old) out.old.items)
+            (scene self.new (P.shelf keeper.new) out.new.items)) }
     {
         let clock = after_clock(self.clock)?;
         let mut outs = List::new(self.alloc);
@@ -136,10 +136,10 @@ impl Replay {
         keeper: &mut P,
         out: &mut List<Entry>,
     ) -> Result<(), NoMemory>
-        ensures ok { OnOk result (Does (IsTaking bytes.now) (scene self.old (P.records keeper.old) out.old.items (P.faults keeper.old))
-            (scene self.new (P.records keeper.new) out.new.items (P.faults keeper.new))) }
-        ensures err { OnErr result (Stops (scene self.old (P.records keeper.old) out.old.items (P.faults keeper.old))
-            (scene self.new (P.records keeper.new) out.new.items (P.faults keeper.new))) }
+        ensures ok { OnOk result (Does (IsTaking bytes.now) (scene self.old (P.shelf keeper.old) out.old.items)
+            (scene self.new (P.shelf keeper.new) out.new.items)) }
+        ensures err { OnErr result (Stops (scene self.old (P.shelf keeper.old) out.old.items)
+            (scene self.new (P.shelf keeper.new) out.new.items)) }
     {
         let mut outs = List::new(self.alloc);
         self.host.feed(bytes, draw, &mut outs, keeper)?;
@@ -153,10 +153,10 @@ impl Replay {
         keeper: &mut P,
         out: &mut List<Entry>,
     ) -> Result<(), NoMemory>
-        ensures ok { OnOk result (Does IsPump (scene self.old (P.records keeper.old) out.old.items (P.faults keeper.old))
-            (scene self.new (P.records keeper.new) out.new.items (P.faults keeper.new))) }
-        ensures err { OnErr result (Stops (scene self.old (P.records keeper.old) out.old.items (P.faults keeper.old))
-            (scene self.new (P.records keeper.new) out.new.items (P.faults keeper.new))) }
+        ensures ok { OnOk result (Does IsPump (scene self.old (P.shelf keeper.old) out.old.items)
+            (scene self.new (P.shelf keeper.new) out.new.items)) }
+        ensures err { OnErr result (Stops (scene self.old (P.shelf keeper.old) out.old.items)
+            (scene self.new (P.shelf keeper.new) out.new.items)) }
     {
         let mut outs = List::new(self.alloc);
         self.host.pump(draw, &mut outs, keeper)?;

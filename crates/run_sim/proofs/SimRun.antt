@@ -30,6 +30,7 @@ use Rattle.run_lines.specs.Lines.{TextLine, DoesText, StopsText, LinesTold, faul
 use Rattle.run_lines.proofs.Shown.{pieces-append, pieces_text}
 use Rattle.run_lines.proofs.ToldLines.{lines_told, none_told}
 use Rattle.run_sim.specs.Sim.{Point, SimRan, SimRuns, SimStops, LineRan, PartRan, IsTable, AnswersLine, StopsLine, at, point_of, said, shown_text}
+use Rattle.host_keep.specs.Keeping.{Shelf}
 
 -- ---- one text
 
@@ -117,11 +118,11 @@ module _ (quiet : Bool) (text : List ℕ) (line : Line) (old new : Point) (first
 pub is_table : (world : WorldState) (devices : List State) (none table shown : List Entry) (sink out : List (List ℕ)) → none ≡ [] → sink ≡ []
     → ((records : Option (List (List ℕ))) → table ≡ none ++ table_entries (machine_of world devices records)) → shown ≡ table → AllByRecursion EntryFits shown
     → out ≡ sink ++ pieces_of false shown
-    → (records : Option (List (List ℕ))) (faults number reads : ℕ) → IsTable (point_of world devices records faults number reads) out
+    → (shelf : Shelf) (number reads : ℕ) → IsTable (point_of world devices shelf number reads) out
 unfolding IsTable
-is_table world devices none table shown sink out empty begun listed same fits is records faults number reads =
-    let are : shown ≡ table_entries (machine_of world devices records) =
-    same ∙ listed records ∙ ap (λ (es : List Entry). es ++ table_entries (machine_of world devices records)) empty in (
+is_table world devices none table shown sink out empty begun listed same fits is shelf number reads =
+    let are : shown ≡ table_entries (machine_of world devices shelf.records) =
+    same ∙ listed shelf.records ∙ ap (λ (es : List Entry). es ++ table_entries (machine_of world devices shelf.records)) empty in (
       is ∙ ap (λ (o : List (List ℕ)). o ++ pieces_of false shown) begun ∙ ap (λ (es : List Entry). pieces_of false es) are,
       subst (λ (es : List Entry). AllByRecursion EntryFits es) are fits,
     )
@@ -150,14 +151,14 @@ told quiet status left left' old new sink sink' h =
     refl (pieces-append quiet) (pieces_text quiet) (λ x words y out is r. (tt, r)) (λ x words y out is r. r) (λ x out e. e) status left left' old new sink sink' h tt
 
 module _ (quiet : Bool) (key : List ℕ) (status : Status) (left left' : Option (List ℕ)) (world world' : WorldState) (before after : List State)
-    (records records' : Option (List (List ℕ))) (faults faults' number number' reads reads' : ℕ) (sink sink' : Option (List ℕ)) where
-  pub sim_ran : HasRun status (fault_by line_at) (SimRuns quiet) (SimStops quiet) IsTable left left' (point_of world before records faults number reads) (point_of world' after records' faults' number' reads') sink sink'
-      → world ≡ first_world key → SimRan status quiet key left left' before after records records' faults faults' number number' reads reads' sink sink'
+    (shelf shelf' : Shelf) (number number' reads reads' : ℕ) (sink sink' : Option (List ℕ)) where
+  pub sim_ran : HasRun status (fault_by line_at) (SimRuns quiet) (SimStops quiet) IsTable left left' (point_of world before shelf number reads) (point_of world' after shelf' number' reads') sink sink'
+      → world ≡ first_world key → SimRan status quiet key left left' before after shelf shelf' number number' reads reads' sink sink'
   sim_ran h start = record {
-    point = point_of world' after records' faults' number' reads';
+    point = point_of world' after shelf' number' reads';
     told = subst (λ (w : WorldState). LinesTold status line_at LineRan PartRan (shown_text quiet) IsTable left left'
-        (point_of w before records faults number reads) (point_of world' after records' faults' number' reads') sink sink') start
-        (told quiet status left left' (point_of world before records faults number reads) (point_of world' after records' faults' number' reads') sink sink' h);
+        (point_of w before shelf number reads) (point_of world' after shelf' number' reads') sink sink') start
+        (told quiet status left left' (point_of world before shelf number reads) (point_of world' after shelf' number' reads') sink sink' h);
     devices = refl;
     records_are = refl;
     faults_are = refl;
@@ -166,11 +167,11 @@ module _ (quiet : Bool) (key : List ℕ) (status : Status) (left left' : Option 
   }
 
 -- no memory for the world
-pub no_world : (quiet : Bool) (key : List ℕ) (left : Option (List ℕ)) (devices : List State) (records : Option (List (List ℕ))) (faults number reads : ℕ) (sink : Option (List ℕ))
-    → SimRan no_memory quiet key left left devices devices records records faults faults number number reads reads sink sink
-no_world quiet key left devices records faults number reads sink = record {
-  point = point_of (first_world key) devices records faults number reads;
-  told = none_told line_at LineRan PartRan (shown_text quiet) IsTable left (point_of (first_world key) devices records faults number reads) sink;
+pub no_world : (quiet : Bool) (key : List ℕ) (left : Option (List ℕ)) (devices : List State) (shelf : Shelf) (number reads : ℕ) (sink : Option (List ℕ))
+    → SimRan no_memory quiet key left left devices devices shelf shelf number number reads reads sink sink
+no_world quiet key left devices shelf number reads sink = record {
+  point = point_of (first_world key) devices shelf number reads;
+  told = none_told line_at LineRan PartRan (shown_text quiet) IsTable left (point_of (first_world key) devices shelf number reads) sink;
   devices = refl;
   records_are = refl;
   faults_are = refl;

@@ -18,6 +18,7 @@ use Rattle.zw_world.specs.Keeping.{GoesOn, KeepsOrRefuses}
 use Rattle.run_lines.specs.declared.status.Status.{Status}
 use Rattle.run_lines.specs.Pieces.{pieces_of, said_text, shown_of}
 use Rattle.run_lines.specs.Lines.{TextLine, DoesText, StopsText, LinesTold}
+use Rattle.host_keep.specs.Keeping.{Shelf}
 
 -- ---- states
 
@@ -29,8 +30,8 @@ pub record Point : Type 0 where
   pub reads : ℕ
 
 -- a world with devices, and what its keeper holds
-abbrev pub point_of : WorldState → List State → Option (List (List ℕ)) → ℕ → ℕ → ℕ → Point
-point_of world devices records faults number reads = record { machine = machine_of world devices records; faults = faults; number = number; reads = reads }
+abbrev pub point_of : WorldState → List State → Shelf → ℕ → ℕ → Point
+point_of world devices shelf number reads = record { machine = machine_of world devices shelf.records; faults = shelf.faults; number = number; reads = reads }
 
 -- with the entries so far
 abbrev pub at : Point → List Entry → Scene
@@ -84,12 +85,12 @@ shown_text quiet transcript = transcript_text (shown_of quiet transcript)
 -- Lines of an input were run from a world at its beginning, with these devices and this keeper, up to what is left of both; what is
 -- written is the text of their transcript, and the last lines that the status adds, or a prefix of it.
 pub record SimRan (status : Status) (quiet : Bool) (key : List ℕ) (left left' : Option (List ℕ)) (before after : List State)
-    (records records' : Option (List (List ℕ))) (faults faults' number number' reads reads' : ℕ) (sink sink' : Option (List ℕ)) : Type 0 where
+    (shelf shelf' : Shelf) (number number' reads reads' : ℕ) (sink sink' : Option (List ℕ)) : Type 0 where
   pub point : Point
   pub told : LinesTold status line_at LineRan PartRan (shown_text quiet) IsTable left left'
-      (point_of (first_world key) before records faults number reads) point sink sink'
+      (point_of (first_world key) before shelf number reads) point sink sink'
   pub devices : point.machine.outside.devices ≡ after
-  pub records_are : point.machine.records ≡ records'
-  pub faults_are : point.faults ≡ faults'
+  pub records_are : point.machine.records ≡ shelf'.records
+  pub faults_are : point.faults ≡ shelf'.faults
   pub number_is : point.number ≡ number'
   pub reads_are : point.reads ≡ reads'

@@ -30,9 +30,9 @@ pub(crate) fn run_lines<S: Source, K: Sink, D: Draw, P: Keeper>(
 ) -> LinesEnd
     requires few { length devices.old.items < 2 ^ 64 }
     ensures ran { LinesRan result (fault_by line_at) (SimRuns simulation.old.quiet) (SimStops simulation.old.quiet) (S.left source.old) (S.left source.new)
-        (point_of simulation.old.world (map (λ d. state d) devices.old.items) (P.records keeper.old) (P.faults keeper.old)
+        (point_of simulation.old.world (map (λ d. state d) devices.old.items) (P.shelf keeper.old)
         (P.number keeper.old) (P.reads keeper.old))
-        (point_of simulation.new.world (map (λ d. state d) devices.new.items) (P.records keeper.new) (P.faults keeper.new)
+        (point_of simulation.new.world (map (λ d. state d) devices.new.items) (P.shelf keeper.new)
         (P.number keeper.new) (P.reads keeper.new))
         (K.written sink.old) (K.written sink.new) }
     ensures kept { length devices.new.items ≡ length devices.old.items }
@@ -78,15 +78,15 @@ fn run_text<K: Sink, D: Draw, P: Keeper>(
     requires empty { pieces.old.items ≡ [] }
     ensures is_line { OnOk result (fault_by line_at text.now ≡ None) }
     ensures ok { OnOk result (TextRan (SimRuns simulation.old.quiet)
-        (point_of simulation.old.world (map (λ d. state d) devices.old.items) (P.records keeper.old) (P.faults keeper.old)
+        (point_of simulation.old.world (map (λ d. state d) devices.old.items) (P.shelf keeper.old)
         (P.number keeper.old) (P.reads keeper.old)) text.now
-        (point_of simulation.new.world (map (λ d. state d) devices.new.items) (P.records keeper.new) (P.faults keeper.new)
+        (point_of simulation.new.world (map (λ d. state d) devices.new.items) (P.shelf keeper.new)
         (P.number keeper.new) (P.reads keeper.new))
         (Appends (K.written sink.old) (K.written sink.new))) }
     ensures err { IfErr result (λ fault. TextFails fault (SimRuns simulation.old.quiet) (SimStops simulation.old.quiet) (fault_by line_at text.now)
-        (point_of simulation.old.world (map (λ d. state d) devices.old.items) (P.records keeper.old) (P.faults keeper.old)
+        (point_of simulation.old.world (map (λ d. state d) devices.old.items) (P.shelf keeper.old)
         (P.number keeper.old) (P.reads keeper.old)) text.now
-        (point_of simulation.new.world (map (λ d. state d) devices.new.items) (P.records keeper.new) (P.faults keeper.new)
+        (point_of simulation.new.world (map (λ d. state d) devices.new.items) (P.shelf keeper.new)
         (P.number keeper.new) (P.reads keeper.new))
         (K.written sink.old) (K.written sink.new)) }
     ensures quiet { simulation.new.quiet ≡ simulation.old.quiet }

@@ -1,12 +1,13 @@
 //! `sim`: a scenario, line by line.
 
-ghost use Rattle.std.specs.Prelude.{◌≡◌, ◌<◌, ◌≤◌, ◌^◌, length, map, List as Items, Option, ℕ};
+ghost use Rattle.std.specs.Prelude.{◌≡◌, ◌<◌, ◌≤◌, ◌^◌, length, map, ℕ};
 ghost use Rattle.zw_base.specs.Faults.{Rose};
 ghost use Rattle.zw_text.specs.Line.{line_at};
 ghost use Rattle.run_lines.specs.Complete.{HasGoodInput, IsDone};
 ghost use Rattle.run_lines.specs.Run.{ClosesWell, HasRun};
 ghost use Rattle.run_lines.specs.Lines.{fault_by};
 ghost use Rattle.run_sim.specs.Sim.{point_of, SimRan, SimRuns, SimStops, IsTable};
+ghost use Rattle.host_keep.specs.Keeping.{Shelf};
 
 use crate::running::run_lines;
 use crate::simulation::Simulation;
@@ -31,7 +32,7 @@ pub fn run_sim<S: Source, K: Sink, D: Draw, P: Keeper>(
 ) -> Status
     requires { length devices.old.items < 2 ^ 64 }
     ensures ran { SimRan result quiet key (S.left source.old) (S.left source.new) (map (λ d. state d) devices.old.items)
-        (map (λ d. state d) devices.new.items) (P.records keeper.old) (P.records keeper.new) (P.faults keeper.old) (P.faults keeper.new)
+        (map (λ d. state d) devices.new.items) (P.shelf keeper.old) (P.shelf keeper.new)
         (P.number keeper.old) (P.number keeper.new) (P.reads keeper.old) (P.reads keeper.new) (K.written sink.old) (K.written sink.new) }
     ensures few { length devices.new.items < 2 ^ 64 }
     ensures source_never_falls { S.faults source.old ≤ S.faults source.new }
@@ -64,9 +65,9 @@ fn run_to_status<S: Source, K: Sink, D: Draw, P: Keeper>(
     requires few { length devices.old.items < 2 ^ 64 }
     ensures ran { HasRun result (fault_by line_at) (SimRuns simulation.old.quiet) (SimStops simulation.old.quiet) IsTable
         (S.left source.old) (S.left source.new)
-        (point_of simulation.old.world (map (λ d. state d) devices.old.items) (P.records keeper.old) (P.faults keeper.old)
+        (point_of simulation.old.world (map (λ d. state d) devices.old.items) (P.shelf keeper.old)
         (P.number keeper.old) (P.reads keeper.old))
-        (point_of simulation.new.world (map (λ d. state d) devices.new.items) (P.records keeper.new) (P.faults keeper.new)
+        (point_of simulation.new.world (map (λ d. state d) devices.new.items) (P.shelf keeper.new)
         (P.number keeper.new) (P.reads keeper.new))
         (K.written sink.old) (K.written sink.new) }
     ensures kept { length devices.new.items ≡ length devices.old.items }
@@ -92,8 +93,8 @@ fn end_well<K: Sink>(
     devices: &Vec<Box<dyn Device>>,
 ) -> Status
     requires few { length devices.now.items < 2 ^ 64 }
-    ensures closes { (records : Option (Items (Items ℕ))) (faults number reads : ℕ) → ClosesWell IsTable result
-        (point_of simulation.now.world (map (λ d. state d) devices.now.items) records faults number reads) (K.written sink.old) (K.written sink.new) }
+    ensures closes { (shelf : Shelf) (number reads : ℕ) → ClosesWell IsTable result
+        (point_of simulation.now.world (map (λ d. state d) devices.now.items) shelf number reads) (K.written sink.old) (K.written sink.new) }
     ensures never_falls { K.faults sink.old ≤ K.faults sink.new }
     ensures failed { result ≡ Status.WriteFault → Rose (K.faults sink.old) (K.faults sink.new) }
     ensures no_read { result ≡ Status.ReadFault → ⊥ }

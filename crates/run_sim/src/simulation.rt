@@ -1,10 +1,11 @@
 //! The world, as it runs the texts of lines.
 
-ghost use Rattle.std.specs.Prelude.{◌≡◌, ◌<◌, ◌^◌, [], length, map, List as Items, Option, None, ℕ, IfErr, OnOk, OnErr};
+ghost use Rattle.std.specs.Prelude.{◌≡◌, ◌<◌, ◌^◌, [], length, map, None, ℕ, IfErr, OnOk, OnErr};
 ghost use Rattle.zw_text.specs.Line.{line_at};
 ghost use Rattle.run_lines.specs.Machine.{RefusesBy};
 ghost use Rattle.run_lines.specs.Lines.{fault_by};
 ghost use Rattle.run_sim.specs.Sim.{point_of, AnswersLine, StopsLine, SimRuns, SimStops, IsTable};
+ghost use Rattle.host_keep.specs.Keeping.{Shelf};
 
 use device_sim::Device;
 use host_keep::Keeper;
@@ -38,14 +39,14 @@ impl Simulation {
         requires empty { out.old.items ≡ [] }
         ensures is_line { OnOk result (fault_by line_at text.now ≡ None) }
         ensures ok { OnOk result (SimRuns self.old.quiet
-            (point_of self.old.world (map (λ d. state d) devices.old.items) (P.records keeper.old) (P.faults keeper.old)
+            (point_of self.old.world (map (λ d. state d) devices.old.items) (P.shelf keeper.old)
             (P.number keeper.old) (P.reads keeper.old)) text.now
-            (point_of self.new.world (map (λ d. state d) devices.new.items) (P.records keeper.new) (P.faults keeper.new)
+            (point_of self.new.world (map (λ d. state d) devices.new.items) (P.shelf keeper.new)
             (P.number keeper.new) (P.reads keeper.new)) out.new.items) }
         ensures err { IfErr result (λ fault. RefusesBy fault (SimStops self.old.quiet) (fault_by line_at text.now)
-            (point_of self.old.world (map (λ d. state d) devices.old.items) (P.records keeper.old) (P.faults keeper.old)
+            (point_of self.old.world (map (λ d. state d) devices.old.items) (P.shelf keeper.old)
             (P.number keeper.old) (P.reads keeper.old)) text.now
-            (point_of self.new.world (map (λ d. state d) devices.new.items) (P.records keeper.new) (P.faults keeper.new)
+            (point_of self.new.world (map (λ d. state d) devices.new.items) (P.shelf keeper.new)
             (P.number keeper.new) (P.reads keeper.new)) out.new.items) }
         ensures quiet { self.new.quiet ≡ self.old.quiet }
         ensures kept { length devices.new.items ≡ length devices.old.items }
@@ -73,14 +74,14 @@ impl Simulation {
         requires few { length devices.old.items < 2 ^ 64 }
         requires empty { out.old.items ≡ [] }
         ensures ok { OnOk result (AnswersLine self.old.quiet text.now line.now
-            (point_of self.old.world (map (λ d. state d) devices.old.items) (P.records keeper.old) (P.faults keeper.old)
+            (point_of self.old.world (map (λ d. state d) devices.old.items) (P.shelf keeper.old)
             (P.number keeper.old) (P.reads keeper.old))
-            (point_of self.new.world (map (λ d. state d) devices.new.items) (P.records keeper.new) (P.faults keeper.new)
+            (point_of self.new.world (map (λ d. state d) devices.new.items) (P.shelf keeper.new)
             (P.number keeper.new) (P.reads keeper.new)) out.new.items) }
         ensures err { OnErr result (StopsLine self.old.quiet text.now line.now
-            (point_of self.old.world (map (λ d. state d) devices.old.items) (P.records keeper.old) (P.faults keeper.old)
+            (point_of self.old.world (map (λ d. state d) devices.old.items) (P.shelf keeper.old)
             (P.number keeper.old) (P.reads keeper.old))
-            (point_of self.new.world (map (λ d. state d) devices.new.items) (P.records keeper.new) (P.faults keeper.new)
+            (point_of self.new.world (map (λ d. state d) devices.new.items) (P.shelf keeper.new)
             (P.number keeper.new) (P.reads keeper.new)) out.new.items) }
         ensures quiet { self.new.quiet ≡ self.old.quiet }
         ensures kept { length devices.new.items ≡ length devices.old.items }
@@ -103,8 +104,8 @@ impl Simulation {
     ) -> Result<(), NoMemory>
         requires few { length devices.now.items < 2 ^ 64 }
         requires empty { out.old.items ≡ [] }
-        ensures { OnOk result ((records : Option (Items (Items ℕ))) (faults number reads : ℕ) →
-            IsTable (point_of self.now.world (map (λ d. state d) devices.now.items) records faults number reads) out.new.items) }
+        ensures { OnOk result ((shelf : Shelf) (number reads : ℕ) →
+            IsTable (point_of self.now.world (map (λ d. state d) devices.now.items) shelf number reads) out.new.items) }
     {
         let mut entries = List::new(self.alloc);
         self.world.table(devices, &mut entries)?;

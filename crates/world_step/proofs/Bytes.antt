@@ -11,7 +11,7 @@ use Rattle.serial_pipes.specs.State.{WayState}
 use Rattle.serial_pipes.specs.Events.{Takes}
 use Rattle.serial_pipes.specs.Events as way
 use Rattle.host_model.specs.State.{HostParts}
-use Rattle.host_model.specs.Did.{Shelf}
+use Rattle.host_keep.specs.Keeping.{Shelf}
 use Rattle.host_model.specs.Taking.{Fed, FedPrefix}
 use Rattle.host_model.specs.declared.out.HostOut.{HostOut}
 use Rattle.host_model.proofs.Feeding.{fed-append, fed_prefix-append}
@@ -31,6 +31,7 @@ use Rattle.world_model.proofs.Taking.{ran_takes, stopped_takes, stopped_prefix}
 use Rattle.world_step.specs.Scene.{scene_of}
 use Rattle.world_step.specs.Moving.{are_some, ChipPart, HostPart, Moves, TakesBytes, TakesPrefix}
 use Rattle.world_step.proofs.Scenes.{did_goes_of}
+use Rattle.host_core.specs.Calls.{shelf_of}
 
 -- ---- what is left in the pipe
 
@@ -138,7 +139,7 @@ pub host_part : (keys : Keys) (h h1 : HostParts) (o o1 o' : OuterState) (ds : Li
     → 0 < length o.to_host.bytes → is_stalled o ≡ false → put ≡ []
     → TakesBytes (length o.to_host.bytes) h h1 o o1 put puts (record { records = r; faults = f }) (record { records = r'; faults = g })
     → Goes (routed puts) o1 o' before all
-    → Does (HostPart true) (scene_of keys h o ds r before f) (scene_of keys h1 o' ds r' all g)
+    → Does (HostPart true) (scene_of keys h o ds (shelf_of r f) before) (scene_of keys h1 o' ds (shelf_of r' g) all)
 host_part keys h h1 o o1 o' ds r r' put puts before all f g some moves none taken goes =
     let n : ℕ = length o.to_host.bytes in
     let fed : Fed h (take n o.to_host.bytes) h1 [] puts (record { records = r; faults = f }) (record { records = r'; faults = g }) =
@@ -159,8 +160,8 @@ idle_by false (byte ∷ bytes) none = absurd (subst So (sym (lt-ltb 0 (length (b
     So false = ⊥
 
 pub host_idle : (keys : Keys) (host : HostParts) (o : OuterState) (ds : List State) (r : Option (List (List ℕ))) (before : List Entry) (f : ℕ)
-    → (not (is_stalled o) && nat_lt 0 (length o.to_host.bytes)) ≡ false → Does (HostPart false) (scene_of keys host o ds r before f) (scene_of keys host o ds r before f)
-host_idle keys host o ds r before f none = ([], (idle_by (is_stalled o) o.to_host.bytes none, refl), ran_nothing (scene_of keys host o ds r before f))
+    → (not (is_stalled o) && nat_lt 0 (length o.to_host.bytes)) ≡ false → Does (HostPart false) (scene_of keys host o ds (shelf_of r f) before) (scene_of keys host o ds (shelf_of r f) before)
+host_idle keys host o ds r before f none = ([], (idle_by (is_stalled o) o.to_host.bytes none, refl), ran_nothing (scene_of keys host o ds (shelf_of r f) before))
 
 pub has_some : (b : Bool) (n : ℕ) → (not b && nat_lt 0 n) ≡ true → 0 < n
 has_some true n some = absurd (subst So some tt)
@@ -179,7 +180,7 @@ pub stopped_routing : (keys : Keys) (h h1 : HostParts) (o o1 o' : OuterState) (d
     → is_stalled o ≡ false → put ≡ []
     → TakesBytes (length o.to_host.bytes) h h1 o o1 put puts (record { records = r; faults = f }) (record { records = r'; faults = g })
     → all ≡ before
-    → Stops Nothing (scene_of keys h o ds r before f) (scene_of keys h1 o' ds r' all g)
+    → Stops Nothing (scene_of keys h o ds (shelf_of r f) before) (scene_of keys h1 o' ds (shelf_of r' g) all)
 stopped_routing keys h h1 o o1 o' ds r r' put puts before all f g moves none taken same =
     let n : ℕ = length o.to_host.bytes in
     let fed : Fed h (take n o.to_host.bytes) h1 [] puts (record { records = r; faults = f }) (record { records = r'; faults = g }) =
@@ -190,7 +191,7 @@ stopped_routing keys h h1 o o1 o' ds r r' put puts before all f g moves none tak
 pub stopped_taking : (keys : Keys) (h h' : HostParts) (o o' : OuterState) (ds : List State) (r r' : Option (List (List ℕ))) (put puts : List HostOut) (before all : List Entry) (f g : ℕ)
     → is_stalled o ≡ false → put ≡ []
     → TakesPrefix h h' o put puts (record { records = r; faults = f }) (record { records = r'; faults = g }) → all ≡ before
-    → Stops Nothing (scene_of keys h o ds r before f) (scene_of keys h' o' ds r' all g)
+    → Stops Nothing (scene_of keys h o ds (shelf_of r f) before) (scene_of keys h' o' ds (shelf_of r' g) all)
 stopped_taking keys h h' o o' ds r r' put puts before all f g moves none prefix same =
     let fed : FedPrefix h (take prefix.count o.to_host.bytes) h' [] puts (record { records = r; faults = f }) (record { records = r'; faults = g }) =
     subst (λ (l : List HostOut). FedPrefix h (take prefix.count o.to_host.bytes) h' l puts (record { records = r; faults = f }) (record { records = r'; faults = g })) none prefix.fed in
@@ -205,7 +206,7 @@ moved_is false (byte ∷ bytes) o inner taken = lt-ltb 0 (length (byte ∷ bytes
 
 pub chip_part : {E : Type 0} (result : Result Bool E) (host : HostParts) (o o' : OuterState) (before all : List Entry)
     → OnOk result (GoesOf (ChipTakes o) o o' before all) → IfOk result (λ moved. moved ≡ any_moves o)
-    → IfOk result (λ moved. (keys : Keys) (ds : List State) (r : Option (List (List ℕ))) (f : ℕ) → Does (ChipPart moved) (scene_of keys host o ds r before f) (scene_of keys host o' ds r all f))
+    → IfOk result (λ moved. (keys : Keys) (ds : List State) (r : Option (List (List ℕ))) (f : ℕ) → Does (ChipPart moved) (scene_of keys host o ds (shelf_of r f) before) (scene_of keys host o' ds (shelf_of r f) all))
 chip_part (Ok moved) host o o' before all goes are = λ keys ds r f.
     let done = did_goes_of (ChipTakes o) keys host o o' ds r before all f (takes_own (is_stalled o) o.to_chip.bytes o) goes in
     let (es, (inner, kind, is), ran) = done in

@@ -24,6 +24,7 @@ use Rattle.world_model.proofs.EventLists.{counted_kept}
 use Rattle.world_model.proofs.Hosting.{ran_host, stopped_host, stopped_by}
 use Rattle.world_model.proofs.Schedules.{did_outside}
 use Rattle.world_step.specs.Scene.{scene_of}
+use Rattle.host_core.specs.Calls.{shelf_of}
 
 -- ---- what holds is left by Ok or by Err
 
@@ -41,7 +42,7 @@ on_err (Err e) p = p
 
 -- nothing was done, for lack of memory
 pub stopped_still : (Prefix : Schedule) (keys keys' : Keys) (host host' : HostParts) (o o' : OuterState) (ds : List State) (r r' : Option (List (List ℕ))) (before all : List Entry) (f g : ℕ)
-    → Prefix (machine keys host o r ds) [] → r' ≡ r → all ≡ before → f ≤ g → Stops Prefix (scene_of keys host o ds r before f) (scene_of keys' host' o' ds r' all g)
+    → Prefix (machine keys host o r ds) [] → r' ≡ r → all ≡ before → f ≤ g → Stops Prefix (scene_of keys host o ds (shelf_of r f) before) (scene_of keys' host' o' ds (shelf_of r' g) all)
 stopped_still Prefix keys keys' host host' o o' ds r r' before all f g none kept same falls =
     stopped_by Prefix [] (machine keys host o r ds) (machine keys' host' o' r' ds) before all f g none tt tt refl kept same falls
 
@@ -59,31 +60,31 @@ nothing_goes o before ds = ran_nothing_outside (outside o ds) before
 -- one event
 pub did_one : (e : OuterEvent) (keys : Keys) (host : HostParts) (o o' : OuterState) (ds : List State) (r : Option (List (List ℕ))) (before all : List Entry) (f : ℕ)
     → is_own e ≡ true → Goes (e ∷ []) o o' before all
-    → Does (These (Outside_does e ∷ [])) (scene_of keys host o ds r before f) (scene_of keys host o' ds r all f)
+    → Does (These (Outside_does e ∷ [])) (scene_of keys host o ds (shelf_of r f) before) (scene_of keys host o' ds (shelf_of r f) all)
 did_one e keys host o o' ds r before all f own goes =
     (Outside_does e ∷ [], refl, ran_outside (e ∷ []) (machine keys host o r ds) (outside o' ds) before all f (own, tt) (goes ds))
 
 pub did_quiet : (e : OuterEvent) (keys : Keys) (host : HostParts) (o o' : OuterState) (ds : List State) (r : Option (List (List ℕ))) (before : List Entry) (f : ℕ)
     → is_own e ≡ true → Goes (e ∷ []) o o' [] []
-    → Does (These (Outside_does e ∷ [])) (scene_of keys host o ds r before f) (scene_of keys host o' ds r before f)
+    → Does (These (Outside_does e ∷ [])) (scene_of keys host o ds (shelf_of r f) before) (scene_of keys host o' ds (shelf_of r f) before)
 did_quiet e keys host o o' ds r before f own goes = did_one e keys host o o' ds r before before f own (quiet_goes (e ∷ []) o o' before goes)
 
 -- some of a kind
 pub did_of : (Kind : List OuterEvent → Type 0) (keys : Keys) (host : HostParts) (o o' : OuterState) (ds ds' : List State) (r : Option (List (List ℕ))) (before all : List Entry) (f : ℕ)
     → ((es : List OuterEvent) → Kind es → AreOwn es) → RunOf Kind (outside o ds) (outside o' ds') before all
-    → Does (λ (m : Machine) (es : List Event). OutsideOf Kind es) (scene_of keys host o ds r before f) (scene_of keys host o' ds' r all f)
+    → Does (λ (m : Machine) (es : List Event). OutsideOf Kind es) (scene_of keys host o ds (shelf_of r f) before) (scene_of keys host o' ds' (shelf_of r f) all)
 did_of Kind keys host o o' ds ds' r before all f own run = did_outside Kind (machine keys host o r ds) (outside o' ds') before all f own run
 
 pub did_goes_of : (Kind : List OuterEvent → Type 0) (keys : Keys) (host : HostParts) (o o' : OuterState) (ds : List State) (r : Option (List (List ℕ))) (before all : List Entry) (f : ℕ)
     → ((es : List OuterEvent) → Kind es → AreOwn es) → GoesOf Kind o o' before all
-    → Does (λ (m : Machine) (es : List Event). OutsideOf Kind es) (scene_of keys host o ds r before f) (scene_of keys host o' ds r all f)
+    → Does (λ (m : Machine) (es : List Event). OutsideOf Kind es) (scene_of keys host o ds (shelf_of r f) before) (scene_of keys host o' ds (shelf_of r f) all)
 did_goes_of Kind keys host o o' ds r before all f own goes = did_of Kind keys host o o' ds ds r before all f own (goes.0, goes.1, goes.2 ds)
 
 -- they were done in part
 pub stopped_out : (Prefix : Schedule) (OuterPrefix : List OuterEvent → Type 0) (keys keys' : Keys) (host host' : HostParts) (o o' : OuterState) (ds ds' : List State) (r : Option (List (List ℕ))) (before all : List Entry) (f : ℕ)
     → ((a b : List OuterEvent) → OuterPrefix (a ++ b) → OuterPrefix a)
     → ((events : List OuterEvent) → OuterPrefix events → Prefix (machine keys host o r ds) (map Outside_does events))
-    → StopsOutside OuterPrefix (outside o ds) ds' before all → Stops Prefix (scene_of keys host o ds r before f) (scene_of keys' host' o' ds' r all f)
+    → StopsOutside OuterPrefix (outside o ds) ds' before all → Stops Prefix (scene_of keys host o ds (shelf_of r f) before) (scene_of keys' host' o' ds' (shelf_of r f) all)
 stopped_out Prefix OuterPrefix keys keys' host host' o o' ds ds' r before all f prefixes goes stops =
     stopped_outside Prefix OuterPrefix (machine keys host o r ds) (machine keys' host' o' r ds') before all f prefixes goes refl stops
 
@@ -98,24 +99,24 @@ prefix_of Kind m events (rest, kind) = inr (map Outside_does rest, (events ++ re
 pub ran_hosted : (es : List HostEvent) (keys : Keys) (host host' : HostParts) (o o' : OuterState) (ds : List State) (r r' : Option (List (List ℕ))) (put puts : List HostOut) (before all : List Entry) (f g : ℕ)
     → Silent es → put ≡ [] → Did es host.state host'.state put puts (record { records = r; faults = f }) (record { records = r'; faults = g })
     → host'.decoder ≡ host.decoder → Goes (routed puts) o o' before all
-    → Run (map Host_does es) (scene_of keys host o ds r before f) (scene_of keys host' o' ds r' all g)
+    → Run (map Host_does es) (scene_of keys host o ds (shelf_of r f) before) (scene_of keys host' o' ds (shelf_of r' g) all)
 ran_hosted es keys host host' o o' ds r r' put puts before all f g silent none did decoder goes =
     let from_none : Did es host.state host'.state [] puts (record { records = r; faults = f }) (record { records = r'; faults = g }) =
     subst (λ (l : List HostOut). Did es host.state host'.state l puts (record { records = r; faults = f }) (record { records = r'; faults = g })) none did in
-    subst (λ (d : Rest). Run (map Host_does es) (scene_of keys host o ds r before f) (scene_of keys (record { decoder = d; state = host'.state }) o' ds r' all g)) (sym decoder)
+    subst (λ (d : Rest). Run (map Host_does es) (scene_of keys host o ds (shelf_of r f) before) (scene_of keys (record { decoder = d; state = host'.state }) o' ds (shelf_of r' g) all)) (sym decoder)
     (ran_host es (machine keys host o r ds) host'.state puts r' f g before all from_none o' silent goes)
 
 -- a call of the host was done in part, or what it put out was not routed
 pub stopped_hosted : (es : List HostEvent) (keys keys' : Keys) (host host' : HostParts) (o o' : OuterState) (ds : List State) (r r' : Option (List (List ℕ))) (state : HostState) (put puts : List HostOut) (before all : List Entry) (f g : ℕ)
     → Did es host.state state put puts (record { records = r; faults = f }) (record { records = r'; faults = g })
-    → all ≡ before → Stops Nothing (scene_of keys host o ds r before f) (scene_of keys' host' o' ds r' all g)
+    → all ≡ before → Stops Nothing (scene_of keys host o ds (shelf_of r f) before) (scene_of keys' host' o' ds (shelf_of r' g) all)
 stopped_hosted es keys keys' host host' o o' ds r r' state put puts before all f g did same =
     stopped_host Nothing es (machine keys host o r ds) (machine keys' host' o' r' ds) state put puts r' f g before all refl did refl refl same
 
 -- ---- what is unfinished of the chip's bytes ticks
 
 pub ran_decoder : (keys : Keys) (host : HostParts) (o : OuterState) (ds : List State) (r : Option (List (List ℕ))) (before : List Entry) (f : ℕ)
-    → Run (Decoder_ticks ∷ []) (scene_of keys host o ds r before f) (scene_of keys (record { decoder = after_tick host.decoder; state = host.state }) o ds r before f)
+    → Run (Decoder_ticks ∷ []) (scene_of keys host o ds (shelf_of r f) before) (scene_of keys (record { decoder = after_tick host.decoder; state = host.state }) o ds (shelf_of r f) before)
 unfolding happens entries May
 ran_decoder keys host o ds r before f = record {
   may = (tt, tt);

@@ -17,12 +17,13 @@ use Rattle.world_model.specs.Prefixes.{SettlesPrefix, OutsideTickPrefix, TickPre
 use Rattle.world_model.proofs.Schedules.{did_then, stopped_first, stopped_then, arrivals_own, givings_own, ticks_own}
 use Rattle.world_step.specs.Scene.{scene_of}
 use Rattle.world_step.proofs.Scenes.{did_one, did_quiet, did_of, prefixes_of, prefix_of, stopped_out}
+use Rattle.host_core.specs.Calls.{shelf_of}
 
 -- ---- outside the host
 
 module _ (keys : Keys) (host : HostParts) (r : Option (List (List ℕ))) (f : ℕ) where
   abbrev pub spot : OuterState → List State → List Entry → Scene
-  spot o ds x = scene_of keys host o ds r x f
+  spot o ds x = scene_of keys host o ds (shelf_of r f) x
 
   pub delivered : (o o1 : OuterState) (ds ds1 : List State) (x x1 : List Entry) → RunOf (Delivers o) (outside o ds) (outside o1 ds1) x x1 → Does IsDelivery (spot o ds x) (spot o1 ds1 x1)
   delivered o o1 ds ds1 x x1 run = did_of (Delivers o) keys host o o1 ds ds1 r x x1 f (arrivals_own _) run

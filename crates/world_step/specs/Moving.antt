@@ -1,7 +1,7 @@
 -- What calls of both sides tell of the bytes that moved (this project's own).
 use Rattle.std.specs.Prelude.{◌≡◌, ℕ, ◌≤◌, Bool, true, false, List, [], ◌∷◌, take, drop, length}
 use Rattle.host_model.specs.State.{HostParts}
-use Rattle.host_model.specs.Did.{Shelf}
+use Rattle.host_keep.specs.Keeping.{Shelf}
 use Rattle.host_model.specs.Taking.{Fed, FedPrefix}
 use Rattle.host_model.specs.declared.out.HostOut.{HostOut}
 use Rattle.outside_model.specs.State.{OuterState, is_stalled}

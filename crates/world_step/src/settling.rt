@@ -27,11 +27,11 @@ impl Sides {
         out: &mut List<Entry>,
     ) -> Result<(), NoMemory>
         ensures ok { OnOk result ((keys : Keys) (ds : Items State) →
-            Does Settles (scene_of keys self.old.host self.old.outer ds (P.records keeper.old) out.old.items (P.faults keeper.old))
-            (scene_of keys self.new.host self.new.outer ds (P.records keeper.new) out.new.items (P.faults keeper.new))) }
+            Does Settles (scene_of keys self.old.host self.old.outer ds (P.shelf keeper.old) out.old.items)
+            (scene_of keys self.new.host self.new.outer ds (P.shelf keeper.new) out.new.items)) }
         ensures err { OnErr result ((keys : Keys) (ds : Items State) →
-            Stops SettlesPrefix (scene_of keys self.old.host self.old.outer ds (P.records keeper.old) out.old.items (P.faults keeper.old))
-            (scene_of keys self.new.host self.new.outer ds (P.records keeper.new) out.new.items (P.faults keeper.new))) }
+            Stops SettlesPrefix (scene_of keys self.old.host self.old.outer ds (P.shelf keeper.old) out.old.items)
+            (scene_of keys self.new.host self.new.outer ds (P.shelf keeper.new) out.new.items)) }
         ensures never_fewer { P.number keeper.old ≤ P.number keeper.new }
         ensures reads { P.reads keeper.new ≡ P.reads keeper.old }
     {
@@ -47,11 +47,10 @@ impl Sides {
         out: &mut List<Entry>,
     ) -> Result<(), NoMemory>
         ensures ok { OnOk result ((keys : Keys) (ds : Items State) →
-            Does (Passes 64) (scene_of keys self.old.host self.old.outer ds (P.records keeper.old) out.old.items (P.faults keeper.old))
-            (scene_of keys self.new.host self.new.outer ds (P.records keeper.new) out.new.items (P.faults keeper.new))) }
+            Does (Passes 64) (scene_of keys self.old.host self.old.outer ds (P.shelf keeper.old) out.old.items)
+            (scene_of keys self.new.host self.new.outer ds (P.shelf keeper.new) out.new.items)) }
         ensures err { OnErr result ((keys : Keys) (ds : Items State) →
-            Stops (PassesPrefix 64) (scene_of keys self.old.host self.old.outer ds (P.records keeper.old) out.old.items
-            (P.faults keeper.old)) (scene_of keys self.new.host self.new.outer ds (P.records keeper.new) out.new.items (P.faults keeper.new))) }
+            Stops (PassesPrefix 64) (scene_of keys self.old.host self.old.outer ds (P.shelf keeper.old) out.old.items) (scene_of keys self.new.host self.new.outer ds (P.shelf keeper.new) out.new.items)) }
         ensures never_fewer { P.number keeper.old ≤ P.number keeper.new }
         ensures reads { P.reads keeper.new ≡ P.reads keeper.old }
     {
@@ -71,11 +70,11 @@ impl Sides {
         out: &mut List<Entry>,
     ) -> Result<bool, NoMemory>
         ensures ok { IfOk result (λ moved. (keys : Keys) (ds : Items State) →
-            Does (Pass moved) (scene_of keys self.old.host self.old.outer ds (P.records keeper.old) out.old.items (P.faults keeper.old))
-            (scene_of keys self.new.host self.new.outer ds (P.records keeper.new) out.new.items (P.faults keeper.new))) }
+            Does (Pass moved) (scene_of keys self.old.host self.old.outer ds (P.shelf keeper.old) out.old.items)
+            (scene_of keys self.new.host self.new.outer ds (P.shelf keeper.new) out.new.items)) }
         ensures err { OnErr result ((keys : Keys) (ds : Items State) →
-            Stops PassPrefix (scene_of keys self.old.host self.old.outer ds (P.records keeper.old) out.old.items (P.faults keeper.old))
-            (scene_of keys self.new.host self.new.outer ds (P.records keeper.new) out.new.items (P.faults keeper.new))) }
+            Stops PassPrefix (scene_of keys self.old.host self.old.outer ds (P.shelf keeper.old) out.old.items)
+            (scene_of keys self.new.host self.new.outer ds (P.shelf keeper.new) out.new.items)) }
         ensures never_fewer { P.number keeper.old ≤ P.number keeper.new }
         ensures reads { P.reads keeper.new ≡ P.reads keeper.old }
     {
@@ -92,11 +91,11 @@ impl Sides {
         out: &mut List<Entry>,
     ) -> Result<(), NoMemory>
         ensures ok { OnOk result ((keys : Keys) (ds : Items State) →
-            Does IsPump (scene_of keys self.old.host self.old.outer ds (P.records keeper.old) out.old.items (P.faults keeper.old))
-            (scene_of keys self.new.host self.new.outer ds (P.records keeper.new) out.new.items (P.faults keeper.new))) }
+            Does IsPump (scene_of keys self.old.host self.old.outer ds (P.shelf keeper.old) out.old.items)
+            (scene_of keys self.new.host self.new.outer ds (P.shelf keeper.new) out.new.items)) }
         ensures err { OnErr result ((keys : Keys) (ds : Items State) →
-            Stops Nothing (scene_of keys self.old.host self.old.outer ds (P.records keeper.old) out.old.items (P.faults keeper.old))
-            (scene_of keys self.new.host self.new.outer ds (P.records keeper.new) out.new.items (P.faults keeper.new))) }
+            Stops Nothing (scene_of keys self.old.host self.old.outer ds (P.shelf keeper.old) out.old.items)
+            (scene_of keys self.new.host self.new.outer ds (P.shelf keeper.new) out.new.items)) }
         ensures never_fewer { P.number keeper.old ≤ P.number keeper.new }
         ensures reads { P.reads keeper.new ≡ P.reads keeper.old }
     {

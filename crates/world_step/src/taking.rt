@@ -3,7 +3,7 @@
 ghost use Rattle.std.specs.Prelude.{◌≡◌, ℕ, ◌≤◌, ◌<◌, ◌&&◌, ◌||◌, ◌∷◌, [], not, nat_lt, take, length, false, List as Items, Option, IfOk, OnOk, OnErr};
 ghost use Rattle.s0_crypto.specs.declared.key_pair.Keys.{Keys};
 ghost use Rattle.device_sim.specs.State.{State};
-ghost use Rattle.host_core.specs.Calls.{scene as host_scene};
+ghost use Rattle.host_core.specs.Calls.{scene as host_scene, shelf_of};
 ghost use Rattle.outside_model.specs.State.{is_stalled};
 ghost use Rattle.outside_model.specs.Events.{Host_takes};
 ghost use Rattle.outside_model.specs.Did.{Goes};
@@ -30,11 +30,11 @@ impl Sides {
         out: &mut List<Entry>,
     ) -> Result<bool, NoMemory>
         ensures ok { IfOk result (λ moved. (keys : Keys) (ds : Items State) →
-            Does (Moves moved) (scene_of keys self.old.host self.old.outer ds (P.records keeper.old) out.old.items (P.faults keeper.old))
-            (scene_of keys self.new.host self.new.outer ds (P.records keeper.new) out.new.items (P.faults keeper.new))) }
+            Does (Moves moved) (scene_of keys self.old.host self.old.outer ds (P.shelf keeper.old) out.old.items)
+            (scene_of keys self.new.host self.new.outer ds (P.shelf keeper.new) out.new.items)) }
         ensures err { OnErr result ((keys : Keys) (ds : Items State) →
-            Stops MovePrefix (scene_of keys self.old.host self.old.outer ds (P.records keeper.old) out.old.items (P.faults keeper.old))
-            (scene_of keys self.new.host self.new.outer ds (P.records keeper.new) out.new.items (P.faults keeper.new))) }
+            Stops MovePrefix (scene_of keys self.old.host self.old.outer ds (P.shelf keeper.old) out.old.items)
+            (scene_of keys self.new.host self.new.outer ds (P.shelf keeper.new) out.new.items)) }
         ensures never_fewer { P.number keeper.old ≤ P.number keeper.new }
         ensures reads { P.reads keeper.new ≡ P.reads keeper.old }
     {
@@ -46,8 +46,8 @@ impl Sides {
     // The chip takes all bytes that are on their way to it. The answer is whether there were any.
     fn chip_takes(&mut self, out: &mut List<Entry>) -> Result<bool, NoMemory>
         ensures ok { IfOk result (λ moved. (keys : Keys) (ds : Items State) (records : Option (Items (Items ℕ))) (faults : ℕ) →
-            Does (ChipPart moved) (scene_of keys self.old.host self.old.outer ds records out.old.items faults)
-            (scene_of keys self.new.host self.new.outer ds records out.new.items faults)) }
+            Does (ChipPart moved) (scene_of keys self.old.host self.old.outer ds (shelf_of records faults) out.old.items)
+            (scene_of keys self.new.host self.new.outer ds (shelf_of records faults) out.new.items)) }
         ensures err { OnErr result (out.new.items ≡ out.old.items) }
     {
         self.outer.chip_takes(out)
@@ -61,11 +61,10 @@ impl Sides {
         out: &mut List<Entry>,
     ) -> Result<bool, NoMemory>
         ensures ok { IfOk result (λ moved. (keys : Keys) (ds : Items State) →
-            Does (HostPart moved) (scene_of keys self.old.host self.old.outer ds (P.records keeper.old) out.old.items
-            (P.faults keeper.old)) (scene_of keys self.new.host self.new.outer ds (P.records keeper.new) out.new.items (P.faults keeper.new))) }
+            Does (HostPart moved) (scene_of keys self.old.host self.old.outer ds (P.shelf keeper.old) out.old.items) (scene_of keys self.new.host self.new.outer ds (P.shelf keeper.new) out.new.items)) }
         ensures err { OnErr result ((keys : Keys) (ds : Items State) →
-            Stops Nothing (scene_of keys self.old.host self.old.outer ds (P.records keeper.old) out.old.items (P.faults keeper.old))
-            (scene_of keys self.new.host self.new.outer ds (P.records keeper.new) out.new.items (P.faults keeper.new))) }
+            Stops Nothing (scene_of keys self.old.host self.old.outer ds (P.shelf keeper.old) out.old.items)
+            (scene_of keys self.new.host self.new.outer ds (P.shelf keeper.new) out.new.items)) }
         ensures never_fewer { P.number keeper.old ≤ P.number keeper.new }
         ensures reads { P.reads keeper.new ≡ P.reads keeper.old }
     {
@@ -96,11 +95,11 @@ impl Sides {
         requires moves { is_stalled self.old.outer ≡ false }
         ensures ok { OnOk result (TakesBytes
             (length self.old.outer.to_host.bytes) self.old.host self.new.host self.old.outer self.new.outer outs.old.items outs.new.items
-            (host_scene self.old.host.state [] (P.records keeper.old) (P.faults keeper.old)).shelf
-            (host_scene self.new.host.state [] (P.records keeper.new) (P.faults keeper.new)).shelf) }
+            (host_scene self.old.host.state [] (P.shelf keeper.old)).shelf
+            (host_scene self.new.host.state [] (P.shelf keeper.new)).shelf) }
         ensures err { OnErr result (TakesPrefix self.old.host self.new.host self.old.outer outs.old.items outs.new.items
-            (host_scene self.old.host.state [] (P.records keeper.old) (P.faults keeper.old)).shelf
-            (host_scene self.new.host.state [] (P.records keeper.new) (P.faults keeper.new)).shelf) }
+            (host_scene self.old.host.state [] (P.shelf keeper.old)).shelf
+            (host_scene self.new.host.state [] (P.shelf keeper.new)).shelf) }
         ensures never_fewer { P.number keeper.old ≤ P.number keeper.new }
         ensures reads { P.reads keeper.new ≡ P.reads keeper.old }
     {
@@ -122,11 +121,11 @@ impl Sides {
         requires moves { is_stalled self.old.outer ≡ false }
         ensures ok { OnOk result ((count : ℕ) × (1 ≤ count)
             × TakesBytes count self.old.host self.new.host self.old.outer self.new.outer outs.old.items outs.new.items
-            (host_scene self.old.host.state [] (P.records keeper.old) (P.faults keeper.old)).shelf
-            (host_scene self.new.host.state [] (P.records keeper.new) (P.faults keeper.new)).shelf) }
+            (host_scene self.old.host.state [] (P.shelf keeper.old)).shelf
+            (host_scene self.new.host.state [] (P.shelf keeper.new)).shelf) }
         ensures err { OnErr result (TakesPrefix self.old.host self.new.host self.old.outer outs.old.items outs.new.items
-            (host_scene self.old.host.state [] (P.records keeper.old) (P.faults keeper.old)).shelf
-            (host_scene self.new.host.state [] (P.records keeper.new) (P.faults keeper.new)).shelf) }
+            (host_scene self.old.host.state [] (P.shelf keeper.old)).shelf
+            (host_scene self.new.host.state [] (P.shelf keeper.new)).shelf) }
         ensures never_fewer { P.number keeper.old ≤ P.number keeper.new }
         ensures reads { P.reads keeper.new ≡ P.reads keeper.old }
     {

@@ -7,6 +7,7 @@ ghost use Rattle.world_model.specs.Did.{Does, Nothing, Stops};
 ghost use Rattle.world_model.specs.Prefixes.{OutsideTickPrefix, TickPrefix, TicksPrefix};
 ghost use Rattle.world_model.specs.Ticking.{IsOutsideTick, IsHostTick, IsTick, Ticks};
 ghost use Rattle.world_step.specs.Scene.{scene_of};
+ghost use Rattle.host_core.specs.Calls.{shelf_of};
 
 use crate::Sides;
 use crate::routing::route;
@@ -28,12 +29,12 @@ impl Sides {
         requires few { length devices.old.items < 2 ^ 64 }
         ensures ok { OnOk result ((keys : Keys) →
             Does (Ticks count) (scene_of keys self.old.host self.old.outer (map (λ d. state d) devices.old.items)
-            (P.records keeper.old) out.old.items (P.faults keeper.old))
-            (scene_of keys self.new.host self.new.outer (map (λ d. state d) devices.new.items) (P.records keeper.new) out.new.items (P.faults keeper.new))) }
+            (P.shelf keeper.old) out.old.items)
+            (scene_of keys self.new.host self.new.outer (map (λ d. state d) devices.new.items) (P.shelf keeper.new) out.new.items)) }
         ensures err { OnErr result ((keys : Keys) →
             Stops (TicksPrefix count) (scene_of keys self.old.host self.old.outer (map (λ d. state d) devices.old.items)
-            (P.records keeper.old) out.old.items (P.faults keeper.old))
-            (scene_of keys self.new.host self.new.outer (map (λ d. state d) devices.new.items) (P.records keeper.new) out.new.items (P.faults keeper.new))) }
+            (P.shelf keeper.old) out.old.items)
+            (scene_of keys self.new.host self.new.outer (map (λ d. state d) devices.new.items) (P.shelf keeper.new) out.new.items)) }
         ensures kept { length devices.new.items ≡ length devices.old.items }
         ensures never_fewer { P.number keeper.old ≤ P.number keeper.new }
         ensures reads { P.reads keeper.new ≡ P.reads keeper.old }
@@ -55,12 +56,12 @@ impl Sides {
         requires few { length devices.old.items < 2 ^ 64 }
         ensures ok { OnOk result ((keys : Keys) →
             Does IsTick (scene_of keys self.old.host self.old.outer (map (λ d. state d) devices.old.items)
-            (P.records keeper.old) out.old.items (P.faults keeper.old))
-            (scene_of keys self.new.host self.new.outer (map (λ d. state d) devices.new.items) (P.records keeper.new) out.new.items (P.faults keeper.new))) }
+            (P.shelf keeper.old) out.old.items)
+            (scene_of keys self.new.host self.new.outer (map (λ d. state d) devices.new.items) (P.shelf keeper.new) out.new.items)) }
         ensures err { OnErr result ((keys : Keys) →
             Stops TickPrefix (scene_of keys self.old.host self.old.outer (map (λ d. state d) devices.old.items)
-            (P.records keeper.old) out.old.items (P.faults keeper.old))
-            (scene_of keys self.new.host self.new.outer (map (λ d. state d) devices.new.items) (P.records keeper.new) out.new.items (P.faults keeper.new))) }
+            (P.shelf keeper.old) out.old.items)
+            (scene_of keys self.new.host self.new.outer (map (λ d. state d) devices.new.items) (P.shelf keeper.new) out.new.items)) }
         ensures kept { length devices.new.items ≡ length devices.old.items }
         ensures never_fewer { P.number keeper.old ≤ P.number keeper.new }
         ensures reads { P.reads keeper.new ≡ P.reads keeper.old }
@@ -81,12 +82,12 @@ impl Sides {
         requires few { length devices.old.items < 2 ^ 64 }
         ensures ok { OnOk result ((keys : Keys) (records : Option (Items (Items ℕ))) (faults : ℕ) →
             Does IsOutsideTick (scene_of keys self.old.host self.old.outer
-            (map (λ d. state d) devices.old.items) records out.old.items faults)
-            (scene_of keys self.new.host self.new.outer (map (λ d. state d) devices.new.items) records out.new.items faults)) }
+            (map (λ d. state d) devices.old.items) (shelf_of records faults) out.old.items)
+            (scene_of keys self.new.host self.new.outer (map (λ d. state d) devices.new.items) (shelf_of records faults) out.new.items)) }
         ensures err { OnErr result ((keys : Keys) (records : Option (Items (Items ℕ))) (faults : ℕ) →
             Stops OutsideTickPrefix (scene_of keys self.old.host self.old.outer
-            (map (λ d. state d) devices.old.items) records out.old.items faults)
-            (scene_of keys self.new.host self.new.outer (map (λ d. state d) devices.new.items) records out.new.items faults)) }
+            (map (λ d. state d) devices.old.items) (shelf_of records faults) out.old.items)
+            (scene_of keys self.new.host self.new.outer (map (λ d. state d) devices.new.items) (shelf_of records faults) out.new.items)) }
         ensures kept { length devices.new.items ≡ length devices.old.items }
     {
         self.outer.deliver(devices, draw, out)?;
@@ -103,11 +104,11 @@ impl Sides {
         out: &mut List<Entry>,
     ) -> Result<(), NoMemory>
         ensures ok { OnOk result ((keys : Keys) (ds : Items State) →
-            Does IsHostTick (scene_of keys self.old.host self.old.outer ds (P.records keeper.old) out.old.items (P.faults keeper.old))
-            (scene_of keys self.new.host self.new.outer ds (P.records keeper.new) out.new.items (P.faults keeper.new))) }
+            Does IsHostTick (scene_of keys self.old.host self.old.outer ds (P.shelf keeper.old) out.old.items)
+            (scene_of keys self.new.host self.new.outer ds (P.shelf keeper.new) out.new.items)) }
         ensures err { OnErr result ((keys : Keys) (ds : Items State) →
-            Stops Nothing (scene_of keys self.old.host self.old.outer ds (P.records keeper.old) out.old.items (P.faults keeper.old))
-            (scene_of keys self.new.host self.new.outer ds (P.records keeper.new) out.new.items (P.faults keeper.new))) }
+            Stops Nothing (scene_of keys self.old.host self.old.outer ds (P.shelf keeper.old) out.old.items)
+            (scene_of keys self.new.host self.new.outer ds (P.shelf keeper.new) out.new.items)) }
         ensures never_fewer { P.number keeper.old ≤ P.number keeper.new }
         ensures reads { P.reads keeper.new ≡ P.reads keeper.old }
     {

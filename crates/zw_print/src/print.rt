@@ -1,16 +1,17 @@
 //! The text of an entry.
 
-ghost use Rattle.std.specs.Prelude.{◌≡◌, IfOk};
+ghost use Rattle.std.specs.Prelude.{◌≡◌, ◌∷◌, [], ◌++◌, true, IfOk, OnOk, string_bytes};
 ghost use Rattle.zw_text.specs.Entry.{entry_text};
+ghost use Rattle.zw_print.specs.Worded.{is_worded};
 
 use crate::print_lists::{print_air, print_neighbours, print_sessions};
 use crate::print_parts::{
     done_name, ended_name, failed_name, fault_name, join_bytes, print_accepted, print_begin,
     print_cleared, print_count, print_garbled, print_made, print_named, print_pair,
     print_property_of, print_refusal, print_setting_of, print_side, print_unread, print_value,
-    print_written,
+    print_word, print_written,
 };
-use std::alloc::Global;
+use std::alloc::{AllocError, Global};
 use zw_base::{Bytes, NoMemory, NodeId};
 use zw_text::Entry;
 
@@ -21,24 +22,72 @@ fn number(node: NodeId) -> u64
 }
 
 /// The text of an entry, without a line feed.
-#[tactic(auto, unfolding(zw_text::specs::Entry::entry_text))]
 pub fn print_entry(alloc: Global, entry: &Entry) -> Result<Bytes, NoMemory>
     ensures { IfOk result (λ text. text ≡ entry_text entry.now) }
 {
+    let mut scratch = String::new(alloc);
+    print_ended(alloc, entry, "", &mut scratch)
+}
+
+/// The text of an entry, with a line feed. It is made in `scratch`, which keeps its room.
+pub fn print_line(alloc: Global, entry: &Entry, scratch: &mut String) -> Result<Bytes, NoMemory>
+    ensures { IfOk result (λ line. line ≡ entry_text entry.now ++ 10 ∷ []) }
+{
+    print_ended(alloc, entry, "\n", scratch)
+}
+
+/// The text of an entry, with an end.
+#[tactic(auto, unfolding(zw_text::specs::Entry::entry_text))]
+fn print_ended(
+    alloc: Global,
+    entry: &Entry,
+    end: &str,
+    scratch: &mut String,
+) -> Result<Bytes, NoMemory>
+    ensures { IfOk result (λ text. text ≡ entry_text entry.now ++ end.now) }
+{
     match entry {
-        Entry::Said { words } => join_bytes(alloc, ">", words.as_slice()),
-        Entry::Json { text } => join_bytes(alloc, "json", text.as_slice()),
-        Entry::Accepted { command, node } => print_accepted(alloc, *command, *node),
-        Entry::Refused { refusal } => print_refusal(alloc, *refusal),
+        Entry::Said { words } => join_bytes(alloc, ">", words.as_slice(), end),
+        Entry::Json { text } => join_bytes(alloc, "json", text.as_slice(), end),
+        entry => print_worded(alloc, entry, end, scratch),
+    }
+}
+
+/// The text of an entry that has no bytes as they came, with an end.
+fn print_worded(
+    alloc: Global,
+    entry: &Entry,
+    end: &str,
+    scratch: &mut String,
+) -> Result<Bytes, NoMemory>
+    requires { is_worded entry.now ≡ true }
+    ensures { IfOk result (λ text. text ≡ entry_text entry.now ++ end.now) }
+{
+    scratch.clear();
+    write_entry(alloc, entry, scratch)?;
+    scratch.push_str(end)?;
+    Bytes::from_slice(alloc, scratch.as_bytes())
+}
+
+/// Adds the text of an entry that has no bytes as they came.
+#[tactic(auto, unfolding(zw_text::specs::Entry::entry_text))]
+fn write_entry(alloc: Global, entry: &Entry, text: &mut String) -> Result<(), AllocError>
+    requires { is_worded entry.now ≡ true }
+    ensures { OnOk result (string_bytes text.new ≡ string_bytes text.old ++ entry_text entry.now) }
+{
+    match entry {
+        Entry::Said { .. } | Entry::Json { .. } => unreachable!(),
+        Entry::Accepted { command, node } => print_accepted(text, *command, *node),
+        Entry::Refused { refusal } => print_refusal(alloc, text, *refusal),
         Entry::Begin {
             node,
             session,
             command,
-        } => print_begin(alloc, *node, *session, *command),
-        Entry::Written { side, unit } => print_written(alloc, *side, unit.as_slice()),
-        Entry::Dropped { side } => print_side(alloc, "dropped", *side),
-        Entry::Garbled { side, unit } => print_garbled(alloc, *side, unit.as_slice()),
-        Entry::Overrun { side } => print_side(alloc, "overrun", *side),
+        } => print_begin(text, *node, *session, *command),
+        Entry::Written { side, unit } => print_written(alloc, text, *side, unit.as_slice()),
+        Entry::Dropped { side } => print_side(text, "dropped", *side),
+        Entry::Garbled { side, unit } => print_garbled(alloc, text, *side, unit.as_slice()),
+        Entry::Overrun { side } => print_side(text, "overrun", *side),
         Entry::Air {
             frame,
             sender,
@@ -47,55 +96,59 @@ pub fn print_entry(alloc: Global, entry: &Entry) -> Result<Bytes, NoMemory>
             payload,
         } => print_air(
             alloc,
+            text,
             *frame,
             *sender,
             *receiver,
             repeaters.as_slice(),
             payload.bytes(),
         ),
-        Entry::Heard { frame } => print_count(alloc, "heard", *frame),
-        Entry::Lost { frame } => print_count(alloc, "lost", *frame),
-        Entry::Unheard { frame } => print_count(alloc, "unheard", *frame),
-        Entry::Dev { node, by, setting } => print_made(alloc, *node, *by, *setting),
+        Entry::Heard { frame } => print_count(text, "heard", *frame),
+        Entry::Lost { frame } => print_count(text, "lost", *frame),
+        Entry::Unheard { frame } => print_count(text, "unheard", *frame),
+        Entry::Dev { node, by, setting } => print_made(text, *node, *by, *setting),
         Entry::Forget { first, second } => {
-            print_pair(alloc, "forget", number(*first), number(*second))
+            print_pair(text, "forget", number(*first), number(*second))
         }
         Entry::Out { command, ended } => {
-            print_named(alloc, "out", u64::from(*command), ended_name(*ended))
+            print_named(text, "out", u64::from(*command), ended_name(*ended))
         }
-        Entry::Store { node, setting } => print_setting_of(alloc, "store", *node, *setting),
-        Entry::Report { node, setting } => print_setting_of(alloc, "report", *node, *setting),
-        Entry::Unstored { node, property } => print_property_of(
-            alloc, "unstored", *node, *property,
-        ),
-        Entry::Old { node, id } => print_pair(alloc, "old", number(*node), u64::from(*id)),
-        Entry::Unread { node, payload } => print_unread(alloc, *node, payload.as_slice()),
-        Entry::Awake { node } => print_count(alloc, "awake", number(*node)),
-        Entry::Asleep { node } => print_count(alloc, "asleep", number(*node)),
-        Entry::Interviewed { node } => print_count(alloc, "interviewed", number(*node)),
-        Entry::InterviewFailed { node } => print_named(alloc, "interview", number(*node), "failed"),
-        Entry::Done { node, done } => print_named(alloc, "done", number(*node), done_name(*done)),
-        Entry::Neighbours { node, list } => print_neighbours(alloc, *node, list.as_slice()),
+        Entry::Store { node, setting } => print_setting_of(text, "store", *node, *setting),
+        Entry::Report { node, setting } => print_setting_of(text, "report", *node, *setting),
+        Entry::Unstored { node, property } => print_property_of(text, "unstored", *node, *property),
+        Entry::Old { node, id } => print_pair(text, "old", number(*node), u64::from(*id)),
+        Entry::Unread { node, payload } => print_unread(alloc, text, *node, payload.as_slice()),
+        Entry::Awake { node } => print_count(text, "awake", number(*node)),
+        Entry::Asleep { node } => print_count(text, "asleep", number(*node)),
+        Entry::Interviewed { node } => print_count(text, "interviewed", number(*node)),
+        Entry::InterviewFailed { node } => print_named(text, "interview", number(*node), "failed"),
+        Entry::Done { node, done } => print_named(text, "done", number(*node), done_name(*done)),
+        Entry::Neighbours { node, list } => print_neighbours(alloc, text, *node, list.as_slice()),
         Entry::Failed { node, failed } => {
-            print_named(alloc, "failed", number(*node), failed_name(*failed))
+            print_named(text, "failed", number(*node), failed_name(*failed))
         }
-        Entry::ChipFull => Bytes::from_slice(alloc, b"chipfull".as_slice()),
-        Entry::QueueFull { node } => print_count(alloc, "queuefull", number(*node)),
-        Entry::Device { node, setting } => print_setting_of(alloc, "device", *node, *setting),
-        Entry::Held { node } => print_count(alloc, "held", number(*node)),
-        Entry::Cleared { side, bytes } => print_cleared(alloc, *side, *bytes),
-        Entry::Unkept { node } => print_count(alloc, "unkept", number(*node)),
-        Entry::Time { tick } => print_count(alloc, "t", *tick),
-        Entry::TableEnd { ticks } => print_count(alloc, "end", *ticks),
-        Entry::TableNode { node, sessions } => print_sessions(alloc, *node, sessions.as_slice()),
+        Entry::ChipFull => print_word(text, "chipfull"),
+        Entry::QueueFull { node } => print_count(text, "queuefull", number(*node)),
+        Entry::Device { node, setting } => print_setting_of(text, "device", *node, *setting),
+        Entry::Held { node } => print_count(text, "held", number(*node)),
+        Entry::Cleared { side, bytes } => print_cleared(text, *side, *bytes),
+        Entry::Unkept { node } => print_count(text, "unkept", number(*node)),
+        Entry::Time { tick } => print_count(text, "t", *tick),
+        Entry::TableEnd { ticks } => print_count(text, "end", *ticks),
+        Entry::TableNode { node, sessions } => print_sessions(
+            alloc,
+            text,
+            *node,
+            sessions.as_slice(),
+        ),
         Entry::TableValue {
             node,
             property,
             confirmed,
             heard,
-        } => print_value(alloc, *node, *property, *confirmed, *heard),
+        } => print_value(text, *node, *property, *confirmed, *heard),
         Entry::BadLine { line, fault } => {
-            print_named(alloc, "badline", u64::from(*line), fault_name(*fault))
+            print_named(text, "badline", u64::from(*line), fault_name(*fault))
         }
     }
 }

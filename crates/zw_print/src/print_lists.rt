@@ -7,77 +7,102 @@ ghost use Rattle.zw_text.specs.Entry.{ends_word, number_words};
 ghost use Rattle.zw_print.specs.Lists.{list_text};
 
 use std::alloc::{AllocError, Global};
-use zw_base::{Bytes, NoMemory, NodeId};
+use zw_base::NodeId;
 
 /// `air I A>B via R HEX`
 pub fn print_air(
     alloc: Global,
+    text: &mut String,
     frame: u64,
     sender: NodeId,
     receiver: NodeId,
     repeaters: &[NodeId],
     payload: &[u8],
-) -> Result<Bytes, NoMemory>
-    ensures { IfOk result (λ text. text ≡
+) -> Result<(), AllocError>
+    ensures { OnOk result (string_bytes text.new ≡ string_bytes text.old ++
         join_with_byte 32 (codes "air" ∷ decimal frame ∷ ends_word sender receiver ∷ codes "via" ∷ number_words repeaters.now
         (encode_upper payload.now ∷ []))) }
 {
-    let text = show_air(alloc, frame, sender, receiver, repeaters, payload)?;
-    let bytes = Bytes::from_slice(alloc, text.as_bytes())?;
-    Ok(bytes)
+    write_air(alloc, text, frame, sender, receiver, repeaters, payload)?;
+    Ok(())
 }
 
-fn show_air(
+fn write_air(
     alloc: Global,
+    text: &mut String,
     frame: u64,
     sender: NodeId,
     receiver: NodeId,
     repeaters: &[NodeId],
     payload: &[u8],
-) -> Result<String, AllocError>
-    ensures { IfOk result (λ text. string_bytes text ≡ codes "air " ++
+) -> Result<(), AllocError>
+    ensures { OnOk result (string_bytes text.new ≡ string_bytes text.old ++ (codes "air " ++
         (decimal frame ++ (codes " " ++
-        (decimal sender ++ (codes ">" ++ (decimal receiver ++ (codes " via " ++ (list_text repeaters.now ++ (codes " " ++ encode_upper payload.now))))))))) }
+        (decimal sender ++ (codes ">" ++ (decimal receiver ++ (codes " via " ++ (list_text repeaters.now ++ (codes " " ++ encode_upper payload.now)))))))))) }
 {
     let sender = sender.number();
     let receiver = receiver.number();
     let repeaters = show_nodes(alloc, repeaters)?;
     let payload = hex::encode_upper(alloc, payload)?;
-    format!(in alloc; "air {frame} {sender}>{receiver} via {repeaters} {payload}")
+    write!(
+        text,
+        "air {frame} {sender}>{receiver} via {repeaters} {payload}"
+    )
 }
 
 /// `neighbours N LIST`
-pub fn print_neighbours(alloc: Global, node: NodeId, list: &[NodeId]) -> Result<Bytes, NoMemory>
-    ensures { IfOk result (λ text. text ≡ join_with_byte 32 (codes "neighbours" ∷ decimal node ∷ number_words list.now [])) }
+pub fn print_neighbours(
+    alloc: Global,
+    text: &mut String,
+    node: NodeId,
+    list: &[NodeId],
+) -> Result<(), AllocError>
+    ensures { OnOk result (string_bytes text.new ≡ string_bytes text.old ++
+        join_with_byte 32 (codes "neighbours" ∷ decimal node ∷ number_words list.now [])) }
 {
-    let text = show_neighbours(alloc, node, list)?;
-    let bytes = Bytes::from_slice(alloc, text.as_bytes())?;
-    Ok(bytes)
+    write_list(alloc, text, "neighbours", node, list)?;
+    Ok(())
 }
 
-fn show_neighbours(alloc: Global, node: NodeId, list: &[NodeId]) -> Result<String, AllocError>
-    ensures { IfOk result (λ text. string_bytes text ≡ codes "neighbours " ++ (decimal node ++ (codes " " ++ list_text list.now))) }
+fn write_list(
+    alloc: Global,
+    text: &mut String,
+    word: &str,
+    node: NodeId,
+    list: &[NodeId],
+) -> Result<(), AllocError>
+    ensures { OnOk result (string_bytes text.new ≡ string_bytes text.old ++ (word.now ++ (codes " " ++ (decimal node ++ (codes " " ++ list_text list.now))))) }
 {
     let node = node.number();
     let list = show_nodes(alloc, list)?;
-    format!(in alloc; "neighbours {node} {list}")
+    write!(text, "{word} {node} {list}")
 }
 
 /// `node N sessions LIST`
-pub fn print_sessions(alloc: Global, node: NodeId, sessions: &[u32]) -> Result<Bytes, NoMemory>
-    ensures { IfOk result (λ text. text ≡ join_with_byte 32 (codes "node" ∷ decimal node ∷ codes "sessions" ∷ number_words sessions.now [])) }
+pub fn print_sessions(
+    alloc: Global,
+    text: &mut String,
+    node: NodeId,
+    sessions: &[u32],
+) -> Result<(), AllocError>
+    ensures { OnOk result (string_bytes text.new ≡ string_bytes text.old ++
+        join_with_byte 32 (codes "node" ∷ decimal node ∷ codes "sessions" ∷ number_words sessions.now [])) }
 {
-    let text = show_sessions(alloc, node, sessions)?;
-    let bytes = Bytes::from_slice(alloc, text.as_bytes())?;
-    Ok(bytes)
+    write_sessions(alloc, text, node, sessions)?;
+    Ok(())
 }
 
-fn show_sessions(alloc: Global, node: NodeId, sessions: &[u32]) -> Result<String, AllocError>
-    ensures { IfOk result (λ text. string_bytes text ≡ codes "node " ++ (decimal node ++ (codes " sessions " ++ list_text sessions.now))) }
+fn write_sessions(
+    alloc: Global,
+    text: &mut String,
+    node: NodeId,
+    sessions: &[u32],
+) -> Result<(), AllocError>
+    ensures { OnOk result (string_bytes text.new ≡ string_bytes text.old ++ (codes "node " ++ (decimal node ++ (codes " sessions " ++ list_text sessions.now)))) }
 {
     let node = node.number();
     let sessions = show_numbers(alloc, sessions)?;
-    format!(in alloc; "node {node} sessions {sessions}")
+    write!(text, "node {node} sessions {sessions}")
 }
 
 fn show_numbers(alloc: Global, numbers: &[u32]) -> Result<String, AllocError>

@@ -1,6 +1,6 @@
 //! The parts of an entry's text.
 
-ghost use Rattle.std.specs.Prelude.{◌≡◌, ◌∷◌, [], ◌++◌, IfOk, codes, decimal, string_bytes};
+ghost use Rattle.std.specs.Prelude.{◌≡◌, ◌∷◌, [], ◌++◌, IfOk, OnOk, codes, decimal, string_bytes};
 ghost use Rattle.std.specs.List.{join_with_byte};
 ghost use Rattle.hex.specs.Hex.{encode_upper};
 ghost use Rattle.zw_words.specs.Texts.{side_word};
@@ -10,229 +10,245 @@ use std::alloc::{AllocError, Global};
 use zw_base::{By, Bytes, Name, NoMemory, NodeId, Property, Setting};
 use zw_text::{Done, Ended, LineFault, Refusal, Side};
 
-fn bytes_of(alloc: Global, text: &str) -> Result<Bytes, NoMemory>
-    ensures { IfOk result (λ bytes. bytes ≡ text.now) }
-{
-    Bytes::from_slice(alloc, text.as_bytes())
-}
-
-/// A word, a space and bytes.
-pub fn join_bytes(alloc: Global, word: &str, bytes: &[u8]) -> Result<Bytes, NoMemory>
-    ensures { IfOk result (λ text. text ≡ word.now ++ 32 ∷ bytes.now) }
+/// A word, a space, bytes and an end.
+pub fn join_bytes(alloc: Global, word: &str, bytes: &[u8], end: &str) -> Result<Bytes, NoMemory>
+    ensures { IfOk result (λ text. text ≡ word.now ++ 32 ∷ (bytes.now ++ end.now)) }
 {
     let mut text = Bytes::from_slice(alloc, word.as_bytes())?;
     text.push(b' ')?;
     text.extend(bytes)?;
+    text.extend(end.as_bytes())?;
     Ok(text)
 }
 
-/// A word and a number.
-pub fn print_count(alloc: Global, word: &str, n: u64) -> Result<Bytes, NoMemory>
-    ensures { IfOk result (λ text. text ≡ join_with_byte 32 (word.now ∷ decimal n ∷ [])) }
+/// A word.
+pub fn print_word(text: &mut String, word: &str) -> Result<(), AllocError>
+    ensures { OnOk result (string_bytes text.new ≡ string_bytes text.old ++ word.now) }
 {
-    let text = format!(in alloc; "{word} {n}")?;
-    bytes_of(alloc, text.as_str())
+    text.push_str(word)
+}
+
+/// A word and a number.
+pub fn print_count(text: &mut String, word: &str, n: u64) -> Result<(), AllocError>
+    ensures { OnOk result (string_bytes text.new ≡ string_bytes text.old ++ join_with_byte 32 (word.now ∷ decimal n ∷ [])) }
+{
+    write!(text, "{word} {n}")
 }
 
 /// A word and two numbers.
-pub fn print_pair(alloc: Global, word: &str, first: u64, second: u64) -> Result<Bytes, NoMemory>
-    ensures { IfOk result (λ text. text ≡ join_with_byte 32 (word.now ∷ decimal first ∷ decimal second ∷ [])) }
+pub fn print_pair(text: &mut String, word: &str, first: u64, second: u64) -> Result<(), AllocError>
+    ensures { OnOk result (string_bytes text.new ≡ string_bytes text.old ++ join_with_byte 32 (word.now ∷ decimal first ∷ decimal second ∷ [])) }
 {
-    let text = format!(in alloc; "{word} {first} {second}")?;
-    bytes_of(alloc, text.as_str())
+    write!(text, "{word} {first} {second}")
 }
 
 /// A word, a number and a name.
-pub fn print_named(alloc: Global, word: &str, n: u64, name: &str) -> Result<Bytes, NoMemory>
-    ensures { IfOk result (λ text. text ≡ join_with_byte 32 (word.now ∷ decimal n ∷ name.now ∷ [])) }
+pub fn print_named(text: &mut String, word: &str, n: u64, name: &str) -> Result<(), AllocError>
+    ensures { OnOk result (string_bytes text.new ≡ string_bytes text.old ++ join_with_byte 32 (word.now ∷ decimal n ∷ name.now ∷ [])) }
 {
-    let text = format!(in alloc; "{word} {n} {name}")?;
-    bytes_of(alloc, text.as_str())
+    write!(text, "{word} {n} {name}")
 }
 
 /// `accepted I node N`
-pub fn print_accepted(alloc: Global, command: u32, node: NodeId) -> Result<Bytes, NoMemory>
-    ensures { IfOk result (λ text. text ≡ join_with_byte 32 (codes "accepted" ∷ decimal command ∷ codes "node" ∷ decimal node ∷ [])) }
+pub fn print_accepted(text: &mut String, command: u32, node: NodeId) -> Result<(), AllocError>
+    ensures { OnOk result (string_bytes text.new ≡ string_bytes text.old ++ join_with_byte 32 (codes "accepted" ∷ decimal command ∷ codes "node" ∷ decimal node ∷ [])) }
 {
     let node = node.number();
-    let text = format!(in alloc; "accepted {command} node {node}")?;
-    bytes_of(alloc, text.as_str())
+    write!(text, "accepted {command} node {node}")
 }
 
 /// `begin N S I`
 pub fn print_begin(
-    alloc: Global,
+    text: &mut String,
     node: NodeId,
     session: u64,
     command: u32,
-) -> Result<Bytes, NoMemory>
-    ensures { IfOk result (λ text. text ≡ join_with_byte 32 (codes "begin" ∷ decimal node ∷ decimal session ∷ decimal command ∷ [])) }
+) -> Result<(), AllocError>
+    ensures { OnOk result (string_bytes text.new ≡ string_bytes text.old ++ join_with_byte 32 (codes "begin" ∷ decimal node ∷ decimal session ∷ decimal command ∷ [])) }
 {
     let node = node.number();
-    let text = format!(in alloc; "begin {node} {session} {command}")?;
-    bytes_of(alloc, text.as_str())
+    write!(text, "begin {node} {session} {command}")
 }
 
 /// A word and a side.
-pub fn print_side(alloc: Global, word: &str, side: Side) -> Result<Bytes, NoMemory>
-    ensures { IfOk result (λ text. text ≡ join_with_byte 32 (word.now ∷ side_word side ∷ [])) }
+pub fn print_side(text: &mut String, word: &str, side: Side) -> Result<(), AllocError>
+    ensures { OnOk result (string_bytes text.new ≡ string_bytes text.old ++ join_with_byte 32 (word.now ∷ side_word side ∷ [])) }
 {
     let side = side_name(side);
-    let text = format!(in alloc; "{word} {side}")?;
-    bytes_of(alloc, text.as_str())
+    write!(text, "{word} {side}")
 }
 
 /// `h HEX` or `c HEX`
-pub fn print_written(alloc: Global, side: Side, unit: &[u8]) -> Result<Bytes, NoMemory>
-    ensures { IfOk result (λ text. text ≡ join_with_byte 32 (side_word side ∷ encode_upper unit.now ∷ [])) }
+pub fn print_written(
+    alloc: Global,
+    text: &mut String,
+    side: Side,
+    unit: &[u8],
+) -> Result<(), AllocError>
+    ensures { OnOk result (string_bytes text.new ≡ string_bytes text.old ++ join_with_byte 32 (side_word side ∷ encode_upper unit.now ∷ [])) }
 {
     let side = side_name(side);
     let unit = hex::encode_upper(alloc, unit)?;
-    let text = format!(in alloc; "{side} {unit}")?;
-    bytes_of(alloc, text.as_str())
+    write!(text, "{side} {unit}")
 }
 
 /// `garbled S HEX`
-pub fn print_garbled(alloc: Global, side: Side, unit: &[u8]) -> Result<Bytes, NoMemory>
-    ensures { IfOk result (λ text. text ≡ join_with_byte 32 (codes "garbled" ∷ side_word side ∷ encode_upper unit.now ∷ [])) }
+pub fn print_garbled(
+    alloc: Global,
+    text: &mut String,
+    side: Side,
+    unit: &[u8],
+) -> Result<(), AllocError>
+    ensures { OnOk result (string_bytes text.new ≡ string_bytes text.old ++ join_with_byte 32 (codes "garbled" ∷ side_word side ∷ encode_upper unit.now ∷ [])) }
 {
     let side = side_name(side);
     let unit = hex::encode_upper(alloc, unit)?;
-    let text = format!(in alloc; "garbled {side} {unit}")?;
-    bytes_of(alloc, text.as_str())
+    write!(text, "garbled {side} {unit}")
 }
 
 /// `cleared S K`
-pub fn print_cleared(alloc: Global, side: Side, bytes: u64) -> Result<Bytes, NoMemory>
-    ensures { IfOk result (λ text. text ≡ join_with_byte 32 (codes "cleared" ∷ side_word side ∷ decimal bytes ∷ [])) }
+pub fn print_cleared(text: &mut String, side: Side, bytes: u64) -> Result<(), AllocError>
+    ensures { OnOk result (string_bytes text.new ≡ string_bytes text.old ++ join_with_byte 32 (codes "cleared" ∷ side_word side ∷ decimal bytes ∷ [])) }
 {
     let side = side_name(side);
-    let text = format!(in alloc; "cleared {side} {bytes}")?;
-    bytes_of(alloc, text.as_str())
+    write!(text, "cleared {side} {bytes}")
 }
 
 /// `unread N HEX`
-pub fn print_unread(alloc: Global, node: NodeId, payload: &[u8]) -> Result<Bytes, NoMemory>
-    ensures { IfOk result (λ text. text ≡ join_with_byte 32 (codes "unread" ∷ decimal node ∷ encode_upper payload.now ∷ [])) }
+pub fn print_unread(
+    alloc: Global,
+    text: &mut String,
+    node: NodeId,
+    payload: &[u8],
+) -> Result<(), AllocError>
+    ensures { OnOk result (string_bytes text.new ≡ string_bytes text.old ++ join_with_byte 32 (codes "unread" ∷ decimal node ∷ encode_upper payload.now ∷ [])) }
 {
     let node = node.number();
     let payload = hex::encode_upper(alloc, payload)?;
-    let text = format!(in alloc; "unread {node} {payload}")?;
-    bytes_of(alloc, text.as_str())
+    write!(text, "unread {node} {payload}")
 }
 
 /// A word, a node, a property and its value.
 pub fn print_setting_of(
-    alloc: Global,
+    text: &mut String,
     word: &str,
     node: NodeId,
     setting: Setting,
-) -> Result<Bytes, NoMemory>
-    ensures { IfOk result (λ text. text ≡ join_with_byte 32 (word.now ∷ decimal node ∷ property_word setting.property ∷ decimal setting.value ∷ [])) }
+) -> Result<(), AllocError>
+    ensures { OnOk result (string_bytes text.new ≡ string_bytes text.old ++ join_with_byte 32 (word.now ∷ decimal node ∷ property_word setting.property ∷ decimal setting.value ∷ [])) }
 {
     let node = node.number();
-    let property = show_property(alloc, setting.property)?;
     let value = setting.value;
-    let text = format!(in alloc; "{word} {node} {property} {value}")?;
-    bytes_of(alloc, text.as_str())
+    write!(text, "{word} {node} ")?;
+    write_property(text, setting.property)?;
+    write!(text, " {value}")?;
+    Ok(())
 }
 
 /// A word, a node and a property.
 pub fn print_property_of(
-    alloc: Global,
+    text: &mut String,
     word: &str,
     node: NodeId,
     property: Property,
-) -> Result<Bytes, NoMemory>
-    ensures { IfOk result (λ text. text ≡ join_with_byte 32 (word.now ∷ decimal node ∷ property_word property ∷ [])) }
+) -> Result<(), AllocError>
+    ensures { OnOk result (string_bytes text.new ≡ string_bytes text.old ++ join_with_byte 32 (word.now ∷ decimal node ∷ property_word property ∷ [])) }
 {
     let node = node.number();
-    let property = show_property(alloc, property)?;
-    let text = format!(in alloc; "{word} {node} {property}")?;
-    bytes_of(alloc, text.as_str())
+    write!(text, "{word} {node} ")?;
+    write_property(text, property)?;
+    Ok(())
 }
 
 /// `dev N BY P X`
-pub fn print_made(alloc: Global, node: NodeId, by: By, setting: Setting) -> Result<Bytes, NoMemory>
-    ensures { IfOk result (λ text. text ≡
+pub fn print_made(
+    text: &mut String,
+    node: NodeId,
+    by: By,
+    setting: Setting,
+) -> Result<(), AllocError>
+    ensures { OnOk result (string_bytes text.new ≡ string_bytes text.old ++
         join_with_byte 32 (codes "dev" ∷ decimal node ∷ by_word by ∷ property_word setting.property ∷ decimal setting.value ∷ [])) }
 {
     let node = node.number();
-    let by = show_by(alloc, by)?;
-    let property = show_property(alloc, setting.property)?;
     let value = setting.value;
-    let text = format!(in alloc; "dev {node} {by} {property} {value}")?;
-    bytes_of(alloc, text.as_str())
+    write!(text, "dev {node} ")?;
+    write_by(text, by)?;
+    text.push_str(" ")?;
+    write_property(text, setting.property)?;
+    write!(text, " {value}")?;
+    Ok(())
 }
 
 /// `value N P confirmed X heard X`
 pub fn print_value(
-    alloc: Global,
+    text: &mut String,
     node: NodeId,
     property: Property,
     confirmed: Option<u32>,
     heard: Option<u32>,
-) -> Result<Bytes, NoMemory>
-    ensures { IfOk result (λ text. text ≡
+) -> Result<(), AllocError>
+    ensures { OnOk result (string_bytes text.new ≡ string_bytes text.old ++
         join_with_byte 32
         (codes "value" ∷ decimal node ∷ property_word property ∷ codes "confirmed" ∷ number_word confirmed ∷ codes "heard" ∷ number_word heard ∷ [])) }
 {
     let node = node.number();
-    let property = show_property(alloc, property)?;
-    let confirmed = show_number(alloc, confirmed)?;
-    let heard = show_number(alloc, heard)?;
-    let text = format!(in alloc; "value {node} {property} confirmed {confirmed} heard {heard}")?;
-    bytes_of(alloc, text.as_str())
+    write!(text, "value {node} ")?;
+    write_property(text, property)?;
+    text.push_str(" confirmed ")?;
+    write_number(text, confirmed)?;
+    text.push_str(" heard ")?;
+    write_number(text, heard)?;
+    Ok(())
 }
 
 /// `refused NAME` or `refused NAME X`
-pub fn print_refusal(alloc: Global, refusal: Refusal) -> Result<Bytes, NoMemory>
-    ensures { IfOk result (λ text. text ≡ join_with_byte 32 (codes "refused" ∷ refusal_words refusal)) }
+pub fn print_refusal(alloc: Global, text: &mut String, refusal: Refusal) -> Result<(), AllocError>
+    ensures { OnOk result (string_bytes text.new ≡ string_bytes text.old ++ join_with_byte 32 (codes "refused" ∷ refusal_words refusal)) }
 {
     match refusal {
-        Refusal::NotJoined => bytes_of(alloc, "refused notjoined"),
-        Refusal::NotInterviewed => bytes_of(alloc, "refused notinterviewed"),
-        Refusal::Unsupported { class } => print_unsupported(alloc, class),
-        Refusal::BadValue => bytes_of(alloc, "refused badvalue"),
-        Refusal::Unsupervised => bytes_of(alloc, "refused unsupervised"),
-        Refusal::TooLong { bytes } => print_count(alloc, "refused toolong", u64::from(bytes)),
+        Refusal::NotJoined => print_word(text, "refused notjoined"),
+        Refusal::NotInterviewed => print_word(text, "refused notinterviewed"),
+        Refusal::Unsupported { class } => print_unsupported(alloc, text, class),
+        Refusal::BadValue => print_word(text, "refused badvalue"),
+        Refusal::Unsupervised => print_word(text, "refused unsupervised"),
+        Refusal::TooLong { bytes } => print_count(text, "refused toolong", u64::from(bytes)),
         Refusal::MailboxFull { waiting } => print_count(
-            alloc,
+            text,
             "refused mailboxfull",
             u64::from(waiting),
         ),
         Refusal::StoreFull { properties } => print_count(
-            alloc,
+            text,
             "refused storefull",
             u64::from(properties),
         ),
-        Refusal::Secured => bytes_of(alloc, "refused secured"),
+        Refusal::Secured => print_word(text, "refused secured"),
         Refusal::QueueFull { waiting } => print_count(
-            alloc,
+            text,
             "refused queuefull",
             u64::from(waiting),
         ),
-        Refusal::AlreadyJoined => bytes_of(alloc, "refused alreadyjoined"),
-        Refusal::KeeperFault => bytes_of(alloc, "refused keeperfault"),
+        Refusal::AlreadyJoined => print_word(text, "refused alreadyjoined"),
+        Refusal::KeeperFault => print_word(text, "refused keeperfault"),
         Refusal::NotWaiting { command } => print_count(
-            alloc,
+            text,
             "refused notwaiting",
             u64::from(command),
         ),
-        Refusal::NeverSent => bytes_of(alloc, "refused neversent"),
-        Refusal::Forgotten => bytes_of(alloc, "refused forgotten"),
-        Refusal::Stale { later } => print_count(alloc, "refused stale", later),
-        Refusal::NoDevice => bytes_of(alloc, "refused nodevice"),
-        Refusal::BadRecord { place } => print_count(alloc, "refused badrecord", place),
+        Refusal::NeverSent => print_word(text, "refused neversent"),
+        Refusal::Forgotten => print_word(text, "refused forgotten"),
+        Refusal::Stale { later } => print_count(text, "refused stale", later),
+        Refusal::NoDevice => print_word(text, "refused nodevice"),
+        Refusal::BadRecord { place } => print_count(text, "refused badrecord", place),
     }
 }
 
-fn print_unsupported(alloc: Global, class: u8) -> Result<Bytes, NoMemory>
-    ensures { IfOk result (λ text. text ≡ join_with_byte 32 (codes "refused" ∷ codes "unsupported" ∷ encode_upper (class ∷ []) ∷ [])) }
+fn print_unsupported(alloc: Global, text: &mut String, class: u8) -> Result<(), AllocError>
+    ensures { OnOk result (string_bytes text.new ≡ string_bytes text.old ++ join_with_byte 32 (codes "refused" ∷ codes "unsupported" ∷ encode_upper (class ∷ []) ∷ [])) }
 {
     let class = hex::encode_upper(alloc, [class].as_slice())?;
-    let text = format!(in alloc; "refused unsupported {class}")?;
-    bytes_of(alloc, text.as_str())
+    write!(text, "refused unsupported {class}")
 }
 
 /// The letter of a side.
@@ -294,49 +310,50 @@ pub fn failed_name(failed: bool) -> &'static str
     if failed { "yes" } else { "no" }
 }
 
-fn show_by(alloc: Global, by: By) -> Result<String, AllocError>
-    ensures { IfOk result (λ text. string_bytes text ≡ by_word by) }
+fn write_by(text: &mut String, by: By) -> Result<(), AllocError>
+    ensures { OnOk result (string_bytes text.new ≡ string_bytes text.old ++ by_word by) }
 {
     match by {
-        By::Session(session) => format!(in alloc; "{session}"),
-        By::Local => String::from_str(alloc, "local"),
-        By::Plain => String::from_str(alloc, "plain"),
+        By::Session(session) => write!(text, "{session}"),
+        By::Local => text.push_str("local"),
+        By::Plain => text.push_str("plain"),
     }
 }
 
-fn show_property(alloc: Global, property: Property) -> Result<String, AllocError>
-    ensures { IfOk result (λ text. string_bytes text ≡ property_word property) }
+fn write_property(text: &mut String, property: Property) -> Result<(), AllocError>
+    ensures { OnOk result (string_bytes text.new ≡ string_bytes text.old ++ property_word property) }
 {
     let end = property.end.number();
-    let name = show_name(alloc, property.name)?;
-    format!(in alloc; "{end}/{name}")
+    write!(text, "{end}/")?;
+    write_name(text, property.name)?;
+    Ok(())
 }
 
-fn show_name(alloc: Global, name: Name) -> Result<String, AllocError>
-    ensures { IfOk result (λ text. string_bytes text ≡ name_word name) }
+fn write_name(text: &mut String, name: Name) -> Result<(), AllocError>
+    ensures { OnOk result (string_bytes text.new ≡ string_bytes text.old ++ name_word name) }
 {
     match name {
-        Name::Switch => String::from_str(alloc, "switch"),
-        Name::Level => String::from_str(alloc, "level"),
-        Name::Lock => String::from_str(alloc, "lock"),
-        Name::Mode => String::from_str(alloc, "mode"),
-        Name::Setpoint(kind) => format!(in alloc; "setpoint:{kind}"),
-        Name::Config(parameter) => format!(in alloc; "config:{parameter}"),
+        Name::Switch => text.push_str("switch"),
+        Name::Level => text.push_str("level"),
+        Name::Lock => text.push_str("lock"),
+        Name::Mode => text.push_str("mode"),
+        Name::Setpoint(kind) => write!(text, "setpoint:{kind}"),
+        Name::Config(parameter) => write!(text, "config:{parameter}"),
         Name::Member(group, member) => {
             let member = member.number();
-            format!(in alloc; "member:{group}:{member}")
+            write!(text, "member:{group}:{member}")
         }
-        Name::Interval => String::from_str(alloc, "interval"),
-        Name::Sensor => String::from_str(alloc, "sensor"),
-        Name::Battery => String::from_str(alloc, "battery"),
+        Name::Interval => text.push_str("interval"),
+        Name::Sensor => text.push_str("sensor"),
+        Name::Battery => text.push_str("battery"),
     }
 }
 
-fn show_number(alloc: Global, number: Option<u32>) -> Result<String, AllocError>
-    ensures { IfOk result (λ text. string_bytes text ≡ number_word number) }
+fn write_number(text: &mut String, number: Option<u32>) -> Result<(), AllocError>
+    ensures { OnOk result (string_bytes text.new ≡ string_bytes text.old ++ number_word number) }
 {
     match number {
-        None => String::from_str(alloc, "-"),
-        Some(number) => format!(in alloc; "{number}"),
+        None => text.push_str("-"),
+        Some(number) => write!(text, "{number}"),
     }
 }

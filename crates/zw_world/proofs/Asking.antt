@@ -32,7 +32,7 @@ use Rattle.host_model.specs.Asking.{places_refusal, carriage_for, Waits}
 use Rattle.host_model.specs.declared.out.HostOut.{HostOut}
 use Rattle.host_model.specs.Outs.{answers}
 use Rattle.host_model.proofs.Silence.{Silent}
-use Rattle.host_core.specs.Calls.{DoesAlone, Are, scene}
+use Rattle.host_core.specs.Calls.{DoesAlone, Are, scene, shelf_of}
 use Rattle.host_core.specs.Calls as calls
 use Rattle.host_parts.specs.Choices.{Judges}
 use Rattle.host_core.specs.Orders.{KeptOrRefused, CancelsOrNot, question_event, places_of}
@@ -181,23 +181,23 @@ pub asks : {A : Type 0} (answer : Result A Refused) (rule : Option Refused) (lin
     → Silent (e ∷ []) → is_fault rule ≡ false → ((entered : Refusal) → IsRefusedBy rule entered → IsRefused (machine keys host o r ds) line entered)
     → RefusesOrNone answer rule → OnOk answer (DoesAlone (Are (e ∷ [])) host.state [] host'.state []) → host'.decoder ≡ host.decoder → OnErr answer (host' ≡ host)
     → Answers answer o o' before all
-    → Does (λ (m : Machine) (es : List Event). Asks rule line e es) (scene_of keys host o ds r before f) (scene_of keys host' o' ds r all f)
+    → Does (λ (m : Machine) (es : List Event). Asks rule line e es) (scene_of keys host o ds (shelf_of r f) before) (scene_of keys host' o' ds (shelf_of r f) all)
 asks (Ok value) rule line e keys host host' o o' ds r before all f silent fair refused judged does decoder same done =
-    let ran : Run (Host_does e ∷ []) (scene_of keys host o ds r before f) (scene_of keys host' o ds r before f) =
+    let ran : Run (Host_does e ∷ []) (scene_of keys host o ds (shelf_of r f) before) (scene_of keys host' o ds (shelf_of r f) before) =
     ran_hosted (e ∷ []) keys host host' o o ds r r [] [] before before f f silent refl (alone_did e host.state host'.state r f does) decoder (nothing_goes o before) in (
       Host_does e ∷ [],
       subst (λ (x : Option Refused). Asks x line e (Host_does e ∷ [])) (sym judged) refl,
-      subst (λ (l : List Entry). Run (Host_does e ∷ []) (scene_of keys host o ds r before f) (scene_of keys host' o' ds r l f)) (sym done.1)
-          (subst (λ (x : OuterState). Run (Host_does e ∷ []) (scene_of keys host o ds r before f) (scene_of keys host' x ds r before f)) (sym done.0) ran),
+      subst (λ (l : List Entry). Run (Host_does e ∷ []) (scene_of keys host o ds (shelf_of r f) before) (scene_of keys host' o' ds (shelf_of r f) l)) (sym done.1)
+          (subst (λ (x : OuterState). Run (Host_does e ∷ []) (scene_of keys host o ds (shelf_of r f) before) (scene_of keys host' x ds (shelf_of r f) before)) (sym done.0) ran),
     )
 asks (Err why) rule line e keys host host' o o' ds r before all f silent fair refused (inl judged) does decoder same done =
     let (entered, seen, goes) = done in
-    let ran : Run (refuses line entered ∷ []) (scene_of keys host o ds r before f) (scene_of keys host o' ds r all f) =
+    let ran : Run (refuses line entered ∷ []) (scene_of keys host o ds (shelf_of r f) before) (scene_of keys host o' ds (shelf_of r f) all) =
     ran_refuses line entered keys host o o' ds r before all f f (refused entered (by_rule rule why entered judged seen)) goes
     (rose_entered why entered f f seen (fair_rose rule why f fair judged)) (omega arith) in (
       refuses line entered ∷ [],
       subst (λ (x : Option Refused). Asks x line e (refuses line entered ∷ [])) (sym judged) (entered, seen, refl),
-      subst (λ (x : HostParts). Run (refuses line entered ∷ []) (scene_of keys host o ds r before f) (scene_of keys x o' ds r all f)) (sym same) ran,
+      subst (λ (x : HostParts). Run (refuses line entered ∷ []) (scene_of keys host o ds (shelf_of r f) before) (scene_of keys x o' ds (shelf_of r f) all)) (sym same) ran,
     )
 asks (Err why) rule line e keys host host' o o' ds r before all f silent fair refused (inr judged) does decoder same done =
     let (entered, seen, goes) = done in
@@ -224,12 +224,12 @@ question_refused Probe keys host o ds r entered by = by
 
 -- the chip's table is made, and then the members are asked for
 pub discovers : (keys keys' : Keys) (host host' : HostParts) (o mid o' : OuterState) (ds : List State) (r : Option (List (List ℕ))) (before all : List Entry) (f : ℕ)
-    → Goes (Discovers ∷ []) o mid [] [] → Does (IsAsked Members) (scene_of keys host mid ds r before f) (scene_of keys' host' o' ds r all f)
-    → Does IsDiscovery (scene_of keys host o ds r before f) (scene_of keys' host' o' ds r all f)
+    → Goes (Discovers ∷ []) o mid [] [] → Does (IsAsked Members) (scene_of keys host mid ds (shelf_of r f) before) (scene_of keys' host' o' ds (shelf_of r f) all)
+    → Does IsDiscovery (scene_of keys host o ds (shelf_of r f) before) (scene_of keys' host' o' ds (shelf_of r f) all)
 discovers keys keys' host host' o mid o' ds r before all f goes (asked, are, ran) = (
   Outside_does Discovers ∷ asked,
   (asked, are, refl),
-  ran_both (Outside_does Discovers ∷ []) asked (scene_of keys host o ds r before f) (scene_of keys host mid ds r before f) (scene_of keys' host' o' ds r all f)
+  ran_both (Outside_does Discovers ∷ []) asked (scene_of keys host o ds (shelf_of r f) before) (scene_of keys host mid ds (shelf_of r f) before) (scene_of keys' host' o' ds (shelf_of r f) all)
       (ran_outside (Discovers ∷ []) (machine keys host o r ds) (outside mid ds) before before f (refl, tt) (quiet_goes (Discovers ∷ []) o mid before goes ds)) ran,
 )
 
@@ -239,7 +239,7 @@ discovers keys keys' host host' o mid o' ds r before all f goes (asked, are, ran
 pub ran_answered : (e : HostEvent) (keys : Keys) (host host' : HostParts) (o o' : OuterState) (ds : List State) (r r' : Option (List (List ℕ))) (before all : List Entry) (f g : ℕ)
     → Did (e ∷ []) host.state host'.state [] [] (record { records = r; faults = f }) (record { records = r'; faults = g }) → host'.decoder ≡ host.decoder
     → Goes (notes (answers host.state e)) o o' before all
-    → Run (Host_does e ∷ []) (scene_of keys host o ds r before f) (scene_of keys host' o' ds r' all g)
+    → Run (Host_does e ∷ []) (scene_of keys host o ds (shelf_of r f) before) (scene_of keys host' o' ds (shelf_of r' g) all)
 unfolding happens entries May
 ran_answered e keys host host' o o' ds r r' before all f g did decoder goes =
     let went = goes ds in
@@ -265,12 +265,12 @@ ran_answered e keys host host' o o' ds r r' before all f g did decoder goes =
 pub refused_done : (line : Line) (these : List Event) (entered : Refusal) (keys : Keys) (host host' : HostParts) (o o' : OuterState) (ds : List State) (r r' : Option (List (List ℕ))) (before all : List Entry) (f g : ℕ)
     → host' ≡ host → OptAdds r r' [] → IsRefused (machine keys host o r ds) line entered → Goes (Host_notes (refused_entry entered) ∷ []) o o' before all
     → RoseIf (is_keeper_fault entered) f g → f ≤ g
-    → Does (λ (m : Machine) (es : List Event). IsDone line these es) (scene_of keys host o ds r before f) (scene_of keys host' o' ds r' all g)
+    → Does (λ (m : Machine) (es : List Event). IsDone line these es) (scene_of keys host o ds (shelf_of r f) before) (scene_of keys host' o' ds (shelf_of r' g) all)
 refused_done line these entered keys host host' o o' ds r r' before all f g same kept may goes rose falls = (
   refuses line entered ∷ [],
   inr (entered, refl),
-  subst (λ (x : Option (List (List ℕ))). Run (refuses line entered ∷ []) (scene_of keys host o ds r before f) (scene_of keys host' o' ds x all g)) (sym (none_more r r' kept))
-      (subst (λ (x : HostParts). Run (refuses line entered ∷ []) (scene_of keys host o ds r before f) (scene_of keys x o' ds r all g)) (sym same)
+  subst (λ (x : Option (List (List ℕ))). Run (refuses line entered ∷ []) (scene_of keys host o ds (shelf_of r f) before) (scene_of keys host' o' ds (shelf_of x g) all)) (sym (none_more r r' kept))
+      (subst (λ (x : HostParts). Run (refuses line entered ∷ []) (scene_of keys host o ds (shelf_of r f) before) (scene_of keys x o' ds (shelf_of r g) all)) (sym same)
       (ran_refuses line entered keys host o o' ds r before all f g may goes rose falls)),
 )
 
@@ -315,11 +315,11 @@ uncancelled_rose command fault entered f g seen rose = subst (λ (x : Option Ref
 pub joins : (node : ℕ) (keys : Keys) (host host' : HostParts) (o o' : OuterState) (ds : List State) (r r' : Option (List (List ℕ))) (before : List Entry) (f g : ℕ)
     → Did (joins_host node ∷ []) host.state host'.state [] [] (record { records = r; faults = f }) (record { records = r'; faults = g }) → host'.decoder ≡ host.decoder
     → GoesFor ds (IsOne (Joins node)) o o' [] []
-    → Does (λ (m : Machine) (es : List Event). IsDone (Join node) (Host_does (joins_host node) ∷ Outside_does (Joins node) ∷ []) es) (scene_of keys host o ds r before f) (scene_of keys host' o' ds r' before g)
+    → Does (λ (m : Machine) (es : List Event). IsDone (Join node) (Host_does (joins_host node) ∷ Outside_does (Joins node) ∷ []) es) (scene_of keys host o ds (shelf_of r f) before) (scene_of keys host' o' ds (shelf_of r' g) before)
 joins node keys host host' o o' ds r r' before f g did decoder (es, are, run) = (
   Host_does (joins_host node) ∷ Outside_does (Joins node) ∷ [],
   inl refl,
-  ran_both (Host_does (joins_host node) ∷ []) (Outside_does (Joins node) ∷ []) (scene_of keys host o ds r before f) (scene_of keys host' o ds r' before g) (scene_of keys host' o' ds r' before g)
+  ran_both (Host_does (joins_host node) ∷ []) (Outside_does (Joins node) ∷ []) (scene_of keys host o ds (shelf_of r f) before) (scene_of keys host' o ds (shelf_of r' g) before) (scene_of keys host' o' ds (shelf_of r' g) before)
       (ran_hosted (joins_host node ∷ []) keys host host' o o ds r r' [] [] before before f g ((λ h. refl), tt) refl did decoder (nothing_goes o before))
       (ran_outside (Joins node ∷ []) (machine keys host' o r' ds) (outside o' ds) before before g (refl, tt)
       (quiet_run (Joins node ∷ []) (outside o ds) (outside o' ds) before (subst (λ x. Rattle.outside_model.specs.Did.Run x (outside o ds) (outside o' ds) [] []) are run))),
@@ -328,14 +328,14 @@ joins node keys host host' o o' ds r r' before f g did decoder (es, are, run) = 
 -- ---- whole lines, by what a call of the host answered
 
 pub accepted : {T E : Type 0} (answer : Result T E) (order : Order) (number : ℕ) (keys keys' : Keys) (host mid host' : HostParts) (o o' : OuterState) (r r' : Option (List (List ℕ))) (before all : List Entry) (f g : ℕ)
-    → calls.Does (Are (Accepts order (carriage_for host.state order) ∷ [])) (scene host.state [] r f) (scene mid.state [] r' g) → mid.decoder ≡ host.decoder
+    → calls.Does (Are (Accepts order (carriage_for host.state order) ∷ [])) (scene host.state [] (shelf_of r f)) (scene mid.state [] (shelf_of r' g)) → mid.decoder ≡ host.decoder
     → number ≡ length host.state.commands + 1 → keys' ≡ keys → host' ≡ mid
     → OnOk answer (Goes (Host_notes (Accepted number order.node) ∷ []) o o' before all)
-    → OnOk answer ((ds : List State) → Does (IsEffect (Command order)) (scene_of keys host o ds r before f) (scene_of keys' host' o' ds r' all g))
+    → OnOk answer ((ds : List State) → Does (IsEffect (Command order)) (scene_of keys host o ds (shelf_of r f) before) (scene_of keys' host' o' ds (shelf_of r' g) all))
 accepted (Err fault) order number keys keys' host mid host' o o' r r' before all f g does decoder is same_keys same_host goes = tt
 accepted (Ok value) order number keys keys' host mid host' o o' r r' before all f g does decoder is same_keys same_host goes = λ ds.
     let e = Accepts order (carriage_for host.state order) in
-    did_as (IsEffect (Command order)) (scene_of keys host o ds r before f) keys keys' mid host' o' ds r' all g same_keys same_host (
+    did_as (IsEffect (Command order)) (scene_of keys host o ds (shelf_of r f) before) keys keys' mid host' o' ds r' all g same_keys same_host (
       Host_does e ∷ [],
       inl refl,
       ran_answered e keys host mid o o' ds r r' before all f g
@@ -344,12 +344,12 @@ accepted (Ok value) order number keys keys' host mid host' o o' r r' before all 
     )
 
 pub cancelled : {T E : Type 0} (answer : Result T E) (command : ℕ) (keys keys' : Keys) (host mid host' : HostParts) (o o' : OuterState) (r r' : Option (List (List ℕ))) (before all : List Entry) (f g : ℕ)
-    → calls.Does (Are (Cancels command ∷ [])) (scene host.state [] r f) (scene mid.state [] r' g) → mid.decoder ≡ host.decoder → keys' ≡ keys → host' ≡ mid
+    → calls.Does (Are (Cancels command ∷ [])) (scene host.state [] (shelf_of r f)) (scene mid.state [] (shelf_of r' g)) → mid.decoder ≡ host.decoder → keys' ≡ keys → host' ≡ mid
     → OnOk answer (Goes (Host_notes (Out command Cancelled) ∷ []) o o' before all)
-    → OnOk answer ((ds : List State) → Does (IsEffect (Cancel command)) (scene_of keys host o ds r before f) (scene_of keys' host' o' ds r' all g))
+    → OnOk answer ((ds : List State) → Does (IsEffect (Cancel command)) (scene_of keys host o ds (shelf_of r f) before) (scene_of keys' host' o' ds (shelf_of r' g) all))
 cancelled (Err fault) command keys keys' host mid host' o o' r r' before all f g does decoder same_keys same_host goes = tt
 cancelled (Ok value) command keys keys' host mid host' o o' r r' before all f g does decoder same_keys same_host goes = λ ds.
-    did_as (IsEffect (Cancel command)) (scene_of keys host o ds r before f) keys keys' mid host' o' ds r' all g same_keys same_host (
+    did_as (IsEffect (Cancel command)) (scene_of keys host o ds (shelf_of r f) before) keys keys' mid host' o' ds r' all g same_keys same_host (
       Host_does (Cancels command) ∷ [],
       inl refl,
       ran_answered (Cancels command) keys host mid o o' ds r r' before all f g
@@ -358,8 +358,8 @@ cancelled (Ok value) command keys keys' host mid host' o o' r r' before all f g 
 
 -- the host did its event, and then memory ran out
 pub event_stops : {T E : Type 0} (answer : Result T E) (e : HostEvent) (keys keys' : Keys) (host mid host' : HostParts) (o o' : OuterState) (r r' : Option (List (List ℕ))) (before all : List Entry) (f g : ℕ)
-    → calls.Does (Are (e ∷ [])) (scene host.state [] r f) (scene mid.state [] r' g) → OnErr answer (all ≡ before)
-    → OnErr answer ((ds : List State) → Stops Nothing (scene_of keys host o ds r before f) (scene_of keys' host' o' ds r' all g))
+    → calls.Does (Are (e ∷ [])) (scene host.state [] (shelf_of r f)) (scene mid.state [] (shelf_of r' g)) → OnErr answer (all ≡ before)
+    → OnErr answer ((ds : List State) → Stops Nothing (scene_of keys host o ds (shelf_of r f) before) (scene_of keys' host' o' ds (shelf_of r' g) all))
 event_stops (Ok value) e keys keys' host mid host' o o' r r' before all f g does same = tt
 event_stops (Err fault) e keys keys' host mid host' o o' r r' before all f g does same = λ ds.
     stopped_hosted does.events keys keys' host host' o o' ds r r' mid.state [] [] before all f g does.did same
@@ -370,14 +370,14 @@ pub refusal_done : {T E : Type 0} (answer : Result T E) (line : Line) (these : L
     → ((entered : Refusal) → seen ≡ Some entered → RoseIf (is_keeper_fault entered) f g)
     → mid ≡ host → OptAdds r r' [] → f ≤ g → keys' ≡ keys → host' ≡ mid
     → OnOk answer ((entered : Refusal) × (seen ≡ Some entered) × Goes (Host_notes (refused_entry entered) ∷ []) o o' before all)
-    → OnOk answer ((ds : List State) → Does (λ (m : Machine) (es : List Event). IsDone line these es) (scene_of keys host o ds r before f) (scene_of keys' host' o' ds r' all g))
+    → OnOk answer ((ds : List State) → Does (λ (m : Machine) (es : List Event). IsDone line these es) (scene_of keys host o ds (shelf_of r f) before) (scene_of keys' host' o' ds (shelf_of r' g) all))
 refusal_done (Err fault) line these seen keys keys' host mid host' o o' r r' before all f g may rose same kept falls same_keys same_host goes = tt
 refusal_done (Ok value) line these seen keys keys' host mid host' o o' r r' before all f g may rose same kept falls same_keys same_host (entered, is, goes) = λ ds.
-    did_as (λ (m : Machine) (es : List Event). IsDone line these es) (scene_of keys host o ds r before f) keys keys' mid host' o' ds r' all g same_keys same_host
+    did_as (λ (m : Machine) (es : List Event). IsDone line these es) (scene_of keys host o ds (shelf_of r f) before) keys keys' mid host' o' ds r' all g same_keys same_host
     (refused_done line these entered keys host mid o o' ds r r' before all f g same kept (may entered is ds) goes (rose entered is) falls)
 
 pub refusal_stops : {T E : Type 0} (answer : Result T E) (keys keys' : Keys) (host host' : HostParts) (o o' : OuterState) (r r' : Option (List (List ℕ))) (before all : List Entry) (f g : ℕ)
-    → OptAdds r r' [] → f ≤ g → OnErr answer (all ≡ before) → OnErr answer ((ds : List State) → Stops Nothing (scene_of keys host o ds r before f) (scene_of keys' host' o' ds r' all g))
+    → OptAdds r r' [] → f ≤ g → OnErr answer (all ≡ before) → OnErr answer ((ds : List State) → Stops Nothing (scene_of keys host o ds (shelf_of r f) before) (scene_of keys' host' o' ds (shelf_of r' g) all))
 refusal_stops (Ok value) keys keys' host host' o o' r r' before all f g kept falls same = tt
 refusal_stops (Err fault) keys keys' host host' o o' r r' before all f g kept falls same = λ ds.
     stopped_still Nothing keys keys' host host' o o' ds r r' before all f g refl (none_more r r' kept) same falls
@@ -387,15 +387,15 @@ pub asked : {A T E : Type 0} (answer : Result T E) (said : Result A Refused) (ru
     → Silent (e ∷ []) → is_fault rule ≡ false → ((ds : List State) (r : Option (List (List ℕ))) (entered : Refusal) → IsRefusedBy rule entered → IsRefused (machine keys host o r ds) line entered)
     → RefusesOrNone said rule → OnOk said (DoesAlone (Are (e ∷ [])) host.state [] mid.state []) → mid.decoder ≡ host.decoder → OnErr said (mid ≡ host) → keys' ≡ keys → host' ≡ mid
     → OnOk answer (Answers said o o' before all)
-    → OnOk answer ((ds : List State) (r : Option (List (List ℕ))) (f : ℕ) → Does (λ (m : Machine) (es : List Event). Asks rule line e es) (scene_of keys host o ds r before f) (scene_of keys' host' o' ds r all f))
+    → OnOk answer ((ds : List State) (r : Option (List (List ℕ))) (f : ℕ) → Does (λ (m : Machine) (es : List Event). Asks rule line e es) (scene_of keys host o ds (shelf_of r f) before) (scene_of keys' host' o' ds (shelf_of r f) all))
 asked (Err fault) said rule line e keys keys' host mid host' o o' before all silent fair refused judged does decoder same same_keys same_host done = tt
 asked (Ok value) said rule line e keys keys' host mid host' o o' before all silent fair refused judged does decoder same same_keys same_host done = λ ds r f.
-    did_as (λ (m : Machine) (es : List Event). Asks rule line e es) (scene_of keys host o ds r before f) keys keys' mid host' o' ds r all f same_keys same_host
+    did_as (λ (m : Machine) (es : List Event). Asks rule line e es) (scene_of keys host o ds (shelf_of r f) before) keys keys' mid host' o' ds r all f same_keys same_host
     (asks said rule line e keys host mid o o' ds r before all f silent fair (refused ds r) judged does decoder same done)
 
 ran_shows : (node : ℕ) (keys : Keys) (host : HostParts) (o o' : OuterState) (ds : List State) (r : Option (List (List ℕ))) (before all : List Entry) (f : ℕ)
     → Goes (Host_notes (Json (values_text node (held_of host.state.store node))) ∷ []) o o' before all
-    → Run (Shows_values node ∷ []) (scene_of keys host o ds r before f) (scene_of keys host o' ds r all f)
+    → Run (Shows_values node ∷ []) (scene_of keys host o ds (shelf_of r f) before) (scene_of keys host o' ds (shelf_of r f) all)
 unfolding happens entries May
 ran_shows node keys host o o' ds r before all f goes =
     let went = goes ds in
@@ -409,16 +409,16 @@ ran_shows node keys host o o' ds r before all f goes =
 -- the stored values of a node are shown
 pub shows_values : {T E : Type 0} (answer : Result T E) (node : ℕ) (text : List ℕ) (keys keys' : Keys) (host host' : HostParts) (o o' : OuterState) (before all : List Entry)
     → text ≡ values_text node (held_of host.state.store node) → keys' ≡ keys → host' ≡ host → OnOk answer (Goes (Host_notes (Json text) ∷ []) o o' before all)
-    → OnOk answer ((ds : List State) (r : Option (List (List ℕ))) (f : ℕ) → Does (IsEffect (Store node)) (scene_of keys host o ds r before f) (scene_of keys' host' o' ds r all f))
+    → OnOk answer ((ds : List State) (r : Option (List (List ℕ))) (f : ℕ) → Does (IsEffect (Store node)) (scene_of keys host o ds (shelf_of r f) before) (scene_of keys' host' o' ds (shelf_of r f) all))
 shows_values (Err fault) node text keys keys' host host' o o' before all is same_keys same_host goes = tt
 shows_values (Ok value) node text keys keys' host host' o o' before all is same_keys same_host goes = λ ds r f.
-    did_as (IsEffect (Store node)) (scene_of keys host o ds r before f) keys keys' host host' o' ds r all f same_keys same_host
+    did_as (IsEffect (Store node)) (scene_of keys host o ds (shelf_of r f) before) keys keys' host host' o' ds r all f same_keys same_host
     (Shows_values node ∷ [], refl, ran_shows node keys host o o' ds r before all f (subst (λ (t : List ℕ). Goes (Host_notes (Json t) ∷ []) o o' before all) is goes))
 
 -- a node joins, in all
 pub joined : {T E : Type 0} (answer : Result T E) (node : ℕ) (keys : Keys) (host mid : HostParts) (o o' : OuterState) (ds : List State) (r r' : Option (List (List ℕ))) (before : List Entry) (f g : ℕ)
-    → calls.Does (Are (joins_host node ∷ [])) (scene host.state [] r f) (scene mid.state [] r' g) → mid.decoder ≡ host.decoder → OnOk answer (GoesFor ds (IsOne (Joins node)) o o' [] [])
-    → OnOk answer (Does (IsEffect (Join node)) (scene_of keys host o ds r before f) (scene_of keys mid o' ds r' before g))
+    → calls.Does (Are (joins_host node ∷ [])) (scene host.state [] (shelf_of r f)) (scene mid.state [] (shelf_of r' g)) → mid.decoder ≡ host.decoder → OnOk answer (GoesFor ds (IsOne (Joins node)) o o' [] [])
+    → OnOk answer (Does (IsEffect (Join node)) (scene_of keys host o ds (shelf_of r f) before) (scene_of keys mid o' ds (shelf_of r' g) before))
 joined (Err fault) node keys host mid o o' ds r r' before f g does decoder goes = tt
 joined (Ok value) node keys host mid o o' ds r r' before f g does decoder goes =
     joins node keys host mid o o' ds r r' before f g

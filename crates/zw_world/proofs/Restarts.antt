@@ -37,6 +37,7 @@ use Rattle.zw_world.specs.Effects.{ClearsInPart, shown_unopened}
 use Rattle.world_model.proofs.Hosting.{stopped_by}
 use Rattle.zw_world.proofs.Scenes.{ran_refuses, none_more, did_as}
 use Rattle.zw_world.proofs.Asking.{fault_in, IsNothing}
+use Rattle.host_core.specs.Calls.{shelf_of}
 
 -- ---- the new host
 
@@ -45,7 +46,7 @@ opens_from keys number None host opens = tt
 opens_from keys number (Some texts) host opens = (opens.records, opens.are, opens.legal, ap (λ (h : HostParts). h.state) opens.state)
 
 starts : (keys : Keys) (number : ℕ) (host host' : HostParts) (o : OuterState) (ds : List State) (r : Option (List (List ℕ))) (before : List Entry) (f g : ℕ)
-    → Opens keys number r host' → f ≤ g → Run (Restarts host'.state ∷ []) (scene_of keys host o ds r before f) (scene_of keys host' o ds r before g)
+    → Opens keys number r host' → f ≤ g → Run (Restarts host'.state ∷ []) (scene_of keys host o ds (shelf_of r f) before) (scene_of keys host' o ds (shelf_of r g) before)
 unfolding happens entries May
 starts keys number host host' o ds r before f g opens falls = record {
   may = (opens_from keys number r host' opens, tt);
@@ -56,44 +57,44 @@ starts keys number host host' o ds r before f g opens falls = record {
 
 pub restarted : (keys : Keys) (number : ℕ) (host host' : HostParts) (o o' : OuterState) (ds : List State) (r r' : Option (List (List ℕ))) (before all : List Entry) (f g : ℕ)
     → Opens keys number r host' → OptAdds r r' [] → f ≤ g → Goes (Clears_pipe side.Host ∷ Clears_pipe side.Chip ∷ []) o o' before all
-    → Does (λ (m : Machine) (es : List Event). IsRestart es) (scene_of keys host o ds r before f) (scene_of keys host' o' ds r' all g)
+    → Does (λ (m : Machine) (es : List Event). IsRestart es) (scene_of keys host o ds (shelf_of r f) before) (scene_of keys host' o' ds (shelf_of r' g) all)
 restarted keys number host host' o o' ds r r' before all f g opens kept falls goes =
     let es = Clears_pipe side.Host ∷ Clears_pipe side.Chip ∷ [] in
-    let ran : Run (Restarts host'.state ∷ map Outside_does es) (scene_of keys host o ds r before f) (scene_of keys host' o' ds r all g) =
-    ran_both (Restarts host'.state ∷ []) (map Outside_does es) (scene_of keys host o ds r before f) (scene_of keys host' o ds r before g) (scene_of keys host' o' ds r all g)
+    let ran : Run (Restarts host'.state ∷ map Outside_does es) (scene_of keys host o ds (shelf_of r f) before) (scene_of keys host' o' ds (shelf_of r g) all) =
+    ran_both (Restarts host'.state ∷ []) (map Outside_does es) (scene_of keys host o ds (shelf_of r f) before) (scene_of keys host' o ds (shelf_of r g) before) (scene_of keys host' o' ds (shelf_of r g) all)
     (starts keys number host host' o ds r before f g opens falls)
     (ran_outside es (machine keys host' o r ds) (outside o' ds) before all g (refl, (refl, tt)) (goes ds)) in (
       restart_events host'.state,
       inl (host'.state, refl),
-      subst (λ (x : Option (List (List ℕ))). Run (restart_events host'.state) (scene_of keys host o ds r before f) (scene_of keys host' o' ds x all g)) (sym (none_more r r' kept)) ran,
+      subst (λ (x : Option (List (List ℕ))). Run (restart_events host'.state) (scene_of keys host o ds (shelf_of r f) before) (scene_of keys host' o' ds (shelf_of x g) all)) (sym (none_more r r' kept)) ran,
     )
 
 -- for lack of memory the bytes to the chip alone were lost, or none
 started_alone : (keys keys' : Keys) (number : ℕ) (host host' host'' : HostParts) (o o' : OuterState) (ds : List State) (r : Option (List (List ℕ))) (before all : List Entry) (f g : ℕ)
-    → Opens keys number r host' → f ≤ g → all ≡ before → Stops RestartPrefix (scene_of keys host o ds r before f) (scene_of keys' host'' o' ds r all g)
+    → Opens keys number r host' → f ≤ g → all ≡ before → Stops RestartPrefix (scene_of keys host o ds (shelf_of r f) before) (scene_of keys' host'' o' ds (shelf_of r g) all)
 unfolding happens May
 started_alone keys keys' number host host' host'' o o' ds r before all f g opens falls same =
     stopped_by RestartPrefix (Restarts host'.state ∷ []) (machine keys host o r ds) (machine keys' host'' o' r ds) before all f g (inl refl) (tt, tt) (opens_from keys number r host' opens, tt) refl refl same falls
 
 cleared_one : (keys keys' : Keys) (number : ℕ) (host host' host'' : HostParts) (o mid o' : OuterState) (ds : List State) (r : Option (List (List ℕ))) (before all : List Entry) (f g : ℕ)
-    → Opens keys number r host' → f ≤ g → Goes (Clears_pipe side.Host ∷ []) o mid before all → Stops RestartPrefix (scene_of keys host o ds r before f) (scene_of keys' host'' o' ds r all g)
+    → Opens keys number r host' → f ≤ g → Goes (Clears_pipe side.Host ∷ []) o mid before all → Stops RestartPrefix (scene_of keys host o ds (shelf_of r f) before) (scene_of keys' host'' o' ds (shelf_of r g) all)
 cleared_one keys keys' number host host' host'' o mid o' ds r before all f g opens falls goes =
     let cleared : List Event = Outside_does (Clears_pipe side.Host) ∷ [] in
-    let ran : Run (Restarts host'.state ∷ cleared) (scene_of keys host o ds r before f) (scene_of keys host' mid ds r all g) =
-    ran_both (Restarts host'.state ∷ []) cleared (scene_of keys host o ds r before f) (scene_of keys host' o ds r before g) (scene_of keys host' mid ds r all g)
+    let ran : Run (Restarts host'.state ∷ cleared) (scene_of keys host o ds (shelf_of r f) before) (scene_of keys host' mid ds (shelf_of r g) all) =
+    ran_both (Restarts host'.state ∷ []) cleared (scene_of keys host o ds (shelf_of r f) before) (scene_of keys host' o ds (shelf_of r g) before) (scene_of keys host' mid ds (shelf_of r g) all)
     (starts keys number host host' o ds r before f g opens falls)
     (ran_outside (Clears_pipe side.Host ∷ []) (machine keys host' o r ds) (outside mid ds) before all g (refl, tt) (goes ds)) in
-    stopped_later RestartPrefix Nothing (Restarts host'.state ∷ cleared) (scene_of keys host o ds r before f) (scene_of keys host' mid ds r all g) (scene_of keys' host'' o' ds r all g)
+    stopped_later RestartPrefix Nothing (Restarts host'.state ∷ cleared) (scene_of keys host o ds (shelf_of r f) before) (scene_of keys host' mid ds (shelf_of r g) all) (scene_of keys' host'' o' ds (shelf_of r g) all)
     (λ events none. inr (host'.state, ap (λ (l : List Event). Restarts host'.state ∷ Outside_does (Clears_pipe side.Host) ∷ l) none)) ran
     (stopped_still Nothing keys keys' host' host'' mid o' ds r r all all g g refl refl refl (omega arith))
 
 pub restart_stops : (keys keys' : Keys) (number : ℕ) (host host' host'' : HostParts) (o o' : OuterState) (ds : List State) (r r' : Option (List (List ℕ))) (before all : List Entry) (f g : ℕ)
     → Opens keys number r host' → OptAdds r r' [] → f ≤ g → ClearsInPart o before all
-    → Stops RestartPrefix (scene_of keys host o ds r before f) (scene_of keys' host'' o' ds r' all g)
+    → Stops RestartPrefix (scene_of keys host o ds (shelf_of r f) before) (scene_of keys' host'' o' ds (shelf_of r' g) all)
 restart_stops keys keys' number host host' host'' o o' ds r r' before all f g opens kept falls stops =
-    subst (λ (x : Option (List (List ℕ))). Stops RestartPrefix (scene_of keys host o ds r before f) (scene_of keys' host'' o' ds x all g)) (sym (none_more r r' kept)) (by stops)
+    subst (λ (x : Option (List (List ℕ))). Stops RestartPrefix (scene_of keys host o ds (shelf_of r f) before) (scene_of keys' host'' o' ds (shelf_of x g) all)) (sym (none_more r r' kept)) (by stops)
   where
-    by : ClearsInPart o before all → Stops RestartPrefix (scene_of keys host o ds r before f) (scene_of keys' host'' o' ds r all g)
+    by : ClearsInPart o before all → Stops RestartPrefix (scene_of keys host o ds (shelf_of r f) before) (scene_of keys' host'' o' ds (shelf_of r g) all)
     by (inl same) = started_alone keys keys' number host host' host'' o o' ds r before all f g opens falls same
     by (inr (mid, goes)) = cleared_one keys keys' number host host' host'' o mid o' ds r before all f g opens falls goes
 
@@ -134,12 +135,12 @@ pub unopened : (fault : OpenFault) (entered : Refusal) (keys : Keys) (host host'
     → host' ≡ host → OptAdds r r' [] → shown_unopened fault ≡ Some entered
     → ((at : ℕ) (texts : List (List ℕ)) → fault ≡ opening.BadRecord at → r ≡ Some texts → IsFirstBad texts at) → (fault ≡ opening.KeeperFault → Rose f g) → f ≤ g
     → Goes (Host_notes (refused_entry entered) ∷ []) o o' before all
-    → Does (λ (m : Machine) (es : List Event). IsRestart es) (scene_of keys host o ds r before f) (scene_of keys host' o' ds r' all g)
+    → Does (λ (m : Machine) (es : List Event). IsRestart es) (scene_of keys host o ds (shelf_of r f) before) (scene_of keys host' o' ds (shelf_of r' g) all)
 unopened fault entered keys host host' o o' ds r r' before all f g same kept seen bad rose falls goes = (
   Refuses Restart entered ∷ [],
   inr (entered, refl),
-  subst (λ (x : Option (List (List ℕ))). Run (Refuses Restart entered ∷ []) (scene_of keys host o ds r before f) (scene_of keys host' o' ds x all g)) (sym (none_more r r' kept))
-      (subst (λ (x : HostParts). Run (Refuses Restart entered ∷ []) (scene_of keys host o ds r before f) (scene_of keys x o' ds r all g)) (sym same)
+  subst (λ (x : Option (List (List ℕ))). Run (Refuses Restart entered ∷ []) (scene_of keys host o ds (shelf_of r f) before) (scene_of keys host' o' ds (shelf_of x g) all)) (sym (none_more r r' kept))
+      (subst (λ (x : HostParts). Run (Refuses Restart entered ∷ []) (scene_of keys host o ds (shelf_of r f) before) (scene_of keys x o' ds (shelf_of r g) all)) (sym same)
       (ran_refuses Restart entered keys host o o' ds r before all f g (unopened_as r fault entered seen bad) goes (unopened_rose fault entered f g seen rose) falls)),
 )
 
@@ -147,18 +148,18 @@ unopened fault entered keys host host' o o' ds r r' before all f g same kept see
 
 pub restarted_all : {T E : Type 0} (answer : Result T E) (keys keys' : Keys) (number : ℕ) (host mid host' : HostParts) (o o' : OuterState) (r r' : Option (List (List ℕ))) (before all : List Entry) (f g : ℕ)
     → Opens keys number r mid → OptAdds r r' [] → f ≤ g → keys' ≡ keys → OnOk answer (Goes (Clears_pipe side.Host ∷ Clears_pipe side.Chip ∷ []) o o' before all) → OnOk answer (host' ≡ mid)
-    → OnOk answer ((ds : List State) → Does (λ (m : Machine) (es : List Event). IsRestart es) (scene_of keys host o ds r before f) (scene_of keys' host' o' ds r' all g))
+    → OnOk answer ((ds : List State) → Does (λ (m : Machine) (es : List Event). IsRestart es) (scene_of keys host o ds (shelf_of r f) before) (scene_of keys' host' o' ds (shelf_of r' g) all))
 restarted_all (Err fault) keys keys' number host mid host' o o' r r' before all f g opens kept falls same_keys goes same_host = tt
 restarted_all (Ok value) keys keys' number host mid host' o o' r r' before all f g opens kept falls same_keys goes same_host = λ ds.
-    did_as (λ (m : Machine) (es : List Event). IsRestart es) (scene_of keys host o ds r before f) keys keys' mid host' o' ds r' all g same_keys same_host
+    did_as (λ (m : Machine) (es : List Event). IsRestart es) (scene_of keys host o ds (shelf_of r f) before) keys keys' mid host' o' ds r' all g same_keys same_host
     (restarted keys number host mid o o' ds r r' before all f g opens kept falls goes)
 
 pub unopened_all : {T E : Type 0} (answer : Result T E) (fault : OpenFault) (keys keys' : Keys) (host host' : HostParts) (o o' : OuterState) (r r' : Option (List (List ℕ))) (before all : List Entry) (f g : ℕ)
     → host' ≡ host → OptAdds r r' []
     → ((at : ℕ) (texts : List (List ℕ)) → fault ≡ opening.BadRecord at → r ≡ Some texts → IsFirstBad texts at) → (fault ≡ opening.KeeperFault → Rose f g) → f ≤ g → keys' ≡ keys
     → OnOk answer ((entered : Refusal) × (shown_unopened fault ≡ Some entered) × Goes (Host_notes (refused_entry entered) ∷ []) o o' before all)
-    → OnOk answer ((ds : List State) → Does (λ (m : Machine) (es : List Event). IsRestart es) (scene_of keys host o ds r before f) (scene_of keys' host' o' ds r' all g))
+    → OnOk answer ((ds : List State) → Does (λ (m : Machine) (es : List Event). IsRestart es) (scene_of keys host o ds (shelf_of r f) before) (scene_of keys' host' o' ds (shelf_of r' g) all))
 unopened_all (Err wanting) fault keys keys' host host' o o' r r' before all f g same kept bad rose falls same_keys goes = tt
 unopened_all (Ok value) fault keys keys' host host' o o' r r' before all f g same kept bad rose falls same_keys (entered, seen, goes) = λ ds.
-    did_as (λ (m : Machine) (es : List Event). IsRestart es) (scene_of keys host o ds r before f) keys keys' host' host' o' ds r' all g same_keys refl
+    did_as (λ (m : Machine) (es : List Event). IsRestart es) (scene_of keys host o ds (shelf_of r f) before) keys keys' host' host' o' ds r' all g same_keys refl
     (unopened fault entered keys host host' o o' ds r r' before all f g same kept seen bad rose falls goes)

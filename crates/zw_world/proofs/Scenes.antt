@@ -25,6 +25,7 @@ use Rattle.world_model.proofs.EventLists.{counted_one}
 use Rattle.world_model.proofs.Outside.{ran_outside}
 use Rattle.world_step.specs.Scene.{scene_of}
 use Rattle.world_step.proofs.Scenes.{stopped_out, prefixes_of, prefix_of}
+use Rattle.host_core.specs.Calls.{shelf_of}
 
 -- no record was added
 pub none_more : (r r' : Option (List (List ℕ))) → OptAdds r r' [] → r' ≡ r
@@ -41,14 +42,14 @@ quiet_run es w w' before went =
 -- one with these devices
 pub did_run : (e : OuterEvent) (keys : Keys) (host : HostParts) (o o' : OuterState) (ds : List State) (r : Option (List (List ℕ))) (before all : List Entry) (f : ℕ)
     → is_own e ≡ true → GoesFor ds (IsOneOutside e) o o' before all
-    → Does (These (Outside_does e ∷ [])) (scene_of keys host o ds r before f) (scene_of keys host o' ds r all f)
+    → Does (These (Outside_does e ∷ [])) (scene_of keys host o ds (shelf_of r f) before) (scene_of keys host o' ds (shelf_of r f) all)
 did_run e keys host o o' ds r before all f own (es, are, run) =
     (Outside_does e ∷ [], refl, ran_outside (e ∷ []) (machine keys host o r ds) (outside o' ds) before all f (own, tt) (subst (λ (l : List OuterEvent). RunOutside l (outside o ds) (outside o' ds) before all) are run))
 
 -- some of a kind were done in part
 pub stopped_of : (Kind : List OuterEvent → Type 0) (keys keys' : Keys) (host host' : HostParts) (o o' : OuterState) (ds ds' : List State) (r : Option (List (List ℕ))) (before all : List Entry) (f : ℕ)
     → StopsOutside (PrefixOfOutside Kind) (outside o ds) ds' before all
-    → Stops (PrefixOf (λ (m : Machine) (es : List Event). OutsideOf Kind es)) (scene_of keys host o ds r before f) (scene_of keys' host' o' ds' r all f)
+    → Stops (PrefixOf (λ (m : Machine) (es : List Event). OutsideOf Kind es)) (scene_of keys host o ds (shelf_of r f) before) (scene_of keys' host' o' ds' (shelf_of r f) all)
 stopped_of Kind keys keys' host host' o o' ds ds' r before all f stops =
     stopped_out (PrefixOf (λ (m : Machine) (es : List Event). OutsideOf Kind es)) (PrefixOfOutside Kind) keys keys' host host' o o' ds ds' r before all f (prefixes_of Kind) (prefix_of Kind (machine keys host o r ds)) stops
 
@@ -56,7 +57,7 @@ stopped_of Kind keys keys' host host' o o' ds ds' r before all f stops =
 
 pub ran_refuses : (line : Line) (refusal : Refusal) (keys : Keys) (host : HostParts) (o o' : OuterState) (ds : List State) (r : Option (List (List ℕ))) (before all : List Entry) (f g : ℕ)
     → IsRefused (machine keys host o r ds) line refusal → Goes (Host_notes (refused_entry refusal) ∷ []) o o' before all → RoseIf (is_keeper_fault refusal) f g → f ≤ g
-    → Run (Refuses line refusal ∷ []) (scene_of keys host o ds r before f) (scene_of keys host o' ds r all g)
+    → Run (Refuses line refusal ∷ []) (scene_of keys host o ds (shelf_of r f) before) (scene_of keys host o' ds (shelf_of r g) all)
 unfolding happens entries May
 ran_refuses line refusal keys host o o' ds r before all f g may goes rose falls =
     let went = goes ds in
@@ -71,6 +72,6 @@ ran_refuses line refusal keys host o o' ds r before all f g may goes rose falls 
 
 -- the same host and keys at the end
 pub did_as : (Kind : Schedule) (s : Scene) (keys keys' : Keys) (host host' : HostParts) (o : OuterState) (ds : List State) (r : Option (List (List ℕ))) (all : List Entry) (f : ℕ)
-    → keys' ≡ keys → host' ≡ host → Does Kind s (scene_of keys host o ds r all f) → Does Kind s (scene_of keys' host' o ds r all f)
+    → keys' ≡ keys → host' ≡ host → Does Kind s (scene_of keys host o ds (shelf_of r f) all) → Does Kind s (scene_of keys' host' o ds (shelf_of r f) all)
 did_as Kind s keys keys' host host' o ds r all f same_keys same_host done =
-    subst (λ (k : Keys). Does Kind s (scene_of k host' o ds r all f)) (sym same_keys) (subst (λ (h : HostParts). Does Kind s (scene_of keys h o ds r all f)) (sym same_host) done)
+    subst (λ (k : Keys). Does Kind s (scene_of k host' o ds (shelf_of r f) all)) (sym same_keys) (subst (λ (h : HostParts). Does Kind s (scene_of keys h o ds (shelf_of r f) all)) (sym same_host) done)

@@ -9,6 +9,7 @@ use Rattle.host_model.specs.State.{HostParts, first_host}
 use Rattle.outside_model.specs.State.{OuterState, first_outer}
 use Rattle.world_model.specs.State.{Machine, machine}
 use Rattle.world_model.specs.Did.{Scene}
+use Rattle.host_keep.specs.Keeping.{Shelf}
 
 -- the keys of the network, the host, and what is outside it but for the devices
 pub record WorldState : Type 0 where
@@ -24,6 +25,6 @@ first_world key = record { keys = keys_of key; host = record { decoder = no_rest
 abbrev pub machine_of : WorldState → List State → Option (List (List ℕ)) → Machine
 machine_of w devices records = machine w.keys w.host w.outer records devices
 
--- and with the entries so far and the keeper's count of faults
-abbrev pub scene : WorldState → List State → Option (List (List ℕ)) → List Entry → ℕ → Scene
-scene w devices records entries faults = record { machine = machine_of w devices records; entries = entries; faults = faults }
+-- with devices, what a keeper holds, and the entries so far
+abbrev pub scene : WorldState → List State → Shelf → List Entry → Scene
+scene w devices shelf entries = record { machine = machine_of w devices shelf.records; entries = entries; faults = shelf.faults }

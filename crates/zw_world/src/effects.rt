@@ -10,6 +10,7 @@ ghost use Rattle.world_model.specs.Lines.{IsEffect};
 ghost use Rattle.zw_world.specs.World.{scene};
 ghost use Rattle.zw_world.specs.Effects.{IsSetting, IsAsked, is_tick, asks_or_sets};
 ghost use Rattle.zw_world.specs.Keeping.{GoesOn, KeepsOrRefuses};
+ghost use Rattle.host_core.specs.Calls.{shelf_of};
 
 use crate::World;
 use device_sim::Device;
@@ -32,11 +33,11 @@ impl World {
         requires few { length devices.old.items < 2 ^ 64 }
         requires effect { is_tick line.now ≡ Rattle.std.specs.Prelude.false }
         ensures ok { OnOk result (Does (IsEffect line.now)
-            (scene self.old (map (λ d. state d) devices.old.items) (P.records keeper.old) out.old.items (P.faults keeper.old))
-            (scene self.new (map (λ d. state d) devices.new.items) (P.records keeper.new) out.new.items (P.faults keeper.new))) }
+            (scene self.old (map (λ d. state d) devices.old.items) (P.shelf keeper.old) out.old.items)
+            (scene self.new (map (λ d. state d) devices.new.items) (P.shelf keeper.new) out.new.items)) }
         ensures err { OnErr result (Stops (EffectPrefix line.now)
-            (scene self.old (map (λ d. state d) devices.old.items) (P.records keeper.old) out.old.items (P.faults keeper.old))
-            (scene self.new (map (λ d. state d) devices.new.items) (P.records keeper.new) out.new.items (P.faults keeper.new))) }
+            (scene self.old (map (λ d. state d) devices.old.items) (P.shelf keeper.old) out.old.items)
+            (scene self.new (map (λ d. state d) devices.new.items) (P.shelf keeper.new) out.new.items)) }
         ensures kept { length devices.new.items ≡ length devices.old.items }
         ensures goes_on { GoesOn (P.number keeper.old) (P.number keeper.new) (P.reads keeper.old) (P.reads keeper.new) }
         ensures keeps { OnOk result (self.old.outer.in_tick ≡ false →
@@ -60,7 +61,7 @@ impl World {
     fn ask_or_set(&mut self, line: &Line, out: &mut List<Entry>) -> Result<(), NoMemory>
         requires { asks_or_sets line.now ≡ Rattle.std.specs.Prelude.true }
         ensures ok { OnOk result ((ds : Items State) (records : Option (Items (Items ℕ))) (faults : ℕ) →
-            Does (IsEffect line.now) (scene self.old ds records out.old.items faults) (scene self.new ds records out.new.items faults)) }
+            Does (IsEffect line.now) (scene self.old ds (shelf_of records faults) out.old.items) (scene self.new ds (shelf_of records faults) out.new.items)) }
         ensures err { OnErr result (out.new.items ≡ out.old.items) }
     {
         match line {
@@ -80,7 +81,7 @@ impl World {
     fn set(&mut self, line: &Line) -> Result<(), NoMemory>
         requires { IsSetting line.now }
         ensures ok { OnOk result ((ds : Items State) (records : Option (Items (Items ℕ))) (before : Items TheEntry) (faults : ℕ) →
-            Does (IsEffect line.now) (scene self.old ds records before faults) (scene self.new ds records before faults)) }
+            Does (IsEffect line.now) (scene self.old ds (shelf_of records faults) before) (scene self.new ds (shelf_of records faults) before)) }
     {
         match line {
             Line::Cut { size } => {
@@ -119,11 +120,11 @@ impl World {
         out: &mut List<Entry>,
     ) -> Result<(), NoMemory>
         ensures ok { OnOk result ((ds : Items State) →
-            Does (IsEffect (line.Command order.now)) (scene self.old ds (P.records keeper.old) out.old.items (P.faults keeper.old))
-            (scene self.new ds (P.records keeper.new) out.new.items (P.faults keeper.new))) }
+            Does (IsEffect (line.Command order.now)) (scene self.old ds (P.shelf keeper.old) out.old.items)
+            (scene self.new ds (P.shelf keeper.new) out.new.items)) }
         ensures err { OnErr result ((ds : Items State) →
-            Stops Nothing (scene self.old ds (P.records keeper.old) out.old.items (P.faults keeper.old))
-            (scene self.new ds (P.records keeper.new) out.new.items (P.faults keeper.new))) }
+            Stops Nothing (scene self.old ds (P.shelf keeper.old) out.old.items)
+            (scene self.new ds (P.shelf keeper.new) out.new.items)) }
         ensures never_fewer { P.number keeper.old ≤ P.number keeper.new }
         ensures reads { P.reads keeper.new ≡ P.reads keeper.old }
         ensures keeps { OnOk result (self.old.outer.in_tick ≡ false →
@@ -145,7 +146,7 @@ impl World {
     // A Set that is not reported is asked for.
     fn send(&mut self, node: NodeId, word: Word, out: &mut List<Entry>) -> Result<(), NoMemory>
         ensures ok { OnOk result ((ds : Items State) (records : Option (Items (Items ℕ))) (faults : ℕ) →
-            Does (IsEffect (line.Send node word)) (scene self.old ds records out.old.items faults) (scene self.new ds records out.new.items faults)) }
+            Does (IsEffect (line.Send node word)) (scene self.old ds (shelf_of records faults) out.old.items) (scene self.new ds (shelf_of records faults) out.new.items)) }
         ensures err { OnErr result (out.new.items ≡ out.old.items) }
     {
         let answer = self.sides.host.send(node, word);
@@ -155,7 +156,7 @@ impl World {
     // A Get is asked for.
     fn get(&mut self, node: NodeId, end: EndPoint, out: &mut List<Entry>) -> Result<(), NoMemory>
         ensures ok { OnOk result ((ds : Items State) (records : Option (Items (Items ℕ))) (faults : ℕ) →
-            Does (IsEffect (line.Get node end)) (scene self.old ds records out.old.items faults) (scene self.new ds records out.new.items faults)) }
+            Does (IsEffect (line.Get node end)) (scene self.old ds (shelf_of records faults) out.old.items) (scene self.new ds (shelf_of records faults) out.new.items)) }
         ensures err { OnErr result (out.new.items ≡ out.old.items) }
     {
         let answer = self.sides.host.get(node, end);
@@ -165,7 +166,7 @@ impl World {
     // An interview is asked for.
     fn interview(&mut self, node: NodeId, out: &mut List<Entry>) -> Result<(), NoMemory>
         ensures ok { OnOk result ((ds : Items State) (records : Option (Items (Items ℕ))) (faults : ℕ) →
-            Does (IsEffect (line.Interview node)) (scene self.old ds records out.old.items faults) (scene self.new ds records out.new.items faults)) }
+            Does (IsEffect (line.Interview node)) (scene self.old ds (shelf_of records faults) out.old.items) (scene self.new ds (shelf_of records faults) out.new.items)) }
         ensures err { OnErr result (out.new.items ≡ out.old.items) }
     {
         let answer = self.sides.host.interview(node);
@@ -175,7 +176,7 @@ impl World {
     // A question to the chip is asked for.
     fn ask(&mut self, question: Question, out: &mut List<Entry>) -> Result<(), NoMemory>
         ensures ok { OnOk result ((ds : Items State) (records : Option (Items (Items ℕ))) (faults : ℕ) →
-            Does (IsAsked question) (scene self.old ds records out.old.items faults) (scene self.new ds records out.new.items faults)) }
+            Does (IsAsked question) (scene self.old ds (shelf_of records faults) out.old.items) (scene self.new ds (shelf_of records faults) out.new.items)) }
         ensures err { OnErr result (out.new.items ≡ out.old.items) }
     {
         let answer = self.sides.host.ask(question);
@@ -185,7 +186,7 @@ impl World {
     // The chip's table becomes the live links between known nodes, and then the members are asked for.
     fn discover(&mut self, out: &mut List<Entry>) -> Result<(), NoMemory>
         ensures ok { OnOk result ((ds : Items State) (records : Option (Items (Items ℕ))) (faults : ℕ) →
-            Does (IsEffect line.Discover) (scene self.old ds records out.old.items faults) (scene self.new ds records out.new.items faults)) }
+            Does (IsEffect line.Discover) (scene self.old ds (shelf_of records faults) out.old.items) (scene self.new ds (shelf_of records faults) out.new.items)) }
         ensures err { OnErr result (out.new.items ≡ out.old.items) }
     {
         self.sides.outer.discover();
@@ -202,11 +203,11 @@ impl World {
     ) -> Result<(), NoMemory>
         requires few { length devices.now.items < 2 ^ 64 }
         ensures ok { OnOk result (Does (IsEffect (line.Join node))
-            (scene self.old (map (λ d. state d) devices.now.items) (P.records keeper.old) out.old.items (P.faults keeper.old))
-            (scene self.new (map (λ d. state d) devices.now.items) (P.records keeper.new) out.new.items (P.faults keeper.new))) }
+            (scene self.old (map (λ d. state d) devices.now.items) (P.shelf keeper.old) out.old.items)
+            (scene self.new (map (λ d. state d) devices.now.items) (P.shelf keeper.new) out.new.items)) }
         ensures err { OnErr result (Stops Nothing
-            (scene self.old (map (λ d. state d) devices.now.items) (P.records keeper.old) out.old.items (P.faults keeper.old))
-            (scene self.new (map (λ d. state d) devices.now.items) (P.records keeper.new) out.new.items (P.faults keeper.new))) }
+            (scene self.old (map (λ d. state d) devices.now.items) (P.shelf keeper.old) out.old.items)
+            (scene self.new (map (λ d. state d) devices.now.items) (P.shelf keeper.new) out.new.items)) }
         ensures never_fewer { P.number keeper.old ≤ P.number keeper.new }
         ensures reads { P.reads keeper.new ≡ P.reads keeper.old }
     {
@@ -224,11 +225,11 @@ impl World {
         out: &mut List<Entry>,
     ) -> Result<(), NoMemory>
         ensures ok { OnOk result ((ds : Items State) →
-            Does (IsEffect (line.Cancel command)) (scene self.old ds (P.records keeper.old) out.old.items (P.faults keeper.old))
-            (scene self.new ds (P.records keeper.new) out.new.items (P.faults keeper.new))) }
+            Does (IsEffect (line.Cancel command)) (scene self.old ds (P.shelf keeper.old) out.old.items)
+            (scene self.new ds (P.shelf keeper.new) out.new.items)) }
         ensures err { OnErr result ((ds : Items State) →
-            Stops Nothing (scene self.old ds (P.records keeper.old) out.old.items (P.faults keeper.old))
-            (scene self.new ds (P.records keeper.new) out.new.items (P.faults keeper.new))) }
+            Stops Nothing (scene self.old ds (P.shelf keeper.old) out.old.items)
+            (scene self.new ds (P.shelf keeper.new) out.new.items)) }
         ensures never_fewer { P.number keeper.old ≤ P.number keeper.new }
         ensures reads { P.reads keeper.new ≡ P.reads keeper.old }
     {
@@ -247,7 +248,7 @@ impl World {
     // The stored values of a node are shown.
     fn store(&mut self, node: NodeId, out: &mut List<Entry>) -> Result<(), NoMemory>
         ensures ok { OnOk result ((ds : Items State) (records : Option (Items (Items ℕ))) (faults : ℕ) →
-            Does (IsEffect (line.Store node)) (scene self.old ds records out.old.items faults) (scene self.new ds records out.new.items faults)) }
+            Does (IsEffect (line.Store node)) (scene self.old ds (shelf_of records faults) out.old.items) (scene self.new ds (shelf_of records faults) out.new.items)) }
         ensures err { OnErr result (out.new.items ≡ out.old.items) }
     {
         let text = self.sides.host.json(self.sides.alloc, node)?;

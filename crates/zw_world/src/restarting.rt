@@ -29,11 +29,11 @@ impl World {
         out: &mut List<Entry>,
     ) -> Result<(), NoMemory>
         ensures ok { OnOk result ((ds : Items State) →
-            Does (IsEffect line.Restart) (scene self.old ds (P.records keeper.old) out.old.items (P.faults keeper.old))
-            (scene self.new ds (P.records keeper.new) out.new.items (P.faults keeper.new))) }
+            Does (IsEffect line.Restart) (scene self.old ds (P.shelf keeper.old) out.old.items)
+            (scene self.new ds (P.shelf keeper.new) out.new.items)) }
         ensures err { OnErr result ((ds : Items State) →
-            Stops RestartPrefix (scene self.old ds (P.records keeper.old) out.old.items (P.faults keeper.old))
-            (scene self.new ds (P.records keeper.new) out.new.items (P.faults keeper.new))) }
+            Stops RestartPrefix (scene self.old ds (P.shelf keeper.old) out.old.items)
+            (scene self.new ds (P.shelf keeper.new) out.new.items)) }
         ensures goes_on { GoesOn (P.number keeper.old) (P.number keeper.new) (P.reads keeper.old) (P.reads keeper.new) }
         ensures keeps { OnOk result (self.old.outer.in_tick ≡ false →
             KeepsOrRefuses line.Restart out.old.items out.new.items

@@ -64,11 +64,11 @@ impl World {
     ) -> Result<(), NoMemory>
         requires few { length devices.old.items < 2 ^ 64 }
         ensures ok { OnOk result (Does (IsLine line.now)
-            (scene self.old (map (λ d. state d) devices.old.items) (P.records keeper.old) out.old.items (P.faults keeper.old))
-            (scene self.new (map (λ d. state d) devices.new.items) (P.records keeper.new) out.new.items (P.faults keeper.new))) }
+            (scene self.old (map (λ d. state d) devices.old.items) (P.shelf keeper.old) out.old.items)
+            (scene self.new (map (λ d. state d) devices.new.items) (P.shelf keeper.new) out.new.items)) }
         ensures err { OnErr result (Stops (LinePrefix line.now)
-            (scene self.old (map (λ d. state d) devices.old.items) (P.records keeper.old) out.old.items (P.faults keeper.old))
-            (scene self.new (map (λ d. state d) devices.new.items) (P.records keeper.new) out.new.items (P.faults keeper.new))) }
+            (scene self.old (map (λ d. state d) devices.old.items) (P.shelf keeper.old) out.old.items)
+            (scene self.new (map (λ d. state d) devices.new.items) (P.shelf keeper.new) out.new.items)) }
         ensures kept { length devices.new.items ≡ length devices.old.items }
         ensures goes_on { GoesOn (P.number keeper.old) (P.number keeper.new) (P.reads keeper.old) (P.reads keeper.new) }
         ensures keeps { OnOk result (KeepsOrRefuses line.now out.old.items out.new.items (P.number keeper.old) (P.number keeper.new)
@@ -89,11 +89,11 @@ impl World {
     ) -> Result<(), NoMemory>
         requires few { length devices.old.items < 2 ^ 64 }
         ensures ok { OnOk result (Does (IsLineRest line.now)
-            (scene self.old (map (λ d. state d) devices.old.items) (P.records keeper.old) out.old.items (P.faults keeper.old))
-            (scene self.new (map (λ d. state d) devices.new.items) (P.records keeper.new) out.new.items (P.faults keeper.new))) }
+            (scene self.old (map (λ d. state d) devices.old.items) (P.shelf keeper.old) out.old.items)
+            (scene self.new (map (λ d. state d) devices.new.items) (P.shelf keeper.new) out.new.items)) }
         ensures err { OnErr result (Stops (LineRestPrefix line.now)
-            (scene self.old (map (λ d. state d) devices.old.items) (P.records keeper.old) out.old.items (P.faults keeper.old))
-            (scene self.new (map (λ d. state d) devices.new.items) (P.records keeper.new) out.new.items (P.faults keeper.new))) }
+            (scene self.old (map (λ d. state d) devices.old.items) (P.shelf keeper.old) out.old.items)
+            (scene self.new (map (λ d. state d) devices.new.items) (P.shelf keeper.new) out.new.items)) }
         ensures kept { length devices.new.items ≡ length devices.old.items }
         ensures goes_on { GoesOn (P.number keeper.old) (P.number keeper.new) (P.reads keeper.old) (P.reads keeper.new) }
         ensures keeps { OnOk result (self.old.outer.in_tick ≡ false →

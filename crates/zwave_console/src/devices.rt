@@ -1,5 +1,11 @@
 //! The devices of the mesh: one for each node, of the kind that its number says.
 
+ghost use Rattle.std.specs.Prelude.{◌≡◌, IfOk, Ok};
+ghost use Rattle.device_kinds.specs.declared.kind.Kind.TheVariants as kinds;
+ghost use Rattle.device_sim.specs.State.{fresh};
+ghost use Rattle.run_all.specs.Mesh.{device_at};
+ghost use Rattle.zwave_console.specs.Devices.{state_made};
+
 use device_sim::{
     Configurable, Dimmer, Lock, Recorder, Relay, Sensor, Strip, Switch, Thermostat, make_config,
     make_dimmer, make_lock, make_relay, make_sensor, make_strip, make_switch, make_thermostat,
@@ -33,8 +39,10 @@ pub(crate) enum Made {
     Strip(Box<Strip>),
 }
 
-/// Makes the device of a node.
-pub(crate) fn make_device(alloc: Global, node: NodeId) -> Result<Made, NoMemory> {
+/// Makes the device of a node, as its maker leaves it.
+pub(crate) fn make_device(alloc: Global, node: NodeId) -> Result<Made, NoMemory>
+    ensures { IfOk result (λ made. state_made made ≡ device_at KEY node) }
+{
     let number = node.number();
     match number % KINDS {
         _ if number == FIRST => Ok(Made::Recorder(boxed(alloc, make_recorder(alloc, node))?)),
@@ -50,11 +58,15 @@ pub(crate) fn make_device(alloc: Global, node: NodeId) -> Result<Made, NoMemory>
 }
 
 // A device in a box, where there was memory for it.
-fn boxed<T: Drop>(alloc: Global, device: Result<T, NoMemory>) -> Result<Box<T>, NoMemory> {
+fn boxed<T: Drop>(alloc: Global, device: Result<T, NoMemory>) -> Result<Box<T>, NoMemory>
+    ensures { IfOk result (λ boxed. device ≡ Ok boxed.value) }
+{
     Ok(Box::new(alloc, device?)?)
 }
 
 // A switch that records what it hears.
-fn make_recorder(alloc: Global, node: NodeId) -> Result<Recorder<Switch>, NoMemory> {
+fn make_recorder(alloc: Global, node: NodeId) -> Result<Recorder<Switch>, NoMemory>
+    ensures { IfOk result (λ recorder. recorder.inner.stack ≡ fresh node kinds.Switch KEY) }
+{
     Ok(Recorder::new(alloc, make_switch(alloc, node, KEY)?))
 }

@@ -2,7 +2,7 @@
 //!
 //! So an input that is read in large pieces is answered in large pieces, and one that is typed line by line is answered line by line.
 
-ghost use Rattle.std.specs.Prelude.{◌≡◌, ◌++◌, [], true, false, OnOk, OnErr, IsTrue};
+ghost use Rattle.std.specs.Prelude.{◌≡◌, ◌≤◌, ◌++◌, [], true, false, length, OnOk, OnErr, IsTrue};
 ghost use Rattle.std.specs.Io.{ReadsAtMost};
 ghost use Rattle.std.specs.Io.KnownBytes.{Appends, ReadConsumes};
 ghost use Rattle.run_lines.specs.Writing.{AppendsPrefix};
@@ -30,6 +30,7 @@ impl<K: Sink> Gathered<K> {
     pub(crate) fn new(alloc: Global, sink: K, most: usize) -> Gathered<K>
         ensures sink { result.sink ≡ sink }
         ensures nothing { result.waiting.items ≡ [] }
+        ensures most { result.most ≡ most }
         ensures sound { result.has_failed ≡ false }
     {
         Gathered {
@@ -47,6 +48,8 @@ impl<K: Sink> Gathered<K> {
             (handed (K.written self.new.sink) self.new.waiting.items) piece.now) }
         ensures err { OnErr result (AppendsPrefix (K.written self.old.sink) (K.written self.new.sink) (self.old.waiting.items ++ piece.now)) }
         ensures failed { OnErr result (self.new.has_failed ≡ true) }
+        ensures most { self.new.most ≡ self.old.most }
+        ensures within { length self.old.waiting.items ≤ self.old.most → length self.new.waiting.items ≤ self.new.most }
     {
         if self.has_failed {
             return Err(Failed);
@@ -67,6 +70,8 @@ impl<K: Sink> Gathered<K> {
         ensures nothing { OnOk result (self.new.waiting.items ≡ []) }
         ensures err { OnErr result (AppendsPrefix (K.written self.old.sink) (K.written self.new.sink) self.old.waiting.items) }
         ensures failed { OnErr result (self.new.has_failed ≡ true) }
+        ensures most { self.new.most ≡ self.old.most }
+        ensures within { length self.old.waiting.items ≤ self.old.most → length self.new.waiting.items ≤ self.new.most }
     {
         if self.has_failed {
             return Err(Failed);
@@ -89,6 +94,7 @@ impl<K: Sink> Gathered<K> {
         ensures err { OnErr result (AppendsPrefix (K.written self.old.sink) (K.written self.new.sink) piece.now) }
         ensures failed { OnErr result (self.new.has_failed ≡ true) }
         ensures waiting { self.new.waiting.items ≡ self.old.waiting.items }
+        ensures most { self.new.most ≡ self.old.most }
     {
         match write_piece(&mut self.sink, piece) {
             Ok(()) => Ok(()),
@@ -104,6 +110,7 @@ impl<K: Sink> Gathered<K> {
 fn gather(waiting: &mut Vec<u8>, most: usize, piece: &[u8]) -> bool
     ensures gathered { IsTrue result → waiting.new.items ≡ waiting.old.items ++ piece.now }
     ensures refused { result ≡ false → waiting.new.items ≡ waiting.old.items }
+    ensures within { length waiting.old.items ≤ most → length waiting.new.items ≤ most }
 {
     if piece.len() > most.saturating_sub(waiting.len()) {
         return false;

@@ -30,13 +30,11 @@ impl Records {
 }
 
 impl Keeper for Records {
-    ghost use Rattle.zwave_console.specs.Records.{number_of, records_of, faults_of, reads_of, told_are_all};
+    ghost use Rattle.zwave_console.specs.Records.{number_of, shelf_of, reads_of, told_are_all};
 
     ghost number = { number_of };
 
-    ghost records = { records_of };
-
-    ghost faults = { faults_of };
+    ghost shelf = { shelf_of };
 
     ghost reads = { reads_of };
 

@@ -1,18 +1,21 @@
 """What stands for the definitions below the laws of the air and of devices: ages of frames, links and routes, whether a device is awake, and its values."""
 from .. import devices
+from ..judge import KEY
 from ..messages import property_text
 from ..routes import Network
 from .given import NONE, given, place_of, some
 from .values import WORLD, tuple_of
 
 FIRST_NODE, LAST_NODE = 2, 232
+# the network key of the run
+HELD = {"key": KEY}
 NONCE_REPORT, TRANSPORT_SERVICE, SECURITY = (0x98, 0x80), 0x55, 0x98
 MOST_SESSIONS, MOST_SESSIONS_OF_SEGMENT, MOST_NONCES = 62, 14, 120
 
 
 def device(node, kind):
     """A device as it is at entry, as far as these laws go by it."""
-    return WORLD.record(("node", "kind", "journal"), (node, kind, ()))
+    return WORLD.record(("node", "kind", "journal", "key"), (node, kind, (), tuple(HELD["key"])))
 
 
 def devices_at_entry():

@@ -4,7 +4,7 @@ These are found from the transcript, and then judged by the text of the law.
 """
 from ..ciphers import unsealed
 from ..serial import item_of
-from .values import EMPTY, WORLD, Rest, append, tuple_of
+from .values import EMPTY, WORLD, Function, Rest, append, tuple_of
 
 FRAMED, WRITE = "Unit.Framed", "LinkOut.Write"
 IDLE, ASKED, TICKED = WORLD.variant("Turn.Idle"), WORLD.variant("Event.asked"), WORLD.variant("Event.ticked")
@@ -198,33 +198,93 @@ def keepings():
 KEEPINGS = keepings()
 
 
+HEEDS = ("listing", "taken")
+# the messages by which a host may go, and the class of nodes whose reports count where they are sealed
+GONE_BY, SECURITY = ("Told.NonceGet", "Told.NonceReport", "Told.SegmentRequest"), 0x98
+
+
+def is_gone_by(message):
+    """Whether queue and attempts may go by a message."""
+    return message.name in GONE_BY or message.name == "Told.Report" and message.fields[1].name == "ReportStatus.Working"
+
+
+class Taken:
+    """Of each payload so far, by which messages a host went."""
+
+    def __init__(self, listing, plainly, found):
+        self.listing, self.plainly, self.found = listing, plainly, found
+        self.heeds = WORLD.record(HEEDS, (listing, Function(self.of, 3)))
+
+    def of(self, past, rest, carried):
+        """Those of a payload, up to its acknowledgement; of one that comes just now what is told as it came."""
+        known = self.found.get((past.size, carried))
+        return known if known is not None else self.guess(past, rest, carried)
+
+    def guess(self, past, rest, carried):
+        """What may be meant of what is told as it came."""
+        return tuple(one for one in tuple_of(self.plainly.code(past, rest, carried)) if is_gone_by(one))
+
+    def same(self, heeding, rest):
+        """Whether these are the messages that were meant for a payload; of one message of a node whose reports count as they come the law itself says when it counts."""
+        meant, found = self.of(heeding.past, rest, heeding.carried), tuple_of(heeding.messages)
+        return meant == found or (len(meant) == 1 and not found and SECURITY not in self.listing.code(heeding.past, heeding.carried.node))
+
+    def means(self, heeding):
+        """The same, with these for a payload."""
+        found = dict(self.found)
+        found[heeding.past.size, heeding.carried] = tuple_of(heeding.messages)
+        return Taken(self.listing, self.plainly, found)
+
+    def keeps(self, heeding, rest):
+        """What was meant for a payload stays so."""
+        self.found.setdefault((heeding.past.size, heeding.carried), self.of(heeding.past, rest, heeding.carried))
+
+
 class Notes:
     """The courses that a host may have taken, entry by entry."""
 
     def __init__(self, names, key, listing):
-        self.key, self.listing = key, listing
+        self.key = key
         self.after = names.get("law_host.specs.Following.after").code
         self.ended = names.get("law_host.specs.Following.ended_whole").code
         self.frame_next = names.get("law_host.specs.Frames.frame_next").code
         self.bringing_in = names.get("law_transcript.specs.Units.bringing_in").code
         start = names.get("law_host.specs.Course.course_from").code((), WORLD.record(("keepings", "texts"), ((), ())))
-        self.courses, self.is_seal = [(start, {})], names.get("law_host.specs.Nonces.IsSeal").code
+        taken = Taken(listing, names.get("law_time.specs.Heeds.taken_plainly"), {})
+        self.courses, self.is_seal = [(start, {}, taken)], names.get("law_host.specs.Nonces.IsSeal").code
 
     def goes_on(self, past, entry, array, place):
         """An entry; whether a course is left."""
         rest = Rest(array, place + 1, [False])
         near = any(one.name == "Entry.Unkept" for one in array[place:place + NEAR])
         found = {}
-        for course, drawn in self.courses:
+        for course, drawn, taken in self.courses:
             for kept in KEEPINGS if near else ((),):
                 texts = self.texts(past, entry, course, drawn)
-                new = self.after(self.listing, past, entry, rest, WORLD.changed(course, ("keepings", "texts"), (kept, texts)))
+                new, goes_by = self.next(past, entry, rest, WORLD.changed(course, ("keepings", "texts"), (kept, texts)), taken)
                 if new.fits and new.keepings == ():
                     shown = self.shown(course, new, drawn)
                     if shown is not None:
-                        found[id(new)] = (new, shown)
+                        found[id(new)] = (new, shown, goes_by)
         self.courses = list(found.values())
         return bool(found)
+
+    def next(self, past, entry, rest, course, taken):
+        """A course behind an entry, and what the host goes by there: what it went by of a payload is what it was meant to."""
+        for _ in range(MOST_RECORDS):
+            new = self.after(taken.heeds, past, entry, rest, course)
+            heedings = new.heeded.last(len(new.heeded) - len(course.heeded)) if len(new.heeded) > len(course.heeded) else ()
+            wrong = [heeding for heeding in heedings if not taken.same(heeding, rest)]
+            if not wrong:
+                break
+            taken = taken.means(wrong[0])
+        for heeding in heedings:
+            taken.keeps(heeding, rest)
+        return new, taken
+
+    def heeds(self):
+        """What the host goes by, as it seems so far."""
+        return self.courses[0][2].heeds
 
     def texts(self, past, entry, course, drawn):
         """What a sealed message that is judged here opens to for the last nonce that was given."""
@@ -254,4 +314,4 @@ class Notes:
 
     def ends(self, past):
         """At the end of a whole run; whether a course is left."""
-        return any(self.ended(self.listing, past, course).fits for course, _ in self.courses)
+        return any(self.ended(taken.heeds, past, course).fits for course, _, taken in self.courses)

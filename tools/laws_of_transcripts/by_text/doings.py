@@ -1,12 +1,10 @@
 """What stands for the device in the law of its doings: which changes and frames it makes of what came to it, by the reading of devices beside this folder."""
 from .. import devices
-from ..judge import KEY
+from .air import HELD
 from .given import given
 from .values import tuple_of
 
 DEVICES = "law_transcript.specs.Devices."
-# the network key of the run
-HELD = {"key": KEY}
 
 
 def yield_from(event, takes):

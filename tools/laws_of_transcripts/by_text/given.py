@@ -603,11 +603,16 @@ def values_text(node, held):
     return '{"node":%d,"values":[%s]}' % (node, each)
 
 
-def place_of(which):
-    """Where a property stands in their order."""
+def which_of(which):
+    """A property by the text that a transcript has for it."""
     end, _, name = which.partition("/")
     word, *numbers = name.split(":")
-    return property_order((int(end), word) + tuple(int(number) for number in numbers))
+    return (int(end), word) + tuple(int(number) for number in numbers)
+
+
+def place_of(which):
+    """Where a property stands in their order."""
+    return property_order(which_of(which))
 
 
 given(1, "rank_of")(place_of)
@@ -617,8 +622,8 @@ given(2, "or_else")(lambda first, second: first if first.name == "Some" else sec
 
 given(1, "classes_of")(lambda kind: tuple(bytes.fromhex(CLASSES[KINDS[kind.name.split(".")[1]]])))
 
-# the class list of a node of `sim`, whose kind goes by its number
-LISTING = Function(lambda node: tuple(listing_of(node)), 1)
+# the class list of a node of `sim`, whose kind goes by its number, whatever stood before
+LISTING = Function(lambda _, node: tuple(listing_of(node)), 2)
 
 
 # ---- words of a note

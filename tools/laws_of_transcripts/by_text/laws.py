@@ -6,9 +6,9 @@ import threading
 from collections import namedtuple
 
 from ..entries import transcript_of
-from . import air, doings
+from . import air, doings, stretches
 from .alone import heard_alone, is_alone
-from .courses import Notes, moments_of, parts_of
+from .courses import HEEDS, Notes, moments_of, parts_of
 from .entries import entry_of
 from .given import GIVEN, LISTING, SIDES, arity_of
 from .running import Names
@@ -48,9 +48,9 @@ def steps_of(entries):
 
 # a law, the test of an entry behind those before it, and what that takes besides
 TESTS = (
-    ("FitsQueue", "law_time.specs.Queue.may_queue", "listing"), ("SendsInTurn", "law_time.specs.Choice.may_send", "listing"),
+    ("FitsQueue", "law_time.specs.Queue.may_queue", "heeds"), ("SendsInTurn", "law_time.specs.Choice.may_send", "heeds"),
     ("SendsOneByOne", "law_time.specs.Choice.may_follow", ""), ("NumbersCallbacks", "law_time.specs.Choice.may_number", ""),
-    ("RestsWell", "law_time.specs.Rests.may_rest", "listing"),
+    ("RestsWell", "law_time.specs.Rests.may_rest", "heeds"),
 )
 HOST_TESTS = TESTS + (
     ("AnswersLines", "law_transcript.specs.Answers.MayAnswer", "listing refusals"), ("CancelsWhenAsked", "law_transcript.specs.Answers.MayCancel", ""),
@@ -59,7 +59,7 @@ HOST_TESTS = TESTS + (
     ("StoresConfirmed", "law_transcript.specs.Stores.MayStore", ""),
 )
 SIM_TESTS = TESTS + (
-    ("GivesUpAfterThree", "law_time.specs.Unanswered.may_give_up", "listing"), ("FallsAsleep", "law_time.specs.Waking.may_sleep", ""),
+    ("GivesUpAfterThree", "law_time.specs.Unanswered.may_give_up", "heeds"), ("FallsAsleep", "law_time.specs.Waking.may_sleep", ""),
     ("WakesAsTold", "law_time.specs.Waking.may_wake", ""), ("HoldsAsAsked", "law_time.specs.Holds.may_hold", ""),
     ("EndsInterviews", "law_time.specs.Interviews.may_end", ""), ("SaysHowDone", "law_time.specs.Errands.may_say_done", "listing"),
     ("AnswersQuestions", "law_time.specs.Questions.may_answer", ""), ("CollidesWhenAsked", "law_wire.specs.Marks.MayCollide", ""),
@@ -84,10 +84,16 @@ def refusals(listing):
     return Function(NAMES.get("law_transcript.specs.Answers.refusals_by_host").code, 2, (listing,))
 
 
-def test_of(path, wants, listing, key):
+def heeds_of_sim():
+    """What a host among the devices of `sim` goes by."""
+    return WORLD.record(HEEDS, (LISTING, NAMES.get("law_time.specs.Heeds.taken_plainly")))
+
+
+def test_of(path, wants, heeds, key):
     """A test of an entry behind those before it."""
     code = OWN[path] if path in OWN else NAMES.get(path).code
-    given = {"listing": lambda: listing, "key": lambda: tuple(key), "refusals": lambda: refusals(listing), "devices": air.devices_at_entry}
+    given = {"heeds": lambda: heeds, "listing": lambda: heeds.listing, "key": lambda: tuple(key), "refusals": lambda: refusals(heeds.listing),
+             "devices": air.devices_at_entry}
     first = tuple(given[one]() for one in wants.split())
     return lambda past, entry: code(*first, past, entry)
 
@@ -140,19 +146,16 @@ def heard(entries):
     return found
 
 
-def listing_heard(entries):
-    """What each node listed in its last interview."""
-    return Function(NAMES.get("law_host.specs.Heard.listing_heard").code, 1, (entries,))
-
-
-def notes_broken(entries, listing, key, whole):
-    """The place of the entry of what a host heard at which `NotesWhatHappens` breaks, or None."""
-    notes = Notes(NAMES, key, listing)
+def notes_broken(entries, key, whole):
+    """The place of the entry of what a host heard at which `NotesWhatHappens` breaks, or None, and what the host goes by as it seems there."""
+    notes = Notes(NAMES, key, NAMES.get("law_host.specs.Heard.listing_heard"))
     array = entries.items()
     for place, (past, entry) in enumerate(steps_of(entries)):
+        heeds = notes.heeds()
         if not notes.goes_on(past, entry, array, place):
-            return place
-    return None if not whole or notes.ends(entries) else len(array)
+            return place, heeds
+    heeds = notes.heeds()
+    return None if not whole or notes.ends(entries) else len(array), heeds
 
 
 class Reading:
@@ -160,19 +163,19 @@ class Reading:
 
     def __init__(self, transcript, key):
         self.key, self.entries, self.whole = key, row(transcript), transcript.ended
-        doings.HELD["key"] = key
+        air.HELD["key"] = key
         self.texts = [entry.text for entry in transcript.entries]
-        self.found = []
+        self.found, self.transcript, self.stretches = [], transcript, 0
 
     def breaks(self, law, whole, part, place, entry):
         """A law is broken."""
         self.found.append(Broken(law, whole, part, place, entry))
 
-    def tests(self, whole, tests, entries, listing):
+    def tests(self, whole, tests, entries, heeds):
         """Those that judge each entry by the ones before it; of each the first place at which it breaks."""
         steps = steps_of(entries)
         for law, path, wants in tests:
-            test = test_of(path, wants, listing, self.key)
+            test = test_of(path, wants, heeds, self.key)
             for place, (past, entry) in enumerate(steps):
                 if not test(past, entry):
                     self.breaks(law, whole, path.split(".")[-1], place, repr(entry))
@@ -186,16 +189,20 @@ class Reading:
 
     def sim(self):
         """The laws of time and of the line over what the run printed."""
-        self.tests("IsLegal, IsPrompt", SIM_TESTS, self.entries, LISTING)
-        self.tests("IsLegal", END_TESTS, ended(self.entries) if self.whole else self.entries, LISTING)
+        heeds = heeds_of_sim()
+        self.tests("IsLegal, IsPrompt", SIM_TESTS, self.entries, heeds)
+        self.tests("IsLegal", END_TESTS, ended(self.entries) if self.whole else self.entries, heeds)
         nothing, in_the_end = WORLD.variant("Entry.Said", ()), not self.whole
         code = lambda path: NAMES.get(path).code  # noqa: E731
         asked = code("law_transcript.specs.Restarts.ticks_asked")(code("zw_text.specs.Transcript.lines_run")(self.entries))
         self.claims("IsLegal, IsPrompt", (
-            ("RestsWell", "in_the_end", in_the_end or code("law_time.specs.Rests.rests_well")(LISTING, self.entries, nothing)),
-            ("GivesUpAfterThree", "in_the_end", in_the_end or code("law_time.specs.Unanswered.none_to_give_up")(LISTING, self.entries, asked)),
+            ("RestsWell", "in_the_end", in_the_end or code("law_time.specs.Rests.rests_well")(heeds, self.entries, nothing)),
+            ("GivesUpAfterThree", "in_the_end", in_the_end or code("law_time.specs.Unanswered.none_to_give_up")(heeds, self.entries, asked)),
             ("FallsAsleep", "in_the_end", in_the_end or code("law_time.specs.Waking.owes_no_sleep")(self.entries, nothing))))
         self.links(self.entries)
+        places, self.stretches = stretches.stretches_broken(NAMES, self.transcript, self.entries, self.key)
+        for place in places:
+            self.breaks("AnswersInTime", "AnswersInTime", "answers_all", place, repr(self.entries.items()[place]))
 
     def links(self, entries):
         """Both links, and what a restart clears."""
@@ -211,12 +218,12 @@ class Reading:
     def host(self):
         """The laws of the host alone over what it heard."""
         entries = heard(self.entries)
-        listing = listing_heard(entries)
-        place = notes_broken(entries, listing, self.key, self.whole)
+        place, heeds = notes_broken(entries, self.key, self.whole)
+        listing = heeds.listing
         if place is not None:
             entry = repr(entries.items()[place]) if place < len(entries) else "the end"
             self.breaks("NotesWhatHappens", "IsHostLegal", "fits, in_the_end or nonces", place, entry)
-        self.tests("IsHostLegal", HOST_TESTS, entries, listing)
+        self.tests("IsHostLegal", HOST_TESTS, entries, heeds)
         code, last = lambda path: NAMES.get(path).code, ended(entries) if self.whole else entries  # noqa: E731
         shown = code("zw_text.specs.Transcript.shown")(NAMES.get("law_transcript.specs.Stores.store_at"), entries)
         asked = code("law_transcript.specs.Stores.stores_asked")(listing, entries)
@@ -224,7 +231,7 @@ class Reading:
         before, last_line = code("law_transcript.specs.Answers.before_last")(entries), code("zw_text.specs.Transcript.line_last")(entries)
         self.claims("IsHostLegal", (
             ("AnswersLines", "answered", not self.whole or code("law_transcript.specs.Answers.AsksNothing")(refusals(listing), before, last_line)),
-            ("RestsWell", "rested", not self.whole or code("law_time.specs.Rests.rests_well")(listing, entries, WORLD.variant("Entry.Said", ()))),
+            ("RestsWell", "rested", not self.whole or code("law_time.specs.Rests.rests_well")(heeds, entries, WORLD.variant("Entry.Said", ()))),
             ("StoresConfirmed", "asked", tuple_of(asked)[:len(shown)] == tuple_of(shown)),
             ("StoresConfirmed", "all", not self.whole or len(shown) == len(asked)),
             ("CarriesOnce", "carries", all(carries(node, entries) for node in tuple_of(code("zw_text.specs.Transcript.joined")(entries))))))

@@ -16,8 +16,8 @@ begin-requires g c =
 
 pub returns-clause-ok : goal.returns-clause-ok
 returns-clause-ok g c =
-    let a : Scene = scene c.args.core.now.state c.args.out.now.items (g.P.Keeper.records c.args.keeper.now) (g.P.Keeper.faults c.args.keeper.now) in
-    let b : Scene = scene c.begin.new.core.state c.begin.new.out.items (g.P.Keeper.records c.begin.new.keeper) (g.P.Keeper.faults c.begin.new.keeper) in
+    let a : Scene = scene c.args.core.now.state c.args.out.now.items (g.P.Keeper.shelf c.args.keeper.now) in
+    let b : Scene = scene c.begin.new.core.state c.begin.new.out.items (g.P.Keeper.shelf c.begin.new.keeper) in
     session_begun c.args.node _ _ c.in_ok-begin.field-0 a b
     (begins_may_as c.a_pump_ends.ensures.may c.args.core.now.state c.args.node c.node-state.ensures.facts c.requires.served c.requires.idle c.node-state.result.now c.node-state.ensures.value _ _
     (ap (λ (k : ℕ). k + 1) c.sessions-before.ensures) (sym c.oldest.ensures ∙ c.unwrap-command.ensures))

@@ -8,18 +8,18 @@ use Rattle.host_core.proofs.pumping.pump.Goals as goal
 
 pub returns-in_err-let_sleep-clause-err : goal.returns-in_err-let_sleep-clause-err
 returns-in_err-let_sleep-clause-err g c =
-    on_err c.from_residual.result (c.in_err-let_sleep.ensures.err (record { records = g.P.Keeper.records c.args.keeper.now; faults = g.P.Keeper.faults c.args.keeper.now }))
+    on_err c.from_residual.result (c.in_err-let_sleep.ensures.err (g.P.Keeper.shelf c.args.keeper.now))
 
 pub returns-in_err-submit-clause-err : goal.returns-in_err-submit-clause-err
 returns-in_err-submit-clause-err g c =
-    let a : Scene = scene c.args.core.now.state c.args.out.now.items (g.P.Keeper.records c.args.keeper.now) (g.P.Keeper.faults c.args.keeper.now) in
-    let b : Scene = scene c.let_sleep.new.core.state c.let_sleep.new.out.items (g.P.Keeper.records c.args.keeper.now) (g.P.Keeper.faults c.args.keeper.now) in
-    let d : Scene = scene c.submit.new.core.state c.submit.new.out.items (g.P.Keeper.records c.submit.new.keeper) (g.P.Keeper.faults c.submit.new.keeper) in
+    let a : Scene = scene c.args.core.now.state c.args.out.now.items (g.P.Keeper.shelf c.args.keeper.now) in
+    let b : Scene = scene c.let_sleep.new.core.state c.let_sleep.new.out.items (g.P.Keeper.shelf c.args.keeper.now) in
+    let d : Scene = scene c.submit.new.core.state c.submit.new.out.items (g.P.Keeper.shelf c.submit.new.keeper) in
     on_err c.from_residual-in_err-submit.result (then_stops (LetsSleep c.args.core.now.state) a b d (c.in_ok-let_sleep.ensures.ok a.shelf) c.in_err-submit.ensures.err)
 
 pub returns-clause-ok : goal.returns-clause-ok
 returns-clause-ok g c =
-    let a : Scene = scene c.args.core.now.state c.args.out.now.items (g.P.Keeper.records c.args.keeper.now) (g.P.Keeper.faults c.args.keeper.now) in
-    let b : Scene = scene c.let_sleep.new.core.state c.let_sleep.new.out.items (g.P.Keeper.records c.args.keeper.now) (g.P.Keeper.faults c.args.keeper.now) in
-    let d : Scene = scene c.submit.new.core.state c.submit.new.out.items (g.P.Keeper.records c.submit.new.keeper) (g.P.Keeper.faults c.submit.new.keeper) in
+    let a : Scene = scene c.args.core.now.state c.args.out.now.items (g.P.Keeper.shelf c.args.keeper.now) in
+    let b : Scene = scene c.let_sleep.new.core.state c.let_sleep.new.out.items (g.P.Keeper.shelf c.args.keeper.now) in
+    let d : Scene = scene c.submit.new.core.state c.submit.new.out.items (g.P.Keeper.shelf c.submit.new.keeper) in
     whole_pump a b d (c.in_ok-let_sleep.ensures.ok a.shelf) c.in_ok-submit.ensures.ok

@@ -8,8 +8,8 @@ use Rattle.host_core.proofs.pumping.serve.Goals as goal
 
 pub returns-in_ok-go_on-in-Running-clause-ok : goal.returns-in_ok-go_on-in-Running-clause-ok
 returns-in_ok-go_on-in-Running-clause-ok g c =
-    served_as c.args.node (node_of c.args.core.now.state c.args.node).series Running (scene c.args.core.now.state c.args.out.now.items (g.P.Keeper.records c.args.keeper.now) (g.P.Keeper.faults c.args.keeper.now)) (scene c.go_on.new.core.state c.go_on.new.out.items (g.P.Keeper.records c.args.keeper.now) (g.P.Keeper.faults c.args.keeper.now)) (search rules) (c.in_ok-go_on-in-Running.ensures.ok (record { records = g.P.Keeper.records c.args.keeper.now; faults = g.P.Keeper.faults c.args.keeper.now }))
+    served_as c.args.node (node_of c.args.core.now.state c.args.node).series Running (scene c.args.core.now.state c.args.out.now.items (g.P.Keeper.shelf c.args.keeper.now)) (scene c.go_on.new.core.state c.go_on.new.out.items (g.P.Keeper.shelf c.args.keeper.now)) (search rules) (c.in_ok-go_on-in-Running.ensures.ok (g.P.Keeper.shelf c.args.keeper.now))
 
 pub returns-in_ok-start-in-Due-clause-ok : goal.returns-in_ok-start-in-Due-clause-ok
 returns-in_ok-start-in-Due-clause-ok g c =
-    served_as c.args.node (node_of c.args.core.now.state c.args.node).series Due (scene c.args.core.now.state c.args.out.now.items (g.P.Keeper.records c.args.keeper.now) (g.P.Keeper.faults c.args.keeper.now)) (scene c.start.new.core.state c.start.new.out.items (g.P.Keeper.records c.args.keeper.now) (g.P.Keeper.faults c.args.keeper.now)) (search rules) (c.in_ok-start-in-Due.ensures.ok (record { records = g.P.Keeper.records c.args.keeper.now; faults = g.P.Keeper.faults c.args.keeper.now }))
+    served_as c.args.node (node_of c.args.core.now.state c.args.node).series Due (scene c.args.core.now.state c.args.out.now.items (g.P.Keeper.shelf c.args.keeper.now)) (scene c.start.new.core.state c.start.new.out.items (g.P.Keeper.shelf c.args.keeper.now)) (search rules) (c.in_ok-start-in-Due.ensures.ok (g.P.Keeper.shelf c.args.keeper.now))

@@ -10,21 +10,21 @@ use Rattle.host_core.proofs.pumping.submit.Goals as goal
 
 pub loop-init : goal.loop-init
 loop-init g c =
-    let a : Scene = scene c.args.core.now.state c.args.out.now.items (g.P.Keeper.records c.args.keeper.now) (g.P.Keeper.faults c.args.keeper.now) in
+    let a : Scene = scene c.args.core.now.state c.args.out.now.items (g.P.Keeper.shelf c.args.keeper.now) in
     record { submitted = does_nothing (SubmitsSome a.host) a a tt refl refl (none_added a.shelf.records) (omega arith); decoder = refl; never_fewer = omega arith; reads = refl }
 
 pub returns-in_err-submit_next-clause-err : goal.returns-in_err-submit_next-clause-err
 returns-in_err-submit_next-clause-err g c =
-    let a : Scene = scene c.args.core.now.state c.args.out.now.items (g.P.Keeper.records c.args.keeper.now) (g.P.Keeper.faults c.args.keeper.now) in
-    let b : Scene = scene c.loop.core.state c.loop.out.items (g.P.Keeper.records c.loop.keeper) (g.P.Keeper.faults c.loop.keeper) in
-    let d : Scene = scene c.submit_next.new.core.state c.submit_next.new.out.items (g.P.Keeper.records c.submit_next.new.keeper) (g.P.Keeper.faults c.submit_next.new.keeper) in
+    let a : Scene = scene c.args.core.now.state c.args.out.now.items (g.P.Keeper.shelf c.args.keeper.now) in
+    let b : Scene = scene c.loop.core.state c.loop.out.items (g.P.Keeper.shelf c.loop.keeper) in
+    let d : Scene = scene c.submit_next.new.core.state c.submit_next.new.out.items (g.P.Keeper.shelf c.submit_next.new.keeper) in
     on_err c.from_residual.result (then_stops (SubmitsSome a.host) a b d c.loop.invariant.submitted c.in_err-submit_next.ensures.err)
 
 pub loop-preserved : goal.loop-preserved
 loop-preserved g c =
-    let a : Scene = scene c.args.core.now.state c.args.out.now.items (g.P.Keeper.records c.args.keeper.now) (g.P.Keeper.faults c.args.keeper.now) in
-    let b : Scene = scene c.loop.core.state c.loop.out.items (g.P.Keeper.records c.loop.keeper) (g.P.Keeper.faults c.loop.keeper) in
-    let d : Scene = scene c.submit_next.new.core.state c.submit_next.new.out.items (g.P.Keeper.records c.submit_next.new.keeper) (g.P.Keeper.faults c.submit_next.new.keeper) in
+    let a : Scene = scene c.args.core.now.state c.args.out.now.items (g.P.Keeper.shelf c.args.keeper.now) in
+    let b : Scene = scene c.loop.core.state c.loop.out.items (g.P.Keeper.shelf c.loop.keeper) in
+    let d : Scene = scene c.submit_next.new.core.state c.submit_next.new.out.items (g.P.Keeper.shelf c.submit_next.new.keeper) in
     let turn = rw c.if-branch.true at c.in_ok-submit_next.ensures.turns in
     record {
       submitted = one_more_turn (record { one_more = c.turns_of_a_pump_go_on.ensures.submits_one_more; all = c.turns_of_a_pump_go_on.ensures.submits_all }) a b d c.loop.invariant.submitted turn;
@@ -38,8 +38,8 @@ loop-smaller g c = c.in_ok-submit_next.ensures.fewer c.if-branch.true
 
 pub returns-clause-ok : goal.returns-clause-ok
 returns-clause-ok g c =
-    let a : Scene = scene c.args.core.now.state c.args.out.now.items (g.P.Keeper.records c.args.keeper.now) (g.P.Keeper.faults c.args.keeper.now) in
-    let b : Scene = scene c.loop.core.state c.loop.out.items (g.P.Keeper.records c.loop.keeper) (g.P.Keeper.faults c.loop.keeper) in
-    let d : Scene = scene c.submit_next.new.core.state c.submit_next.new.out.items (g.P.Keeper.records c.submit_next.new.keeper) (g.P.Keeper.faults c.submit_next.new.keeper) in
+    let a : Scene = scene c.args.core.now.state c.args.out.now.items (g.P.Keeper.shelf c.args.keeper.now) in
+    let b : Scene = scene c.loop.core.state c.loop.out.items (g.P.Keeper.shelf c.loop.keeper) in
+    let d : Scene = scene c.submit_next.new.core.state c.submit_next.new.out.items (g.P.Keeper.shelf c.submit_next.new.keeper) in
     let turn = rw c.if-branch.false at c.in_ok-submit_next.ensures.turns in
     last_turn (record { one_more = c.turns_of_a_pump_go_on.ensures.submits_one_more; all = c.turns_of_a_pump_go_on.ensures.submits_all }) a b d c.loop.invariant.submitted turn

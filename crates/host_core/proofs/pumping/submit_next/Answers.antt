@@ -8,12 +8,12 @@ use Rattle.host_core.proofs.pumping.submit_next.Goals as goal
 
 pub returns-then-owes_abort-clause-turns : goal.returns-then-owes_abort-clause-turns
 returns-then-owes_abort-clause-turns g c =
-    let a : Scene = scene c.args.core.now.state c.args.out.now.items (g.P.Keeper.records c.args.keeper.now) (g.P.Keeper.faults c.args.keeper.now) in
-    let b : Scene = scene c.submit_abort.new.self.state c.submit_abort.new.out.items (g.P.Keeper.records c.args.keeper.now) (g.P.Keeper.faults c.args.keeper.now) in
+    let a : Scene = scene c.args.core.now.state c.args.out.now.items (g.P.Keeper.shelf c.args.keeper.now) in
+    let b : Scene = scene c.submit_abort.new.self.state c.submit_abort.new.out.items (g.P.Keeper.shelf c.args.keeper.now) in
     abort_submitted a b (record { none_under_way = search rules; free_line = search rules }) (search rules) (ap (λ (p : HostParts). p.state) c.in_ok-submit_abort.ensures.state) c.in_ok-submit_abort.ensures.outs (none_added a.shelf.records) (omega arith)
 
 pub returns-then-not-is_empty-clause-turns : goal.returns-then-not-is_empty-clause-turns
 returns-then-not-is_empty-clause-turns g c =
-    let a : Scene = scene c.args.core.now.state c.args.out.now.items (g.P.Keeper.records c.args.keeper.now) (g.P.Keeper.faults c.args.keeper.now) in
-    let b : Scene = scene c.submit_front.new.self.state c.submit_front.new.out.items (g.P.Keeper.records c.args.keeper.now) (g.P.Keeper.faults c.args.keeper.now) in
+    let a : Scene = scene c.args.core.now.state c.args.out.now.items (g.P.Keeper.shelf c.args.keeper.now) in
+    let b : Scene = scene c.submit_front.new.self.state c.submit_front.new.out.items (g.P.Keeper.shelf c.args.keeper.now) in
     prefix_submitted a b (record { none_under_way = search rules; free_line = search rules }) (search rules) (search rules) (ap (λ (p : HostParts). p.state) c.in_ok-submit_front.ensures.state) c.in_ok-submit_front.ensures.outs (none_added a.shelf.records) (omega arith)

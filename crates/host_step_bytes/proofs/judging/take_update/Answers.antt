@@ -14,8 +14,8 @@ use Rattle.host_step_bytes.proofs.judging.take_update.Goals as goal
 
 pub returns-in_default-clause-ok : goal.returns-in_default-clause-ok
 returns-in_default-clause-ok g c =
-    let a : Scene = scene c.args.core.now.state c.args.out.now.items (g.P.Keeper.records c.args.keeper.now) (g.P.Keeper.faults c.args.keeper.now) in
-    let b : Scene = scene c.updated.new.self.state c.updated.new.out.items (g.P.Keeper.records c.args.keeper.now) (g.P.Keeper.faults c.args.keeper.now) in
+    let a : Scene = scene c.args.core.now.state c.args.out.now.items (g.P.Keeper.shelf c.args.keeper.now) in
+    let b : Scene = scene c.updated.new.self.state c.updated.new.out.items (g.P.Keeper.shelf c.args.keeper.now) in
     let none : interviewed_by c.args.core.now.state.requests c.args.update ≡ None =
     ap (λ (r : RequestsState). interviewed_by r c.args.update) (sym c.requests.ensures) ∙ sym c.interviewed_by.ensures ∙ c.in_default.is in
     does_as (Are (told_requests (Updates c.args.update))) (InterviewEvents c.args.update (interviewed_by c.args.core.now.state.requests c.args.update)) a b
@@ -24,8 +24,8 @@ returns-in_default-clause-ok g c =
 
 pub returns-clause-ok : goal.returns-clause-ok
 returns-clause-ok g c =
-    let a : Scene = scene c.args.core.now.state c.args.out.now.items (g.P.Keeper.records c.args.keeper.now) (g.P.Keeper.faults c.args.keeper.now) in
-    let b : Scene = scene c.interviewed.new.core.state c.interviewed.new.out.items (g.P.Keeper.records c.interviewed.new.keeper) (g.P.Keeper.faults c.interviewed.new.keeper) in
+    let a : Scene = scene c.args.core.now.state c.args.out.now.items (g.P.Keeper.shelf c.args.keeper.now) in
+    let b : Scene = scene c.interviewed.new.core.state c.interviewed.new.out.items (g.P.Keeper.shelf c.interviewed.new.keeper) in
     let told = rw c.in-Some-2.is at c.in_ok-found.ensures in
     interviewed_as c.args.update _ told.0 _ c.interviewed_by.result c.in-Some.capability _ c.in_ok-interviewed.field-0 a b told.1
     (c.interviewed_by.ensures ∙ ap (λ (r : RequestsState). interviewed_by r c.args.update) c.requests.ensures) c.in-Some.is (grind (arith, nat_tests))

@@ -9,7 +9,7 @@ use Rattle.host_step_bytes.proofs.messages.take_payload.Goals as goal
 
 pub returns-in_err-messages-clause-err : goal.returns-in_err-messages-clause-err
 returns-in_err-messages-clause-err g c =
-    let a : Scene = scene c.args.core.now.state c.args.out.now.items (g.P.Keeper.records c.args.keeper.now) (g.P.Keeper.faults c.args.keeper.now) in
+    let a : Scene = scene c.args.core.now.state c.args.out.now.items (g.P.Keeper.shelf c.args.keeper.now) in
     on_err c.from_residual.result (stops_at_once a a refl refl (none_added a.shelf.records) (omega arith))
 
 pub take_sealed-requires-clause-header : goal.take_sealed-requires-clause-header
@@ -17,12 +17,12 @@ take_sealed-requires-clause-header g c = sealed_begins c.args.payload.now (sym c
 
 pub returns-in_err-unread-in-Unread-clause-err : goal.returns-in_err-unread-in-Unread-clause-err
 returns-in_err-unread-in-Unread-clause-err g c =
-    let a : Scene = scene c.args.core.now.state c.args.out.now.items (g.P.Keeper.records c.args.keeper.now) (g.P.Keeper.faults c.args.keeper.now) in
-    let b : Scene = scene c.args.core.now.state c.unread.new.out.items (g.P.Keeper.records c.args.keeper.now) (g.P.Keeper.faults c.args.keeper.now) in
+    let a : Scene = scene c.args.core.now.state c.args.out.now.items (g.P.Keeper.shelf c.args.keeper.now) in
+    let b : Scene = scene c.args.core.now.state c.unread.new.out.items (g.P.Keeper.shelf c.args.keeper.now) in
     on_err c.from_residual-in_err-unread-in-Unread.result (stops_at_once a b refl c.in_err-unread-in-Unread.ensures.err (none_added a.shelf.records) (omega arith))
 
 pub returns-in_ok-unread-in-Unread-clause-ok : goal.returns-in_ok-unread-in-Unread-clause-ok
 returns-in_ok-unread-in-Unread-clause-ok g c =
-    let a : Scene = scene c.args.core.now.state c.args.out.now.items (g.P.Keeper.records c.args.keeper.now) (g.P.Keeper.faults c.args.keeper.now) in
-    let b : Scene = scene c.args.core.now.state c.unread.new.out.items (g.P.Keeper.records c.args.keeper.now) (g.P.Keeper.faults c.args.keeper.now) in
+    let a : Scene = scene c.args.core.now.state c.args.out.now.items (g.P.Keeper.shelf c.args.keeper.now) in
+    let b : Scene = scene c.args.core.now.state c.unread.new.out.items (g.P.Keeper.shelf c.args.keeper.now) in
     payload_unread c.args.node c.args.payload.now _ a b (sym c.in_ok-messages.ensures ∙ c.in-Unread.is) refl c.in_ok-unread-in-Unread.ensures.outs (none_added a.shelf.records) (omega arith)

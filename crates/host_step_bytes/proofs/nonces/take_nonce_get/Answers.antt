@@ -10,26 +10,26 @@ use Rattle.host_step_bytes.proofs.nonces.take_nonce_get.Goals as goal
 
 pub returns-in_err-offer-in-Some-clause-err : goal.returns-in_err-offer-in-Some-clause-err
 returns-in_err-offer-in-Some-clause-err g c =
-    let a : Scene = scene c.args.core.now.state c.args.out.now.items (g.P.Keeper.records c.args.keeper.now) (g.P.Keeper.faults c.args.keeper.now) in
-    let b : Scene = scene c.offer.new.self.state c.offer.new.out.items (g.P.Keeper.records c.args.keeper.now) (g.P.Keeper.faults c.args.keeper.now) in
+    let a : Scene = scene c.args.core.now.state c.args.out.now.items (g.P.Keeper.shelf c.args.keeper.now) in
+    let b : Scene = scene c.offer.new.self.state c.offer.new.out.items (g.P.Keeper.shelf c.args.keeper.now) in
     on_err c.from_residual.result
     (stops_at_once a b (ap (λ (p : HostParts). p.state) c.in_err-offer-in-Some.ensures.err.0) c.in_err-offer-in-Some.ensures.err.1 (none_added a.shelf.records) (omega arith))
 
 pub returns-in_err-give-in-None-clause-err : goal.returns-in_err-give-in-None-clause-err
 returns-in_err-give-in-None-clause-err g c =
-    let a : Scene = scene c.args.core.now.state c.args.out.now.items (g.P.Keeper.records c.args.keeper.now) (g.P.Keeper.faults c.args.keeper.now) in
-    let b : Scene = scene c.give.new.core.state c.give.new.out.items (g.P.Keeper.records c.give.new.keeper) (g.P.Keeper.faults c.give.new.keeper) in
+    let a : Scene = scene c.args.core.now.state c.args.out.now.items (g.P.Keeper.shelf c.args.keeper.now) in
+    let b : Scene = scene c.give.new.core.state c.give.new.out.items (g.P.Keeper.shelf c.give.new.keeper) in
     on_err c.from_residual-in_err-give-in-None.result
     (stops_at_once a b (ap (λ (p : HostParts). p.state) c.in_err-give-in-None.ensures.err.0) c.in_err-give-in-None.ensures.err.1 c.in_err-give-in-None.ensures.no_record c.give.ensures.never_falls)
 
 pub returns-in_ok-offer-in-Some-clause-ok : goal.returns-in_ok-offer-in-Some-clause-ok
 returns-in_ok-offer-in-Some-clause-ok g c =
-    let a : Scene = scene c.args.core.now.state c.args.out.now.items (g.P.Keeper.records c.args.keeper.now) (g.P.Keeper.faults c.args.keeper.now) in
-    let b : Scene = scene c.offer.new.self.state c.offer.new.out.items (g.P.Keeper.records c.args.keeper.now) (g.P.Keeper.faults c.args.keeper.now) in
+    let a : Scene = scene c.args.core.now.state c.args.out.now.items (g.P.Keeper.shelf c.args.keeper.now) in
+    let b : Scene = scene c.offer.new.self.state c.offer.new.out.items (g.P.Keeper.shelf c.args.keeper.now) in
     nonce_offered c.args.node _ a b (sym c.live.ensures ∙ c.in-Some.is) (ap (λ (p : HostParts). p.state) c.in_ok-offer-in-Some.ensures.state) c.in_ok-offer-in-Some.ensures.outs (none_added a.shelf.records) (omega arith)
 
 pub returns-in_ok-give-in-None-clause-ok : goal.returns-in_ok-give-in-None-clause-ok
 returns-in_ok-give-in-None-clause-ok g c =
-    let a : Scene = scene c.args.core.now.state c.args.out.now.items (g.P.Keeper.records c.args.keeper.now) (g.P.Keeper.faults c.args.keeper.now) in
-    let b : Scene = scene c.give.new.core.state c.give.new.out.items (g.P.Keeper.records c.give.new.keeper) (g.P.Keeper.faults c.give.new.keeper) in
+    let a : Scene = scene c.args.core.now.state c.args.out.now.items (g.P.Keeper.shelf c.args.keeper.now) in
+    let b : Scene = scene c.give.new.core.state c.give.new.out.items (g.P.Keeper.shelf c.give.new.keeper) in
     nonce_given c.args.node c.draw_bytes-drawn.result c.in_ok-give-in-None.field-0 a b (sym c.live.ensures ∙ c.in-None.is) (search rules) c.draw_bytes-drawn.ensures c.in_ok-give-in-None.ensures.in_range c.in_ok-give-in-None.ensures.kept (ap (λ (p : HostParts). p.state) c.in_ok-give-in-None.ensures.state) c.in_ok-give-in-None.ensures.outs c.give.ensures.never_falls

@@ -10,8 +10,8 @@ use Rattle.host_step_bytes.proofs.reports.end_session.Goals as goal
 
 pub returns-clause-ok : goal.returns-clause-ok
 returns-clause-ok g c =
-    let a : Scene = scene c.args.core.now.state c.args.out.now.items (g.P.Keeper.records c.args.keeper.now) (g.P.Keeper.faults c.args.keeper.now) in
-    let b : Scene = scene c.finish.new.core.state c.finish.new.out.items (g.P.Keeper.records c.finish.new.keeper) (g.P.Keeper.faults c.finish.new.keeper) in
+    let a : Scene = scene c.args.core.now.state c.args.out.now.items (g.P.Keeper.shelf c.args.keeper.now) in
+    let b : Scene = scene c.finish.new.core.state c.finish.new.out.items (g.P.Keeper.shelf c.finish.new.keeper) in
     session_ended c.args.node c.args.session c.args.id c.in-Some.command c.args.status c.in-Some-of.ended c.args.wake_request c.in_ok-finish.field-0 a b c.requires
     (ap (λ (n : NodeState). command_of_session n.book.commands c.args.session) (sym c.node.ensures.value) ∙ sym c.command_of.ensures ∙ c.in-Some.is)
     (ap (λ (k : ℕ). status_of k) (sym c.byte.ensures) ∙ sym c.of.ensures ∙ c.in-Some-of.is)

@@ -17,3 +17,11 @@ returns-clause-sensor c = refl
 pub returns-clause-lock : goal.returns-clause-lock
 unfolding computing
 returns-clause-lock c = refl
+
+pub returns-clause-before : goal.returns-clause-before
+unfolding computing
+returns-clause-before c = refl
+
+pub returns-clause-later : goal.returns-clause-later
+unfolding computing
+returns-clause-later c = refl

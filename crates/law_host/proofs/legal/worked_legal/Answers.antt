@@ -7,17 +7,17 @@ use Rattle.zw_text.specs.Transcript.{accepted, sessions}
 use Rattle.law_transcript.specs.Answers.{MayAnswer, refusals_by_host}
 use Rattle.law_transcript.specs.Commands.{numbers_of}
 use Rattle.law_transcript.specs.Lists.{EachAfter, Has, Rises}
-use Rattle.law_transcript.specs.Nodes.{listing_of}
 use Rattle.law_transcript.specs.Once.{CarriesOnce}
 use Rattle.law_transcript.specs.Worked.{refused_lines, the_switch}
 use Rattle.law_wire.specs.Links.{KeepsLink}
 use Rattle.law_wire.specs.Serial.{ended}
 use Rattle.law_time.specs.Choice.{may_follow, may_number, may_send}
+use Rattle.law_time.specs.Heeds.{Heeds, heeds_of}
 use Rattle.law_time.specs.Queue.{may_queue}
 use Rattle.law_time.specs.Rests.{may_rest}
 use Rattle.law_time.specs.Unanswered.{may_give_up}
-use Rattle.law_host.specs.Heard.{heard_by_host}
-use Rattle.law_host.specs.HostLegal.{IsHostLegal}
+use Rattle.law_host.specs.Heard.{heard_by_host, heeds_alone}
+use Rattle.law_host.specs.HostLegal.{IsHostLegal, IsLegalAlone}
 use Rattle.law_host.specs.Notes.{first_start}
 use Rattle.law_host.specs.Worked.{all_kept, plain_heard}
 use Rattle.law_transcript.proofs.Deciding.{kept}
@@ -33,11 +33,11 @@ use Rattle.law_host.proofs.legal.worked_legal.Goals as goal
 abbrev lines : List Entry
 lines = heard_by_host refused_lines
 
-abbrev listing : ℕ → List ℕ
-listing = listing_of (the_switch ∷ [])
+abbrev heeds : Heeds
+heeds = heeds_of (the_switch ∷ [])
 
 -- each line has the answer that is due
-answered : EachAfter (MayAnswer listing (refusals_by_host listing)) [] lines
+answered : EachAfter (MayAnswer heeds.listing (refusals_by_host heeds.listing)) [] lines
 unfolding computing
 answered = (tt, (inl refl, (tt, (tt, (inl refl, (tt, (inl refl, (tt, (refl, (tt, (tt, (tt, (refl, (tt, (refl, tt)))))))))))))))
 
@@ -46,7 +46,7 @@ silent : KeepsLink Host (ended true lines)
 unfolding computing
 silent = keeps_link Host (ended true lines) (acts_of Host (ended true lines)) refl refl refl refl refl
 
-refuses : IsHostLegal [] listing first_start true lines None
+refuses : IsHostLegal [] heeds first_start true lines None
 unfolding computing
 refuses = record {
   answers = record { between = answered; in_the_end = λ whole. tt };
@@ -54,25 +54,29 @@ refuses = record {
   sessions = (tt, (tt, (tt, (tt, (tt, (tt, (tt, (tt, (tt, (tt, (tt, (tt, (tt, (tt, (tt, tt)))))))))))))));
   carries = λ node. record { commands_rise = tt; commands_accepted = tt };
   link = silent;
-  notes = noted [] listing first_start lines all_kept refl;
+  notes = noted [] heeds first_start lines all_kept refl;
   stores = record { asked = ([], refl); all = λ whole. refl; following = (tt, (tt, (tt, (tt, (tt, (tt, (tt, (tt, (tt, (tt, (tt, (tt, (tt, (tt, (tt, tt))))))))))))))) };
   values = (tt, (tt, (tt, (tt, (tt, (tt, (tt, (tt, (tt, (tt, (tt, (tt, (tt, (tt, (tt, (tt, tt))))))))))))))));
   sends = (tt, (tt, (tt, (tt, (tt, (tt, (tt, (tt, (tt, (tt, (tt, (tt, (tt, (tt, (tt, tt)))))))))))))));
   prompt = record {
-    fits = kept (may_queue listing) lines refl;
-    turn = kept (may_send listing) lines refl;
+    fits = kept (may_queue heeds) lines refl;
+    turn = kept (may_send heeds) lines refl;
     one_by_one = kept may_follow lines refl;
     numbers = kept may_number lines refl;
     begins = (tt, (tt, (tt, (tt, (tt, (tt, (tt, (tt, (tt, (tt, (tt, (tt, (tt, (tt, (tt, (tt, tt))))))))))))))));
-    gives_up = record { between = kept (may_give_up listing) lines refl; in_the_end = λ whole. refl };
-    rests = record { between = kept (may_rest listing) lines refl; in_the_end = λ whole. refl };
+    gives_up = record { between = kept (may_give_up heeds) lines refl; in_the_end = λ whole. refl };
+    rests = record { between = kept (may_rest heeds) lines refl; in_the_end = λ whole. refl };
   };
   records_kept = λ whole. tt;
 }
 
 -- ---- the plain exchange
 
-answered_plain : EachAfter (MayAnswer listing (refusals_by_host listing)) [] plain_heard
+-- its report asks for nothing
+abbrev goes_by : Heeds
+goes_by = heeds_alone (λ past carried. [])
+
+answered_plain : EachAfter (MayAnswer goes_by.listing (refusals_by_host goes_by.listing)) [] plain_heard
 unfolding computing
 answered_plain = (tt, (inl refl, (tt, (tt, (tt, (tt, (tt, (tt, (tt, (tt, (tt, (tt, (tt, (tt, (tt, (tt, tt))))))))))))))))
 
@@ -94,7 +98,7 @@ linked : KeepsLink Host (ended true plain_heard)
 unfolding computing
 linked = keeps_link Host (ended true plain_heard) (acts_of Host (ended true plain_heard)) refl refl refl refl refl
 
-exchanges : IsHostLegal [] listing first_start true plain_heard None
+unfoldable exchanges : IsHostLegal [] goes_by first_start true plain_heard None
 unfolding computing
 exchanges = record {
   answers = record { between = answered_plain; in_the_end = λ whole. tt };
@@ -102,21 +106,25 @@ exchanges = record {
   sessions = (tt, (tt, ((refl, tt), (tt, (tt, (tt, (tt, (tt, (tt, (tt, (tt, (tt, (tt, (tt, (tt, (tt, tt))))))))))))))));
   carries = once;
   link = linked;
-  notes = noted [] listing first_start plain_heard all_kept refl;
+  notes = noted [] goes_by first_start plain_heard all_kept refl;
   stores = record { asked = ([], refl); all = λ whole. refl; following = stores_after plain_heard (tt, tt) };
   values = (tt, (tt, (tt, (tt, (tt, (tt, (tt, (tt, (tt, (tt, (tt, (tt, (tt, (tt, (tt, (tt, (tt, tt)))))))))))))))));
   sends = (tt, (tt, (tt, ((inl refl, tt), (tt, (tt, (tt, (tt, (tt, (tt, (tt, (tt, (tt, (tt, (tt, (tt, tt))))))))))))))));
   prompt = record {
-    fits = kept (may_queue listing) plain_heard refl;
-    turn = kept (may_send listing) plain_heard refl;
+    fits = kept (may_queue goes_by) plain_heard refl;
+    turn = kept (may_send goes_by) plain_heard refl;
     one_by_one = kept may_follow plain_heard refl;
     numbers = kept may_number plain_heard refl;
     begins = (tt, (tt, (tt, (refl, (tt, (tt, (tt, (tt, (tt, (tt, (tt, (tt, (tt, (tt, (tt, (tt, (tt, tt)))))))))))))))));
-    gives_up = record { between = kept (may_give_up listing) plain_heard refl; in_the_end = λ whole. refl };
-    rests = record { between = kept (may_rest listing) plain_heard refl; in_the_end = λ whole. refl };
+    gives_up = record { between = kept (may_give_up goes_by) plain_heard refl; in_the_end = λ whole. refl };
+    rests = record { between = kept (may_rest goes_by) plain_heard refl; in_the_end = λ whole. refl };
   };
   records_kept = λ whole. tt;
 }
 
+alone : IsLegalAlone [] first_start true plain_heard None
+unfolding computing exchanges noted
+alone = record { taken = λ past carried. []; legal = exchanges; heeded = (refl, tt) }
+
 pub returns : goal.returns
-returns c = record { refused = refuses; plain = exchanges }
+returns c = record { refused = refuses; plain = alone }

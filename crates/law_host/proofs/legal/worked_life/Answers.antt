@@ -9,19 +9,19 @@ use Rattle.host_keep.specs.Kept.{KeptNode, kept_of, node_of}
 use Rattle.law_transcript.specs.Answers.{MayAnswer, refusals_by_host}
 use Rattle.law_transcript.specs.Commands.{numbers_of}
 use Rattle.law_transcript.specs.Lists.{EachAfter, Has, Rises, last_or}
-use Rattle.law_transcript.specs.Nodes.{listing_of}
 use Rattle.law_transcript.specs.Once.{CarriesOnce}
 use Rattle.law_transcript.specs.Records.{ShowsNode}
-use Rattle.law_transcript.specs.Worked.{the_sensor, the_switch}
 use Rattle.law_wire.specs.Links.{KeepsLink}
 use Rattle.law_wire.specs.Serial.{ended}
 use Rattle.law_time.specs.Choice.{may_follow, may_number, may_send}
+use Rattle.law_time.specs.Heeds.{Heeds}
 use Rattle.law_time.specs.Interviews.{listens}
 use Rattle.law_time.specs.Queue.{may_queue}
 use Rattle.law_time.specs.Rests.{may_rest}
 use Rattle.law_time.specs.Unanswered.{may_give_up}
 use Rattle.law_host.specs.Course.{blank_book}
-use Rattle.law_host.specs.HostLegal.{IsHostLegal}
+use Rattle.law_host.specs.Heard.{heeds_alone, listing_heard}
+use Rattle.law_host.specs.HostLegal.{IsHostLegal, IsLegalAlone}
 use Rattle.law_host.specs.Nonces.{nonce_with}
 use Rattle.law_host.specs.Starting.{KnowsNode, book_kept}
 use Rattle.law_host.specs.Worked.{after_life, all_kept, first_life, life_records, next_session}
@@ -36,8 +36,9 @@ use Rattle.law_host.proofs.FirstLife.{gives_life}
 use Rattle.law_host.proofs.Noting.{noted}
 use Rattle.law_host.proofs.legal.worked_life.Goals as goal
 
-abbrev listing : ℕ → List ℕ
-listing = listing_of (the_switch ∷ the_sensor ∷ [])
+-- no payload comes
+abbrev heeds : Heeds
+heeds = heeds_alone (λ past carried. [])
 
 -- ---- what the host starts with
 
@@ -52,11 +53,11 @@ unfolding computing
 deaf more =
     ap (λ (is : Bool). last_or (above 6 more == 2) ((if is then false ∷ [] else []) ++ [])) (is_other 6 more 5 refl) ∙ others_are 6 more 2 refl
 
-known : (node : ℕ) → KnowsNode listing first_life node (node_of (kept_of life_records) node)
+known : (node : ℕ) → KnowsNode first_life node (node_of (kept_of life_records) node)
 unfolding computing computing_devices
-known = every 6 (λ node. KnowsNode listing first_life node (node_of (kept_of life_records) node)) (record { lists = refl; listening = refl }, (record { lists = refl; listening = refl }, (record { lists = refl; listening = refl }, (record { lists = refl; listening = refl }, (record { lists = refl; listening = refl }, (record { lists = refl; listening = refl }, tt))))))
-    (λ more. subst (λ (one : KeptNode). KnowsNode listing first_life (above 6 more) one) (sym (blank_at 227 more)) (record {
-      lists = ap (λ (asked : List Bool). if list_any (λ succeeded. succeeded) asked then Some (listing (above 6 more)) else
+known = every 6 (λ node. KnowsNode first_life node (node_of (kept_of life_records) node)) (record { lists = refl; listening = refl }, (record { lists = refl; listening = refl }, (record { lists = refl; listening = refl }, (record { lists = refl; listening = refl }, (record { lists = refl; listening = refl }, (record { lists = refl; listening = refl }, tt))))))
+    (λ more. subst (λ (one : KeptNode). KnowsNode first_life (above 6 more) one) (sym (blank_at 227 more)) (record {
+      lists = ap (λ (asked : List Bool). if list_any (λ succeeded. succeeded) asked then Some (listing_heard first_life (above 6 more)) else
           (if above 6 more == 2 then Some (0x25 ∷ 0x85 ∷ 0x6C ∷ []) else None)) (none_asked 6 more first_life refl)
           ∙ ap (λ (is : Bool). if is then Some (0x25 ∷ 0x85 ∷ 0x6C ∷ []) else None) (others_are 6 more 2 refl);
       listening = deaf more;
@@ -77,7 +78,7 @@ abbrev all : List Entry
 all = first_life ++ next_session
 
 -- each line has the answer that is due, and the restart none
-answered : EachAfter (MayAnswer listing (refusals_by_host listing)) first_life next_session
+answered : EachAfter (MayAnswer heeds.listing (refusals_by_host heeds.listing)) first_life next_session
 unfolding computing
 answered = (tt, (tt, (tt, (tt, (tt, tt)))))
 
@@ -104,7 +105,7 @@ linked : KeepsLink Host (ended true next_session)
 unfolding computing
 linked = keeps_link Host (ended true next_session) (acts_of Host (ended true next_session)) refl refl refl refl refl
 
-legal : IsHostLegal [] listing after_life true next_session None
+legal : IsHostLegal [] heeds after_life true next_session None
 unfolding computing
 legal = record {
   answers = record { between = answered; in_the_end = λ whole. tt };
@@ -112,18 +113,18 @@ legal = record {
   sessions = ((refl, (tt, tt)), (tt, (tt, (tt, (tt, tt)))));
   carries = once;
   link = linked;
-  notes = noted [] listing after_life next_session all_kept refl;
+  notes = noted [] heeds after_life next_session all_kept refl;
   stores = record { asked = ([], refl); all = λ whole. refl; following = stores_after all (tt, tt) };
   values = (tt, (tt, (tt, (tt, (tt, (tt, tt))))));
   sends = (tt, ((inl refl, tt), (tt, (tt, (tt, tt)))));
   prompt = record {
-    fits = kept_after (may_queue listing) first_life next_session refl;
-    turn = kept_after (may_send listing) first_life next_session refl;
+    fits = kept_after (may_queue heeds) first_life next_session refl;
+    turn = kept_after (may_send heeds) first_life next_session refl;
     one_by_one = kept_after may_follow first_life next_session refl;
     numbers = kept_after may_number first_life next_session refl;
     begins = (tt, (refl, (tt, (tt, (tt, (tt, tt))))));
-    gives_up = record { between = kept_after (may_give_up listing) first_life next_session refl; in_the_end = λ whole. refl };
-    rests = record { between = kept_after (may_rest listing) first_life next_session refl; in_the_end = λ whole. refl };
+    gives_up = record { between = kept_after (may_give_up heeds) first_life next_session refl; in_the_end = λ whole. refl };
+    rests = record { between = kept_after (may_rest heeds) first_life next_session refl; in_the_end = λ whole. refl };
   };
   records_kept = λ whole. tt;
 }
@@ -131,6 +132,10 @@ legal = record {
 none_of : (P : List ℕ → Type 0) (live : Option (List ℕ)) → live ≡ None → IfSome live P
 none_of P None none = tt
 none_of P (Some nonce) none = cc
+
+alone : IsLegalAlone [] after_life true next_session None
+unfolding computing
+alone = record { taken = λ past carried. []; legal = legal; heeded = tt }
 
 pub returns : goal.returns
 unfolding computing_devices
@@ -144,6 +149,6 @@ returns c = record {
     knows = known;
     books = booked;
   };
-  legal = legal;
-  live = λ node. none_of (λ nonce. nonce ≡ nonce_with legal.notes.drawn node (node_of (kept_of life_records) node).given) (node_of (kept_of life_records) node).live (none_live node);
+  alone = alone;
+  live = λ node. none_of (λ nonce. nonce ≡ nonce_with alone.legal.notes.drawn node (node_of (kept_of life_records) node).given) (node_of (kept_of life_records) node).live (none_live node);
 }

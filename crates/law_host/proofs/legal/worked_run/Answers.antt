@@ -1,3 +1,4 @@
+use Rattle.law_time.specs.Heeds.{heeds_of}
 use Rattle.std.proofs.Common.{◌≡◌, ℕ, ◌==◌, Bool, true, false, if◌then◌else◌, List, [], ◌∷◌, ◌++◌, arith, refl, sym, ap, subst, append_assoc, append-nil, ◌∙◌}
 use Rattle.std.specs.Prelude.{Some, None}
 use Rattle.std.proofs.lemmas.Bool.{eqb-true}
@@ -9,7 +10,7 @@ use Rattle.zw_text.specs.Transcript.{line_last}
 use Rattle.law_transcript.specs.Devices.{RanAsShown, after_events}
 use Rattle.law_transcript.specs.Fates.{MayFare}
 use Rattle.law_transcript.specs.Lists.{EachAfter}
-use Rattle.law_transcript.specs.Nodes.{device_of, listing_of}
+use Rattle.law_transcript.specs.Nodes.{device_of, listing_of, always}
 use Rattle.law_transcript.specs.Worked.{plain_exchange, the_switch}
 use Rattle.law_transcript.specs.WorkedDevices.{switch_events}
 use Rattle.law_wire.specs.Arriving.{FollowsRepeat, IsForgotten, forgets}
@@ -80,9 +81,9 @@ told = (
   ),
 )
 
-noted_so : NotesWhatHappens [] (listing_of (the_switch ∷ [])) first_start true (heard_by_host plain_exchange)
+noted_so : NotesWhatHappens [] (heeds_of (the_switch ∷ [])) first_start true (heard_by_host plain_exchange)
 unfolding computing
-noted_so = noted [] (listing_of (the_switch ∷ [])) first_start (heard_by_host plain_exchange) all_kept refl
+noted_so = noted [] (heeds_of (the_switch ∷ [])) first_start (heard_by_host plain_exchange) all_kept refl
 
 -- there is one device, of node 2
 abbrev after : State
@@ -159,7 +160,7 @@ unfolding computing
 timed = refl
 
 -- no line asks for stored values, and none stand
-valued : EachAfter (ShowsValues (listing_of (the_switch ∷ []))) [] whole
+valued : EachAfter (ShowsValues (always (listing_of (the_switch ∷ [])))) [] whole
 unfolding computing
 valued = (tt, (tt, (tt, (tt, (tt, (tt, (tt, (tt, (tt, (tt, (tt, (tt, (tt, (tt, (tt, (tt, (tt, (tt, (tt, (tt, (tt, (tt, tt))))))))))))))))))))))
 

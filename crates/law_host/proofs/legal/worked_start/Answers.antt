@@ -2,9 +2,7 @@ use Rattle.std.proofs.Common.{◌≡◌, ℕ, Bool, [], ◌∷◌, if◌then◌e
 use Rattle.std.specs.Prelude.{Some, None}
 use Rattle.host_keep.specs.Kept.{KeptNode, kept_of, node_of}
 use Rattle.host_keep.specs.Legal.{first_illegal}
-use Rattle.law_transcript.specs.Nodes.{listing_of}
 use Rattle.law_transcript.specs.Records.{ShowsNode}
-use Rattle.law_transcript.specs.Worked.{the_switch}
 use Rattle.law_transcript.proofs.Computing.{computing_devices}
 use Rattle.law_wire.proofs.ShownRecords.{above, blank_at, every, gives, others_are, shows_nodes}
 use Rattle.law_host.specs.Course.{blank_book}
@@ -22,11 +20,11 @@ shown = shows_nodes [] (kept_of []) 3 (
 ) (blank_at 230) refl refl refl
 
 -- of node 2 alone anything is known
-known : (node : ℕ) → KnowsNode (listing_of (the_switch ∷ [])) [] node (node_of (kept_of []) node)
+known : (node : ℕ) → KnowsNode [] node (node_of (kept_of []) node)
 unfolding computing_devices
-known = every 3 (λ node. KnowsNode (listing_of (the_switch ∷ [])) [] node (node_of (kept_of []) node))
+known = every 3 (λ node. KnowsNode [] node (node_of (kept_of []) node))
     (record { lists = refl; listening = refl }, (record { lists = refl; listening = refl }, (record { lists = refl; listening = refl }, tt)))
-    (λ more. subst (λ (one : KeptNode). KnowsNode (listing_of (the_switch ∷ [])) [] (above 3 more) one) (sym (blank_at 230 more)) (record {
+    (λ more. subst (λ (one : KeptNode). KnowsNode [] (above 3 more) one) (sym (blank_at 230 more)) (record {
       lists = ap (λ (is : Bool). if is then Some (0x25 ∷ 0x85 ∷ 0x6C ∷ []) else None) (others_are 3 more 2 refl);
       listening = others_are 3 more 2 refl;
     }))

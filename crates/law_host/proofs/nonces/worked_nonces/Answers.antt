@@ -1,9 +1,9 @@
 use Rattle.std.proofs.Common.{◌≡◌, Bool, true, false, ℕ, List, [], ◌∷◌, length, refl, sym, ◌==◌}
 use Rattle.std.specs.Prelude.{if◌then◌else◌}
 use Rattle.law_host.specs.Nonces.{IsSeal}
-use Rattle.law_host.specs.Worked.{all_kept, report_kept, spent, unspent}
+use Rattle.law_host.specs.Worked.{all_kept, opened_to_nothing, report_kept, spent, unspent}
 use Rattle.law_transcript.specs.Worked.{network_key}
-use Rattle.law_transcript.proofs.Sealing.{opened_report, sealed_set, set_code, set_nonce, set_own, set_plain, set_with}
+use Rattle.law_transcript.proofs.Sealing.{opened_changed, opened_report, sealed_set, set_code, set_nonce, set_own, set_plain, set_with}
 use Rattle.law_time.proofs.Computing.{computing}
 use Rattle.law_host.proofs.nonces.worked_nonces.Goals as goal
 
@@ -93,4 +93,24 @@ returns-clause-over_restart c = record {
   fits = refl;
   in_the_end = λ whole. refl;
   nonces = record { seven = λ node number. seven_of (number == 1); offered = (refl, (refl, tt)); opened = tt; sealed = tt };
+}
+
+pub returns-clause-counted : goal.returns-clause-counted
+unfolding computing
+returns-clause-counted c = record {
+  choices = all_kept;
+  drawn = drawn;
+  fits = refl;
+  in_the_end = λ whole. refl;
+  nonces = record { seven = λ node number. seven_of (number == 1); offered = tt; opened = tt; sealed = (is_seal, tt) };
+}
+
+pub returns-clause-unopened : goal.returns-clause-unopened
+unfolding computing
+returns-clause-unopened c = record {
+  choices = opened_to_nothing;
+  drawn = drawn;
+  fits = refl;
+  in_the_end = λ whole. refl;
+  nonces = record { seven = λ node number. seven_of (number == 1); offered = (refl, tt); opened = (opened_changed, tt); sealed = tt };
 }

@@ -7,7 +7,7 @@ use Rattle.law_time.proofs.Computing.{computing}
 use Rattle.law_transcript.proofs.Deciding.{broken, not_true}
 use Rattle.law_time.proofs.waking.rejected_waking.Goals as goal
 use Rattle.law_time.specs.WrongEnds.{asleep_again, asleep_before_end, asleep_by_other, awake_after_link, awake_after_refusal, awake_as_it_asks, awake_in_next_line, awake_in_next_tick}
-use Rattle.law_time.specs.WrongWaking.{awake_by_unread, held_by_other, held_unanswered, not_held_failing, not_held_unsupported, awake_after_accepted, awake_after_change, awake_after_cleared, awake_after_forgotten, awake_after_frame, awake_after_full, awake_after_hearing, awake_after_line, awake_after_loss, awake_after_refused, awake_after_session, awake_after_tick, awake_after_unhearing, awake_after_unit, awake_after_note}
+use Rattle.law_time.specs.WrongWaking.{awake_by_unread, held_by_other, held_by_unread, held_by_work, held_unanswered, not_held_by_both, not_held_failing, not_held_unsupported, awake_after_accepted, awake_after_change, awake_after_cleared, awake_after_forgotten, awake_after_frame, awake_after_full, awake_after_hearing, awake_after_line, awake_after_loss, awake_after_refused, awake_after_session, awake_after_tick, awake_after_unhearing, awake_after_unit, awake_after_note}
 
 pub returns-clause-untold : goal.returns-clause-untold
 unfolding computing
@@ -164,3 +164,15 @@ returns-clause-after_refusal c = λ law. broken may_sleep awake_after_refusal re
 pub returns-clause-in_the_end : goal.returns-clause-in_the_end
 unfolding computing
 returns-clause-in_the_end c = λ law. not_true (law.in_the_end refl)
+
+pub returns-clause-by_both : goal.returns-clause-by_both
+unfolding computing
+returns-clause-by_both c = broken may_hold not_held_by_both refl
+
+pub returns-clause-by_work : goal.returns-clause-by_work
+unfolding computing
+returns-clause-by_work c = broken may_hold held_by_work refl
+
+pub returns-clause-by_unread : goal.returns-clause-by_unread
+unfolding computing
+returns-clause-by_unread c = broken may_hold held_by_unread refl

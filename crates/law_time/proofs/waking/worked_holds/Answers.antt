@@ -5,7 +5,7 @@ use Rattle.law_transcript.specs.Worked.{cancelled_order, long_message, lossy_exc
 use Rattle.law_time.proofs.Computing.{computing}
 use Rattle.law_transcript.proofs.Deciding.{kept}
 use Rattle.law_time.proofs.waking.worked_holds.Goals as goal
-use Rattle.law_time.specs.WorkedWaking.{held_failing, held_unsupported}
+use Rattle.law_time.specs.WorkedWaking.{held_by_both, held_by_first, held_by_sealed, held_failing, held_unsupported, not_held_by_second, not_held_by_work}
 
 pub returns-clause-held : goal.returns-clause-held
 unfolding computing
@@ -50,3 +50,23 @@ returns-clause-failing c = kept may_hold held_failing refl
 pub returns-clause-unsupported : goal.returns-clause-unsupported
 unfolding computing
 returns-clause-unsupported c = kept may_hold held_unsupported refl
+
+pub returns-clause-both : goal.returns-clause-both
+unfolding computing
+returns-clause-both c = kept may_hold held_by_both refl
+
+pub returns-clause-first : goal.returns-clause-first
+unfolding computing
+returns-clause-first c = kept may_hold held_by_first refl
+
+pub returns-clause-second : goal.returns-clause-second
+unfolding computing
+returns-clause-second c = kept may_hold not_held_by_second refl
+
+pub returns-clause-working : goal.returns-clause-working
+unfolding computing
+returns-clause-working c = kept may_hold not_held_by_work refl
+
+pub returns-clause-by_sealed : goal.returns-clause-by_sealed
+unfolding computing
+returns-clause-by_sealed c = kept may_hold held_by_sealed refl

@@ -13,7 +13,7 @@ use Rattle.zw_text.specs.declared.entry.Entry.TheVariants.{Report}
 use Rattle.zw_text.specs.Transcript.{folded, line_of, line_after, line_last}
 use Rattle.law_transcript.specs.Lists.{EachAfter}
 use Rattle.law_transcript.specs.Answers.{Follows, before_last, refusals_to}
-use Rattle.law_transcript.specs.Nodes.{listing_of}
+use Rattle.law_transcript.specs.Nodes.{listing_of, always}
 use Rattle.law_transcript.specs.Worked.{the_switch, the_lock, the_plug}
 use Rattle.law_transcript.specs.WorkedWrongLines.{refused_so, lets_in, when_known, the_relay, bulk_of}
 use Rattle.law_transcript.proofs.Entries.{MayAnswerOf, answers}
@@ -61,7 +61,7 @@ reports_pass devices setting_at [] past rest none following =
     subst (λ (before : List Entry). EachAfter (MayAnswerOf devices) before rest) (append-nil past) following
 reports_pass devices setting_at (place ∷ places) past rest none following =
     let entry : Entry = Report 2 (setting_at place) in (
-      subst (λ (said : List Line). Follows (listing_of devices) (refusals_to devices) (before_last past) said entry) (sym none) tt,
+      subst (λ (said : List Line). Follows (always (listing_of devices)) (refusals_to devices) (before_last past) said entry) (sym none) tt,
       reports_pass devices setting_at places (past ++ entry ∷ []) rest (line_at_last [] past entry)
           (subst (λ (before : List Entry). EachAfter (MayAnswerOf devices) before rest)
           (sym (append_assoc past (entry ∷ []) (map (λ place. Report 2 (setting_at place)) places))) following),

@@ -20,8 +20,8 @@ returns-clause-keeper_fault g c = λ same. c.serve-served.ensures.not_kept (keep
 pub returns-clause-complete : goal.returns-clause-complete
 returns-clause-complete g c = λ good read write kept.
     is_served c.status.result c.args.key (g.P.Keeper.number c.args.keeper.now) (texts_of c.args.lines.now)
-    (desk (g.S.Source.left c.args.source.now) (g.K.Sink.written c.args.sink.now) (g.P.Keeper.records c.args.keeper.now) (g.P.Keeper.faults c.args.keeper.now))
-    (desk (g.S.Source.left c.serve-served.new.source) (g.K.Sink.written c.serve-served.new.sink) (g.P.Keeper.records c.serve-served.new.keeper) (g.P.Keeper.faults c.serve-served.new.keeper))
+    (desk (g.S.Source.left c.args.source.now) (g.K.Sink.written c.args.sink.now) (g.P.Keeper.shelf c.args.keeper.now))
+    (desk (g.S.Source.left c.serve-served.new.source) (g.K.Sink.written c.serve-served.new.sink) (g.P.Keeper.shelf c.serve-served.new.keeper))
     (record { end = c.serve-served.result; status_is = c.status.ensures; ended = c.serve-served.ensures.ended }) good
     (λ same. read (c.serve-served.ensures.not_read (read_fault_only c.serve-served.result (sym c.status.ensures ∙ same))))
     (λ same. write (c.serve-served.ensures.not_written (write_fault_only c.serve-served.result (sym c.status.ensures ∙ same))))

@@ -6,7 +6,7 @@ use Rattle.port_run.proofs.serving.run_lines.Goals as goal
 
 pub loop-line-init : goal.loop-line-init
 loop-line-init g c = record {
-  so_far = no_line g.C.Clock.may_tell c.args.answers.now.items (place c.args.host.now (g.P.Keeper.records c.args.keeper.now) (g.P.Keeper.faults c.args.keeper.now)) (g.K.Sink.written c.args.sink.now) (g.S.Source.left c.args.source.now) c.requires.empty;
+  so_far = no_line g.C.Clock.may_tell c.args.answers.now.items (place c.args.host.now (g.P.Keeper.shelf c.args.keeper.now)) (g.K.Sink.written c.args.sink.now) (g.S.Source.left c.args.source.now) c.requires.empty;
   room = omega (arith, c.requires.room);
   count = ap length c.requires.empty;
   within = omega arith;
@@ -16,7 +16,7 @@ loop-line-init g c = record {
 
 pub loop-line-preserved : goal.loop-line-preserved
 loop-line-preserved g c = record {
-  so_far = one_line g.C.Clock.may_tell c.args.lines.now c.loop-line.line-index _ c.loop-line.answers.items c.put.new.self.items c.in-Ok.answer (place c.args.host.now (g.P.Keeper.records c.args.keeper.now) (g.P.Keeper.faults c.args.keeper.now)) (place c.loop-line.host (g.P.Keeper.records c.loop-line.keeper) (g.P.Keeper.faults c.loop-line.keeper)) (place c.run_line.new.host (g.P.Keeper.records c.run_line.new.keeper) (g.P.Keeper.faults c.run_line.new.keeper)) (g.K.Sink.written c.args.sink.now) (g.K.Sink.written c.loop-line.sink) (g.K.Sink.written c.run_line.new.sink) (g.S.Source.left c.args.source.now) (g.S.Source.left c.loop-line.source) (g.S.Source.left c.run_line.new.source) c.loop-line.taken c.run_line.new.taken c.loop-line-test.true c.line-item.is
+  so_far = one_line g.C.Clock.may_tell c.args.lines.now c.loop-line.line-index _ c.loop-line.answers.items c.put.new.self.items c.in-Ok.answer (place c.args.host.now (g.P.Keeper.shelf c.args.keeper.now)) (place c.loop-line.host (g.P.Keeper.shelf c.loop-line.keeper)) (place c.run_line.new.host (g.P.Keeper.shelf c.run_line.new.keeper)) (g.K.Sink.written c.args.sink.now) (g.K.Sink.written c.loop-line.sink) (g.K.Sink.written c.run_line.new.sink) (g.S.Source.left c.args.source.now) (g.S.Source.left c.loop-line.source) (g.S.Source.left c.run_line.new.source) c.loop-line.taken c.run_line.new.taken c.loop-line-test.true c.line-item.is
       c.loop-line.invariant.so_far c.put.ensures.items c.in-Ok.ensures.ok;
   room = omega (arith, c.loop-line.invariant.room, c.put.ensures.room);
   count = count_more _ _ _ _ c.put.ensures.items c.loop-line.invariant.count;
@@ -27,9 +27,9 @@ loop-line-preserved g c = record {
 
 pub returns-in-Err-clause-err : goal.returns-in-Err-clause-err
 returns-in-Err-clause-err g c =
-    lines_broke g.C.Clock.may_tell c.args.lines.now c.loop-line.line-index _ c.loop-line.answers.items _ (place c.args.host.now (g.P.Keeper.records c.args.keeper.now) (g.P.Keeper.faults c.args.keeper.now)) (place c.loop-line.host (g.P.Keeper.records c.loop-line.keeper) (g.P.Keeper.faults c.loop-line.keeper)) (place c.run_line.new.host (g.P.Keeper.records c.run_line.new.keeper) (g.P.Keeper.faults c.run_line.new.keeper)) (g.K.Sink.written c.args.sink.now) (g.K.Sink.written c.loop-line.sink) (g.K.Sink.written c.run_line.new.sink) (g.S.Source.left c.args.source.now) (g.S.Source.left c.loop-line.source) (g.S.Source.left c.run_line.new.source) c.loop-line.taken c.loop-line-test.true c.line-item.is c.loop-line.invariant.so_far c.in-Err.ensures.err
+    lines_broke g.C.Clock.may_tell c.args.lines.now c.loop-line.line-index _ c.loop-line.answers.items _ (place c.args.host.now (g.P.Keeper.shelf c.args.keeper.now)) (place c.loop-line.host (g.P.Keeper.shelf c.loop-line.keeper)) (place c.run_line.new.host (g.P.Keeper.shelf c.run_line.new.keeper)) (g.K.Sink.written c.args.sink.now) (g.K.Sink.written c.loop-line.sink) (g.K.Sink.written c.run_line.new.sink) (g.S.Source.left c.args.source.now) (g.S.Source.left c.loop-line.source) (g.S.Source.left c.run_line.new.source) c.loop-line.taken c.loop-line-test.true c.line-item.is c.loop-line.invariant.so_far c.in-Err.ensures.err
 
 pub returns-clause-ok : goal.returns-clause-ok
 returns-clause-ok g c =
-    lines_over g.C.Clock.may_tell c.args.lines.now c.loop-line.line-index c.loop-line.answers.items (place c.args.host.now (g.P.Keeper.records c.args.keeper.now) (g.P.Keeper.faults c.args.keeper.now)) (place c.loop-line.host (g.P.Keeper.records c.loop-line.keeper) (g.P.Keeper.faults c.loop-line.keeper)) (g.K.Sink.written c.args.sink.now) (g.K.Sink.written c.loop-line.sink) (g.S.Source.left c.args.source.now) (g.S.Source.left c.loop-line.source)
+    lines_over g.C.Clock.may_tell c.args.lines.now c.loop-line.line-index c.loop-line.answers.items (place c.args.host.now (g.P.Keeper.shelf c.args.keeper.now)) (place c.loop-line.host (g.P.Keeper.shelf c.loop-line.keeper)) (g.K.Sink.written c.args.sink.now) (g.K.Sink.written c.loop-line.sink) (g.S.Source.left c.args.source.now) (g.S.Source.left c.loop-line.source)
     c.loop-line.taken (omega (arith, c.loop-line-test.false)) c.loop-line.invariant.within c.loop-line.invariant.so_far

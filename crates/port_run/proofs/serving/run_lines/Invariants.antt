@@ -8,7 +8,7 @@ use Rattle.port_run.proofs.serving.run_lines.Given as goal
 abbrev pub invariant-loop-line : goal.invariant-loop-line
 invariant-loop-line g l = record {
   so_far : (steps : List Step) × AllSteps g.C.Clock.may_tell (take l.line-index l.lines) l.answers.items steps
-      × Went steps (place l.fn.host (g.P.Keeper.records l.fn.keeper) (g.P.Keeper.faults l.fn.keeper)) (place l.host (g.P.Keeper.records l.keeper) (g.P.Keeper.faults l.keeper))
+      × Went steps (place l.fn.host (g.P.Keeper.shelf l.fn.keeper)) (place l.host (g.P.Keeper.shelf l.keeper))
       (g.K.Sink.written l.fn.sink) (g.K.Sink.written l.sink) (g.S.Source.left l.fn.source) (g.S.Source.left l.source) 0 l.taken;
   room : length l.lines ≤ l.answers.room + l.line-index;
   count : length l.answers.items ≡ l.line-index;

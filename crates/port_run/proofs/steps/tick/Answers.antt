@@ -7,14 +7,14 @@ use Rattle.port_run.proofs.steps.tick.Goals as goal
 
 pub returns-in-Ok-clause-ok : goal.returns-in-Ok-clause-ok
 returns-in-Ok-clause-ok g c =
-    step_ok c.write_units.result Ticks (place c.args.host.now (g.P.Keeper.records c.args.keeper.now) (g.P.Keeper.faults c.args.keeper.now)) (place c.tick.new.self (g.P.Keeper.records c.tick.new._keeper) (g.P.Keeper.faults c.tick.new._keeper)) c.tick.new.out.items c.as_slice.result.now (g.K.Sink.written c.args.sink.now) (g.K.Sink.written c.write_units.new.sink) (λ l. Keeps-refl l) refl c.as_slice.ensures
-    (tick_ran c.args.host.now c.tick.new.self (g.P.Keeper.records c.args.keeper.now) (g.P.Keeper.records c.tick.new._keeper) c.new-outs.result.items c.tick.new.out.items (g.P.Keeper.faults c.args.keeper.now) (g.P.Keeper.faults c.tick.new._keeper) c.new-outs.ensures c.in-Ok.ensures.ok c.in-Ok.ensures.decoder) c.write_units.ensures.ok
+    step_ok c.write_units.result Ticks (place c.args.host.now (g.P.Keeper.shelf c.args.keeper.now)) (place c.tick.new.self (g.P.Keeper.shelf c.tick.new._keeper)) c.tick.new.out.items c.as_slice.result.now (g.K.Sink.written c.args.sink.now) (g.K.Sink.written c.write_units.new.sink) (λ l. Keeps-refl l) refl c.as_slice.ensures
+    (tick_ran c.args.host.now c.tick.new.self (g.P.Keeper.shelf c.args.keeper.now) (g.P.Keeper.shelf c.tick.new._keeper) c.new-outs.result.items c.tick.new.out.items c.new-outs.ensures c.in-Ok.ensures.ok c.in-Ok.ensures.decoder) c.write_units.ensures.ok
 
 pub returns-in-Ok-clause-err : goal.returns-in-Ok-clause-err
 returns-in-Ok-clause-err g c =
-    step_err c.write_units.result (CutIn (Ticks ∷ [])) Ticks (place c.args.host.now (g.P.Keeper.records c.args.keeper.now) (g.P.Keeper.faults c.args.keeper.now)) (place c.tick.new.self (g.P.Keeper.records c.tick.new._keeper) (g.P.Keeper.faults c.tick.new._keeper)) c.tick.new.out.items c.as_slice.result.now (g.K.Sink.written c.args.sink.now) (g.K.Sink.written c.write_units.new.sink) (λ l. Keeps-refl l) refl c.as_slice.ensures
-    (tick_ran c.args.host.now c.tick.new.self (g.P.Keeper.records c.args.keeper.now) (g.P.Keeper.records c.tick.new._keeper) c.new-outs.result.items c.tick.new.out.items (g.P.Keeper.faults c.args.keeper.now) (g.P.Keeper.faults c.tick.new._keeper) c.new-outs.ensures c.in-Ok.ensures.ok c.in-Ok.ensures.decoder) (λ stop late. (late, ([], refl))) c.write_units.ensures.err
+    step_err c.write_units.result (CutIn (Ticks ∷ [])) Ticks (place c.args.host.now (g.P.Keeper.shelf c.args.keeper.now)) (place c.tick.new.self (g.P.Keeper.shelf c.tick.new._keeper)) c.tick.new.out.items c.as_slice.result.now (g.K.Sink.written c.args.sink.now) (g.K.Sink.written c.write_units.new.sink) (λ l. Keeps-refl l) refl c.as_slice.ensures
+    (tick_ran c.args.host.now c.tick.new.self (g.P.Keeper.shelf c.args.keeper.now) (g.P.Keeper.shelf c.tick.new._keeper) c.new-outs.result.items c.tick.new.out.items c.new-outs.ensures c.in-Ok.ensures.ok c.in-Ok.ensures.decoder) (λ stop late. (late, ([], refl))) c.write_units.ensures.err
 
 pub returns-clause-err : goal.returns-clause-err
 returns-clause-err g c =
-    call_stopped (CutIn (Ticks ∷ [])) c.args.host.now c.tick.new.self (g.P.Keeper.records c.args.keeper.now) (g.P.Keeper.records c.tick.new._keeper) c.new-outs.result.items c.tick.new.out.items (g.P.Keeper.faults c.args.keeper.now) (g.P.Keeper.faults c.tick.new._keeper) (g.K.Sink.written c.args.sink.now) c.new-outs.ensures c.in-Err.ensures.err (tt, (Ticks ∷ [], refl))
+    call_stopped (CutIn (Ticks ∷ [])) c.args.host.now c.tick.new.self (g.P.Keeper.shelf c.args.keeper.now) (g.P.Keeper.shelf c.tick.new._keeper) c.new-outs.result.items c.tick.new.out.items (g.K.Sink.written c.args.sink.now) c.new-outs.ensures c.in-Err.ensures.err (tt, (Ticks ∷ [], refl))

@@ -5,19 +5,19 @@ use Rattle.port_run.proofs.Ticking.{ticks_went, ticks_broke, ticks_all}
 use Rattle.port_run.proofs.steps.tick_all.Goals as goal
 
 pub loop-init : goal.loop-init
-loop-init g c = record { went = λ l n. went_nothing (place c.args.host.now (g.P.Keeper.records c.args.keeper.now) (g.P.Keeper.faults c.args.keeper.now)) (g.K.Sink.written c.args.sink.now) l n; within = omega arith; falls = omega arith }
+loop-init g c = record { went = λ l n. went_nothing (place c.args.host.now (g.P.Keeper.shelf c.args.keeper.now)) (g.K.Sink.written c.args.sink.now) l n; within = omega arith; falls = omega arith }
 
 pub loop-preserved : goal.loop-preserved
 loop-preserved g c = record {
-  went = ticks_went c.loop.counter (place c.args.host.now (g.P.Keeper.records c.args.keeper.now) (g.P.Keeper.faults c.args.keeper.now)) (place c.loop.host (g.P.Keeper.records c.loop.keeper) (g.P.Keeper.faults c.loop.keeper)) (place c.tick_and_pump.new.host (g.P.Keeper.records c.tick_and_pump.new.keeper) (g.P.Keeper.faults c.tick_and_pump.new.keeper)) (g.K.Sink.written c.args.sink.now) (g.K.Sink.written c.loop.sink) (g.K.Sink.written c.tick_and_pump.new.sink) c.loop.invariant.went c.in_default.ensures.ok;
+  went = ticks_went c.loop.counter (place c.args.host.now (g.P.Keeper.shelf c.args.keeper.now)) (place c.loop.host (g.P.Keeper.shelf c.loop.keeper)) (place c.tick_and_pump.new.host (g.P.Keeper.shelf c.tick_and_pump.new.keeper)) (g.K.Sink.written c.args.sink.now) (g.K.Sink.written c.loop.sink) (g.K.Sink.written c.tick_and_pump.new.sink) c.loop.invariant.went c.in_default.ensures.ok;
   within = omega (arith, c.loop-test.true);
   falls = omega (arith, c.loop.invariant.falls, c.in_default.ensures.never_falls);
 }
 
 pub returns-in-Err-clause-err : goal.returns-in-Err-clause-err
 returns-in-Err-clause-err g c =
-    ticks_broke c.loop.counter c.args.ticks _ (place c.args.host.now (g.P.Keeper.records c.args.keeper.now) (g.P.Keeper.faults c.args.keeper.now)) (place c.loop.host (g.P.Keeper.records c.loop.keeper) (g.P.Keeper.faults c.loop.keeper)) (place c.tick_and_pump.new.host (g.P.Keeper.records c.tick_and_pump.new.keeper) (g.P.Keeper.faults c.tick_and_pump.new.keeper)) (g.K.Sink.written c.args.sink.now) (g.K.Sink.written c.loop.sink) (g.K.Sink.written c.tick_and_pump.new.sink) (omega (arith, c.loop-test.true)) c.loop.invariant.went c.in-Err.ensures.err
+    ticks_broke c.loop.counter c.args.ticks _ (place c.args.host.now (g.P.Keeper.shelf c.args.keeper.now)) (place c.loop.host (g.P.Keeper.shelf c.loop.keeper)) (place c.tick_and_pump.new.host (g.P.Keeper.shelf c.tick_and_pump.new.keeper)) (g.K.Sink.written c.args.sink.now) (g.K.Sink.written c.loop.sink) (g.K.Sink.written c.tick_and_pump.new.sink) (omega (arith, c.loop-test.true)) c.loop.invariant.went c.in-Err.ensures.err
 
 pub returns-clause-ok : goal.returns-clause-ok
 returns-clause-ok g c =
-    ticks_all c.loop.counter c.args.ticks (place c.args.host.now (g.P.Keeper.records c.args.keeper.now) (g.P.Keeper.faults c.args.keeper.now)) (place c.loop.host (g.P.Keeper.records c.loop.keeper) (g.P.Keeper.faults c.loop.keeper)) (g.K.Sink.written c.args.sink.now) (g.K.Sink.written c.loop.sink) (omega (arith, c.loop-test.false, c.loop.invariant.within)) c.loop.invariant.went
+    ticks_all c.loop.counter c.args.ticks (place c.args.host.now (g.P.Keeper.shelf c.args.keeper.now)) (place c.loop.host (g.P.Keeper.shelf c.loop.keeper)) (g.K.Sink.written c.args.sink.now) (g.K.Sink.written c.loop.sink) (omega (arith, c.loop-test.false, c.loop.invariant.within)) c.loop.invariant.went

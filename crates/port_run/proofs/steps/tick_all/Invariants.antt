@@ -7,8 +7,8 @@ use Rattle.port_run.proofs.steps.tick_all.Given as goal
 
 abbrev pub invariant-loop : goal.invariant-loop
 invariant-loop g l = record {
-  went : (left : Option (List ℕ)) (taken : ℕ) → Went (tick_steps l.counter) (place l.fn.host (g.P.Keeper.records l.fn.keeper) (g.P.Keeper.faults l.fn.keeper))
-      (place l.host (g.P.Keeper.records l.keeper) (g.P.Keeper.faults l.keeper)) (g.K.Sink.written l.fn.sink) (g.K.Sink.written l.sink) left left taken taken;
+  went : (left : Option (List ℕ)) (taken : ℕ) → Went (tick_steps l.counter) (place l.fn.host (g.P.Keeper.shelf l.fn.keeper))
+      (place l.host (g.P.Keeper.shelf l.keeper)) (g.K.Sink.written l.fn.sink) (g.K.Sink.written l.sink) left left taken taken;
   within : l.counter ≤ l.fn.ticks;
   falls : g.K.Sink.faults l.fn.sink ≤ g.K.Sink.faults l.sink;
 }

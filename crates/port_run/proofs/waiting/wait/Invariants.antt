@@ -8,7 +8,7 @@ use Rattle.port_run.proofs.waiting.wait.Given as goal
 abbrev pub invariant-loop-left : goal.invariant-loop-left
 invariant-loop-left g l = record {
   so_far : (steps : List Step) × Waited g.C.Clock.may_tell l.fn.ticks l.left steps
-      × Went steps (place l.fn.host (g.P.Keeper.records l.fn.keeper) (g.P.Keeper.faults l.fn.keeper)) (place l.host (g.P.Keeper.records l.keeper) (g.P.Keeper.faults l.keeper))
+      × Went steps (place l.fn.host (g.P.Keeper.shelf l.fn.keeper)) (place l.host (g.P.Keeper.shelf l.keeper))
       (g.K.Sink.written l.fn.sink) (g.K.Sink.written l.sink) (g.S.Source.left l.fn.source) (g.S.Source.left l.source) l.fn.taken l.taken;
   within : l.taken ≤ MAX_INPUT;
   source_falls : g.S.Source.faults l.fn.source ≤ g.S.Source.faults l.source;

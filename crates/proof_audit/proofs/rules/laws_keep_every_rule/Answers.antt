@@ -1,12 +1,12 @@
 -- Each rule by the laws that it needs, and the lines of the table.
-use Rattle.law_transcript.specs.Nodes.{listing_of}
+use Rattle.law_transcript.specs.Nodes.{listing_of, always}
 use Rattle.law_transcript.specs.Table.{table_of}
 use Rattle.proof_audit.proofs.rules.laws_keep_every_rule.Goals as goal
 
 pub returns : goal.returns
 returns c = λ before after ticks transcript laws.
     let listing = listing_of before in
-    let table = table_of listing ticks transcript after in
+    let table = table_of (always listing) ticks transcript after in
     let are = c.a_table_is_its_lines.ensures listing ticks transcript after in
     record {
       sessions = c.sessions_are_in_order.ensures listing transcript table laws.host laws.asked are;

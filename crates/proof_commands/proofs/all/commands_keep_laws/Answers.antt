@@ -7,7 +7,7 @@ returns c ended words key old new sixteen = record {
   restarts = c.restarts_read_records.ensures ended key old new;
   generate = c.generate_keeps_laws.ensures ended key old new;
   stories = c.every_story_keeps_laws.ensures key old new;
-  replay = c.replay_keeps_laws.ensures ended key _ _ _ _ _ _ _ _;
+  replay = c.replay_keeps_laws.ensures ended key _ _ _ _ _ _;
   include = c.include_keeps_laws.ensures ended key _ _ _ _ sixteen;
   host = c.port_keeps_laws.ensures ended key _ _ _ _;
 }

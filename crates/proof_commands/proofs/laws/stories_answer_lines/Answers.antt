@@ -3,7 +3,7 @@ use Rattle.std.proofs.Common.{Bool, List, []}
 use Rattle.host_core.specs.Network.{keys_of}
 use Rattle.law_transcript.specs.Answers.{AnswersLines, ReadsItsRecords}
 use Rattle.law_transcript.specs.Lists.{EachAfter}
-use Rattle.law_transcript.specs.Nodes.{listing_of}
+use Rattle.law_transcript.specs.Nodes.{listing_of, always}
 use Rattle.law_wire.specs.Serial.{ended}
 use Rattle.law_wire.specs.Shown.{ShowsDevices}
 use Rattle.law_host.specs.HostLegal.{ShowsValues}
@@ -34,5 +34,5 @@ returns-clause-shows c = λ key old new story unentered is tells apart whole all
 
 pub returns-clause-stored : goal.returns-clause-stored
 returns-clause-stored c = λ key old new story unentered is tells whole all.
-    of_new c.lines_are_read_as_said.ensures key old new story unentered is tells (λ (T : List Entry). EachAfter (ShowsValues (listing_of old.devices)) [] (ended whole T))
+    of_new c.lines_are_read_as_said.ensures key old new story unentered is tells (λ (T : List Entry). EachAfter (ShowsValues (always (listing_of old.devices))) [] (ended whole T))
     (λ done runs. c.lines_show_what_is_kept.ensures.values (keys_of key) old.devices (all_said story) whole done (λ is_whole. runs (all is_whole)))

@@ -13,7 +13,7 @@ use Rattle.zw_text.specs.Line.{line_at}
 use Rattle.zw_text.specs.declared.line.Line.{Line}
 use Rattle.zw_text.specs.declared.entry.Entry.{Entry}
 use Rattle.law_transcript.specs.Headline.{Headline, HeadlineOf, IsAsMade}
-use Rattle.law_transcript.specs.Nodes.{device_of, first_node, listing_of}
+use Rattle.law_transcript.specs.Nodes.{device_of, first_node, listing_of, always}
 use Rattle.world_model.specs.State.{first_machine}
 use Rattle.world_model.specs.Events.{Event}
 use Rattle.world_model.specs.Did.{MayAll}
@@ -99,7 +99,7 @@ returns-clause-one c = λ key old new story unentered is fair node device found 
     (c.runs_take_once.ensures.same (keys_of key) old.records d (events_of story ++ unentered))) found in
     let knew = ap (λ (k : Kind). lists k 0x6C) (sym was.kind) ∙ knows in
     let supervised : IsSupervisedNode d node = record { device = was.before; first = was.found; supervised = knew } in
-    subst (λ (l : List Entry). HeadlineOf (listing_of d) node l device) (reads_as key old new story unentered is fair.told)
+    subst (λ (l : List Entry). HeadlineOf (always (listing_of d)) node l device) (reads_as key old new story unentered is fair.told)
     (c.nodes_have_the_headline.ensures (keys_of key) d (all_said story) (all_said on) node device (plain_or_lock laws key old on g node supervised)
     (laws.unchanged key d fair.made)
     (done laws key old story f) (done laws key old on g) (host_is key old new story unentered is fair.told)

@@ -13,7 +13,7 @@ use Rattle.law_wire.specs.Pipes.{OverrunsWhenFull}
 use Rattle.law_wire.specs.Serial.{ended}
 use Rattle.law_wire.specs.Routes.{GoesByRoute}
 use Rattle.law_wire.specs.Times.{TellsTime}
-use Rattle.proof_sending.specs.Line.{AnswersFrames, ClearsAtRestarts, ClearsNowhereElse, OverrunsOnlyWhenFull}
+use Rattle.proof_sending.specs.Line.{ClearsAtRestarts, ClearsNowhereElse, OverrunsOnlyWhenFull}
 use Rattle.proof_host.specs.Laws.{HostLaws}
 use Rattle.world_model.specs.State.{first_machine}
 use Rattle.world_lines.specs.Spoken.{transcript_of}
@@ -144,11 +144,6 @@ pub returns-clause-overrun : goal.returns-clause-overrun
 returns-clause-overrun c = λ key old new story unentered is tells whole all.
     of_new c.lines_are_read_as_said.ensures key old new story unentered is tells (λ (T : List Entry). OverrunsWhenFull (ended whole T))
     (λ done runs. c.lines_overrun_when_full.ensures (keys_of key) old.devices (all_said story) whole done (λ is_whole. runs (all is_whole)))
-
-pub returns-clause-acknowledges : goal.returns-clause-acknowledges
-returns-clause-acknowledges c = λ key old new story unentered is tells.
-    of_new c.lines_are_read_as_said.ensures key old new story unentered is tells AnswersFrames
-    (λ done runs. c.lines_answer_frames.ensures (keys_of key) old.devices (all_said story) done)
 
 pub returns-clause-links : goal.returns-clause-links
 returns-clause-links c = λ key old new story unentered is tells whole all.

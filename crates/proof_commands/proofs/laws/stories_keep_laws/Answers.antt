@@ -11,7 +11,8 @@ use Rattle.proof_host.specs.Facts.{Facts}
 use Rattle.proof_world.specs.Restarts.{AllStartWell}
 use Rattle.proof_commands.specs.Around.{Around}
 use Rattle.proof_commands.specs.Laws.{IsStory, KeepsRecords, Ran, events_of, first, last, transcript}
-use Rattle.proof_commands.proofs.SimKeeping.{may_prefix, story_keeps}
+use Rattle.proof_commands.proofs.SimKeeping.{story_keeps}
+use Rattle.proof_audit.proofs.BegunChanges.{may-front as may_prefix}
 use Rattle.proof_commands.proofs.Told.{Restarting, starts_well}
 use Rattle.proof_commands.proofs.laws.stories_keep_laws.Goals as goal
 

@@ -5,7 +5,7 @@ use Rattle.device_kinds.specs.Sealing.{keys_of as device_keys}
 use Rattle.device_sim.specs.State.{State}
 use Rattle.zw_text.specs.declared.entry.Entry.{Entry}
 use Rattle.host_core.specs.Network.{keys_of}
-use Rattle.law_transcript.specs.Nodes.{listing_of}
+use Rattle.law_transcript.specs.Nodes.{listing_of, always}
 use Rattle.law_transcript.specs.Payloads.{SendsWhatIsDue}
 use Rattle.world_model.specs.State.{first_machine}
 use Rattle.world_lines.specs.Spoken.{Spoken, transcript_of}
@@ -26,6 +26,6 @@ as_network Law law = law
 
 pub returns : goal.returns
 returns c = λ key old new story unentered is tells.
-    let Law = (λ (key : List ℕ) (devices : List State) (T : List Entry). SendsWhatIsDue (listing_of devices) key T) in
+    let Law = (λ (key : List ℕ) (devices : List State) (T : List Entry). SendsWhatIsDue (always (listing_of devices)) key T) in
     of_new c.lines_are_read_as_said.ensures key old new story unentered is tells (Law key old.devices)
     (λ done whole. as_network Law c.lines_send_what_is_due.ensures key old.devices (all_said story) done)

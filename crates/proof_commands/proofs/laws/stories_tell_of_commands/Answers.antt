@@ -2,7 +2,7 @@
 use Rattle.std.proofs.Common.{true, List, sym, subst, ◌∙◌}
 use Rattle.zw_text.specs.declared.entry.Entry.{Entry}
 use Rattle.law_transcript.specs.Answers.{CancelsWhenAsked}
-use Rattle.law_transcript.specs.Nodes.{listing_of}
+use Rattle.law_transcript.specs.Nodes.{listing_of, always}
 use Rattle.law_transcript.specs.Payloads.{BeginsWithUnit}
 use Rattle.law_transcript.specs.Stores.{StoresConfirmed}
 use Rattle.host_core.specs.Network.{keys_of}
@@ -27,7 +27,7 @@ pub returns-clause-stores : goal.returns-clause-stores
 returns-clause-stores c = λ key old new story unentered is tells.
     let told = story_told key old new story unentered is tells in
     let done = all_done c.lines_are_read_as_said.ensures (fresh key old) story is.read told.begun told.may in
-    subst (λ (l : List Entry). StoresConfirmed true (listing_of old.devices) l) (same_transcript (fresh key old) story ∙ told.entered)
+    subst (λ (l : List Entry). StoresConfirmed true (always (listing_of old.devices)) l) (same_transcript (fresh key old) story ∙ told.entered)
     (c.values_are_stored_as_asked.ensures (keys_of key) old.devices (all_said story) done)
 
 pub returns-clause-written : goal.returns-clause-written

@@ -10,4 +10,6 @@ returns c = λ ended key number texts old new. record {
   success = c.done_is_success.ensures key number texts old new;
   next = c.stories_keep_laws.ensures.next ended key number texts old new;
   adds = c.stories_keep_laws.ensures.adds ended key number texts old new;
+  unheard = c.runs_are_heard.ensures.first key number old;
+  heard = c.runs_are_heard.ensures.heard ended key number texts old new;
 }

@@ -23,8 +23,8 @@ returns-clause-cut c = λ keys devices lines are.
     let obey = c.hosts_obey_the_line.ensures in
     let orderly = lines_orderly (lines_of lines) m events these writes asks.1 in
     let walk = links_walk obey.each obey.units obey.opened c.time_goes_on.ensures.walk in
-    let known = where_lead IsOrderly Anything KnowAll walk [] m lines are orderly (c.time_goes_on.ensures.first keys (Some []) devices, links_first keys (Some []) devices (obey.first keys)) in
-    cut_clears (transcript_of m lines) known.1.1.0 (c.lines_clear_nowhere_else.ensures keys (Some []) devices lines are false)
+    let known = where_lead IsOrderly Anything KnowAll walk [] m lines are orderly (c.time_goes_on.ensures.first keys (Some []) devices, ([], links_first keys (Some []) devices (obey.first keys))) in
+    cut_clears (transcript_of m lines) known.1.1.1.0 (c.lines_clear_nowhere_else.ensures keys (Some []) devices lines are false)
 
 pub returns-clause-whole : goal.returns-clause-whole
 returns-clause-whole c = λ keys devices lines are whole.
@@ -38,5 +38,5 @@ returns-clause-whole c = λ keys devices lines are whole.
     let orderly = lines_orderly (lines_of lines) m events these writes asks.1 in
     let walk = links_walk obey.each obey.units obey.opened c.time_goes_on.ensures.walk in
     let known =
-    where_whole IsOrderly Anything KnowAll walk [] m lines are whole orderly (c.time_goes_on.ensures.first keys (Some []) devices, links_first keys (Some []) devices (obey.first keys)) in
-    whole_clears (transcript_of m lines) (ended_known (transcript_of m lines) (after_all m lines) known) (c.lines_clear_nowhere_else.ensures keys (Some []) devices lines are true)
+    where_whole IsOrderly Anything KnowAll walk [] m lines are whole orderly (c.time_goes_on.ensures.first keys (Some []) devices, ([], links_first keys (Some []) devices (obey.first keys))) in
+    whole_clears (transcript_of m lines) (ended_known (transcript_of m lines) (after_all m lines) known.0 known.1.1) (c.lines_clear_nowhere_else.ensures keys (Some []) devices lines are true)

@@ -8,6 +8,7 @@ use Rattle.proof_replay.proofs.Replaying.{all_go}
 use Rattle.proof_replay.proofs.replay.replays_are_a_hosts.Goals as goal
 
 pub returns : goal.returns
-returns c = λ key records lines are.
-    let got = all_go (first_alone (keys_of key) records) (keys_of key) [] (lone_of (first_replay key) records) lines are (false, Begins) in
-    (host_machine (keys_of key) got.0.records got.0.host.state [] got.0.clock 0 got.1.0, got.1.1)
+returns c = λ key records held lines are.
+    let got =
+    all_go (first_alone (keys_of key) held) (keys_of key) (λ r h. Unit {0}) (λ r h texts beside. tt) [] (lone_of (first_replay key) records) lines are (false, (held, tt, Begins)) in
+    (host_machine (keys_of key) got.1.1.0 got.0.host.state [] got.0.clock 0 got.1.0, got.1.1.2)

@@ -1,7 +1,7 @@
 -- The walk goes along all lines, from a host that has nothing to send.
 use Rattle.std.proofs.Common.{[], Some, refl}
 use Rattle.device_kinds.specs.Sealing.{keys_of}
-use Rattle.law_transcript.specs.Nodes.{listing_of}
+use Rattle.law_transcript.specs.Nodes.{listing_of, always}
 use Rattle.world_model.specs.State.{first_machine}
 use Rattle.world_lines.specs.Done.{events_of}
 use Rattle.proof_line.proofs.SpokenLines.{all_lines, all_may, lines_of}
@@ -25,7 +25,7 @@ returns c = λ key devices lines are.
     let starts = c.restarts_go_on.ensures.all [] m events facts (c.restarts_go_on.ensures.first keys (Some []) refl) may keeps.0 in
     let tells = c.interviews_tell_what_nodes_list.ensures.tell keys devices (lines_of lines) events these may in
     let writes = c.hosts_write_well.ensures.run keys (Some []) devices events may keeps.1 in
-    where_stand (WritesToo listing) (MayRequest listing key) (KnowBoth listing key) (sending_walk listing key (record {
+    where_stand (WritesToo listing) (MayRequest (always listing) key) (KnowBoth listing key) (sending_walk listing key (record {
       hosts = record {
         event_keeps = c.events_keep_facts.ensures.each;
         orders_stay = c.tables_keep_orders.ensures.host;

@@ -10,7 +10,7 @@ use Rattle.zw_text.specs.declared.line.Line.TheVariants as lines
 use Rattle.zw_text.specs.declared.entry.Entry.{Entry}
 use Rattle.zw_text.specs.declared.entry.Entry.TheVariants.{Json, Said}
 use Rattle.law_transcript.specs.Lists.{EachAfter}
-use Rattle.law_transcript.specs.Nodes.{listing_of}
+use Rattle.law_transcript.specs.Nodes.{listing_of, always}
 use Rattle.law_transcript.specs.Table.{value_lines}
 use Rattle.law_wire.specs.Serial.{ended}
 use Rattle.law_host.specs.HostLegal.{held_in, values_now}
@@ -47,7 +47,7 @@ module _ (c : goal.After-changes_are_shown) (keys : Keys) (devices : List State)
 
   -- the values of a node after these lines
   values_tied : (spoken : List Spoken) → AreDone start spoken → IsTold (transcript_of start spoken) (after_all start spoken) → (node : ℕ)
-      → values_now (listing_of devices) (transcript_of start spoken) node ≡ shown_values (after_all start spoken).host.state node
+      → values_now (always (listing_of devices)) (transcript_of start spoken) node ≡ shown_values (after_all start spoken).host.state node
   values_tied spoken are told node =
       let listing = listing_of devices in
       let end = after_all start spoken in
@@ -56,7 +56,7 @@ module _ (c : goal.After-changes_are_shown) (keys : Keys) (devices : List State)
       let tell = c.lines_tell_what_nodes_list.ensures.tell keys devices spoken are in
       let known = c.interviews_give_what_is_known.ensures.lines listing [] start spoken are_spoken tell (c.interviews_give_what_is_known.ensures.first listing keys) in
       let (facts, said) = c.answers_stand_after_their_lines.ensures.lines listing [] start spoken (c.the_machine_keeps_facts.ensures.first keys (Some []) devices) tt known are_spoken in
-      let same : map (value_entry node) (held_of end.host.state.store node) ≡ value_lines listing past node =
+      let same : map (value_entry node) (held_of end.host.state.store node) ≡ value_lines (always listing) past node =
       values_so listing past end told (c.laws_follow.ensures.laws past end.host.state facts) (c.laws_follow.ensures.tables past end.host.state facts) (c.laws_follow.ensures.stores past end.host.state facts)
       (λ n. c.runs_have_their_tables.ensures listing keys (Some []) devices spoken n are_spoken tell) node in
       ap (λ (l : List Entry). Json (values_text node (flat_map held_in l))) (sym same) ∙ ap (λ (l : List Held). Json (values_text node l)) (held_back node (held_of end.host.state.store node))
@@ -82,7 +82,7 @@ module _ (c : goal.After-changes_are_shown) (keys : Keys) (devices : List State)
             let there : IsTold (transcript_of start next) (after_all start next) =
             subst (λ (l : List Entry). IsTold l (after_all start next)) (sym (said_transcript start spoken words (lines.Store node)))
             (subst (λ (n : Machine). IsTold (past ++ Said words ∷ []) n) (sym (said_after start spoken words (lines.Store node))) told) in
-            ap (λ (l : List Entry). values_now (listing_of devices) l node) (sym (said_transcript start spoken words (lines.Store node)))
+            ap (λ (l : List Entry). values_now (always (listing_of devices)) l node) (sym (said_transcript start spoken words (lines.Store node)))
             ∙ (values_tied next (said_done start spoken words (lines.Store node) read are whole) there node
             ∙ ap (λ (n : Machine). shown_values n.host.state node) (said_after start spoken words (lines.Store node)));
       }

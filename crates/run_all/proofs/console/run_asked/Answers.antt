@@ -8,7 +8,7 @@ pub returns-in-Sim : goal.returns-in-Sim
 unfolding Does HasGoodInputFor ComesToItsEnd
 returns-in-Sim g c = as_asked c.in-Sim.is (record {
   does = c.run_sim.ensures.ran;
-  known = sim_is _ _ _ _ _ _ _ _ _ _ _ _ _ _ _ _ _ c.run_sim.ensures.ran;
+  known = sim_is _ _ _ _ _ _ _ _ _ _ _ _ _ _ _ c.run_sim.ensures.ran;
   read_fault = c.run_sim.ensures.read_fault;
   write_fault = c.run_sim.ensures.write_fault;
   complete = λ good free. c.run_sim.ensures.complete good free.read free.written;
@@ -32,8 +32,8 @@ pub returns-in-Generate : goal.returns-in-Generate
 unfolding Does HasGoodInputFor ComesToItsEnd
 returns-in-Generate g c = as_asked c.in-Generate.is (record {
   does = (c.run_generate.ensures.ran, refl);
-  known = generate_is _ _ _ _ _ _ _ _ _ _ _ c.run_generate.ensures.ran;
-  read_fault = λ e. absurd (generate_never_reads _ _ _ _ _ _ _ _ _ _ _ c.run_generate.ensures.ran e);
+  known = generate_is _ _ _ _ _ _ _ _ _ c.run_generate.ensures.ran;
+  read_fault = λ e. absurd (generate_never_reads _ _ _ _ _ _ _ _ _ c.run_generate.ensures.ran e);
   write_fault = c.run_generate.ensures.write_fault;
   complete = λ good free. c.run_generate.ensures.complete free.written;
   source_never_falls = omega arith;
@@ -44,7 +44,7 @@ pub returns-in-Replay : goal.returns-in-Replay
 unfolding Does HasGoodInputFor ComesToItsEnd
 returns-in-Replay g c = as_asked c.in-Replay.is (record {
   does = (c.run_replay.ensures.ran, refl);
-  known = replay_is _ _ _ _ _ _ _ _ _ _ c.run_replay.ensures.ran;
+  known = replay_is _ _ _ _ _ _ _ _ c.run_replay.ensures.ran;
   read_fault = c.run_replay.ensures.read_fault;
   write_fault = c.run_replay.ensures.write_fault;
   complete = λ good free. c.run_replay.ensures.complete good free.read free.written;

@@ -8,8 +8,8 @@ use Rattle.run_sim.proofs.running.run_lines.Given as goal
 abbrev pub invariant-loop-number : goal.invariant-loop-number
 invariant-loop-number g l = record {
   so_far : SoFar (fault_by line_at) (SimRuns l.fn.simulation.quiet) (SimStops l.fn.simulation.quiet) (g.S.Source.left l.fn.source) (g.S.Source.left l.source) l.reader
-      (point_of l.fn.simulation.world (map (λ d. (goal.Device-dyn g (d.vtable, d.value)).state d.value) l.fn.devices.items) (g.P.Keeper.records l.fn.keeper) (g.P.Keeper.faults l.fn.keeper) (g.P.Keeper.number l.fn.keeper) (g.P.Keeper.reads l.fn.keeper))
-      (point_of l.simulation.world (map (λ d. (goal.Device-dyn g (d.vtable, d.value)).state d.value) l.devices.items) (g.P.Keeper.records l.keeper) (g.P.Keeper.faults l.keeper) (g.P.Keeper.number l.keeper) (g.P.Keeper.reads l.keeper))
+      (point_of l.fn.simulation.world (map (λ d. (goal.Device-dyn g (d.vtable, d.value)).state d.value) l.fn.devices.items) (g.P.Keeper.shelf l.fn.keeper) (g.P.Keeper.number l.fn.keeper) (g.P.Keeper.reads l.fn.keeper))
+      (point_of l.simulation.world (map (λ d. (goal.Device-dyn g (d.vtable, d.value)).state d.value) l.devices.items) (g.P.Keeper.shelf l.keeper) (g.P.Keeper.number l.keeper) (g.P.Keeper.reads l.keeper))
       (g.K.Sink.written l.fn.sink) (g.K.Sink.written l.sink) l.number;
   quiet : l.simulation.quiet ≡ l.fn.simulation.quiet;
   kept : length l.devices.items ≡ length l.fn.devices.items;

@@ -7,10 +7,10 @@ use Rattle.run_sim.proofs.SimRun.{sim_ran, no_world}
 use Rattle.run_sim.proofs.sim.run_sim.Goals as goal
 
 pub returns-in_default-clause-ran : goal.returns-in_default-clause-ran
-returns-in_default-clause-ran g c = no_world _ _ _ _ _ _ _ _ _
+returns-in_default-clause-ran g c = no_world _ _ _ _ _ _ _ _
 
 pub returns-clause-ran : goal.returns-clause-ran
-returns-clause-ran g c = sim_ran c.args.quiet c.args.key _ _ _ _ _ _ _ _ _ _ _ _ _ _ _ _ _ c.run_to_status.ensures.ran c.in-Ok.ensures
+returns-clause-ran g c = sim_ran c.args.quiet c.args.key _ _ _ _ _ _ _ _ _ _ _ _ _ _ _ c.run_to_status.ensures.ran c.in-Ok.ensures
 
 pub returns-clause-complete : goal.returns-clause-complete
 returns-clause-complete g c =

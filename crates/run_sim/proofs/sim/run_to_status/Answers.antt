@@ -7,5 +7,5 @@ returns-in-All-clause-ran g c = record {
   end = All;
   mid = g.K.Sink.written c.run_lines.new.sink;
   lines = c.in-All.ensures.ran;
-  closes = c.end_well.ensures.closes _ _ _ _;
+  closes = c.end_well.ensures.closes _ _ _;
 }

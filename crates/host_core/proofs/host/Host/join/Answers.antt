@@ -8,9 +8,8 @@ use Rattle.host_core.proofs.host.Host.join.Goals as goal
 
 pub returns-in_err-join-clause-tables : goal.returns-in_err-join-clause-tables
 returns-in_err-join-clause-tables g c =
-    rw (← c.self.view_is) (nothing_kept c.self.inside.core c.join.new.core (g.P.Keeper.records c.args.keeper.now) (g.P.Keeper.records c.join.new.keeper) c.in_err-join.ensures.err c.in_err-join.ensures.no_record)
+    rw (← c.self.view_is) (nothing_kept c.self.inside.core c.join.new.core (g.P.Keeper.shelf c.args.keeper.now).records (g.P.Keeper.shelf c.join.new.keeper).records c.in_err-join.ensures.err c.in_err-join.ensures.no_record)
 
 pub returns-clause-tables : goal.returns-clause-tables
 returns-clause-tables g c =
-    rw (← c.self.view_is) (kept_or_not c.in_ok-join.field-0 (Joins c.args.node) (record_text (Joined c.args.node)) c.self.inside.core c.join.new.core (g.P.Keeper.records c.args.keeper.now) (g.P.Keeper.records c.join.new.keeper)
-    (g.P.Keeper.faults c.args.keeper.now) (g.P.Keeper.faults c.join.new.keeper) (joined_so c.self.inside.core.state c.args.node) c.in_ok-join.ensures.kept c.in_ok-join.ensures.state)
+    rw (← c.self.view_is) (kept_or_not c.in_ok-join.field-0 (Joins c.args.node) (record_text (Joined c.args.node)) c.self.inside.core c.join.new.core (g.P.Keeper.shelf c.args.keeper.now) (g.P.Keeper.shelf c.join.new.keeper) (joined_so c.self.inside.core.state c.args.node) c.in_ok-join.ensures.kept c.in_ok-join.ensures.state)

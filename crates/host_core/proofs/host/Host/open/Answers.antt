@@ -19,7 +19,7 @@ pub loop-at-init : goal.loop-at-init
 loop-at-init g c =
     let keys = keys_of c.args.key in
     record {
-      took = took_none keys (g.P.Keeper.records c.args.keeper.now) c.in_ok-core.core (c.legal_records_restore_the_host.ensures.nothing (first_host keys))
+      took = took_none keys (g.P.Keeper.shelf c.args.keeper.now).records c.in_ok-core.core (c.legal_records_restore_the_host.ensures.nothing (first_host keys))
           (c.in_ok-core.ensures ∙ ap (λ (k : Keys). fresh (first_host k)) (same_keys c.keys.result keys c.keys.ensures.encrypt c.keys.ensures.code));
       number = refl;
       records = refl;
@@ -33,7 +33,7 @@ loop-at-preserved g c =
     let at = c.loop-at.at in
     record {
       took = took_more c.a_record_restores_what_it_says.ensures.may c.legal_records_restore_the_host.ensures.holds c.records_go_on.ensures.legal c.legal_records_restore_the_host.ensures.more c.legal_records_restore_the_host.ensures.one
-          (keys_of c.args.key) (g.P.Keeper.records c.args.keeper.now) at c.loop-at.core c.take_up.new.core so_far.took
+          (keys_of c.args.key) (g.P.Keeper.shelf c.args.keeper.now).records at c.loop-at.core c.take_up.new.core so_far.took
           (subst (λ (o : Option (List (List ℕ))). Takes o at c.loop-at.core c.take_up.new.core) so_far.records c.in_default.ensures.takes);
       number = c.take_up.ensures.number ∙ so_far.number;
       records = c.take_up.ensures.records ∙ so_far.records;
@@ -65,11 +65,11 @@ pub returns-clause-opens : goal.returns-clause-opens
 returns-clause-opens g c =
     let number = g.P.Keeper.number c.args.keeper.now in
     let end : c.loop-at.at ≡ c.count-at-end.result = omega (arith, c.loop-at-test.false, c.loop-at.auto.at-end) in
-    opens (keys_of c.args.key) (g.P.Keeper.records c.args.keeper.now) number c.loop-at.core c.restart.new.self
-    (subst (λ (k : ℕ). TookUp (keys_of c.args.key) (g.P.Keeper.records c.args.keeper.now) k c.loop-at.core) (end ∙ c.count-at-end.ensures) c.loop-at.invariant.took)
+    opens (keys_of c.args.key) (g.P.Keeper.shelf c.args.keeper.now).records number c.loop-at.core c.restart.new.self
+    (subst (λ (k : ℕ). TookUp (keys_of c.args.key) (g.P.Keeper.shelf c.args.keeper.now).records k c.loop-at.core) (end ∙ c.count-at-end.ensures) c.loop-at.invariant.took)
     (g.met.P.Keeper.tells_all c.args.keeper.now) c.restart.ensures
 
 pub returns-clause-tables : goal.returns-clause-tables
 returns-clause-tables g c =
     subst (λ (o : Option (List (List ℕ))). TablesAreTold o c.restart.new.self.state) (sym c.loop-at.invariant.records)
-    (c.tables_stand_in_the_records.ensures.open (keys_of c.args.key) (g.P.Keeper.number c.args.keeper.now) (g.P.Keeper.records c.args.keeper.now) c.restart.new.self (returns-clause-opens g c))
+    (c.tables_stand_in_the_records.ensures.open (keys_of c.args.key) (g.P.Keeper.number c.args.keeper.now) (g.P.Keeper.shelf c.args.keeper.now).records c.restart.new.self (returns-clause-opens g c))

@@ -15,17 +15,17 @@ use Rattle.run_replay.proofs.replay.Replay.join.Goals as goal
 pub returns-clause-ok : goal.returns-clause-ok
 returns-clause-ok g c =
     let w = the_view c.self.inside in
-    rw (← c.self.view_is) (joined c.args.node w.host c.join.new.self w.clock (g.P.Keeper.records c.args.keeper.now) (g.P.Keeper.records c.join.new.keeper) c.args.out.now.items (g.P.Keeper.faults c.args.keeper.now) (g.P.Keeper.faults c.join.new.keeper) c.in_default.ensures.ok c.in_default.ensures.decoder)
+    rw (← c.self.view_is) (joined c.args.node w.host c.join.new.self w.clock (g.P.Keeper.shelf c.args.keeper.now).records (g.P.Keeper.shelf c.join.new.keeper).records c.args.out.now.items (g.P.Keeper.shelf c.args.keeper.now).faults (g.P.Keeper.shelf c.join.new.keeper).faults c.in_default.ensures.ok c.in_default.ensures.decoder)
 
 pub returns-in-Err-clause-ok : goal.returns-in-Err-clause-ok
 returns-in-Err-clause-ok g c =
     let w = the_view c.self.inside in
-    rw (← c.self.view_is) (refusal_done c.refuse.result (Join c.args.node) (Host_does (joins_host c.args.node) ∷ Outside_does (Joins c.args.node) ∷ []) (shown c.in-Err.refused) w.host c.join.new.self w.clock (g.P.Keeper.records c.args.keeper.now) (g.P.Keeper.records c.join.new.keeper) c.args.out.now.items c.refuse.new.out.items (g.P.Keeper.faults c.args.keeper.now) (g.P.Keeper.faults c.join.new.keeper)
+    rw (← c.self.view_is) (refusal_done c.refuse.result (Join c.args.node) (Host_does (joins_host c.args.node) ∷ Outside_does (Joins c.args.node) ∷ []) (shown c.in-Err.refused) w.host c.join.new.self w.clock (g.P.Keeper.shelf c.args.keeper.now).records (g.P.Keeper.shelf c.join.new.keeper).records c.args.out.now.items c.refuse.new.out.items (g.P.Keeper.shelf c.args.keeper.now).faults (g.P.Keeper.shelf c.join.new.keeper).faults
     (λ entered seen. kept_as c.in-Err.refused (join_refusal w.host.state c.args.node) entered seen c.in-Err.ensures.judged)
-    (λ entered seen. rose_entered c.in-Err.refused entered (g.P.Keeper.faults c.args.keeper.now) (g.P.Keeper.faults c.join.new.keeper) seen (λ e. c.in-Err.ensures.failed (ap (λ (x : Refused). Err x) e)))
+    (λ entered seen. rose_entered c.in-Err.refused entered (g.P.Keeper.shelf c.args.keeper.now).faults (g.P.Keeper.shelf c.join.new.keeper).faults seen (λ e. c.in-Err.ensures.failed (ap (λ (x : Refused). Err x) e)))
     c.in-Err.ensures.err c.in-Err.ensures.no_record c.in-Err.ensures.never_falls c.refuse.ensures.ok)
 
 pub returns-in-Err-clause-err : goal.returns-in-Err-clause-err
 returns-in-Err-clause-err g c =
     let w = the_view c.self.inside in
-    rw (← c.self.view_is) (refusal_stops c.refuse.result w.host c.join.new.self w.clock (g.P.Keeper.records c.args.keeper.now) (g.P.Keeper.records c.join.new.keeper) c.args.out.now.items c.refuse.new.out.items (g.P.Keeper.faults c.args.keeper.now) (g.P.Keeper.faults c.join.new.keeper) c.in-Err.ensures.no_record c.in-Err.ensures.never_falls c.refuse.ensures.err)
+    rw (← c.self.view_is) (refusal_stops c.refuse.result w.host c.join.new.self w.clock (g.P.Keeper.shelf c.args.keeper.now).records (g.P.Keeper.shelf c.join.new.keeper).records c.args.out.now.items c.refuse.new.out.items (g.P.Keeper.shelf c.args.keeper.now).faults (g.P.Keeper.shelf c.join.new.keeper).faults c.in-Err.ensures.no_record c.in-Err.ensures.never_falls c.refuse.ensures.err)

@@ -16,24 +16,24 @@ loop-init g c = record { so_far = λ keys ds. nothing_so_far (Passes 64) (Passes
 pub returns-in_err-pass-clause-err : goal.returns-in_err-pass-clause-err
 returns-in_err-pass-clause-err g c = on_err c.from_residual.result
     (λ keys ds.
-    passes_stop c.loop.counter (scene_of keys c.args.self.now.host c.args.self.now.outer ds (g.P.Keeper.records c.args.keeper.now) c.args.out.now.items (g.P.Keeper.faults c.args.keeper.now))
-    (scene_of keys c.loop.self.host c.loop.self.outer ds (g.P.Keeper.records c.loop.keeper) c.loop.out.items (g.P.Keeper.faults c.loop.keeper))
-    (scene_of keys c.pass.new.self.host c.pass.new.self.outer ds (g.P.Keeper.records c.pass.new.keeper) c.pass.new.out.items (g.P.Keeper.faults c.pass.new.keeper))
+    passes_stop c.loop.counter (scene_of keys c.args.self.now.host c.args.self.now.outer ds (g.P.Keeper.shelf c.args.keeper.now) c.args.out.now.items)
+    (scene_of keys c.loop.self.host c.loop.self.outer ds (g.P.Keeper.shelf c.loop.keeper) c.loop.out.items)
+    (scene_of keys c.pass.new.self.host c.pass.new.self.outer ds (g.P.Keeper.shelf c.pass.new.keeper) c.pass.new.out.items)
     (omega (arith, c.loop-test.true)) (c.loop.invariant.so_far keys ds) (c.in_err-pass.ensures.err keys ds))
 
 pub returns-then-not-branch-clause-ok : goal.returns-then-not-branch-clause-ok
 returns-then-not-branch-clause-ok g c = λ keys ds.
-    let t : Scene = scene_of keys c.loop.self.host c.loop.self.outer ds (g.P.Keeper.records c.loop.keeper) c.loop.out.items (g.P.Keeper.faults c.loop.keeper) in
-    let u : Scene = scene_of keys c.pass.new.self.host c.pass.new.self.outer ds (g.P.Keeper.records c.pass.new.keeper) c.pass.new.out.items (g.P.Keeper.faults c.pass.new.keeper) in
-    last_pass c.loop.counter (scene_of keys c.args.self.now.host c.args.self.now.outer ds (g.P.Keeper.records c.args.keeper.now) c.args.out.now.items (g.P.Keeper.faults c.args.keeper.now)) t u
+    let t : Scene = scene_of keys c.loop.self.host c.loop.self.outer ds (g.P.Keeper.shelf c.loop.keeper) c.loop.out.items in
+    let u : Scene = scene_of keys c.pass.new.self.host c.pass.new.self.outer ds (g.P.Keeper.shelf c.pass.new.keeper) c.pass.new.out.items in
+    last_pass c.loop.counter (scene_of keys c.args.self.now.host c.args.self.now.outer ds (g.P.Keeper.shelf c.args.keeper.now) c.args.out.now.items) t u
     (omega (arith, c.loop-test.true)) (c.loop.invariant.so_far keys ds) (subst (λ (b : Bool). Does (Pass b) t u) c.if-not-branch.true (c.in_ok-pass.ensures.ok keys ds))
 
 pub loop-preserved : goal.loop-preserved
 loop-preserved g c = record {
   so_far = λ keys ds.
-      let t : Scene = scene_of keys c.loop.self.host c.loop.self.outer ds (g.P.Keeper.records c.loop.keeper) c.loop.out.items (g.P.Keeper.faults c.loop.keeper) in
-      let u : Scene = scene_of keys c.pass.new.self.host c.pass.new.self.outer ds (g.P.Keeper.records c.pass.new.keeper) c.pass.new.out.items (g.P.Keeper.faults c.pass.new.keeper) in
-      pass_so_far c.loop.counter (scene_of keys c.args.self.now.host c.args.self.now.outer ds (g.P.Keeper.records c.args.keeper.now) c.args.out.now.items (g.P.Keeper.faults c.args.keeper.now)) t u
+      let t : Scene = scene_of keys c.loop.self.host c.loop.self.outer ds (g.P.Keeper.shelf c.loop.keeper) c.loop.out.items in
+      let u : Scene = scene_of keys c.pass.new.self.host c.pass.new.self.outer ds (g.P.Keeper.shelf c.pass.new.keeper) c.pass.new.out.items in
+      pass_so_far c.loop.counter (scene_of keys c.args.self.now.host c.args.self.now.outer ds (g.P.Keeper.shelf c.args.keeper.now) c.args.out.now.items) t u
       (omega (arith, c.loop-test.true)) (c.loop.invariant.so_far keys ds) (subst (λ (b : Bool). Does (Pass b) t u) c.if-not-branch.false (c.in_ok-pass.ensures.ok keys ds));
   never_fewer = omega (arith, c.loop.invariant.never_fewer, c.pass.ensures.never_fewer);
   reads = c.pass.ensures.reads ∙ c.loop.invariant.reads;
@@ -41,6 +41,6 @@ loop-preserved g c = record {
 
 pub returns-clause-ok : goal.returns-clause-ok
 returns-clause-ok g c = λ keys ds.
-    all_passes c.loop.counter (scene_of keys c.args.self.now.host c.args.self.now.outer ds (g.P.Keeper.records c.args.keeper.now) c.args.out.now.items (g.P.Keeper.faults c.args.keeper.now))
-    (scene_of keys c.loop.self.host c.loop.self.outer ds (g.P.Keeper.records c.loop.keeper) c.loop.out.items (g.P.Keeper.faults c.loop.keeper))
+    all_passes c.loop.counter (scene_of keys c.args.self.now.host c.args.self.now.outer ds (g.P.Keeper.shelf c.args.keeper.now) c.args.out.now.items)
+    (scene_of keys c.loop.self.host c.loop.self.outer ds (g.P.Keeper.shelf c.loop.keeper) c.loop.out.items)
     (omega (arith, c.loop-test.false)) (c.loop.invariant.so_far keys ds)

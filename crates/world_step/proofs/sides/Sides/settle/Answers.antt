@@ -10,22 +10,22 @@ use Rattle.world_step.proofs.sides.Sides.settle.Goals as goal
 pub returns-in_err-pump-clause-err : goal.returns-in_err-pump-clause-err
 returns-in_err-pump-clause-err g c = on_err c.from_residual.result
     (λ keys ds.
-    stopped_first IsPump Nothing (PassesPrefix 64) (scene_of keys c.args.self.now.host c.args.self.now.outer ds (g.P.Keeper.records c.args.keeper.now) c.args.out.now.items (g.P.Keeper.faults c.args.keeper.now))
-    (scene_of keys c.pump.new.self.host c.pump.new.self.outer ds (g.P.Keeper.records c.pump.new.keeper) c.pump.new.out.items (g.P.Keeper.faults c.pump.new.keeper))
+    stopped_first IsPump Nothing (PassesPrefix 64) (scene_of keys c.args.self.now.host c.args.self.now.outer ds (g.P.Keeper.shelf c.args.keeper.now) c.args.out.now.items)
+    (scene_of keys c.pump.new.self.host c.pump.new.self.outer ds (g.P.Keeper.shelf c.pump.new.keeper) c.pump.new.out.items)
     (c.in_err-pump.ensures.err keys ds))
 
 pub returns-clause-ok : goal.returns-clause-ok
 returns-clause-ok g c = ok_then c.pass_all.result c.pass_all.ensures.ok
     (λ done keys ds.
-    did_then IsPump (Passes 64) (scene_of keys c.args.self.now.host c.args.self.now.outer ds (g.P.Keeper.records c.args.keeper.now) c.args.out.now.items (g.P.Keeper.faults c.args.keeper.now))
-    (scene_of keys c.pump.new.self.host c.pump.new.self.outer ds (g.P.Keeper.records c.pump.new.keeper) c.pump.new.out.items (g.P.Keeper.faults c.pump.new.keeper))
-    (scene_of keys c.pass_all.new.self.host c.pass_all.new.self.outer ds (g.P.Keeper.records c.pass_all.new.keeper) c.pass_all.new.out.items (g.P.Keeper.faults c.pass_all.new.keeper))
+    did_then IsPump (Passes 64) (scene_of keys c.args.self.now.host c.args.self.now.outer ds (g.P.Keeper.shelf c.args.keeper.now) c.args.out.now.items)
+    (scene_of keys c.pump.new.self.host c.pump.new.self.outer ds (g.P.Keeper.shelf c.pump.new.keeper) c.pump.new.out.items)
+    (scene_of keys c.pass_all.new.self.host c.pass_all.new.self.outer ds (g.P.Keeper.shelf c.pass_all.new.keeper) c.pass_all.new.out.items)
     (c.in_ok-pump.ensures.ok keys ds) (done keys ds))
 
 pub returns-clause-err : goal.returns-clause-err
 returns-clause-err g c = err_then c.pass_all.result c.pass_all.ensures.err
     (λ stops keys ds.
-    stopped_then IsPump Nothing (PassesPrefix 64) (scene_of keys c.args.self.now.host c.args.self.now.outer ds (g.P.Keeper.records c.args.keeper.now) c.args.out.now.items (g.P.Keeper.faults c.args.keeper.now))
-    (scene_of keys c.pump.new.self.host c.pump.new.self.outer ds (g.P.Keeper.records c.pump.new.keeper) c.pump.new.out.items (g.P.Keeper.faults c.pump.new.keeper))
-    (scene_of keys c.pass_all.new.self.host c.pass_all.new.self.outer ds (g.P.Keeper.records c.pass_all.new.keeper) c.pass_all.new.out.items (g.P.Keeper.faults c.pass_all.new.keeper))
+    stopped_then IsPump Nothing (PassesPrefix 64) (scene_of keys c.args.self.now.host c.args.self.now.outer ds (g.P.Keeper.shelf c.args.keeper.now) c.args.out.now.items)
+    (scene_of keys c.pump.new.self.host c.pump.new.self.outer ds (g.P.Keeper.shelf c.pump.new.keeper) c.pump.new.out.items)
+    (scene_of keys c.pass_all.new.self.host c.pass_all.new.self.outer ds (g.P.Keeper.shelf c.pass_all.new.keeper) c.pass_all.new.out.items)
     (c.in_ok-pump.ensures.ok keys ds) (stops keys ds))

@@ -14,9 +14,9 @@ loop-self-init g c = record {
 pub loop-self-preserved : goal.loop-self-preserved
 loop-self-preserved g c = record {
   takes = some_more c.args.self.now.host c.loop-self.self.host c.take_piece-in-loop-self.new.self.host c.args.self.now.outer c.loop-self.self.outer c.take_piece-in-loop-self.new.self.outer c.args.outs.now.items c.loop-self.outs.items c.take_piece-in-loop-self.new.outs.items
-      (record { records = g.P.Keeper.records c.args.keeper.now; faults = g.P.Keeper.faults c.args.keeper.now })
-      (record { records = g.P.Keeper.records c.loop-self.keeper; faults = g.P.Keeper.faults c.loop-self.keeper })
-      (record { records = g.P.Keeper.records c.take_piece-in-loop-self.new.keeper; faults = g.P.Keeper.faults c.take_piece-in-loop-self.new.keeper })
+      (g.P.Keeper.shelf c.args.keeper.now)
+      (g.P.Keeper.shelf c.loop-self.keeper)
+      (g.P.Keeper.shelf c.take_piece-in-loop-self.new.keeper)
       c.loop-self.invariant.takes c.in_ok-take_piece-2.ensures.ok;
   never_fewer = omega (arith, c.loop-self.invariant.never_fewer, c.take_piece-in-loop-self.ensures.never_fewer);
   reads = c.take_piece-in-loop-self.ensures.reads ∙ c.loop-self.invariant.reads;
@@ -25,14 +25,14 @@ loop-self-preserved g c = record {
 pub returns-in_err-take_piece-2-clause-err : goal.returns-in_err-take_piece-2-clause-err
 returns-in_err-take_piece-2-clause-err g c = on_err c.from_residual-in_err-take_piece-2.result
     (prefix_more c.loop-self.invariant.takes.0 c.args.self.now.host c.loop-self.self.host c.take_piece-in-loop-self.new.self.host c.args.self.now.outer c.loop-self.self.outer c.args.outs.now.items c.loop-self.outs.items c.take_piece-in-loop-self.new.outs.items
-    (record { records = g.P.Keeper.records c.args.keeper.now; faults = g.P.Keeper.faults c.args.keeper.now })
-    (record { records = g.P.Keeper.records c.loop-self.keeper; faults = g.P.Keeper.faults c.loop-self.keeper })
-    (record { records = g.P.Keeper.records c.take_piece-in-loop-self.new.keeper; faults = g.P.Keeper.faults c.take_piece-in-loop-self.new.keeper })
+    (g.P.Keeper.shelf c.args.keeper.now)
+    (g.P.Keeper.shelf c.loop-self.keeper)
+    (g.P.Keeper.shelf c.take_piece-in-loop-self.new.keeper)
     c.loop-self.invariant.takes.1 c.in_err-take_piece-2.ensures.err)
 
 pub returns-clause-ok : goal.returns-clause-ok
 returns-clause-ok g c =
     all_taken c.args.self.now.host c.loop-self.self.host c.args.self.now.outer c.loop-self.self.outer c.args.outs.now.items c.loop-self.outs.items
-    (record { records = g.P.Keeper.records c.args.keeper.now; faults = g.P.Keeper.faults c.args.keeper.now })
-    (record { records = g.P.Keeper.records c.loop-self.keeper; faults = g.P.Keeper.faults c.loop-self.keeper })
+    (g.P.Keeper.shelf c.args.keeper.now)
+    (g.P.Keeper.shelf c.loop-self.keeper)
     (omega (arith, c.loop-self-test.false, c.to_host.ensures)) c.loop-self.invariant.takes

@@ -5,8 +5,8 @@ use Rattle.host_core.specs.Calls.{scene}
 
 abbrev pub invariant-loop-self : goal.invariant-loop-self
 invariant-loop-self g l = record {
-  takes : TakesSome l.fn.self.host l.self.host l.fn.self.outer l.self.outer l.fn.outs.items l.outs.items (scene l.fn.self.host.state l.fn.outs.items (g.P.Keeper.records l.fn.keeper) (g.P.Keeper.faults l.fn.keeper)).shelf
-      (scene l.self.host.state l.outs.items (g.P.Keeper.records l.keeper) (g.P.Keeper.faults l.keeper)).shelf;
+  takes : TakesSome l.fn.self.host l.self.host l.fn.self.outer l.self.outer l.fn.outs.items l.outs.items (scene l.fn.self.host.state l.fn.outs.items (g.P.Keeper.shelf l.fn.keeper)).shelf
+      (scene l.self.host.state l.outs.items (g.P.Keeper.shelf l.keeper)).shelf;
   never_fewer : g.P.Keeper.number l.fn.keeper ≤ g.P.Keeper.number l.keeper;
   reads : g.P.Keeper.reads l.keeper ≡ g.P.Keeper.reads l.fn.keeper;
 }

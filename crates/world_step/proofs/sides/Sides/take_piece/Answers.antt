@@ -7,5 +7,5 @@ pub returns-clause-ok : goal.returns-clause-ok
 returns-clause-ok g c = ok_then c.feed.result c.feed.ensures.ok
     (λ fed.
     piece_takes c.args.self.now.host c.feed.new.self c.args.self.now.outer c.take_into-piece.new.outer c.take_into-piece.result.now c.args.outs.now.items c.feed.new.out.items
-    (record { records = g.P.Keeper.records c.args.keeper.now; faults = g.P.Keeper.faults c.args.keeper.now }) (record { records = g.P.Keeper.records c.feed.new.keeper; faults = g.P.Keeper.faults c.feed.new.keeper })
+    (g.P.Keeper.shelf c.args.keeper.now) (g.P.Keeper.shelf c.feed.new.keeper)
     c.take_into-piece.ensures.some c.take_into-piece.ensures.within c.take_into-piece.ensures.read c.take_into-piece.ensures.goes fed)

@@ -16,30 +16,30 @@ use Rattle.zw_world.proofs.world.World.command.Goals as goal
 pub returns-in-Ok-clause-ok : goal.returns-in-Ok-clause-ok
 returns-in-Ok-clause-ok g c =
     let w = the_view c.self.inside in
-    rw (← c.self.view_is) (accepted c.note.result c.args.order.now c.in-Ok.command w.keys w.keys w.host c.command.new.self c.command.new.self w.outer c.note.new.self (g.P.Keeper.records c.args.keeper.now) (g.P.Keeper.records c.command.new.keeper)
-    c.args.out.now.items c.note.new.out.items (g.P.Keeper.faults c.args.keeper.now) (g.P.Keeper.faults c.command.new.keeper) c.in-Ok.ensures.ok c.in-Ok.ensures.decoder c.in-Ok.ensures.number refl refl c.note.ensures.ok)
+    rw (← c.self.view_is) (accepted c.note.result c.args.order.now c.in-Ok.command w.keys w.keys w.host c.command.new.self c.command.new.self w.outer c.note.new.self (g.P.Keeper.shelf c.args.keeper.now).records (g.P.Keeper.shelf c.command.new.keeper).records
+    c.args.out.now.items c.note.new.out.items (g.P.Keeper.shelf c.args.keeper.now).faults (g.P.Keeper.shelf c.command.new.keeper).faults c.in-Ok.ensures.ok c.in-Ok.ensures.decoder c.in-Ok.ensures.number refl refl c.note.ensures.ok)
 
 pub returns-in-Ok-clause-err : goal.returns-in-Ok-clause-err
 returns-in-Ok-clause-err g c =
     let w = the_view c.self.inside in
-    rw (← c.self.view_is) (event_stops c.note.result (Accepts c.args.order.now (carriage_for w.host.state c.args.order.now)) w.keys w.keys w.host c.command.new.self c.command.new.self w.outer c.note.new.self (g.P.Keeper.records c.args.keeper.now) (g.P.Keeper.records c.command.new.keeper)
-    c.args.out.now.items c.note.new.out.items (g.P.Keeper.faults c.args.keeper.now) (g.P.Keeper.faults c.command.new.keeper) c.in-Ok.ensures.ok c.note.ensures.no_entries)
+    rw (← c.self.view_is) (event_stops c.note.result (Accepts c.args.order.now (carriage_for w.host.state c.args.order.now)) w.keys w.keys w.host c.command.new.self c.command.new.self w.outer c.note.new.self (g.P.Keeper.shelf c.args.keeper.now).records (g.P.Keeper.shelf c.command.new.keeper).records
+    c.args.out.now.items c.note.new.out.items (g.P.Keeper.shelf c.args.keeper.now).faults (g.P.Keeper.shelf c.command.new.keeper).faults c.in-Ok.ensures.ok c.note.ensures.no_entries)
 
 pub returns-in-Err-clause-ok : goal.returns-in-Err-clause-ok
 returns-in-Err-clause-ok g c =
     let w = the_view c.self.inside in
     rw (← c.self.view_is) (refusal_done c.refused.result (Command c.args.order.now) (Host_does (Accepts c.args.order.now (carriage_for w.host.state c.args.order.now)) ∷ []) (shown c.in-Err.refused) w.keys c.refused.new.self.keys w.host
-    c.command.new.self c.refused.new.self.host w.outer c.refused.new.self.outer (g.P.Keeper.records c.args.keeper.now) (g.P.Keeper.records c.command.new.keeper)
-    c.args.out.now.items c.refused.new.out.items (g.P.Keeper.faults c.args.keeper.now) (g.P.Keeper.faults c.command.new.keeper)
+    c.command.new.self c.refused.new.self.host w.outer c.refused.new.self.outer (g.P.Keeper.shelf c.args.keeper.now).records (g.P.Keeper.shelf c.command.new.keeper).records
+    c.args.out.now.items c.refused.new.out.items (g.P.Keeper.shelf c.args.keeper.now).faults (g.P.Keeper.shelf c.command.new.keeper).faults
     (λ entered seen ds. judged_as (Err c.in-Err.refused) c.in-Err.refused (refusal_for w.host.state c.args.order.now) entered refl seen c.in-Err.ensures.judged)
-    (λ entered seen. rose_entered c.in-Err.refused entered (g.P.Keeper.faults c.args.keeper.now) (g.P.Keeper.faults c.command.new.keeper) seen (λ e. c.in-Err.ensures.failed (ap (λ (x : Refused). Err x) e)))
+    (λ entered seen. rose_entered c.in-Err.refused entered (g.P.Keeper.shelf c.args.keeper.now).faults (g.P.Keeper.shelf c.command.new.keeper).faults seen (λ e. c.in-Err.ensures.failed (ap (λ (x : Refused). Err x) e)))
     c.in-Err.ensures.err c.in-Err.ensures.no_record c.in-Err.ensures.never_falls c.refused.ensures.keys c.refused.ensures.host c.refused.ensures.ok)
 
 pub returns-in-Err-clause-err : goal.returns-in-Err-clause-err
 returns-in-Err-clause-err g c =
     let w = the_view c.self.inside in
-    rw (← c.self.view_is) (refusal_stops c.refused.result w.keys c.refused.new.self.keys w.host c.refused.new.self.host w.outer c.refused.new.self.outer (g.P.Keeper.records c.args.keeper.now) (g.P.Keeper.records c.command.new.keeper)
-    c.args.out.now.items c.refused.new.out.items (g.P.Keeper.faults c.args.keeper.now) (g.P.Keeper.faults c.command.new.keeper) c.in-Err.ensures.no_record c.in-Err.ensures.never_falls c.refused.ensures.err)
+    rw (← c.self.view_is) (refusal_stops c.refused.result w.keys c.refused.new.self.keys w.host c.refused.new.self.host w.outer c.refused.new.self.outer (g.P.Keeper.shelf c.args.keeper.now).records (g.P.Keeper.shelf c.command.new.keeper).records
+    c.args.out.now.items c.refused.new.out.items (g.P.Keeper.shelf c.args.keeper.now).faults (g.P.Keeper.shelf c.command.new.keeper).faults c.in-Err.ensures.no_record c.in-Err.ensures.never_falls c.refused.ensures.err)
 
 pub returns-in-Ok-clause-keeps : goal.returns-in-Ok-clause-keeps
 returns-in-Ok-clause-keeps g c = ok_then c.note.result c.note.ensures.ok (λ goes quiet. inl c.in-Ok.ensures.more)

@@ -39,59 +39,59 @@ pub returns-in-Repeat-clause-ok : goal.returns-in-Repeat-clause-ok
 returns-in-Repeat-clause-ok g c =
     let w = the_view c.self.inside in
     rw (← c.self.view_is) (effect_as c.repeat.result _ _ _ _ c.in-Repeat.is (ok_then c.repeat.result c.repeat.ensures.ok
-    (λ run. did_of (IsRepeat _) w.keys w.host w.outer c.repeat.new.self _ _ (g.P.Keeper.records c.args.keeper.now) c.args.out.now.items c.repeat.new.out.items (g.P.Keeper.faults c.args.keeper.now) (repeat_own _) run)))
+    (λ run. did_of (IsRepeat _) w.keys w.host w.outer c.repeat.new.self _ _ (g.P.Keeper.shelf c.args.keeper.now).records c.args.out.now.items c.repeat.new.out.items (g.P.Keeper.shelf c.args.keeper.now).faults (repeat_own _) run)))
 
 pub returns-in-Repeat-clause-err : goal.returns-in-Repeat-clause-err
 returns-in-Repeat-clause-err g c =
     let w = the_view c.self.inside in
     rw (← c.self.view_is) (prefix_as c.repeat.result _ _ _ _ c.in-Repeat.is (err_then c.repeat.result c.repeat.ensures.err
-    (λ stops. stopped_of (IsRepeat _) w.keys w.keys w.host w.host w.outer c.repeat.new.self _ _ (g.P.Keeper.records c.args.keeper.now) c.args.out.now.items c.repeat.new.out.items (g.P.Keeper.faults c.args.keeper.now) stops)))
+    (λ stops. stopped_of (IsRepeat _) w.keys w.keys w.host w.host w.outer c.repeat.new.self _ _ (g.P.Keeper.shelf c.args.keeper.now).records c.args.out.now.items c.repeat.new.out.items (g.P.Keeper.shelf c.args.keeper.now).faults stops)))
 
 pub returns-in-Wake-clause-ok : goal.returns-in-Wake-clause-ok
 returns-in-Wake-clause-ok g c =
     let w = the_view c.self-in-Wake.inside in
     rw (← c.self-in-Wake.view_is) (effect_as c.wake.result _ _ _ _ c.in-Wake.is (ok_then c.wake.result c.wake.ensures.ok
-    (λ run. did_of (IsWake _) w.keys w.host w.outer c.wake.new.self _ _ (g.P.Keeper.records c.args.keeper.now) c.args.out.now.items c.wake.new.out.items (g.P.Keeper.faults c.args.keeper.now) (wake_own _) run)))
+    (λ run. did_of (IsWake _) w.keys w.host w.outer c.wake.new.self _ _ (g.P.Keeper.shelf c.args.keeper.now).records c.args.out.now.items c.wake.new.out.items (g.P.Keeper.shelf c.args.keeper.now).faults (wake_own _) run)))
 
 pub returns-in-Wake-clause-err : goal.returns-in-Wake-clause-err
 returns-in-Wake-clause-err g c =
     let w = the_view c.self-in-Wake.inside in
     rw (← c.self-in-Wake.view_is) (prefix_as c.wake.result _ _ _ _ c.in-Wake.is (err_then c.wake.result c.wake.ensures.err
-    (λ stops. stopped_of (IsWake _) w.keys w.keys w.host w.host w.outer c.wake.new.self _ _ (g.P.Keeper.records c.args.keeper.now) c.args.out.now.items c.wake.new.out.items (g.P.Keeper.faults c.args.keeper.now) stops)))
+    (λ stops. stopped_of (IsWake _) w.keys w.keys w.host w.host w.outer c.wake.new.self _ _ (g.P.Keeper.shelf c.args.keeper.now).records c.args.out.now.items c.wake.new.out.items (g.P.Keeper.shelf c.args.keeper.now).faults stops)))
 
 pub returns-in-Local-clause-ok : goal.returns-in-Local-clause-ok
 returns-in-Local-clause-ok g c =
     let w = the_view c.self-in-Local.inside in
     rw (← c.self-in-Local.view_is) (effect_as c.local.result _ _ _ _ c.in-Local.is (ok_then c.local.result c.local.ensures.ok
-    (λ run. did_of (IsSet _ _) w.keys w.host w.outer c.local.new.self _ _ (g.P.Keeper.records c.args.keeper.now) c.args.out.now.items c.local.new.out.items (g.P.Keeper.faults c.args.keeper.now) (set_own _ _) run)))
+    (λ run. did_of (IsSet _ _) w.keys w.host w.outer c.local.new.self _ _ (g.P.Keeper.shelf c.args.keeper.now).records c.args.out.now.items c.local.new.out.items (g.P.Keeper.shelf c.args.keeper.now).faults (set_own _ _) run)))
 
 pub returns-in-Local-clause-err : goal.returns-in-Local-clause-err
 returns-in-Local-clause-err g c =
     let w = the_view c.self-in-Local.inside in
     rw (← c.self-in-Local.view_is) (prefix_as c.local.result _ _ _ _ c.in-Local.is (err_then c.local.result c.local.ensures.err
-    (λ stops. stopped_of (IsSet _ _) w.keys w.keys w.host w.host w.outer c.local.new.self _ _ (g.P.Keeper.records c.args.keeper.now) c.args.out.now.items c.local.new.out.items (g.P.Keeper.faults c.args.keeper.now) stops)))
+    (λ stops. stopped_of (IsSet _ _) w.keys w.keys w.host w.host w.outer c.local.new.self _ _ (g.P.Keeper.shelf c.args.keeper.now).records c.args.out.now.items c.local.new.out.items (g.P.Keeper.shelf c.args.keeper.now).faults stops)))
 
 pub returns-in-Show-clause-ok : goal.returns-in-Show-clause-ok
 returns-in-Show-clause-ok g c =
     let w = the_view c.self-in-Show.inside in
     rw (← c.self-in-Show.view_is) (effect_as c.show.result _ _ _ _ c.in-Show.is (ok_then c.show.result c.show.ensures.ok
-    (λ run. did_run (Shows _) w.keys w.host w.outer c.show.new.self _ (g.P.Keeper.records c.args.keeper.now) c.args.out.now.items c.show.new.out.items (g.P.Keeper.faults c.args.keeper.now) refl run)))
+    (λ run. did_run (Shows _) w.keys w.host w.outer c.show.new.self _ (g.P.Keeper.shelf c.args.keeper.now).records c.args.out.now.items c.show.new.out.items (g.P.Keeper.shelf c.args.keeper.now).faults refl run)))
 
 pub returns-in-Show-clause-err : goal.returns-in-Show-clause-err
 returns-in-Show-clause-err g c =
     let w = the_view c.self-in-Show.inside in
     rw (← c.self-in-Show.view_is) (err_then c.show.result c.show.ensures.no_entries
-    (λ same. stopped_still (EffectPrefix c.args.line.now) w.keys w.keys w.host w.host w.outer c.show.new.self _ (g.P.Keeper.records c.args.keeper.now) (g.P.Keeper.records c.args.keeper.now) c.args.out.now.items c.show.new.out.items (g.P.Keeper.faults c.args.keeper.now) (g.P.Keeper.faults c.args.keeper.now) (none_in c.args.line.now _) refl same (omega arith)))
+    (λ same. stopped_still (EffectPrefix c.args.line.now) w.keys w.keys w.host w.host w.outer c.show.new.self _ (g.P.Keeper.shelf c.args.keeper.now).records (g.P.Keeper.shelf c.args.keeper.now).records c.args.out.now.items c.show.new.out.items (g.P.Keeper.shelf c.args.keeper.now).faults (g.P.Keeper.shelf c.args.keeper.now).faults (none_in c.args.line.now _) refl same (omega arith)))
 
 pub ask_or_set-requires : goal.ask_or_set-requires
 ask_or_set-requires g c = left_of c.args.line.now c.requires.effect c.in_default.not-Command c.in_default.not-Join c.in_default.not-Cancel c.in_default.not-Restart c.in_default.not-Repeat c.in_default.not-Wake c.in_default.not-Local c.in_default.not-Show
 
 pub returns-in_default-clause-ok : goal.returns-in_default-clause-ok
-returns-in_default-clause-ok g c = ok_then c.ask_or_set.result c.ask_or_set.ensures.ok (λ done. done _ (g.P.Keeper.records c.args.keeper.now) (g.P.Keeper.faults c.args.keeper.now))
+returns-in_default-clause-ok g c = ok_then c.ask_or_set.result c.ask_or_set.ensures.ok (λ done. done _ (g.P.Keeper.shelf c.args.keeper.now).records (g.P.Keeper.shelf c.args.keeper.now).faults)
 
 pub returns-in_default-clause-err : goal.returns-in_default-clause-err
 returns-in_default-clause-err g c = err_then c.ask_or_set.result c.ask_or_set.ensures.err
-    (λ same. stopped_still (EffectPrefix c.args.line.now) c.args.self.now.keys c.ask_or_set.new.self.keys c.args.self.now.host c.ask_or_set.new.self.host c.args.self.now.outer c.ask_or_set.new.self.outer _ (g.P.Keeper.records c.args.keeper.now) (g.P.Keeper.records c.args.keeper.now) c.args.out.now.items c.ask_or_set.new.out.items (g.P.Keeper.faults c.args.keeper.now) (g.P.Keeper.faults c.args.keeper.now) (none_in c.args.line.now _) refl same (omega arith))
+    (λ same. stopped_still (EffectPrefix c.args.line.now) c.args.self.now.keys c.ask_or_set.new.self.keys c.args.self.now.host c.ask_or_set.new.self.host c.args.self.now.outer c.ask_or_set.new.self.outer _ (g.P.Keeper.shelf c.args.keeper.now).records (g.P.Keeper.shelf c.args.keeper.now).records c.args.out.now.items c.ask_or_set.new.out.items (g.P.Keeper.shelf c.args.keeper.now).faults (g.P.Keeper.shelf c.args.keeper.now).faults (none_in c.args.line.now _) refl same (omega arith))
 
 pub returns-in-Command-clause-goes_on : goal.returns-in-Command-clause-goes_on
 returns-in-Command-clause-goes_on g c = goes_unread _ _ _ _ c.command.ensures.never_fewer c.command.ensures.reads

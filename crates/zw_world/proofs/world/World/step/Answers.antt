@@ -10,12 +10,12 @@ use Rattle.zw_world.proofs.world.World.step.Goals as goal
 pub returns-clause-ok : goal.returns-clause-ok
 returns-clause-ok g c =
     let w = the_view c.self.inside in
-    rw (← c.self.view_is) (line_done c.run_line.result c.args.line.now _ _ _ (did_quiet Begins_line w.keys w.host w.outer c.begin_line.new.self _ (g.P.Keeper.records c.args.keeper.now) c.args.out.now.items (g.P.Keeper.faults c.args.keeper.now) refl c.begin_line.ensures) c.run_line.ensures.ok)
+    rw (← c.self.view_is) (line_done c.run_line.result c.args.line.now _ _ _ (did_quiet Begins_line w.keys w.host w.outer c.begin_line.new.self _ (g.P.Keeper.shelf c.args.keeper.now).records c.args.out.now.items (g.P.Keeper.shelf c.args.keeper.now).faults refl c.begin_line.ensures) c.run_line.ensures.ok)
 
 pub returns-clause-err : goal.returns-clause-err
 returns-clause-err g c =
     let w = the_view c.self.inside in
-    rw (← c.self.view_is) (line_stops c.run_line.result c.args.line.now _ _ _ (did_quiet Begins_line w.keys w.host w.outer c.begin_line.new.self _ (g.P.Keeper.records c.args.keeper.now) c.args.out.now.items (g.P.Keeper.faults c.args.keeper.now) refl c.begin_line.ensures) c.run_line.ensures.err)
+    rw (← c.self.view_is) (line_stops c.run_line.result c.args.line.now _ _ _ (did_quiet Begins_line w.keys w.host w.outer c.begin_line.new.self _ (g.P.Keeper.shelf c.args.keeper.now).records c.args.out.now.items (g.P.Keeper.shelf c.args.keeper.now).faults refl c.begin_line.ensures) c.run_line.ensures.err)
 
 pub returns-clause-keeps : goal.returns-clause-keeps
 returns-clause-keeps g c = ok_then c.run_line.result c.run_line.ensures.keeps (λ keeps. keeps (line_quiet _ _ c.begin_line.ensures))

@@ -1,0 +1,97 @@
+-- Both links and what goes on the air are known by the same steps of the chip's link, at each phase of a line; so the law of what goes on the air holds by the course of a link that keeps the
+-- rules.
+use Rattle.std.proofs.Common.{◌≡◌, true, false, List, [], ◌∷◌, ◌++◌, sym, subst, append-nil}
+use Rattle.std.specs.Prelude.{None}
+use Rattle.serial_link.specs.Rules.{Step}
+use Rattle.chip_sim.specs.Link.{link_units}
+use Rattle.s0_crypto.specs.declared.key_pair.Keys.{Keys}
+use Rattle.zw_text.specs.declared.entry.Entry.{Entry}
+use Rattle.zw_text.specs.declared.entry.Entry.TheVariants.{Said}
+use Rattle.law_transcript.specs.Lists.{EachAfter}
+use Rattle.law_wire.specs.Asked.{Course, course_of}
+use Rattle.law_wire.specs.Taking.{MayAir}
+use Rattle.host_keep.specs.declared.record.Record.{Record}
+use Rattle.host_model.specs.Opening.{opened}
+use Rattle.host_model.specs.State.{HostState}
+use Rattle.host_model.specs.Events.{HostEvent}
+use Rattle.host_model.specs.After.{after as host_after}
+use Rattle.host_model.specs.May.{May as MayHost}
+use Rattle.host_model.specs.Outs.{outs as host_outs}
+use Rattle.outside_model.specs.Devices.{State}
+use Rattle.world_model.specs.State.{Machine}
+use Rattle.world_model.specs.Events.{entries}
+use Rattle.proof_host.proofs.Lists.{each-append}
+use Rattle.proof_serial.specs.Line.{host_units}
+use Rattle.proof_traffic.specs.Links.{KeepsItsLink, host_link_steps}
+use Rattle.proof_walk.specs.Phases.{Phase, Between, Giving}
+use Rattle.proof_walk.specs.Walk.{Walk, WalkWhere}
+use Rattle.proof_routes.specs.Networks.{Tie}
+use Rattle.proof_routes.specs.Knowing.{KnowNetworks}
+use Rattle.proof_line.specs.Linked.{Cuts, IsOrderly}
+use Rattle.proof_line.proofs.ChipAccounts.{event_steps}
+use Rattle.proof_line.proofs.LinkWalk.{event_knows, said_knows, turn_knows}
+use Rattle.proof_chip.specs.Calling.{KnowCalls}
+use Rattle.proof_chip.specs.Knowing.{AnyEntry}
+use Rattle.proof_chip.specs.Sending.{GroundAir, KnowAir}
+use Rattle.proof_chip.specs.Served.{AirsByLink, KnowBeside, KnowServing}
+use Rattle.proof_chip.specs.Serving.{GoesOn}
+use Rattle.proof_chip.proofs.Airs.{event_goes, said_goes, turn_goes}
+use Rattle.proof_chip.proofs.Grounds.{agrees_of, home_of}
+use Rattle.proof_chip.proofs.Walking.{any_each}
+
+-- ---- the ground
+
+pub ground_air : (devices : List State) → ((past : List Entry) (m : Machine) → KnowNetworks devices Between past m → Tie devices past m.outside)
+    → ((ticks : _) (past : List Entry) (m : Machine) → KnowCalls (Giving 0 ticks) past m → m.outside.outer.chip.state.sending ≡ None) → GroundAir devices (KnowBeside devices)
+ground_air devices tie none = record {
+  home = λ here past m known. home_of here past m known.0.0.0.0.0;
+  agrees = λ passes ticks past m known. agrees_of devices past m (tie past m known.0.0.1) known.0.1.0 known.0.0.0.1;
+  none = λ ticks past m known. none ticks past m known.1;
+}
+
+-- ---- the walk
+
+module _ (devices : List State) (Asks : List Entry → Entry → Type 0) (beside : Walk Asks (KnowBeside devices)) (law : GroundAir devices (KnowBeside devices))
+    (each : (h : HostState) (event : HostEvent) (steps : List Step) → KeepsItsLink steps h → MayHost h event → KeepsItsLink (steps ++ host_link_steps h event) (host_after h event))
+    (units : (h : HostState) (event : HostEvent) → h.side.collisions ≡ 0 → host_units (host_outs h event) ≡ link_units (host_link_steps h event))
+    (opened_keeps : (keys : Keys) (records : List Record) → KeepsItsLink [] (opened keys records)) where
+  pub served_walk : WalkWhere IsOrderly AnyEntry (KnowServing devices)
+  served_walk = record {
+    said = λ past m words line read known.
+        let (did, cuts, airs) = known.1 in
+        (tt, ((beside.said past m words line read known.0).1, (did, said_knows past m words line read known.0.0.0.0.0.1 cuts, said_goes devices (KnowBeside devices) law did past m words line airs)));
+    event = λ here next past m event goes may orderly known.
+        let (did, cuts, airs) = known.1 in (
+          any_each past (entries m event),
+          (
+            (beside.event here next past m event goes may known.0).1,
+            (did ++ event_steps m event, event_knows each units opened_keeps here next past m event goes may orderly cuts, event_goes devices (KnowBeside devices) law did here next past m event goes may known.0 airs),
+          ),
+        );
+    turn = λ here next past m turns known.
+        let (did, cuts, airs) = known.1 in (
+          beside.turn here next past m turns known.0,
+          (did, (cuts.0, turn_knows each units opened_keeps did here next past m turns cuts.1), turn_goes devices (KnowBeside devices) law did here next past m turns known.0 airs),
+        );
+  }
+
+-- ---- the law
+
+goes_none : (course : Course) → GoesOn course course
+goes_none course = record { frames = []; flags = []; passed = sym (append-nil course.passed); firsts = sym (append-nil course.firsts) }
+
+module _ (devices : List State) (did : List Step) (here : Phase) (past : List Entry) (m : Machine) (known : KnowAir devices did here past m) where
+  kept : EachAfter (MayAir devices (course_of did)) [] past
+  kept = let (frames, serves, keeps) = known.0 in (keeps (course_of did) (goes_none (course_of did))).so
+
+  pub airs_cut : Cuts did past → AirsByLink false devices past
+  airs_cut cuts = record { link = cuts.links.chip; airs = subst (λ (course : Course). EachAfter (MayAir devices course) [] past) (sym cuts.course) kept }
+
+  pub airs_whole : Cuts did (past ++ Said [] ∷ []) → AirsByLink true devices past
+  airs_whole cuts = record {
+    link = cuts.links.chip;
+    airs =
+        let (frames, serves, keeps) = known.0 in
+        subst (λ (course : Course). EachAfter (MayAir devices course) [] (past ++ Said [] ∷ [])) (sym cuts.course)
+        (each-append (MayAir devices (course_of did)) [] past (Said [] ∷ []) kept ((keeps (course_of did) (goes_none (course_of did))).over, tt));
+  }

@@ -1,0 +1,118 @@
+-- Both links and what goes on the air are known where the events end, by the same steps of the chip's link; at the end of a whole run between lines.
+use Rattle.std.proofs.Common.{List, []}
+use Rattle.std.specs.Prelude.{Some}
+use Rattle.zw_text.specs.declared.entry.Entry.{Entry}
+use Rattle.law_wire.specs.Arriving.{MayLand}
+use Rattle.law_wire.specs.Routes.{MayGo}
+use Rattle.outside_model.specs.Devices.{State}
+use Rattle.world_model.specs.State.{Machine, first_machine}
+use Rattle.world_lines.specs.Spoken.{after_all, transcript_of}
+use Rattle.world_lines.specs.Done.{events_of}
+use Rattle.proof_line.proofs.SpokenLines.{all_lines, all_may, lines_of}
+use Rattle.proof_walk.specs.Phases.{Phase, Between}
+use Rattle.proof_walk.specs.Time.{KnowTime, MayCount}
+use Rattle.proof_walk.specs.Walk.{Walk, WalkOver, both_know}
+use Rattle.proof_walk.proofs.Over.{beside, over}
+use Rattle.proof_walk.proofs.Where.{where_lead, where_whole}
+use Rattle.proof_air.specs.Hearing.{KnowAir as KnowHistory, MayHear}
+use Rattle.proof_air.specs.Landing.{KnowLanding}
+use Rattle.proof_routes.specs.Knowing.{KnowNetworks}
+use Rattle.proof_line.specs.Linked.{IsOrderly}
+use Rattle.proof_line.proofs.LinkSome.{lines_orderly}
+use Rattle.proof_line.proofs.LinkWalk.{ended_known, links_first}
+use Rattle.proof_chip.specs.Calling.{KnowCalls}
+use Rattle.proof_chip.specs.Knowing.{AnyEntry}
+use Rattle.proof_chip.specs.Served.{KnowBeside, KnowMembers, KnowServing}
+use Rattle.proof_chip.proofs.Airs.{air_first}
+use Rattle.proof_chip.proofs.Served.{airs_cut, airs_whole, ground_air, served_walk}
+use Rattle.proof_chip.proofs.aired.chips_air_what_is_taken.Goals as goal
+
+-- one walk over another's ground
+module _ (devices : List State) (history : Walk MayHear KnowHistory) (time : Walk MayCount KnowTime) (landing : WalkOver (both_know KnowHistory KnowTime) MayLand KnowLanding)
+    (networks : Walk (MayGo devices) (KnowNetworks devices)) (members : Walk AnyEntry KnowMembers) (calls : WalkOver KnowHistory AnyEntry KnowCalls) where
+  abbrev First : Phase → List Entry → Machine → Type 0
+  First = both_know KnowHistory KnowTime
+
+  abbrev Second : Phase → List Entry → Machine → Type 0
+  Second = both_know First KnowLanding
+
+  abbrev Third : Phase → List Entry → Machine → Type 0
+  Third = both_know Second (KnowNetworks devices)
+
+  abbrev Fourth : Phase → List Entry → Machine → Type 0
+  Fourth = both_know Third KnowMembers
+
+  beside_walk : Walk AnyEntry (KnowBeside devices)
+  beside_walk =
+      over AnyEntry AnyEntry Fourth KnowCalls
+      (over (MayGo devices) AnyEntry Third KnowMembers
+      (over MayLand (MayGo devices) Second (KnowNetworks devices)
+      (over MayCount MayLand First KnowLanding (over MayHear MayCount KnowHistory KnowTime history (beside MayCount KnowHistory KnowTime time)) landing)
+      (beside (MayGo devices) Second (KnowNetworks devices) networks))
+      (beside AnyEntry Third KnowMembers members))
+      (record {
+        said = λ past m words line read ground known. calls.said past m words line read ground.0.0.0.0 known;
+        event = λ here next past m event goes may ground known. calls.event here next past m event goes may ground.0.0.0.0 known;
+        turn = λ here next past m turns ground known. calls.turn here next past m turns ground.0.0.0.0 known;
+      })
+
+pub returns-clause-cut : goal.returns-clause-cut
+returns-clause-cut c = λ keys devices lines are.
+    let m : Machine = first_machine keys (Some []) devices in
+    let events = events_of lines in
+    let these = all_lines m lines are in
+    let may = all_may m lines are in
+    let asks = c.lines_keep_and_ask_well.ensures keys devices (lines_of lines) events these may in
+    let writes = c.hosts_write_well.ensures.run keys (Some []) devices events may asks.1 in
+    let obey = c.hosts_obey_the_line.ensures in
+    let orderly = lines_orderly (lines_of lines) m events these writes asks.1 in
+    let walk =
+    served_walk devices AnyEntry
+    (beside_walk devices c.history_goes_on.ensures.walk c.time_goes_on.ensures.walk c.landings_go_on.ensures.walk (c.networks_go_on.ensures.walk devices) c.nodes_go_on.ensures.walk c.calls_go_on.ensures.walk)
+    (ground_air devices (c.networks_go_on.ensures.tie devices) c.calls_go_on.ensures.none) obey.each obey.units obey.opened in
+    let first : KnowServing devices Between [] m = (
+      (
+        (
+          (
+            ((c.history_goes_on.ensures.first keys (Some []) devices, c.time_goes_on.ensures.first keys (Some []) devices), c.landings_go_on.ensures.first keys (Some []) devices),
+            c.networks_go_on.ensures.first keys [] devices,
+          ),
+          c.nodes_go_on.ensures.first keys (Some []) devices,
+        ),
+        c.calls_go_on.ensures.first keys (Some []) devices,
+      ),
+      ([], links_first keys (Some []) devices (obey.first keys), air_first keys (Some []) devices (c.rules_of_histories.ensures.link [] tt)),
+    ) in
+    let known = where_lead IsOrderly AnyEntry (KnowServing devices) walk [] m lines are orderly first in
+    airs_cut devices known.1.1.0 known.0 (transcript_of m lines) (after_all m lines) known.1.1.2 known.1.1.1.0
+
+pub returns-clause-whole : goal.returns-clause-whole
+returns-clause-whole c = λ keys devices lines are whole.
+    let m : Machine = first_machine keys (Some []) devices in
+    let events = events_of lines in
+    let these = all_lines m lines are in
+    let may = all_may m lines are in
+    let asks = c.lines_keep_and_ask_well.ensures keys devices (lines_of lines) events these may in
+    let writes = c.hosts_write_well.ensures.run keys (Some []) devices events may asks.1 in
+    let obey = c.hosts_obey_the_line.ensures in
+    let orderly = lines_orderly (lines_of lines) m events these writes asks.1 in
+    let walk =
+    served_walk devices AnyEntry
+    (beside_walk devices c.history_goes_on.ensures.walk c.time_goes_on.ensures.walk c.landings_go_on.ensures.walk (c.networks_go_on.ensures.walk devices) c.nodes_go_on.ensures.walk c.calls_go_on.ensures.walk)
+    (ground_air devices (c.networks_go_on.ensures.tie devices) c.calls_go_on.ensures.none) obey.each obey.units obey.opened in
+    let first : KnowServing devices Between [] m = (
+      (
+        (
+          (
+            ((c.history_goes_on.ensures.first keys (Some []) devices, c.time_goes_on.ensures.first keys (Some []) devices), c.landings_go_on.ensures.first keys (Some []) devices),
+            c.networks_go_on.ensures.first keys [] devices,
+          ),
+          c.nodes_go_on.ensures.first keys (Some []) devices,
+        ),
+        c.calls_go_on.ensures.first keys (Some []) devices,
+      ),
+      ([], links_first keys (Some []) devices (obey.first keys), air_first keys (Some []) devices (c.rules_of_histories.ensures.link [] tt)),
+    ) in
+    let known = where_whole IsOrderly AnyEntry (KnowServing devices) walk [] m lines are whole orderly first in
+    airs_whole devices known.1.0 Between (transcript_of m lines) (after_all m lines) known.1.2
+    (ended_known (transcript_of m lines) (after_all m lines) known.0.0.0.0.0.1 known.1.1)

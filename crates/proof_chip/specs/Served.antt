@@ -1,0 +1,39 @@
+-- What is known of the chip at each phase of a line beside both links and all that other walks tell, and what follows of a whole run (this project's own rule).
+use Rattle.std.specs.Prelude.{Bool, List}
+use Rattle.serial_link.specs.Rules.{Step}
+use Rattle.zw_words.specs.declared.side.Side.TheVariants.{Chip}
+use Rattle.zw_text.specs.declared.entry.Entry.{Entry}
+use Rattle.law_wire.specs.Asked.{course_of}
+use Rattle.law_wire.specs.Links.{KeepsLink, joined}
+use Rattle.law_wire.specs.Serial.{ended}
+use Rattle.law_wire.specs.Taking.{AirsWhatIsTaken}
+use Rattle.outside_model.specs.Devices.{State}
+use Rattle.world_model.specs.State.{Machine}
+use Rattle.proof_walk.specs.Phases.{Phase}
+use Rattle.proof_walk.specs.Time.{KnowTime}
+use Rattle.proof_walk.specs.Walk.{both_know}
+use Rattle.proof_air.specs.Hearing.{KnowAir as KnowHistory}
+use Rattle.proof_air.specs.Landing.{KnowLanding}
+use Rattle.proof_routes.specs.Knowing.{KnowNetworks}
+use Rattle.proof_line.specs.Linked.{KnowCuts}
+use Rattle.proof_chip.specs.Calling.{KnowCalls}
+use Rattle.proof_chip.specs.Knowing.{KnownNodes}
+use Rattle.proof_chip.specs.Sending.{KnowAir}
+
+abbrev pub KnowMembers : Phase → List Entry → Machine → Type 0
+KnowMembers here past m = KnownNodes past m
+
+-- history of the air, time, frames that have landed, networks, joined nodes, and the results that the chip waits for
+abbrev pub KnowBeside : List State → Phase → List Entry → Machine → Type 0
+KnowBeside devices = both_know (both_know (both_know (both_know (both_know KnowHistory KnowTime) KnowLanding) (KnowNetworks devices)) KnowMembers) KnowCalls
+
+-- by the same steps of the chip's link both links are known, and what goes on the air
+abbrev pub KnowServing : List State → Phase → List Entry → Machine → Type 0
+KnowServing devices here past m = KnowBeside devices here past m × ((did : List Step) × KnowCuts did here past m × KnowAir devices did here past m)
+
+-- ---- of a run
+
+-- the chip's link keeps the rules, and by what that link did the controller puts on the air just what it takes
+pub record AirsByLink (whole : Bool) (devices : List State) (transcript : List Entry) : Type 0 where
+  pub link : KeepsLink Chip (ended whole transcript)
+  pub airs : AirsWhatIsTaken devices (course_of (joined link.parts)) (ended whole transcript)

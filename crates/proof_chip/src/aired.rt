@@ -1,0 +1,42 @@
+//! What the controller puts on the air.
+
+ghost use Rattle.std.specs.Prelude.{Bool, false, true, Option, Some, List, [], ℕ};
+ghost use Rattle.s0_crypto.specs.declared.key_pair.Keys.{Keys};
+ghost use Rattle.outside_model.specs.Devices.{State};
+ghost use Rattle.world_model.specs.State.{first_machine};
+ghost use Rattle.world_lines.specs.Spoken.{Spoken, transcript_of};
+ghost use Rattle.world_lines.specs.Done.{AreDone};
+ghost use Rattle.world_lines.specs.Whole.{AreWhole};
+ghost use Rattle.proof_chip.specs.Served.{AirsByLink};
+
+use crate::{calls_go_on, nodes_go_on};
+use proof_air::{history_goes_on, landings_go_on};
+use proof_line::spoken::world::lines_keep_and_ask_well;
+use proof_routes::networks_go_on;
+use proof_serial::hosts_write_well;
+use proof_traffic::hosts_obey_the_line;
+use proof_walk::time_goes_on;
+
+/// Over any lines from the first on, the last of which an allocation failure may have cut short, over a keeper that tells its records and has none at first,
+/// the chip's link keeps the rules of the serial line in time, and by what that link did the controller puts on the air just the frames of the SendData that
+/// are taken: each directly after the answer to its request, unless its node has no way then. Where all lines were run whole it is so up to the end of the
+/// last one.
+pub fn chips_air_what_is_taken()
+    ensures cut { (keys : Keys) (devices : List State) (lines : List Spoken) →
+        AreDone (first_machine keys (Some []) devices) lines →
+        AirsByLink false devices (transcript_of (first_machine keys (Some []) devices) lines) }
+    ensures whole { (keys : Keys) (devices : List State) (lines : List Spoken) →
+        AreDone (first_machine keys (Some []) devices) lines → AreWhole (first_machine keys (Some []) devices) lines →
+        AirsByLink true devices (transcript_of (first_machine keys (Some []) devices) lines) }
+{
+    chip_sim::rules_of_histories();
+    time_goes_on();
+    history_goes_on();
+    landings_go_on();
+    networks_go_on();
+    nodes_go_on();
+    calls_go_on();
+    hosts_obey_the_line();
+    hosts_write_well();
+    lines_keep_and_ask_well();
+}

@@ -1,0 +1,135 @@
+-- A host of `host` starts as a line `restart` after what hosts heard before, and goes on by its steps.
+use Rattle.std.proofs.Common.{◌≡◌, ℕ, Bool, true, false, List, [], ◌∷◌, ◌++◌, refl, sym, ap, ◌∙◌, subst, append_assoc, append-nil}
+use Rattle.std.specs.Prelude.{Option, Some, None, IsSome, length}
+use Rattle.s0_crypto.specs.declared.key_pair.Keys.{Keys}
+use Rattle.zw_text.specs.declared.line.Line.TheVariants as lines
+use Rattle.zw_text.specs.declared.entry.Entry.{Entry}
+use Rattle.zw_text.specs.declared.entry.Entry.TheVariants.{Said}
+use Rattle.host_keep.specs.Keeping.{OptAdds}
+use Rattle.host_keep.specs.Legal.{AreTextsOf}
+use Rattle.host_keep.specs.declared.record.Record.{Record}
+use Rattle.host_core.specs.Opening.{AreTold, Opens}
+use Rattle.host_model.specs.State.{HostParts, HostState, first_host}
+use Rattle.host_model.specs.Opening.{opened}
+use Rattle.host_model.specs.declared.out.HostOut.{HostOut}
+use Rattle.world_model.specs.State.{with_texts}
+use Rattle.world_model.specs.Events.{OpensFrom}
+use Rattle.port_run.specs.Steps.{Place, Step, Asks, Takes, Rests, Ticks, Pumps, AllRan}
+use Rattle.run_replay.specs.Machine.{Lone, entries_of}
+use Rattle.proof_alone.specs.State.{first_alone, host_machine}
+use Rattle.proof_alone.specs.Steps as step
+use Rattle.proof_alone.specs.Phases.{Asked, Open, Resting}
+use Rattle.proof_alone.specs.Runs.{Run, Told}
+use Rattle.proof_alone.specs.Runs.Run.{Begins, Stepped}
+use Rattle.proof_replay.specs.HostSteps.{HaveHeard, HearsMore, HearsRun, Holds, IsRunSteps, restart_word}
+use Rattle.proof_replay.specs.Laws.{HostsKeepLaws}
+use Rattle.proof_replay.proofs.Serving.{none_added, pump_part, restart_is, steps_go}
+use Rattle.proof_replay.proofs.Serving as serving
+
+-- ---- records
+
+-- where the keeper tells its records, they are those that the runs have
+abbrev Agrees : Option (List (List ℕ)) → Option (List (List ℕ)) → Type 0
+Agrees None held = Unit {0}
+Agrees (Some texts) held = held ≡ Some texts
+
+agrees_on : (records held : Option (List (List ℕ))) (texts : List (List ℕ)) → Agrees records held → Agrees (with_texts records texts) (with_texts held texts)
+agrees_on None held texts agrees = tt
+agrees_on (Some kept) held texts agrees = ap (λ (o : Option (List (List ℕ))). with_texts o texts) agrees
+
+agrees_first : (number : ℕ) (told held : Option (List (List ℕ))) → Holds number told held → Agrees told held
+agrees_first number None held holds = tt
+agrees_first number (Some texts) held holds = holds
+
+holds_last : (many : ℕ) (told held : Option (List (List ℕ))) → IsSome told → Agrees told held → Holds many told held
+holds_last many None held some agrees = let bad : false ≡ true = some in absurd cc
+holds_last many (Some texts) held some agrees = agrees
+
+-- ---- the host that starts
+
+-- nothing was heard before, where the keeper holds nothing
+pub none_before : (keys : Keys) (number : ℕ) (told : Option (List (List ℕ))) → Holds number told (Some []) → HaveHeard keys number told []
+none_before keys number told holds = record { held = Some []; state = first_host keys; clock = 0; awaits = false; run = Begins; holds = holds }
+
+none_of : (records : List Record) → length records ≡ 0 → AreTextsOf records []
+none_of [] none = tt
+none_of (one ∷ more) none = cc
+
+texts_held : (number : ℕ) (told held : Option (List (List ℕ))) (records : List Record) → Holds number told held → length records ≡ number → AreTold records told
+    → (texts : List (List ℕ)) × (held ≡ Some texts) × AreTextsOf records texts
+texts_held number None held records holds many are = ([], holds.1, none_of records (many ∙ holds.0))
+texts_held number (Some texts) held records holds many are = (texts, holds, are)
+
+opens_from : (keys : Keys) (number : ℕ) (told held : Option (List (List ℕ))) (host : HostParts) → Holds number told held → (opens : Opens keys number told host)
+    → OpensFrom keys held (opened keys opens.records)
+opens_from keys number told held host holds opens =
+    let (texts, same, are) = texts_held number told held opens.records holds opens.many opens.are in
+    subst (λ (o : Option (List (List ℕ))). OpensFrom keys o (opened keys opens.records)) (sym same) (opens.records, are, opens.legal, refl)
+
+module _ (laws : (keys : Keys) (heard : List Entry) → Told (first_alone keys (Some [])) heard → HostsKeepLaws heard)
+    (keys : Keys) (number : ℕ) (told : Option (List (List ℕ))) (past : List Entry) (before : HaveHeard keys number told past) (place : Place) (opens : Opens keys number told place.host)
+    (adds : OptAdds told place.shelf.records []) where
+  abbrev restarted : List Entry
+  restarted = past ++ Said restart_word ∷ []
+
+  started : (held : Option (List (List ℕ))) × Agrees place.shelf.records held × Run (first_alone keys (Some [])) Open restarted (host_machine keys held place.host.state [] before.clock 0 false)
+  started =
+      let state : HostState = opened keys opens.records in
+      let said : Run (first_alone keys (Some [])) (Asked lines.Restart) restarted (host_machine keys before.held before.state [] before.clock 0 false) =
+      Stepped (step.Says restart_word lines.Restart) (refl, refl, restart_is, refl) refl refl before.run in
+      let there : Run (first_alone keys (Some [])) Open restarted (host_machine keys before.held state [] before.clock 0 false) =
+      Stepped (step.Restarts state) (refl, opens_from keys number told before.held place.host before.holds opens, refl) (sym (append-nil restarted)) refl said in (
+        before.held,
+        subst (λ (r : Option (List (List ℕ))). Agrees r before.held) (sym (none_added told place.shelf.records adds)) (agrees_first number told before.held before.holds),
+        subst (λ (h : HostParts). Run (first_alone keys (Some [])) Open restarted (host_machine keys before.held h.state [] before.clock 0 false)) (sym opens.state) there,
+      )
+
+  -- what was heard, after what had been
+  all_heard : (heard : List Entry) → restarted ++ heard ≡ past ++ Said restart_word ∷ heard
+  all_heard heard = append_assoc past (Said restart_word ∷ []) heard
+
+  abbrev Rested : List Entry → Lone → Type 0
+  Rested all m = serving.Rests0 (first_alone keys (Some [])) keys Agrees agrees_on all m
+
+  hears_so : (whole : Bool) (steps : List Step) (last : Place) (heard : List Entry) (m : Lone) → HearsRun before.clock steps place last heard → Rested (restarted ++ heard) m
+      → (whole ≡ true → m.records ≡ last.shelf.records) → HearsMore keys past before.clock whole steps place last
+  hears_so whole steps last heard m hears rests records =
+      let (awaits, (held, agrees, run)) = rests in
+      let all : Run (first_alone keys (Some [])) Resting (past ++ Said restart_word ∷ heard) (host_machine keys held m.host.state [] m.clock 0 awaits) =
+      subst (λ (l : List Entry). Run (first_alone keys (Some [])) Resting l (host_machine keys held m.host.state [] m.clock 0 awaits)) (all_heard heard) run in
+      record {
+        heard = heard;
+        hears = hears;
+        keeps = laws keys (past ++ Said restart_word ∷ heard) (Resting, host_machine keys held m.host.state [] m.clock 0 awaits, all);
+        next = λ is many some. record {
+          held = held;
+          state = m.host.state;
+          clock = m.clock;
+          awaits = awaits;
+          run = all;
+          holds = holds_last many last.shelf.records held some (subst (λ (r : Option (List (List ℕ))). Agrees r held) (records is) agrees);
+        };
+      }
+
+  pub hears_more : (whole : Bool) (steps : List Step) (last : Place) (outs : List HostOut) → IsRunSteps whole steps → AllRan steps place last outs
+      → HearsMore keys past before.clock whole steps place last
+  hears_more whole [] last outs none ran =
+      let (held, agrees, run) = started in
+      let all : Run (first_alone keys (Some [])) Open (past ++ Said restart_word ∷ []) (host_machine keys held place.host.state [] before.clock 0 false) = run in
+      record {
+        heard = [];
+        hears = (ran.0, refl);
+        keeps = laws keys (past ++ Said restart_word ∷ []) (Open, host_machine keys held place.host.state [] before.clock 0 false, all);
+        next = λ is many some. let bad : false ≡ true = sym none ∙ is in absurd cc;
+      }
+  hears_more whole (Pumps ∷ steps) last outs orderly (mid, first, later, pumped, more, are) =
+      let start = first_alone keys (Some []) in
+      let (heard, hears, m, rests, records) =
+      steps_go start keys Agrees agrees_on whole steps (restarted ++ entries_of first) before.clock mid last later orderly more
+      (pump_part start keys Agrees agrees_on restarted before.clock place mid first pumped started) in
+      hears_so whole (Pumps ∷ steps) last (entries_of first ++ heard) m (mid, first, heard, pumped, hears, refl)
+      (subst (λ (l : List Entry). Rested l m) (append_assoc restarted (entries_of first) heard) rests) records
+  hears_more whole (Asks line answer ∷ steps) last outs orderly ran = absurd orderly
+  hears_more whole (Takes bytes ∷ steps) last outs orderly ran = absurd orderly
+  hears_more whole (Rests ∷ steps) last outs orderly ran = absurd orderly
+  hears_more whole (Ticks ∷ steps) last outs orderly ran = absurd orderly
