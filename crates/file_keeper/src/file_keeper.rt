@@ -64,8 +64,10 @@ impl<S: Store> FileKeeper<S> {
         ensures closed { OnErr result (self.new.is_open ≡ false) }
         ensures foreign { result ≡ Err OpenFault.Foreign → IsForeign (S.held self.old.store) }
         ensures unread { OnErr result (self.new.records ≡ self.old.records) }
+        ensures held { S.held self.new.store ≡ S.held self.old.store }
         ensures failed { result ≡ Err OpenFault.Failed → Rose (S.faults self.old.store) (S.faults self.new.store) }
         ensures counted { result ≡ Err OpenFault.Failed → self.new.faults ≡ raised self.old.faults }
+        ensures uncounted { ¬ (result ≡ Err OpenFault.Failed) → self.new.faults ≡ self.old.faults }
         ensures reads { self.new.reads ≡ self.old.reads }
     {
         self.is_open = false;

@@ -1,19 +1,21 @@
--- A side that hears nothing writes copies of one frame before another, the second one sixteen ticks after the first.
-use Rattle.std.proofs.Common.{◌≡◌, ℕ, suc, List, [], ◌∷◌, ◌++◌, map, refl, sym, ap, subst, ◌∙◌, inl, inr, arith}
+-- A side that hears nothing writes four copies of one frame before another: the second 16 ticks after the first, the third 26 and the fourth 36 after the one before.
+use Rattle.std.proofs.Common.{◌≡◌, ℕ, suc, Bool, true, false, List, [], ◌∷◌, ◌++◌, map, length, refl, sym, ap, subst, ◌∙◌, inl, inr, arith}
 use Rattle.std.specs.List.{flat_map}
-use Rattle.std.specs.Prelude.{zero, ⊤, ◌+◌}
-use Rattle.std.proofs.lemmas.List.{append-nil, append_assoc}
+use Rattle.std.specs.Prelude.{zero, ⊤, ◌+◌, nat_lt}
+use Rattle.std.proofs.lemmas.List.{append-nil, append_assoc, length-append}
 use Rattle.std.proofs.lemmas.List.Concat.{flat_map-append}
 use Rattle.serial_frame.specs.Frame.{FrameParts}
 use Rattle.serial_frame.specs.Items.{unit_text}
 use Rattle.serial_frame.specs.declared.item.Item.TheVariants.{Good, Refused}
 use Rattle.serial_frame.specs.declared.unit.Unit.TheVariants.{Ack, Nak, Can, Framed}
 use Rattle.serial_link.specs.Rules.{Event, heard, ticked, submitted, asked, Step, IsLife, EndsCopy, Silent, Submits, Pauses, Copies, Stands, Turns, ArePast, Answers, own_of, outs_of, item_of, items_of, tick_count, ticks_of, answers_of, collides}
+use Rattle.serial_link.specs.State.{pause_after}
 use Rattle.serial_link.specs.declared.turn.Turn.{Turn}
 use Rattle.serial_link.specs.declared.turn.Turn.TheVariants.{Idle, Copied, Paused}
 use Rattle.serial_link.specs.declared.out.LinkOut.{LinkOut}
 use Rattle.serial_link.specs.declared.out.LinkOut.TheVariants.{Write, Got, Sent, Failed, Bad}
 use Rattle.serial_link.proofs.Counting.{ticks_of-append}
+use Rattle.law_transcript.specs.Lists.{last_or}
 use Rattle.law_wire.specs.Links.{text_of}
 use Rattle.law_wire.proofs.Silence.{not_empty, rest_none, prefix_none, unanswered, texts}
 
@@ -129,116 +131,149 @@ submits_own count f steps s =
 submits_ticks : (f : FrameParts) (steps : List Step) → Submits f steps → ticks_of steps ≡ 0
 submits_ticks f steps s = ap ticks_of s.alone ∙ ap (λ (event : Event). tick_count event + 0) s.event
 
--- two copies of a frame
-pub record BeginTwice (all : List Stamp) : Type 0 where
+-- a claim that is made where that is so
+abbrev pub Where : Bool → Type 0 → Type 0
+Where true claim = claim
+Where false claim = ⊤
+
+where_so : (so : Bool) {P Q : Type 0} → (P → Q) → Where so P → Where so Q
+where_so true goes claim = goes claim
+where_so false goes claim = tt
+
+where_it : (so : Bool) {P : Type 0} → P → Where so P
+where_it true claim = claim
+where_it false claim = tt
+
+-- a unit is the copy after so many of the one before: it comes with the last tick of the pause after the fifteen ticks of that
+pub record IsCopy (copies : ℕ) (last next : Stamp) : Type 0 where
+  pub same : last.text ≡ next.text
+  pub before : suc next.before ≡ last.at + (15 + pause_after copies)
+  pub at : next.at ≡ last.at + (15 + pause_after copies)
+
+-- the units after one are its copies, each in its time, up to the fourth
+abbrev pub AreCopies : ℕ → Stamp → List Stamp → Type 0
+AreCopies copies last [] = ⊤
+AreCopies copies last (next ∷ more) = Where (nat_lt copies 4) (IsCopy copies last next × AreCopies (suc copies) next more)
+
+-- one copy more
+copy_more : (copies : ℕ) (first : Stamp) (later : List Stamp) (next : Stamp) → IsCopy (copies + length later) (last_or first later) next
+    → AreCopies copies first later → AreCopies copies first (later ++ next ∷ [])
+copy_more copies first [] next is are =
+    let same : copies + 0 ≡ copies = omega arith in
+    where_it (nat_lt copies 4) (subst (λ (number : ℕ). IsCopy number first next) same is, tt)
+copy_more copies first (one ∷ later) next is are =
+    let same : copies + length (one ∷ later) ≡ suc copies + length later = omega arith in
+    where_so (nat_lt copies 4) (λ both. (both.0, copy_more (suc copies) one later next (subst (λ (number : ℕ). IsCopy number (last_or one later) next) same is) both.1)) are
+
+-- after the fourth may stand what will
+after_four : (copies : ℕ) (first : Stamp) (later rest : List Stamp) → copies + length later ≡ 4 → AreCopies copies first later → AreCopies copies first (later ++ rest)
+after_four copies first [] [] four are = tt
+after_four copies first [] (next ∷ rest) four are =
+    let same : 4 ≡ copies = omega (arith, four) in subst (λ (number : ℕ). AreCopies number first (next ∷ rest)) same tt
+after_four copies first (one ∷ later) rest four are =
+    let fewer : suc copies + length later ≡ 4 = omega (arith, four) in
+    where_so (nat_lt copies 4) (λ both. (both.0, after_four (suc copies) one later rest fewer both.1)) are
+
+last_more : (first : Stamp) (later : List Stamp) (next : Stamp) → last_or first (later ++ next ∷ []) ≡ next
+last_more first [] next = refl
+last_more first (one ∷ later) next = last_more one later next
+
+-- the first copy, and so many later ones, the last of which is at this tick
+pub record AreWritten (f : FrameParts) (number : ℕ) (all : List Stamp) (end : ℕ) : Type 0 where
   pub first : Stamp
-  pub second : Stamp
-  pub more : List Stamp
-  pub are : all ≡ first ∷ second ∷ more
-  pub same : first.text ≡ second.text
-  pub before : second.before ≡ first.at + 15
-  pub at : second.at ≡ first.at + 16
+  pub later : List Stamp
+  pub are : all ≡ first ∷ later
+  pub count : length later ≡ number
+  pub copies : AreCopies 1 first later
+  pub text : (last_or first later).text ≡ unit_text (Framed f)
+  pub at : (last_or first later).at ≡ end
 
-begin_more : (one other : List Stamp) → BeginTwice one → BeginTwice (one ++ other)
-begin_more one other b = record {
-  first = b.first;
-  second = b.second;
-  more = b.more ++ other;
-  are = ap (λ (all : List Stamp). all ++ other) b.are;
-  same = b.same;
-  before = b.before;
-  at = b.at;
-}
-
-copies_begin : (f : FrameParts) (n count : ℕ) (steps : List Step) → items_of steps ≡ [] → Copies f (suc (suc n)) steps → BeginTwice (own_stamps count steps)
-copies_begin f zero count steps none (before, paused, step, earlier, parts, ticks, pauses, due, event, own) =
-    let text : List ℕ = unit_text (Framed f) in
-    let next : ℕ = count + ticks_of (before ++ paused) in
-    let all : items_of (before ++ paused) ++ items_of (step ∷ []) ≡ [] =
-    sym (items-append (before ++ paused) (step ∷ [])) ∙ sym (ap items_of parts) ∙ none
-    in
-    let unheard : items_of paused ≡ [] =
-    rest_none (items_of before) (items_of paused) (sym (items-append before paused) ∙ prefix_none (items_of (before ++ paused)) (items_of (step ∷ [])) all)
-    in
-    let sum : ticks_of (before ++ paused) ≡ ticks_of before + ticks_of paused = ticks_of-append before paused in
-    let early : ticks_of before ≡ 0 = submits_ticks f before earlier in
-    let long : ticks_of paused ≡ 15 + ticks = pause_ticks paused ticks pauses unheard in
-    let last : tick_count step.event ≡ 1 = ap tick_count event in
-    let short : ticks + 1 ≡ 1 = due in
-    let later : next ≡ (count + 0) + 15 = omega (arith, sum, early, long, short) in
-    let with_it : next + tick_count step.event ≡ (count + 0) + 16 = omega (arith, later, last) in
+copies_own : (f : FrameParts) (n count : ℕ) (steps : List Step) → items_of steps ≡ [] → Copies f (suc n) steps
+    → AreWritten f n (own_stamps count steps) (count + ticks_of steps)
+copies_own f zero count steps none copied =
+    let early : ticks_of steps ≡ 0 = submits_ticks f steps copied in
     record {
-      first = stamp count (submitted f) text;
-      second = stamp next step.event text;
-      more = [];
-      are = ap (own_stamps count) parts ∙ stamps-append own_of count (before ++ paused) (step ∷ [])
-          ∙ ap (λ (first : List Stamp). first ++ own_stamps next (step ∷ []))
-          (stamps-append own_of count before paused
-          ∙ ap (λ (later : List Stamp). own_stamps count before ++ later) (pauses_own (count + ticks_of before) paused ticks pauses)
-          ∙ append-nil (own_stamps count before) ∙ submits_own count f before earlier)
-          ∙ ap (λ outs. stamp count (submitted f) text ∷ (map (stamp next step.event) (flat_map text_of outs) ++ [])) own;
-      same = refl;
-      before = later;
-      at = with_it;
+      first = stamp count (submitted f) (unit_text (Framed f));
+      later = [];
+      are = submits_own count f steps copied;
+      count = refl;
+      copies = tt;
+      text = refl;
+      at = omega (arith, early);
     }
-copies_begin f (suc n) count steps none (before, paused, step, earlier, parts, ticks, pauses, due, event, own) =
+copies_own f (suc n) count steps none (before, paused, step, earlier, parts, ticks, pauses, due, event, own) =
     let all : items_of (before ++ paused) ++ items_of (step ∷ []) ≡ [] =
     sym (items-append (before ++ paused) (step ∷ [])) ∙ sym (ap items_of parts) ∙ none
     in
-    let unheard : items_of before ≡ [] =
-    prefix_none (items_of before) (items_of paused) (sym (items-append before paused) ∙ prefix_none (items_of (before ++ paused)) (items_of (step ∷ [])) all)
+    let both : items_of before ++ items_of paused ≡ [] = sym (items-append before paused) ∙ prefix_none (items_of (before ++ paused)) (items_of (step ∷ [])) all in
+    let c = copies_own f n count before (prefix_none (items_of before) (items_of paused) both) earlier in
+    let next : Stamp = stamp (count + ticks_of (before ++ paused)) step.event (unit_text (Framed f)) in
+    let sum : ticks_of (before ++ paused) ≡ ticks_of before + ticks_of paused = ticks_of-append before paused in
+    let long : ticks_of paused ≡ 15 + ticks = pause_ticks paused ticks pauses (rest_none (items_of before) (items_of paused) both) in
+    let one : tick_count step.event ≡ 1 = ap tick_count event in
+    let number : 1 + length c.later ≡ suc n = omega (arith, c.count) in
+    let wait : pause_after (1 + length c.later) ≡ ticks + 1 = ap pause_after number ∙ sym due in
+    let is : IsCopy (1 + length c.later) (last_or c.first c.later) next =
+    record { same = c.text; before = omega (arith, c.at, sum, long, wait); at = omega (arith, c.at, sum, long, wait, one) }
     in
-    subst BeginTwice
-    (sym (ap (own_stamps count) parts ∙ stamps-append own_of count (before ++ paused) (step ∷ [])
-    ∙ ap (λ (first : List Stamp). first ++ own_stamps (count + ticks_of (before ++ paused)) (step ∷ [])) (stamps-append own_of count before paused)))
-    (begin_more (own_stamps count before ++ own_stamps (count + ticks_of before) paused) (own_stamps (count + ticks_of (before ++ paused)) (step ∷ []))
-    (begin_more (own_stamps count before) (own_stamps (count + ticks_of before) paused) (copies_begin f n count before unheard earlier)))
+    let whole : ticks_of steps ≡ ticks_of (before ++ paused) + (tick_count step.event + 0) = ap ticks_of parts ∙ ticks_of-append (before ++ paused) (step ∷ []) in
+    let at_end : next.at ≡ count + ticks_of steps = omega (arith, whole) in
+    record {
+      first = c.first;
+      later = c.later ++ next ∷ [];
+      are = ap (own_stamps count) parts ∙ stamps-append own_of count (before ++ paused) (step ∷ [])
+          ∙ ap (λ (here : List Stamp). here ++ own_stamps (count + ticks_of (before ++ paused)) (step ∷ []))
+          (stamps-append own_of count before paused
+          ∙ ap (λ (after : List Stamp). own_stamps count before ++ after) (pauses_own (count + ticks_of before) paused ticks pauses)
+          ∙ append-nil (own_stamps count before) ∙ c.are)
+          ∙ ap (λ outs. c.first ∷ (c.later ++ (map (stamp (count + ticks_of (before ++ paused)) step.event) (flat_map text_of outs) ++ []))) own;
+      count = omega (arith, length-append c.later (next ∷ []), c.count);
+      copies = copy_more 1 c.first c.later next is c.copies;
+      text = ap (λ (one : Stamp). one.text) (last_more c.first c.later next);
+      at = ap (λ (one : Stamp). one.at) (last_more c.first c.later next) ∙ at_end;
+    }
 
--- ---- the first two are one
+-- ---- units are copies of the first one
 
-abbrev pub AreTwins : List Stamp → Type 0
-AreTwins (first ∷ second ∷ more) = (first.text ≡ second.text) × (second.before ≡ first.at + 15) × (second.at ≡ first.at + 16)
-AreTwins _ = ⊤
-
-are_twins : (all : List Stamp) → BeginTwice all → AreTwins all
-are_twins all b = subst AreTwins (sym b.are) (b.same, b.before, b.at)
+abbrev pub AreTimed : List Stamp → Type 0
+AreTimed [] = ⊤
+AreTimed (first ∷ more) = AreCopies 1 first more
 
 -- so of copies, after which nothing of the side's own is written
-copies_twins : (f : FrameParts) (copies count : ℕ) (before after : List Step) → items_of before ≡ [] → Copies f copies before
-    → own_stamps (count + ticks_of before) after ≡ [] → AreTwins (own_stamps count (before ++ after))
-copies_twins f zero count before after none copied silent = absurd copied
-copies_twins f (suc zero) count before after none copied silent =
-    subst AreTwins
-    (sym (stamps-append own_of count before after ∙ ap (λ (later : List Stamp). own_stamps count before ++ later) silent ∙ append-nil (own_stamps count before)
-    ∙ submits_own count f before copied)) tt
-copies_twins f (suc (suc n)) count before after none copied silent =
-    are_twins (own_stamps count (before ++ after))
-    (subst BeginTwice (sym (stamps-append own_of count before after))
-    (begin_more (own_stamps count before) (own_stamps (count + ticks_of before) after) (copies_begin f n count before none copied)))
+copies_timed : (f : FrameParts) (copies count : ℕ) (before after : List Step) → items_of before ≡ [] → Copies f copies before
+    → own_stamps (count + ticks_of before) after ≡ [] → AreTimed (own_stamps count (before ++ after))
+copies_timed f zero count before after none copied silent = absurd copied
+copies_timed f (suc n) count before after none copied silent =
+    let c = copies_own f n count before none copied in
+    subst AreTimed
+    (sym (stamps-append own_of count before after ∙ ap (λ (later : List Stamp). own_stamps count before ++ later) silent
+    ∙ append-nil (own_stamps count before) ∙ c.are)) c.copies
 
 first_unheard : (steps before after : List Step) → steps ≡ before ++ after → items_of steps ≡ [] → items_of before ≡ []
 first_unheard steps before after parts none = prefix_none (items_of before) (items_of after) (sym (items-append before after) ∙ sym (ap items_of parts) ∙ none)
 
-stands_twins : (turn : Turn) (count : ℕ) (steps : List Step) → items_of steps ≡ [] → Stands turn steps → AreTwins (own_stamps count steps)
-stands_twins Idle count steps none stands = subst AreTwins (sym (silent_own _ count steps stands)) tt
-stands_twins (Copied f copies ticks) count steps none (before, wait, parts, few, copied, waits) =
-    subst (λ (all : List Step). AreTwins (own_stamps count all)) (sym parts)
-    (copies_twins f copies count before wait (first_unheard steps before wait parts none) copied (silent_own _ (count + ticks_of before) wait waits.silent))
-stands_twins (Paused f copies ticks) count steps none (before, paused, parts, few, copied, pauses, early) =
-    subst (λ (all : List Step). AreTwins (own_stamps count all)) (sym parts)
-    (copies_twins f copies count before paused (first_unheard steps before paused parts none) copied (pauses_own (count + ticks_of before) paused ticks pauses))
+stands_timed : (turn : Turn) (count : ℕ) (steps : List Step) → items_of steps ≡ [] → Stands turn steps → AreTimed (own_stamps count steps)
+stands_timed Idle count steps none stands = subst AreTimed (sym (silent_own _ count steps stands)) tt
+stands_timed (Copied f copies ticks) count steps none (before, wait, parts, few, copied, waits) =
+    subst (λ (all : List Step). AreTimed (own_stamps count all)) (sym parts)
+    (copies_timed f copies count before wait (first_unheard steps before wait parts none) copied (silent_own _ (count + ticks_of before) wait waits.silent))
+stands_timed (Paused f copies ticks) count steps none (before, paused, parts, few, copied, pauses, early) =
+    subst (λ (all : List Step). AreTimed (own_stamps count all)) (sym parts)
+    (copies_timed f copies count before paused (first_unheard steps before paused parts none) copied (pauses_own (count + ticks_of before) paused ticks pauses))
 
 -- a frame that failed was written four times
 four_own : (f : FrameParts) (ticks count : ℕ) (steps later : List Step) → items_of steps ≡ [] → Stands (Copied f 4 ticks) steps
-    → AreTwins (own_stamps count (steps ++ later))
+    → AreTimed (own_stamps count (steps ++ later))
 four_own f ticks count steps later none (before, wait, parts, few, copied, waits) =
-    are_twins (own_stamps count (steps ++ later))
-    (subst BeginTwice (sym (stamps-append own_of count steps later))
-    (begin_more (own_stamps count steps) (own_stamps (count + ticks_of steps) later)
-    (subst (λ (all : List Step). BeginTwice (own_stamps count all)) (sym parts)
-    (subst BeginTwice (sym (stamps-append own_of count before wait))
-    (begin_more (own_stamps count before) (own_stamps (count + ticks_of before) wait)
-    (copies_begin f 2 count before (first_unheard steps before wait parts none) copied))))))
+    let c = copies_own f 3 count before (first_unheard steps before wait parts none) copied in
+    let waiting : List Stamp = own_stamps (count + ticks_of before) wait in
+    let more : List Stamp = own_stamps (count + ticks_of steps) later in
+    let four : 1 + length c.later ≡ 4 = omega (arith, c.count) in
+    subst AreTimed
+    (sym (stamps-append own_of count steps later
+    ∙ ap (λ (here : List Stamp). here ++ more) (ap (own_stamps count) parts ∙ stamps-append own_of count before wait ∙ ap (λ (here : List Stamp). here ++ waiting) c.are)
+    ∙ ap (λ (rest : List Stamp). c.first ∷ rest) (append_assoc c.later waiting more)))
+    (after_four 1 c.first c.later (waiting ++ more) four c.copies)
 
 -- nothing heard, no acknowledgement either
 pub not_sent : (steps : List Step) (last : Step) → items_of (steps ++ last ∷ []) ≡ [] → last.event ≡ heard (Good Ack) → ⊥
@@ -246,37 +281,37 @@ not_sent steps last none event =
     not_empty _ _ (sym (ap (λ (one : Event). item_of one ++ []) event)
     ∙ rest_none (items_of steps) (items_of (last ∷ [])) (sym (items-append steps (last ∷ [])) ∙ none))
 
-life_twins : (count : ℕ) (steps later : List Step) → IsLife steps → items_of steps ≡ [] → AreTwins (own_stamps count (steps ++ later))
-life_twins count steps later life none =
+life_timed : (count : ℕ) (steps later : List Step) → IsLife steps → items_of steps ≡ [] → AreTimed (own_stamps count (steps ++ later))
+life_timed count steps later life none =
     let unheard : items_of (life.life ++ life.last ∷ []) ≡ [] = sym (ap items_of life.parts) ∙ none in
     elim life.ends [
       | inl sent ↦ absurd (not_sent life.life life.last unheard sent.event)
-      | inr fails ↦ subst (λ (all : List Step). AreTwins (own_stamps count all))
+      | inr fails ↦ subst (λ (all : List Step). AreTimed (own_stamps count all))
           (sym (ap (λ (all : List Step). all ++ later) life.parts ∙ append_assoc life.life (life.last ∷ []) later))
           (four_own fails.frame fails.ticks count life.life (life.last ∷ later)
           (prefix_none (items_of life.life) (items_of (life.last ∷ [])) (sym (items-append life.life (life.last ∷ [])) ∙ unheard)) fails.stands)
     ]
 
-all_twins : (count : ℕ) (past : List (List Step)) (now : List Step) (turn : Turn) → ArePast past → Stands turn now
-    → items_of (flat_map (λ steps. steps) past ++ now) ≡ [] → AreTwins (own_stamps count (flat_map (λ steps. steps) past ++ now))
-all_twins count [] now turn are stands none = stands_twins turn count now none stands
-all_twins count (steps ∷ past) now turn are stands none =
+all_timed : (count : ℕ) (past : List (List Step)) (now : List Step) (turn : Turn) → ArePast past → Stands turn now
+    → items_of (flat_map (λ steps. steps) past ++ now) ≡ [] → AreTimed (own_stamps count (flat_map (λ steps. steps) past ++ now))
+all_timed count [] now turn are stands none = stands_timed turn count now none stands
+all_timed count (steps ∷ past) now turn are stands none =
     let rest : List Step = flat_map (λ steps. steps) past ++ now in
     let cut : (steps ++ flat_map (λ steps. steps) past) ++ now ≡ steps ++ rest = append_assoc steps (flat_map (λ steps. steps) past) now in
     let parts : items_of steps ++ items_of rest ≡ [] = sym (items-append steps rest) ∙ sym (ap items_of cut) ∙ none in
-    subst (λ (all : List Step). AreTwins (own_stamps count all)) (sym cut) (elim are.0 [
-      | inl life ↦ life_twins count steps rest life (prefix_none (items_of steps) (items_of rest) parts)
-      | inr silent ↦ subst AreTwins
+    subst (λ (all : List Step). AreTimed (own_stamps count all)) (sym cut) (elim are.0 [
+      | inl life ↦ life_timed count steps rest life (prefix_none (items_of steps) (items_of rest) parts)
+      | inr silent ↦ subst AreTimed
           (sym (stamps-append own_of count steps rest ∙ ap (λ (first : List Stamp). first ++ own_stamps (count + ticks_of steps) rest) (silent_own _ count steps silent)))
-          (all_twins (count + ticks_of steps) past now turn are.1 stands (rest_none (items_of steps) (items_of rest) parts))
+          (all_timed (count + ticks_of steps) past now turn are.1 stands (rest_none (items_of steps) (items_of rest) parts))
     ])
 
--- where nothing is heard, the first two units are copies of one frame
-pub writes_twins : (history : List Step) (turn : Turn) → Answers [] history → Turns history turn → items_of history ≡ [] → AreTwins (stamps 0 history)
-writes_twins history turn answers turns none =
-    subst AreTwins (sym (writes_own 0 [] history answers none))
-    (subst (λ (all : List Step). AreTwins (own_stamps 0 all)) (sym turns.parts)
-    (all_twins 0 turns.past turns.now turn turns.are_past turns.stands (sym (ap items_of turns.parts) ∙ none)))
+-- where nothing is heard, all units up to the fourth are copies of one frame
+pub writes_timed : (history : List Step) (turn : Turn) → Answers [] history → Turns history turn → items_of history ≡ [] → AreTimed (stamps 0 history)
+writes_timed history turn answers turns none =
+    subst AreTimed (sym (writes_own 0 [] history answers none))
+    (subst (λ (all : List Step). AreTimed (own_stamps 0 all)) (sym turns.parts)
+    (all_timed 0 turns.past turns.now turn turns.are_past turns.stands (sym (ap items_of turns.parts) ∙ none)))
 
 -- and have the same text
 stamps_text : (count : ℕ) (event : Event) (units : List (List ℕ)) → map (λ (one : Stamp). one.text) (map (stamp count event) units) ≡ units
@@ -301,11 +336,11 @@ abbrev pub AreSame : List (List ℕ) → Type 0
 AreSame (first ∷ second ∷ more) = first ≡ second
 AreSame _ = ⊤
 
-twins_same : (all : List Stamp) → AreTwins all → AreSame (map (λ (one : Stamp). one.text) all)
-twins_same [] twins = tt
-twins_same (first ∷ []) twins = tt
-twins_same (first ∷ second ∷ more) twins = twins.0
+timed_same : (all : List Stamp) → AreTimed all → AreSame (map (λ (one : Stamp). one.text) all)
+timed_same [] timed = tt
+timed_same (first ∷ []) timed = tt
+timed_same (first ∷ second ∷ more) timed = timed.0.same
 
 pub writes_same : (history : List Step) (turn : Turn) → Answers [] history → Turns history turn → items_of history ≡ [] → AreSame (texts history)
 writes_same history turn answers turns none =
-    subst AreSame (stamped_texts 0 history) (twins_same (stamps 0 history) (writes_twins history turn answers turns none))
+    subst AreSame (stamped_texts 0 history) (timed_same (stamps 0 history) (writes_timed history turn answers turns none))

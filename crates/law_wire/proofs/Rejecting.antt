@@ -1,22 +1,23 @@
 -- That links cannot have done what some transcripts show: leave a frame unanswered, answer CAN unasked, write a copy too early or too late, and keep a report.
 use Rattle.std.proofs.Common.{◌≡◌, ℕ, List, [], ◌∷◌, ◌++◌, length, refl, ap, subst, arith}
-use Rattle.std.specs.Prelude.{true, codes, zero, suc, ◌≤◌, ◌+◌, take, drop}
+use Rattle.std.specs.Prelude.{true, codes, zero, suc, ◌≤◌, take, drop}
 use Rattle.std.specs.List.{AllByRecursion}
-use Rattle.serial_link.specs.Rules.{Step, items_of, ticks_of, asks_of}
-use Rattle.serial_link.proofs.Counting.{asks_of-append, ticks_of-append}
+use Rattle.serial_link.specs.Rules.{Step, items_of, asks_of}
+use Rattle.serial_link.proofs.Counting.{asks_of-append}
 use Rattle.zw_words.specs.declared.side.Side.TheVariants.{Chip, Host}
+use Rattle.zw_text.specs.declared.entry.Entry.{Entry}
 use Rattle.law_transcript.specs.Lists.{EachAfter}
 use Rattle.law_transcript.specs.Worked.{bytes, the_switch}
 use Rattle.law_wire.specs.Answering.{IsIdleAfter, steps_up_to, waiting, ServesHost}
 use Rattle.law_wire.specs.Asked.{course_of}
-use Rattle.law_wire.specs.Links.{Moment, moments_of, joined, steps_in, AreFirst, WritesThere, TicksInTime, CollidesAsTold, KeepsLink}
-use Rattle.law_wire.specs.Serial.{serial_events, ended}
+use Rattle.law_wire.specs.Links.{Moment, Obeys, moments_of, joined, steps_in, AreFirst, CollidesAsTold, KeepsLink}
+use Rattle.law_wire.specs.Serial.{SerialEvent, serial_events, ended}
 use Rattle.law_wire.specs.WorkedLinks.{unanswered, refused_by_host, copied_in}
 use Rattle.law_wire.specs.WorkedWrong.{kept_to_itself}
-use Rattle.law_wire.proofs.Apart.{apart, take_each, take_all, ticks_counted, none_in_line, one_in_tick}
+use Rattle.law_wire.proofs.Apart.{AreWithin, clocks_of, events_are, within}
 use Rattle.law_wire.proofs.Computing.{reckoning}
-use Rattle.law_wire.proofs.Overspeaking.{writes_twins}
-use Rattle.law_wire.proofs.Parts.{first_part, fill, filled_same, all_texts, texts_written, nothing_heard, is_heard}
+use Rattle.law_wire.proofs.Overspeaking.{AreTimed, Stamp, stamps, writes_timed}
+use Rattle.law_wire.proofs.Parts.{first_part, fill, filled_same, all_texts, texts_written, none_arrive, nothing_heard, is_heard}
 use Rattle.law_wire.proofs.Replies.{IsNoCan, answers_first, answers_later, heard_short, no_can}
 use Rattle.law_wire.proofs.Silence.{idle}
 
@@ -57,52 +58,89 @@ no_collision given =
 
 -- ---- copies
 
--- a tick too early: of the fifteen ticks before the copy the last is the copy's own
-pub too_early : KeepsLink Chip (copied_in 15) → ⊥
+-- what the chip writes where nothing comes are copies, each in the tick in which it stands
+pub record AreTold (transcript : List Entry) : Type 0 where
+  pub all : List Stamp
+  pub timed : AreTimed all
+  pub within : AreWithin (clocks_of Chip 0 (serial_events transcript)) all
+
+told : (transcript : List Entry) (link : KeepsLink Chip transcript) → none_arrive Chip [] (moments_of (serial_events transcript) link.parts) ≡ true
+    → (obeys : Obeys (moments_of (serial_events transcript) link.parts)) → AreTold transcript
+told transcript link none obeys =
+    let moments : List Moment = moments_of (serial_events transcript) link.parts in
+    record {
+      all = stamps 0 (steps_in moments);
+      timed = writes_timed (steps_in moments) obeys.0.turn obeys.1.answers obeys.1.turns (nothing_heard Chip [] moments none link.hears);
+      within = subst (λ (events : List SerialEvent). AreWithin (clocks_of Chip 0 events) (stamps 0 (steps_in moments)))
+          (events_are (serial_events transcript) link.parts link.each)
+          (within Chip 0 0 [] moments (record { all = refl; here = omega arith }) link.writes link.ticks);
+    }
+
+-- the first unit stands in a line, and so the next ones come with these ticks
+second_at : (tick : ℕ) (clocks : List ℕ) (all : List Stamp) → AreTimed all → AreWithin (0 ∷ tick ∷ clocks) all → tick ≡ 16
+second_at tick clocks (first ∷ second ∷ more) (copy, later) (start, from, (at, before, rest)) = omega (arith, start, at, before, copy.before, copy.at)
+second_at tick clocks (first ∷ []) timed (start, from, never) = absurd never
+second_at tick clocks [] timed never = absurd never
+
+third_at : (second tick : ℕ) (clocks : List ℕ) (all : List Stamp) → AreTimed all → AreWithin (0 ∷ second ∷ tick ∷ clocks) all → tick ≡ 42
+third_at second tick clocks (first ∷ next ∷ third ∷ more) (one, (copy, later)) (start, from, (again, since, (at, before, rest))) =
+    omega (arith, start, at, before, one.at, copy.before, copy.at)
+third_at second tick clocks (first ∷ next ∷ []) timed (start, from, (again, since, never)) = absurd never
+third_at second tick clocks (first ∷ []) timed (start, from, never) = absurd never
+third_at second tick clocks [] timed never = absurd never
+
+fourth_at : (second third tick : ℕ) (clocks : List ℕ) (all : List Stamp) → AreTimed all → AreWithin (0 ∷ second ∷ third ∷ tick ∷ clocks) all → tick ≡ 78
+fourth_at second third tick clocks (first ∷ next ∷ later ∷ fourth ∷ more) (one, (two, (copy, rest))) (start, from, (again, since, (once, so, (at, before, others)))) =
+    omega (arith, start, at, before, one.at, two.at, copy.before, copy.at)
+fourth_at second third tick clocks (first ∷ next ∷ later ∷ []) timed (start, from, (again, since, (once, so, never))) = absurd never
+fourth_at second third tick clocks (first ∷ next ∷ []) timed (start, from, (again, since, never)) = absurd never
+fourth_at second third tick clocks (first ∷ []) timed (start, from, never) = absurd never
+fourth_at second third tick clocks [] timed never = absurd never
+
+-- a tick too early, and a tick too late
+pub too_early : KeepsLink Chip (copied_in (15 ∷ [])) → ⊥
 unfolding reckoning fill
 too_early given =
-    let link = fill Chip (copied_in 15) given in
-    let moments : List Moment = moments_of (serial_events (copied_in 15)) link.parts in
-    let call : List ℕ = bytes (codes "010500130100E8") in
-    let part : ℕ → List Step = λ i. first_part (drop i link.parts) in
-    let ticking : List (List Step) = take 14 (drop 4 link.parts) in
-    let between : List (List Step) = take 16 (drop 2 link.parts) in
-    let twins = writes_twins (steps_in moments) link.obeys.0.0.turn link.obeys.0.1.answers link.obeys.0.1.turns (nothing_heard Chip [] moments refl link.hears) in
-    let far = apart (part 0 ∷ []) (part 1) between (part 18) call call (link.writes.0, tt) link.writes.1.0
-    (take_all (WritesThere Chip) 16 (drop 2 moments) link.writes.1.1) link.writes.1.1.1.1.1.1.1.1.1.1.1.1.1.1.1.1.1.1.0 twins
-    in
-    let counted : ticks_of (joined ticking) ≡ 14 =
-    ticks_counted Chip (take 4 moments) (take 14 (drop 4 moments)) refl
-    (take_each (TicksInTime Chip) 14 (take 4 moments) (drop 4 moments) link.ticks.1.1.1.1)
-    in
-    let all : ticks_of (joined between) ≡ ticks_of (part 2) + ticks_of (part 3 ++ joined ticking) = ticks_of-append (part 2) (part 3 ++ joined ticking) in
-    let more : ticks_of (part 3 ++ joined ticking) ≡ ticks_of (part 3) + ticks_of (joined ticking) = ticks_of-append (part 3) (joined ticking) in
-    let second : ticks_of (part 2) ≡ 0 = none_in_line Chip (part 1 ++ []) (part 2) link.ticks.1.1.0.0 in
-    let third : ticks_of (part 3) ≡ 0 = none_in_line Chip (part 1 ++ (part 2 ++ [])) (part 3) link.ticks.1.1.1.0.0 in
-    let last : 0 + ticks_of (part 18) ≤ 1 = one_in_tick Chip [] (part 18) (omega arith) link.ticks.1.1.1.1.1.1.1.1.1.1.1.1.1.1.1.1.1.1.0.0 in
-    omega (arith, far.1, counted, all, more, second, third, last)
+    let link = fill Chip (copied_in (15 ∷ [])) given in
+    let d = told (copied_in (15 ∷ [])) link refl link.obeys.0 in
+    omega (arith, second_at 15 [] d.all d.timed d.within)
 
--- a tick too late: sixteen are over before it
-pub too_late : KeepsLink Chip (copied_in 17) → ⊥
+pub too_late : KeepsLink Chip (copied_in (17 ∷ [])) → ⊥
 unfolding reckoning fill
 too_late given =
-    let link = fill Chip (copied_in 17) given in
-    let moments : List Moment = moments_of (serial_events (copied_in 17)) link.parts in
-    let call : List ℕ = bytes (codes "010500130100E8") in
-    let part : ℕ → List Step = λ i. first_part (drop i link.parts) in
-    let ticking : List (List Step) = take 16 (drop 4 link.parts) in
-    let between : List (List Step) = take 18 (drop 2 link.parts) in
-    let twins = writes_twins (steps_in moments) link.obeys.0.0.turn link.obeys.0.1.answers link.obeys.0.1.turns (nothing_heard Chip [] moments refl link.hears) in
-    let far = apart (part 0 ∷ []) (part 1) between (part 20) call call (link.writes.0, tt) link.writes.1.0
-    (take_all (WritesThere Chip) 18 (drop 2 moments) link.writes.1.1) link.writes.1.1.1.1.1.1.1.1.1.1.1.1.1.1.1.1.1.1.1.1.0 twins
-    in
-    let counted : ticks_of (joined ticking) ≡ 16 =
-    ticks_counted Chip (take 4 moments) (take 16 (drop 4 moments)) refl
-    (take_each (TicksInTime Chip) 16 (take 4 moments) (drop 4 moments) link.ticks.1.1.1.1)
-    in
-    let all : ticks_of (joined between) ≡ ticks_of (part 2) + ticks_of (part 3 ++ joined ticking) = ticks_of-append (part 2) (part 3 ++ joined ticking) in
-    let more : ticks_of (part 3 ++ joined ticking) ≡ ticks_of (part 3) + ticks_of (joined ticking) = ticks_of-append (part 3) (joined ticking) in
-    omega (arith, far.0, counted, all, more)
+    let link = fill Chip (copied_in (17 ∷ [])) given in
+    let d = told (copied_in (17 ∷ [])) link refl link.obeys.0 in
+    omega (arith, second_at 17 [] d.all d.timed d.within)
+
+-- so the third copy
+pub third_early : KeepsLink Chip (copied_in (16 ∷ 41 ∷ [])) → ⊥
+unfolding reckoning fill
+third_early given =
+    let link = fill Chip (copied_in (16 ∷ 41 ∷ [])) given in
+    let d = told (copied_in (16 ∷ 41 ∷ [])) link refl link.obeys.0 in
+    omega (arith, third_at 16 41 [] d.all d.timed d.within)
+
+pub third_late : KeepsLink Chip (copied_in (16 ∷ 43 ∷ [])) → ⊥
+unfolding reckoning fill
+third_late given =
+    let link = fill Chip (copied_in (16 ∷ 43 ∷ [])) given in
+    let d = told (copied_in (16 ∷ 43 ∷ [])) link refl link.obeys.0 in
+    omega (arith, third_at 16 43 [] d.all d.timed d.within)
+
+-- and the fourth
+pub fourth_early : KeepsLink Chip (copied_in (16 ∷ 42 ∷ 77 ∷ [])) → ⊥
+unfolding reckoning fill
+fourth_early given =
+    let link = fill Chip (copied_in (16 ∷ 42 ∷ 77 ∷ [])) given in
+    let d = told (copied_in (16 ∷ 42 ∷ 77 ∷ [])) link refl link.obeys.0 in
+    omega (arith, fourth_at 16 42 77 [] d.all d.timed d.within)
+
+pub fourth_late : KeepsLink Chip (copied_in (16 ∷ 42 ∷ 79 ∷ [])) → ⊥
+unfolding reckoning fill
+fourth_late given =
+    let link = fill Chip (copied_in (16 ∷ 42 ∷ 79 ∷ [])) given in
+    let d = told (copied_in (16 ∷ 42 ∷ 79 ∷ [])) link refl link.obeys.0 in
+    omega (arith, fourth_at 16 42 79 [] d.all d.timed d.within)
 
 -- ---- a report that is kept back
 

@@ -1,5 +1,6 @@
 -- By hand: what the sides of the serial line do around a frame of the chip, in ticks, in a stall and at a restart; and the same with one thing wrong.
 use Rattle.std.specs.Prelude.{ℕ, List, [], ◌∷◌, ◌++◌, codes, replicate}
+use Rattle.std.specs.List.{flat_map}
 use Rattle.serial_frame.specs.declared.item.Item.TheVariants.{Good}
 use Rattle.serial_frame.specs.declared.unit.Unit.TheVariants.{Ack}
 use Rattle.serial_link.specs.Rules.{Step, heard, ticked, asked}
@@ -26,9 +27,11 @@ unanswered = a_call ∷ []
 abbrev pub refused_by_host : List Entry
 refused_by_host = a_call ∷ host_can ∷ []
 
--- its acknowledgement is lost, and a copy is written in this tick
-abbrev pub copied_in : ℕ → List Entry
-copied_in tick = Said (codes "drop h") ∷ a_call ∷ host_ack ∷ Dropped Host ∷ Said (codes "tick 17") ∷ Time tick ∷ a_call ∷ []
+-- copies of it are written in these ticks, and every acknowledgement is lost
+abbrev pub copied_in : List ℕ → List Entry
+copied_in ticks =
+    Said (codes "drop h") ∷ flat_map (λ tick. Said (codes "drop h") ∷ []) ticks ++ a_call ∷ host_ack ∷ Dropped Host ∷ Said (codes "tick 80")
+    ∷ flat_map (λ tick. Time tick ∷ a_call ∷ host_ack ∷ Dropped Host ∷ []) ticks
 
 -- ---- restarts
 

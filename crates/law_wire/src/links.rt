@@ -44,7 +44,7 @@ pub fn worked_links()
     ensures sealed { KeepsLinks true sealed_exchange }
     ensures cut { KeepsLinks true long_message }
     ensures acknowledged { KeepsLinks true acknowledged }
-    ensures copied { KeepsLinks false (copied_in 16) }
+    ensures copied { KeepsLinks false (copied_in (16 ∷ 42 ∷ 78 ∷ [])) }
     ensures refused { KeepsLinks false refused_restart }
 {}
 
@@ -61,8 +61,8 @@ pub fn worked_service()
 {}
 
 /// An answer of either side to a frame that never came breaks the law of links; so does a second frame of either side while its first waits, an answer of
-/// the host to what came before it restarted, a frame of the chip that the host does not answer or answers CAN, and a copy that comes a tick too early or
-/// too late. A frame that waits while the link is idle breaks the law of the chip.
+/// the host to what came before it restarted, a frame of the chip that the host does not answer or answers CAN, and the second, the third or the fourth
+/// copy that comes a tick too early or too late. A frame that waits while the link is idle breaks the law of the chip.
 pub fn rejected_links()
     ensures nothing { KeepsLinks false answered_nothing → ⊥ }
     ensures kept { ServesHost true (the_switch ∷ []) kept_to_itself → ⊥ }
@@ -72,8 +72,12 @@ pub fn rejected_links()
     ensures restarted { KeepsLinks false answered_over_restart → ⊥ }
     ensures unanswered { KeepsLinks true unanswered → ⊥ }
     ensures collides { KeepsLinks false refused_by_host → ⊥ }
-    ensures early { KeepsLinks false (copied_in 15) → ⊥ }
-    ensures late { KeepsLinks false (copied_in 17) → ⊥ }
+    ensures early { KeepsLinks false (copied_in (15 ∷ [])) → ⊥ }
+    ensures late { KeepsLinks false (copied_in (17 ∷ [])) → ⊥ }
+    ensures third_early { KeepsLinks false (copied_in (16 ∷ 41 ∷ [])) → ⊥ }
+    ensures third_late { KeepsLinks false (copied_in (16 ∷ 43 ∷ [])) → ⊥ }
+    ensures fourth_early { KeepsLinks false (copied_in (16 ∷ 42 ∷ 77 ∷ [])) → ⊥ }
+    ensures fourth_late { KeepsLinks false (copied_in (16 ∷ 42 ∷ 79 ∷ [])) → ⊥ }
 {}
 
 /// Each of these breaks one part of the law: the chip answers nothing, answers CAN though no line asks for it, puts a frame on the air that

@@ -38,7 +38,7 @@ use Rattle.proof_alone.specs.Steps as step
 use Rattle.proof_alone.specs.Phases as alone
 use Rattle.proof_alone.specs.Reading.{EffectReads, IsFine, Reads, ReadsAt, ReadsMarked, read_of}
 use Rattle.proof_alone.specs.Reading.EffectReads.{Asks_host, Refuses_line, Shows_node, Starts_again, Does_silently, Does_by_hand, Begins_discovery, Goes_on_asking, Clears_both, Clears_one, Is_done}
-use Rattle.proof_alone.specs.Runs.{Run, Told, ToldWhole}
+use Rattle.proof_alone.specs.Runs.{Run, Told}
 use Rattle.proof_alone.specs.Runs.Run.{Begins, Stepped, Turned}
 use Rattle.proof_alone.proofs.Changing.{all_change}
 use Rattle.proof_alone.proofs.Coming.{AllChange}
@@ -265,5 +265,6 @@ pub all_fine : (m : Machine) (events : List Event) → AllAtRest m events → Al
 all_fine m [] rests writes = tt
 all_fine m (event ∷ events) rests writes = ((rests.0, writes.0), all_fine (happens m event) events rests.1 writes.1)
 
-pub whole_told : (start : HostMachine) (past : List Entry) (m : Machine) → Reads start alone.Resting 0 past m → ToldWhole start past
-whole_told start past m reads = (read_of 0 m (good_units reads.down), reads.run)
+pub keeper_told : (start : HostMachine) (past : List Entry) (m : Machine) → Reads start alone.Resting 0 past m
+    → (n : HostMachine) × Run start alone.Resting past n × (n.records ≡ m.records)
+keeper_told start past m reads = (read_of 0 m (good_units reads.down), reads.run, refl)

@@ -1,23 +1,25 @@
 //! Lines of `sim`, as runs of a host alone.
 
-ghost use Rattle.std.specs.Prelude.{Some, List, [], ℕ};
+ghost use Rattle.std.specs.Prelude.{◌≡◌, Some, List, [], ℕ};
 ghost use Rattle.s0_crypto.specs.declared.key_pair.Keys.{Keys};
 ghost use Rattle.device_sim.specs.State.{State};
 ghost use Rattle.zw_text.specs.declared.entry.Entry.{Entry};
 ghost use Rattle.law_host.specs.Heard.{heard_by_host};
 ghost use Rattle.world_model.specs.State.{first_machine};
-ghost use Rattle.world_lines.specs.Spoken.{Spoken, transcript_of};
+ghost use Rattle.world_lines.specs.Spoken.{Spoken, after_all, transcript_of};
 ghost use Rattle.world_lines.specs.Done.{AreDone};
 ghost use Rattle.world_lines.specs.Whole.{AreWhole};
 ghost use Rattle.proof_alone.specs.State.{HostMachine, first_alone};
-ghost use Rattle.proof_alone.specs.Runs.{Told, ToldWhole};
+ghost use Rattle.proof_alone.specs.Phases.{Phase, Resting};
+ghost use Rattle.proof_alone.specs.Runs.{Run, Told, ToldWhole};
 
 use proof_line::marks_go_on;
 use proof_line::spoken::world::lines_keep_and_ask_well;
 use proof_serial::{hosts_write_well, units_are_judged_whole};
 
 /// Over any lines from the first on, the last of which an allocation failure may have cut short, over a keeper that tells its records and has none at first,
-/// the transcript is that of a run of a host alone; where all were run whole, of one that ends at rest.
+/// the transcript is that of a run of a host alone; where all were run whole, of one that ends at rest, with
+/// what the keeper tells in the end.
 pub fn lines_are_a_hosts()
     ensures told { (keys : Keys) (devices : List State) (lines : List Spoken) →
         AreDone (first_machine keys (Some []) devices) lines →
@@ -25,6 +27,10 @@ pub fn lines_are_a_hosts()
     ensures whole { (keys : Keys) (devices : List State) (lines : List Spoken) →
         AreDone (first_machine keys (Some []) devices) lines → AreWhole (first_machine keys (Some []) devices) lines →
         ToldWhole (first_alone keys (Some [])) (transcript_of (first_machine keys (Some []) devices) lines) }
+    ensures keeper { (keys : Keys) (devices : List State) (lines : List Spoken) →
+        AreDone (first_machine keys (Some []) devices) lines → AreWhole (first_machine keys (Some []) devices) lines →
+        (m : HostMachine) × Run (first_alone keys (Some [])) Resting (transcript_of (first_machine keys (Some []) devices) lines) m
+        × (m.records ≡ (after_all (first_machine keys (Some []) devices) lines).records) }
 {
     marks_go_on();
     units_are_judged_whole();
@@ -37,4 +43,5 @@ pub fn lines_are_a_hosts()
 pub fn what_is_heard_is_a_hosts()
     ensures told { (start : HostMachine) (told : List Entry) → Told start told → Told start (heard_by_host told) }
     ensures whole { (start : HostMachine) (told : List Entry) → ToldWhole start told → ToldWhole start (heard_by_host told) }
+    ensures run { (start : HostMachine) (here : Phase) (told : List Entry) (m : HostMachine) → Run start here told m → Run start here (heard_by_host told) m }
 {}

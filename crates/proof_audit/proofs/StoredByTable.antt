@@ -72,12 +72,12 @@ waits-from past (entry ∷ rest) command none carries ends waits =
 
 -- ---- what a success asks for
 
-module _ (listing : ℕ → List ℕ) (commands : List Command) (transcript : List Entry) (laws : HostLaws transcript) (asked : AreAsked listing transcript) (said : AreSaid listing commands transcript) where
+module _ (listing : ℕ → List ℕ) (commands : List Command) (transcript : List Entry) (laws : HostLaws transcript) (asked : AreAsked listing transcript) (said : AreSaid (always listing) commands transcript) where
   -- by its line
   asks-alike : (past rest : List Entry) (command node : ℕ) → transcript ≡ past ++ rest → (given : IsGiven listing past command node) → stored_by (taken_at commands command) ≡ stores_by (order_of past command)
   asks-alike past rest command node is given =
-      let told : IsSaid listing commands given.before command node =
-      each-cut (MayAnswer listing commands) transcript given.before (Accepted command node) (given.later ++ rest) (stands-on transcript past rest given.before given.later (Accepted command node) is given.is) said in
+      let told : IsSaid (always listing) commands given.before command node =
+      each-cut (MayAnswer (always listing) commands) transcript given.before (Accepted command node) (given.later ++ rest) (stands-on transcript past rest given.before given.later (Accepted command node) is given.is) said in
       let order = given.asked.order in
       let lines : Commanded told.order ∷ [] ≡ Commanded order ∷ [] = sym told.said ∙ given.asked.said in
       let same : told.order ≡ order = cc in

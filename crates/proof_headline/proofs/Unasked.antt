@@ -10,7 +10,7 @@ use Rattle.device_sim.specs.State.{State}
 use Rattle.zw_text.specs.declared.entry.Entry.{Entry}
 use Rattle.zw_text.specs.declared.entry.Outcome.TheVariants.{Waiting}
 use Rattle.zw_text.specs.declared.line.Line.{Line}
-use Rattle.law_transcript.specs.Nodes.{device_of, first_node, is_interviewed, is_supervised, known_at_first, listed_by, listing_of}
+use Rattle.law_transcript.specs.Nodes.{device_of, first_node, is_interviewed, is_supervised, known_at_first, listed_by, listing_of, always}
 use Rattle.host_keep.specs.Kept.{Taken}
 use Rattle.host_keep.specs.declared.final_status.FinalStatus.TheVariants as final
 use Rattle.host_orders.specs.Classes.{lists, actuator_of}
@@ -129,7 +129,7 @@ module _ (listing : ℕ → List ℕ) (node : ℕ) (later : node ≢ first_node)
       first true e is = absurd (later (eqb-true node first_node e))
       first false e is = cc
 
-  refused : (past : List Entry) (h : HostState) (order : Order) (carriage : Carriage) → KnowsListing listing past h → IsAccepted h order carriage → order.node ≢ node
+  refused : (past : List Entry) (h : HostState) (order : Order) (carriage : Carriage) → KnowsListing (always listing) past h → IsAccepted h order carriage → order.node ≢ node
   refused past h order carriage knows is = λ same.
       let known : Known = known_of (node_of h.nodes order.node) in
       let listed = supervision_listed (classes_of known) known.waiting order (known_none known order is.unrefused) in
@@ -225,7 +225,7 @@ module _ (node : ℕ) where
         record { told = (tt, (tt, rest.told)); none = rest.none }
 
     module _ (listing : ℕ → List ℕ) (later : node ≢ first_node) (none_listed : lists (listing node) 0x6C ≡ false) where
-      line_told : (past known : List Entry) (m : Machine) (spoken : Spoken) (more : List Spoken) → IsSpoken more m spoken → Facts past m.host.state → KnowsListing listing known m.host.state → HasNone m.host.state.commands → IsTold m spoken.events
+      line_told : (past known : List Entry) (m : Machine) (spoken : Spoken) (more : List Spoken) → IsSpoken more m spoken → Facts past m.host.state → KnowsListing (always listing) known m.host.state → HasNone m.host.state.commands → IsTold m spoken.events
       line_told past known m spoken more is facts known_now none = elim (line_kind spoken.line) [
         | inl (order, asks) ↦ elim (line_orders order m spoken.events (subst (λ (l : Line). LinePart l m spoken.events) asks (spoken_part more m spoken is))) [
           | inl orders ↦

@@ -30,7 +30,7 @@ all_map : {A B : Type 0} (P : B → Type 0) (f : A → B) (xs : List A) → AllB
 all_map P f [] all = tt
 all_map P f (x ∷ xs) all = (all.0, all_map P f xs all.1)
 
-module _ (listing : ℕ → List ℕ) (commands : List Command) (node : ℕ) (past : List Entry) (table : IsTable listing commands node past)
+module _ (listing : ℕ → List ℕ) (commands : List Command) (node : ℕ) (past : List Entry) (table : IsTable (always listing) commands node past)
     (for : AllByRecursion (Has (numbers_for node past)) (sessions node past)) where
   -- a command of a session asks for what the table says
   asked : (number : ℕ) → Has (sessions node past) number → settings_for (always listing) past node number ≡ settings_taken (taken_at commands number)

@@ -33,19 +33,19 @@ module _ (laws : (past : List Entry) (h : HostState) → Facts past h → HostLa
     → AllByRecursion IsSupervisedChange device.journal → OnceByTable h.commands node past device.journal)
     (confirms : (past : List Entry) (h : HostState) (node : ℕ) (device : State) (finals told : List ℕ) → Facts past h → IsTied h.commands (node_of h.nodes node).book device finals told
     → ConfirmsByTable node past h.store device)
-    (once_so : (past : List Entry) (h : HostState) (listing : ℕ → List ℕ) (node : ℕ) (device : State) → IsTable listing h.commands node past → OnceByTable h.commands node past device.journal
+    (once_so : (past : List Entry) (h : HostState) (listing : ℕ → List ℕ) (node : ℕ) (device : State) → IsTable (always listing) h.commands node past → OnceByTable h.commands node past device.journal
     → Once (always listing) node past device.journal)
-    (confirms_so : (past : List Entry) (h : HostState) (listing : ℕ → List ℕ) (node : ℕ) (device : State) → Facts past h → IsTable listing h.commands node past
+    (confirms_so : (past : List Entry) (h : HostState) (listing : ℕ → List ℕ) (node : ℕ) (device : State) → Facts past h → IsTable (always listing) h.commands node past
     → ConfirmsByTable node past h.store device → ConfirmsLast (always listing) node past device) where
   pub headline_one : (past : List Entry) (h : HostState) (before : List State) (node : ℕ) (device : State) → Facts past h → AreTied h node device → is_supervised device ≡ true
-      → ChangesInSessions device → IsTable (listing_of before) h.commands node past → HeadlineOf (always (listing_of before)) node past device
+      → ChangesInSessions device → IsTable (always (listing_of before)) h.commands node past → HeadlineOf (always (listing_of before)) node past device
   headline_one past h before node device facts one knows in_sessions table = record {
     once = once_so past h (listing_of before) node device table (once past h node device one.finals one.told facts one.tied (in_sessions knows));
     confirms = confirms_so past h (listing_of before) node device facts table (confirms past h node device one.finals one.told facts one.tied);
   }
 
   pub headline : (past : List Entry) (h : HostState) (before devices : List State) → Facts past h → SucceedsAfterChange past → AllTied h devices → AllByRecursion ChangesInSessions devices
-      → ((node : ℕ) → IsTable (listing_of before) h.commands node past) → Headline before devices past
+      → ((node : ℕ) → IsTable (always (listing_of before)) h.commands node past) → Headline before devices past
   headline past h before devices facts succeeds tied in_sessions tables = record {
     sessions_keep = (laws past h facts).sessions_keep;
     succeeds = succeeds;

@@ -1,6 +1,5 @@
 -- Once only and the confirmed value, where what a command asks for is what the host's table of commands says (this project's own rule over the
 -- Supervision Command Class).
-use Rattle.law_transcript.specs.Nodes.{always}
 use Rattle.std.specs.Prelude.{◌≡◌, ℕ, ◌≤◌, List, length, Some}
 use Rattle.std.specs.List.{AllByRecursion}
 use Rattle.zw_base.specs.declared.property.Property.{Property}
@@ -45,6 +44,6 @@ ConfirmsByTable node transcript store device =
 
 -- the table is what the transcript shows of the orders of a node: each number that was accepted for it stands after its order, and asks for what
 -- the table says
-pub record IsTable (listing : ℕ → List ℕ) (commands : List Command) (node : ℕ) (transcript : List Entry) : Type 0 where
+pub record IsTable (listing : List Entry → ℕ → List ℕ) (commands : List Command) (node : ℕ) (transcript : List Entry) : Type 0 where
   pub numbers : numbers_of (accepted node transcript) ≡ numbers_for node transcript
-  pub settings : AllByRecursion (λ number. settings_for (always listing) transcript node number ≡ settings_taken (taken_at commands number)) (numbers_for node transcript)
+  pub settings : AllByRecursion (λ number. settings_for listing transcript node number ≡ settings_taken (taken_at commands number)) (numbers_for node transcript)

@@ -115,10 +115,10 @@ pub fn endings_are_shown()
 
 /// Where the host's table is what the transcript shows of the orders of a node, these are the laws of transcripts.
 pub fn laws_of_transcripts_follow()
-    ensures once { (past : List Entry) (h : HostState) (listing : ℕ → List ℕ) (node : ℕ) (device : State) → IsTable listing h.commands node past →
+    ensures once { (past : List Entry) (h : HostState) (listing : ℕ → List ℕ) (node : ℕ) (device : State) → IsTable (always listing) h.commands node past →
         OnceByTable h.commands node past device.journal → Once (always listing) node past device.journal }
     ensures confirms { (past : List Entry) (h : HostState) (listing : ℕ → List ℕ) (node : ℕ) (device : State) → Facts past h →
-        IsTable listing h.commands node past →
+        IsTable (always listing) h.commands node past →
         ConfirmsByTable node past h.store device → ConfirmsLast (always listing) node past device }
 {
     laws_follow();
@@ -129,10 +129,10 @@ pub fn laws_of_transcripts_follow()
 pub fn headlines_follow()
     ensures one { (past : List Entry) (h : HostState) (before : List State) (node : ℕ) (device : State) → Facts past h →
         AreTied h node device → is_supervised device ≡ true →
-        ChangesInSessions device → IsTable (listing_of before) h.commands node past → HeadlineOf (always (listing_of before)) node past device }
+        ChangesInSessions device → IsTable (always (listing_of before)) h.commands node past → HeadlineOf (always (listing_of before)) node past device }
     ensures whole { (past : List Entry) (h : HostState) (before devices : List State) → Facts past h → SucceedsAfterChange past →
         AllTied h devices → AllByRecursion ChangesInSessions devices →
-        ((node : ℕ) → IsTable (listing_of before) h.commands node past) → Headline before devices past }
+        ((node : ℕ) → IsTable (always (listing_of before)) h.commands node past) → Headline before devices past }
 {
     laws_follow();
     ties_keep_once_only();

@@ -66,16 +66,16 @@ module _ (listing : ℕ → List ℕ) where
       (subst (λ (l : List Line). Has (flat_map (asked_by (always listing) past) l) one) (sym read) (has_left (asked_by (always listing) past line) [] one has))
 
   -- so it is of the text that the host makes, which knows what the transcript shows
-  known_list : (past : List Entry) (h : HostState) (node : ℕ) → KnowsListing listing past h → host_list (always listing) past node ≡ classes_of (known_of (node_of h node))
+  known_list : (past : List Entry) (h : HostState) (node : ℕ) → KnowsListing (always listing) past h → host_list (always listing) past node ≡ classes_of (known_of (node_of h node))
   known_list past h node knows = ap (λ (o : Option (List ℕ)). unwrap_or o []) (sym (knows node))
 
-  pub send_asks : (past : List Entry) (words : List ℕ) (h : HostState) (node : ℕ) (word : Word) → KnowsListing listing past h → line_of (Said words) ≡ lines.Send node word ∷ []
+  pub send_asks : (past : List Entry) (words : List ℕ) (h : HostState) (node : ℕ) (word : Word) → KnowsListing (always listing) past h → line_of (Said words) ≡ lines.Send node word ∷ []
       → IsAskedFor (always listing) (past ++ Said words ∷ []) (record { node = node; payload = send_text (classes_of (known_of (node_of h node))) word })
   send_asks past words h node word knows read =
       subst (λ (l : List ℕ). IsAskedFor (always listing) (past ++ Said words ∷ []) (record { node = node; payload = send_text l word })) (known_list past h node knows)
       (asks past words (lines.Send node word) (record { node = node; payload = send_text (host_list (always listing) past node) word }) read (inl refl))
 
-  pub get_asks : (past : List Entry) (words : List ℕ) (h : HostState) (node end : ℕ) → KnowsListing listing past h → line_of (Said words) ≡ lines.Get node end ∷ []
+  pub get_asks : (past : List Entry) (words : List ℕ) (h : HostState) (node end : ℕ) → KnowsListing (always listing) past h → line_of (Said words) ≡ lines.Get node end ∷ []
       → IsAskedFor (always listing) (past ++ Said words ∷ []) (record { node = node; payload = get_text (classes_of (known_of (node_of h node))) end })
   get_asks past words h node end knows read =
       subst (λ (l : List ℕ). IsAskedFor (always listing) (past ++ Said words ∷ []) (record { node = node; payload = get_text l end })) (known_list past h node knows)

@@ -283,7 +283,7 @@ module _ (listing : ℕ → List ℕ) (key : List ℕ) (laws : WalkLaws) where
         let so : IsSo listing ((saying.before ++ entry.Said saying.words ∷ []) ++ entries_all n both) (happens_all n both)
         = order_so laws.go_on listing saying.before n saying.words order carriage saying.read saying.knew (begins_may n, (may, tt)) (tt, (tt, tt)) (record {
           facts = subst (λ (l : List Entry). Facts l n.host.state) saying.is saying.ground.facts;
-          said = subst (λ (l : List Entry). AreSaid listing n.host.state.commands l) saying.is saying.ground.said;
+          said = subst (λ (l : List Entry). AreSaid (always listing) n.host.state.commands l) saying.is saying.ground.said;
         }) in
         let same : (saying.before ++ entry.Said saying.words ∷ []) ++ entries_all n both ≡ past ++ told
         = ap (λ (l : List Entry). l ++ entries_all n both) (sym saying.is)
@@ -291,7 +291,7 @@ module _ (listing : ℕ → List ℕ) (key : List ℕ) (laws : WalkLaws) where
         record {
           facts = subst (λ (l : List Entry). Facts l (happens (begun n) accepts).host.state) same so.facts;
           knows = laws.knows listing past (begun n) accepts may well.1 (begun_ground past n saying.ground).knows;
-          said = subst (λ (l : List Entry). AreSaid listing (happens (begun n) accepts).host.state.commands l) same so.said;
+          said = subst (λ (l : List Entry). AreSaid (always listing) (happens (begun n) accepts).host.state.commands l) same so.said;
           arrives = event_arrives past (begun n) accepts may saying.ground.arrives;
         }
 

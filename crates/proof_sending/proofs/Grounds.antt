@@ -40,16 +40,16 @@ pub record WalkLaws : Type 0 where
   pub go_on : FactsGoOn
   pub aside : AsidesKeep
   pub stand : (past : List Entry) (h : HostState) → Facts past h → HostLaws past
-  pub knows : (listing : ℕ → List ℕ) (past : List Entry) (m : Machine) (event : Event) → May m event → Tells listing m event → KnowsListing listing past m.host.state
-      → KnowsListing listing (past ++ entries m event) (happens m event).host.state
-  pub carried : (listing : ℕ → List ℕ) (past : List Entry) (h : HostState) (node number : ℕ) (taken : Taken) → Facts past h → AreSaid listing h.commands past
+  pub knows : (listing : ℕ → List ℕ) (past : List Entry) (m : Machine) (event : Event) → May m event → Tells listing m event → KnowsListing (always listing) past m.host.state
+      → KnowsListing (always listing) (past ++ entries m event) (happens m event).host.state
+  pub carried : (listing : ℕ → List ℕ) (past : List Entry) (h : HostState) (node number : ℕ) (taken : Taken) → Facts past h → AreSaid (always listing) h.commands past
       → Has (numbers_for node past) number → taken_at h.commands number ≡ Some taken
       → (order_of number (accepted node past) ≡ Some taken.order) × (taken.carriage ≡ carriage_of (classes_for (always listing) past node number) taken.order)
   pub from : (last : ℕ) → 1 ≤ next_id last
   pub to : (last : ℕ) → next_id last ≤ 255
 
 -- what is carried by sessions is as it was said
-pub carried_so : WalkLaws → (listing : ℕ → List ℕ) (past : List Entry) (h : HostState) → Facts past h → AreSaid listing h.commands past → AreCarried listing past h.commands
+pub carried_so : WalkLaws → (listing : ℕ → List ℕ) (past : List Entry) (h : HostState) → Facts past h → AreSaid (always listing) h.commands past → AreCarried listing past h.commands
 carried_so laws listing past h facts said node zero number taken at found = absurd (let bad : ◌≡◌ {A = Option ℕ} None (Some number) = at in cc)
 carried_so laws listing past h facts said node (suc k) number taken at found =
     laws.carried listing past h node number taken facts said
@@ -61,13 +61,13 @@ module _ (listing : ℕ → List ℕ) (laws : WalkLaws) where
   abbrev known_by : ℕ → List Bool → Option (List ℕ)
   known_by node succeeded = if list_any (λ one. one) succeeded then Some (listing node) else known_at_first node
 
-  ground_more : (past : List Entry) (m : Machine) (e : Entry) → IsAside e → IsNoUnit e → ((node : ℕ) → interview_at node e ≡ []) → ((commands : List Command) → MayAnswer listing commands past e)
+  ground_more : (past : List Entry) (m : Machine) (e : Entry) → IsAside e → IsNoUnit e → ((node : ℕ) → interview_at node e ≡ []) → ((commands : List Command) → MayAnswer (always listing) commands past e)
       → Grounded listing past m → Grounded listing (past ++ e ∷ []) m
   ground_more past m e aside no_unit none answer ground = record {
     facts = laws.aside past m.host.state e ground.facts aside;
     knows = λ node. ground.knows node ∙ ap (known_by node) (sym (shown-append (interview_at node) past (e ∷ [])
         ∙ (ap (λ (l : List Bool). interviews node past ++ (l ++ [])) (none node) ∙ append-nil (interviews node past))));
-    said = each-append (MayAnswer listing m.host.state.commands) [] past (e ∷ []) ground.said (answer m.host.state.commands, tt);
+    said = each-append (MayAnswer (always listing) m.host.state.commands) [] past (e ∷ []) ground.said (answer m.host.state.commands, tt);
     arrives = one_arrives past e no_unit ground.arrives;
   }
 
@@ -91,6 +91,6 @@ module _ (listing : ℕ → List ℕ) (laws : WalkLaws) where
       record {
         facts = subst (λ (l : List Entry). Facts l (happens m event).host.state) are so.facts;
         knows = laws.knows listing past m event may tells ground.knows;
-        said = subst (λ (l : List Entry). AreSaid listing (happens m event).host.state.commands l) are so.said;
+        said = subst (λ (l : List Entry). AreSaid (always listing) (happens m event).host.state.commands l) are so.said;
         arrives = event_arrives past m event may ground.arrives;
       }

@@ -69,8 +69,8 @@ IsWell listing m event = (StartsWell m event × KeepsWell m event) × Tells list
 -- the host keeps to the transcript
 pub record Grounded (listing : ℕ → List ℕ) (past : List Entry) (m : Machine) : Type 0 where
   pub facts : Facts past m.host.state
-  pub knows : KnowsListing listing past m.host.state
-  pub said : AreSaid listing m.host.state.commands past
+  pub knows : KnowsListing (always listing) past m.host.state
+  pub said : AreSaid (always listing) m.host.state.commands past
   pub arrives : ArrivesSo past
 
 -- and all that it has to send is due
@@ -85,7 +85,7 @@ pub record Saying (listing : ℕ → List ℕ) (key : List ℕ) (line : Line) (p
   pub words : List ℕ
   pub is : past ≡ before ++ Said words ∷ []
   pub read : line_of (Said words) ≡ line ∷ []
-  pub knew : KnowsListing listing before m.host.state
+  pub knew : KnowsListing (always listing) before m.host.state
   pub ground : Grounded listing past m
   pub keys : m.keys ≡ keys_of key
   pub reasoned : IsReasoned (IsShown listing key before) (keys_of key) m.host.state

@@ -21,11 +21,11 @@ ghost use Rattle.proof_line.specs.Said.{KnowsListing};
 pub fn lines_ask_for_what_is_queued()
     ensures stays { (listing : ℕ → List ℕ) (past told : List Entry) (one : Carried) → begins_refused told ≡ false →
         IsAskedFor (always listing) past one → IsAskedFor (always listing) (past ++ told) one }
-    ensures send { (listing : ℕ → List ℕ) (past : List Entry) (words : List ℕ) (h : HostState) (node : ℕ) (word : Word) → KnowsListing listing past h →
+    ensures send { (listing : ℕ → List ℕ) (past : List Entry) (words : List ℕ) (h : HostState) (node : ℕ) (word : Word) → KnowsListing (always listing) past h →
         line_of (Said words) ≡ Send node word ∷ [] →
         IsAskedFor (always listing) (past ++ Said words ∷ [])
         (record { node = node; payload = send_text (classes_of (known_of (node_of h node))) word }) }
-    ensures get { (listing : ℕ → List ℕ) (past : List Entry) (words : List ℕ) (h : HostState) (node end : ℕ) → KnowsListing listing past h →
+    ensures get { (listing : ℕ → List ℕ) (past : List Entry) (words : List ℕ) (h : HostState) (node end : ℕ) → KnowsListing (always listing) past h →
         line_of (Said words) ≡ Get node end ∷ [] →
         IsAskedFor (always listing) (past ++ Said words ∷ [])
         (record { node = node; payload = get_text (classes_of (known_of (node_of h node))) end }) }

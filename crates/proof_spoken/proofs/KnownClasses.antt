@@ -141,11 +141,11 @@ answers_foreign w h event = tt
 -- ---- what the host knows
 
 module _ (law : LeavesRecords) (listing : ℕ → List ℕ) where
-  foreign_knows : (past es : List Entry) (h : HostState) → AreForeign es → KnowsListing listing past h → KnowsListing listing (past ++ es) h
+  foreign_knows : (past es : List Entry) (h : HostState) → AreForeign es → KnowsListing (always listing) past h → KnowsListing (always listing) (past ++ es) h
   foreign_knows past es h foreign knows node = knows node ∙ sym (known_more listing past es node foreign)
 
-  interview_knows : (past : List Entry) (h : HostState) (n : ℕ) (listens : Bool) (classes : List ℕ) (update : Update) → IsTrueInterview listing h n classes → KnowsListing listing past h
-      → KnowsListing listing (past ++ Interviewed n ∷ []) (host_after h (Interviews n listens classes update))
+  interview_knows : (past : List Entry) (h : HostState) (n : ℕ) (listens : Bool) (classes : List ℕ) (update : Update) → IsTrueInterview listing h n classes → KnowsListing (always listing) past h
+      → KnowsListing (always listing) (past ++ Interviewed n ∷ []) (host_after h (Interviews n listens classes update))
   interview_knows past h n listens classes update tells knows node = elim (cases_eq node n) [
     | inl same ↦
         subst (λ (k : ℕ). classes_of (host_after h (Interviews n listens classes update)).nodes k ≡ known_classes (always listing) (past ++ Interviewed n ∷ []) k) (sym same)
@@ -160,12 +160,12 @@ module _ (law : LeavesRecords) (listing : ℕ → List ℕ) where
   unfolding outcome
   interview_entries m n listens classes update = append-nil (ticked_entry m.outside.outer ++ Interviewed n ∷ [])
 
-  host_knows : (past : List Entry) (m : Machine) (event : HostEvent) → TellsListing listing m.host.state event → KnowsListing listing past m.host.state
-      → KnowsListing listing (past ++ host_entries m (event ∷ [])) (host_after m.host.state event)
+  host_knows : (past : List Entry) (m : Machine) (event : HostEvent) → TellsListing listing m.host.state event → KnowsListing (always listing) past m.host.state
+      → KnowsListing (always listing) (past ++ host_entries m (event ∷ [])) (host_after m.host.state event)
   host_knows past m (Interviews n listens classes update) tells knows =
       let ticked = ticked_entry m.outside.outer in
       let h = m.host.state in
-      subst (λ (l : List Entry). KnowsListing listing l (host_after h (Interviews n listens classes update)))
+      subst (λ (l : List Entry). KnowsListing (always listing) l (host_after h (Interviews n listens classes update)))
       (append_assoc past ticked (Interviewed n ∷ []) ∙ ap (λ (l : List Entry). past ++ l) (sym (interview_entries m n listens classes update)))
       (interview_knows (past ++ ticked) h n listens classes update tells (foreign_knows past ticked h (ticked_foreign m.outside.outer) knows))
   host_knows past m event tells knows = λ node.
@@ -174,28 +174,28 @@ module _ (law : LeavesRecords) (listing : ℕ → List ℕ) where
       (routed_foreign m.outside (outs m.host.state event ++ [])
       (subst (λ (l : List HostOut). AreForeign (notes_of l)) (sym (append-nil (outs m.host.state event))) (notes_foreign m.host.state event tt))) knows node
 
-  hosts_know : (past : List Entry) (m : Machine) (events : List HostEvent) → TellListing listing m.host.state events → KnowsListing listing past m.host.state
-      → KnowsListing listing (past ++ host_entries m events) (host_after_all m.host.state events)
+  hosts_know : (past : List Entry) (m : Machine) (events : List HostEvent) → TellListing listing m.host.state events → KnowsListing (always listing) past m.host.state
+      → KnowsListing (always listing) (past ++ host_entries m events) (host_after_all m.host.state events)
   hosts_know past m [] tells knows = foreign_knows past [] m.host.state tt knows
   hosts_know past m (event ∷ events) tells knows =
       let first = host_entries m (event ∷ []) in
-      subst (λ (l : List Entry). KnowsListing listing l (host_after_all (host_after m.host.state event) events))
+      subst (λ (l : List Entry). KnowsListing (always listing) l (host_after_all (host_after m.host.state event) events))
       (append_assoc past first (host_entries (host_does m (event ∷ [])) events) ∙ ap (λ (l : List Entry). past ++ l) (entries_cons m event events))
       (hosts_know (past ++ first) (host_does m (event ∷ [])) events tells.1 (host_knows past m event tells.0 knows))
 
-  note_knows : (past : List Entry) (m : Machine) (entry : Entry) → IsForeign entry → KnowsListing listing past m.host.state
-      → KnowsListing listing (past ++ entries_outside m.outside (Host_notes entry)) m.host.state
+  note_knows : (past : List Entry) (m : Machine) (entry : Entry) → IsForeign entry → KnowsListing (always listing) past m.host.state
+      → KnowsListing (always listing) (past ++ entries_outside m.outside (Host_notes entry)) m.host.state
   unfolding outcome
   note_knows past m entry foreign knows = foreign_knows past _ m.host.state (stamp_foreign m.outside.outer (entry ∷ []) (foreign, tt)) knows
 
-  pub machine_knows : (past : List Entry) (m : Machine) (event : Event) → May m event → Tells listing m event → KnowsListing listing past m.host.state
-      → KnowsListing listing (past ++ entries m event) (happens m event).host.state
+  pub machine_knows : (past : List Entry) (m : Machine) (event : Event) → May m event → Tells listing m event → KnowsListing (always listing) past m.host.state
+      → KnowsListing (always listing) (past ++ entries m event) (happens m event).host.state
   unfolding happens entries May
   machine_knows past m (Outside_does event) may tells knows = foreign_knows past (entries_outside m.outside event) m.host.state (own_foreign m.outside event may.0) knows
   machine_knows past m (Host_does event) may tells knows =
       let first = host_entries m (event ∷ []) in
       let answered = entries_all_outside (host_does m (event ∷ [])).outside (notes (answers m.host.state event)) in
-      subst (λ (l : List Entry). KnowsListing listing l (host_after m.host.state event)) (append_assoc past first answered)
+      subst (λ (l : List Entry). KnowsListing (always listing) l (host_after m.host.state event)) (append_assoc past first answered)
       (foreign_knows (past ++ first) answered (host_after m.host.state event) (answers_foreign (host_does m (event ∷ [])).outside m.host.state event) (host_knows past m event tells knows))
   machine_knows past m (Host_takes count rest items events) may tells knows = hosts_know past (fed m count rest) events tells knows
   machine_knows past m Decoder_ticks may tells knows = foreign_knows past [] m.host.state tt knows
@@ -203,24 +203,24 @@ module _ (law : LeavesRecords) (listing : ℕ → List ℕ) where
   machine_knows past m (Shows_values node) may tells knows = note_knows past m (shown_values m.host.state node) tt knows
   machine_knows past m (Restarts state) may tells knows = λ node. tells node ∙ foreign_knows past [] m.host.state tt knows node
 
-  events_know : (past : List Entry) (m : Machine) (events : List Event) → MayAll m events → AllTell listing m events → KnowsListing listing past m.host.state
-      → KnowsListing listing (past ++ entries_all m events) (happens_all m events).host.state
+  events_know : (past : List Entry) (m : Machine) (events : List Event) → MayAll m events → AllTell listing m events → KnowsListing (always listing) past m.host.state
+      → KnowsListing (always listing) (past ++ entries_all m events) (happens_all m events).host.state
   events_know past m [] may tells knows = foreign_knows past [] m.host.state tt knows
   events_know past m (event ∷ events) may tells knows =
-      subst (λ (l : List Entry). KnowsListing listing l (happens_all (happens m event) events).host.state) (append_assoc past (entries m event) (entries_all (happens m event) events))
+      subst (λ (l : List Entry). KnowsListing (always listing) l (happens_all (happens m event) events).host.state) (append_assoc past (entries m event) (entries_all (happens m event) events))
       (events_know (past ++ entries m event) (happens m event) events may.1 tells.1 (machine_knows past m event may.0 tells.0 knows))
 
-  pub lines_know : (past : List Entry) (m : Machine) (lines : List Spoken) → AreSpoken m lines → LinesTell listing m lines → KnowsListing listing past m.host.state
-      → AllKnow listing past m lines × KnowsListing listing (past ++ transcript_of m lines) (after_all m lines).host.state
+  pub lines_know : (past : List Entry) (m : Machine) (lines : List Spoken) → AreSpoken m lines → LinesTell listing m lines → KnowsListing (always listing) past m.host.state
+      → AllKnow listing past m lines × KnowsListing (always listing) (past ++ transcript_of m lines) (after_all m lines).host.state
   lines_know past m [] are tells knows = (tt, foreign_knows past [] m.host.state tt knows)
   lines_know past m (spoken ∷ more) are tells knows =
       let begun = foreign_knows past (Said spoken.words ∷ []) m.host.state (tt, tt) knows in
-      let done : KnowsListing listing (past ++ entries_of m spoken) (after m spoken).host.state
-      = subst (λ (l : List Entry). KnowsListing listing l (after m spoken).host.state) (append_assoc past (Said spoken.words ∷ []) (entries_all m spoken.events))
+      let done : KnowsListing (always listing) (past ++ entries_of m spoken) (after m spoken).host.state
+      = subst (λ (l : List Entry). KnowsListing (always listing) l (after m spoken).host.state) (append_assoc past (Said spoken.words ∷ []) (entries_all m spoken.events))
       (events_know (past ++ Said spoken.words ∷ []) m spoken.events are.0.may tells.0 begun) in
       let later = lines_know (past ++ entries_of m spoken) (after m spoken) more are.1 tells.1 done in (
         (knows, later.0),
-        subst (λ (l : List Entry). KnowsListing listing l (after_all (after m spoken) more).host.state) (append_assoc past (entries_of m spoken) (transcript_of (after m spoken) more)) later.1,
+        subst (λ (l : List Entry). KnowsListing (always listing) l (after_all (after m spoken) more).host.state) (append_assoc past (entries_of m spoken) (transcript_of (after m spoken) more)) later.1,
       )
 
 -- ---- at first
@@ -243,7 +243,7 @@ pub all_length : length unknown_nodes ≡ 233
 unfolding unknown_nodes
 all_length = ap suc (unknown_length 1 232)
 
-pub first_known : (listing : ℕ → List ℕ) (keys : Keys) → KnowsListing listing [] (first_host keys)
+pub first_known : (listing : ℕ → List ℕ) (keys : Keys) → KnowsListing (always listing) [] (first_host keys)
 unfolding first_nodes
 first_known listing keys node =
     let joined = after_join (node_of unknown_nodes 2) in

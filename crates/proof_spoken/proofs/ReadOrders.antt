@@ -1,5 +1,4 @@
 -- What the transcript shows of the orders of a node is what the table says.
-use Rattle.law_transcript.specs.Nodes.{always}
 use Rattle.std.proofs.Common.{◌≡◌, ℕ, ◌==◌, Bool, true, false, if◌then◌else◌, List, [], ◌∷◌, ◌++◌, Option, Some, None, inl, inr, refl, sym, ap, ap₂, subst, ◌∙◌, append_assoc, append-nil}
 use Rattle.std.specs.List.{AllByRecursion, flat_map}
 use Rattle.std.proofs.lemmas.Bool.{eq-eqb, eqb-true, eqb-false}
@@ -29,7 +28,7 @@ use Rattle.law_transcript.proofs.Having.{all_of, has_left, has_right, has_shown,
 use Rattle.proof_once.proofs.BegunCommands.{accepted_here}
 use Rattle.proof_spoken.specs.Said.{AreSaid, IsSaid, MayAnswer}
 
-module _ (listing : ℕ → List ℕ) (commands : List Command) where
+module _ (listing : List Entry → ℕ → List ℕ) (commands : List Command) where
   -- ---- the commands of a node, as the transcript shows them
 
   -- the table has the order of a command
@@ -158,7 +157,7 @@ same_order a b c d taken first later = some_order (record { order = a; carriage 
     some_order : (x y : Taken) → Some x ≡ Some y → x.order ≡ y.order
     some_order x y e = cc
 
-module _ (listing : ℕ → List ℕ) (past : List Entry) (h : HostState) (node : ℕ) (facts : Facts past h) (said : AreSaid listing h.commands past) where
+module _ (listing : List Entry → ℕ → List ℕ) (past : List Entry) (h : HostState) (node : ℕ) (facts : Facts past h) (said : AreSaid listing h.commands past) where
   shown : AreOf listing h.commands (accepted node past) (numbers_for node past)
   shown = all_of_node listing h.commands node [] past not_accepting [] refl said (record { numbers_are = refl; orders = tt })
 
@@ -168,7 +167,7 @@ module _ (listing : ℕ → List ℕ) (past : List Entry) (h : HostState) (node 
     pub carriage : Carriage
     pub is : order_of number (accepted node past) ≡ Some order
     pub taken : taken_at h.commands number ≡ Some (record { order = order; carriage = carriage })
-    pub carried : carriage ≡ carriage_of (classes_for (always listing) past node number) order
+    pub carried : carriage ≡ carriage_of (classes_for listing past node number) order
 
   taken_as : (number : ℕ) → Has (numbers_for node past) number → IsTakenAs number
   taken_as number has =
@@ -184,13 +183,13 @@ module _ (listing : ℕ → List ℕ) (past : List Entry) (h : HostState) (node 
         carriage = first.is.carriage;
         is = order.is ∙ ap Some alike;
         taken = first.is.taken;
-        carried = subst (λ (n : ℕ). first.is.carriage ≡ carriage_of (classes_for (always listing) past n number) first.is.order) same first.is.carried;
+        carried = subst (λ (n : ℕ). first.is.carriage ≡ carriage_of (classes_for listing past n number) first.is.order) same first.is.carried;
       }
 
-  asked : (number : ℕ) → Has (numbers_for node past) number → settings_for (always listing) past node number ≡ settings_taken (taken_at h.commands number)
+  asked : (number : ℕ) → Has (numbers_for node past) number → settings_for listing past node number ≡ settings_taken (taken_at h.commands number)
   asked number has =
       let one = taken_as number has in
-      ap (λ (o : Option Order). settings_by (classes_for (always listing) past node number) o) one.is
+      ap (λ (o : Option Order). settings_by (classes_for listing past node number) o) one.is
       ∙ ap (λ (c : Carriage). settings c.actuator one.order) (sym one.carried)
       ∙ ap settings_taken (sym one.taken)
 
@@ -199,14 +198,14 @@ module _ (listing : ℕ → List ℕ) (past : List Entry) (h : HostState) (node 
 
   -- so whatever the table has of it
   pub carried_is : (number : ℕ) (taken : Taken) → Has (numbers_for node past) number → taken_at h.commands number ≡ Some taken
-      → (order_of number (accepted node past) ≡ Some taken.order) × (taken.carriage ≡ carriage_of (classes_for (always listing) past node number) taken.order)
+      → (order_of number (accepted node past) ≡ Some taken.order) × (taken.carriage ≡ carriage_of (classes_for listing past node number) taken.order)
   carried_is number taken has at =
       let one = taken_as number has in
-      subst (λ (t : Taken). (order_of number (accepted node past) ≡ Some t.order) × (t.carriage ≡ carriage_of (classes_for (always listing) past node number) t.order))
+      subst (λ (t : Taken). (order_of number (accepted node past) ≡ Some t.order) × (t.carriage ≡ carriage_of (classes_for listing past node number) t.order))
       (some_taken (record { order = one.order; carriage = one.carriage }) taken (sym one.taken ∙ at)) (one.is, one.carried)
 
   pub table_is : IsTable listing h.commands node past
   table_is = record {
     numbers = shown.numbers_are;
-    settings = all_of (λ number. settings_for (always listing) past node number ≡ settings_taken (taken_at h.commands number)) (numbers_for node past) asked;
+    settings = all_of (λ number. settings_for listing past node number ≡ settings_taken (taken_at h.commands number)) (numbers_for node past) asked;
   }

@@ -100,7 +100,7 @@ Stays old new = (number : ℕ) (taken : Taken) → taken_at old number ≡ Some 
 same_stays : (old new : List Command) → SameOrders old new → Stays old new
 same_stays old new same number taken e = same.taken number ∙ e
 
-one_stays : (listing : ℕ → List ℕ) (old new : List Command) → Stays old new → (past : List Entry) (entry : Entry) → MayAnswer listing old past entry → MayAnswer listing new past entry
+one_stays : (listing : ℕ → List ℕ) (old new : List Command) → Stays old new → (past : List Entry) (entry : Entry) → MayAnswer (always listing) old past entry → MayAnswer (always listing) new past entry
 one_stays listing old new stays past (Accepted command node) is = record {
   order = is.order;
   carriage = is.carriage;
@@ -111,17 +111,17 @@ one_stays listing old new stays past (Accepted command node) is = record {
 }
 one_stays listing old new stays past entry is = tt
 
-said_stays : (listing : ℕ → List ℕ) (old new : List Command) (past : List Entry) → Stays old new → AreSaid listing old past → AreSaid listing new past
-said_stays listing old new past stays said = each-weaker (MayAnswer listing old) (MayAnswer listing new) (one_stays listing old new stays) [] past said
+said_stays : (listing : ℕ → List ℕ) (old new : List Command) (past : List Entry) → Stays old new → AreSaid (always listing) old past → AreSaid (always listing) new past
+said_stays listing old new past stays said = each-weaker (MayAnswer (always listing) old) (MayAnswer (always listing) new) (one_stays listing old new stays) [] past said
 
-free_answer : (listing : ℕ → List ℕ) (commands : List Command) (past : List Entry) (entry : Entry) → IsNoNumber entry → MayAnswer listing commands past entry
+free_answer : (listing : ℕ → List ℕ) (commands : List Command) (past : List Entry) (entry : Entry) → IsNoNumber entry → MayAnswer (always listing) commands past entry
 free_answer listing commands past (Accepted command node) none = absurd none
 free_answer listing commands past entry none = tt
 
-said_more : (listing : ℕ → List ℕ) (commands : List Command) (past es : List Entry) → AreSaid listing commands past → AllByRecursion IsNoNumber es → AreSaid listing commands (past ++ es)
+said_more : (listing : ℕ → List ℕ) (commands : List Command) (past es : List Entry) → AreSaid (always listing) commands past → AllByRecursion IsNoNumber es → AreSaid (always listing) commands (past ++ es)
 said_more listing commands past es said none =
-    each-append (MayAnswer listing commands) [] past es said
-    (each-anywhere (MayAnswer listing commands) IsNoNumber (free_answer listing commands) past es none)
+    each-append (MayAnswer (always listing) commands) [] past es said
+    (each-anywhere (MayAnswer (always listing) commands) IsNoNumber (free_answer listing commands) past es none)
 
 -- ---- a line that is said
 
@@ -160,7 +160,7 @@ AsidesKeep = (past : List Entry) (h : HostState) (entry : Entry) → Facts past 
 -- the host goes on from what was said
 pub record IsSo (listing : ℕ → List ℕ) (past : List Entry) (m : Machine) : Type 0 where
   pub facts : Facts past m.host.state
-  pub said : AreSaid listing m.host.state.commands past
+  pub said : AreSaid (always listing) m.host.state.commands past
 
 module _ (go_on : FactsGoOn) (listing : ℕ → List ℕ) where
   pub plain_so : (past : List Entry) (m : Machine) (events : List Event) → ArePlain events → MayAll m events → AllStartWell m events → IsSo listing past m
@@ -175,7 +175,7 @@ module _ (go_on : FactsGoOn) (listing : ℕ → List ℕ) where
 
   -- an order is accepted directly after its line
   pub order_so : (past : List Entry) (m : Machine) (words : List ℕ) (order : Order) (carriage : Carriage)
-      → line_of (Said words) ≡ Commanded order ∷ [] → KnowsListing listing past m.host.state → MayAll m (Outside_does Begins_line ∷ Host_does (Accepts order carriage) ∷ [])
+      → line_of (Said words) ≡ Commanded order ∷ [] → KnowsListing (always listing) past m.host.state → MayAll m (Outside_does Begins_line ∷ Host_does (Accepts order carriage) ∷ [])
       → AllStartWell m (Outside_does Begins_line ∷ Host_does (Accepts order carriage) ∷ []) → IsSo listing (past ++ Said words ∷ []) m
       → IsSo listing ((past ++ Said words ∷ []) ++ entries_all m (Outside_does Begins_line ∷ Host_does (Accepts order carriage) ∷ []))
       (happens_all m (Outside_does Begins_line ∷ Host_does (Accepts order carriage) ∷ []))
@@ -187,7 +187,7 @@ module _ (go_on : FactsGoOn) (listing : ℕ → List ℕ) where
       let is = may_accept m order carriage may in
       let classes : host_list (always listing) before order.node ≡ is.classes
       = ap (λ (o : Option (List ℕ)). unwrap_or o []) (known_said listing past words order.node ∙ sym (knows order.node) ∙ is.listed) in
-      let answer : IsSaid listing (old ++ one ∷ []) before (length old + 1) order.node = record {
+      let answer : IsSaid (always listing) (old ++ one ∷ []) before (length old + 1) order.node = record {
         order = order;
         carriage = carriage;
         said = last_said past words ∙ read;
@@ -195,17 +195,17 @@ module _ (go_on : FactsGoOn) (listing : ℕ → List ℕ) where
         taken = push_is old one;
         carried = is.carried ∙ ap (λ (l : List ℕ). carriage_of l order) (sym classes);
       } in
-      let said = each-append (MayAnswer listing (old ++ one ∷ [])) [] before (Accepted (length old + 1) order.node ∷ [])
+      let said = each-append (MayAnswer (always listing) (old ++ one ∷ [])) [] before (Accepted (length old + 1) order.node ∷ [])
       (said_stays listing old (old ++ one ∷ []) before (push_stays old one) so.said) (answer, tt) in
       record {
         facts = go_on before m events so.facts may well;
-        said = subst (λ (l : List Command). AreSaid listing l (before ++ entries_all m events)) (sym (taken_then m order carriage))
-            (subst (λ (l : List Entry). AreSaid listing (old ++ one ∷ []) (before ++ l)) (sym (opening m order carriage)) said);
+        said = subst (λ (l : List Command). AreSaid (always listing) l (before ++ entries_all m events)) (sym (taken_then m order carriage))
+            (subst (λ (l : List Entry). AreSaid (always listing) (old ++ one ∷ []) (before ++ l)) (sym (opening m order carriage)) said);
       }
 
   -- then the rest of the line
   orders_so : (past : List Entry) (m : Machine) (words : List ℕ) (order : Order) (events : List Event) → line_of (Said words) ≡ Commanded order ∷ []
-      → KnowsListing listing past m.host.state → Orders order events → MayAll m events → AllStartWell m events → IsSo listing (past ++ Said words ∷ []) m
+      → KnowsListing (always listing) past m.host.state → Orders order events → MayAll m events → AllStartWell m events → IsSo listing (past ++ Said words ∷ []) m
       → IsSo listing ((past ++ Said words ∷ []) ++ entries_all m events) (happens_all m events)
   orders_so past m words order events read knows orders may well so =
       let first = Outside_does Begins_line ∷ Host_does (Accepts order orders.carriage) ∷ [] in
@@ -222,7 +222,7 @@ module _ (go_on : FactsGoOn) (listing : ℕ → List ℕ) where
       done)
 
   module _ (aside : AsidesKeep) where
-    events_so : (past : List Entry) (m : Machine) (spoken : Spoken) (more : List Spoken) → KnowsListing listing past m.host.state → IsSpoken more m spoken → IsSo listing (past ++ Said spoken.words ∷ []) m
+    events_so : (past : List Entry) (m : Machine) (spoken : Spoken) (more : List Spoken) → KnowsListing (always listing) past m.host.state → IsSpoken more m spoken → IsSo listing (past ++ Said spoken.words ∷ []) m
         → IsSo listing ((past ++ Said spoken.words ∷ []) ++ entries_all m spoken.events) (after m spoken)
     events_so past m spoken more knows is so = elim (line_kind spoken.line) [
       | inl (order, which) ↦ elim (line_orders order m spoken.events (subst (λ (l : Line). LinePart l m spoken.events) which (spoken_part more m spoken is))) [
@@ -232,7 +232,7 @@ module _ (go_on : FactsGoOn) (listing : ℕ → List ℕ) where
       | inr none ↦ plain_so (past ++ Said spoken.words ∷ []) m spoken.events (line_plain spoken.line m spoken.events none (spoken_part more m spoken is)) is.may is.well so
     ]
 
-    line_so : (past : List Entry) (m : Machine) (spoken : Spoken) (more : List Spoken) → KnowsListing listing past m.host.state → IsSpoken more m spoken → IsSo listing past m
+    line_so : (past : List Entry) (m : Machine) (spoken : Spoken) (more : List Spoken) → KnowsListing (always listing) past m.host.state → IsSpoken more m spoken → IsSo listing past m
         → IsSo listing (past ++ entries_of m spoken) (after m spoken)
     line_so past m spoken more knows is so =
         let begun : IsSo listing (past ++ Said spoken.words ∷ []) m = record {
@@ -248,10 +248,10 @@ module _ (go_on : FactsGoOn) (listing : ℕ → List ℕ) where
         subst (λ (l : List Entry). IsSo listing l (after_all (after m spoken) more)) (append_assoc past (entries_of m spoken) (transcript_of (after m spoken) more))
         (lines_so (past ++ entries_of m spoken) (after m spoken) more knows.1 are.1 (line_so past m spoken more knows.0 are.0 so))
 
-    pub line_answers : (past : List Entry) (m : Machine) (spoken : Spoken) (more : List Spoken) → Facts past m.host.state → AreSaid listing m.host.state.commands past → KnowsListing listing past m.host.state
-        → IsSpoken more m spoken → Facts (past ++ entries_of m spoken) (after m spoken).host.state × AreSaid listing (after m spoken).host.state.commands (past ++ entries_of m spoken)
+    pub line_answers : (past : List Entry) (m : Machine) (spoken : Spoken) (more : List Spoken) → Facts past m.host.state → AreSaid (always listing) m.host.state.commands past → KnowsListing (always listing) past m.host.state
+        → IsSpoken more m spoken → Facts (past ++ entries_of m spoken) (after m spoken).host.state × AreSaid (always listing) (after m spoken).host.state.commands (past ++ entries_of m spoken)
     line_answers past m spoken more facts said knows is = let so = line_so past m spoken more knows is (record { facts = facts; said = said }) in (so.facts, so.said)
 
-    pub lines_answer : (past : List Entry) (m : Machine) (lines : List Spoken) → Facts past m.host.state → AreSaid listing m.host.state.commands past → AllKnow listing past m lines
-        → AreSpoken m lines → Facts (past ++ transcript_of m lines) (after_all m lines).host.state × AreSaid listing (after_all m lines).host.state.commands (past ++ transcript_of m lines)
+    pub lines_answer : (past : List Entry) (m : Machine) (lines : List Spoken) → Facts past m.host.state → AreSaid (always listing) m.host.state.commands past → AllKnow listing past m lines
+        → AreSpoken m lines → Facts (past ++ transcript_of m lines) (after_all m lines).host.state × AreSaid (always listing) (after_all m lines).host.state.commands (past ++ transcript_of m lines)
     lines_answer past m lines facts said knows are = let so = lines_so past m lines knows are (record { facts = facts; said = said }) in (so.facts, so.said)

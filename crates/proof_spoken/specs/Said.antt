@@ -22,32 +22,32 @@ use Rattle.world_lines.specs.Spoken.{Spoken, after, entries_of}
 
 -- An order that was accepted as this command of a node: it stands directly after the line that asks for it, the table has it, and it is carried as
 -- the classes ask that the host knew of the node then.
-pub record IsSaid (listing : ℕ → List ℕ) (commands : List Command) (past : List Entry) (command node : ℕ) : Type 0 where
+pub record IsSaid (listing : List Entry → ℕ → List ℕ) (commands : List Command) (past : List Entry) (command node : ℕ) : Type 0 where
   pub order : Order
   pub carriage : Carriage
   pub said : line_last past ≡ Commanded order ∷ []
   pub of_node : order.node ≡ node
   pub taken : taken_at commands command ≡ Some (record { order = order; carriage = carriage })
-  pub carried : carriage ≡ carriage_of (host_list (always listing) past node) order
+  pub carried : carriage ≡ carriage_of (host_list listing past node) order
 
-abbrev pub MayAnswer : (ℕ → List ℕ) → List Command → List Entry → Entry → Type 0
+abbrev pub MayAnswer : (List Entry → ℕ → List ℕ) → List Command → List Entry → Entry → Type 0
 MayAnswer listing commands past (Accepted command node) = IsSaid listing commands past command node
 MayAnswer listing commands past _ = Unit {0}
 
 -- so for each order that was accepted
-abbrev pub AreSaid : (ℕ → List ℕ) → List Command → List Entry → Type 0
+abbrev pub AreSaid : (List Entry → ℕ → List ℕ) → List Command → List Entry → Type 0
 AreSaid listing commands transcript = EachAfter (MayAnswer listing commands) [] transcript
 
 -- ---- classes
 
 -- the host knows of each node the classes that the transcript shows it to know
-abbrev pub KnowsListing : (ℕ → List ℕ) → List Entry → HostState → Type 0
-KnowsListing listing past h = (node : ℕ) → (node_of h.nodes node).classes ≡ known_classes (always listing) past node
+abbrev pub KnowsListing : (List Entry → ℕ → List ℕ) → List Entry → HostState → Type 0
+KnowsListing listing past h = (node : ℕ) → (node_of h.nodes node).classes ≡ known_classes listing past node
 
 -- so where each of these lines begins
 abbrev pub AllKnow : (ℕ → List ℕ) → List Entry → Machine → List Spoken → Type 0
 AllKnow listing past m [] = Unit {0}
-AllKnow listing past m (spoken ∷ more) = KnowsListing listing past m.host.state × AllKnow listing (past ++ entries_of m spoken) (after m spoken) more
+AllKnow listing past m (spoken ∷ more) = KnowsListing (always listing) past m.host.state × AllKnow listing (past ++ entries_of m spoken) (after m spoken) more
 
 -- ---- interviews
 

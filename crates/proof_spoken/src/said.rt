@@ -40,14 +40,15 @@ pub fn tables_keep_orders()
 /// that asks for it, and stays in the table as it was asked for.
 pub fn answers_stand_after_their_lines()
     ensures line { (listing : ℕ → List ℕ) (past : List Entry) (m : Machine) (spoken : Spoken) (more : List Spoken) →
-        Facts past m.host.state → AreSaid listing m.host.state.commands past →
-        KnowsListing listing past m.host.state → IsSpoken more m spoken →
-        Facts (past ++ entries_of m spoken) (after m spoken).host.state × AreSaid listing (after m spoken).host.state.commands (past ++ entries_of m spoken) }
+        Facts past m.host.state → AreSaid (always listing) m.host.state.commands past →
+        KnowsListing (always listing) past m.host.state → IsSpoken more m spoken →
+        Facts (past ++ entries_of m spoken) (after m spoken).host.state ×
+        AreSaid (always listing) (after m spoken).host.state.commands (past ++ entries_of m spoken) }
     ensures lines { (listing : ℕ → List ℕ) (past : List Entry) (m : Machine) (lines : List Spoken) → Facts past m.host.state →
-        AreSaid listing m.host.state.commands past →
+        AreSaid (always listing) m.host.state.commands past →
         AllKnow listing past m lines → AreSpoken m lines →
         Facts (past ++ transcript_of m lines) (after_all m lines).host.state ×
-        AreSaid listing (after_all m lines).host.state.commands (past ++ transcript_of m lines) }
+        AreSaid (always listing) (after_all m lines).host.state.commands (past ++ transcript_of m lines) }
 {
     the_machine_keeps_facts();
     asides_keep_facts();
@@ -55,29 +56,29 @@ pub fn answers_stand_after_their_lines()
 
 /// So the table is what the transcript shows of the orders of each node.
 pub fn tables_are_what_was_said()
-    ensures { (listing : ℕ → List ℕ) (past : List Entry) (h : HostState) (node : ℕ) → Facts past h → AreSaid listing h.commands past →
+    ensures { (listing : List Entry → ℕ → List ℕ) (past : List Entry) (h : HostState) (node : ℕ) → Facts past h → AreSaid listing h.commands past →
         IsTable listing h.commands node past }
 {}
 
 /// And each order that was accepted is in the table as the transcript shows it, carried as the classes ask that the host knew of the node then.
 pub fn orders_are_carried_as_said()
-    ensures { (listing : ℕ → List ℕ) (past : List Entry) (h : HostState) (node number : ℕ) (taken : Taken) → Facts past h →
+    ensures { (listing : List Entry → ℕ → List ℕ) (past : List Entry) (h : HostState) (node number : ℕ) (taken : Taken) → Facts past h →
         AreSaid listing h.commands past → Has (numbers_for node past) number → taken_at h.commands number ≡ Some taken →
-        (order_of number (accepted node past) ≡ Some taken.order) × (taken.carriage ≡ carriage_of (classes_for (always listing) past node number) taken.order) }
+        (order_of number (accepted node past) ≡ Some taken.order) × (taken.carriage ≡ carriage_of (classes_for listing past node number) taken.order) }
 {}
 
 /// The host knows of each node the classes that the transcript shows, where each interview that ends well is of a joined node and tells what the node
 /// lists, and a host that starts again knows what the one before knew: so it is of two hosts that have the same records.
 pub fn interviews_give_what_is_known()
-    ensures first { (listing : ℕ → List ℕ) (keys : Keys) → KnowsListing listing [] (first_host keys) }
+    ensures first { (listing : ℕ → List ℕ) (keys : Keys) → KnowsListing (always listing) [] (first_host keys) }
     ensures each { (listing : ℕ → List ℕ) (past : List Entry) (m : Machine) (event : Event) → May m event → Tells listing m event →
-        KnowsListing listing past m.host.state → KnowsListing listing (past ++ entries m event) (happens m event).host.state }
+        KnowsListing (always listing) past m.host.state → KnowsListing (always listing) (past ++ entries m event) (happens m event).host.state }
     ensures lines { (listing : ℕ → List ℕ) (past : List Entry) (m : Machine) (lines : List Spoken) → AreSpoken m lines →
-        LinesTell listing m lines → KnowsListing listing past m.host.state →
+        LinesTell listing m lines → KnowsListing (always listing) past m.host.state →
         AllKnow listing past m lines }
     ensures end { (listing : ℕ → List ℕ) (past : List Entry) (m : Machine) (lines : List Spoken) → AreSpoken m lines →
-        LinesTell listing m lines → KnowsListing listing past m.host.state →
-        KnowsListing listing (past ++ transcript_of m lines) (after_all m lines).host.state }
+        LinesTell listing m lines → KnowsListing (always listing) past m.host.state →
+        KnowsListing (always listing) (past ++ transcript_of m lines) (after_all m lines).host.state }
     ensures again { (old new : HostState) (texts : List (List ℕ)) → AreHeld old texts → AreHeld new texts → KnowsAgain old new }
 {
     a_restart_needs_the_records_alone();
@@ -88,7 +89,7 @@ pub fn interviews_give_what_is_known()
 pub fn runs_have_their_tables()
     ensures { (listing : ℕ → List ℕ) (keys : Keys) (records : Option (List (List ℕ))) (devices : List State) (lines : List Spoken) (node : ℕ) →
         AreSpoken (first_machine keys records devices) lines → LinesTell listing (first_machine keys records devices) lines →
-        IsTable listing (after_all (first_machine keys records devices) lines).host.state.commands node
+        IsTable (always listing) (after_all (first_machine keys records devices) lines).host.state.commands node
         (transcript_of (first_machine keys records devices) lines) }
 {
     the_machine_keeps_facts();

@@ -21,8 +21,8 @@ use Rattle.zw_text.specs.Transcript.{accepted_number, accepted_numbers, outcome}
 use Rattle.law_transcript.specs.Answers.{known_of, properties_kept, properties_with, refused_without}
 use Rattle.law_transcript.specs.Commands.{is_waiting, waiting}
 use Rattle.law_transcript.specs.Lists.{Has}
-use Rattle.law_transcript.specs.Stores.{node_at}
-use Rattle.law_transcript.specs.Nodes.{device_of, host_list, known_classes, listing_of, always}
+use Rattle.law_transcript.specs.Stores.{heard_value, node_at}
+use Rattle.law_transcript.specs.Nodes.{device_of, host_list, is_joined, known_classes, listing_of, always}
 use Rattle.law_transcript.proofs.Having.{all_of, has_shown, shown_has}
 use Rattle.host_model.specs.State.{HostState, Command, command_at, node_of}
 use Rattle.host_model.specs.After.{node_for, node_with}
@@ -30,7 +30,7 @@ use Rattle.host_model.specs.Asking.{Waits, carriage_for, refusal_for}
 use Rattle.host_model.specs.Facts.{IsCommandOf}
 use Rattle.host_model.specs.May.{known_of as known_of_host}
 use Rattle.host_model.proofs.RestoredFacts.{from_among}
-use Rattle.value_store.specs.Values.{count_with}
+use Rattle.value_store.specs.Values.{count_with, stored_of}
 use Rattle.proof_host.specs.Facts.{AreShown, Facts}
 use Rattle.proof_host.specs.Laws.{accepted_for, number_for, numbers_for}
 use Rattle.proof_host.specs.Tables.{nodes_by, outcome_in, recorded}
@@ -40,7 +40,7 @@ use Rattle.proof_spoken.specs.Said.{KnowsListing}
 use Rattle.world_model.specs.State.{Machine}
 use Rattle.world_model.specs.Refusals.{HasBad}
 use Rattle.proof_air.specs.Hearing.{RefusesAlike}
-use Rattle.proof_transcript.specs.Answering.{AnswerTies, may_be_taken_back}
+use Rattle.proof_transcript.specs.Answering.{AnswerTies, HostTies, may_be_taken_back}
 use Rattle.proof_transcript.specs.Told.{IsTold}
 use Rattle.proof_transcript.proofs.KeptProperties.{same_count}
 use Rattle.proof_transcript.proofs.Nodes.{device_is}
@@ -143,17 +143,14 @@ waiting_recorded outcomes.Fail is = absurd cc
 waiting_recorded outcomes.NoSupport is = absurd cc
 waiting_recorded outcomes.Cancelled is = absurd cc
 
-module _ (devices : List State) (past : List Entry) (m : Machine) (facts : Facts past m.host.state) (tables : AreShown past m.host.state) (told : IsTold past m)
-    (knows : KnowsListing (listing_of devices) past m.host.state) (by_table : (node : ℕ) → IsTable (listing_of devices) m.host.state.commands node past)
-    (no_more : KeepsNoMore m.host.state) (alike : RefusesAlike past m) (sound : (at : ℕ) → HasBad m.records at → ⊥) (same : AreSame devices m.outside.devices) where
-  abbrev h : HostState
-  h = m.host.state
-
-  known_is : (node : ℕ) → known_of (always (listing_of devices)) past node ≡ known_of_host (node_of h node)
+module _ (listing : List Entry → ℕ → List ℕ) (past : List Entry) (h : HostState) (facts : Facts past h) (tables : AreShown past h)
+    (joined : (node : ℕ) → (node_of h node).joined ≡ is_joined past node) (heard : (node : ℕ) (p : Property) → (stored_of h.store node p).heard ≡ heard_value past node p)
+    (knows : KnowsListing listing past h) (by_table : (node : ℕ) → IsTable listing h.commands node past) (no_more : KeepsNoMore h) where
+  known_is : (node : ℕ) → known_of listing past node ≡ known_of_host (node_of h node)
   known_is node =
       let waits : length (waiting node past) ≡ length (node_of h node).waiting =
       ap (λ (l : List ℕ). length (filter (λ number. is_waiting (outcome number past)) l)) (by_table node).numbers ∙ ap (λ (l : List ℕ). length l) (sym (tables.waiting node)) in
-      ap (λ (j : Bool). record { joined = j; classes = known_classes (always (listing_of devices)) past node; waiting = length (waiting node past) }) (sym (told.are_joined node))
+      ap (λ (j : Bool). record { joined = j; classes = known_classes listing past node; waiting = length (waiting node past) }) (sym (joined node))
       ∙ (ap (λ (c : Option (List ℕ)). record { joined = (node_of h node).joined; classes = c; waiting = length (waiting node past) }) (sym (knows node))
       ∙ ap (λ (k : ℕ). record { joined = (node_of h node).joined; classes = (node_of h node).classes; waiting = k }) waits)
 
@@ -166,18 +163,18 @@ module _ (devices : List State) (past : List Entry) (m : Machine) (facts : Facts
       by (Some command) (inl is) = ap (λ (n : ℕ). n ∷ []) is
       by (Some command) (inr has) = absurd has
 
-  count_is : (node : ℕ) (more : List Property) → count_with h.store node more ≡ distinct_count same_property (more ++ properties_kept (always (listing_of devices)) past node)
+  count_is : (node : ℕ) (more : List Property) → count_with h.store node more ≡ distinct_count same_property (more ++ properties_kept listing past node)
   count_is node more =
-      same_count (listing_of devices) past h facts by_table told.heard no_more
+      same_count listing past h facts by_table heard no_more
       (λ number n is. number_among past n number (subst (λ (l : List ℕ). Has l n) (sym is) (inl refl)))
       (λ n. all_of (λ number. nodes_by (command_at h.commands number) ≡ n ∷ []) (numbers_for n past) (λ number has. nodes_of n number has)) node more
 
-  order_is : (order : Order) → refusal_of (known_of (always (listing_of devices)) past order.node) (properties_with (always (listing_of devices)) past order) order ≡ refusal_for h order
+  order_is : (order : Order) → refusal_of (known_of listing past order.node) (properties_with listing past order) order ≡ refusal_for h order
   order_is order =
       let node = order.node in
-      let classes : host_list (always (listing_of devices)) past node ≡ classes_of (known_of_host (node_of h node)) = ap (λ (o : Option (List ℕ)). unwrap_or o []) (sym (knows node)) in
-      ap (λ (k : Known). refusal_of k (properties_with (always (listing_of devices)) past order) order) (known_is node)
-      ∙ (ap (λ (l : List ℕ). refusal_of (known_of_host (node_of h node)) (distinct_count same_property (properties_of (settings (actuator_of l) order) ++ properties_kept (always (listing_of devices)) past node)) order) classes
+      let classes : host_list listing past node ≡ classes_of (known_of_host (node_of h node)) = ap (λ (o : Option (List ℕ)). unwrap_or o []) (sym (knows node)) in
+      ap (λ (k : Known). refusal_of k (properties_with listing past order) order) (known_is node)
+      ∙ (ap (λ (l : List ℕ). refusal_of (known_of_host (node_of h node)) (distinct_count same_property (properties_of (settings (actuator_of l) order) ++ properties_kept listing past node)) order) classes
       ∙ ap (λ (n : ℕ). refusal_of (known_of_host (node_of h node)) n order) (sym (count_is node (properties_of (settings (carriage_for h order).actuator order)))))
 
   -- a command that waits for its node may be taken back
@@ -220,13 +217,15 @@ module _ (devices : List State) (past : List Entry) (m : Machine) (facts : Facts
       by true false is so = refl
       by true true is so = absurd (none (waits_there command (any_has (accepted_numbers past) command is) so))
 
+  pub host_ties : HostTies listing past h
+  host_ties = record { order = order_is; known = known_is; count = facts.accepted.count; waits = waits_is; waits_not = waits_not }
+
+module _ (devices : List State) (past : List Entry) (m : Machine) (facts : Facts past m.host.state) (tables : AreShown past m.host.state) (told : IsTold past m)
+    (knows : KnowsListing (always (listing_of devices)) past m.host.state) (by_table : (node : ℕ) → IsTable (always (listing_of devices)) m.host.state.commands node past)
+    (no_more : KeepsNoMore m.host.state) (alike : RefusesAlike past m) (sound : (at : ℕ) → HasBad m.records at → ⊥) (same : AreSame devices m.outside.devices) where
   pub ties_are : AnswerTies devices past m
   ties_are = record {
-    order = order_is;
-    known = known_is;
-    count = facts.accepted.count;
-    waits = waits_is;
-    waits_not = waits_not;
+    host = host_ties (always (listing_of devices)) past m.host.state facts tables told.are_joined told.heard knows by_table no_more;
     repeats = alike;
     sound = sound;
     absent = λ node. absent_alike devices m.outside.devices node same ∙ ap refused_without (sym (device_is node m.outside.devices));

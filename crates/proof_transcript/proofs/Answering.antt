@@ -52,14 +52,14 @@ use Rattle.outside_model.specs.Events.{OuterEvent, Repeats, Wakes_device, Sets_d
 use Rattle.proof_device.proofs.Entered.{IsMark, IsCleared, all_cleared}
 use Rattle.world_model.specs.State.{Machine}
 use Rattle.world_model.specs.Events.{Event, Outside_does, Host_does, Refuses, Shows_values, Restarts, shown_values, happens, entries, May}
-use Rattle.world_model.specs.Refusals.{HasBad, IsRefusedOrUnkept, IsUncancelled, IsUnopened, shown}
+use Rattle.world_model.specs.Refusals.{HasBad, IsRefusedBy, IsRefusedOrUnkept, IsUncancelled, IsUnopened, shown}
 use Rattle.world_model.specs.Lines.{Asks, IsDone, IsEffect}
 use Rattle.proof_walk.specs.Outside.{IsOfAir, IsHostNote}
 use Rattle.proof_walk.specs.ByLine.{Asked, begun, Opened, TiedByLine}
 use Rattle.proof_walk.specs.Walk.{TiedWalk}
 use Rattle.proof_walk.proofs.Alone.{KindsAre, acts_are, common_are, stamped_are, steps_are}
 use Rattle.proof_walk.proofs.ByLine.{last_is, said_last, opens, tied_walk_of}
-use Rattle.proof_transcript.specs.Answering.{IsFree, AreFree, IsFreeEvent, AnswerTies, IsAnswered, Answered, AwaitsAnswer, KnowsAnswers, IsAnswerOf, may_be_taken_back}
+use Rattle.proof_transcript.specs.Answering.{IsFree, AreFree, IsFreeEvent, AnswerTies, HostTies, IsAnswered, Answered, AwaitsAnswer, KnowsAnswers, IsAnswerOf, may_be_taken_back}
 
 -- ---- lists
 
@@ -68,14 +68,14 @@ all_but_last : (before : List Entry) (e : Entry) → take (length before) (befor
 all_but_last [] e = refl
 all_but_last (first ∷ before) e = ap (λ (l : List Entry). first ∷ l) (all_but_last before e)
 
-before_is : (before : List Entry) (e : Entry) → before_last (before ++ e ∷ []) ≡ before
+pub before_is : (before : List Entry) (e : Entry) → before_last (before ++ e ∷ []) ≡ before
 before_is before e =
     let count : length (before ++ e ∷ []) - 1 ≡ length before = omega (arith, (length_at_push before e).1) in
     ap (λ (n : ℕ). take n (before ++ e ∷ [])) count ∙ all_but_last before e
 
 -- ---- kinds of entries
 
-of_air_free : (e : Entry) → IsOfAir e → IsFree e
+pub of_air_free : (e : Entry) → IsOfAir e → IsFree e
 of_air_free (entry.Said words) of_air = of_air
 of_air_free (entry.Accepted command node) of_air = of_air
 of_air_free (entry.Refused refusal) of_air = of_air
@@ -87,7 +87,7 @@ mark_free (entry.Accepted command node) mark = mark
 mark_free (entry.Refused refusal) mark = mark
 mark_free e mark = tt
 
-note_free : (e : Entry) → IsHostNote e → IsFree e
+pub note_free : (e : Entry) → IsHostNote e → IsFree e
 note_free (entry.Said words) note = note
 note_free (entry.Accepted command node) note = note
 note_free (entry.Refused refusal) note = note
@@ -103,7 +103,7 @@ kinds_free = record {
   note = note_free;
 }
 
-free_is_no_answer : (e : Entry) → IsFree e → IsNoAnswer e
+pub free_is_no_answer : (e : Entry) → IsFree e → IsNoAnswer e
 free_is_no_answer (entry.Accepted command node) free = free
 free_is_no_answer (entry.Refused refusal) free = free
 free_is_no_answer e free = tt
@@ -112,7 +112,7 @@ free_is_sound : (e : Entry) → IsFree e → IsNoBadRecord e
 free_is_sound (entry.Refused refusal) free = absurd free
 free_is_sound e free = tt
 
-free_says_nothing : (e : Entry) → IsFree e → line_of e ≡ []
+pub free_says_nothing : (e : Entry) → IsFree e → line_of e ≡ []
 free_says_nothing (entry.Said words) free = absurd free
 free_says_nothing e free = refl
 
@@ -154,7 +154,7 @@ order_sound (Some refused) refusal (inl so) = shown_sound refused refusal so
 order_sound rule refusal (inr (none, keeper)) = keeper_sound refusal keeper
 
 -- of some rules the first that refuses is the same where the last one is other; or only the last one refuses
-abbrev Alike : Option HostRefusal → Option HostRefusal → Option HostRefusal → Type 0
+abbrev pub Alike : Option HostRefusal → Option HostRefusal → Option HostRefusal → Type 0
 Alike full free last = (full ≡ free) ⊎ ((free ≡ None) × (full ≡ last))
 
 first_of : (rules : List (Option HostRefusal)) (last : Option HostRefusal) → Alike (first_some (rules ++ last ∷ [])) (first_some (rules ++ None ∷ [])) last
@@ -173,13 +173,13 @@ after_two None (Some refused) full free last alike = inl refl
 after_two None None full free last (inl same) = inl (ap (λ (o : Option HostRefusal). first_some (o ∷ [])) same)
 after_two None None full free last (inr (none, is)) = inr (alone free ∙ none, alone full ∙ is)
 
-send_alike : (known : Known) (queued : ℕ) (word : Word) → Alike (send_refusal known queued word) (send_refusal known 0 word) (queue_full queued)
+pub send_alike : (known : Known) (queued : ℕ) (word : Word) → Alike (send_refusal known queued word) (send_refusal known 0 word) (queue_full queued)
 unfolding send_refusal sendable_refusal
 send_alike known queued word = after_two _ _ (sendable_refusal (classes_of known) queued word) (sendable_refusal (classes_of known) 0 word) (queue_full queued) (first_of
     (secured (classes_of known) ∷ unsupported (classes_of known) (class_of (sendable_of (classes_of known)) ∷ []) ∷ unless (not (is_bad_word (sendable_of (classes_of known)) word)) host.BadValue ∷ [])
     (queue_full queued))
 
-get_alike : (known : Known) (queued end : ℕ) → Alike (get_refusal known queued end) (get_refusal known 0 end) (queue_full queued)
+pub get_alike : (known : Known) (queued end : ℕ) → Alike (get_refusal known queued end) (get_refusal known 0 end) (queue_full queued)
 unfolding get_refusal gettable_refusal
 get_alike known queued end = after_two _ _ (gettable_refusal (classes_of known) queued end) (gettable_refusal (classes_of known) 0 end) (queue_full queued) (first_of
     (secured (classes_of known) ∷ unsupported (classes_of known) (gettable_class (gettable_of (classes_of known)) ∷ channel_class end) ∷ [])
@@ -234,6 +234,118 @@ empty_effect (lines.Store node) m is = none_first _ _ is
 empty_effect lines.Restart m (inl (state, are)) = none_first _ _ are
 empty_effect lines.Restart m (inr (refusal, are)) = none_first _ _ are
 
+-- ---- what is due, of a host
+
+-- where no answer is due, an entry that is none may stand
+pub may_stand : (line : Line) (e : Entry) → ((command : ℕ) → line ≡ lines.Cancel command → ⊥) → IsNoAnswer e → MayStandAfter line e
+may_stand (lines.Cancel command) e other none = absurd (other command refl)
+may_stand line (entry.Accepted command node) other none = absurd none
+may_stand line (entry.Refused refusal) other none = absurd none
+may_stand line e other none = tt
+
+pub no_refusal : (line : Line) (due : List Entry) (e : Entry) → due ≡ [] → MayStandAfter line e → IsRefusal line due e
+no_refusal line due e none stands = subst (λ (l : List Entry). IsRefusal line l e) (sym none) stands
+
+-- where a line has its answer or needs none, an entry that is no answer may stand
+pub answered_stands : (listing : List Entry → ℕ → List ℕ) (due : List Entry → Line → List Entry) (before : List Entry) (l : List Line) (e : Entry) → IsNoAnswer e → IsAnswered due before l
+    → Follows listing due before l e
+answered_stands listing due before [] e none answered = none
+answered_stands listing due before (lines.Command order ∷ more) e none answered = absurd answered
+answered_stands listing due before (lines.Cancel command ∷ more) e none answered = absurd answered
+answered_stands listing due before (line ∷ more) e none answered = no_refusal line (due before line) e answered (may_stand line e (λ command is. cc) none)
+
+-- after an entry that is no line none is due
+pub unsaid_answered : (due : List Entry → Line → List Entry) (past : List Entry) (e : Entry) → line_of e ≡ [] → IsAnswered due (before_last (past ++ e ∷ [])) (line_last (past ++ e ∷ []))
+unsaid_answered due past e none = subst (λ (l : List Line). IsAnswered due (before_last (past ++ e ∷ [])) l) (sym (last_is past e ∙ none)) tt
+
+-- what is entered of the rule
+abbrev pub due_of : Option HostRefusal → List Entry
+due_of rule = flat_map refusal_entry (listed rule) ++ []
+
+full_refusal : (line : Line) (due : List Entry) (full : Bool) (refused : HostRefusal) (refusal : Refusal) → due ≡ [] → MayStandAfter line (entry.Refused (refusals.QueueFull 64))
+    → (if full then Some (host.QueueFull 64) else None) ≡ Some refused → shown refused ≡ Some refusal → IsRefusal line due (entry.Refused refusal)
+full_refusal line due full refused refusal none stands is so =
+    let some : Some (refusals.QueueFull 64) ≡ Some refusal = subst (λ (r : HostRefusal). shown r ≡ Some refusal) (sym (full_is full refused is)) so in
+    let same : refusals.QueueFull 64 ≡ refusal = cc in
+    subst (λ (r : Refusal). IsRefusal line due (entry.Refused r)) same (no_refusal line due (entry.Refused (refusals.QueueFull 64)) none stands)
+
+rule_refusal : (line : Line) (due : List Entry) (refused : HostRefusal) (refusal : Refusal) → due ≡ due_of (Some refused) → shown refused ≡ Some refusal → IsRefusal line due (entry.Refused refusal)
+rule_refusal line due refused refusal is so =
+    let one : due ≡ entry.Refused refusal ∷ [] = is ∙ ap (λ (l : List Entry). (l ++ []) ++ []) (shown_entry refused refusal so) in
+    subst (λ (l : List Entry). IsRefusal line l (entry.Refused refusal)) (sym one) refl
+
+-- where no rule refuses, the rule that asks for no place does not either; and a rule that refuses is entered
+pub not_due : (due : List Entry) (full free : Option HostRefusal) (flag : Bool) → due ≡ due_of free → Alike full free (if flag then Some (host.QueueFull 64) else None) → full ≡ None → due ≡ []
+not_due due full free flag is (inl same) none = is ∙ ap due_of (sym same ∙ none)
+not_due due full free flag is (inr (free_none, last)) none = is ∙ ap due_of free_none
+
+pub is_due : (line : Line) (due : List Entry) (full free : Option HostRefusal) (flag : Bool) (refusal : Refusal) → due ≡ due_of free → Alike full free (if flag then Some (host.QueueFull 64) else None)
+    → MayStandAfter line (entry.Refused (refusals.QueueFull 64)) → IsRefusedBy full refusal → IsRefusal line due (entry.Refused refusal)
+is_due line due None free flag refusal is alike stands by_none = absurd by_none
+is_due line due (Some refused) free flag refusal is (inl same) stands so = rule_refusal line due refused refusal (is ∙ ap due_of (sym same)) so
+is_due line due (Some refused) free flag refusal is (inr (none, last)) stands so = full_refusal line due flag refused refusal (is ∙ ap due_of none) stands (sym last) so
+
+pub places_alike : (flag : Bool) → Alike (if flag then Some (host.QueueFull 64) else None) None (if flag then Some (host.QueueFull 64) else None)
+places_alike true = inr (refl, refl)
+places_alike false = inl refl
+
+abbrev pub two_full : HostState → Bool
+two_full h = nat_lt 64 (length h.requests.queue + 2)
+
+abbrev pub interview_rule : HostState → Bool → Option HostRefusal
+interview_rule h joined = if joined then places_refusal h 2 else Some host.NotJoined
+
+abbrev pub free_rule : Bool → Option HostRefusal
+free_rule joined = if joined then None else Some host.NotJoined
+
+pub interview_alike : (h : HostState) (joined : Bool) → Alike (interview_rule h joined) (free_rule joined) (if two_full h then Some (host.QueueFull 64) else None)
+interview_alike h true = places_alike (two_full h)
+interview_alike h false = inl refl
+
+pub free_due : (joined : Bool) → (if joined then [] else entry.Refused refusals.NotJoined ∷ []) ++ [] ≡ due_of (free_rule joined)
+free_due true = refl
+free_due false = refl
+
+-- an order that may be accepted is refused by no rule
+pub few_fit : (h : HostState) (order : Order) (rule : Option HostRefusal) → rule ≡ None → (count : ℕ) → count ≤ 512 → refusal_or rule count ≡ None
+few_fit h order rule none count few = ap (λ (o : Option HostRefusal). refusal_or o count) none ∙ ap (λ (b : Bool). if b then Some (host.StoreFull 512) else None) (le-ltb 512 count few)
+
+pub order_answer : (listing : List Entry → ℕ → List ℕ) (past : List Entry) (h : HostState) (order : Order) → HostTies listing past h → refusal_for h order ≡ None
+    → answer_to listing past order ≡ entry.Accepted (length h.commands + 1) order.node ∷ []
+order_answer listing past h order ties none =
+    ap (λ (o : Option HostRefusal). answered_by past order.node o) (ties.order order ∙ none) ∙ ap (λ (n : ℕ). entry.Accepted (n + 1) order.node ∷ []) ties.count
+
+pub order_refused : (listing : List Entry → ℕ → List ℕ) (past : List Entry) (h : HostState) (order : Order) (refusal : Refusal) → HostTies listing past h → (rule : Option HostRefusal)
+    → refusal_for h order ≡ rule → IsRefusedOrUnkept rule refusal → IsAnswer (answer_to listing past order) (entry.Refused refusal)
+order_refused listing past h order refusal ties None is (inl by_none) = absurd by_none
+order_refused listing past h order refusal ties None is (inr (none, keeper)) = inr (subst LetsIn (sym (order_answer listing past h order ties is)) tt, ap (λ (r : Refusal). entry.Refused r) keeper)
+order_refused listing past h order refusal ties (Some refused) is (inl so) =
+    inl (ap (λ (o : Option HostRefusal). answered_by past order.node o) (ties.order order ∙ is) ∙ shown_entry refused refusal so)
+order_refused listing past h order refusal ties (Some refused) is (inr (none, keeper)) = absurd (let some : Some refused ≡ None = none in cc)
+
+pub cancel_refused : (listing : List Entry → ℕ → List ℕ) (before : List Entry) (h : HostState) (command : ℕ) (refusal : Refusal) (due : List Entry)
+    → ((b : Bool) → may_be_taken_back before command ≡ b → due ≡ (if b then [] else entry.Refused (refusals.NotWaiting command) ∷ [])) → HostTies listing before h → IsUncancelled h command refusal
+    → IsRefusal (lines.Cancel command) due (entry.Refused refusal)
+cancel_refused listing before h command refusal due due_is ties (inl (not_waits, is)) =
+    subst (λ (l : List Entry). IsRefusal (lines.Cancel command) l (entry.Refused refusal)) (sym (due_is false (ties.waits_not command not_waits))) (ap (λ (r : Refusal). entry.Refused r) (sym is))
+cancel_refused listing before h command refusal due due_is ties (inr (waits, is)) =
+    no_refusal (lines.Cancel command) due (entry.Refused refusal) (due_is true (ties.waits command waits.1)) (subst (λ (r : Refusal). MayStandAfter (lines.Cancel command) (entry.Refused r)) (sym is) tt)
+
+abbrev pub join_entries : Bool → List Entry
+join_entries joined = (if not joined then [] else entry.Refused refusals.AlreadyJoined ∷ []) ++ []
+
+pub join_refused : (node : ℕ) (due : List Entry) (refusal : Refusal) (b : Bool) → due ≡ join_entries b → IsRefusedOrUnkept (if b then Some host.AlreadyJoined else None) refusal
+    → IsRefusal (lines.Join node) due (entry.Refused refusal)
+join_refused node due refusal true is (inl so) = rule_refusal (lines.Join node) due host.AlreadyJoined refusal is so
+join_refused node due refusal true is (inr (none, keeper)) = absurd (let some : Some host.AlreadyJoined ≡ None = none in cc)
+join_refused node due refusal false is (inl by_none) = absurd by_none
+join_refused node due refusal false is (inr (none, keeper)) =
+    no_refusal (lines.Join node) due (entry.Refused refusal) is (subst (λ (r : Refusal). MayStandAfter (lines.Join node) (entry.Refused r)) (sym keeper) refl)
+
+pub restart_refused : (records : Option (List (List ℕ))) (refusal : Refusal) → IsUnopened records refusal → MayStandAfter lines.Restart (entry.Refused refusal)
+restart_refused records refusal (inl keeper) = subst (λ (r : Refusal). MayStandAfter lines.Restart (entry.Refused r)) (sym keeper) refl
+restart_refused records refusal (inr (at, bad, is)) = subst (λ (r : Refusal). MayStandAfter lines.Restart (entry.Refused r)) (sym is) refl
+
 -- ---- the law
 
 module _ (devices : List State) where
@@ -243,31 +355,12 @@ module _ (devices : List State) where
   abbrev Lines_refused : List Entry → Line → List Entry
   Lines_refused before line = refusals_to devices before line
 
-  -- where no answer is due, an entry that is none may stand
-  may_stand : (line : Line) (e : Entry) → ((command : ℕ) → line ≡ lines.Cancel command → ⊥) → IsNoAnswer e → MayStandAfter line e
-  may_stand (lines.Cancel command) e other none = absurd (other command refl)
-  may_stand line (entry.Accepted command node) other none = absurd none
-  may_stand line (entry.Refused refusal) other none = absurd none
-  may_stand line e other none = tt
-
-  no_refusal : (line : Line) (due : List Entry) (e : Entry) → due ≡ [] → MayStandAfter line e → IsRefusal line due e
-  no_refusal line due e none stands = subst (λ (l : List Entry). IsRefusal line l e) (sym none) stands
-
-  answered_stands : (before : List Entry) (l : List Line) (e : Entry) → IsNoAnswer e → IsAnswered (refusals_to devices) before l → Follows (always (listing_of devices)) (refusals_to devices) before l e
-  answered_stands before [] e none answered = none
-  answered_stands before (lines.Command order ∷ more) e none answered = absurd answered
-  answered_stands before (lines.Cancel command ∷ more) e none answered = absurd answered
-  answered_stands before (line ∷ more) e none answered = no_refusal line (refusals_to devices before line) e answered (may_stand line e (λ command is. cc) none)
-
-  free_answered : (past : List Entry) (e : Entry) → IsFree e → IsAnswered (refusals_to devices) (before_last (past ++ e ∷ [])) (line_last (past ++ e ∷ []))
-  free_answered past e free = subst (λ (l : List Line). IsAnswered (refusals_to devices) (before_last (past ++ e ∷ [])) l) (sym (last_is past e ∙ free_says_nothing e free)) tt
-
   -- entries that answer nothing
   all_stand : (past told : List Entry) (m : Machine) → Answered devices past m → AreFree told → EachAfter Stands past told × Answered devices (past ++ told) m
   all_stand past [] m answered free = (tt, subst (λ (l : List Entry). Answered devices l m) (sym (append-nil past)) answered)
   all_stand past (e ∷ told) m answered free =
-      let rest = all_stand (past ++ e ∷ []) told m (free_answered past e free.0) free.1 in (
-        ((answered_stands (before_last past) (line_last past) e (free_is_no_answer e free.0) answered, free_is_sound e free.0), rest.0),
+      let rest = all_stand (past ++ e ∷ []) told m (unsaid_answered (refusals_to devices) past e (free_says_nothing e free.0)) free.1 in (
+        ((answered_stands (always (listing_of devices)) (refusals_to devices) (before_last past) (line_last past) e (free_is_no_answer e free.0) answered, free_is_sound e free.0), rest.0),
         subst (λ (l : List Entry). Answered devices l m) (append_assoc past (e ∷ []) told) rest.1,
       )
 
@@ -339,22 +432,6 @@ module _ (devices : List State) where
 
   -- ---- a request that is asked for, where a rule may refuse it
 
-  -- what is entered of the rule
-  abbrev due_of : Option HostRefusal → List Entry
-  due_of rule = flat_map refusal_entry (listed rule) ++ []
-
-  full_refusal : (line : Line) (due : List Entry) (full : Bool) (refused : HostRefusal) (refusal : Refusal) → due ≡ [] → MayStandAfter line (entry.Refused (refusals.QueueFull 64))
-      → (if full then Some (host.QueueFull 64) else None) ≡ Some refused → shown refused ≡ Some refusal → IsRefusal line due (entry.Refused refusal)
-  full_refusal line due full refused refusal none stands is so =
-      let some : Some (refusals.QueueFull 64) ≡ Some refusal = subst (λ (r : HostRefusal). shown r ≡ Some refusal) (sym (full_is full refused is)) so in
-      let same : refusals.QueueFull 64 ≡ refusal = cc in
-      subst (λ (r : Refusal). IsRefusal line due (entry.Refused r)) same (no_refusal line due (entry.Refused (refusals.QueueFull 64)) none stands)
-
-  rule_refusal : (line : Line) (due : List Entry) (refused : HostRefusal) (refusal : Refusal) → due ≡ due_of (Some refused) → shown refused ≡ Some refusal → IsRefusal line due (entry.Refused refusal)
-  rule_refusal line due refused refusal is so =
-      let one : due ≡ entry.Refused refusal ∷ [] = is ∙ ap (λ (l : List Entry). (l ++ []) ++ []) (shown_entry refused refusal so) in
-      subst (λ (l : List Entry). IsRefusal line l (entry.Refused refusal)) (sym one) refl
-
   module _ (line : Line) (past : List Entry) (first here : Machine) (asked : Asked (AnswerTies devices) line past first)
       (enters : (refusal : Refusal) → entries here (Refuses line refusal) ≡ entry.Refused refusal ∷ [])
       (to_follows : (e : Entry) → IsRefusal line (refusals_to devices asked.before line) e → Follows (always (listing_of devices)) (refusals_to devices) asked.before (line ∷ []) e)
@@ -364,22 +441,12 @@ module _ (devices : List State) where
         → Alike full free (if flag then Some (host.QueueFull 64) else None) → entries here (Host_does ask) ≡ [] → Asks full line ask (event ∷ left) → Goal line past here event left
     errand None free flag ask event left due alike none asks =
         as_these line past here event (Host_does ask) left [] asks
-        (needs_none line past first here asked (Host_does ask) [] (to_answered (due ∙ ap due_of (free_is alike))) (none_free line past first here asked (Host_does ask) none) tt)
-      where
-        free_is : Alike None free (if flag then Some (host.QueueFull 64) else None) → free ≡ None
-        free_is (inl same) = sym same
-        free_is (inr (is, last)) = is
+        (needs_none line past first here asked (Host_does ask) [] (to_answered (not_due (refusals_to devices asked.before line) None free flag due alike refl))
+        (none_free line past first here asked (Host_does ask) none) tt)
     errand (Some refused) free flag ask event left due alike none (refusal, so, are) =
         as_these line past here event (Refuses line refusal) left [] are
-        (answers_it line past first here asked (Refuses line refusal) [] (entry.Refused refusal) (enters refusal) (to_follows (entry.Refused refusal) (refuses alike)) (shown_sound refused refusal so) refl tt)
-      where
-        refuses : Alike (Some refused) free (if flag then Some (host.QueueFull 64) else None) → IsRefusal line (refusals_to devices asked.before line) (entry.Refused refusal)
-        refuses (inl same) = rule_refusal line (refusals_to devices asked.before line) refused refusal (due ∙ ap due_of (sym same)) so
-        refuses (inr (is, last)) = full_refusal line (refusals_to devices asked.before line) flag refused refusal (due ∙ ap due_of is) stands (sym last) so
-
-  places_alike : (flag : Bool) → Alike (if flag then Some (host.QueueFull 64) else None) None (if flag then Some (host.QueueFull 64) else None)
-  places_alike true = inr (refl, refl)
-  places_alike false = inl refl
+        (answers_it line past first here asked (Refuses line refusal) [] (entry.Refused refusal) (enters refusal)
+        (to_follows (entry.Refused refusal) (is_due line (refusals_to devices asked.before line) (Some refused) free flag refusal due alike stands so)) (shown_sound refused refusal so) refl tt)
 
   asks_enter : (first : Machine) (task : Task) → entries (begun first) (Host_does (Queues task)) ≡ []
   unfolding happens entries outcome devices_after
@@ -400,29 +467,9 @@ module _ (devices : List State) where
   unfolding happens entries outcome devices_after
   accepts_enter first order carriage = refl
 
-  -- an order that may be accepted is refused by no rule
-  few_fit : (h : HostState) (order : Order) (rule : Option HostRefusal) → rule ≡ None → (count : ℕ) → count ≤ 512 → refusal_or rule count ≡ None
-  few_fit h order rule none count few = ap (λ (o : Option HostRefusal). refusal_or o count) none ∙ ap (λ (b : Bool). if b then Some (host.StoreFull 512) else None) (le-ltb 512 count few)
-
   unrefused : (first : Machine) (order : Order) → May (begun first) (Host_does (Accepts order (carriage_for first.host.state order))) → refusal_for first.host.state order ≡ None
   unfolding happens May
   unrefused first order may = few_fit first.host.state order _ may.0.unrefused _ may.0.few
-
-  order_answer : (past : List Entry) (m : Machine) (order : Order) → AnswerTies devices past m → refusal_for m.host.state order ≡ None
-      → answer_to (always (listing_of devices)) past order ≡ entry.Accepted (length m.host.state.commands + 1) order.node ∷ []
-  order_answer past m order ties none =
-      ap (λ (o : Option HostRefusal). answered_by past order.node o) (ties.order order ∙ none) ∙ ap (λ (n : ℕ). entry.Accepted (n + 1) order.node ∷ []) ties.count
-
-  order_refused : (past : List Entry) (first : Machine) (order : Order) (refusal : Refusal) → AnswerTies devices past first → (rule : Option HostRefusal) → refusal_for first.host.state order ≡ rule
-      → IsRefusedOrUnkept rule refusal → IsAnswer (answer_to (always (listing_of devices)) past order) (entry.Refused refusal)
-  order_refused past first order refusal ties None is (inl by_none) = absurd by_none
-  order_refused past first order refusal ties None is (inr (none, keeper)) = inr (
-    subst LetsIn (sym (order_answer past first order ties is)) tt,
-    ap (λ (r : Refusal). entry.Refused r) keeper,
-  )
-  order_refused past first order refusal ties (Some refused) is (inl so) =
-      inl (ap (λ (o : Option HostRefusal). answered_by past order.node o) (ties.order order ∙ is) ∙ shown_entry refused refusal so)
-  order_refused past first order refusal ties (Some refused) is (inr (none, keeper)) = absurd (let some : Some refused ≡ None = none in cc)
 
   may_refuse_order : (first : Machine) (order : Order) (refusal : Refusal) → May (begun first) (Refuses (lines.Command order) refusal) → IsRefusedOrUnkept (refusal_for first.host.state order) refusal
   unfolding happens May
@@ -434,11 +481,11 @@ module _ (devices : List State) where
       let made : Event = Host_does (Accepts order (carriage_for first.host.state order)) in
       as_these (lines.Command order) past (begun first) event made left [] are
       (answers_it (lines.Command order) past first (begun first) asked made [] (entry.Accepted (length first.host.state.commands + 1) order.node) (accepts_enter first order (carriage_for first.host.state order))
-      (inl (order_answer asked.before first order asked.ties (unrefused first order (may_these (begun first) event made left [] are may)))) tt refl tt)
+      (inl (order_answer (always (listing_of devices)) asked.before first.host.state order asked.ties.host (unrefused first order (may_these (begun first) event made left [] are may)))) tt refl tt)
   order_goal past first order asked event left may (inr (refusal, are)) =
       let refused = may_refuse_order first order refusal (may_these (begun first) event (Refuses (lines.Command order) refusal) left [] are may) in
       refused_so (lines.Command order) past first asked event left refusal are
-      (order_refused asked.before first order refusal asked.ties (refusal_for first.host.state order) refl refused) (order_sound (refusal_for first.host.state order) refusal refused)
+      (order_refused (always (listing_of devices)) asked.before first.host.state order refusal asked.ties.host (refusal_for first.host.state order) refl refused) (order_sound (refusal_for first.host.state order) refusal refused)
 
   -- ---- a command is taken back
 
@@ -458,15 +505,6 @@ module _ (devices : List State) where
   cancel_due before command true is = ap (λ (b : Bool). (if b then [] else entry.Refused (refusals.NotWaiting command) ∷ []) ++ []) is
   cancel_due before command false is = ap (λ (b : Bool). (if b then [] else entry.Refused (refusals.NotWaiting command) ∷ []) ++ []) is
 
-  cancel_refused : (before : List Entry) (first : Machine) (command : ℕ) (refusal : Refusal) → AnswerTies devices before first → IsUncancelled first.host.state command refusal
-      → IsRefusal (lines.Cancel command) (refusals_to devices before (lines.Cancel command)) (entry.Refused refusal)
-  cancel_refused before first command refusal ties (inl (not_waits, is)) =
-      subst (λ (l : List Entry). IsRefusal (lines.Cancel command) l (entry.Refused refusal)) (sym (cancel_due before command false (ties.waits_not command not_waits)))
-      (ap (λ (r : Refusal). entry.Refused r) (sym is))
-  cancel_refused before first command refusal ties (inr (waits, is)) =
-      no_refusal (lines.Cancel command) _ (entry.Refused refusal) (cancel_due before command true (ties.waits command waits.1))
-      (subst (λ (r : Refusal). MayStandAfter (lines.Cancel command) (entry.Refused r)) (sym is) tt)
-
   cancel_sound : (first : Machine) (command : ℕ) (refusal : Refusal) → IsUncancelled first.host.state command refusal → IsNoBadRecord (entry.Refused refusal)
   cancel_sound first command refusal (inl (not_waits, is)) = subst (λ (r : Refusal). IsNoBadRecord (entry.Refused r)) (sym is) tt
   cancel_sound first command refusal (inr (waits, is)) = keeper_sound refusal is
@@ -477,10 +515,10 @@ module _ (devices : List State) where
       let waits = may_cancel first command (may_these (begun first) event (Host_does (Cancels command)) left [] are may) in
       as_these (lines.Cancel command) past (begun first) event (Host_does (Cancels command)) left [] are
       (answers_it (lines.Cancel command) past first (begun first) asked (Host_does (Cancels command)) [] (entry.Out command WasCancelled) (cancels_enter first command)
-      (no_refusal (lines.Cancel command) _ (entry.Out command WasCancelled) (cancel_due asked.before command true (asked.ties.waits command waits)) refl) tt refl tt)
+      (no_refusal (lines.Cancel command) _ (entry.Out command WasCancelled) (cancel_due asked.before command true (asked.ties.host.waits command waits)) refl) tt refl tt)
   cancel_goal past first command asked event left may (inr (refusal, are)) =
       let refused = may_refuse_cancel first command refusal (may_these (begun first) event (Refuses (lines.Cancel command) refusal) left [] are may) in
-      refused_so (lines.Cancel command) past first asked event left refusal are (cancel_refused asked.before first command refusal asked.ties refused) (cancel_sound first command refusal refused)
+      refused_so (lines.Cancel command) past first asked event left refusal are (cancel_refused (always (listing_of devices)) asked.before first.host.state command refusal (refusals_to devices asked.before (lines.Cancel command)) (cancel_due asked.before command) asked.ties.host refused) (cancel_sound first command refusal refused)
 
   -- ---- a node joins
 
@@ -500,19 +538,8 @@ module _ (devices : List State) where
   unfolding happens May
   may_refuse_join first node refusal may = may
 
-  abbrev join_entries : Bool → List Entry
-  join_entries joined = (if not joined then [] else entry.Refused refusals.AlreadyJoined ∷ []) ++ []
-
   joined_so : (before : List Entry) (first : Machine) (node : ℕ) → AnswerTies devices before first → is_joined before node ≡ (node_of first.host.state node).joined
-  joined_so before first node ties = ap (λ (k : Known). k.joined) (ties.known node)
-
-  join_refused : (node : ℕ) (due : List Entry) (refusal : Refusal) (b : Bool) → due ≡ join_entries b → IsRefusedOrUnkept (if b then Some host.AlreadyJoined else None) refusal
-      → IsRefusal (lines.Join node) due (entry.Refused refusal)
-  join_refused node due refusal true is (inl so) = rule_refusal (lines.Join node) due host.AlreadyJoined refusal is so
-  join_refused node due refusal true is (inr (none, keeper)) = absurd (let some : Some host.AlreadyJoined ≡ None = none in cc)
-  join_refused node due refusal false is (inl by_none) = absurd by_none
-  join_refused node due refusal false is (inr (none, keeper)) =
-      no_refusal (lines.Join node) due (entry.Refused refusal) is (subst (λ (r : Refusal). MayStandAfter (lines.Join node) (entry.Refused r)) (sym keeper) refl)
+  joined_so before first node ties = ap (λ (k : Known). k.joined) (ties.host.known node)
 
   join_goal : (past : List Entry) (first : Machine) (node : ℕ) (asked : Asked (AnswerTies devices) (lines.Join node) past first) (event : Event) (left : List Event) → May (begun first) event
       → IsDone (lines.Join node) (Host_does (joins_host node) ∷ Outside_does (Joins node) ∷ []) (event ∷ left) → Goal (lines.Join node) past (begun first) event left
@@ -546,10 +573,6 @@ module _ (devices : List State) where
   may_refuse_restart : (first : Machine) (refusal : Refusal) → May (begun first) (Refuses lines.Restart refusal) → IsUnopened first.records refusal
   unfolding happens May
   may_refuse_restart first refusal may = may
-
-  restart_refused : (records : Option (List (List ℕ))) (refusal : Refusal) → IsUnopened records refusal → MayStandAfter lines.Restart (entry.Refused refusal)
-  restart_refused records refusal (inl keeper) = subst (λ (r : Refusal). MayStandAfter lines.Restart (entry.Refused r)) (sym keeper) refl
-  restart_refused records refusal (inr (at, bad, is)) = subst (λ (r : Refusal). MayStandAfter lines.Restart (entry.Refused r)) (sym is) refl
 
   restart_sound : (records : Option (List (List ℕ))) (refusal : Refusal) → ((at : ℕ) → HasBad records at → ⊥) → IsUnopened records refusal → IsNoBadRecord (entry.Refused refusal)
   restart_sound records refusal sound (inl keeper) = keeper_sound refusal keeper
@@ -747,23 +770,6 @@ module _ (devices : List State) where
 
   -- ---- an interview
 
-  abbrev two_full : Machine → Bool
-  two_full first = nat_lt 64 (length first.host.state.requests.queue + 2)
-
-  abbrev interview_rule : Machine → Bool → Option HostRefusal
-  interview_rule first joined = if joined then places_refusal first.host.state 2 else Some host.NotJoined
-
-  abbrev free_rule : Bool → Option HostRefusal
-  free_rule joined = if joined then None else Some host.NotJoined
-
-  interview_alike : (first : Machine) (joined : Bool) → Alike (interview_rule first joined) (free_rule joined) (if two_full first then Some (host.QueueFull 64) else None)
-  interview_alike first true = places_alike (two_full first)
-  interview_alike first false = inl refl
-
-  free_due : (joined : Bool) → (if joined then [] else entry.Refused refusals.NotJoined ∷ []) ++ [] ≡ due_of (free_rule joined)
-  free_due true = refl
-  free_due false = refl
-
   -- ---- the first event of any line
 
   same_events : (event : Event) (left : List Event) (inner : List OuterEvent) (outer : OuterEvent) → inner ≡ outer ∷ [] → event ∷ left ≡ map Outside_does inner → event ∷ left ≡ Outside_does outer ∷ []
@@ -784,13 +790,13 @@ module _ (devices : List State) where
       errand (lines.Send node word) past first (begun first) asked (refuses_enter first (lines.Send node word)) (λ e so. so) (λ so. so) (refl, refl)
       (send_refusal (known_of_host (node_of first.host.state node)) (length first.host.state.requests.queue) word) (send_refusal (known_of_host (node_of first.host.state node)) 0 word)
       (nat_le 64 (length first.host.state.requests.queue)) _ event left
-      (ap (λ (k : Known). due_of (send_refusal k 0 word)) (asked.ties.known node)) (send_alike (known_of_host (node_of first.host.state node)) (length first.host.state.requests.queue) word)
+      (ap (λ (k : Known). due_of (send_refusal k 0 word)) (asked.ties.host.known node)) (send_alike (known_of_host (node_of first.host.state node)) (length first.host.state.requests.queue) word)
       (asks_enter first _) is
   first_goal (lines.Get node end) past first asked event left may is =
       errand (lines.Get node end) past first (begun first) asked (refuses_enter first (lines.Get node end)) (λ e so. so) (λ so. so) (refl, refl)
       (get_refusal (known_of_host (node_of first.host.state node)) (length first.host.state.requests.queue) end) (get_refusal (known_of_host (node_of first.host.state node)) 0 end)
       (nat_le 64 (length first.host.state.requests.queue)) _ event left
-      (ap (λ (k : Known). due_of (get_refusal k 0 end)) (asked.ties.known node)) (get_alike (known_of_host (node_of first.host.state node)) (length first.host.state.requests.queue) end)
+      (ap (λ (k : Known). due_of (get_refusal k 0 end)) (asked.ties.host.known node)) (get_alike (known_of_host (node_of first.host.state node)) (length first.host.state.requests.queue) end)
       (asks_enter first _) is
   first_goal (lines.Join node) past first asked event left may is = join_goal past first node asked event left may is
   first_goal (lines.Interview node) past first asked event left may is = interview_by (node_of first.host.state node).joined refl
@@ -798,9 +804,9 @@ module _ (devices : List State) where
       interview_by : (joined : Bool) → (node_of first.host.state node).joined ≡ joined → Goal (lines.Interview node) past (begun first) event left
       interview_by joined so =
           errand (lines.Interview node) past first (begun first) asked (refuses_enter first (lines.Interview node)) (λ e so. so) (λ so. so) (refl, refl)
-          (interview_rule first joined) (free_rule joined) (two_full first) (Queues_interview node) event left
-          (ap (λ (j : Bool). (if j then [] else entry.Refused refusals.NotJoined ∷ []) ++ []) (joined_so asked.before first node asked.ties ∙ so) ∙ free_due joined) (interview_alike first joined) (interview_enters first node)
-          (subst (λ (j : Bool). Asks (interview_rule first j) (lines.Interview node) (Queues_interview node) (event ∷ left)) so is)
+          (interview_rule first.host.state joined) (free_rule joined) (two_full first.host.state) (Queues_interview node) event left
+          (ap (λ (j : Bool). (if j then [] else entry.Refused refusals.NotJoined ∷ []) ++ []) (joined_so asked.before first node asked.ties ∙ so) ∙ free_due joined) (interview_alike first.host.state joined) (interview_enters first node)
+          (subst (λ (j : Bool). Asks (interview_rule first.host.state j) (lines.Interview node) (Queues_interview node) (event ∷ left)) so is)
   first_goal (lines.Lose count) past first asked event left may is = quiet_goal (lines.Lose count) past first asked (Loses count) event left tt refl is
   first_goal (lines.LoseAck count) past first asked event left may is = quiet_goal (lines.LoseAck count) past first asked (Loses_acks count) event left tt refl is
   first_goal (lines.Repeat number) past first asked event left may (inner, (drawn, route, one), are) =
@@ -886,7 +892,7 @@ module _ (devices : List State) where
   said : (past : List Entry) (m : Machine) (words : List ℕ) (line : Line) → line_of (entry.Said words) ≡ line ∷ [] → AnswerTies devices past m → Answered devices past m
       → Stands past (entry.Said words) × Asked (AnswerTies devices) line (past ++ entry.Said words ∷ []) m
   said past m words line read ties answered = (
-    (answered_stands (before_last past) (line_last past) (entry.Said words) tt answered, tt),
+    (answered_stands (always (listing_of devices)) (refusals_to devices) (before_last past) (line_last past) (entry.Said words) tt answered, tt),
     record { before = past; words = words; is = refl; read = read; ties = ties },
   )
 

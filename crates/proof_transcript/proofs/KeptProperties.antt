@@ -1,5 +1,4 @@
 -- How many properties of a node a host would keep with those of an order is what the transcript shows.
-use Rattle.law_transcript.specs.Nodes.{always}
 use Rattle.std.proofs.Common.{◌≡◌, ◌⊎◌, ◌≤◌, ℕ, zero, suc, ◌==◌, ◌&&◌, ◌||◌, Bool, true, false, cond, eqb, if◌then◌else◌, is_some, unwrap_or, inl, inr, List, [], ◌∷◌, ◌++◌, All, Option, Some, None, refl, sym, ap, subst, ◌∙◌, arith}
 use Rattle.std.specs.Prelude.{IsTrue}
 use Rattle.std.specs.List.{AllByRecursion, IsDistinct, cons_option, filter_map, flat_map}
@@ -219,13 +218,13 @@ of_one P [] number all has = absurd has
 of_one P (first ∷ numbers) number all (inl same) = subst P same all.0
 of_one P (first ∷ numbers) number all (inr has) = of_one P numbers number all.1 has
 
-module _ (listing : ℕ → List ℕ) (past : List Entry) (h : HostState) (facts : Facts past h) (table : (node : ℕ) → IsTable listing h.commands node past)
+module _ (listing : List Entry → ℕ → List ℕ) (past : List Entry) (h : HostState) (facts : Facts past h) (table : (node : ℕ) → IsTable listing h.commands node past)
     (heard : (node : ℕ) (p : Property) → (stored_of h.store node p).heard ≡ heard_value past node p) (no_more : KeepsNoMore h)
     (numbered : (number node : ℕ) → accepted_for number past ≡ node ∷ [] → Has (numbers_for node past) number)
     (of_node : (node : ℕ) → AllByRecursion (λ number. nodes_by (command_at h.commands number) ≡ node ∷ []) (numbers_for node past)) where
   module _ (node : ℕ) where
     abbrev set_by : ℕ → List Property
-    set_by number = properties_of (settings_for (always listing) past node number)
+    set_by number = properties_of (settings_for listing past node number)
 
     abbrev ordered : List Property
     ordered = flat_map set_by (numbers_of (accepted node past))
@@ -233,18 +232,18 @@ module _ (listing : ℕ → List ℕ) (past : List Entry) (h : HostState) (facts
     abbrev told : List Property
     told = properties_of (reported node (since_restart past))
 
-    kept_is : (p : Property) → is_among (properties_kept (always listing) past node) p ≡ (is_among ordered p || is_among told p)
+    kept_is : (p : Property) → is_among (properties_kept listing past node) p ≡ (is_among ordered p || is_among told p)
     kept_is p = among_append ordered told p
 
     -- a place is of what the transcript shows
-    shown : (p : Property) → IsReserved h.store node p → is_among (properties_kept (always listing) past node) p ≡ true
+    shown : (p : Property) → IsReserved h.store node p → is_among (properties_kept listing past node) p ≡ true
     shown p there = kept_is p ∙ by (no_more node p there)
       where
         from_set : IsSet h.commands node p → is_among ordered p ≡ true
         from_set set =
             let own = own_node node set.taken p set.sets in
             let has : Has (numbers_for node past) set.number = numbered set.number node (facts.accepted.nodes set.number ∙ taken_node h.commands set.number node set.taken set.at own.0) in
-            let same = of_one (λ number. settings_for (always listing) past node number ≡ settings_taken (taken_at h.commands number)) (numbers_for node past) set.number (table node).settings has in
+            let same = of_one (λ number. settings_for listing past node number ≡ settings_taken (taken_at h.commands number)) (numbers_for node past) set.number (table node).settings has in
             let among : is_among (set_by set.number) p ≡ true =
             ap (λ (l : List Setting). is_among (properties_of l) p) (same ∙ ap settings_taken set.at) ∙ own.1 in
             among_each set_by (numbers_of (accepted node past)) set.number p (subst (λ (l : List ℕ). Has l set.number) (sym (table node).numbers) has) among
@@ -255,10 +254,10 @@ module _ (listing : ℕ → List ℕ) (past : List Entry) (h : HostState) (facts
             (sym (value_there None (reported node (since_restart past)) p) ∙ (ap (λ (o : Option ℕ). is_some o) (sym (heard node p)) ∙ is))
 
     abbrev So : ℕ → Type 0
-    So number = (settings_for (always listing) past node number ≡ settings_taken (taken_at h.commands number)) × (nodes_by (command_at h.commands number) ≡ node ∷ [])
+    So number = (settings_for listing past node number ≡ settings_taken (taken_at h.commands number)) × (nodes_by (command_at h.commands number) ≡ node ∷ [])
 
     -- and what it shows has a place
-    stored : (p : Property) → is_among (properties_kept (always listing) past node) p ≡ true → IsReserved h.store node p
+    stored : (p : Property) → is_among (properties_kept listing past node) p ≡ true → IsReserved h.store node p
     stored p among = by (one_or (is_among ordered p) (is_among told p) (sym (kept_is p) ∙ among))
       where
         from_order : is_among ordered p ≡ true → IsReserved h.store node p
@@ -271,7 +270,7 @@ module _ (listing : ℕ → List ℕ) (past : List Entry) (h : HostState) (facts
             let is_node : set.0.order.node ≡ node = cc in
             subst (λ (n : ℕ). IsReserved h.store n p) is_node set.2
           where
-            both_hold : (l : List ℕ) → AllByRecursion (λ number. settings_for (always listing) past node number ≡ settings_taken (taken_at h.commands number)) l
+            both_hold : (l : List ℕ) → AllByRecursion (λ number. settings_for listing past node number ≡ settings_taken (taken_at h.commands number)) l
                 → AllByRecursion (λ number. nodes_by (command_at h.commands number) ≡ node ∷ []) l → AllByRecursion So l
             both_hold [] first second = tt
             both_hold (number ∷ l) first second = ((first.0, second.0), both_hold l first.1 second.1)
@@ -280,6 +279,6 @@ module _ (listing : ℕ → List ℕ) (past : List Entry) (h : HostState) (facts
         by (inl is) = from_order is
         by (inr is) = heard_reserved (finmap.get h.store (node, p)) (ap (λ (o : Option ℕ). is_some o) (heard node p) ∙ (value_there None (reported node (since_restart past)) p ∙ is))
 
-    pub same_count : (more : List Property) → count_with h.store node more ≡ distinct_count same_property (more ++ properties_kept (always listing) past node)
+    pub same_count : (more : List Property) → count_with h.store node more ≡ distinct_count same_property (more ++ properties_kept listing past node)
     same_count more =
-        alike more (stored_properties h.store node) (properties_kept (always listing) past node) (λ q there. shown q (sym (among_stored h.store node q) ∙ there)) (λ q there. among_stored h.store node q ∙ stored q there)
+        alike more (stored_properties h.store node) (properties_kept listing past node) (λ q there. shown q (sym (among_stored h.store node q) ∙ there)) (λ q there. among_stored h.store node q ∙ stored q there)

@@ -1,7 +1,7 @@
 mod Common
 mod HostLaws
 mod TakenBack
-mod StoredValues
+pub mod StoredValues
 mod Heard
 mod PairedEvents
 mod ServedNodes
@@ -10,19 +10,19 @@ mod AttemptUnits
 mod AttemptStarts
 mod Outer
 mod Noted
-mod Hosts
+pub mod Hosts
 mod Judged
 mod Routed
 pub mod TicksBegun
 mod Mild
 mod Shown
-mod ToldState
-mod Over
-mod FirstMachine
+pub mod ToldState
+pub mod Over
+pub mod FirstMachine
 pub mod Ordered
 pub mod Values
 mod Nodes
-mod LastTable
+pub mod LastTable
 pub mod Plain
 pub mod HostOuts
 pub mod KeptOverLists
@@ -31,22 +31,22 @@ pub mod Arrivals
 pub mod Events
 mod FrameNumbers
 mod Ring
-mod MarkedFrames
+pub mod MarkedFrames
 mod Calm
 mod FramesWalking
 mod Repeating
 mod LostFrames
 mod Turning
-mod CancelledRecords
-mod RecordsWalking
+pub mod CancelledRecords
+pub mod RecordsWalking
 mod OrderRecords
 mod EndedRecords
 pub mod RecordsShown
-mod Answering
-mod StoredPlaces
+pub mod Answering
+pub mod StoredPlaces
 mod KeptProperties
-mod PlacesKept
-mod AnswerFacts
+pub mod PlacesKept
+pub mod AnswerFacts
 mod Showing
 mod ShownDevices
 mod SaidNext

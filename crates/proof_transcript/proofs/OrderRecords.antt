@@ -32,7 +32,7 @@ following number (suc count) = suc number ∷ following (suc number) count
 
 -- ---- what was said is what the table has
 
-said_orders : (listing : ℕ → List ℕ) (commands : List Command) (past rest : List Entry) → EachAfter (MayAnswer listing commands) past rest
+said_orders : (listing : List Entry → ℕ → List ℕ) (commands : List Command) (past rest : List Entry) → EachAfter (MayAnswer listing commands) past rest
     → shown_after accepted_order past rest ≡ orders_taken commands (accepted_numbers rest)
 said_orders listing commands past [] said = refl
 said_orders listing commands past (entry.Accepted command node ∷ rest) said =
@@ -83,7 +83,7 @@ in_order commands before (command ∷ rest) are =
     (ap (λ (n : ℕ). orders_taken commands (following n (length rest))) (sym longer)
     ∙ in_order commands (before ++ command ∷ []) rest (are ∙ sym (append_assoc before (command ∷ []) rest)))
 
-pub orders_are : (listing : ℕ → List ℕ) (commands : List Command) (past : List Entry) → AreSaid listing commands past → EachAfter MayAccept [] past
+pub orders_are : (listing : List Entry → ℕ → List ℕ) (commands : List Command) (past : List Entry) → AreSaid listing commands past → EachAfter MayAccept [] past
     → length (accepted_numbers past) ≡ length commands → map (λ (taken : Taken). taken.order) (map taken_as commands) ≡ orders_accepted past
 orders_are listing commands past said numbers count =
     sym (said_orders listing commands [] past said

@@ -20,10 +20,10 @@ use Rattle.proof_spoken.specs.Restarts.{StartsWell, KeepsWell, AllKeepWell, AreH
 use Rattle.proof_transcript.proofs.Hosts.{SameJoined}
 use Rattle.proof_transcript.proofs.ToldState.{GoesOn, StartsOver}
 
-abbrev OneThing : Type 0
+abbrev pub OneThing : Type 0
 OneThing = (texts : List (List ℕ)) (kept other : Kept) → Give texts kept → Give texts other → kept ≡ other
 
-abbrev Opens : Type 0
+abbrev pub Opens : Type 0
 Opens = (keys : Keys) (records : List Record) → AreLegal records → HoldsAlone (opened keys records) (kept_of records)
 
 -- hosts that have the same records have the same nodes
@@ -35,7 +35,7 @@ same_nodes one old new texts was now node =
     ∙ (ap (λ (k : Kept). (kept_of_node k node).joined) (one texts (kept_of now.records) (kept_of was.records) later first) ∙ sym (was.holds.nodes node).joined)
 
 module _ (one : OneThing) (opens : Opens) where
-  starts_over : (keys : Keys) (old state : HostState) (records : Option (List (List ℕ))) → IsSome records → IsHeld old records → IsHeld state records → OpensFrom keys records state → StartsOver old state
+  pub starts_over : (keys : Keys) (old state : HostState) (records : Option (List (List ℕ))) → IsSome records → IsHeld old records → IsHeld state records → OpensFrom keys records state → StartsOver old state
   starts_over keys old state None told held holds from = let bad : false ≡ true = told in absurd cc
   starts_over keys old state (Some texts) told held holds (records, are, legal, is) = record {
     joined = same_nodes one old state texts held holds;

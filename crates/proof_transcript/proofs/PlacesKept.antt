@@ -57,10 +57,10 @@ module _ (keep : HostsKeep) where
     no_more = subst KeepsNoMore (sym state_is) has.no_more;
   }
 
-  starts_again : (m : Machine) (state : HostState) (texts : List (List ℕ)) → OpensFrom m.keys (Some texts) state → HostFacts state × KeepsNoMore state
-  starts_again m state texts (records, are, legal, is) = (
-    subst HostFacts (sym is) (keep.opened_facts m.keys records legal),
-    subst KeepsNoMore (sym is) (alone_keeps (opened m.keys records) (kept_of records) (keep.opened_alone m.keys records legal)),
+  pub starts_again : (keys : Keys) (state : HostState) (texts : List (List ℕ)) → OpensFrom keys (Some texts) state → HostFacts state × KeepsNoMore state
+  starts_again keys state texts (records, are, legal, is) = (
+    subst HostFacts (sym is) (keep.opened_facts keys records legal),
+    subst KeepsNoMore (sym is) (alone_keeps (opened keys records) (kept_of records) (keep.opened_alone keys records legal)),
   )
 
   one_keeps : (m : Machine) (event : Event) → May m event → HasPlaces m → HasPlaces (happens m event)
@@ -72,7 +72,7 @@ module _ (keep : HostsKeep) where
   one_keeps m (Refuses line refusal) may has = same_host m (happens m (Refuses line refusal)) refl refl has
   one_keeps m (Shows_values node) may has = same_host m (happens m (Shows_values node)) refl refl has
   one_keeps m (Restarts state) may has =
-      let both = starts_again m state has.texts (subst (λ (o : Option (List (List ℕ))). OpensFrom m.keys o state) has.told may) in
+      let both = starts_again m.keys state has.texts (subst (λ (o : Option (List (List ℕ))). OpensFrom m.keys o state) has.told may) in
       record { texts = has.texts; told = has.told; facts = both.0; no_more = both.1 }
 
   pub places_kept : (m : Machine) (events : List Event) → MayAll m events → HasPlaces m → HasPlaces (happens_all m events)

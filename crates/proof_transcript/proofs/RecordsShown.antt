@@ -26,7 +26,7 @@ known_so true first told at_first = refl
 known_so false true told at_first = refl
 known_so false false told at_first = refl
 
-module _ (listing : ℕ → List ℕ) (past : List Entry) (h : HostState) (kept : Kept) (facts : Facts past h) (holds : Holds h kept) (laws : HostLaws past) (tables : AreShown past h)
+module _ (listing : List Entry → ℕ → List ℕ) (past : List Entry) (h : HostState) (kept : Kept) (facts : Facts past h) (holds : Holds h kept) (laws : HostLaws past) (tables : AreShown past h)
     (joined : (node : ℕ) → (node_of h node).joined ≡ is_joined past node) (knows : KnowsListing listing past h) (said : AreSaid listing h.commands past)
     (by_table : (node : ℕ) → IsTable listing h.commands node past) (cancelled : kept.cancelled ≡ shown cancelled_at past) where
   node_shown : (n : ℕ) → ShowsNode past n (kept_of_node kept n)
@@ -35,7 +35,7 @@ module _ (listing : ℕ → List ℕ) (past : List Entry) (h : HostState) (kept 
       record {
         joined = sym (holds.nodes n).joined ∙ joined n;
         interviewed = sym (said_so (kept_of_node kept n).interview)
-            ∙ (ap (λ (o : Option (List ℕ)). is_some o) (sym (holds.nodes n).classes ∙ knows n) ∙ known_so (is_interviewed past n) (n == first_node) (listing n) _);
+            ∙ (ap (λ (o : Option (List ℕ)). is_some o) (sym (holds.nodes n).classes ∙ knows n) ∙ known_so (is_interviewed past n) (n == first_node) (listing past n) _);
         waits = sym (holds.nodes n).waiting
             ∙ (tables.waiting n ∙ ap (λ (l : List ℕ). filter (λ number. is_waiting (outcome number past)) l) (sym (by_table n).numbers));
         begun = begun;

@@ -38,7 +38,7 @@ use Rattle.proof_transcript.specs.Records.{TellsCancelled, cancelled_by}
 use Rattle.proof_transcript.proofs.CancelledRecords.{asides_none, event_cancels, host_cancels, trailing_same}
 
 -- these entries take nothing back
-silent : (past es : List Entry) (records : Option (List (List ℕ))) → shown cancelled_at es ≡ [] → TellsCancelled past records → TellsCancelled (past ++ es) records
+pub silent : (past es : List Entry) (records : Option (List (List ℕ))) → shown cancelled_at es ≡ [] → TellsCancelled past records → TellsCancelled (past ++ es) records
 silent past es records none tells = record {
   texts = tells.texts;
   told = tells.told;
@@ -59,7 +59,7 @@ adds past es records added are same tells = record {
 }
 
 -- the host does these
-host_adds : (past es : List Entry) (records : Option (List (List ℕ))) (h : HostState) (events : List HostEvent) → MayAllHost h events
+pub host_adds : (past es : List Entry) (records : Option (List (List ℕ))) (h : HostState) (events : List HostEvent) → MayAllHost h events
     → flat_map cancelled_by (records_all h events) ≡ shown cancelled_at es → TellsCancelled past records → TellsCancelled (past ++ es) (with_texts records (texts_of (records_all h events)))
 host_adds past es records h events may = adds past es records (records_all h events) (texts_of_range (records_all h events) (all_in_range h events may))
 

@@ -1,5 +1,4 @@
 -- The values that are entered as confirmed are those that the successful commands ask for, where the table is what was said.
-use Rattle.law_transcript.specs.Nodes.{always}
 use Rattle.std.proofs.Common.{◌≡◌, ℕ, ◌==◌, Bool, true, false, if◌then◌else◌, List, [], ◌∷◌, ◌++◌, Option, Some, None, inl, inr, refl, sym, ap, ap₂, subst, ◌∙◌, append-nil}
 use Rattle.std.specs.List.{flat_map}
 use Rattle.std.proofs.lemmas.Bool.{eq-eqb, eqb-true}
@@ -40,32 +39,32 @@ number_among T n number has =
 
 -- ---- what a success asks for
 
-module _ (listing : ℕ → List ℕ) (commands : List Command) (T : List Entry) (tables : (node : ℕ) → IsTable listing commands node T)
+module _ (listing : List Entry → ℕ → List ℕ) (commands : List Command) (T : List Entry) (tables : (node : ℕ) → IsTable listing commands node T)
     (nodes : (number : ℕ) → nodes_by (command_at commands number) ≡ accepted_for number T) where
   -- it asks for what the table says, at the node that its command was accepted for
-  asks_by : (number : ℕ) (o : Option Command) → command_at commands number ≡ o → stores_by (taken_by o) ≡ flat_map (stores_of (always listing) T number) (nodes_by o)
+  asks_by : (number : ℕ) (o : Option Command) → command_at commands number ≡ o → stores_by (taken_by o) ≡ flat_map (stores_of listing T number) (nodes_by o)
   asks_by number None e = refl
   asks_by number (Some command) e =
       let n = command.order.node in
       let accepted : accepted_for number T ≡ n ∷ [] = sym (nodes number) ∙ ap nodes_by e in
       let has = number_among T n number (subst (λ (l : List ℕ). Has l n) (sym accepted) (inl refl)) in
-      let made = all_has (λ k. settings_for (always listing) T n k ≡ settings_taken (taken_at commands k)) (numbers_for n T) number (tables n).settings has in
+      let made = all_has (λ k. settings_for listing T n k ≡ settings_taken (taken_at commands k)) (numbers_for n T) number (tables n).settings has in
       ap (λ (l : List Setting). stored_entries n l) (sym (made ∙ ap (λ (o : Option Command). settings_taken (taken_by o)) e))
-      ∙ sym (append-nil (stored_entries n (settings_for (always listing) T n number)))
+      ∙ sym (append-nil (stored_entries n (settings_for listing T n number)))
 
-  entry_asks : (entry : Entry) → stores_at commands entry ≡ stores_asked_at (always listing) T entry
-  entry_asks (Out number ended.Success) = asks_by number (command_at commands number) refl ∙ ap (λ (l : List ℕ). flat_map (stores_of (always listing) T number) l) (nodes number)
+  entry_asks : (entry : Entry) → stores_at commands entry ≡ stores_asked_at listing T entry
+  entry_asks (Out number ended.Success) = asks_by number (command_at commands number) refl ∙ ap (λ (l : List ℕ). flat_map (stores_of listing T number) l) (nodes number)
   entry_asks (Out number ended.Fail) = refl
   entry_asks (Out number ended.NoSupport) = refl
   entry_asks (Out number ended.Unanswered) = refl
   entry_asks (Out number ended.Cancelled) = refl
   entry_asks entry = refl
 
-  all_ask : (entries : List Entry) → shown (stores_at commands) entries ≡ shown (stores_asked_at (always listing) T) entries
+  all_ask : (entries : List Entry) → shown (stores_at commands) entries ≡ shown (stores_asked_at listing T) entries
   all_ask [] = refl
   all_ask (entry ∷ entries) = ap₂ (λ (a b : List Entry). a ++ b) (entry_asks entry) (all_ask entries)
 
-pub stores_confirmed : (listing : ℕ → List ℕ) (h : HostState) (T : List Entry) → ((node : ℕ) → IsTable listing h.commands node T) → AreShown T h → StoresLaw T h → StoresConfirmed true (always listing) T
+pub stores_confirmed : (listing : List Entry → ℕ → List ℕ) (h : HostState) (T : List Entry) → ((node : ℕ) → IsTable listing h.commands node T) → AreShown T h → StoresLaw T h → StoresConfirmed true listing T
 stores_confirmed listing h T tables shows law =
-    let same : shown store_at T ≡ stores_asked (always listing) T = law.entered ∙ all_ask listing h.commands T tables shows.nodes T in
+    let same : shown store_at T ≡ stores_asked listing T = law.entered ∙ all_ask listing h.commands T tables shows.nodes T in
     record { asked = ([], sym same ∙ sym (append-nil (shown store_at T))); all = λ whole. same; following = law.following }

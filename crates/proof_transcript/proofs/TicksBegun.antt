@@ -50,7 +50,7 @@ notes-append a b = flat_map-append note_of a b
 -- ---- a host
 
 -- no node joins, and what is heard is what is noted
-record HostGoes (h new : HostState) (puts : List HostOut) : Type 0 where
+pub record HostGoes (h new : HostState) (puts : List HostOut) : Type 0 where
   pub joined : SameJoined h.nodes new.nodes
   pub heard : (node : ℕ) (p : Property) → heard_in new.store node p ≡ last_value (heard_in h.store node p) (reported node (notes_of puts)) p
   pub plain : ArePlain false true (notes_of puts)
@@ -87,7 +87,7 @@ module _ (law : LeavesRecords) where
     | inr other ↦ ne_eqb a b other ∙ sym (ne_eqb b a (λ e. other (sym e)))
   ]
 
-  event_goes_host : (h : HostState) (event : HostEvent) → IsNoJoin event → HostGoes h (after h event) (outs h event)
+  pub event_goes_host : (h : HostState) (event : HostEvent) → IsNoJoin event → HostGoes h (after h event) (outs h event)
   event_goes_host h (Hears_value n setting) none =
       let one : Stored = record (stored_of h.store n setting.property) { heard = Some setting.value } in
       record {

@@ -1,5 +1,4 @@
 -- The lines of a node's values: those that the host has are those that the transcript gives.
-use Rattle.law_transcript.specs.Nodes.{always}
 use Rattle.std.proofs.Common.{◌≡◌, ◌⊎◌, ℕ, ◌==◌, ◌&&◌, ◌||◌, Bool, true, false, cond, if◌then◌else◌, T, List, [], ◌∷◌, ◌++◌, map, Option, Some, None, is_some, unwrap_or, inl, inr, refl, sym, ap, ap₂, subst, ◌∙◌, true≢false}
 use Rattle.std.specs.List.{AllByRecursion, cons_option, filter_map, flat_map}
 use Rattle.std.specs.FinMap as finmap
@@ -225,23 +224,23 @@ pub flat_same : {A B : Type 0} (f g : A → List B) (xs : List A) → ((x : A) �
 flat_same f g [] same = refl
 flat_same f g (x ∷ xs) same = ap₂ (λ (a b : List _). a ++ b) (same x) (flat_same f g xs same)
 
-module _ (listing : ℕ → List ℕ) (transcript : List Entry) (node : ℕ) where
+module _ (listing : List Entry → ℕ → List ℕ) (transcript : List Entry) (node : ℕ) where
   abbrev given_line : Property → List Entry
-  given_line p = value_line node p (confirmed (always listing) transcript node p) (heard_value transcript node p)
+  given_line p = value_line node p (confirmed listing transcript node p) (heard_value transcript node p)
 
   abbrev set_by_sessions : List Property
-  set_by_sessions = flat_map (λ number. properties_of (settings_for (always listing) transcript node number)) (sessions node transcript)
+  set_by_sessions = flat_map (λ number. properties_of (settings_for listing transcript node number)) (sessions node transcript)
 
   abbrev heard_since : List Property
   heard_since = properties_of (reported node (since_restart transcript))
 
-  confirmed_known : (p : Property) (value : ℕ) → confirmed (always listing) transcript node p ≡ Some value → Has (set_by_sessions ++ heard_since) p
+  confirmed_known : (p : Property) (value : ℕ) → confirmed listing transcript node p ≡ Some value → Has (set_by_sessions ++ heard_since) p
   confirmed_known p value is =
-      let one = last_gives (confirmed_by (always listing) transcript node p) (sessions node transcript) value is in
-      let made = given_if (is_success (outcome one.number transcript)) (value_among (settings_for (always listing) transcript node one.number) p) one.value one.gives in
+      let one = last_gives (confirmed_by listing transcript node p) (sessions node transcript) value is in
+      let made = given_if (is_success (outcome one.number transcript)) (value_among (settings_for listing transcript node one.number) p) one.value one.gives in
       has_left set_by_sessions heard_since p
-      (has_shown (λ number. properties_of (settings_for (always listing) transcript node number)) (sessions node transcript) one.number p one.among
-      (among_has (settings_for (always listing) transcript node one.number) p one.value made))
+      (has_shown (λ number. properties_of (settings_for listing transcript node number)) (sessions node transcript) one.number p one.among
+      (among_has (settings_for listing transcript node one.number) p one.value made))
 
   heard_known : (p : Property) (value : ℕ) → heard_value transcript node p ≡ Some value → Has (set_by_sessions ++ heard_since) p
   heard_known p value is = elim (last_has None (reported node (since_restart transcript)) p value is) [
@@ -253,17 +252,17 @@ module _ (listing : ℕ → List ℕ) (transcript : List Entry) (node : ℕ) whe
       nothing e = cc
 
   -- what has a value is known
-  valued_known_of : (p : Property) → (given_line p ≡ []) ⊎ Has (properties_known (always listing) transcript node) p
-  valued_known_of p = by (confirmed (always listing) transcript node p) (heard_value transcript node p) refl refl
+  valued_known_of : (p : Property) → (given_line p ≡ []) ⊎ Has (properties_known listing transcript node) p
+  valued_known_of p = by (confirmed listing transcript node p) (heard_value transcript node p) refl refl
     where
-      by : (c h : Option ℕ) → confirmed (always listing) transcript node p ≡ c → heard_value transcript node p ≡ h → (value_line node p c h ≡ []) ⊎ Has (properties_known (always listing) transcript node) p
+      by : (c h : Option ℕ) → confirmed listing transcript node p ≡ c → heard_value transcript node p ≡ h → (value_line node p c h ≡ []) ⊎ Has (properties_known listing transcript node) p
       by None None first later = inl refl
       by (Some c) h first later = inr (in_order_has property_total property_exact (set_by_sessions ++ heard_since) p (confirmed_known p c first))
       by None (Some h) first later = inr (in_order_has property_total property_exact (set_by_sessions ++ heard_since) p (heard_known p h later))
 
-  module _ (store : Values) (confirms : (p : Property) → (stored_of store node p).confirmed ≡ confirmed (always listing) transcript node p) (hears : (p : Property) → (stored_of store node p).heard ≡ heard_value transcript node p) where
+  module _ (store : Values) (confirms : (p : Property) → (stored_of store node p).confirmed ≡ confirmed listing transcript node p) (hears : (p : Property) → (stored_of store node p).heard ≡ heard_value transcript node p) where
     abbrev known : List Property
-    known = properties_known (always listing) transcript node
+    known = properties_known listing transcript node
 
     same_line : (p : Property) → stored_line store node p ≡ given_line p
     same_line p = ap₂ (λ (c h : Option ℕ). value_line node p c h) (confirms p) (hears p)
@@ -287,7 +286,7 @@ module _ (listing : ℕ → List ℕ) (transcript : List Entry) (node : ℕ) whe
     ]
 
     -- the lines are the same
-    pub values_are : map (value_entry node) (held_of store node) ≡ value_lines (always listing) transcript node
+    pub values_are : map (value_entry node) (held_of store node) ≡ value_lines listing transcript node
     values_are =
         let es = finmap.entries store in
         let rise = keys_rise es (entries_sorted store) in

@@ -15,7 +15,7 @@ use Rattle.law_transcript.specs.Answers.{IsNoBadRecord, MayAnswer, before_last, 
 use Rattle.law_transcript.specs.Commands.{is_waiting}
 use Rattle.law_transcript.specs.Nodes.{device_of, listing_of, always}
 use Rattle.law_transcript.specs.Repeats.{frame_of, refused_repeat}
-use Rattle.host_model.specs.State.{node_of}
+use Rattle.host_model.specs.State.{HostState, node_of}
 use Rattle.host_model.specs.After.{node_for}
 use Rattle.host_requests.specs.declared.task.Task.TheVariants as task
 use Rattle.host_model.specs.Events.{Queues}
@@ -52,14 +52,18 @@ IsFreeEvent event = (m : Machine) → AreFree (entries m event)
 abbrev pub may_be_taken_back : List Entry → ℕ → Bool
 may_be_taken_back past command = list_any (λ number. number == command) (accepted_numbers past) && is_waiting (outcome command past)
 
--- What decides the answer to a line, as the transcript so far shows it: the rule that refuses an order, and what the host knows of its node; the next number;
--- the commands that wait; why a frame is not repeated; which nodes have a device; and that no record is invalid.
+-- What decides the answer of a host to a line, as the transcript so far shows it: the rule that refuses an order, and what the host knows of its node; the next
+-- number; and the commands that wait.
+pub record HostTies (listing : List Entry → ℕ → List ℕ) (past : List Entry) (h : HostState) : Type 0 where
+  pub order : (order : Order) → refusal_of (known_of listing past order.node) (properties_with listing past order) order ≡ refusal_for h order
+  pub known : (node : ℕ) → known_of listing past node ≡ known_of_host (node_of h node)
+  pub count : length (accepted_numbers past) ≡ length h.commands
+  pub waits : (command : ℕ) → Contains (node_of h (node_for h command)).waiting command → may_be_taken_back past command ≡ true
+  pub waits_not : (command : ℕ) → (Waits h command → ⊥) → may_be_taken_back past command ≡ false
+
+-- the same of the machine; why a frame is not repeated; which nodes have a device; and that no record is invalid
 pub record AnswerTies (devices : List State) (past : List Entry) (m : Machine) : Type 0 where
-  pub order : (order : Order) → refusal_of (known_of (always (listing_of devices)) past order.node) (properties_with (always (listing_of devices)) past order) order ≡ refusal_for m.host.state order
-  pub known : (node : ℕ) → known_of (always (listing_of devices)) past node ≡ known_of_host (node_of m.host.state node)
-  pub count : length (accepted_numbers past) ≡ length m.host.state.commands
-  pub waits : (command : ℕ) → Contains (node_of m.host.state (node_for m.host.state command)).waiting command → may_be_taken_back past command ≡ true
-  pub waits_not : (command : ℕ) → (Waits m.host.state command → ⊥) → may_be_taken_back past command ≡ false
+  pub host : HostTies (always (listing_of devices)) past m.host.state
   pub repeats : (number : ℕ) → refused_repeat past (frame_of past number) ≡ repeat_refusal m.outside.outer.air.frames number
   pub sound : (at : ℕ) → HasBad m.records at → ⊥
   pub absent : (node : ℕ) → refused_without (device_of node devices) ≡ refused_without (device_at m.outside.devices (place_of node m.outside.devices))

@@ -26,7 +26,7 @@ same_refused : (e : Entry) (past told : List Entry) → begins_refused (e ∷ (p
 same_refused (entry.Refused refusal) past told = refl
 same_refused e past told = refl
 
-since_joined : (start past told : List Entry) → begins_refused told ≡ false → since_restart_from start (past ++ told) ≡ since_restart_from (since_restart_from start past) told
+pub since_joined : (start past told : List Entry) → begins_refused told ≡ false → since_restart_from start (past ++ told) ≡ since_restart_from (since_restart_from start past) told
 since_joined start [] told fresh = refl
 since_joined start (e ∷ []) told fresh = ap (λ (b : Bool). since_restart_from (if is_restart (line_of e) && not b then [] else start ++ e ∷ []) told) fresh
 since_joined start (e ∷ (next ∷ past)) told fresh =
@@ -49,21 +49,21 @@ wordless_added start [] all = sym (append-nil start)
 wordless_added start (entry.Said words ∷ told) all = absurd all.0
 wordless_added start (e ∷ told) all = wordless_added (start ++ e ∷ []) told all.1 ∙ append_assoc start (e ∷ []) told
 
-wordless_more : (past told : List Entry) → AllByRecursion IsWordless told → since_restart (past ++ told) ≡ since_restart past ++ told
+pub wordless_more : (past told : List Entry) → AllByRecursion IsWordless told → since_restart (past ++ told) ≡ since_restart past ++ told
 wordless_more past told all = since_joined [] past told (wordless_fresh told all) ∙ wordless_added (since_restart past) told all
 
 -- words of a line that is no restart; of one that is; and of one that is refused
-said_on : (past : List Entry) (words : List ℕ) → is_restart (line_of (entry.Said words)) ≡ false → since_restart (past ++ entry.Said words ∷ []) ≡ since_restart past ++ entry.Said words ∷ []
+pub said_on : (past : List Entry) (words : List ℕ) → is_restart (line_of (entry.Said words)) ≡ false → since_restart (past ++ entry.Said words ∷ []) ≡ since_restart past ++ entry.Said words ∷ []
 said_on past words goes_on =
     since_joined [] past (entry.Said words ∷ []) refl
     ∙ ap (λ (b : Bool). if b && true then [] else since_restart past ++ entry.Said words ∷ []) goes_on
 
-said_anew : (past : List Entry) (words : List ℕ) → is_restart (line_of (entry.Said words)) ≡ true → since_restart (past ++ entry.Said words ∷ []) ≡ []
+pub said_anew : (past : List Entry) (words : List ℕ) → is_restart (line_of (entry.Said words)) ≡ true → since_restart (past ++ entry.Said words ∷ []) ≡ []
 said_anew past words anew =
     since_joined [] past (entry.Said words ∷ []) refl
     ∙ ap (λ (b : Bool). if b && true then [] else since_restart past ++ entry.Said words ∷ []) anew
 
-said_in_vain : (past : List Entry) (words : List ℕ) (refusal : Refusal) → since_restart (past ++ entry.Said words ∷ (entry.Refused refusal ∷ [])) ≡ since_restart past ++ entry.Said words ∷ (entry.Refused refusal ∷ [])
+pub said_in_vain : (past : List Entry) (words : List ℕ) (refusal : Refusal) → since_restart (past ++ entry.Said words ∷ (entry.Refused refusal ∷ [])) ≡ since_restart past ++ entry.Said words ∷ (entry.Refused refusal ∷ [])
 said_in_vain past words refusal =
     since_joined [] past (entry.Said words ∷ (entry.Refused refusal ∷ [])) refl
     ∙ ap (λ (b : Bool). (if b then [] else since_restart past ++ entry.Said words ∷ []) ++ entry.Refused refusal ∷ []) (and_right (is_restart (line_of (entry.Said words))) false refl)
@@ -74,7 +74,7 @@ said_in_vain past words refusal =
 abbrev frames_in : List Unit_on → List (List ℕ)
 frames_in some = flat_map (λ unit. frame_whole unit.bytes unit.way) some
 
-abbrev acknowledged_in : List Entry → ℕ
+abbrev pub acknowledged_in : List Entry → ℕ
 acknowledged_in past = length (filter is_acknowledgement (written Host past))
 
 -- of no unit that the chip wrote, and none that acknowledges
@@ -121,16 +121,16 @@ apart_none (e ∷ told) all = apart_none told all.1
 come_more : (start told : List Entry) → frames_in (units Chip (start ++ told)) ≡ frames_in (folded (unit_step Chip) (units Chip start) told)
 come_more start told = ap frames_in (folded-append (unit_step Chip) [] start told)
 
-count_more : (start told : List Entry) → acknowledged_in (start ++ told) ≡ acknowledged_in start + acknowledged_in told
+pub count_more : (start told : List Entry) → acknowledged_in (start ++ told) ≡ acknowledged_in start + acknowledged_in told
 count_more start told =
     ap (λ (l : List (List ℕ)). length (filter is_acknowledgement l)) (shown-append (unit_at Host) start told)
     ∙ ap length (filter-append is_acknowledgement (written Host start) (written Host told))
     ∙ length-append (filter is_acknowledgement (written Host start)) (filter is_acknowledgement (written Host told))
 
 -- the same after entries apart
-record IsSame (past later : List Entry) : Type 0 where
-  come : frames_come later ≡ frames_come past
-  count : acknowledged later ≡ acknowledged past
+pub record IsSame (past later : List Entry) : Type 0 where
+  pub come : frames_come later ≡ frames_come past
+  pub count : acknowledged later ≡ acknowledged past
 
 in_same : (start told : List Entry) → AllByRecursion IsApart told → (frames_in (units Chip (start ++ told)) ≡ frames_in (units Chip start)) × (acknowledged_in (start ++ told) ≡ acknowledged_in start)
 in_same start told all =
@@ -138,7 +138,7 @@ in_same start told all =
     let more = count_more start told in
     (come_more start told ∙ ap frames_in (apart_units (units Chip start) told all), omega (arith, more, none))
 
-apart_same : (past told : List Entry) → AllByRecursion IsApart told → IsSame past (past ++ told)
+pub apart_same : (past told : List Entry) → AllByRecursion IsApart told → IsSame past (past ++ told)
 apart_same past told all =
     let since = wordless_more past told (all-weaker IsApart IsWordless apart_wordless told all) in
     let same = in_same (since_restart past) told all in record {

@@ -4,6 +4,7 @@ use Rattle.std.specs.Prelude.{Option, Some, None, Result, Ok, Err, nat_lt}
 use Rattle.std.specs.List.{AllByRecursion, flat_map, list_any}
 use Rattle.std.proofs.lemmas.Bool.{cases_Bool, eq-eqb, or_right}
 use Rattle.zw_base.proofs.Each.{all-append}
+use Rattle.zw_base.specs.declared.property.Property.{Property}
 use Rattle.zw_base.specs.declared.property.Setting.{Setting}
 use Rattle.serial_frame.specs.Frame.{FrameParts, checksum, framed, kind_code}
 use Rattle.serial_frame.specs.Items.{unit_text}
@@ -69,39 +70,53 @@ MayFollow unit (Hears_value n setting) = Unit {0}
 MayFollow unit (Has_no_room n property) = Unit {0}
 MayFollow unit event = ⊥
 
-module _ (unit : List ℕ) (n : ℕ) where
-  abbrev May : HostEvent → Type 0
-  May = MayFollow unit
+-- of each event that may follow a payload of a node, but for one that says that it is awake
+pub record FollowersAre (Is : HostEvent → Type 0) (n : ℕ) : Type 0 where
+  pub unread : (payload : List ℕ) → Is (Unreads n payload)
+  pub unkept : Is (Is_unkept n)
+  pub old : (id : ℕ) → Is (Reports_old n id)
+  pub works : (id : ℕ) → Is (Works n id)
+  pub finishes : (session id command : ℕ) (status : FinalStatus) (wake : Bool) → Is (Finishes n session id command status wake)
+  pub offers : Is (Offers n)
+  pub gives : (drawn : List ℕ) → Is (Gives n drawn)
+  pub spends : Is (Spends n)
+  pub in_vain : (payload : List ℕ) → Is (Spends_unread n payload)
+  pub takes : (seen : ℕ) (text : List ℕ) → Is (Takes_nonce n seen text)
+  pub resends : (payload : List ℕ) → Is (Resends n payload)
+  pub hears : (setting : Setting) → Is (Hears_value n setting)
+  pub no_room : (property : Property) → Is (Has_no_room n property)
 
+module _ (Is : HostEvent → Type 0) (n : ℕ) (are : FollowersAre Is n) where
   abbrev All : List HostEvent → Type 0
-  All events = AllByRecursion May events
+  All events = AllByRecursion Is events
 
   final : (session id : ℕ) (command : Option ℕ) (status : Option FinalStatus) (wake : Bool) (events : List HostEvent) → FinalEvents n session id command status wake events → All events
-  final session id (Some command) (Some status) wake events is = either May (Finishes n session id command status wake) (Is_unkept n) events tt tt is
-  final session id (Some command) None wake events is = none May events is
-  final session id None (Some status) wake events is = none May events is
-  final session id None None wake events is = none May events is
+  final session id (Some command) (Some status) wake events is =
+      either Is (Finishes n session id command status wake) (Is_unkept n) events (are.finishes session id command status wake) are.unkept is
+  final session id (Some command) None wake events is = none Is events is
+  final session id None (Some status) wake events is = none Is events is
+  final session id None None wake events is = none Is events is
 
   reported : (h : HostState) (id : ℕ) (status : ReportStatus) (wake : Bool) (it : TheTold) (events : List HostEvent) → ReportEvents h n id status wake it events → All events
-  reported h id status wake told.Old events is = one May (Reports_old n id) events tt is
-  reported h id status wake told.Working events is = one May (Works n id) events tt is
+  reported h id status wake told.Old events is = one Is (Reports_old n id) events (are.old id) is
+  reported h id status wake told.Working events is = one Is (Works n id) events (are.works id) is
   reported h id status wake (told.Final session) events is = final session id _ _ wake events is
 
   asked : (live : Option (List ℕ)) (events : List HostEvent) → NonceGetEvents n live events → All events
-  asked (Some nonce) events is = one May (Offers n) events tt is
-  asked None events is = either May (Gives n is.0) (Is_unkept n) events tt tt is.2
+  asked (Some nonce) events is = one Is (Offers n) events are.offers is
+  asked None events is = either Is (Gives n is.0) (Is_unkept n) events (are.gives is.0) are.unkept is.2
 
   given : (h : HostState) (nonce : List ℕ) (count : Option ℕ) (events : List HostEvent) → NonceReportEvents h n nonce count events → All events
-  given h nonce None events is = none May events is
-  given h nonce (Some seen) events is = either May (Takes_nonce n seen is.1) (Is_unkept n) events tt tt is.3
+  given h nonce None events is = none Is events is
+  given h nonce (Some seen) events is = either Is (Takes_nonce n seen is.1) (Is_unkept n) events (are.takes seen is.1) are.unkept is.3
 
   resends : (payload : Option (List ℕ)) (events : List HostEvent) → events ≡ resent n payload → All events
-  resends None events is = none May events is
-  resends (Some payload) events is = one May (Resends n payload) events tt is
+  resends None events is = none Is events is
+  resends (Some payload) events is = one Is (Resends n payload) events (are.resends payload) is
 
-  value : (b : Bool) (s : Setting) → May (if b then Has_no_room n s.property else Hears_value n s)
-  value true s = tt
-  value false s = tt
+  value : (b : Bool) (s : Setting) → Is (if b then Has_no_room n s.property else Hears_value n s)
+  value true s = are.no_room s.property
+  value false s = are.hears s
 
   values : (h : HostState) (settings : List Setting) → All (value_events h n settings)
   values h [] = tt
@@ -109,44 +124,61 @@ module _ (unit : List ℕ) (n : ℕ) where
 
   plain : (h : HostState) (payload : List ℕ) (id : ℕ) (status : ReportStatus) (wake : Bool) (events : List HostEvent) → IsTaken h n payload false (Report id status wake) events → All events
   plain h payload id status wake events is = elim (cases_Bool (is_secure (node_of h n).classes)) [
-    | inl secure ↦ one May (Unreads n payload) events tt (rw secure at is)
+    | inl secure ↦ one Is (Unreads n payload) events (are.unread payload) (rw secure at is)
     | inr not_secure ↦ reported h id status wake (told_of (node_of h n).book id (status_byte status)) events (rw not_secure at is)
   ]
 
-  taken : (h : HostState) (payload : List ℕ) (sealed : Bool) (message : Told) (events : List HostEvent) → (is_notification message ≡ true → May (Notifies n))
+  taken : (h : HostState) (payload : List ℕ) (sealed : Bool) (message : Told) (events : List HostEvent) → (is_notification message ≡ true → Is (Notifies n))
       → IsTaken h n payload sealed message events → All events
   taken h payload true (Report id status wake) events tells is = reported h id status wake _ events is
   taken h payload false (Report id status wake) events tells is = plain h payload id status wake events is
   taken h payload sealed NonceGet events tells is = asked _ events is
   taken h payload sealed (NonceReport nonce) events tells is = given h nonce _ events is
-  taken h payload sealed Notification events tells is = one May (Notifies n) events (tells refl) is
+  taken h payload sealed Notification events tells is = one Is (Notifies n) events (tells refl) is
   taken h payload sealed (SegmentRequest id offset) events tells is = resends _ events is
   taken h payload sealed (Values settings) events tells is = subst All (sym is) (values h settings)
 
-  all_taken : (h : HostState) (payload : List ℕ) (sealed : Bool) (messages : List Told) (events : List HostEvent) → (list_any is_notification messages ≡ true → May (Notifies n))
+  all_taken : (h : HostState) (payload : List ℕ) (sealed : Bool) (messages : List Told) (events : List HostEvent) → (list_any is_notification messages ≡ true → Is (Notifies n))
       → AreTaken h n payload sealed messages events → All events
-  all_taken h payload sealed [] events tells is = none May events is
-  all_taken h payload sealed (message ∷ more) events tells (first, rest, are, first_is, others) =
-      subst All (sym are)
-      (all-append May first rest (taken h payload sealed message first (λ is. tells (ap (λ (b : Bool). b || list_any is_notification more) is)) first_is)
+  all_taken h payload sealed [] events tells is = none Is events is
+  all_taken h payload sealed (message ∷ more) events tells (first, rest, are_so, first_is, others) =
+      subst All (sym are_so)
+      (all-append Is first rest (taken h payload sealed message first (λ is. tells (ap (λ (b : Bool). b || list_any is_notification more) is)) first_is)
       (all_taken (after_all h first) payload sealed more rest (λ is. tells (or_right (is_notification message) (list_any is_notification more) is)) others))
 
-  opened : (h : HostState) (nonce payload : List ℕ) (events : List HostEvent) → May (Notifies n) → IsOpened h n nonce payload events → All events
-  opened h nonce payload events tells (inl are) = one May (Is_unkept n) events tt are
-  opened h nonce payload events tells (inr (inl vain)) = one May (Spends_unread n payload) events tt vain.1
+  opened : (h : HostState) (nonce payload : List ℕ) (events : List HostEvent) → Is (Notifies n) → IsOpened h n nonce payload events → All events
+  opened h nonce payload events tells (inl is) = one Is (Is_unkept n) events are.unkept is
+  opened h nonce payload events tells (inr (inl vain)) = one Is (Spends_unread n payload) events (are.in_vain payload) vain.1
   opened h nonce payload events tells (inr (inr opens)) =
-      let (messages, rest, to, are, taken_so) = opens in
-      subst All (sym are) (tt, all_taken (after h (Spends n)) payload true messages rest (λ is. tells) taken_so)
+      let (messages, rest, to, are_so, taken_so) = opens in
+      subst All (sym are_so) (are.spends, all_taken (after h (Spends n)) payload true messages rest (λ is. tells) taken_so)
 
-  sealed_all : (h : HostState) (payload : List ℕ) (nonce : Option (List ℕ)) (events : List HostEvent) → May (Notifies n) → SealedEvents h n payload nonce events → All events
-  sealed_all h payload None events tells is = one May (Unreads n payload) events tt is
+  sealed_all : (h : HostState) (payload : List ℕ) (nonce : Option (List ℕ)) (events : List HostEvent) → Is (Notifies n) → SealedEvents h n payload nonce events → All events
+  sealed_all h payload None events tells is = one Is (Unreads n payload) events (are.unread payload) is
   sealed_all h payload (Some nonce) events tells is = opened h nonce payload events tells is
 
-  payload_all : (h : HostState) (payload : List ℕ) (heard : Heard) (events : List HostEvent) → (may_tell is_notification heard ≡ true → May (Notifies n))
+  pub payload_all : (h : HostState) (payload : List ℕ) (heard : Heard) (events : List HostEvent) → (may_tell is_notification heard ≡ true → Is (Notifies n))
       → PayloadEvents h n payload heard events → All events
   payload_all h payload (Messages messages) events tells is = all_taken h payload false messages events tells is
   payload_all h payload Sealed events tells is = sealed_all h payload _ events (tells refl) is
-  payload_all h payload Unread events tells is = one May (Unreads n payload) events tt is
+  payload_all h payload Unread events tells is = one Is (Unreads n payload) events (are.unread payload) is
+
+may_follow : (unit : List ℕ) (n : ℕ) → FollowersAre (MayFollow unit) n
+may_follow unit n = record {
+  unread = λ payload. tt;
+  unkept = tt;
+  old = λ id. tt;
+  works = λ id. tt;
+  finishes = λ session id command status wake. tt;
+  offers = tt;
+  gives = λ drawn. tt;
+  spends = tt;
+  in_vain = λ payload. tt;
+  takes = λ seen text. tt;
+  resends = λ payload. tt;
+  hears = λ setting. tt;
+  no_room = λ property. tt;
+}
 
 -- ---- frames
 
@@ -179,7 +211,7 @@ interview_all unit RequestFailed None events is = one (MayFollow unit) _ events 
 notice_all : (unit : List ℕ) (h : HostState) (read : Result Notice BodyFault) (events : List HostEvent) → bringing_in unit ≡ brought_of read → NoticeEvents h read events
     → AllByRecursion (MayFollow unit) events
 notice_all unit h (Ok (ApplicationCommandHandler rx_status source payload)) events brings is =
-    payload_all unit source h payload (heard_at payload) events (own_payload unit source payload brings) is
+    payload_all (MayFollow unit) source (may_follow unit source) h payload (heard_at payload) events (own_payload unit source payload brings) is
 notice_all unit h (Ok (SendData callback_id status)) events brings is = one (MayFollow unit) _ events tt is
 notice_all unit h (Ok (ApplicationUpdate update)) events brings is = interview_all unit update (interviewed_by h.requests update) events is
 notice_all unit h (Ok (AddNode callback_id status information)) events brings is = none (MayFollow unit) events is

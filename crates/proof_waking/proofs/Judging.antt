@@ -178,11 +178,11 @@ words_rest line past m goes_on known =
     tied past m.came (subst (λ (l : List Entry). TieFrames l m.came) (sym known.are) (said_frames known.before m.came known.words (ap is_restart known.read ∙ goes_on) known.frames))
     (words_settled line past m known)
 
-asked_on : (line : Line) (h : HostState) (event : HostEvent) → IsAskedBy line h event → is_restart (line ∷ []) ≡ false
+pub asked_on : (line : Line) (h : HostState) (event : HostEvent) → IsAskedBy line h event → is_restart (line ∷ []) ≡ false
 asked_on lines.Restart h event is = absurd is
 asked_on line h event is = refl
 
-nothing_on : (line : Line) → AsksNothing line → is_restart (line ∷ []) ≡ false
+pub nothing_on : (line : Line) → AsksNothing line → is_restart (line ∷ []) ≡ false
 nothing_on lines.Restart is = absurd is
 nothing_on line is = refl
 

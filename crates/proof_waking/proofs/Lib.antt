@@ -1,5 +1,5 @@
-mod Apart
-mod Followed
-mod Parts
-mod Settling
-mod Judging
+pub mod Apart
+pub mod Followed
+pub mod Parts
+pub mod Settling
+pub mod Judging

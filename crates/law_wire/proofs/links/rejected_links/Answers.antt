@@ -9,7 +9,7 @@ use Rattle.law_wire.proofs.Computing.{reckoning}
 use Rattle.law_wire.proofs.NothingHeard.{answers_nothing, host_answers_nothing}
 use Rattle.law_wire.proofs.Overspeaking.{AreSame, writes_same}
 use Rattle.law_wire.proofs.Parts.{fill, all_texts, nothing_heard}
-use Rattle.law_wire.proofs.Rejecting.{no_answer, no_collision, too_early, too_late, kept_waits}
+use Rattle.law_wire.proofs.Rejecting.{no_answer, no_collision, fourth_early, fourth_late, third_early, third_late, too_early, too_late, kept_waits}
 use Rattle.law_wire.proofs.Silence.{BeginsFrame, silent}
 use Rattle.law_wire.proofs.links.rejected_links.Goals as goal
 
@@ -87,3 +87,15 @@ returns-clause-early c = λ law. too_early law.chip
 
 pub returns-clause-late : goal.returns-clause-late
 returns-clause-late c = λ law. too_late law.chip
+
+pub returns-clause-third_early : goal.returns-clause-third_early
+returns-clause-third_early c = λ law. third_early law.chip
+
+pub returns-clause-third_late : goal.returns-clause-third_late
+returns-clause-third_late c = λ law. third_late law.chip
+
+pub returns-clause-fourth_early : goal.returns-clause-fourth_early
+returns-clause-fourth_early c = λ law. fourth_early law.chip
+
+pub returns-clause-fourth_late : goal.returns-clause-fourth_late
+returns-clause-fourth_late c = λ law. fourth_late law.chip

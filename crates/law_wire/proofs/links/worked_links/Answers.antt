@@ -48,8 +48,8 @@ returns-clause-acknowledged c = record {
 pub returns-clause-copied : goal.returns-clause-copied
 unfolding reckoning
 returns-clause-copied c = record {
-  chip = keeps_link Chip (ended false (copied_in 16)) (acts_of Chip (ended false (copied_in 16))) refl refl refl refl refl;
-  host = keeps_link Host (ended false (copied_in 16)) (acts_of Host (ended false (copied_in 16))) refl refl refl refl refl;
+  chip = keeps_link Chip (ended false (copied_in (16 ∷ 42 ∷ 78 ∷ []))) (acts_of Chip (ended false (copied_in (16 ∷ 42 ∷ 78 ∷ [])))) refl refl refl refl refl;
+  host = keeps_link Host (ended false (copied_in (16 ∷ 42 ∷ 78 ∷ []))) (acts_of Host (ended false (copied_in (16 ∷ 42 ∷ 78 ∷ [])))) refl refl refl refl refl;
 }
 
 -- the host hears in the tick after the stall what came before

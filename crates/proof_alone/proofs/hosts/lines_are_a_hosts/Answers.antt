@@ -8,7 +8,7 @@ use Rattle.proof_line.proofs.SpokenLines.{all_lines, all_may, lines_of}
 use Rattle.proof_walk.proofs.Where.{where_lead, where_whole}
 use Rattle.proof_alone.specs.State.{first_alone}
 use Rattle.proof_alone.specs.Reading.{IsFine, ReadsMarked}
-use Rattle.proof_alone.proofs.ReadingWalk.{Anything, all_fine, all_told, first_reads, reading_walk, whole_told}
+use Rattle.proof_alone.proofs.ReadingWalk.{Anything, all_fine, all_told, first_reads, keeper_told, reading_walk}
 use Rattle.proof_alone.proofs.hosts.lines_are_a_hosts.Goals as goal
 
 pub returns-clause-told : goal.returns-clause-told
@@ -26,8 +26,8 @@ returns-clause-told c = λ keys devices lines are.
     (c.marks_go_on.ensures.first keys (Some []) devices, first_reads keys (Some []) devices) in
     all_told start lead.0 (transcript_of m lines) (after_all m lines) lead.1.1
 
-pub returns-clause-whole : goal.returns-clause-whole
-returns-clause-whole c = λ keys devices lines are whole.
+pub returns-clause-keeper : goal.returns-clause-keeper
+returns-clause-keeper c = λ keys devices lines are whole.
     let m = first_machine keys (Some []) devices in
     let start = first_alone keys (Some []) in
     let events = events_of lines in
@@ -39,4 +39,7 @@ returns-clause-whole c = λ keys devices lines are whole.
     let known =
     where_whole IsFine Anything (ReadsMarked start) (reading_walk start c.marks_go_on.ensures.walk) [] m lines are whole (all_fine m events stays.at_rest writes)
     (c.marks_go_on.ensures.first keys (Some []) devices, first_reads keys (Some []) devices) in
-    whole_told start (transcript_of m lines) (after_all m lines) known.1
+    keeper_told start (transcript_of m lines) (after_all m lines) known.1
+
+pub returns-clause-whole : goal.returns-clause-whole
+returns-clause-whole c = λ keys devices lines are whole. let end = returns-clause-keeper c keys devices lines are whole in (end.0, end.1)

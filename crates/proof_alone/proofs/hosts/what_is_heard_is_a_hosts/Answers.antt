@@ -7,3 +7,6 @@ returns-clause-told c = λ start told run. (run.0, run.1, is_heard start run.2)
 
 pub returns-clause-whole : goal.returns-clause-whole
 returns-clause-whole c = λ start told run. (run.0, is_heard start run.1)
+
+pub returns-clause-run : goal.returns-clause-run
+returns-clause-run c = λ start here told m run. is_heard start run

@@ -1,4 +1,5 @@
 use Rattle.std.proofs.Common.{[]}
+use Rattle.law_transcript.specs.Nodes.{always}
 use Rattle.world_model.specs.State.{first_machine}
 use Rattle.world_lines.specs.Spoken.{after_all, transcript_of}
 use Rattle.proof_spoken.proofs.said.runs_have_their_tables.Goals as goal
@@ -8,4 +9,4 @@ returns c = λ listing keys records devices lines node are tells.
     let m = first_machine keys records devices in
     let knows = c.interviews_give_what_is_known.ensures.lines listing [] m lines are tells (c.interviews_give_what_is_known.ensures.first listing keys) in
     let (facts, said) = c.answers_stand_after_their_lines.ensures.lines listing [] m lines (c.the_machine_keeps_facts.ensures.first keys records devices) tt knows are in
-    c.tables_are_what_was_said.ensures listing (transcript_of m lines) (after_all m lines).host.state node facts said
+    c.tables_are_what_was_said.ensures (always listing) (transcript_of m lines) (after_all m lines).host.state node facts said

@@ -5,7 +5,7 @@ use Rattle.device_sim.specs.State.{State}
 use Rattle.host_model.specs.State.{first_host}
 use Rattle.host_keep.specs.Kept.{first_kept, kept_of}
 use Rattle.law_transcript.specs.Lists.{EachAfter}
-use Rattle.law_transcript.specs.Nodes.{listing_of}
+use Rattle.law_transcript.specs.Nodes.{listing_of, always}
 use Rattle.proof_device.proofs.DevicePlaces.{go_same, run_goes}
 use Rattle.proof_device.specs.GoingOn.{AreSame}
 use Rattle.world_model.specs.State.{Machine, first_machine}
@@ -81,7 +81,7 @@ module _ (c : goal.After-texts_give_one_thing) where
       let (facts, said) = c.answers_stand_after_their_lines.ensures.lines listing [] m lines (c.the_machine_keeps_facts.ensures.first keys (Some []) devices) tt known spoken in
       let laws = c.laws_follow.ensures.laws past end.host.state facts in
       ties_are devices past end facts (c.laws_follow.ensures.tables past end.host.state facts) (c.what_is_told.ensures keys devices lines are whole) knows
-      (λ node. c.tables_are_what_was_said.ensures listing past end.host.state node facts said) (no_more keys devices lines are)
+      (λ node. c.tables_are_what_was_said.ensures (always listing) past end.host.state node facts said) (no_more keys devices lines are)
       (c.lines_refuse_what_is_old.ensures keys (Some []) devices lines are whole (c.lines_number_frames.ensures keys (Some []) devices lines are) laws.sessions_keep)
       (no_bad keys devices lines are) (same_devices keys devices lines)
 

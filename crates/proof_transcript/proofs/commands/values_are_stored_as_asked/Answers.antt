@@ -1,5 +1,5 @@
 use Rattle.std.proofs.Common.{[], Some}
-use Rattle.law_transcript.specs.Nodes.{listing_of}
+use Rattle.law_transcript.specs.Nodes.{listing_of, always}
 use Rattle.world_model.specs.State.{first_machine}
 use Rattle.world_lines.specs.Spoken.{after_all, transcript_of}
 use Rattle.proof_transcript.proofs.StoredValues.{stores_confirmed}
@@ -15,5 +15,5 @@ returns c = λ keys devices lines done.
     let tells = c.lines_tell_what_nodes_list.ensures.tell keys devices lines done in
     let known = c.interviews_give_what_is_known.ensures.lines listing [] m lines are tells (c.interviews_give_what_is_known.ensures.first listing keys) in
     let (facts, said) = c.answers_stand_after_their_lines.ensures.lines listing [] m lines (c.the_machine_keeps_facts.ensures.first keys (Some []) devices) tt known are in
-    stores_confirmed listing h transcript (λ node. c.tables_are_what_was_said.ensures listing transcript h node facts said)
+    stores_confirmed (always listing) h transcript (λ node. c.tables_are_what_was_said.ensures (always listing) transcript h node facts said)
     (c.laws_follow.ensures.tables transcript h facts) (c.laws_follow.ensures.stores transcript h facts)

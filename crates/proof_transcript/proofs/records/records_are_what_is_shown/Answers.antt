@@ -1,6 +1,6 @@
 use Rattle.std.proofs.Common.{◌≡◌, ℕ, List, [], Some, Option, refl, sym, ap, subst, ◌∙◌}
 use Rattle.std.specs.List.{flat_map}
-use Rattle.law_transcript.specs.Nodes.{listing_of}
+use Rattle.law_transcript.specs.Nodes.{listing_of, always}
 use Rattle.host_keep.specs.Kept.{first_kept, kept_of}
 use Rattle.host_keep.specs.declared.record.Record.{Record}
 use Rattle.world_model.specs.State.{Machine, first_machine}
@@ -41,8 +41,8 @@ returns c = λ keys devices lines are whole.
       record {
         kept = kept_of held.records;
         gives = record { records = held.records; are = held.are; legal = held.legal; gives = refl };
-        shows = shows listing past end.host.state (kept_of held.records) facts held.holds (c.laws_follow.ensures.laws past end.host.state facts) (c.laws_follow.ensures.tables past end.host.state facts)
-            told.are_joined knows said (λ node. c.tables_are_what_was_said.ensures listing past end.host.state node facts said)
+        shows = shows (always listing) past end.host.state (kept_of held.records) facts held.holds (c.laws_follow.ensures.laws past end.host.state facts) (c.laws_follow.ensures.tables past end.host.state facts)
+            told.are_joined knows said (λ node. c.tables_are_what_was_said.ensures (always listing) past end.host.state node facts said)
             (all_cancelled first_kept held.records ∙ (ap (λ (l : List Record). flat_map cancelled_by l) (sym same) ∙ tells.cancelled));
       },
     )

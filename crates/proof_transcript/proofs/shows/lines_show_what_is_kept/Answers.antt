@@ -1,23 +1,17 @@
 -- What is shown is tied to the transcript where each line begins, so it is what the transcript gives; in the end, after whole lines, nothing is to be shown.
-use Rattle.std.proofs.Common.{◌≡◌, ℕ, Bool, true, false, List, [], ◌∷◌, ◌++◌, map, Some, refl, sym, ap, subst, ◌∙◌}
-use Rattle.std.specs.List.{flat_map}
+use Rattle.std.proofs.Common.{◌≡◌, ℕ, Bool, true, false, List, [], ◌∷◌, ◌++◌, Some, refl, sym, ap, subst, ◌∙◌}
 use Rattle.s0_crypto.specs.declared.key_pair.Keys.{Keys}
-use Rattle.value_store.specs.ValueText.{values_text}
-use Rattle.value_store.specs.Values.{held_of}
-use Rattle.value_store.specs.declared.stored.Held.{Held}
 use Rattle.device_sim.specs.State.{State}
 use Rattle.zw_text.specs.declared.line.Line.TheVariants as lines
 use Rattle.zw_text.specs.declared.entry.Entry.{Entry}
-use Rattle.zw_text.specs.declared.entry.Entry.TheVariants.{Json, Said}
+use Rattle.zw_text.specs.declared.entry.Entry.TheVariants.{Said}
 use Rattle.law_transcript.specs.Lists.{EachAfter}
-use Rattle.law_transcript.specs.Nodes.{listing_of, always}
-use Rattle.law_transcript.specs.Table.{value_lines}
+use Rattle.law_transcript.specs.Nodes.{always, listing_of}
 use Rattle.law_wire.specs.Serial.{ended}
-use Rattle.law_host.specs.HostLegal.{held_in, values_now}
+use Rattle.law_host.specs.HostLegal.{values_now}
 use Rattle.world_model.specs.State.{Machine, first_machine}
 use Rattle.world_model.specs.Events.{shown_values}
 use Rattle.world_model.specs.Did.{happens_all}
-use Rattle.world_model.specs.Table.{value_entry}
 use Rattle.world_lines.specs.Spoken.{Spoken, after_all, transcript_of}
 use Rattle.world_lines.specs.Done.{AreDone, events_of}
 use Rattle.world_lines.specs.Whole.{AreWhole}
@@ -30,16 +24,12 @@ use Rattle.proof_walk.proofs.Lines.{all_tied, tied_lead, tied_stand}
 use Rattle.proof_walk.specs.Walk.{AllTied}
 use Rattle.proof_transcript.specs.Showing.{KnowsShown, ShownTies, Stands}
 use Rattle.proof_transcript.specs.Told.{IsTold}
-use Rattle.proof_transcript.proofs.LastTable.{values_so}
+use Rattle.proof_transcript.proofs.LastTable.{shown_kept}
 use Rattle.proof_transcript.proofs.Nodes.{devices_are}
 use Rattle.proof_transcript.proofs.SaidNext.{unbegun, said_after, said_done, said_told, said_transcript}
 use Rattle.proof_transcript.proofs.ShownDevices.{found_like, lines_show}
 use Rattle.proof_transcript.proofs.Showing.{devices_of, shown_walk, values_of, words_stand}
 use Rattle.proof_transcript.proofs.shows.lines_show_what_is_kept.Goals as goal
-
-held_back : (node : ℕ) (held : List Held) → flat_map held_in (map (value_entry node) held) ≡ held
-held_back node [] = refl
-held_back node (one ∷ held) = ap (λ (l : List Held). one ∷ l) (held_back node held)
 
 module _ (c : goal.After-changes_are_shown) (keys : Keys) (devices : List State) where
   abbrev start : Machine
@@ -56,10 +46,8 @@ module _ (c : goal.After-changes_are_shown) (keys : Keys) (devices : List State)
       let tell = c.lines_tell_what_nodes_list.ensures.tell keys devices spoken are in
       let known = c.interviews_give_what_is_known.ensures.lines listing [] start spoken are_spoken tell (c.interviews_give_what_is_known.ensures.first listing keys) in
       let (facts, said) = c.answers_stand_after_their_lines.ensures.lines listing [] start spoken (c.the_machine_keeps_facts.ensures.first keys (Some []) devices) tt known are_spoken in
-      let same : map (value_entry node) (held_of end.host.state.store node) ≡ value_lines (always listing) past node =
-      values_so listing past end told (c.laws_follow.ensures.laws past end.host.state facts) (c.laws_follow.ensures.tables past end.host.state facts) (c.laws_follow.ensures.stores past end.host.state facts)
-      (λ n. c.runs_have_their_tables.ensures listing keys (Some []) devices spoken n are_spoken tell) node in
-      ap (λ (l : List Entry). Json (values_text node (flat_map held_in l))) (sym same) ∙ ap (λ (l : List Held). Json (values_text node l)) (held_back node (held_of end.host.state.store node))
+      shown_kept (always listing) past end.host.state (c.laws_follow.ensures.laws past end.host.state facts) (c.laws_follow.ensures.stores past end.host.state facts)
+      (λ n. c.runs_have_their_tables.ensures listing keys (Some []) devices spoken n are_spoken tell) told.heard node
 
   same_devices : (spoken : List Spoken) → AreSame devices (after_all start spoken).outside.devices
   same_devices spoken =

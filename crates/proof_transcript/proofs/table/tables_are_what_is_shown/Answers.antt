@@ -1,5 +1,5 @@
 use Rattle.std.proofs.Common.{[], Some}
-use Rattle.law_transcript.specs.Nodes.{listing_of}
+use Rattle.law_transcript.specs.Nodes.{always, listing_of}
 use Rattle.world_model.specs.State.{first_machine}
 use Rattle.world_lines.specs.Spoken.{after_all, transcript_of}
 use Rattle.proof_transcript.proofs.LastTable.{table_is}
@@ -16,5 +16,5 @@ returns c = λ keys devices lines are whole.
     let (facts, said) = c.answers_stand_after_their_lines.ensures.lines listing [] m lines (c.the_machine_keeps_facts.ensures.first keys (Some []) devices) tt known spoken in
     let end = after_all m lines in
     let past = transcript_of m lines in
-    table_is listing past end (c.what_is_told.ensures keys devices lines are whole) (c.laws_follow.ensures.laws past end.host.state facts) (c.laws_follow.ensures.tables past end.host.state facts)
+    table_is (always listing) past end (c.what_is_told.ensures keys devices lines are whole) (c.laws_follow.ensures.laws past end.host.state facts) (c.laws_follow.ensures.tables past end.host.state facts)
     (c.laws_follow.ensures.stores past end.host.state facts) (λ node. c.runs_have_their_tables.ensures listing keys (Some []) devices lines node spoken tell)

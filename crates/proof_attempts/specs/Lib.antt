@@ -1,0 +1,4 @@
+pub mod Since
+pub mod Waking
+pub mod Working
+pub mod Series

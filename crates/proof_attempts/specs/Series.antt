@@ -1,0 +1,51 @@
+-- The series of attempts of a node, in its host and by the transcript (this project's own rule). A series runs by the transcript where it is due or runs in the host; and another one may be
+-- due by it as many ticks from now as the host's wait for that has left. While a node's tick is to come its wait is the one that it will leave: the transcript does not tell where in a tick
+-- the host is. So a node is looked at as its tick leaves that wait, at the time of the tick.
+use Rattle.std.specs.Prelude.{◌≡◌, ℕ, ◌+◌, ◌≤◌, ◌==◌, not, Bool, true, false, if◌then◌else◌, List, [], ◌∷◌}
+use Rattle.zw_text.specs.declared.entry.Entry.{Entry}
+use Rattle.law_transcript.specs.Commands.{waiting}
+use Rattle.law_time.specs.Requests.{are_none}
+use Rattle.law_time.specs.Sessions.{Series as SeriesTold, is_open, no_series, series_from, with_time}
+use Rattle.law_time.specs.Waking.{is_up}
+use Rattle.host_node.specs.State.{NodeState, has_waiting, is_idle, is_open as has_open, is_up as hears}
+use Rattle.host_node.specs.Steps.{after_again_tick, after_hold_tick}
+use Rattle.host_model.specs.State.{HostState, node_of}
+use Rattle.proof_alone.specs.Phases.{Phase, Risen, Ticking}
+use Rattle.proof_attempts.specs.Since.{TieOf, is_to_tick}
+
+-- ---- what the transcript tells
+
+abbrev pub series_so_far : ℕ → List Entry → SeriesTold
+series_so_far n past = series_from n [] no_series past
+
+-- of a node: whether commands wait for it, whether it hears, and whether its session is open
+pub record NodeAsTold (n : ℕ) (past : List Entry) (node : NodeState) : Type 0 where
+  pub waits : are_none (waiting n past) ≡ not (has_waiting node)
+  pub up : is_up n past ≡ hears node
+  pub opened : is_open n past ≡ has_open node
+
+-- ---- the tie
+
+-- when a wait ends of which so many ticks are left
+abbrev pub wait_end : ℕ → ℕ → List ℕ
+wait_end clock ticks = if ticks == 0 then [] else (clock + ticks) ∷ []
+
+pub record IsSeries (told : SeriesTold) (node : NodeState) (clock : ℕ) : Type 0 where
+  pub runs : told.runs ≡ not (is_idle node.series)
+  pub again : told.again ≡ wait_end clock node.again_wait
+
+-- a node as its tick leaves its wait for another series, where that tick is to come
+abbrev pub again_ticked : NodeState → NodeState
+again_ticked node = after_again_tick (after_hold_tick node)
+
+abbrev pub is_ahead : Phase → ℕ → Bool
+is_ahead Risen n = true
+is_ahead (Ticking left) n = is_to_tick n left
+is_ahead here n = false
+
+abbrev pub looked_at : Phase → HostState → ℕ → NodeState
+looked_at here h n = if is_ahead here n then again_ticked (node_of h n) else node_of h n
+
+abbrev pub RunsAsTold : TieOf
+RunsAsTold here past h clock =
+    (n : ℕ) → 1 ≤ n → n ≤ 232 → IsSeries (with_time n past clock (series_so_far n past)) (looked_at here h n) clock

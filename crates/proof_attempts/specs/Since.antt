@@ -1,0 +1,129 @@
+-- What is known of a host alone since it started (this project's own rule): the words of a `restart` are taken back where it is refused, so while a line is asked it is known of what stood
+-- before its words. And how far each node has come in a tick.
+use Rattle.std.specs.Prelude.{◌≡◌, ℕ, ◌+◌, ◌-◌, ◌==◌, ◌||◌, Bool, true, false, if◌then◌else◌, List, [], ◌∷◌, ◌++◌, map}
+use Rattle.std.specs.List.{AllByRecursion}
+use Rattle.serial_frame.specs.declared.item.Item.{Item}
+use Rattle.serial_frame.specs.declared.unit.Unit.{Unit as LineUnit}
+use Rattle.zw_words.specs.declared.side.Side.TheVariants.{Chip}
+use Rattle.zw_text.specs.declared.line.Line.{Line}
+use Rattle.zw_text.specs.declared.line.Line.TheVariants as lines
+use Rattle.zw_text.specs.declared.entry.Refusal.{Refusal}
+use Rattle.zw_text.specs.declared.entry.Entry.{Entry}
+use Rattle.zw_text.specs.declared.entry.Entry.TheVariants as entry
+use Rattle.zw_text.specs.Transcript.{line_of}
+use Rattle.law_transcript.specs.Restarts.{is_restart}
+use Rattle.host_model.specs.State.{HostState}
+use Rattle.host_requests.specs.Events.RequestsEvent.{Ticks as request_ticks}
+use Rattle.host_node.specs.declared.attempt.Moment.TheVariants.{BeforeItsTick}
+use Rattle.host_model.specs.Did.{MayAll, after_all}
+use Rattle.host_model.specs.Ticking.{first_ticks, ticking_nodes}
+use Rattle.host_model.specs.Events.{HostEvent, Hears, Line_ticks, Node_ticks, Requests_do}
+use Rattle.host_model.specs.After.{after}
+use Rattle.host_model.specs.Outs.{answers}
+use Rattle.world_model.specs.Events.{OpensFrom}
+use Rattle.proof_alone.specs.State.{HostMachine}
+use Rattle.proof_alone.specs.Steps.{Does, IsAskedBy}
+use Rattle.proof_alone.specs.Phases.{Phase, Resting, Asked, Risen, Ticking, Open, Behind, IsJudgedNow, May, Turns}
+use Rattle.proof_alone.specs.Runs.{Knowledge, both_know}
+use Rattle.proof_alone.specs.Tables.{KnowsTables}
+use Rattle.proof_alone.specs.Time.{KnowsClock}
+
+-- ---- nodes in a tick
+
+-- the tick of a node is among these: those of the line and of the request come first
+abbrev pub is_to_tick : ℕ → List HostEvent → Bool
+is_to_tick n [] = false
+is_to_tick n (Node_ticks node ∷ left) = (node == n) || is_to_tick n left
+is_to_tick n (event ∷ left) = true
+
+-- the time of a node: while its tick is to come it is that of the tick before
+abbrev pub node_clock : Phase → ℕ → ℕ → ℕ
+node_clock Risen clock n = clock - 1
+node_clock (Ticking left) clock n = if is_to_tick n left then clock - 1 else clock
+node_clock here clock n = clock
+
+-- the events of a tick that are left: those of the line and of the request come first, then one of each node that has a wait when these are over
+abbrev pub IsNodeTick : HostEvent → Type 0
+IsNodeTick (Node_ticks n) = Unit {0}
+IsNodeTick event = ⊥
+
+abbrev pub TicksLeft : HostState → List HostEvent → Type 0
+TicksLeft h (Line_ticks ∷ left) = left ≡ Requests_do request_ticks BeforeItsTick ∷ map Node_ticks (ticking_nodes (after_all h first_ticks))
+TicksLeft h (Requests_do event moment ∷ left) = left ≡ map Node_ticks (ticking_nodes (after h (Requests_do event moment)))
+TicksLeft h left = AllByRecursion IsNodeTick left
+
+abbrev pub TicksAt : Phase → HostState → Type 0
+TicksAt (Ticking left) h = TicksLeft h left
+TicksAt here h = Unit {0}
+
+-- ---- ties
+
+-- of the entries so far and a host, at a phase and a time
+abbrev pub TieOf : Type 1
+TieOf = Phase → List Entry → HostState → ℕ → Type 0
+
+-- no line was just said
+abbrev pub IsElse : Phase → Type 0
+IsElse (Asked line) = ⊥
+IsElse here = Unit {0}
+
+-- the words of a line stand last, and it holds of what stood before them
+pub record BeforeWords (Tie : TieOf) (line : Line) (past : List Entry) (m : HostMachine) : Type 0 where
+  pub before : List Entry
+  pub words : List ℕ
+  pub are : past ≡ before ++ entry.Said words ∷ []
+  pub read : line_of (entry.Said words) ≡ line ∷ []
+  pub unnumbered : m.awaits ≡ false
+  pub tie : Tie Resting before m.state m.clock
+
+abbrev pub KnowsSince : TieOf → Knowledge
+KnowsSince Tie (Asked line) past m = BeforeWords Tie line past m
+KnowsSince Tie here past m = Tie here past m.state m.clock
+
+-- the events that are left of a tick
+abbrev pub InTick : TieOf
+InTick here past h clock = TicksAt here h
+
+-- with the tables and the clock
+abbrev pub KnowsTicks : Knowledge
+KnowsTicks = both_know (both_know KnowsTables KnowsClock) (KnowsSince InTick)
+
+-- ---- what is owed
+
+-- an entry of others, a unit of the chip and what became of it, the number of a tick, or values that are shown
+abbrev pub IsLoose : Entry → Type 0
+IsLoose (entry.Written Chip unit) = Unit {0}
+IsLoose (entry.Dropped Chip) = Unit {0}
+IsLoose (entry.Garbled Chip unit) = Unit {0}
+IsLoose (entry.Overrun Chip) = Unit {0}
+IsLoose (entry.Air frame sender receiver repeaters payload) = Unit {0}
+IsLoose (entry.Heard frame) = Unit {0}
+IsLoose (entry.Lost frame) = Unit {0}
+IsLoose (entry.Unheard frame) = Unit {0}
+IsLoose (entry.Dev node by setting) = Unit {0}
+IsLoose (entry.Device node setting) = Unit {0}
+IsLoose (entry.Forget first second) = Unit {0}
+IsLoose entry.ChipFull = Unit {0}
+IsLoose (entry.Cleared side count) = Unit {0}
+IsLoose (entry.Time tick) = Unit {0}
+IsLoose (entry.Json text) = Unit {0}
+IsLoose e = ⊥
+
+-- what a tie owes to go on along each run, on a ground: with entries that are loose, and words that do not start the host again or are refused; with what a line asks, and where the host
+-- starts again; with an item, an event, and each tick and part that begins
+pub record Lasts (Ground : Knowledge) (Tie : TieOf) : Type 0 where
+  pub loose : (here : Phase) (past told : List Entry) (h : HostState) (clock : ℕ) → AllByRecursion IsLoose told → Tie here past h clock → Tie here (past ++ told) h clock
+  pub said : (past : List Entry) (words : List ℕ) (h : HostState) (clock : ℕ) → is_restart (line_of (entry.Said words)) ≡ false → Tie Resting past h clock → Tie Resting (past ++ entry.Said words ∷ []) h clock
+  pub refused : (past : List Entry) (words : List ℕ) (refusal : Refusal) (h : HostState) (clock : ℕ) → Tie Resting past h clock
+      → Tie Open (past ++ entry.Said words ∷ (entry.Refused refusal ∷ [])) h clock
+  pub asked : (line : Line) (past : List Entry) (m : HostMachine) (event : HostEvent) → IsAskedBy line m.state event → MayAll m.state (event ∷ []) → Ground (Asked line) past m → Tie Resting past m.state m.clock
+      → Tie Open (past ++ answers m.state event) (after m.state event) m.clock
+  pub starts : (before : List Entry) (words : List ℕ) (m : HostMachine) (state : HostState) → OpensFrom m.keys m.records state → is_restart (line_of (entry.Said words)) ≡ true
+      → Ground (Asked lines.Restart) (before ++ entry.Said words ∷ []) m → Tie Open (before ++ entry.Said words ∷ []) state m.clock
+  pub opens : (past : List Entry) (h : HostState) (clock : ℕ) → Tie Resting past h clock → Tie Open past h clock
+  pub rises : (past : List Entry) (h : HostState) (clock : ℕ) → Tie Resting past h clock → Tie Risen past h (clock + 1)
+  pub judges : (past : List Entry) (m : HostMachine) (item : Item) (rest : List LineUnit) (behind : List HostEvent) (told : List Entry) → IsJudgedNow m item rest behind told → Ground Open past m
+      → Tie Open past m.state m.clock → Tie (Behind behind) (past ++ told) (after m.state (Hears item)) m.clock
+  pub does : (here next : Phase) (past : List Entry) (m : HostMachine) (event : HostEvent) (told : List Entry) → May here m (Does event told) next → Ground here past m
+      → Tie here past m.state m.clock → Tie next (past ++ told) (after m.state event) m.clock
+  pub turn : (here next : Phase) (past : List Entry) (m : HostMachine) → IsElse here → Turns here m next → Ground here past m → Tie here past m.state m.clock → Tie next past m.state m.clock

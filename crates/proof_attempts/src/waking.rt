@@ -1,0 +1,40 @@
+//! Which nodes a host alone counts as awake.
+
+ghost use Rattle.std.specs.Prelude.{◌≡◌, ◌≤◌, ◌-◌, Some, List, [], ℕ};
+ghost use Rattle.s0_crypto.specs.declared.key_pair.Keys.{Keys};
+ghost use Rattle.zw_text.specs.declared.entry.Entry.{Entry};
+ghost use Rattle.law_time.specs.Holds.{held_until};
+ghost use Rattle.law_time.specs.Waking.{counts_awake};
+ghost use Rattle.host_model.specs.State.{node_of};
+ghost use Rattle.proof_host.specs.Laws.{MayStand};
+ghost use Rattle.proof_alone.specs.State.{HostMachine, first_alone};
+ghost use Rattle.proof_alone.specs.Phases.{Phase, Resting};
+ghost use Rattle.proof_alone.specs.Runs.{Run, Walk, both_know};
+ghost use Rattle.proof_alone.specs.Tables.{KnowsTables};
+ghost use Rattle.proof_walk.specs.Time.{MayCount};
+ghost use Rattle.proof_attempts.specs.Since.{KnowsSince, KnowsTicks};
+ghost use Rattle.proof_attempts.specs.Waking.{CountsAwake, HeldAsTold};
+
+use proof_alone::{hosts_keep_their_tables, hosts_tell_time};
+
+/// In any run of a host alone, also where it starts again, over a keeper that tells its records and has none at first: at each step, and wherever a part
+/// begins, each node counts as awake by the transcript as it does in the host; and while a line is asked, by what stood before its words.
+pub fn hosts_count_awake()
+    ensures walk { Walk MayStand (both_know KnowsTables (KnowsSince CountsAwake)) }
+    ensures first { (keys : Keys) → both_know KnowsTables (KnowsSince CountsAwake) Resting [] (first_alone keys (Some [])) }
+    ensures rests { (keys : Keys) (told : List Entry) (m : HostMachine) → Run (first_alone keys (Some [])) Resting told m →
+        (n : ℕ) → 1 ≤ n → n ≤ 232 → (node_of m.state n).awake ≡ counts_awake n told }
+{
+    hosts_keep_their_tables();
+}
+
+/// In such a run each node is held for no more ticks than its transcript tells; in a tick, by how far it has come itself.
+pub fn hosts_hold_as_told()
+    ensures walk { Walk MayCount (both_know KnowsTicks (KnowsSince HeldAsTold)) }
+    ensures first { (keys : Keys) → both_know KnowsTicks (KnowsSince HeldAsTold) Resting [] (first_alone keys (Some [])) }
+    ensures rests { (keys : Keys) (told : List Entry) (m : HostMachine) → Run (first_alone keys (Some [])) Resting told m →
+        (n : ℕ) → 1 ≤ n → n ≤ 232 → (node_of m.state n).hold ≤ held_until n told - m.clock }
+{
+    hosts_keep_their_tables();
+    hosts_tell_time();
+}

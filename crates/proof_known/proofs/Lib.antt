@@ -1,0 +1,10 @@
+mod Listing
+pub mod Events
+mod Hearing
+mod Knowing
+mod Saying
+mod Telling
+mod Showing
+mod Recording
+mod Answering
+mod ForHost

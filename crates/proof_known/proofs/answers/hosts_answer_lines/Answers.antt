@@ -1,0 +1,92 @@
+-- Each line is answered: what decides its answer is known at rest.
+use Rattle.std.proofs.Common.{◌≡◌, true, false, inl, inr, List, [], ◌∷◌, ◌++◌, sym, ◌∙◌}
+use Rattle.std.specs.Prelude.{Some}
+use Rattle.s0_crypto.specs.declared.key_pair.Keys.{Keys}
+use Rattle.zw_text.specs.declared.line.Line.{Line}
+use Rattle.zw_text.specs.declared.line.Line.TheVariants as lines
+use Rattle.zw_text.specs.declared.entry.Entry.{Entry}
+use Rattle.zw_text.specs.Transcript.{line_last}
+use Rattle.law_transcript.specs.Answers.{AsksNothing, MayAnswer, before_last, refusals_by_host}
+use Rattle.law_transcript.specs.Lists.{EachAfter}
+use Rattle.law_time.specs.Moments.{Allows}
+use Rattle.law_time.specs.Waking.{may_wake}
+use Rattle.law_host.specs.Heard.{listing_heard}
+use Rattle.host_keep.specs.Kept.{first_kept}
+use Rattle.host_model.specs.State.{first_host}
+use Rattle.proof_transcript.specs.Answering.{IsAnswered}
+use Rattle.proof_transcript.proofs.AnswerFacts.{host_ties}
+use Rattle.proof_transcript.proofs.PlacesKept.{HostsKeep}
+use Rattle.proof_transcript.proofs.StoredPlaces.{alone_keeps}
+use Rattle.proof_alone.specs.State.{HostMachine, first_alone}
+use Rattle.proof_alone.specs.Phases.{Phase}
+use Rattle.proof_alone.specs.Runs.{Run, Walk, both_know}
+use Rattle.proof_alone.proofs.Running.{over, run_keeps}
+use Rattle.proof_known.specs.Known.{IsAnswerAlone, IsForHost, IsSettled, KnowsAll, KnowsAnswered, KnowsNodes, KnowsOrders, KnowsPlaces, KnowsSaid, KnowsTold}
+use Rattle.proof_known.proofs.Answering.{Decides, answers_walk, places_walk}
+use Rattle.proof_known.proofs.Events.{beyond}
+use Rattle.proof_known.proofs.ForHost.{heard_is_for_host}
+use Rattle.proof_known.proofs.Telling.{first_told, told_walk}
+use Rattle.proof_known.proofs.answers.hosts_answer_lines.Goals as goal
+
+module _ (c : goal.After-texts_give_one_thing) where
+  keep : HostsKeep
+  keep = record {
+    facts = c.facts_are_kept.ensures.each;
+    orders = c.tables_keep_orders.ensures.host;
+    opened_alone = c.a_restart_keeps_what_is_held.ensures.opened;
+    opened_facts = c.a_restart_keeps_what_is_held.ensures.opened_facts;
+  }
+
+  decides : Decides
+  decides = λ past m tie knows said told places.
+      host_ties listing_heard past m.state tie.facts (c.laws_follow.ensures.tables past m.state tie.facts) told.joined told.heard knows
+      (λ node. c.tables_are_what_was_said.ensures listing_heard past m.state node tie.facts said) places
+
+  walk : Walk IsAnswerAlone (both_know (both_know KnowsAll KnowsPlaces) KnowsAnswered)
+  walk =
+      over (both_know KnowsAll KnowsPlaces) (Allows may_wake) IsAnswerAlone KnowsAnswered
+      (over KnowsAll (Allows may_wake) (Allows may_wake) KnowsPlaces
+      (over KnowsOrders (Allows may_wake) (Allows may_wake) KnowsTold c.hosts_keep_what_is_said.ensures.walk
+      (beyond KnowsNodes KnowsSaid (Allows may_wake) (Allows may_wake) KnowsTold
+      (told_walk c.a_restart_needs_the_records_alone.ensures.others c.texts_give_one_thing.ensures.one c.a_restart_keeps_what_is_held.ensures.opened c.restarts_go_on.ensures.each)))
+      (places_walk keep))
+      (answers_walk decides)
+
+  keeps : (keys : Keys) {here : Phase} {told : List Entry} {m : HostMachine} → Run (first_alone keys (Some [])) here told m
+      → EachAfter IsAnswerAlone [] told × both_know (both_know KnowsAll KnowsPlaces) KnowsAnswered here told m
+  keeps keys run =
+      run_keeps IsAnswerAlone (both_know (both_know KnowsAll KnowsPlaces) KnowsAnswered) walk [] run
+      ((((c.hosts_know_what_nodes_list.ensures.first keys, tt), first_told keys), alone_keeps (first_host keys) first_kept (c.a_host_begins_with_what_is_kept.ensures keys)), tt)
+
+-- where none is a refusal of a line for others, each is an answer exactly where it must be
+all_answer : (past told : List Entry) → EachAfter IsAnswerAlone past told → EachAfter IsForHost past told → EachAfter (MayAnswer listing_heard (refusals_by_host listing_heard)) past told
+all_answer past [] each fine = tt
+all_answer past (e ∷ told) each fine = (one each.0, all_answer (past ++ e ∷ []) told each.1 fine.1)
+  where
+    one : IsAnswerAlone past e → MayAnswer listing_heard (refusals_by_host listing_heard) past e
+    one (inl others) = let bad : false ≡ true = sym fine.0 ∙ others in absurd cc
+    one (inr may) = may
+
+-- at rest no answer is due
+nothing_due : (past : List Entry) → IsSettled past → AsksNothing (refusals_by_host listing_heard) (before_last past) (line_last past)
+nothing_due past settled = by (before_last past) (line_last past) settled
+  where
+    by : (before : List Entry) (l : List Line) → IsAnswered (refusals_by_host listing_heard) before l → AsksNothing (refusals_by_host listing_heard) before l
+    by before [] answered = tt
+    by before (lines.Command order ∷ more) answered = absurd answered
+    by before (lines.Cancel command ∷ more) answered = absurd answered
+    by before (line ∷ more) answered = answered
+
+pub returns-clause-told : goal.returns-clause-told
+returns-clause-told c = λ keys told run fine. record {
+  between = all_answer [] told (keeps c keys run.2).0 fine;
+  in_the_end = λ (is : false ≡ true). absurd cc;
+}
+
+pub returns-clause-whole : goal.returns-clause-whole
+returns-clause-whole c = λ keys told run fine.
+    let known = keeps c keys run.1 in
+    record { between = all_answer [] told known.0 fine; in_the_end = λ is. nothing_due told known.1.1 }
+
+pub returns-clause-heard : goal.returns-clause-heard
+returns-clause-heard c = λ keys told run. heard_is_for_host told (keeps c keys run.2).0

@@ -1,0 +1,51 @@
+//! What a host alone knows of its nodes and of what it was asked.
+
+ghost use Rattle.std.specs.Prelude.{Some, Bool, List, [], ℕ};
+ghost use Rattle.s0_crypto.specs.declared.key_pair.Keys.{Keys};
+ghost use Rattle.zw_text.specs.declared.entry.Entry.{Entry};
+ghost use Rattle.law_transcript.specs.Stores.{StoresConfirmed};
+ghost use Rattle.law_time.specs.Moments.{Allows};
+ghost use Rattle.law_time.specs.Waking.{may_wake};
+ghost use Rattle.law_host.specs.Heard.{listing_heard};
+ghost use Rattle.proof_once.specs.ByTable.{IsTable};
+ghost use Rattle.proof_alone.specs.State.{HostMachine, first_alone};
+ghost use Rattle.proof_alone.specs.Phases.{Phase, Resting};
+ghost use Rattle.proof_alone.specs.Runs.{Run, Told, Walk};
+ghost use Rattle.proof_known.specs.Known.{KnowsHeard, KnowsNodes, KnowsOrders};
+
+use host_node::a_restart_needs_the_records_alone;
+use proof_alone::hosts_keep_their_tables;
+use proof_host::laws_follow;
+use proof_spoken::world::restarts_go_on;
+use proof_spoken::{interviews_give_what_is_known, tables_are_what_was_said, tables_keep_orders};
+use proof_waking::hosts_judge_as_told;
+
+/// In any run of a host alone, also where it starts again, over a keeper that tells its records and has none at first: at each phase it knows of each node
+/// what that listed in its last interview that ended well, by the frames that were judged, and of a node without one what it knew at first.
+pub fn hosts_know_what_nodes_list()
+    ensures walk { Walk (Allows may_wake) KnowsNodes }
+    ensures first { (keys : Keys) → KnowsNodes Resting [] (first_alone keys (Some [])) }
+    ensures run { (keys : Keys) (here : Phase) (told : List Entry) (m : HostMachine) → Run (first_alone keys (Some [])) here told m → KnowsHeard here told m }
+{
+    hosts_keep_their_tables();
+    hosts_judge_as_told();
+    interviews_give_what_is_known();
+    a_restart_needs_the_records_alone();
+    restarts_go_on();
+}
+
+/// In such a run, by that listing: each order that was accepted stands in the table as it was said, and the values that are stored are those that the
+/// successful commands ask for, in order, each after its success.
+pub fn hosts_keep_what_is_said()
+    ensures walk { Walk (Allows may_wake) KnowsOrders }
+    ensures table { (keys : Keys) (here : Phase) (told : List Entry) (m : HostMachine) → Run (first_alone keys (Some [])) here told m →
+        (node : ℕ) → IsTable listing_heard m.state.commands node told }
+    ensures stores { (keys : Keys) (told : List Entry) (whole : Bool) → Told (first_alone keys (Some [])) told → StoresConfirmed whole listing_heard told }
+{
+    hosts_know_what_nodes_list();
+    hosts_keep_their_tables();
+    tables_keep_orders();
+    tables_are_what_was_said();
+    laws_follow();
+    restarts_go_on();
+}

@@ -1,0 +1,123 @@
+-- What events of a host make of its request: most leave it, the end of a request leaves all but the request, and what is submitted is the request from then on.
+use Rattle.std.proofs.Common.{◌≡◌, ℕ, Bool, true, false, if◌then◌else◌, List, refl}
+use Rattle.std.specs.Prelude.{Option, Some, None}
+use Rattle.s0_session.specs.Nonces.{live_of}
+use Rattle.host_requests.specs.declared.end.End.{End}
+use Rattle.host_requests.specs.declared.end.How.{How}
+use Rattle.host_requests.specs.declared.task.Task.{Task}
+use Rattle.host_requests.specs.declared.task.Task.TheVariants.{NoMore, Offer}
+use Rattle.host_requests.specs.declared.task.Purpose.{Purpose}
+use Rattle.host_requests.specs.declared.task.Purpose.TheVariants.{Housekeeping, Attempt, Abort}
+use Rattle.host_requests.specs.Events.{RequestsEvent}
+use Rattle.host_requests.specs.Events as requests
+use Rattle.host_node.specs.Events.NodeEvent.{Ticks as node_ticks}
+use Rattle.host_node.specs.Steps.{attempt_end, tick_end}
+use Rattle.host_node.specs.declared.attempt.Moment.{Moment}
+use Rattle.host_node.specs.declared.attempt.AttemptEnd.{AttemptEnd}
+use Rattle.host_node.specs.declared.attempt.AttemptEnd.TheVariants.{NoneRan, Again, Unanswered}
+use Rattle.host_model.specs.State.{HostState, node_of, with_node}
+use Rattle.host_model.specs.Sessions.{open_command}
+use Rattle.host_model.specs.After.{after, giving, holding, finishing, is_full, is_held, node_does, offering, queues_if_room, request_does, requests_do}
+use Rattle.host_model.specs.Ends.{PartEnd, Good, Passed_over, Bad, after_end, after_end_if, after_part, after_task, attempt_ended, part_end, unanswered}
+use Rattle.host_model.specs.Events.{HostEvent, Accepts, Cancels, Joins, Queues, Queues_interview, Queues_probe, Hears, Requests_do, Interviews, Interview_unkept, Unreads, Is_unkept, Reports_old, Works, Finishes, Offers, Gives, Spends, Spends_unread, Takes_nonce, Notifies, Resends, Hears_value, Has_no_room, Line_ticks, Node_ticks, Queues_no_more, Drops_no_more, Submits_abort, Submits_front, Starts, Gives_text, Gives_segment, Begins, Begin_unkept}
+use Rattle.proof_requests.specs.Asking.{doing_of}
+
+-- ---- the end of an attempt, and of a request
+
+unanswered_same : (h : HostState) (command : Option ℕ) → doing_of (unanswered h command) ≡ doing_of h
+unanswered_same h None = refl
+unanswered_same h (Some command) = refl
+
+attempt_same : (h : HostState) (end : AttemptEnd) (command : Option ℕ) → doing_of (attempt_ended h end command) ≡ doing_of h
+attempt_same h NoneRan command = refl
+attempt_same h Again command = refl
+attempt_same h (Unanswered fell) command = unanswered_same h command
+
+part_same : (h : HostState) (n : ℕ) (end : PartEnd) (moment : Moment) → doing_of (after_part h n end moment) ≡ doing_of h
+part_same h n Good moment = refl
+part_same h n Passed_over moment = refl
+part_same h n Bad moment = attempt_same (with_node h n _) (attempt_end (node_of h n)) (open_command (node_of h n))
+
+task_same : (h : HostState) (task : Task) → doing_of (after_task h task) ≡ doing_of h
+task_same h (NoMore n) = refl
+task_same h task = refl
+
+end_same : (h : HostState) (purpose : Purpose) (how : How) (moment : Moment) → doing_of (after_end h (record { purpose = purpose; how = how }) moment) ≡ doing_of h
+end_same h (Attempt n more payload) how moment = part_same h n (part_end more how) moment
+end_same h (Housekeeping task) how moment = task_same h task
+end_same h Abort how moment = refl
+
+pub end_if_same : (h : HostState) (end : Option End) (moment : Moment) → doing_of (after_end_if h end moment) ≡ doing_of h
+end_if_same h None moment = refl
+end_if_same h (Some end) moment = end_same h end.purpose end.how moment
+
+-- ---- events that leave the request
+
+abbrev pub IsBeside : HostEvent → Type 0
+IsBeside (Hears item) = ⊥
+IsBeside (Requests_do event moment) = ⊥
+IsBeside (Interviews n listens classes update) = ⊥
+IsBeside (Interview_unkept n update) = ⊥
+IsBeside Line_ticks = ⊥
+IsBeside Submits_abort = ⊥
+IsBeside Submits_front = ⊥
+IsBeside (Starts n plan more payload) = ⊥
+IsBeside (Gives_text n payload) = ⊥
+IsBeside (Gives_segment n more payload) = ⊥
+IsBeside event = Unit {0}
+
+queues_same : (h : HostState) (task : Task) → doing_of (queues_if_room h task) ≡ doing_of h
+queues_same h task = by (is_full h)
+  where
+    by : (b : Bool) → doing_of (if b then h else requests_do h (requests.RequestsEvent.Pushes task)) ≡ doing_of h
+    by true = refl
+    by false = refl
+
+offers_same : (h : HostState) (n : ℕ) (nonce : Option (List ℕ)) → doing_of (offering h n nonce) ≡ doing_of h
+offers_same h n None = refl
+offers_same h n (Some nonce) = queues_same h (Offer n nonce)
+
+holds_same : (h : HostState) (n : ℕ) (held : Bool) → doing_of (holding h n held) ≡ doing_of h
+holds_same h n true = refl
+holds_same h n false = refl
+
+pub beside_same : (h : HostState) (event : HostEvent) → IsBeside event → doing_of (after h event) ≡ doing_of h
+beside_same h (Accepts order carriage) beside = refl
+beside_same h (Cancels command) beside = refl
+beside_same h (Joins n) beside = refl
+beside_same h (Queues task) beside = refl
+beside_same h (Queues_interview n) beside = refl
+beside_same h Queues_probe beside = refl
+beside_same h (Unreads n payload) beside = refl
+beside_same h (Is_unkept n) beside = refl
+beside_same h (Reports_old n id) beside = refl
+beside_same h (Works n id) beside = refl
+beside_same h (Finishes n session id command status wake) beside = holds_same (finishing h n id command status) n (is_held h n wake)
+beside_same h (Offers n) beside = offers_same h n (live_of h.nonces n)
+beside_same h (Gives n drawn) beside = offers_same (giving h n drawn) n (live_of (giving h n drawn).nonces n)
+beside_same h (Spends n) beside = refl
+beside_same h (Spends_unread n payload) beside = refl
+beside_same h (Takes_nonce n seen text) beside = refl
+beside_same h (Notifies n) beside = refl
+beside_same h (Resends n payload) beside = queues_same h _
+beside_same h (Hears_value n setting) beside = refl
+beside_same h (Has_no_room n property) beside = refl
+beside_same h (Node_ticks n) beside = attempt_same (node_does h n node_ticks) (tick_end (node_of h n)) (open_command (node_of h n))
+beside_same h (Queues_no_more n) beside = refl
+beside_same h (Drops_no_more n) beside = refl
+beside_same h (Begins n session command) beside = refl
+beside_same h (Begin_unkept n) beside = refl
+beside_same h (Hears item) beside = absurd beside
+beside_same h (Requests_do event moment) beside = absurd beside
+beside_same h (Interviews n listens classes update) beside = absurd beside
+beside_same h (Interview_unkept n update) beside = absurd beside
+beside_same h Line_ticks beside = absurd beside
+beside_same h Submits_abort beside = absurd beside
+beside_same h Submits_front beside = absurd beside
+beside_same h (Starts n plan more payload) beside = absurd beside
+beside_same h (Gives_text n payload) beside = absurd beside
+beside_same h (Gives_segment n more payload) beside = absurd beside
+
+-- a request does, and may end
+pub request_same : (h : HostState) (event : RequestsEvent) (moment : Moment) → doing_of (request_does h event moment) ≡ doing_of (requests_do h event)
+request_same h event moment = end_if_same (requests_do h event) (requests.end_at h.requests event) moment

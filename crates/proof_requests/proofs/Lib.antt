@@ -1,0 +1,15 @@
+mod Growing
+mod Standing
+mod Line
+mod Judging
+mod Ended
+mod OnLine
+mod UnderWay
+mod Saying
+mod Doing
+mod Moving
+mod Events
+mod Telling
+mod Walking
+mod Stepping
+mod Ending

@@ -1,0 +1,516 @@
+-- At each step of a host alone, and wherever a part begins, what it asks is known.
+use Rattle.std.proofs.Common.{◌≡◌, ℕ, Bool, true, false, if◌then◌else◌, inl, inr, List, [], ◌∷◌, ◌++◌, map, refl, sym, ap, ◌∙◌, subst, append-nil, append_assoc}
+use Rattle.std.specs.List.{AllByRecursion}
+use Rattle.std.proofs.lemmas.Bool.{both_ways}
+use Rattle.zw_base.proofs.Each.{all-append, all-right, all-weaker}
+use Rattle.serial_frame.specs.Frame.{FrameParts}
+use Rattle.serial_frame.specs.Items.{unit_text}
+use Rattle.serial_frame.specs.declared.item.Item.{Item}
+use Rattle.serial_frame.specs.declared.item.Item.TheVariants.{Good, Refused as refused_item}
+use Rattle.serial_frame.specs.declared.item.Refusal.TheVariants.{Stray, BadLength, BadSum, BadKind, Aborted}
+use Rattle.serial_frame.specs.declared.unit.Unit.{Unit as LineUnit}
+use Rattle.serial_frame.specs.declared.unit.Unit.TheVariants.{Ack, Nak, Can, Framed}
+use Rattle.zw_words.specs.declared.side.Side.TheVariants.{Host, Chip}
+use Rattle.zw_text.specs.declared.line.Line.{Line}
+use Rattle.zw_text.specs.declared.line.Line.TheVariants as lines
+use Rattle.zw_text.specs.declared.entry.Refusal.{Refusal}
+use Rattle.zw_text.specs.declared.entry.Entry.{Entry}
+use Rattle.zw_text.specs.declared.entry.Entry.TheVariants as entry
+use Rattle.zw_text.proofs.Views.{folded-append}
+use Rattle.law_transcript.specs.Lists.{EachAfter}
+use Rattle.law_transcript.specs.Restarts.{is_restart}
+use Rattle.law_time.specs.Moments.{clock}
+use Rattle.law_time.specs.Requests.{is_answer}
+use Rattle.host_requests.specs.Events.{task_begun}
+use Rattle.host_requests.specs.Events.RequestsEvent.{Ticks as request_ticks}
+use Rattle.serial_link.specs.declared.turn.Turn.TheVariants.{Copied}
+use Rattle.host_requests.specs.Frames.{frame_of}
+use Rattle.host_requests.specs.State.{next_id}
+use Rattle.host_requests.specs.declared.task.Task.{Task}
+use Rattle.host_requests.specs.declared.task.Purpose.{Purpose}
+use Rattle.host_requests.specs.declared.task.Purpose.TheVariants.{Attempt, Abort, Housekeeping}
+use Rattle.host_node.specs.Steps.{tick_end}
+use Rattle.host_node.specs.declared.attempt.Moment.TheVariants.{BeforeItsTick}
+use Rattle.host_model.specs.State.{HostState, first_host, node_of}
+use Rattle.host_model.specs.Sessions.{open_command}
+use Rattle.host_model.specs.Ends.{attempt_entries}
+use Rattle.host_model.specs.After.{after, is_busy, is_full, task_purpose}
+use Rattle.host_model.specs.Did.{MayAll, after_all}
+use Rattle.host_model.specs.Events.{HostEvent, Accepts, Cancels, Hears, Requests_do, Line_ticks, Node_ticks, Queues_no_more, Drops_no_more, Submits_abort, Submits_front, Starts, Gives_text, Gives_segment, Begins, Begin_unkept}
+use Rattle.host_model.specs.Outs.{answer_to, answers, outs, request_entries}
+use Rattle.host_model.specs.Pumping.{IsNext, no_more_event}
+use Rattle.host_model.specs.Ticking.{first_ticks, tick_events, ticking_nodes}
+use Rattle.host_model.specs.declared.out.HostOut.TheVariants.{Write}
+use Rattle.host_model.proofs.Submitted.{SubmittedAre, next_is}
+use Rattle.world_model.specs.Events.{shown_values}
+use Rattle.proof_alone.specs.State.{HostMachine, done}
+use Rattle.proof_alone.specs.Steps.{AreTold, AsksNothing as AsksNone, IsAskedBy, IsOfUnit, Step, Tells, Comes, Misses, Says, Says_nothing, Asks, Refuses, Shows, Restarts, Begins_tick, Numbers, Judges, Does, entries, happens}
+use Rattle.proof_alone.specs.Phases.{Phase, Resting, Asked, Risen, Ticking, Open, Behind, Sleeping, Submitting, IsBetween, IsJudgedNow, IsNumbered, May, Turns}
+use Rattle.proof_alone.specs.Runs.{Walk, both_know}
+use Rattle.proof_waking.specs.Judged.{IsOfRequest, KnowsJudged, TieFrames}
+use Rattle.proof_waking.proofs.Followed.{MayFollow, frame_all}
+use Rattle.proof_waking.proofs.Parts.{IsNote, follow_notes}
+use Rattle.proof_requests.specs.Asking.{AreFrames, AsksNothing, Doing, IsFramed, TieAsked, doing_of}
+use Rattle.proof_requests.specs.Walking.{AsksBefore, ChangesFrames, Ground, HalfTick, IsNodeTick, IsTied, KnowsAsked, KnowsTick, ReadsAs, WalkBoth, answer_step}
+use Rattle.proof_requests.proofs.Doing.{IsBeside, beside_same}
+use Rattle.proof_requests.proofs.OnLine.{IsAnswer}
+use Rattle.proof_requests.proofs.Telling.{ChangesFrame, IsQuiet, mark_quiet, tie_anew, tie_in_vain, tie_missed, tie_quiet, tie_said}
+use Rattle.proof_requests.proofs.Walking.{answer_comes_tie, at_end, event_quiet, frame_comes_tie, judges_acknowledgement, judges_can, judges_frame, judges_nak, line_ticks_tie, noted_notes, others_quiet, request_ticks_tie, same_doing, submits_tie, submitted_doing}
+
+-- ---- where no part of the host runs
+
+between : (here : Phase) (past told : List Entry) (m later : HostMachine) → IsBetween here → later.clock ≡ m.clock
+    → ((line_now now : ℕ) → TieAsked past line_now now m.came (doing_of m.state) → TieAsked (past ++ told) line_now now later.came (doing_of later.state))
+    → KnowsAsked here past m → KnowsAsked here (past ++ told) later
+between Resting past told m later is clock_is on known = subst (λ (n : ℕ). TieAsked (past ++ told) n n later.came (doing_of later.state)) (sym clock_is) (on m.clock m.clock known)
+between Open past told m later is clock_is on known = subst (λ (n : ℕ). TieAsked (past ++ told) n n later.came (doing_of later.state)) (sym clock_is) (on m.clock m.clock known)
+between Risen past told m later is clock_is on known = record { before = known.before; next = clock_is ∙ known.next; tie = on known.before known.before known.tie }
+between (Asked line) past told m later is clock_is on known = absurd is
+between (Ticking left) past told m later is clock_is on known = absurd is
+between (Behind left) past told m later is clock_is on known = absurd is
+between Sleeping past told m later is clock_is on known = absurd is
+between Submitting past told m later is clock_is on known = absurd is
+
+abbrev Goes : Phase → List Entry → HostMachine → Step → Type 0
+Goes next past m one = KnowsAsked next (past ++ entries m one) (happens m one)
+
+leads : (next to : Phase) (past : List Entry) (m : HostMachine) (one : Step) → next ≡ to → Goes to past m one → Goes next past m one
+leads next to past m one same goes = subst (λ (p : Phase). Goes p past m one) (sym same) goes
+
+as_known : (here is : Phase) (past : List Entry) (m : HostMachine) → here ≡ is → KnowsAsked here past m → KnowsAsked is past m
+as_known here is past m same known = subst (λ (p : Phase). KnowsAsked p past m) same known
+
+-- the ground at that phase
+ground_at : (here is : Phase) (past : List Entry) (m : HostMachine) → here ≡ is → Ground here past m → Ground is past m
+ground_at here is past m same ground = subst (λ (p : Phase). Ground p past m) same ground
+
+not_awaiting : (awaits : Bool) (e : Entry) (told more : List Entry) → (awaits ≡ true → told ≡ []) → told ≡ e ∷ more → awaits ≡ false
+not_awaiting false e told more numbered are = refl
+not_awaiting true e told more numbered are = absurd (let bad : e ∷ more ≡ [] = sym are ∙ numbered refl in cc)
+
+-- where something is told, the number of the tick stands
+time_told : (here : Phase) (past told : List Entry) (m : HostMachine) → Ground here past m → IsNumbered m told → (e : Entry) (more : List Entry) → told ≡ e ∷ more → clock past ≡ m.clock
+time_told here past told m ground numbered e more are = ground.0 (not_awaiting m.awaits e told more numbered are)
+
+-- ---- units of the chip
+
+frame_step : (here : Phase) (past : List Entry) (m : HostMachine) (f : FrameParts) → IsBetween here → KnowsAsked here past m → Goes here past m (Comes (Framed f))
+frame_step here past m f is known =
+    between here past (entry.Written Chip (unit_text (Framed f)) ∷ []) m (happens m (Comes (Framed f))) is refl (λ line_now now tie. frame_comes_tie past line_now now m.came (doing_of m.state) f tie) known
+
+no_answer_left : (came : List LineUnit) (unit : LineUnit) → IsAnswer unit → AreFrames (came ++ unit ∷ []) → ⊥
+no_answer_left came Ack is frames = (all-right IsFramed came (Ack ∷ []) frames).0
+no_answer_left came Nak is frames = (all-right IsFramed came (Nak ∷ []) frames).0
+no_answer_left came Can is frames = (all-right IsFramed came (Can ∷ []) frames).0
+no_answer_left came (Framed f) is frames = is
+
+answer_step_goes : (here : Phase) (past : List Entry) (m : HostMachine) (unit : LineUnit) → IsBetween here → m.awaits ≡ false → IsAnswer unit → is_answer (unit_text unit) ≡ true → Ground here past m
+    → Ground here (past ++ entry.Written Chip (unit_text unit) ∷ []) (happens m (Comes unit)) → KnowsAsked here past m → Goes here past m (Comes unit)
+answer_step_goes Open past m unit is numbered answers text ground later known =
+    answer_comes_tie past m.clock m.came (doing_of m.state) unit answers text (ground.0 numbered) ground.1.0.frames known
+answer_step_goes Resting past m unit is numbered answers text ground later known = absurd (no_answer_left m.came unit answers later.1.1)
+answer_step_goes Risen past m unit is numbered answers text ground later known = absurd (no_answer_left m.came unit answers later.1.1)
+answer_step_goes (Asked line) past m unit is numbered answers text ground later known = absurd is
+answer_step_goes (Ticking left) past m unit is numbered answers text ground later known = absurd is
+answer_step_goes (Behind left) past m unit is numbered answers text ground later known = absurd is
+answer_step_goes Sleeping past m unit is numbered answers text ground later known = absurd is
+answer_step_goes Submitting past m unit is numbered answers text ground later known = absurd is
+
+comes : (here : Phase) (past : List Entry) (m : HostMachine) (unit : LineUnit) → IsBetween here → m.awaits ≡ false → Ground here past m
+    → Ground here (past ++ entry.Written Chip (unit_text unit) ∷ []) (happens m (Comes unit)) → KnowsAsked here past m → Goes here past m (Comes unit)
+comes here past m (Framed f) is numbered ground later known = frame_step here past m f is known
+comes here past m Ack is numbered ground later known = answer_step_goes here past m Ack is numbered tt refl ground later known
+comes here past m Nak is numbered ground later known = answer_step_goes here past m Nak is numbered tt refl ground later known
+comes here past m Can is numbered ground later known = answer_step_goes here past m Can is numbered tt refl ground later known
+
+changes_of : (past : List Entry) (text : List ℕ) (marks : List Entry) → EachAfter ChangesFrames (past ++ entry.Written Chip text ∷ []) marks → ChangesFrame text marks
+changes_of past text [] each = tt
+changes_of past text (entry.Garbled Chip unit ∷ more) each = sym (folded-append answer_step false past (entry.Written Chip text ∷ [])) ∙ each.0
+changes_of past text (entry.Garbled Host unit ∷ more) each = tt
+changes_of past text (e ∷ more) each = tt
+
+-- ---- lines
+
+on_words : (line : Line) (past : List Entry) (m : HostMachine) → is_restart (line ∷ []) ≡ false → AsksBefore line past m → IsTied past m
+on_words line past m goes_on known =
+    subst (λ (l : List Entry). TieAsked l m.clock m.clock m.came (doing_of m.state)) (sym known.are)
+    (tie_said known.before known.words m.clock m.clock m.came (doing_of m.state) (ap is_restart known.read ∙ goes_on) known.tie)
+
+asked_on : (line : Line) (h : HostState) (event : HostEvent) → IsAskedBy line h event → is_restart (line ∷ []) ≡ false
+asked_on lines.Restart h event is = absurd is
+asked_on line h event is = refl
+
+none_on : (line : Line) → AsksNone line → is_restart (line ∷ []) ≡ false
+none_on lines.Restart is = absurd is
+none_on line is = refl
+
+beside_so : (event these : HostEvent) → event ≡ these → IsBeside these → IsBeside event
+beside_so event these same beside = subst IsBeside (sym same) beside
+
+asked_beside : (line : Line) (h : HostState) (event : HostEvent) → IsAskedBy line h event → IsBeside event
+asked_beside (lines.Command order) h event is = beside_so event _ is tt
+asked_beside (lines.Send node word) h event is = beside_so event _ is.1 tt
+asked_beside (lines.Get node end) h event is = beside_so event _ is.1 tt
+asked_beside (lines.Join node) h event is = beside_so event _ is tt
+asked_beside (lines.Interview node) h event is = beside_so event _ is.1 tt
+asked_beside (lines.Cancel command) h event is = beside_so event _ is tt
+asked_beside lines.Discover h event is = beside_so event _ is.1 tt
+asked_beside (lines.Neighbours node) h event is = beside_so event _ is.1 tt
+asked_beside (lines.Failed node) h event is = beside_so event _ is.1 tt
+asked_beside lines.Probe h event is = beside_so event _ is.1 tt
+asked_beside line h event is = absurd is
+
+answers_quiet : (h : HostState) (event : HostEvent) → AllByRecursion IsQuiet (answers h event)
+answers_quiet h (Accepts order carriage) = (tt, tt)
+answers_quiet h (Cancels command) = (tt, tt)
+answers_quiet h event = tt
+
+asks : (line : Line) (past : List Entry) (m : HostMachine) (event : HostEvent) → IsAskedBy line m.state event → AsksBefore line past m → Goes Open past m (Asks event)
+asks line past m event is known =
+    tie_quiet past (answers m.state event) m.clock m.clock m.came (doing_of (after m.state event)) (answers_quiet m.state event)
+    (same_doing past m.clock m.clock m.came (doing_of m.state) (doing_of (after m.state event)) (beside_same m.state event (asked_beside line m.state event is)) (on_words line past m (asked_on line m.state event is) known))
+
+refuses : (line : Line) (past : List Entry) (m : HostMachine) (refusal : Refusal) → AsksBefore line past m → Goes Open past m (Refuses refusal)
+refuses line past m refusal known =
+    subst (λ (l : List Entry). TieAsked (l ++ entry.Refused refusal ∷ []) m.clock m.clock m.came (doing_of m.state)) (sym known.are)
+    (subst (λ (l : List Entry). TieAsked l m.clock m.clock m.came (doing_of m.state)) (sym (append_assoc known.before (entry.Said known.words ∷ []) (entry.Refused refusal ∷ [])))
+    (tie_in_vain known.before known.words refusal m.clock m.clock m.came (doing_of m.state) known.tie))
+
+restarts : (past : List Entry) (m : HostMachine) (state : HostState) → doing_of state ≡ doing_of (first_host m.keys) → AsksBefore lines.Restart past m → Goes Open past m (Restarts state)
+restarts past m state fresh known =
+    at_end past m.clock m.clock [] (doing_of state)
+    (subst (λ (l : List Entry). TieAsked l m.clock m.clock [] (doing_of state)) (sym known.are)
+    (tie_anew known.before known.words m.clock m.clock [] (doing_of state) (ap is_restart known.read)
+    (subst (AsksNothing []) (sym fresh) (record { unasked = refl; idle = refl; none = refl; paid = refl }))))
+
+-- ---- the number of a tick
+
+numbers : (here : Phase) (past : List Entry) (m : HostMachine) → m.awaits ≡ true → Ground here past m → KnowsAsked here past m → Goes here past m Numbers
+numbers Resting past m awaits ground known = tie_quiet past (entry.Time m.clock ∷ []) m.clock m.clock m.came (doing_of m.state) (tt, tt) known
+numbers Open past m awaits ground known = tie_quiet past (entry.Time m.clock ∷ []) m.clock m.clock m.came (doing_of m.state) (tt, tt) known
+numbers Sleeping past m awaits ground known = tie_quiet past (entry.Time m.clock ∷ []) m.clock m.clock m.came (doing_of m.state) (tt, tt) known
+numbers Submitting past m awaits ground known = tie_quiet past (entry.Time m.clock ∷ []) m.clock m.clock m.came (doing_of m.state) (tt, tt) known
+numbers Risen past m awaits ground known =
+    record { before = known.before; next = known.next; tie = tie_quiet past (entry.Time m.clock ∷ []) known.before known.before m.came (doing_of m.state) (tt, tt) known.tie }
+numbers (Asked line) past m awaits ground known = absurd (both_ways m.awaits ground.1.0.unnumbered awaits)
+numbers (Behind left) past m awaits ground known = tie_quiet past (entry.Time m.clock ∷ []) m.clock m.clock m.came (doing_of (after_all m.state left)) (tt, tt) known
+numbers (Ticking left) past m awaits ground (inl (nodes, is, all, known)) =
+    inl (nodes, is, all, record { before = known.before; next = known.next; tie = tie_quiet past (entry.Time m.clock ∷ []) known.before known.before m.came (doing_of m.state) (tt, tt) known.tie })
+numbers (Ticking left) past m awaits ground (inr (inl (nodes, is, all, known))) =
+    inr (inl (nodes, is, all, record { before = known.before; next = known.next; tie = tie_quiet past (entry.Time m.clock ∷ []) m.clock known.before m.came (doing_of m.state) (tt, tt) known.tie }))
+numbers (Ticking left) past m awaits ground (inr (inr (all, known))) = inr (inr (all, tie_quiet past (entry.Time m.clock ∷ []) m.clock m.clock m.came (doing_of m.state) (tt, tt) known))
+
+-- ---- items
+
+abbrev Judged : List Entry → HostMachine → Item → List LineUnit → List HostEvent → List Entry → Type 0
+Judged past m item rest behind told = TieAsked (past ++ told) m.clock m.clock rest (doing_of (after_all (after m.state (Hears item)) behind))
+
+none_told : (past told : List Entry) (n : ℕ) (rest : List LineUnit) (d : Doing) → told ≡ [] → TieAsked past n n rest d → TieAsked (past ++ told) n n rest d
+none_told past told n rest d is tie = subst (λ (l : List Entry). TieAsked (past ++ l) n n rest d) (sym is) (at_end past n n rest d tie)
+
+-- one that is no unit: what is told is quiet, and nothing follows it
+refused_goes : (past : List Entry) (m : HostMachine) (item : Item) (rest : List LineUnit) (behind : List HostEvent) (told : List Entry) → rest ≡ m.came → behind ≡ []
+    → doing_of (after m.state (Hears item)) ≡ doing_of m.state → AllByRecursion IsQuiet told → IsTied past m → Judged past m item rest behind told
+refused_goes past m item rest behind told rest_is behind_is same all tie =
+    let d : Doing = doing_of (after_all (after m.state (Hears item)) behind) in
+    let does : d ≡ doing_of m.state = ap (λ (l : List HostEvent). doing_of (after_all (after m.state (Hears item)) l)) behind_is ∙ same in
+    subst (λ (l : List LineUnit). TieAsked (past ++ told) m.clock m.clock l d) (sym rest_is)
+    (tie_quiet past told m.clock m.clock m.came d all (same_doing past m.clock m.clock m.came (doing_of m.state) d does tie))
+
+nak_told : (told : List Entry) → AreTold (answer_to (refused_item (BadKind 0))) told → AllByRecursion IsQuiet told
+nak_told told (marks, rest, is, all, none) =
+    subst (AllByRecursion IsQuiet) (sym is)
+    (refl, all-append IsQuiet marks rest (all-weaker IsOfUnit IsQuiet mark_quiet marks all) (subst (AllByRecursion IsQuiet) (sym none) tt))
+
+nothing_told : (told : List Entry) → told ≡ [] → AllByRecursion IsQuiet told
+nothing_told told is = subst (AllByRecursion IsQuiet) (sym is) tt
+
+item_goes : (past : List Entry) (m : HostMachine) (item : Item) (rest : List LineUnit) (behind : List HostEvent) (told : List Entry) → IsJudgedNow m item rest behind told → Ground Open past m
+    → IsTied past m → Judged past m item rest behind told
+item_goes past m (Good (Framed f)) rest behind told now ground tie =
+    let (marks, more, is, all, none) = now.told_so in
+    let are : told ≡ entry.Written Host (unit_text Ack) ∷ marks = is ∙ ap (λ (l : List Entry). entry.Written Host (unit_text Ack) ∷ (marks ++ l)) none
+    ∙ ap (λ (l : List Entry). entry.Written Host (unit_text Ack) ∷ l) (append-nil marks) in
+    subst (λ (l : List Entry). Judged past m (Good (Framed f)) rest behind l) (sym are)
+    (judges_frame past m.clock m.state f rest behind marks (time_told Open past told m ground now.numbered (entry.Written Host (unit_text Ack)) marks are) now.followed all
+    (subst (TieFrames past) now.takes ground.1.0.frames)
+    (subst (λ (l : List LineUnit). TieAsked past m.clock m.clock l (doing_of m.state)) now.takes tie))
+item_goes past m (Good Ack) rest behind told now ground tie =
+    none_told past told m.clock rest (doing_of (after_all (after m.state (Hears (Good Ack))) behind)) now.told_so
+    (judges_acknowledgement past m.clock m.state rest behind now.followed (subst (λ (l : List LineUnit). TieAsked past m.clock m.clock l (doing_of m.state)) now.takes tie))
+item_goes past m (Good Nak) rest behind told now ground tie =
+    none_told past told m.clock rest (doing_of (after_all (after m.state (Hears (Good Nak))) behind)) now.told_so
+    (judges_nak past m.clock m.state rest behind now.followed (subst (λ (l : List LineUnit). TieAsked past m.clock m.clock l (doing_of m.state)) now.takes tie))
+item_goes past m (Good Can) rest behind told now ground tie =
+    none_told past told m.clock rest (doing_of (after_all (after m.state (Hears (Good Can))) behind)) now.told_so
+    (judges_can past m.clock m.state rest behind now.followed (subst (λ (l : List LineUnit). TieAsked past m.clock m.clock l (doing_of m.state)) now.takes tie))
+item_goes past m (refused_item (BadSum want got)) rest behind told now ground tie =
+    refused_goes past m (refused_item (BadSum want got)) rest behind told now.takes now.followed refl (nak_told told now.told_so) tie
+item_goes past m (refused_item (BadKind x)) rest behind told now ground tie =
+    refused_goes past m (refused_item (BadKind x)) rest behind told now.takes now.followed refl (nak_told told now.told_so) tie
+item_goes past m (refused_item (Stray x)) rest behind told now ground tie =
+    refused_goes past m (refused_item (Stray x)) rest behind told now.takes now.followed refl (nothing_told told now.told_so) tie
+item_goes past m (refused_item (BadLength n)) rest behind told now ground tie =
+    refused_goes past m (refused_item (BadLength n)) rest behind told now.takes now.followed refl (nothing_told told now.told_so) tie
+item_goes past m (refused_item Aborted) rest behind told now ground tie =
+    refused_goes past m (refused_item Aborted) rest behind told now.takes now.followed refl (nothing_told told now.told_so) tie
+
+-- ---- events of the host
+
+-- one that leaves what the host asks, and notes at most
+beside_goes : (past : List Entry) (m : HostMachine) (event : HostEvent) (told : List Entry) → IsBeside event → AllByRecursion IsNote (outs m.state event) → AreTold (outs m.state event) told
+    → IsTied past m → IsTied (past ++ told) (done m event)
+beside_goes past m event told beside notes is tie =
+    tie_quiet past told m.clock m.clock m.came (doing_of (after m.state event)) (event_quiet m.state event told notes is)
+    (same_doing past m.clock m.clock m.came (doing_of m.state) (doing_of (after m.state event)) (beside_same m.state event beside) tie)
+
+-- of a tick
+node_beside : (event : HostEvent) → IsNodeTick event → IsBeside event
+node_beside (Node_ticks n) is = tt
+node_beside event is = absurd is
+
+node_notes : (h : HostState) (event : HostEvent) → IsNodeTick event → AllByRecursion IsNote (outs h event)
+node_notes h (Node_ticks n) is = noted_notes (attempt_entries n (tick_end (node_of h n)) (open_command (node_of h n)))
+node_notes h event is = absurd is
+
+first_same : (first these : HostEvent) (left others : List HostEvent) → first ∷ left ≡ these ∷ others → first ≡ these
+first_same first these left others is = cc
+
+left_same : (first these : HostEvent) (left others : List HostEvent) → first ∷ left ≡ these ∷ others → left ≡ others
+left_same first these left others is = cc
+
+tick_does : (first : HostEvent) (left : List HostEvent) (past : List Entry) (m : HostMachine) (event : HostEvent) (told : List Entry) → event ≡ first → AreTold (outs m.state event) told → IsNumbered m told
+    → Ground (Ticking (first ∷ left)) past m → KnowsTick (first ∷ left) past m → KnowsTick left (past ++ told) (done m event)
+tick_does first left past m event told event_is is numbered ground (inl (nodes, are, all, known)) =
+    let line_is : event ≡ Line_ticks = event_is ∙ first_same first Line_ticks left (Requests_do request_ticks BeforeItsTick ∷ nodes) are in
+    inr (inl (
+      nodes,
+      left_same first Line_ticks left (Requests_do request_ticks BeforeItsTick ∷ nodes) are,
+      all,
+      subst (λ (e : HostEvent). HalfTick (past ++ told) (done m e)) (sym line_is)
+          (record {
+            before = known.before;
+            next = known.next;
+            tie = line_ticks_tie past told known.before m.clock m.came m.state known.next ground.1.1 (time_told (Ticking (first ∷ left)) past told m ground numbered)
+                (subst (λ (e : HostEvent). AreTold (outs m.state e) told) line_is is) known.tie;
+          }),
+    ))
+tick_does first left past m event told event_is is numbered ground (inr (inl (nodes, are, all, known))) =
+    let request_is : event ≡ Requests_do request_ticks BeforeItsTick = event_is ∙ first_same first (Requests_do request_ticks BeforeItsTick) left nodes are in
+    inr (inr (
+      subst (AllByRecursion IsNodeTick) (sym (left_same first (Requests_do request_ticks BeforeItsTick) left nodes are)) all,
+      subst (λ (e : HostEvent). IsTied (past ++ told) (done m e)) (sym request_is)
+          (request_ticks_tie past told known.before m.clock m.came m.state known.next (subst (λ (e : HostEvent). AreTold (outs m.state e) told) request_is is) known.tie),
+    ))
+tick_does first left past m event told event_is is numbered ground (inr (inr (all, known))) =
+    let node : IsNodeTick event = subst IsNodeTick (sym event_is) all.0 in
+    inr (inr (all.1, beside_goes past m event told (node_beside event node) (node_notes m.state event node) is known))
+
+-- behind an item
+request_notes : (h : HostState) (event : HostEvent) → IsOfRequest event → AllByRecursion IsNote (outs h event)
+request_notes h (Requests_do event moment) is = noted_notes (request_entries h event)
+request_notes h event is = absurd is
+
+behind_notes : (first : HostEvent) (left : List HostEvent) (past : List Entry) (m : HostMachine) → KnowsJudged (Behind (first ∷ left)) past m → AllByRecursion IsNote (outs m.state first)
+behind_notes first left past m (frames, inl behind) =
+    let follow = frame_all behind.frame.first behind.frame.frame (behind.frame.gone ++ (first ∷ left)) behind.frame.followed in
+    follow_notes (unit_text (Framed behind.frame.frame)) m.state first (all-right (MayFollow (unit_text (Framed behind.frame.frame))) behind.frame.gone (first ∷ left) follow).0
+behind_notes first left past m (frames, inr (requests, settled)) = request_notes m.state first requests.0
+
+behind_does : (first : HostEvent) (left : List HostEvent) (past : List Entry) (m : HostMachine) (event : HostEvent) (told : List Entry) → event ≡ first → AreTold (outs m.state event) told
+    → Ground (Behind (first ∷ left)) past m → KnowsAsked (Behind (first ∷ left)) past m → KnowsAsked (Behind left) (past ++ told) (done m event)
+behind_does first left past m event told event_is is ground known =
+    subst (λ (e : HostEvent). KnowsAsked (Behind left) (past ++ told) (done m e)) (sym event_is)
+    (tie_quiet past told m.clock m.clock m.came (doing_of (after_all (after m.state first) left))
+    (event_quiet m.state first told (behind_notes first left past m ground.1.0) (subst (λ (e : HostEvent). AreTold (outs m.state e) told) event_is is)) known)
+
+-- of a pump
+sleep_beside : (full : Bool) (n : ℕ) → IsBeside (if full then Drops_no_more n else Queues_no_more n)
+sleep_beside true n = tt
+sleep_beside false n = tt
+
+sleep_notes : (h : HostState) (full : Bool) (n : ℕ) → AllByRecursion IsNote (outs h (if full then Drops_no_more n else Queues_no_more n))
+sleep_notes h true n = (tt, tt)
+sleep_notes h false n = tt
+
+sleep_does : (past : List Entry) (m : HostMachine) (node : ℕ) (event : HostEvent) (told : List Entry) → event ≡ no_more_event m.state node → AreTold (outs m.state event) told → IsTied past m
+    → IsTied (past ++ told) (done m event)
+sleep_does past m node event told event_is is tie =
+    beside_goes past m event told (subst IsBeside (sym event_is) (sleep_beside (is_full m.state) node))
+    (subst (λ (e : HostEvent). AllByRecursion IsNote (outs m.state e)) (sym event_is) (sleep_notes m.state (is_full m.state) node)) is tie
+
+-- what is submitted, by its purpose
+free_of : (h : HostState) (event : HostEvent) → IsNext h event → is_busy (doing_of h).turn ≡ false
+free_of h event next = next.0.free_line
+
+written_tie : (past told : List Entry) (m : HostMachine) (purpose : Purpose) (event : HostEvent) → doing_of (after m.state event) ≡ submitted_doing purpose m.state.requests.last_id
+    → AreFrames m.came → is_busy m.state.side.turn ≡ false → ReadsAs m.state purpose → ((e : Entry) (more : List Entry) → told ≡ e ∷ more → clock past ≡ m.clock)
+    → AreTold (Write (Framed (frame_of purpose (next_id m.state.requests.last_id))) ∷ []) told → IsTied past m → IsTied (past ++ told) (done m event)
+written_tie past told m purpose event does frames free read time is tie =
+    same_doing (past ++ told) m.clock m.clock m.came (submitted_doing purpose m.state.requests.last_id) (doing_of (after m.state event)) does
+    (submits_tie past told m.clock m.state.requests.last_id m.came (doing_of m.state) purpose frames free read time is tie)
+
+-- which events a pump may submit
+abbrev IsSubmission : HostEvent → Type 0
+IsSubmission Submits_abort = Unit {0}
+IsSubmission Submits_front = Unit {0}
+IsSubmission (Starts n plan more payload) = Unit {0}
+IsSubmission (Gives_text n payload) = Unit {0}
+IsSubmission (Gives_segment n more payload) = Unit {0}
+IsSubmission (Begins n session command) = Unit {0}
+IsSubmission (Begin_unkept n) = Unit {0}
+IsSubmission event = ⊥
+
+submissions : SubmittedAre IsSubmission
+submissions = record {
+  abort = tt;
+  front = tt;
+  starts = λ n plan more payload. tt;
+  text = λ n payload. tt;
+  segment = λ n more payload. tt;
+  begins = λ n session command. tt;
+  unkept = λ n. tt;
+}
+
+-- the task that waited longest is under way
+front_does : (h : HostState) (queue : List Task) → h.requests.queue ≡ queue → (queue ≡ [] → ⊥) → h.requests.owes ≡ false
+    → doing_of (after h Submits_front) ≡ submitted_doing (task_purpose h.requests.queue) h.requests.last_id
+front_does h [] is some paid = absurd (some refl)
+front_does h (task ∷ rest) is some paid =
+    front_by (h.requests.queue) is ∙ ap (λ (l : List Task). submitted_doing (task_purpose l) h.requests.last_id) (sym is)
+  where
+    front_by : (queue : List Task) → queue ≡ task ∷ rest
+        → doing_of (record h { requests = task_begun h.requests queue; side = record { turn = Copied (frame_of (task_purpose queue) (next_id h.requests.last_id)) 1 0; collisions = h.side.collisions } })
+        ≡ submitted_doing (task_purpose (task ∷ rest)) h.requests.last_id
+    front_by [] are = absurd (let bad : [] ≡ task ∷ rest = are in cc)
+    front_by (first ∷ others) are =
+        let same : first ≡ task = cc in
+        ap (λ (t : Task). record (submitted_doing (Housekeeping t) h.requests.last_id) { owes = h.requests.owes }) same
+        ∙ ap (λ (b : Bool). record (submitted_doing (Housekeeping task) h.requests.last_id) { owes = b }) paid
+
+part_does : (h : HostState) (p : Purpose) (d : Doing) → d ≡ record (submitted_doing p h.requests.last_id) { owes = h.requests.owes } → h.requests.owes ≡ false → d ≡ submitted_doing p h.requests.last_id
+part_does h p d is paid = is ∙ ap (λ (b : Bool). record (submitted_doing p h.requests.last_id) { owes = b }) paid
+
+submit_does : (past : List Entry) (m : HostMachine) (event : HostEvent) (told : List Entry) → IsSubmission event → IsNext m.state event → MayAll m.state (event ∷ []) → AreTold (outs m.state event) told
+    → IsNumbered m told → Ground Submitting past m → IsTied past m → IsTied (past ++ told) (done m event)
+submit_does past m Submits_abort told sub next may is numbered ground tie =
+    written_tie past told m Abort Submits_abort refl ground.1.1.0 (free_of m.state Submits_abort next) (ground.1.1.1 Submits_abort next may) (time_told Submitting past told m ground numbered) is tie
+submit_does past m Submits_front told sub next may is numbered ground tie =
+    written_tie past told m (task_purpose m.state.requests.queue) Submits_front (front_does m.state m.state.requests.queue refl may.0.2 may.0.1) ground.1.1.0 (free_of m.state Submits_front next)
+    (ground.1.1.1 Submits_front next may) (time_told Submitting past told m ground numbered) is tie
+submit_does past m (Starts n plan more payload) told sub next may is numbered ground tie =
+    written_tie past told m (Attempt n more payload) (Starts n plan more payload) (part_does m.state (Attempt n more payload) (doing_of (after m.state (Starts n plan more payload))) refl may.0.0.paid) ground.1.1.0
+    (free_of m.state (Starts n plan more payload) next) (ground.1.1.1 (Starts n plan more payload) next may) (time_told Submitting past told m ground numbered) is tie
+submit_does past m (Gives_text n payload) told sub next may is numbered ground tie =
+    written_tie past told m (Attempt n false payload) (Gives_text n payload) (part_does m.state (Attempt n false payload) (doing_of (after m.state (Gives_text n payload))) refl may.0.0.paid) ground.1.1.0
+    (free_of m.state (Gives_text n payload) next) (ground.1.1.1 (Gives_text n payload) next may) (time_told Submitting past told m ground numbered) is tie
+submit_does past m (Gives_segment n more payload) told sub next may is numbered ground tie =
+    written_tie past told m (Attempt n more payload) (Gives_segment n more payload) (part_does m.state (Attempt n more payload) (doing_of (after m.state (Gives_segment n more payload))) refl may.0.0.paid) ground.1.1.0
+    (free_of m.state (Gives_segment n more payload) next) (ground.1.1.1 (Gives_segment n more payload) next may) (time_told Submitting past told m ground numbered) is tie
+submit_does past m (Begins n session command) told sub next may is numbered ground tie = beside_goes past m (Begins n session command) told tt (tt, tt) is tie
+submit_does past m (Begin_unkept n) told sub next may is numbered ground tie = beside_goes past m (Begin_unkept n) told tt (tt, tt) is tie
+submit_does past m event told sub next may is numbered ground tie = absurd sub
+
+does : (here next : Phase) (past : List Entry) (m : HostMachine) (event : HostEvent) (told : List Entry) → May here m (Does event told) next → Ground here past m → KnowsAsked here past m
+    → Goes next past m (Does event told)
+does (Ticking (first ∷ left)) next past m event told may ground known =
+    leads next (Ticking left) past m (Does event told) may.0.1 (tick_does first left past m event told may.0.0 may.2 may.3 ground known)
+does (Behind (first ∷ left)) next past m event told may ground known =
+    leads next (Behind left) past m (Does event told) may.0.1 (behind_does first left past m event told may.0.0 may.2 ground known)
+does Sleeping next past m event told may ground known =
+    let (node, wants, is, next_is) = may.0 in
+    leads next Sleeping past m (Does event told) next_is (sleep_does past m node event told is may.2 known)
+does Submitting next past m event told may ground known =
+    leads next Submitting past m (Does event told) may.0.1
+    (submit_does past m event told (next_is IsSubmission submissions m.state event may.0.0) may.0.0 may.1 may.2 may.3 ground known)
+does (Ticking []) next past m event told may ground known = absurd may.0
+does (Behind []) next past m event told may ground known = absurd may.0
+does Resting next past m event told may ground known = absurd may.0
+does (Asked line) next past m event told may ground known = absurd may.0
+does Risen next past m event told may ground known = absurd may.0
+does Open next past m event told may ground known = absurd may.0
+
+-- ---- the walk
+
+step_goes : (here next : Phase) (past : List Entry) (m : HostMachine) (one : Step) → May here m one next → Ground here past m → Ground next (past ++ entries m one) (happens m one)
+    → EachAfter ChangesFrames past (entries m one) → KnowsAsked here past m → Goes next past m one
+step_goes here next past m (Tells e) may ground later each known =
+    leads next here past m (Tells e) may.3
+    (between here past (e ∷ []) m m may.0 refl (λ line_now now tie. tie_quiet past (e ∷ []) line_now now m.came (doing_of m.state) (others_quiet e may.1, tt) tie) known)
+step_goes here next past m (Comes unit) may ground later each known =
+    leads next here past m (Comes unit) may.2
+    (comes here past m unit may.0 may.1 ground (ground_at next here (past ++ entry.Written Chip (unit_text unit) ∷ []) (happens m (Comes unit)) may.2 later) known)
+step_goes here next past m (Misses text marks) may ground later each known =
+    leads next here past m (Misses text marks) may.3
+    (between here past (entry.Written Chip text ∷ marks) m m may.0 refl
+    (λ line_now now tie. tie_missed past text marks line_now now m.came (doing_of m.state) may.1 (changes_of past text marks each.1) tie) known)
+step_goes here next past m (Says words line) may ground later each known =
+    leads next (Asked line) past m (Says words line) may.3 (record { before = past; words = words; are = refl; read = may.2; tie = as_known here Resting past m may.0 known })
+step_goes here next past m (Says_nothing words) may ground later each known =
+    leads next Resting past m (Says_nothing words) (may.3 ∙ may.0)
+    (tie_said past words m.clock m.clock m.came (doing_of m.state) (ap is_restart may.2) (as_known here Resting past m may.0 known))
+step_goes here next past m (Asks event) may ground later each known =
+    leads next Open past m (Asks event) may.5 (asks may.0 past m event may.2 (as_known here (Asked may.0) past m may.1 known))
+step_goes here next past m (Refuses refusal) may ground later each known =
+    leads next Open past m (Refuses refusal) may.4 (refuses may.0 past m refusal (as_known here (Asked may.0) past m may.1 known))
+step_goes here next past m (Shows node) may ground later each known =
+    leads next Open past m (Shows node) may.2
+    (tie_quiet past (shown_values m.state node ∷ []) m.clock m.clock m.came (doing_of m.state) (tt, tt) (on_words (lines.Store node) past m refl (as_known here (Asked (lines.Store node)) past m may.0 known)))
+step_goes here next past m (Restarts state) may ground later each known =
+    leads next Open past m (Restarts state) may.2
+    (restarts past m state ((ground_at here (Asked lines.Restart) past m may.0 ground).1.1.1 state may.1) (as_known here (Asked lines.Restart) past m may.0 known))
+step_goes here next past m (Begins_tick left) may ground later each known =
+    leads next Risen past m (Begins_tick left) may.2
+    (record { before = m.clock; next = refl; tie = at_end past m.clock m.clock m.came (doing_of m.state) (as_known here Resting past m may.0 known) })
+step_goes here next past m Numbers may ground later each known = leads next here past m Numbers may.1 (numbers here past m may.0 ground known)
+step_goes here next past m (Judges item rest behind told) may ground later each known =
+    leads next (Behind behind) past m (Judges item rest behind told) may.2
+    (item_goes past m item rest behind told may.1 (ground_at here Open past m may.0 ground) (as_known here Open past m may.0 known))
+step_goes here next past m (Does event told) may ground later each known = does here next past m event told may ground known
+
+to : (next phase : Phase) (past : List Entry) (m : HostMachine) → next ≡ phase → KnowsAsked phase past m → KnowsAsked next past m
+to next phase past m is known = subst (λ (p : Phase). KnowsAsked p past m) (sym is) known
+
+all_nodes : (nodes : List ℕ) → AllByRecursion IsNodeTick (map Node_ticks nodes)
+all_nodes [] = tt
+all_nodes (n ∷ nodes) = (tt, all_nodes nodes)
+
+-- of a tick whose events are gone
+ticked : (past : List Entry) (m : HostMachine) → KnowsTick [] past m → IsTied past m
+ticked past m (inl (nodes, are, all, known)) = absurd (let bad : [] ≡ Line_ticks ∷ (Requests_do request_ticks BeforeItsTick ∷ nodes) = are in cc)
+ticked past m (inr (inl (nodes, are, all, known))) = absurd (let bad : [] ≡ Requests_do request_ticks BeforeItsTick ∷ nodes = are in cc)
+ticked past m (inr (inr (all, known))) = known
+
+turn_goes : (here next : Phase) (past : List Entry) (m : HostMachine) → Turns here m next → Ground here past m → Ground next past m → KnowsAsked here past m → KnowsAsked next past m
+turn_goes Resting next past m is ground later known = to next Open past m is known
+turn_goes (Asked line) next past m (inl (nothing, is)) ground later known = to next Open past m is (on_words line past m (none_on line nothing) known)
+turn_goes (Asked line) next past m (inr (ticks, line_is, is)) ground later known =
+    to next Resting past m is (on_words line past m (ap (λ (l : Line). is_restart (l ∷ [])) line_is) known)
+turn_goes Risen next past m is ground later known =
+    to next (Ticking (tick_events m.state)) past m is (inl (map Node_ticks (ticking_nodes (after_all m.state first_ticks)), refl, all_nodes (ticking_nodes (after_all m.state first_ticks)), known))
+turn_goes (Ticking []) next past m is ground later known = to next Open past m is (ticked past m known)
+turn_goes (Ticking (first ∷ left)) next past m is ground later known = absurd is
+turn_goes Open next past m is ground later known = to next Sleeping past m is known
+turn_goes (Behind []) next past m is ground later known = to next Open past m is known
+turn_goes (Behind (first ∷ left)) next past m is ground later known = absurd is
+turn_goes Sleeping next past m is ground later known = to next Submitting past m is.1 known
+turn_goes Submitting next past m is ground later known = to next Resting past m is.1 known
+
+pub asked_walk : WalkBoth ChangesFrames KnowsAsked
+asked_walk = record { step = step_goes; turn = turn_goes }
+
+-- over a walk of the ground it is a walk
+pub over_ground : Walk ChangesFrames Ground → Walk ChangesFrames (both_know Ground KnowsAsked)
+over_ground ground = record {
+  step = λ here next past m one may known.
+      let base = ground.step here next past m one may known.0 in
+      (base.0, (base.1, step_goes here next past m one may known.0 base.1 base.0 known.1));
+  turn = λ here next past m turns known.
+      let base = ground.turn here next past m turns known.0 in
+      (base, turn_goes here next past m turns known.0 base known.1);
+}
+
+-- a host that asks for nothing, and has said nothing
+pub first_asked : (m : HostMachine) → doing_of m.state ≡ doing_of (first_host m.keys) → KnowsAsked Resting [] m
+first_asked m fresh =
+    subst (λ (d : Doing). TieAsked [] m.clock m.clock m.came d) (sym fresh) (inl (record { unasked = refl; idle = refl; none = refl; paid = refl }))

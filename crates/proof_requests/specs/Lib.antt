@@ -1,0 +1,5 @@
+pub mod Standing
+pub mod Asking
+pub mod Effects
+pub mod Saying
+pub mod Walking
