@@ -46,6 +46,8 @@ impl<K: Sink> Gathered<K> {
         ensures ok { OnOk result (Appends
             (handed (K.written self.old.sink) self.old.waiting.items)
             (handed (K.written self.new.sink) self.new.waiting.items) piece.now) }
+        ensures sound { OnOk result (self.old.has_failed ≡ false) }
+        ensures no_more { self.old.has_failed ≡ true → self.new ≡ self.old }
         ensures err { OnErr result (AppendsPrefix (K.written self.old.sink) (K.written self.new.sink) (self.old.waiting.items ++ piece.now)) }
         ensures failed { OnErr result (self.new.has_failed ≡ true) }
         ensures most { self.new.most ≡ self.old.most }
@@ -67,6 +69,8 @@ impl<K: Sink> Gathered<K> {
     /// Writes all that waits.
     fn write_on(&mut self) -> Result<(), Failed>
         ensures written { OnOk result (Appends (K.written self.old.sink) (K.written self.new.sink) self.old.waiting.items) }
+        ensures sound { OnOk result (self.old.has_failed ≡ false) }
+        ensures no_more { self.old.has_failed ≡ true → self.new ≡ self.old }
         ensures nothing { OnOk result (self.new.waiting.items ≡ []) }
         ensures err { OnErr result (AppendsPrefix (K.written self.old.sink) (K.written self.new.sink) self.old.waiting.items) }
         ensures failed { OnErr result (self.new.has_failed ≡ true) }
