@@ -1,14 +1,16 @@
 -- A setting at its place.
-use Rattle.std.proofs.Common.{◌≡◌, ◌≢◌, ℕ, zero, suc, ◌<◌, ◌≤◌, List, [], ◌∷◌, length, true, false, Some, refl, sym, ap, arith}
+use Rattle.std.proofs.Common.{◌≡◌, ◌≢◌, ℕ, zero, suc, ◌<◌, ◌≤◌, List, [], ◌∷◌, length, true, false, Some, refl, sym, ap, ◌∙◌, arith}
 use Rattle.std.specs.Prelude.{slice_get, slice_set, insert}
-use Rattle.std.specs.Ordering.{is_eq}
+use Rattle.std.specs.Ordering.{is_eq, ordering_reverse}
 use Rattle.std.specs.declared.cmp.Ordering.{Ordering}
 use Rattle.std.specs.declared.cmp.Ordering.TheVariants.{Less, Equal, Greater}
-use Rattle.zw_base.specs.PropertyOrder.{same_property}
+use Rattle.std.specs.Cmp.{IsTotalOrder}
+use Rattle.std.proofs.lemmas.Cmp.{nat_list_cmp_total, on_total}
+use Rattle.zw_base.specs.PropertyOrder.{same_property, rank_of}
 use Rattle.zw_base.specs.declared.property.Property.{Property}
 use Rattle.zw_base.specs.declared.property.Setting.{Setting}
 use Rattle.device_kinds.specs.Settings.{property_cmp, by_order, with_setting}
-use Rattle.device_kinds.specs.Places.{IsAfter, IsNotAfter}
+use Rattle.device_kinds.specs.Places.{IsAfter, IsLed, IsNotAfter}
 
 -- the settings before the place come before
 below : (first : Setting) (settings : List Setting) (property : Property) (at : ℕ) → ((k : ℕ) → k < suc at → IsAfter (first ∷ settings) property k)
@@ -51,3 +53,55 @@ put_over (first ∷ settings) setting (suc at) within before same =
     let after : property_cmp setting.property first.property ≡ Greater = before zero (omega arith) first refl in
     let rest = put_over settings setting at (omega arith) (below first settings setting.property at before) same in
     rw (after) (ap (λ (x : List Setting). first ∷ x) rest)
+
+-- ---- the setting that was put in last
+
+laws : IsTotalOrder property_cmp
+laws = on_total rank_of nat_list_cmp_total
+
+after-trans : (first second third : Property) → property_cmp first second ≡ Greater → property_cmp second third ≡ Greater → property_cmp first third ≡ Greater
+after-trans first second third one two =
+    laws.antisymm first third
+    ∙ ap ordering_reverse (laws.trans third second first (laws.antisymm third second ∙ ap ordering_reverse two) (laws.antisymm second first ∙ ap ordering_reverse one))
+
+at-insert : (settings : List Setting) (setting : Setting) (at : ℕ) → at ≤ length settings → slice_get (insert settings at setting) at ≡ Some setting
+at-insert [] setting zero within = refl
+at-insert [] setting (suc at) within = absurd (omega arith)
+at-insert (first ∷ settings) setting zero within = refl
+at-insert (first ∷ settings) setting (suc at) within = at-insert settings setting at (omega arith)
+
+under-insert : (settings : List Setting) (setting x : Setting) (at k : ℕ) → at ≤ length settings → k < at
+    → slice_get (insert settings at setting) k ≡ Some x → slice_get settings k ≡ Some x
+under-insert [] setting x at k within less e = absurd (omega arith)
+under-insert (first ∷ settings) setting x zero k within less e = absurd (omega arith)
+under-insert (first ∷ settings) setting x (suc at) zero within less e = e
+under-insert (first ∷ settings) setting x (suc at) (suc k) within less e = under-insert settings setting x at k (omega arith) (omega arith) e
+
+at-over : (settings : List Setting) (setting : Setting) (at : ℕ) → at < length settings → slice_get (slice_set settings at setting) at ≡ Some setting
+at-over [] setting at within = absurd (omega arith)
+at-over (first ∷ settings) setting zero within = refl
+at-over (first ∷ settings) setting (suc at) within = at-over settings setting at (omega arith)
+
+under-over : (settings : List Setting) (setting x : Setting) (at k : ℕ) → at < length settings → k < at
+    → slice_get (slice_set settings at setting) k ≡ Some x → slice_get settings k ≡ Some x
+under-over [] setting x at k within less e = absurd (omega arith)
+under-over (first ∷ settings) setting x zero k within less e = absurd (omega arith)
+under-over (first ∷ settings) setting x (suc at) zero within less e = e
+under-over (first ∷ settings) setting x (suc at) (suc k) within less e = under-over settings setting x at k (omega arith) (omega arith) e
+
+-- what comes after a setting that was put in comes after all before it
+pub led_new : (settings : List Setting) (setting : Setting) (at : ℕ) → at ≤ length settings
+    → ((k : ℕ) → k < at → IsAfter settings setting.property k) → IsLed (insert settings at setting) at
+led_new settings setting at within before property after k less x e =
+    after-trans property setting.property x.property (after setting (at-insert settings setting at within))
+    (before k less x (under-insert settings setting x at k within less e))
+
+pub led_over : (settings : List Setting) (setting : Setting) (at : ℕ) → at < length settings
+    → ((k : ℕ) → k < at → IsAfter settings setting.property k) → IsLed (slice_set settings at setting) at
+led_over settings setting at within before property after k less x e =
+    after-trans property setting.property x.property (after setting (at-over settings setting at within))
+    (before k less x (under-over settings setting x at k within less e))
+
+-- nothing comes before the first
+pub led_start : (settings : List Setting) → IsLed settings 0
+led_start settings property after k less = absurd (omega (arith, less))

@@ -1,12 +1,10 @@
 -- How long the payloads of Security 0 are.
-use Rattle.std.proofs.Common.{◌≡◌, ℕ, zero, suc, ◌+◌, ◌/◌, ◌<◌, List, [], ◌∷◌, ◌++◌, length, slice_index, refl, sym, ◌∙◌, ap, subst, arith, length-append}
+use Rattle.std.proofs.Common.{◌≡◌, ℕ, zero, suc, ◌+◌, ◌<◌, List, [], ◌∷◌, ◌++◌, length, slice_index, refl, sym, ◌∙◌, ap, subst, arith, length-append}
 use Rattle.std.specs.Prelude.{All, slice_index_or}
-use Rattle.std.proofs.lemmas.List.{length-take-le}
-use Rattle.aes_block.specs.Cipher.{aes, add_round_key}
 use Rattle.s0_crypto.specs.declared.key_pair.Keys.{Keys}
 use Rattle.s0_crypto.specs.declared.ends.SealEnds.{SealEnds}
-use Rattle.s0_crypto.specs.Modes.{chained, cbc_mac}
-use Rattle.s0_crypto.specs.Seal.{Seals, covered, code_of}
+use Rattle.s0_crypto.specs.Seal.{Seals, code_of}
+use Rattle.s0_crypto.proofs.OpeningLemmas.{length-code_of}
 use Rattle.s0_crypto.proofs.StreamLemmas.{length-ofb_from}
 use Rattle.class_core.specs.Cell.{written}
 use Rattle.class_info.specs.Values.{wholes}
@@ -25,23 +23,12 @@ nonce_payload nonce bytes eight is =
     let same = length-wholes nonce in
     record { some = omega arith; short = omega arith }
 
-length-chained : (key text : List ℕ) (i : ℕ) → length (chained key text i) ≡ 16
-unfolding chained aes add_round_key
-length-chained key text zero = refl
-length-chained key text (suc i) = refl
-
-length-code : (keys : Keys) (vector : List ℕ) (ends : SealEnds) (text : List ℕ) → length (code_of keys vector ends text) ≡ 8
-unfolding code_of cbc_mac
-length-code keys vector ends text =
-    let whole = length-chained keys.code (covered vector ends text) ((length (covered vector ends text) + 15) / 16) in
-    length-take-le 8 (chained keys.code (covered vector ends text) ((length (covered vector ends text) + 15) / 16)) (omega arith)
-
 -- what is sealed fits into a payload
 pub sealed_payload : (keys : Keys) (own nonce : List ℕ) (ends : SealEnds) (plain bytes : List ℕ) → length own ≡ 8 → IsShort plain
     → Seals keys own nonce ends plain bytes → IsPayload bytes
 sealed_payload keys own nonce ends plain bytes eight short s =
     let text : length s.cipher_text ≡ suc (length plain) = ap length s.enciphers ∙ length-ofb_from keys.encrypt (own ++ nonce) 0 (0 ∷ plain) in
-    let code = length-code keys (own ++ nonce) ends s.cipher_text in
+    let code = length-code_of keys (own ++ nonce) ends s.cipher_text in
     let inner = length-append s.cipher_text (slice_index nonce 0 ∷ code_of keys (own ++ nonce) ends s.cipher_text) in
     let outer = length-append own (s.cipher_text ++ slice_index nonce 0 ∷ code_of keys (own ++ nonce) ends s.cipher_text) in
     let all : length bytes ≡ suc (suc (length (own ++ (s.cipher_text ++ slice_index nonce 0 ∷ code_of keys (own ++ nonce) ends s.cipher_text)))) = ap length s.layout in

@@ -2,7 +2,7 @@
 
 ghost use Rattle.std.specs.Prelude.{◌≡◌, ℕ, ◌≤◌, ◌<◌, length, IfOk, OnOk};
 ghost use Rattle.device_kinds.specs.Settings.{property_cmp, with_setting, merged};
-ghost use Rattle.device_kinds.specs.Places.{IsAfter, IsNotAfter};
+ghost use Rattle.device_kinds.specs.Places.{IsAfter, IsLed, IsNotAfter};
 ghost use Rattle.device_kinds.specs.Values.{value_by, level_by};
 ghost use Rattle.zw_base.specs.PropertyOrder.{same_property};
 
@@ -56,14 +56,31 @@ pub fn level_with(settings: &[Setting], before: u32) -> u32
     level
 }
 
-/// The place of the first setting whose property does not come before this one, or their number.
-fn place_of(settings: &[Setting], property: &Property) -> usize
+/// Where the search for a property begins, if a setting was put last at that place: there, where it comes after that setting.
+fn begin_at(settings: &[Setting], last: usize, property: &Property) -> usize
+    requires { IsLed settings.now last }
+    ensures within { result ≤ length settings.now }
+    ensures before { (k : ℕ) → k < result → IsAfter settings.now property.now k }
+{
+    if last >= settings.len() {
+        return 0;
+    }
+    match compare(property, &settings[last].property) {
+        Ordering::Greater => last,
+        Ordering::Less | Ordering::Equal => 0,
+    }
+}
+
+/// The place of the first setting from a place on whose property does not come before this one, or their number.
+fn place_of(settings: &[Setting], property: &Property, from: usize) -> usize
+    requires from { from ≤ length settings.now }
+    requires passed { (k : ℕ) → k < from → IsAfter settings.now property.now k }
     ensures within { result ≤ length settings.now }
     ensures before { (k : ℕ) → k < result → IsAfter settings.now property.now k }
     ensures here { result < length settings.now → IsNotAfter settings.now property.now result }
 {
-    for (i, setting) in settings.iter().enumerate() {
-        match compare(property, &setting.property) {
+    for i in from..settings.len() {
+        match compare(property, &settings[i].property) {
             Ordering::Greater => {}
             Ordering::Less | Ordering::Equal => return i,
         }
@@ -71,20 +88,25 @@ fn place_of(settings: &[Setting], property: &Property) -> usize
     settings.len()
 }
 
-/// Puts one more setting at its place, or in place of that of the same property.
-fn place(settings: &mut Vec<Setting>, setting: Setting) -> Result<(), NoMemory>
-    ensures { OnOk result (settings.new.items ≡ with_setting settings.old.items setting) }
+/// Puts one more setting at its place, or in place of that of the same property. The answer is that place; `last` is the
+/// one before, which is looked at first, since settings mostly come in their order.
+fn place(settings: &mut Vec<Setting>, setting: Setting, last: usize) -> Result<usize, NoMemory>
+    requires { IsLed settings.old.items last }
+    ensures placed { OnOk result (settings.new.items ≡ with_setting settings.old.items setting) }
+    ensures led { IfOk result (λ at. IsLed settings.new.items at) }
 {
-    let at = place_of(settings.as_slice(), &setting.property);
+    let from = begin_at(settings.as_slice(), last, &setting.property);
+    let at = place_of(settings.as_slice(), &setting.property, from);
     if at < settings.len() && is_same(&setting.property, &settings[at].property) {
         settings[at] = setting;
     } else {
         settings.insert(at, setting)?;
     }
-    Ok(())
+    Ok(at)
 }
 
 /// The settings with more of them put in one after another.
+#[tactic(auto, using(crate::proofs::PlaceLemmas::led_start))]
 pub fn merge(
     alloc: Global,
     settings: &[Setting],
@@ -93,8 +115,9 @@ pub fn merge(
     ensures { IfOk result (λ all. all ≡ merged settings.now more.now) }
 {
     let mut all = Vec::from_slice(alloc, settings)?;
+    let mut last = 0;
     for setting in more {
-        place(&mut all, *setting)?;
+        last = place(&mut all, *setting, last)?;
     }
     Sequence::from_slice(alloc, all.as_slice())
 }

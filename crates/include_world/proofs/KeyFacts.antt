@@ -1,16 +1,14 @@
 -- What each frame between a lock and the host tells of the lock's key, through all that either end takes.
-use Rattle.std.proofs.Common.{◌≡◌, ◌⊎◌, ℕ, zero, suc, ◌+◌, ◌-◌, ◌/◌, Bool, true, false, cond, eqb, Option, Some, None, List, ◌∷◌, ◌++◌, length, refl, ap, sym, subst, ◌∙◌, inr, ⊎_elim, append_assoc, length-append, arith}
+use Rattle.std.proofs.Common.{◌≡◌, ◌⊎◌, ℕ, ◌+◌, ◌-◌, Bool, true, false, cond, eqb, Option, Some, None, List, ◌∷◌, ◌++◌, length, refl, ap, sym, subst, ◌∙◌, inr, ⊎_elim, append_assoc, length-append, arith}
 use Rattle.std.specs.Prelude.{slice_index, option_and_then}
 use Rattle.std.specs.Option.{option_to_list}
-use Rattle.std.proofs.lemmas.List.{get_or_at, length-take-le}
+use Rattle.std.proofs.lemmas.List.{get_or_at}
 use Rattle.std.proofs.lemmas.Bool.{eq-eqb, le-leb}
-use Rattle.aes_block.specs.Cipher.{aes, add_round_key}
 use Rattle.s0_crypto.specs.declared.key_pair.Keys.{Keys}
 use Rattle.s0_crypto.specs.declared.ends.SealEnds.{SealEnds}
-use Rattle.s0_crypto.specs.Modes.{chained, cbc_mac}
-use Rattle.s0_crypto.specs.Seal.{Seals, covered, code_of}
+use Rattle.s0_crypto.specs.Seal.{Seals, code_of}
 use Rattle.s0_crypto.specs.Opening.{nonce_in}
-use Rattle.s0_crypto.proofs.OpeningLemmas.{good_from_seals, one_plain_text}
+use Rattle.s0_crypto.proofs.OpeningLemmas.{good_from_seals, length-code_of, one_plain_text}
 use Rattle.s0_crypto.proofs.MessageLemmas.{length_of_layout, nonce_of_layout}
 use Rattle.s0_session.specs.declared.account.Account.{Account}
 use Rattle.s0_session.specs.Nonces.{nonce_given, answer_from, nonce_spent, after_spend, with_first}
@@ -161,17 +159,6 @@ out_sets key node lock payload s Other = tt
 
 -- ---- the key that is set opens
 
-length-chained : (key text : List ℕ) (i : ℕ) → length (chained key text i) ≡ 16
-unfolding chained aes add_round_key
-length-chained key text zero = refl
-length-chained key text (suc i) = refl
-
-length-code : (keys : Keys) (vector : List ℕ) (ends : SealEnds) (text : List ℕ) → length (code_of keys vector ends text) ≡ 8
-unfolding code_of cbc_mac
-length-code keys vector ends text =
-    let whole = length-chained keys.code (covered vector ends text) ((length (covered vector ends text) + 15) / 16) in
-    length-take-le 8 (chained keys.code (covered vector ends text) ((length (covered vector ends text) + 15) / 16)) (omega arith)
-
 -- the ninth byte from the end
 named_at : (own text code : List ℕ) (first : ℕ) (bytes : List ℕ) → length own ≡ 8 → length code ≡ 8 → bytes ≡ 0x98 ∷ 0x81 ∷ (own ++ (text ++ first ∷ code)) → slice_index bytes (length bytes - 9) ≡ first
 named_at own text code first bytes n c e =
@@ -187,7 +174,7 @@ seals_text keys own nonce ends plain = record { cipher_text = cipher_text_of key
 pub named_in_sealed : (keys : Keys) (own nonce : List ℕ) (ends : SealEnds) (plain : List ℕ) → length own ≡ 8 → nonce_named (sealed_text keys own nonce ends plain) ≡ slice_index nonce 0
 named_in_sealed keys own nonce ends plain n =
     let s = seals_text keys own nonce ends plain in
-    named_at own s.cipher_text (code_of keys (own ++ nonce) ends s.cipher_text) (slice_index nonce 0) (sealed_text keys own nonce ends plain) n (length-code keys (own ++ nonce) ends s.cipher_text) s.layout
+    named_at own s.cipher_text (code_of keys (own ++ nonce) ends s.cipher_text) (slice_index nonce 0) (sealed_text keys own nonce ends plain) n (length-code_of keys (own ++ nonce) ends s.cipher_text) s.layout
 
 pub sealed_opens : (keys : Keys) (own nonce : List ℕ) (ends : SealEnds) (plain : List ℕ) → length own ≡ 8 → opened_by keys nonce ends (sealed_text keys own nonce ends plain) ≡ Some plain
 sealed_opens keys own nonce ends plain n =

@@ -1,6 +1,6 @@
 -- What a lock makes of a message that was sealed for its live nonce.
 use Rattle.std.proofs.Common.{◌≡◌, ℕ, ◌+◌, ◌-◌, ◌≤◌, ◌==◌, Bool, true, false, not, nat_lt, if◌then◌else◌, Option, Some, None, List, ◌∷◌, ◌++◌, length, get_or, refl, ap, sym, ◌∙◌, subst, arith}
-use Rattle.std.specs.Prelude.{slice_index, nat_le, zero, suc}
+use Rattle.std.specs.Prelude.{slice_index, nat_le, suc}
 use Rattle.std.specs.Option.{option_map}
 use Rattle.std.proofs.lemmas.Bool.{eqb-true}
 use Rattle.std.proofs.lemmas.Bool.Decides.{Decides-eqb, nat_tests}
@@ -11,14 +11,12 @@ use Rattle.supervision.specs.Device.{is_new, is_again, heard_of}
 use Rattle.supervision.specs.declared.session.TheConstants.{WORKING}
 use Rattle.supervision.specs.declared.device_book.Heard.{Heard}
 use Rattle.supervision.specs.declared.device_book.Heard.TheVariants.{New, Again, Old}
-use Rattle.aes_block.specs.Cipher.{aes, add_round_key}
 use Rattle.s0_crypto.specs.declared.key_pair.Keys.{Keys}
 use Rattle.s0_crypto.specs.declared.ends.SealEnds.{SealEnds}
-use Rattle.s0_crypto.specs.Modes.{chained}
 use Rattle.s0_crypto.specs.Seal.{Seals, code_of}
 use Rattle.s0_crypto.specs.Opening.{nonce_in}
 use Rattle.s0_crypto.proofs.MessageLemmas.{length_of_layout, nonce_of_layout}
-use Rattle.s0_crypto.proofs.OpeningLemmas.{one_plain_text}
+use Rattle.s0_crypto.proofs.OpeningLemmas.{length-code_of, one_plain_text}
 use Rattle.s0_crypto.proofs.StreamLemmas.{length-ofb_from}
 use Rattle.s0_session.specs.declared.account.Account.{Account}
 use Rattle.s0_session.specs.Nonces.{nonce_spent, with_first}
@@ -51,14 +49,8 @@ use Rattle.proof_messages.specs.Reporting.{HasAnswered}
 use Rattle.proof_messages.proofs.OpenedMessages.{message_opens, target_is}
 use Rattle.proof_messages.proofs.SessionMessages.{supervised_follows, awake_after}
 use Rattle.proof_messages.proofs.DeviceReports.{spent, own_heard, taken_own, first_holds, second_holds}
-use Rattle.proof_messages.proofs.Texts.{length-code}
 
 -- ---- sealing and opening
-
-pub length-chained : (key text : List ℕ) (i : ℕ) → length (chained key text i) ≡ 16
-unfolding chained aes add_round_key
-length-chained key text zero = refl
-length-chained key text (suc i) = refl
 
 -- the named byte of a message
 named_at : (own text code : List ℕ) (named : ℕ) → length own ≡ 8 → length code ≡ 8
@@ -84,7 +76,7 @@ is_sealed_text keys own nonce ends plain eight =
     let text : List ℕ = cipher_text_of keys own nonce plain in
     let code : List ℕ = code_of keys (own ++ nonce) ends text in
     let bytes : List ℕ = 0x98 ∷ 0x81 ∷ (own ++ (text ++ slice_index nonce 0 ∷ code)) in
-    let last : length code ≡ 8 = length-code keys (own ++ nonce) ends text in
+    let last : length code ≡ 8 = length-code_of keys (own ++ nonce) ends text in
     let size : length bytes ≡ length text + 19 = length_of_layout own text code (slice_index nonce 0) eight last refl in
     let more : length text ≡ suc (length plain) = length-ofb_from keys.encrypt (own ++ nonce) 0 (0 ∷ plain) in
     let many : 20 ≤ length bytes = omega (arith, size, more) in

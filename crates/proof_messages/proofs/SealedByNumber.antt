@@ -8,7 +8,7 @@ use Rattle.s0_crypto.specs.declared.ends.SealEnds.{SealEnds}
 use Rattle.s0_crypto.specs.Seal.{Seals, code_of}
 use Rattle.s0_crypto.specs.Opening.{nonce_in, IsGood}
 use Rattle.s0_crypto.proofs.MessageLemmas.{nonce_of_layout}
-use Rattle.s0_crypto.proofs.OpeningLemmas.{good_from_seals, one_plain_text}
+use Rattle.s0_crypto.proofs.OpeningLemmas.{good_from_seals, length-code_of, one_plain_text}
 use Rattle.s0_crypto.proofs.StreamLemmas.{length-ofb_from}
 use Rattle.s0_session.specs.Nonces.{account_of, live_of, with_first, nonce_spent}
 use Rattle.device_kinds.specs.Sealing.{cipher_text_of, sealed_text}
@@ -28,7 +28,7 @@ use Rattle.proof_messages.specs.Numbers.{IsNonce, HasGiven}
 use Rattle.proof_messages.specs.Payloads.{IsSealed}
 use Rattle.proof_messages.specs.Opened.{OpensAs}
 use Rattle.proof_messages.proofs.NonceNumbers.{found_live, none_named, same_sides}
-use Rattle.proof_messages.proofs.Texts.{IsText, is_text, length-code}
+use Rattle.proof_messages.proofs.Texts.{IsText, is_text}
 use Rattle.proof_messages.proofs.LockSessions.{some_same}
 use Rattle.proof_messages.proofs.DeviceReports.{same_messages as messages_same}
 
@@ -110,7 +110,7 @@ sealed_length keys own nonce ends plain bytes s =
     let whole = layout_length own s.cipher_text code (slice_index nonce 0) in
     let size : length bytes ≡ length own + (length s.cipher_text + length code) + 3 = ap length s.layout ∙ whole in
     let text : length s.cipher_text ≡ suc (length plain) = ap length s.enciphers ∙ length-ofb_from keys.encrypt (own ++ nonce) 0 (0 ∷ plain) in
-    let last : length code ≡ 8 = length-code keys (own ++ nonce) ends s.cipher_text in
+    let last : length code ≡ 8 = length-code_of keys (own ++ nonce) ends s.cipher_text in
     omega (arith, size, text, last)
 
 pub seals_waiting : (n : NodeState) (keys : Keys) (own other nonce another text : List ℕ) (nonces : List (List ℕ)) (number : ℕ) → SealsText n keys own nonce text → SealsText n keys other another text

@@ -1,14 +1,13 @@
 -- What stands in the text of a Nonce Report and of a sealed message.
-use Rattle.std.proofs.Common.{◌≡◌, ℕ, zero, suc, ◌+◌, ◌-◌, ◌/◌, ◌≤◌, true, false, nat_lt, List, ◌∷◌, ◌++◌, length, get_or, refl, ap, ◌∙◌, subst, arith}
+use Rattle.std.proofs.Common.{◌≡◌, ℕ, suc, ◌+◌, ◌-◌, ◌≤◌, true, false, nat_lt, List, ◌∷◌, ◌++◌, length, get_or, refl, ap, ◌∙◌, subst, arith}
 use Rattle.std.specs.Prelude.{slice_index, nat_le, Ok}
 use Rattle.std.proofs.lemmas.Bool.Decides.{nat_tests}
-use Rattle.std.proofs.lemmas.List.{length-take-le, get_or-append_right}
-use Rattle.aes_block.specs.Cipher.{aes, add_round_key}
+use Rattle.std.proofs.lemmas.List.{get_or-append_right}
 use Rattle.s0_crypto.specs.declared.key_pair.Keys.{Keys}
 use Rattle.s0_crypto.specs.declared.ends.SealEnds.{SealEnds}
-use Rattle.s0_crypto.specs.Modes.{chained, cbc_mac}
-use Rattle.s0_crypto.specs.Seal.{covered, code_of}
+use Rattle.s0_crypto.specs.Seal.{code_of}
 use Rattle.s0_crypto.proofs.MessageLemmas.{length_of_layout}
+use Rattle.s0_crypto.proofs.OpeningLemmas.{length-code_of}
 use Rattle.s0_crypto.proofs.StreamLemmas.{length-ofb_from}
 use Rattle.class_info.specs.declared.message.InfoMessage.TheVariants.{NonceReport}
 use Rattle.class_info.specs.InfoReading.{info_at}
@@ -34,18 +33,6 @@ report_open nonce = never_ends _
 
 -- ---- a sealed message
 
-length-chained : (key text : List ℕ) (i : ℕ) → length (chained key text i) ≡ 16
-unfolding chained aes add_round_key
-length-chained key text zero = refl
-length-chained key text (suc i) = refl
-
-pub length-code : (keys : Keys) (vector : List ℕ) (ends : SealEnds) (text : List ℕ) → length (code_of keys vector ends text) ≡ 8
-unfolding code_of cbc_mac
-length-code keys vector ends text =
-    let blocks : ℕ = (length (covered vector ends text) + 15) / 16 in
-    let whole = length-chained keys.code (covered vector ends text) blocks in
-    length-take-le 8 (chained keys.code (covered vector ends text) blocks) (omega (arith, whole))
-
 named_at : (own text code : List ℕ) (named : ℕ) → length own ≡ 8 → slice_index (0x98 ∷ 0x81 ∷ (own ++ (text ++ named ∷ code))) (length text + 10) ≡ named
 named_at own text code named eight =
     let here : length text + 10 ≡ suc (suc (length text + 8)) = omega arith in
@@ -67,7 +54,7 @@ is_text keys own nonce ends plain eight =
     let text : List ℕ = cipher_text_of keys own nonce plain in
     let code : List ℕ = code_of keys (own ++ nonce) ends text in
     let bytes : List ℕ = 0x98 ∷ 0x81 ∷ (own ++ (text ++ slice_index nonce 0 ∷ code)) in
-    let last : length code ≡ 8 = length-code keys (own ++ nonce) ends text in
+    let last : length code ≡ 8 = length-code_of keys (own ++ nonce) ends text in
     let size : length bytes ≡ length text + 19 = length_of_layout own text code (slice_index nonce 0) eight last refl in
     let more : length text ≡ suc (length plain) = length-ofb_from keys.encrypt (own ++ nonce) 0 (0 ∷ plain) in
     let many : 20 ≤ length bytes = omega (arith, size, more) in

@@ -12,13 +12,13 @@ use Rattle.s0_crypto.specs.Opening.{nonce_in, cipher_text_in, code_wanted, seque
 use Rattle.s0_crypto.proofs.MessageLemmas.{length_of_layout, nonce_of_layout, text_of_layout, code_of_layout, layout_of_parts}
 use Rattle.s0_crypto.proofs.StreamLemmas.{length-ofb_from, first_zero, ofb_injective, opened_text}
 
-length-chained : (key text : List ℕ) (i : ℕ) → length (chained key text i) ≡ 16
+pub length-chained : (key text : List ℕ) (i : ℕ) → length (chained key text i) ≡ 16
 unfolding chained aes add_round_key
 length-chained key text zero = refl
 length-chained key text (suc i) = refl
 
 -- a code has eight bytes
-length-code_of : (keys : Keys) (vector : List ℕ) (ends : SealEnds) (text : List ℕ) → length (code_of keys vector ends text) ≡ 8
+pub length-code_of : (keys : Keys) (vector : List ℕ) (ends : SealEnds) (text : List ℕ) → length (code_of keys vector ends text) ≡ 8
 unfolding code_of cbc_mac
 length-code_of keys vector ends text =
     let whole = length-chained keys.code (covered vector ends text) ((length (covered vector ends text) + 15) / 16) in

@@ -216,14 +216,13 @@ pub count-kept : (es : Entries) (n : ℕ) (ps : List Property) → IsInOrder es 
 count-kept es n [] order none = distinct_count-from_IsDistinct same_property_laws _ (distinct-among es n order)
 count-kept es n (p ∷ ps) order none = absurd (omega arith)
 
--- what is neither among the others nor found is missing
-pub missing-neither : (a s r m : Bool) → m ≡ (a || s) → false ≡ a → s ≡ not r → r ≡ not m
-missing-neither true s r m both other found = absurd (true≢false (sym other))
-missing-neither false true true m both other found = absurd (true≢false found)
-missing-neither false true false m both other found = sym (ap not both)
-missing-neither false false true m both other found = sym (ap not both)
-missing-neither false false false m both other found = absurd (true≢false (sym found))
+-- what is not found is missing where it is none of the others
+pub missing-none : (a s b m : Bool) → m ≡ (a || s) → s ≡ false → b ≡ a → not b ≡ not m
+missing-none true s b m both none same = ap not (same ∙ sym both)
+missing-none false s b m both none same = ap not (same ∙ sym none ∙ sym both)
 
-pub missing-other : (a s r m : Bool) → m ≡ (a || s) → true ≡ a → r ≡ a → not r ≡ not m
-missing-other true s r m both other same = ap not (same ∙ sym both)
-missing-other false s r m both other same = absurd (true≢false other)
+-- what is found is not
+pub missing-found : (a s r m : Bool) → m ≡ (a || s) → s ≡ true → s ≡ not r → r ≡ not m
+missing-found a s true m both found none = absurd (true≢false (sym found ∙ none))
+missing-found true s false m both found none = sym (ap not both)
+missing-found false s false m both found none = sym (ap not (both ∙ found))

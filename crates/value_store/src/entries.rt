@@ -138,7 +138,7 @@ fn is_missing(
     requires { IsInOrder entries.now }
     ensures { result ≡ not (is_member same_property (others.now ++ properties_among entries.now node) property.now) }
 {
-    !is_one_of(property, others) && stored_at(entries, &(node, *property)).is_none()
+    stored_at(entries, &(node, *property)).is_none() && !is_one_of(property, others)
 }
 
 // Whether the property is one of these.
