@@ -13,7 +13,7 @@ use Rattle.world_model.specs.Prefixes.{IsLineBefore}
 use Rattle.run_lines.specs.Pieces.{said_text}
 use Rattle.world_lines.specs.Spoken.{Spoken, after_all, transcript_of}
 use Rattle.world_lines.specs.Done.{AreDone, events_of as events_said}
-use Rattle.proof_commands.specs.Around.{Around}
+use Rattle.run_all.specs.Around.{Around}
 use Rattle.proof_commands.specs.Laws.{Ran, AreBegun, IsStory, events_of, first, transcript_from}
 use Rattle.proof_commands.proofs.SimKeeping.{may_rest}
 use Rattle.proof_audit.proofs.BegunChanges.{may-front as may_prefix}
