@@ -12,7 +12,7 @@ ghost use Rattle.world_lines.specs.Whole.{AreWhole};
 
 use crate::lines_clear_nowhere_else;
 use proof_serial::hosts_write_well;
-use proof_spoken::world::lines_keep_and_ask_well;
+use proof_world::lines_keep_and_ask_well;
 use proof_traffic::hosts_obey_the_line;
 use proof_walk::time_goes_on;
 

@@ -38,8 +38,8 @@ use Rattle.world_model.specs.State.{Machine, host_does, host_entries}
 use Rattle.world_model.specs.Events.{Event, Outside_does, Host_does, Host_takes, Decoder_ticks, Refuses, Shows_values, Restarts, fed, happens, entries, notes, May}
 use Rattle.proof_device.proofs.Entered.{IsMark}
 use Rattle.proof_host.proofs.Lists.{each-append}
-use Rattle.proof_line.proofs.Orders.{IsNoOrder}
-use Rattle.proof_line.proofs.Plain.{IsPlain}
+use Rattle.proof_spoken.proofs.Orders.{IsNoOrder}
+use Rattle.proof_spoken.proofs.Plain.{IsPlain}
 use Rattle.proof_walk.specs.Outside.{IsHostNote, IsOfAir}
 use Rattle.proof_walk.specs.ByLine.{IsCommon}
 use Rattle.proof_walk.proofs.Alone.{KindsAre, common_are}
