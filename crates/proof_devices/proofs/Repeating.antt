@@ -29,12 +29,12 @@ use Rattle.proof_walk.specs.Phases.{Phase, Between, Said_line, Begun, Doing, Tur
 use Rattle.proof_walk.specs.Walk.{WalkOver}
 use Rattle.proof_walk.proofs.ByLine.{last_is}
 use Rattle.proof_walk.proofs.Stepping.{Steps, event_then}
-use Rattle.proof_devices.specs.Logs.{mark_step, plain_log, log_of, IsApart, Tie}
-use Rattle.proof_devices.proofs.Handling.{tie_here}
-use Rattle.proof_devices.proofs.AirHearing.{same_refusal}
+use Rattle.proof_air.specs.Logs.{mark_step, plain_log, log_of, IsApart, Tie}
+use Rattle.proof_air.proofs.Handling.{tie_here}
+use Rattle.proof_air.proofs.Hearing.{same_refusal}
 use Rattle.proof_devices.specs.Living.{Acts, MovesNone, KnowDevices, Saying}
-use Rattle.proof_fates.specs.Answering.{MayAnswer, Answered, IsAwaited, KnowAnswers, Ground, Listens}
-use Rattle.proof_fates.proofs.Again.{Again, again_tells, heard_first}
+use Rattle.proof_devices.specs.Answering.{MayAnswer, Answered, IsAwaited, KnowAnswers, Ground, Listens}
+use Rattle.proof_devices.proofs.Again.{Again, again_tells, heard_first}
 
 -- what stands before the last entry
 pub before_is : (before : List Entry) (e : Entry) → before_last (before ++ e ∷ []) ≡ before
