@@ -1,3 +1,4 @@
+pub mod Keeping
 pub mod Orders
 mod KeptCommands
 pub mod Plain
