@@ -22,7 +22,7 @@ mod Clocks
 mod AtOnce
 mod Standing
 mod Halting
-mod LastLine
+pub mod LastLine
 mod FateShown
 mod Stamped
 mod Again

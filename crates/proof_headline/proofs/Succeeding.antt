@@ -58,7 +58,7 @@ aside_none : (entry : Entry) → IsAside entry → IsNoSuccess entry
 aside_none (Out number how) aside = absurd aside
 aside_none entry aside = tt
 
-routine_none : (entry : Entry) → IsRoutine entry → IsNoSuccess entry
+pub routine_none : (entry : Entry) → IsRoutine entry → IsNoSuccess entry
 routine_none (Out number ended.Success) routine = absurd routine
 routine_none entry routine = tt
 
