@@ -44,6 +44,9 @@ command-on begun more zero command is = absurd cc
 command-on begun more (suc k) command is =
     sym (same-command (begun ++ more) (suc k)) ∙ get-on begun more k command (same-command begun (suc k) ∙ is)
 
+pub command-begun : (begun : List ℕ) (session command : ℕ) → command_at begun session ≡ Some command → Has begun command
+command-begun begun session command is = get-has begun (session - 1) command (got-if (eqb session 0) (slice_get begun (session - 1)) command is)
+
 -- a session that has begun has a command
 pub record CommandOf (begun : List ℕ) (session : ℕ) : Type 0 where
   pub command : ℕ

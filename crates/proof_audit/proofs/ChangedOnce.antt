@@ -40,13 +40,12 @@ use Rattle.audit_books.specs.SessionRule.{order_among}
 use Rattle.proof_audit.specs.Books.{ArePieces, AreAsked, ChangesBegun, IsChangeOf, IsOfItsKind, MayChange}
 use Rattle.proof_audit.specs.Whole.{EachKeepsOnce, following_of}
 use Rattle.proof_audit.proofs.AskedSettings.{settings-are}
-use Rattle.proof_audit.proofs.BegunCommands.{begun-given, command-of, command-on, same-command, sessions-on}
+use Rattle.proof_audit.proofs.BegunCommands.{begun-given, command-begun, command-of, command-on, same-command, sessions-on}
 use Rattle.proof_audit.proofs.Cutting.{Stands, each-cut, each-of-cuts, each-from, keeps-each-once, stands, stands-on}
 use Rattle.proof_audit.proofs.GivenOrders.{accepted-grows, among-left}
 use Rattle.proof_audit.proofs.OneChange.{IsInTurn, MayFollow, all_by, begins-change, change-by, is-that-maker, made-by-change, session-in-journal}
 use Rattle.proof_audit.proofs.InTurn.{found-of, has-device, in-turn}
 use Rattle.proof_audit.proofs.SameSettings.{settings-themselves}
-use Rattle.proof_once.proofs.CommandsOfSessions.{session_has}
 
 -- ---- which commands have changed a device
 
@@ -209,7 +208,7 @@ module _ (over_stays : Stays) (before after : List State) (transcript : List Ent
       let found = there_is.found in
       let begins = begun-at past node session setting rest is in
       let first = command-of (sessions node past) session begins.0 begins.1 in
-      let given = begun-given listing transcript laws asked past (Dev node (Session session) setting ∷ rest) node first.command is (session_has (sessions node past) session first.command first.is) in
+      let given = begun-given listing transcript laws asked past (Dev node (Session session) setting ∷ rest) node first.command is (command-begun (sessions node past) session first.command first.is) in
       let kind = found-so IsOfItsKind after node device kinds found in
       let knows : is_supervised device ≡ true = ap (λ (k : Kind). lists k 0x6C) (kind.so ∙ ap kind_at kind.of_node) ∙ given.asked.takes in
       let one = found-so (IsShown transcript) after node device shown found in
@@ -259,7 +258,7 @@ module _ (over_stays : Stays) (before after : List State) (transcript : List Ent
       let applied_there : Has (commands_applied node transcript it.device.journal) command =
       has_shown (λ (number : ℕ). listed (command_in (sessions node transcript) number)) (sessions_by it.device.journal) session command it.done
       (in_listed (command_in (sessions node transcript) session) (same-command (sessions node transcript) session ∙ begun_then)) in
-      let number = all_has (Has (numbers_of (accepted node transcript))) (sessions node transcript) command it.once.carries.commands_accepted (session_has (sessions node transcript) session command begun_then) in
+      let number = all_has (Has (numbers_of (accepted node transcript))) (sessions node transcript) command it.once.carries.commands_accepted (command-begun (sessions node transcript) session command begun_then) in
       has-number (λ number. IsUndone (outcome number transcript) → Has (commands_applied node transcript it.device.journal) number → ⊥) (accepted node transcript) command it.once.ends.undone number undone applied_there
     where
       in_listed : (o : Option ℕ) → o ≡ Some command → Has (listed o) command
@@ -399,8 +398,8 @@ module _ (over_stays : Stays) (before after : List State) (transcript : List Ent
       let change = change-by it.device.journal session it.once.changes.sessions_rise it.done in
       let begun_then : command_at (sessions node transcript) session ≡ Some command =
       ap (λ (l : List ℕ). command_at l session) (sessions-on listing transcript laws asked past (entry ∷ rest) node is) ∙ command-on (sessions node past) (sessions node (entry ∷ rest)) session command begun in
-      let given = begun-given listing transcript laws asked past (entry ∷ rest) node command is (session_has (sessions node past) session command begun) in
-      let given_then = begun-given listing transcript laws asked transcript [] node command (sym (append-nil transcript)) (session_has (sessions node transcript) session command begun_then) in
+      let given = begun-given listing transcript laws asked past (entry ∷ rest) node command is (command-begun (sessions node past) session command begun) in
+      let given_then = begun-given listing transcript laws asked transcript [] node command (sym (append-nil transcript)) (command-begun (sessions node transcript) session command begun_then) in
       let made_is : made_all ≡ change.change.settings =
       sym (ap (λ (l : List Entry). all_by session (made node l)) is ∙ begins-change node session past setting rest below (each-from MayFollow transcript past (entry ∷ rest) is follow))
       ∙ (ap (all_by session) it.journal ∙ change.settings) in
