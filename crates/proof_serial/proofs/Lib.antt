@@ -1,6 +1,7 @@
 pub mod EndedItems
 pub mod ChangedUnits
 pub mod Ways
+pub mod ChipFrames
 pub mod Frames
 pub mod ChipWays
 pub mod Outer
