@@ -1,6 +1,6 @@
 -- The chip writes frames that the format carries.
 use Rattle.std.proofs.Common.{ℕ, ◌≤◌, List, [], ◌∷◌, length, arith, length-append}
-use Rattle.std.specs.Prelude.{Option, Some, None, nat_eq, ◌||◌, ◌-◌}
+use Rattle.std.specs.Prelude.{Option, Some, None, nat_eq, ◌||◌}
 use Rattle.std.specs.List.{AllByRecursion}
 use Rattle.zw_base.proofs.Each.{all-weaker}
 use Rattle.zw_base.specs.declared.profile.Profile.{Profile}

@@ -4,6 +4,7 @@ pub mod Ways
 pub mod ChipFrames
 pub mod Frames
 pub mod ChipWays
+pub mod ChipMoves
 pub mod Outer
 pub mod Events
 pub mod Schedules
