@@ -1,5 +1,5 @@
 -- The frames that the chip writes tell of each node the list that the node has, where it is told such.
-use Rattle.std.proofs.Common.{◌≡◌, ℕ, ◌-◌, List, subst}
+use Rattle.std.proofs.Common.{◌≡◌, ℕ, List, subst}
 use Rattle.std.specs.Prelude.{Option, Some, None, Ok}
 use Rattle.std.specs.List.{AllByRecursion}
 use Rattle.zw_base.proofs.Each.{all-weaker}

@@ -179,7 +179,7 @@ module _ (listing : ℕ → List ℕ) where
       let o = w.outer in
       let taken : OuterState = record o { to_chip = way.after o.to_chip (Takes count); chip = record { decoder = left; state = o.chip.state } } in
       entered_down rest w (Chip_takes count left ways)
-      (informed_down rest taken (outcome w (Chip_takes count left ways)).outer (record { events = judged_all ways; does = does_each taken (judged_all ways) may.judges; tell = judged_tell ways })
+      (informed_down rest taken (outcome w (Chip_takes count left ways)).outer (record { events = judged_all ways; does = does_each taken (judged_all ways) may.judges; asks = judged_tell ways })
       (record { items = down.items; carried = down.carried; tell = down.tell; port = down.port; frames = down.frames }))
 
   ticks_down : (rest : Rest) (w : Outside) → Down rest w.outer → Down rest (happens_outside w Chip_ticks).outer
@@ -188,7 +188,7 @@ module _ (listing : ℕ → List ℕ) where
       let o = w.outer in
       let ticked : OuterState = record o { chip = record { decoder = after_tick o.chip.decoder; state = o.chip.state } } in
       entered_down rest w Chip_ticks
-      (informed_down rest ticked (outcome w Chip_ticks).outer (record { events = Ticked ∷ []; does = does_one ticked Ticked tt; tell = (tt, tt) })
+      (informed_down rest ticked (outcome w Chip_ticks).outer (record { events = Ticked ∷ []; does = does_one ticked Ticked tt; asks = (tt, tt) })
       (record { items = down.items; carried = down.carried; tell = down.tell; port = down.port; frames = down.frames }))
 
   -- what is lost on its way, and marks
