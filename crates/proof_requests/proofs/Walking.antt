@@ -43,12 +43,12 @@ use Rattle.host_model.specs.declared.out.HostOut.{HostOut}
 use Rattle.host_model.specs.declared.out.HostOut.TheVariants.{Note, Write}
 use Rattle.proof_walk.specs.Outside.{IsHostNote}
 use Rattle.proof_walk.proofs.HostNotes.{NoteOuts, all_outs_note}
-use Rattle.proof_alone.specs.Steps.{AreTold, IsOfOthers, IsOfUnit}
+use Rattle.proof_alone.specs.Steps.{AreFrames, AreTold, IsOfOthers, IsOfUnit}
 use Rattle.proof_waking.specs.Judged.{TieFrames, frames_of}
 use Rattle.proof_waking.proofs.Apart.{acknowledged_frames}
 use Rattle.proof_waking.proofs.Parts.{IsNote}
 use Rattle.proof_requests.specs.Standing.{Standing, first_standing, standing_of, with_answer, with_copy}
-use Rattle.proof_requests.specs.Asking.{AreFrames, AsksNothing, AsksSo, Doing, IsPaused, TieAsked, TieLine, TieUnderWay, WasAsked, doing_after, doing_from, doing_of, frames_among, to_come}
+use Rattle.proof_requests.specs.Asking.{AsksNothing, AsksSo, Doing, IsPaused, TieAsked, TieLine, TieUnderWay, WasAsked, doing_after, doing_from, doing_of, frames_among, to_come}
 use Rattle.proof_requests.specs.Saying.{frame_next}
 use Rattle.proof_requests.proofs.Moving.{acknowledgement_moves, answer_moves, denial_moves, doing_ticked, frame_comes, frame_moves, line_tick_moves, request_tick_moves, submitted_moves}
 use Rattle.proof_requests.proofs.OnLine.{IsAnswer, coming, copies_now, paused_unsent, standing_ticked}

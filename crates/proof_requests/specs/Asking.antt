@@ -22,6 +22,7 @@ use Rattle.host_requests.specs.declared.under_way.Progress.{Progress}
 use Rattle.host_requests.specs.declared.under_way.Progress.TheVariants.{Submitted, Sent, Answered}
 use Rattle.host_requests.specs.declared.under_way.UnderWay.{UnderWay}
 use Rattle.host_model.specs.State.{HostState}
+use Rattle.proof_alone.specs.Steps.{AreFrames}
 use Rattle.proof_requests.specs.Standing.{Standing, counted, failing_in, first_ending, responses_in, sent_in, standing_of, wait_in}
 
 -- ---- what came and was not judged
@@ -39,14 +40,6 @@ abbrev pub frames_among : List LineUnit → ℕ
 frames_among [] = 0
 frames_among (Framed f ∷ came) = 1 + frames_among came
 frames_among (unit ∷ came) = frames_among came
-
--- nothing but frames: no answer
-abbrev pub IsFramed : LineUnit → Type 0
-IsFramed (Framed f) = Unit {0}
-IsFramed unit = ⊥
-
-abbrev pub AreFrames : List LineUnit → Type 0
-AreFrames came = AllByRecursion IsFramed came
 
 -- ---- the line
 
