@@ -31,7 +31,7 @@ abbrev pub asks_of : HostState → Side × RequestsState
 asks_of h = (h.side, h.requests)
 
 abbrev doing_by : Side × RequestsState → Doing
-doing_by p = record { turn = p.0.turn; under_way = p.1.under_way; owes = p.1.owes; id = p.1.last_id }
+doing_by p = record { turn = p.0.turn; under_way = p.1.under_way; leaving = record { owes = p.1.owes; first = p.1.first }; id = p.1.last_id }
 
 -- what of it is tied is of these
 pub same_asks : (h g : HostState) → asks_of h ≡ asks_of g → doing_of h ≡ doing_of g

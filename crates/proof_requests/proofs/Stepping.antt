@@ -33,11 +33,11 @@ use Rattle.host_node.specs.Steps.{tick_end}
 use Rattle.host_node.specs.declared.attempt.Moment.TheVariants.{BeforeItsTick}
 use Rattle.host_model.specs.State.{HostState, first_host, node_of}
 use Rattle.host_model.specs.Facts.{HostFacts}
-use Rattle.host_model.specs.May.{May as may_event}
+use Rattle.host_model.specs.May.{IsFree, May as may_event}
 use Rattle.host_model.specs.Sessions.{open_command}
 use Rattle.supervision.specs.Host.{open_session}
 use Rattle.host_model.specs.Ends.{attempt_entries}
-use Rattle.host_model.specs.After.{after, is_busy, is_full, task_purpose}
+use Rattle.host_model.specs.After.{after, is_full, task_purpose}
 use Rattle.host_model.specs.Did.{MayAll, after_all}
 use Rattle.host_model.specs.Events.{HostEvent, Accepts, Cancels, Hears, Requests_do, Line_ticks, Node_ticks, Queues_no_more, Drops_no_more, Submits_abort, Submits_front, Starts, Gives_text, Gives_segment, Begins, Begin_unkept}
 use Rattle.host_model.specs.Outs.{answer_to, answers, outs, request_entries}
@@ -334,15 +334,15 @@ sleep_does past m node event told event_is is tie =
     (subst (λ (e : HostEvent). AllByRecursion IsNote (outs m.state e)) (sym event_is) (sleep_notes m.state (is_full m.state) node)) is tie
 
 -- what is submitted, by its purpose
-free_of : (h : HostState) (event : HostEvent) → IsNext h event → is_busy (doing_of h).turn ≡ false
-free_of h event next = next.0.free_line
+free_of : (h : HostState) (event : HostEvent) → IsNext h event → IsFree h
+free_of h event next = next.0
 
-written_tie : (past told : List Entry) (m : HostMachine) (purpose : Purpose) (event : HostEvent) → doing_of (after m.state event) ≡ submitted_doing purpose m.state.requests.last_id
-    → AreFrames m.came → is_busy m.state.side.turn ≡ false → ReadsAs m.state purpose → ((e : Entry) (more : List Entry) → told ≡ e ∷ more → clock past ≡ m.clock)
+written_tie : (past told : List Entry) (m : HostMachine) (purpose : Purpose) (event : HostEvent) → doing_of (after m.state event) ≡ submitted_doing purpose m.state.requests.last_id m.state.requests.first
+    → AreFrames m.came → IsFree m.state → ReadsAs m.state purpose → ((e : Entry) (more : List Entry) → told ≡ e ∷ more → clock past ≡ m.clock)
     → AreTold (Write (Framed (frame_of purpose (next_id m.state.requests.last_id))) ∷ []) told → IsTied past m → IsTied (past ++ told) (done m event)
 written_tie past told m purpose event does frames free read time is tie =
-    same_doing (past ++ told) m.clock m.clock m.came (submitted_doing purpose m.state.requests.last_id) (doing_of (after m.state event)) does
-    (submits_tie past told m.clock m.state.requests.last_id m.came (doing_of m.state) purpose frames free read time is tie)
+    same_doing (past ++ told) m.clock m.clock m.came (submitted_doing purpose m.state.requests.last_id m.state.requests.first) (doing_of (after m.state event)) does
+    (submits_tie past told m.clock m.state.requests.last_id m.came (doing_of m.state) purpose frames free.free_line free.none_under_way read time is tie)
 
 -- which events a pump may submit
 abbrev IsSubmission : HostEvent → Type 0
@@ -368,22 +368,23 @@ submissions = record {
 
 -- the task that waited longest is under way
 front_does : (h : HostState) (queue : List Task) → h.requests.queue ≡ queue → (queue ≡ [] → ⊥) → h.requests.owes ≡ false
-    → doing_of (after h Submits_front) ≡ submitted_doing (task_purpose h.requests.queue) h.requests.last_id
+    → doing_of (after h Submits_front) ≡ submitted_doing (task_purpose h.requests.queue) h.requests.last_id h.requests.first
 front_does h [] is some paid = absurd (some refl)
 front_does h (task ∷ rest) is some paid =
-    front_by (h.requests.queue) is ∙ ap (λ (l : List Task). submitted_doing (task_purpose l) h.requests.last_id) (sym is)
+    front_by (h.requests.queue) is ∙ ap (λ (l : List Task). submitted_doing (task_purpose l) h.requests.last_id h.requests.first) (sym is)
   where
     front_by : (queue : List Task) → queue ≡ task ∷ rest
         → doing_of (record h { requests = task_begun h.requests queue; side = record { turn = Copied (frame_of (task_purpose queue) (next_id h.requests.last_id)) 1 0; collisions = h.side.collisions } })
-        ≡ submitted_doing (task_purpose (task ∷ rest)) h.requests.last_id
+        ≡ submitted_doing (task_purpose (task ∷ rest)) h.requests.last_id h.requests.first
     front_by [] are = absurd (let bad : [] ≡ task ∷ rest = are in cc)
     front_by (first ∷ others) are =
         let same : first ≡ task = cc in
-        ap (λ (t : Task). record (submitted_doing (Housekeeping t) h.requests.last_id) { owes = h.requests.owes }) same
-        ∙ ap (λ (b : Bool). record (submitted_doing (Housekeeping task) h.requests.last_id) { owes = b }) paid
+        ap (λ (t : Task). record (submitted_doing (Housekeeping t) h.requests.last_id h.requests.first) { leaving = record { owes = h.requests.owes; first = h.requests.first } }) same
+        ∙ ap (λ (b : Bool). record (submitted_doing (Housekeeping task) h.requests.last_id h.requests.first) { leaving = record { owes = b; first = h.requests.first } }) paid
 
-part_does : (h : HostState) (p : Purpose) (d : Doing) → d ≡ record (submitted_doing p h.requests.last_id) { owes = h.requests.owes } → h.requests.owes ≡ false → d ≡ submitted_doing p h.requests.last_id
-part_does h p d is paid = is ∙ ap (λ (b : Bool). record (submitted_doing p h.requests.last_id) { owes = b }) paid
+part_does : (h : HostState) (p : Purpose) (d : Doing) → d ≡ record (submitted_doing p h.requests.last_id h.requests.first) { leaving = record { owes = h.requests.owes; first = h.requests.first } } → h.requests.owes ≡ false
+    → d ≡ submitted_doing p h.requests.last_id h.requests.first
+part_does h p d is paid = is ∙ ap (λ (b : Bool). record (submitted_doing p h.requests.last_id h.requests.first) { leaving = record { owes = b; first = h.requests.first } }) paid
 
 -- what is written is read as it
 part_read : (h : HostState) (n : ℕ) (more : Bool) (payload : List ℕ) → next_of h.nodes h.served ≡ Some n → 1 ≤ length payload → ReadsAs h (Attempt n more payload)

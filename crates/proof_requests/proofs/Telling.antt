@@ -19,7 +19,7 @@ use Rattle.law_time.specs.Requests.{Answer, Asked, answers_from, asked, is_answe
 use Rattle.proof_walk.proofs.Untimed.{AreUntimed, same_time}
 use Rattle.proof_alone.specs.Steps.{ChangesFrame, DidNotCome, IsOfUnit}
 use Rattle.proof_waking.proofs.Apart.{IsWordless, acknowledged_in, count_more, said_in_vain, said_on, wordless_more}
-use Rattle.proof_requests.specs.Standing.{GoesOn, IsAside, Standing, first_standing, standing_of, with_answer, with_copy, with_entries, with_judging}
+use Rattle.proof_requests.specs.Standing.{prior_of, GoesOn, IsAside, Standing, first_standing, standing_of, with_answer, with_copy, with_entries, with_judging}
 use Rattle.proof_requests.specs.Asking.{AsksNothing, AsksSo, Doing, TieAsked, WasAsked}
 use Rattle.proof_requests.proofs.Growing.{NoFrame, asked_anew, asked_copy, asked_in_vain, asked_new, asked_on, asked_said}
 use Rattle.proof_requests.proofs.Standing.{come_at, stands_answered, stands_aside, stands_copied, stands_judged, stands_lost}
@@ -213,7 +213,7 @@ tie_copied past unit line_now now came d none old same was asks =
 -- ---- a request is written
 
 pub tie_new : (past : List Entry) (unit : List ℕ) (line_now now : ℕ) (came : List LineUnit) (d : Doing) → is_acknowledgement unit ≡ false → is_data unit ≡ true → is_new (asked past) unit ≡ true
-    → AsksSo (first_standing unit (clock (past ++ entry.Written Host unit ∷ []))) line_now now (acknowledged past) came d
+    → AsksSo (first_standing unit (clock (past ++ entry.Written Host unit ∷ [])) (prior_of past)) line_now now (acknowledged past) came d
     → TieAsked (past ++ entry.Written Host unit ∷ []) line_now now came d
 tie_new past unit line_now now came d none framed new asks =
     let is = asked_new past unit new in
