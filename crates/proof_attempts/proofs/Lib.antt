@@ -1,8 +1,10 @@
 pub mod Lasting
 pub mod Ahead
 mod Nodes
+mod Releasing
 mod Counting
 pub mod Ticking
+mod Telling
 mod Holding
 mod Working
 mod Opening
