@@ -212,7 +212,7 @@ quiet_held n past (e ∷ told) all quiet =
 record At (past : List Entry) (h : HostState) : Type 0 where
   tells : TellsAwake h
   tables : Facts past h
-  hears : (n : ℕ) → 1 ≤ n → n ≤ 232 → listens n past ≡ (node_of h n).listens
+  hears : (n : ℕ) → n ≤ 232 → listens n past ≡ (node_of h n).listens
 
 releases_told : (past told : List Entry) (h : HostState) (n : ℕ) → Facts past h → listens n past ≡ (node_of h n).listens → AllByRecursion IsSteady told ⊎ AllByRecursion IsAnswered told
     → Releases n (releases_of (node_of h n)) past told
@@ -228,7 +228,7 @@ event_held n past told h event at known from to are now is =
     let releases : ℕ → Bool = releases_of (node_of h n) in
     (event_goes n h event (omega (arith, places, to))).hold known.tells ∙ ap (λ (v : Waking). v.hold) (sym (told_notes n releases (outs h event) told are w))
     ∙ fold_held n releases past told w at now (told_wordless h event told are) (told_untimed h event told are)
-    (releases_told past told h n known.tables (known.hears n from to) (steady_or_answered h event told are)) is
+    (releases_told past told h n known.tables (known.hears n to) (steady_or_answered h event told are)) is
 
 -- outside the tick of a node its event takes nothing off
 same_before : (event : HostEvent) (n : ℕ) (w : Waking) → IsBetweenTicks event → waking_before event n w ≡ w

@@ -9,3 +9,5 @@ mod Holding
 mod Working
 mod Opening
 mod SeriesSteps
+mod Finishing
+mod KeptAwake

@@ -92,7 +92,7 @@ KnowsWork = both_know KnowsTicks (KnowsSince WorksInOrder)
 
 -- each node listens by the transcript as it does in the host
 abbrev pub KnowsListening : Knowledge
-KnowsListening here past m = (n : ℕ) → 1 ≤ n → n ≤ 232 → listens n past ≡ (node_of m.state n).listens
+KnowsListening here past m = (n : ℕ) → n ≤ 232 → listens n past ≡ (node_of m.state n).listens
 
 abbrev pub KnowsHearing : Knowledge
 KnowsHearing = both_know KnowsWork KnowsListening
