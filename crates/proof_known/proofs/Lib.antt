@@ -7,4 +7,4 @@ mod Telling
 mod Showing
 mod Recording
 mod Answering
-mod ForHost
+pub mod ForHost

@@ -49,15 +49,15 @@ unfoldable reading : ⊤
 unfolding next ends last digits_in number_in between_in words line_words line_word_in line_by
 reading = tt
 
-chip_is : line_of (Said chip_word) ≡ []
+pub chip_is : line_of (Said chip_word) ≡ []
 unfolding reading
 chip_is = refl
 
-refused_is : line_of (Said refused_word) ≡ []
+pub refused_is : line_of (Said refused_word) ≡ []
 unfolding reading
 refused_is = refl
 
-tick_is : line_of (Said tick_words) ≡ lines.Tick 1 ∷ []
+pub tick_is : line_of (Said tick_words) ≡ lines.Tick 1 ∷ []
 unfolding reading
 tick_is = refl
 

@@ -22,6 +22,7 @@ use Rattle.run_replay.specs.Machine.{entries_of, timed}
 use Rattle.proof_alone.specs.State.{first_alone, host_machine}
 use Rattle.proof_alone.specs.Phases.{Resting}
 use Rattle.proof_alone.specs.Runs.{Run}
+use Rattle.proof_known.specs.Known.{AreSaidToHost}
 use Rattle.proof_replay.specs.Heard.{came_of}
 use Rattle.proof_replay.specs.Laws.{HostsKeepLaws}
 
@@ -119,7 +120,7 @@ Holds number None held = (number ≡ 0) × (held ≡ Some [])
 Holds number (Some texts) held = held ≡ Some texts
 
 -- Hosts with these keys have heard this, in earlier runs, over a keeper that holds so many records now and tells these; so many ticks have passed. The last
--- one was at rest.
+-- one was at rest, and no line was for others.
 pub record HaveHeard (keys : Keys) (number : ℕ) (told : Option (List (List ℕ))) (past : List Entry) : Type 0 where
   pub held : Option (List (List ℕ))
   pub state : HostState
@@ -127,11 +128,12 @@ pub record HaveHeard (keys : Keys) (number : ℕ) (told : Option (List (List ℕ
   pub awaits : Bool
   pub run : Run (first_alone keys (Some [])) Resting past (host_machine keys held state [] clock 0 awaits)
   pub holds : Holds number told held
+  pub said : AreSaidToHost past
 
 -- From its start a host did these steps and heard this, and over what hosts have heard by now these laws hold. Where it came to rest, and its keeper tells
 -- its records, hosts have heard all that when the next one starts.
 pub record HearsMore (keys : Keys) (past : List Entry) (clock : ℕ) (whole : Bool) (steps : List Step) (old new : Place) : Type 0 where
   pub heard : List Entry
   pub hears : HearsRun clock steps old new heard
-  pub keeps : HostsKeepLaws (past ++ Said restart_word ∷ heard)
+  pub keeps : HostsKeepLaws whole (past ++ Said restart_word ∷ heard) new.shelf.records
   pub next : whole ≡ true → (many : ℕ) → IsSome new.shelf.records → HaveHeard keys many new.shelf.records (past ++ Said restart_word ∷ heard)
