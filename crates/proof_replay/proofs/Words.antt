@@ -32,8 +32,8 @@ use Rattle.run_replay.specs.Machine as replay
 use Rattle.proof_known.specs.Known.{AreSaidToHost, IsSaidToHost}
 use Rattle.proof_known.proofs.Events.{answers_are}
 use Rattle.proof_replay.specs.Heard.{AreReplayed, Replayed, came_of, heard_all, heard_at, heard_of, plain_of}
-use Rattle.proof_replay.specs.HostSteps.{AreOrderly, HearsPart, HearsRun, HearsSteps, IsPumpedStep, IsRunSteps, WithPump, chip_word, clock_after, refused_word, tick_words}
-use Rattle.proof_replay.proofs.Serving.{chip_is, refused_is, tick_is}
+use Rattle.proof_replay.specs.HostSteps.{AreOrderly, HearsPart, HearsRun, HearsSteps, IsPumpedStep, IsRunSteps, WithPump, chip_word, clock_after, tick_words}
+use Rattle.proof_replay.proofs.Serving.{chip_is, tick_is}
 
 pub never : false ≡ true → ⊥
 never bad = cc
@@ -125,8 +125,8 @@ asked_said line h rest part served said (words, read, is) =
     (ap is_of_others read ∙ served_for_host line served, all-append IsSaidToHost (flat_map (answers h) (asked_by h line)) rest (all_answers_said h (asked_by h line)) said)
 
 part_said : (clock : ℕ) (one : Step) (old new : Place) (both : WithPump one old new) (part : List Entry) → IsPumpedStep one → HearsPart clock one old new both part → AreSaidToHost part
-part_said clock (Asks line Refused) old new both part pumped hears =
-    subst AreSaidToHost (sym hears) (ap is_of_others refused_is, pumped_said both.mid new both.rest both.pumped)
+part_said clock (Asks line Refused) old new both part pumped (words, read, refusal, refused, is) =
+    subst AreSaidToHost (sym is) (ap is_of_others read ∙ served_for_host line pumped.2, (refl, pumped_said both.mid new both.rest both.pumped))
 part_said clock (Asks line Taken) old new both part pumped hears =
     asked_said line old.host.state (entries_of both.rest) part pumped.2 (pumped_said both.mid new both.rest both.pumped) hears
 part_said clock (Asks line (Command number)) old new both part pumped hears =

@@ -1,6 +1,6 @@
--- What the host of `host` hears at its steps (this project's own rule). A line is its words, and one that was refused is words that are no line. Bytes that
--- were read are the word `chip`, which is no line, and the units that came whole in them; a tick is a line `tick 1`; and a start from records is a line
--- `restart` after what hosts heard before.
+-- What the host of `host` hears at its steps (this project's own rule). A line is its words, and one that was refused has its refusal. Bytes that were read are
+-- the word `chip`, which is no line, and the units that came whole in them; a tick is a line `tick 1`; and a start from records is a line `restart` after what
+-- hosts heard before.
 use Rattle.std.specs.Prelude.{◌≡◌, ℕ, ◌+◌, Bool, true, false, List, [], ◌∷◌, ◌++◌, codes, Option, Some, None, IsSome}
 use Rattle.std.specs.List.{flat_map}
 use Rattle.s0_crypto.specs.declared.key_pair.Keys.{Keys}
@@ -9,6 +9,8 @@ use Rattle.zw_text.specs.Transcript.{line_of}
 use Rattle.zw_text.specs.declared.line.Line.{Line}
 use Rattle.zw_text.specs.declared.entry.Entry.{Entry}
 use Rattle.zw_text.specs.declared.entry.Entry.TheVariants.{Said}
+use Rattle.zw_text.specs.declared.entry.Entry.TheVariants as entry
+use Rattle.zw_text.specs.declared.entry.Refusal.{Refusal}
 use Rattle.host_model.specs.State.{HostState}
 use Rattle.host_model.specs.Outs.{answers}
 use Rattle.host_model.specs.declared.out.HostOut.{HostOut}
@@ -18,7 +20,8 @@ use Rattle.port_run.specs.declared.asking.Answer.TheVariants.{Refused}
 use Rattle.port_run.specs.declared.line.PortLine.{PortLine}
 use Rattle.port_run.specs.declared.line.PortLine.TheVariants.{Plain, Wait}
 use Rattle.proof_serial.specs.Units.{good_units}
-use Rattle.run_replay.specs.Machine.{entries_of, timed}
+use Rattle.world_model.specs.Refusals.{IsRefused}
+use Rattle.run_replay.specs.Machine.{Lone, alone, entries_of, timed}
 use Rattle.proof_alone.specs.State.{first_alone, host_machine}
 use Rattle.proof_alone.specs.Phases.{Resting}
 use Rattle.proof_alone.specs.Runs.{Run}
@@ -30,9 +33,6 @@ use Rattle.proof_replay.specs.Laws.{HostsKeepLaws}
 
 abbrev pub chip_word : List ℕ
 chip_word = codes "chip"
-
-abbrev pub refused_word : List ℕ
-refused_word = codes "refused"
 
 abbrev pub tick_words : List ℕ
 tick_words = codes "tick 1"
@@ -59,9 +59,15 @@ pub record WithPump (step : Step) (old new : Place) : Type 0 where
   pub ran : Ran step old mid first
   pub pumped : Ran Pumps mid new rest
 
--- what is heard of them, after so many ticks
+-- the host at a place, after so many ticks
+abbrev pub lone_at : Place → ℕ → Lone
+lone_at place clock = record { host = place.host; clock = clock; records = place.shelf.records }
+
+-- what is heard of them
 abbrev pub HearsPart : ℕ → (step : Step) (old new : Place) → WithPump step old new → List Entry → Type 0
-HearsPart clock (Asks line Refused) old new both part = part ≡ Said refused_word ∷ entries_of both.rest
+HearsPart clock (Asks line Refused) old new both part =
+    (words : List ℕ) × (line_of (Said words) ≡ line ∷ []) × (refusal : Refusal) × IsRefused (alone (lone_at old clock)) line refusal
+    × (part ≡ Said words ∷ (entry.Refused refusal ∷ entries_of both.rest))
 HearsPart clock (Asks line answer) old new both part =
     (words : List ℕ) × (line_of (Said words) ≡ line ∷ []) × (part ≡ Said words ∷ (flat_map (answers old.host.state) (asked_by old.host.state line) ++ entries_of both.rest))
 HearsPart clock (Takes bytes) old new both part =
