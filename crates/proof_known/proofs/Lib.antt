@@ -8,3 +8,5 @@ mod Showing
 mod Recording
 mod Answering
 pub mod ForHost
+mod Followers
+mod Noting

@@ -1,6 +1,6 @@
 -- What the host notes of messages was told (Supervision Command Class, and the reports of the Application Command Classes; that what is sealed may tell anything is this project's own
 -- rule): each such note stands where a payload of its node was judged that tells it.
-use Rattle.std.specs.Prelude.{ℕ, ◌%◌, ◌==◌, ◌&&◌, bytes_eq, Bool, true, false, List, [], ◌∷◌, length}
+use Rattle.std.specs.Prelude.{ℕ, ◌%◌, ◌==◌, ◌&&◌, bytes_eq, Bool, true, false, List, length}
 use Rattle.std.specs.List.{list_any}
 use Rattle.zw_base.specs.PropertyOrder.{same_property}
 use Rattle.zw_base.specs.declared.property.Property.{Property}

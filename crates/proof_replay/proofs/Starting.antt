@@ -91,6 +91,7 @@ kept_as_told whole heard told held agrees laws = record {
     values = laws.said.values;
     records_kept = λ is. told_kept told held heard (agrees is) (laws.said.records_kept is);
   };
+  notes = laws.notes;
   wakes = laws.wakes;
   ticks = laws.ticks;
 }
