@@ -97,7 +97,7 @@ kept_as_told whole heard told held agrees laws = record {
 }
 
 module _ (laws : (keys : Keys) (whole : Bool) (here : Phase) (heard : List Entry) (m : HostMachine) → Run (first_alone keys (Some [])) here heard m → (whole ≡ true → here ≡ Resting)
-      → AreForHost heard → HostsKeepLaws whole heard m.records)
+    → AreForHost heard → HostsKeepLaws whole heard m.records)
     (keys : Keys) (number : ℕ) (told : Option (List (List ℕ))) (past : List Entry) (before : HaveHeard keys number told past) (place : Place) (opens : Opens keys number told place.host)
     (adds : OptAdds told place.shelf.records []) where
   abbrev restarted : List Entry

@@ -20,7 +20,6 @@ use Rattle.host_model.specs.declared.out.HostOut.{HostOut}
 use Rattle.host_model.specs.declared.out.HostOut.TheVariants.{Note, Write}
 use Rattle.port_run.specs.Lines.{is_served}
 use Rattle.port_run.specs.Steps.{Place, Step, Asks, Takes, Rests, Ticks, Pumps, Ran, asked_by}
-use Rattle.port_run.specs.declared.asking.Answer.{Answer}
 use Rattle.port_run.specs.declared.asking.Answer.TheVariants.{Taken, Command, Refused}
 use Rattle.proof_serial.specs.Units.{good_units}
 use Rattle.proof_device.proofs.HostOuts.{OutIs}
@@ -32,7 +31,7 @@ use Rattle.run_replay.specs.Machine as replay
 use Rattle.proof_known.specs.Known.{AreSaidToHost, IsSaidToHost}
 use Rattle.proof_known.proofs.Events.{answers_are}
 use Rattle.proof_replay.specs.Heard.{AreReplayed, Replayed, came_of, heard_all, heard_at, heard_of, plain_of}
-use Rattle.proof_replay.specs.HostSteps.{AreOrderly, HearsPart, HearsRun, HearsSteps, IsPumpedStep, IsRunSteps, WithPump, chip_word, clock_after, tick_words}
+use Rattle.proof_replay.specs.HostSteps.{AreOrderly, HearsPart, HearsRun, HearsSteps, IsPumpedStep, IsRunSteps, WithPump}
 use Rattle.proof_replay.proofs.Serving.{chip_is, tick_is}
 
 pub never : false ≡ true → ⊥
