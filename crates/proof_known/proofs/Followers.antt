@@ -1,9 +1,9 @@
 -- What follows a frame of the chip is of the node whose payload it brings, and is told in it: an end of a session, an old report, a value, and what is not read.
 use Rattle.std.proofs.Common.{◌≡◌, ℕ, ◌==◌, ◌&&◌, ◌||◌, Bool, true, false, if◌then◌else◌, inl, inr, List, [], ◌∷◌, ◌++◌, refl, sym, ap, ap₂, ◌∙◌, subst}
-use Rattle.std.specs.Prelude.{Option, Some, None, Result, Ok, Err, nat_lt, bytes_eq}
+use Rattle.std.specs.Prelude.{not, ◌⊎◌, Option, Some, None, Result, Ok, Err, nat_lt, bytes_eq}
 use Rattle.std.specs.List.{AllByRecursion, flat_map, list_any}
 use Rattle.std.proofs.lemmas.Bool.{cases_Bool, eq-eqb, or_left, or_right}
-use Rattle.zw_base.proofs.Each.{all-append, all-weaker}
+use Rattle.zw_base.proofs.Each.{all-append, all-left, all-right, all-weaker}
 use Rattle.zw_base.specs.PropertyOrder.{same_property}
 use Rattle.zw_base.specs.declared.property.Setting.{Setting}
 use Rattle.serial_frame.specs.Frame.{FrameParts, checksum, framed, kind_code}
@@ -48,6 +48,7 @@ use Rattle.host_model.specs.Outs.{ended_of}
 use Rattle.host_model.specs.Taking.{AreTaken, FinalEvents, FrameEvents, InterviewEvents, IsOpened, IsTaken, NonceGetEvents, NonceReportEvents, NoticeEvents, PayloadEvents, ReportEvents, ResponseEvents, SealedEvents, is_secure, resent, value_event, value_events}
 use Rattle.proof_alone.proofs.Always.{either, none, one}
 use Rattle.proof_walk.proofs.Bodies.{body_is}
+use Rattle.proof_spoken.proofs.Classes.{IsNoInterview, LeavesRecords, event_kept}
 use Rattle.proof_known.specs.Noted.{ends_so, tells_end, tells_property, tells_report, tells_value}
 
 -- ---- what a payload of a node tells
@@ -55,15 +56,25 @@ use Rattle.proof_known.specs.Noted.{ends_so, tells_end, tells_property, tells_re
 abbrev Of : ℕ → ℕ → Bool → Type 0
 Of n m tells = (m ≡ n) × (tells ≡ true)
 
-module _ (n : ℕ) (payload : List ℕ) (heard : Heard) where
+-- by a node with these classes
+abbrev pub counts : Option (List ℕ) → (Told → Bool) → Heard → Bool
+counts classes such (Messages messages) = not (is_secure classes) && list_any such messages
+counts classes such heard = may_tell such heard
+
+module _ (n : ℕ) (payload : List ℕ) (heard : Heard) (classes : Option (List ℕ)) where
   abbrev pub IsToldIn : HostEvent → Type 0
-  IsToldIn (Finishes m session id command status wake) = Of n m (may_tell (tells_end id (ended_of status)) heard)
-  IsToldIn (Reports_old m id) = Of n m (may_tell (tells_report id) heard)
+  IsToldIn (Finishes m session id command status wake) = Of n m (counts classes (tells_end id (ended_of status)) heard)
+  IsToldIn (Reports_old m id) = Of n m (counts classes (tells_report id) heard)
   IsToldIn (Hears_value m setting) = Of n m (may_tell (tells_value setting) heard)
   IsToldIn (Has_no_room m property) = Of n m (may_tell (tells_property property) heard)
   IsToldIn (Unreads m text) = (m ≡ n) × (text ≡ payload)
   IsToldIn (Spends_unread m text) = (m ≡ n) × (text ≡ payload)
+  IsToldIn (Interviews m listens listed update) = ⊥
   IsToldIn event = Unit {0}
+
+  told_quiet : (event : HostEvent) → IsToldIn event → IsNoInterview event
+  told_quiet (Interviews m listens listed update) told = absurd told
+  told_quiet event told = tt
 
   abbrev All : List HostEvent → Type 0
   All events = AllByRecursion IsToldIn events
@@ -74,6 +85,10 @@ module _ (n : ℕ) (payload : List ℕ) (heard : Heard) where
 
   abbrev TellsOne : Told → Type 0
   TellsOne message = (such : Told → Bool) → such message ≡ true → may_tell such heard ≡ true
+
+  -- and counts, openly of a node that is not secure, or sealed
+  abbrev CountsOne : Told → Type 0
+  CountsOne message = (such : Told → Bool) → such message ≡ true → counts classes such heard ≡ true
 
   -- ---- reports
 
@@ -93,24 +108,24 @@ module _ (n : ℕ) (payload : List ℕ) (heard : Heard) where
   ends_told id status wake by is = ap₂ (λ (a b : Bool). a && b) (eq-eqb id id refl) (status_ends status by is)
 
   final_all : (session id : ℕ) (status : ReportStatus) (wake : Bool) (command : Option ℕ) (by : Option FinalStatus) (events : List HostEvent) → status_of (status_byte status) ≡ by
-      → TellsOne (Report id status wake) → FinalEvents n session id command by wake events → All events
+      → CountsOne (Report id status wake) → FinalEvents n session id command by wake events → All events
   final_all session id status wake (Some command) (Some by) events same tells is =
       either IsToldIn (Finishes n session id command by wake) (Is_unkept n) events (refl, tells (tells_end id (ended_of by)) (ends_told id status wake by same)) tt is
   final_all session id status wake (Some command) None events same tells is = none IsToldIn events is
   final_all session id status wake None (Some by) events same tells is = none IsToldIn events is
   final_all session id status wake None None events same tells is = none IsToldIn events is
 
-  reported : (h : HostState) (id : ℕ) (status : ReportStatus) (wake : Bool) (it : TheTold) (events : List HostEvent) → TellsOne (Report id status wake)
+  reported : (h : HostState) (id : ℕ) (status : ReportStatus) (wake : Bool) (it : TheTold) (events : List HostEvent) → CountsOne (Report id status wake)
       → ReportEvents h n id status wake it events → All events
   reported h id status wake told.Old events tells is = one IsToldIn (Reports_old n id) events (refl, tells (tells_report id) (eq-eqb id id refl)) is
   reported h id status wake told.Working events tells is = one IsToldIn (Works n id) events tt is
   reported h id status wake (told.Final session) events tells is = final_all session id status wake _ (status_of (status_byte status)) events refl tells is
 
-  plain : (h : HostState) (id : ℕ) (status : ReportStatus) (wake : Bool) (events : List HostEvent) → TellsOne (Report id status wake) → IsTaken h n payload false (Report id status wake) events
-      → All events
-  plain h id status wake events tells is = elim (cases_Bool (is_secure (node_of h n).classes)) [
+  plain : (h : HostState) (id : ℕ) (status : ReportStatus) (wake : Bool) (events : List HostEvent) → (node_of h n).classes ≡ classes → (is_secure classes ≡ false → CountsOne (Report id status wake))
+      → IsTaken h n payload false (Report id status wake) events → All events
+  plain h id status wake events same counts_so is = elim (cases_Bool (is_secure (node_of h n).classes)) [
     | inl secure ↦ one IsToldIn (Unreads n payload) events (refl, refl) (rw secure at is)
-    | inr not_secure ↦ reported h id status wake (told_of (node_of h n).book id (status_byte status)) events tells (rw not_secure at is)
+    | inr not_secure ↦ reported h id status wake (told_of (node_of h n).book id (status_byte status)) events (counts_so (sym (ap is_secure same) ∙ not_secure)) (rw not_secure at is)
   ]
 
   -- ---- nonces and segments
@@ -148,60 +163,89 @@ module _ (n : ℕ) (payload : List ℕ) (heard : Heard) where
 
   -- ---- messages
 
-  taken : (h : HostState) (sealed : Bool) (message : Told) (events : List HostEvent) → TellsOne message → IsTaken h n payload sealed message events → All events
-  taken h true (Report id status wake) events tells is = reported h id status wake _ events tells is
-  taken h false (Report id status wake) events tells is = plain h id status wake events tells is
-  taken h sealed NonceGet events tells is = asked _ events is
-  taken h sealed (NonceReport nonce) events tells is = given h nonce _ events is
-  taken h sealed Notification events tells is = one IsToldIn (Notifies n) events tt is
-  taken h sealed (SegmentRequest id offset) events tells is = resends _ events is
-  taken h sealed (Values settings) events tells is = subst All (sym is) (values h settings settings tells (λ such among. among))
+  taken : (h : HostState) (sealed : Bool) (message : Told) (events : List HostEvent) → (node_of h n).classes ≡ classes → TellsOne message
+      → ((sealed ≡ true) ⊎ (is_secure classes ≡ false) → CountsOne message) → IsTaken h n payload sealed message events → All events
+  taken h true (Report id status wake) events same tells counts_so is = reported h id status wake _ events (counts_so (inl refl)) is
+  taken h false (Report id status wake) events same tells counts_so is = plain h id status wake events same (λ unsealed. counts_so (inr unsealed)) is
+  taken h sealed NonceGet events same tells counts_so is = asked _ events is
+  taken h sealed (NonceReport nonce) events same tells counts_so is = given h nonce _ events is
+  taken h sealed Notification events same tells counts_so is = one IsToldIn (Notifies n) events tt is
+  taken h sealed (SegmentRequest id offset) events same tells counts_so is = resends _ events is
+  taken h sealed (Values settings) events same tells counts_so is = subst All (sym is) (values h settings settings tells (λ such among. among))
 
-  all_taken : (h : HostState) (sealed : Bool) (messages : List Told) (events : List HostEvent) → Tells messages → AreTaken h n payload sealed messages events → All events
-  all_taken h sealed [] events tells is = none IsToldIn events is
-  all_taken h sealed (message ∷ more) events tells (first, rest, are_so, first_is, others) =
-      subst All (sym are_so)
-      (all-append IsToldIn first rest (taken h sealed message first (λ such is. tells such (or_left (such message) (list_any such more) is)) first_is)
-      (all_taken (after_all h first) sealed more rest (λ such is. tells such (or_right (such message) (list_any such more) is)) others))
+  -- what one of these messages tells counts
+  abbrev CountSo : Bool → List Told → Type 0
+  CountSo sealed messages = (such : Told → Bool) → list_any such messages ≡ true → (sealed ≡ true) ⊎ (is_secure classes ≡ false) → counts classes such heard ≡ true
 
-  -- ---- what is sealed may tell anything
+  module _ (law : LeavesRecords) where
+    all_kept : (h : HostState) (events : List HostEvent) → All events → (node_of (after_all h events) n).classes ≡ (node_of h n).classes
+    all_kept h [] all = refl
+    all_kept h (event ∷ events) all = all_kept (after h event) events all.1 ∙ event_kept law h event (told_quiet event all.0) n
 
-  abbrev TellsAll : Type 0
-  TellsAll = (such : Told → Bool) → may_tell such heard ≡ true
+    all_taken : (h : HostState) (sealed : Bool) (messages : List Told) (events : List HostEvent) → (node_of h n).classes ≡ classes → Tells messages → CountSo sealed messages
+        → AreTaken h n payload sealed messages events → All events
+    all_taken h sealed [] events same tells count is = none IsToldIn events is
+    all_taken h sealed (message ∷ more) events same tells count (first, rest, are_so, first_is, others) =
+        let here : All first =
+        taken h sealed message first same (λ such is. tells such (or_left (such message) (list_any such more) is)) (λ may such is. count such (or_left (such message) (list_any such more) is) may) first_is in
+        subst All (sym are_so)
+        (all-append IsToldIn first rest here
+        (all_taken (after_all h first) sealed more rest (all_kept h first here ∙ same) (λ such is. tells such (or_right (such message) (list_any such more) is))
+        (λ such is may. count such (or_right (such message) (list_any such more) is) may) others))
 
-  opened : (h : HostState) (nonce : List ℕ) (events : List HostEvent) → TellsAll → IsOpened h n nonce payload events → All events
-  opened h nonce events tells (inl is) = one IsToldIn (Is_unkept n) events tt is
-  opened h nonce events tells (inr (inl vain)) = one IsToldIn (Spends_unread n payload) events (refl, refl) vain.1
-  opened h nonce events tells (inr (inr opens)) =
-      let (messages, rest, to, are_so, taken_so) = opens in subst All (sym are_so) (tt, all_taken (after h (Spends n)) true messages rest (λ such is. tells such) taken_so)
+    -- ---- what is sealed may tell anything
 
-  sealed_all : (h : HostState) (nonce : Option (List ℕ)) (events : List HostEvent) → TellsAll → SealedEvents h n payload nonce events → All events
-  sealed_all h None events tells is = one IsToldIn (Unreads n payload) events (refl, refl) is
-  sealed_all h (Some nonce) events tells is = opened h nonce events tells is
+    abbrev TellsAll : Type 0
+    TellsAll = (such : Told → Bool) → (may_tell such heard ≡ true) × (counts classes such heard ≡ true)
 
-payload_all : (n : ℕ) (payload : List ℕ) (heard : Heard) (h : HostState) (events : List HostEvent) → PayloadEvents h n payload heard events
-    → AllByRecursion (IsToldIn n payload heard) events
-payload_all n payload (Messages messages) h events is = all_taken n payload (Messages messages) h false messages events (λ such among. among) is
-payload_all n payload Sealed h events is = sealed_all n payload Sealed h _ events (λ such. refl) is
-payload_all n payload Unread h events is = one (IsToldIn n payload Unread) (Unreads n payload) events (refl, refl) is
+    opened : (h : HostState) (nonce : List ℕ) (events : List HostEvent) → (node_of h n).classes ≡ classes → TellsAll → IsOpened h n nonce payload events → All events
+    opened h nonce events same tells (inl is) = one IsToldIn (Is_unkept n) events tt is
+    opened h nonce events same tells (inr (inl vain)) = one IsToldIn (Spends_unread n payload) events (refl, refl) vain.1
+    opened h nonce events same tells (inr (inr opens)) =
+        let (messages, rest, to, are_so, taken_so) = opens in
+        subst All (sym are_so)
+        (tt, all_taken (after h (Spends n)) true messages rest (event_kept law h (Spends n) tt n ∙ same) (λ such is. (tells such).0) (λ such is may. (tells such).1) taken_so)
+
+    sealed_all : (h : HostState) (nonce : Option (List ℕ)) (events : List HostEvent) → (node_of h n).classes ≡ classes → TellsAll → SealedEvents h n payload nonce events → All events
+    sealed_all h None events same tells is = one IsToldIn (Unreads n payload) events (refl, refl) is
+    sealed_all h (Some nonce) events same tells is = opened h nonce events same tells is
+
+openly : (secure told sealed : Bool) → sealed ≡ false → told ≡ true → (sealed ≡ true) ⊎ (secure ≡ false) → (not secure && told) ≡ true
+openly true told true is tells may = cc
+openly true told false is tells (inl bad) = cc
+openly true told false is tells (inr bad) = cc
+openly false told sealed is tells may = tells
+
+payload_all : LeavesRecords → (n : ℕ) (payload : List ℕ) (heard : Heard) (h : HostState) (events : List HostEvent) → PayloadEvents h n payload heard events
+    → AllByRecursion (IsToldIn n payload heard (node_of h n).classes) events
+payload_all law n payload (Messages messages) h events is =
+    let classes = (node_of h n).classes in
+    all_taken n payload (Messages messages) classes law h false messages events refl (λ such among. among)
+    (λ such among may. openly (is_secure classes) (list_any such messages) false refl among may) is
+payload_all law n payload Sealed h events is = sealed_all n payload Sealed (node_of h n).classes law h _ events refl (λ such. (refl, refl)) is
+payload_all law n payload Unread h events is = one (IsToldIn n payload Unread (node_of h n).classes) (Unreads n payload) events (refl, refl) is
 
 -- ---- frames
 
-abbrev tells_of : (Told → Bool) → ℕ → Carried → Bool
-tells_of such n carried = (carried.node == n) && may_tell such (heard_at carried.payload)
+-- the classes that are known of each node
+abbrev Known : Type 0
+Known = ℕ → Option (List ℕ)
+
+abbrev tells_of : Known → (Told → Bool) → ℕ → Carried → Bool
+tells_of known such n carried = (carried.node == n) && counts (known n) such (heard_at carried.payload)
 
 abbrev may_be : (Told → Bool) → List (List ℕ) → Bool
 may_be such payloads = list_any (λ payload. may_tell such (heard_at payload)) payloads
 
 -- by what the frame brings of a node
-abbrev pub FollowsBy : List ℕ → HostEvent → Type 0
-FollowsBy unit (Finishes n session id command status wake) = list_any (tells_of (tells_end id (ended_of status)) n) (bringing_in unit) ≡ true
-FollowsBy unit (Reports_old n id) = may_be (tells_report id) (flat_map (from_node n) (bringing_in unit)) ≡ true
-FollowsBy unit (Hears_value n setting) = may_be (tells_value setting) (flat_map (from_node n) (bringing_in unit)) ≡ true
-FollowsBy unit (Has_no_room n property) = may_be (tells_property property) (flat_map (from_node n) (bringing_in unit)) ≡ true
-FollowsBy unit (Unreads n payload) = list_any (λ text. bytes_eq text payload) (flat_map (from_node n) (bringing_in unit)) ≡ true
-FollowsBy unit (Spends_unread n payload) = list_any (λ text. bytes_eq text payload) (flat_map (from_node n) (bringing_in unit)) ≡ true
-FollowsBy unit event = Unit {0}
+abbrev pub FollowsBy : Known → List ℕ → HostEvent → Type 0
+FollowsBy known unit (Finishes n session id command status wake) = list_any (tells_of known (tells_end id (ended_of status)) n) (bringing_in unit) ≡ true
+FollowsBy known unit (Reports_old n id) = list_any (λ payload. counts (known n) (tells_report id) (heard_at payload)) (flat_map (from_node n) (bringing_in unit)) ≡ true
+FollowsBy known unit (Hears_value n setting) = may_be (tells_value setting) (flat_map (from_node n) (bringing_in unit)) ≡ true
+FollowsBy known unit (Has_no_room n property) = may_be (tells_property property) (flat_map (from_node n) (bringing_in unit)) ≡ true
+FollowsBy known unit (Unreads n payload) = list_any (λ text. bytes_eq text payload) (flat_map (from_node n) (bringing_in unit)) ≡ true
+FollowsBy known unit (Spends_unread n payload) = list_any (λ text. bytes_eq text payload) (flat_map (from_node n) (bringing_in unit)) ≡ true
+FollowsBy known unit event = Unit {0}
 
 abbrev brought_of : Result Notice BodyFault → List Carried
 brought_of read = flat_map bringing_of (read_well read)
@@ -209,7 +253,7 @@ brought_of read = flat_map bringing_of (read_well read)
 text_brings : (func : ℕ) (body : List ℕ) (sum : ℕ) → bringing_in (framed (0 ∷ func ∷ body) sum) ≡ brought_of (notice_of func body)
 text_brings func body sum = ap (λ (b : List ℕ). brought_of (notice_of func b)) (body_is body func sum)
 
-module _ (unit : List ℕ) (n : ℕ) (payload : List ℕ) (brings : bringing_in unit ≡ record { node = n; payload = payload } ∷ []) where
+module _ (known : Known) (unit : List ℕ) (n : ℕ) (payload : List ℕ) (brings : bringing_in unit ≡ record { node = n; payload = payload } ∷ []) where
   payloads_are : (m : ℕ) → m ≡ n → flat_map (from_node m) (bringing_in unit) ≡ payload ∷ []
   payloads_are m same =
       ap (λ (l : List Carried). flat_map (from_node m) l) brings ∙ ap (λ (b : Bool). (if b then payload ∷ [] else []) ++ []) (eq-eqb n m (sym same))
@@ -217,9 +261,16 @@ module _ (unit : List ℕ) (n : ℕ) (payload : List ℕ) (brings : bringing_in 
   told_by : (such : Told → Bool) (m : ℕ) → Of n m (may_tell such (heard_at payload)) → may_be such (flat_map (from_node m) (bringing_in unit)) ≡ true
   told_by such m (same, tells) = ap (may_be such) (payloads_are m same) ∙ ap (λ (b : Bool). b || false) tells
 
-  ended_by : (such : Told → Bool) (m : ℕ) → Of n m (may_tell such (heard_at payload)) → list_any (tells_of such m) (bringing_in unit) ≡ true
+  ended_by : (such : Told → Bool) (m : ℕ) → Of n m (counts (known n) such (heard_at payload)) → list_any (tells_of known such m) (bringing_in unit) ≡ true
   ended_by such m (same, tells) =
-      ap (λ (l : List Carried). list_any (tells_of such m) l) brings ∙ ap₂ (λ (a b : Bool). (a && b) || false) (eq-eqb n m (sym same)) tells
+      ap (λ (l : List Carried). list_any (tells_of known such m) l) brings
+      ∙ ap₂ (λ (a b : Bool). (a && b) || false) (eq-eqb n m (sym same)) (subst (λ (k : ℕ). counts (known k) such (heard_at payload) ≡ true) (sym same) tells)
+
+  counted_by : (such : Told → Bool) (m : ℕ) → Of n m (counts (known n) such (heard_at payload))
+      → list_any (λ text. counts (known m) such (heard_at text)) (flat_map (from_node m) (bringing_in unit)) ≡ true
+  counted_by such m (same, tells) =
+      ap (λ (l : List (List ℕ)). list_any (λ text. counts (known m) such (heard_at text)) l) (payloads_are m same)
+      ∙ ap (λ (b : Bool). b || false) (subst (λ (k : ℕ). counts (known k) such (heard_at payload) ≡ true) (sym same) tells)
 
   text_is : (m : ℕ) (text : List ℕ) → (m ≡ n) × (text ≡ payload) → list_any (λ one. bytes_eq one text) (flat_map (from_node m) (bringing_in unit)) ≡ true
   text_is m text (same, is) =
@@ -230,39 +281,95 @@ module _ (unit : List ℕ) (n : ℕ) (payload : List ℕ) (brings : bringing_in 
       bytes_same [] = refl
       bytes_same (x ∷ l) = ap₂ (λ (a b : Bool). a && b) (eq-eqb x x refl) (bytes_same l)
 
-  follows : (event : HostEvent) → IsToldIn n payload (heard_at payload) event → FollowsBy unit event
+  follows : (event : HostEvent) → IsToldIn n payload (heard_at payload) (known n) event → FollowsBy known unit event
   follows (Finishes m session id command status wake) is = ended_by (tells_end id (ended_of status)) m is
-  follows (Reports_old m id) is = told_by (tells_report id) m is
+  follows (Reports_old m id) is = counted_by (tells_report id) m is
   follows (Hears_value m setting) is = told_by (tells_value setting) m is
   follows (Has_no_room m property) is = told_by (tells_property property) m is
   follows (Unreads m text) is = text_is m text is
   follows (Spends_unread m text) is = text_is m text is
   follows event is = tt
 
-response_all : (unit : List ℕ) (read : Result Response BodyFault) (events : List HostEvent) → ResponseEvents read events → AllByRecursion (FollowsBy unit) events
-response_all unit (Ok response) events is = one (FollowsBy unit) _ events tt is
-response_all unit (Err fault) events is = none (FollowsBy unit) events is
+response_all : (known : Known) (unit : List ℕ) (read : Result Response BodyFault) (events : List HostEvent) → ResponseEvents read events → AllByRecursion (FollowsBy known unit) events
+response_all known unit (Ok response) events is = one (FollowsBy known unit) _ events tt is
+response_all known unit (Err fault) events is = none (FollowsBy known unit) events is
 
-interview_all : (unit : List ℕ) (update : Update) (brought : Option ℕ) (events : List HostEvent) → InterviewEvents update brought events → AllByRecursion (FollowsBy unit) events
-interview_all unit (Received n basic generic specific classes) (Some capability) events is =
-    either (FollowsBy unit) (Interviews n (says_listens capability) classes (Received n basic generic specific classes)) (Interview_unkept n (Received n basic generic specific classes)) events tt tt is
-interview_all unit RequestFailed (Some capability) events is = none (FollowsBy unit) events is
-interview_all unit (Received n basic generic specific classes) None events is = one (FollowsBy unit) _ events tt is
-interview_all unit RequestFailed None events is = one (FollowsBy unit) _ events tt is
+interview_all : (known : Known) (unit : List ℕ) (update : Update) (brought : Option ℕ) (events : List HostEvent) → InterviewEvents update brought events → AllByRecursion (FollowsBy known unit) events
+interview_all known unit (Received n basic generic specific classes) (Some capability) events is =
+    either (FollowsBy known unit) (Interviews n (says_listens capability) classes (Received n basic generic specific classes)) (Interview_unkept n (Received n basic generic specific classes)) events tt tt is
+interview_all known unit RequestFailed (Some capability) events is = none (FollowsBy known unit) events is
+interview_all known unit (Received n basic generic specific classes) None events is = one (FollowsBy known unit) _ events tt is
+interview_all known unit RequestFailed None events is = one (FollowsBy known unit) _ events tt is
 
-notice_all : (unit : List ℕ) (h : HostState) (read : Result Notice BodyFault) (events : List HostEvent) → bringing_in unit ≡ brought_of read → NoticeEvents h read events
-    → AllByRecursion (FollowsBy unit) events
-notice_all unit h (Ok (ApplicationCommandHandler rx_status source payload)) events brings is =
-    all-weaker (IsToldIn source payload (heard_at payload)) (FollowsBy unit) (follows unit source payload brings) events (payload_all source payload (heard_at payload) h events is)
-notice_all unit h (Ok (SendData callback_id status)) events brings is = one (FollowsBy unit) _ events tt is
-notice_all unit h (Ok (ApplicationUpdate update)) events brings is = interview_all unit update (interviewed_by h.requests update) events is
-notice_all unit h (Ok (AddNode callback_id status information)) events brings is = none (FollowsBy unit) events is
-notice_all unit h (Err fault) events brings is = none (FollowsBy unit) events is
+-- of a host
+abbrev pub known_of : HostState → ℕ → Option (List ℕ)
+known_of h n = (node_of h n).classes
 
-kind_all : (h : HostState) (k : Kind) (func : ℕ) (body : List ℕ) (sum : ℕ) (events : List HostEvent) → FrameEvents h k func body events
-    → AllByRecursion (FollowsBy (framed (kind_code k ∷ func ∷ body) sum)) events
-kind_all h kind.Response func body sum events is = response_all (framed (1 ∷ func ∷ body) sum) (response_of func body) events is
-kind_all h kind.Request func body sum events is = notice_all (framed (0 ∷ func ∷ body) sum) h (notice_of func body) events (text_brings func body sum) is
+notice_all : LeavesRecords → (unit : List ℕ) (h : HostState) (read : Result Notice BodyFault) (events : List HostEvent) → bringing_in unit ≡ brought_of read → NoticeEvents h read events
+    → AllByRecursion (FollowsBy (known_of h) unit) events
+notice_all law unit h (Ok (ApplicationCommandHandler rx_status source payload)) events brings is =
+    all-weaker (IsToldIn source payload (heard_at payload) (node_of h source).classes) (FollowsBy (known_of h) unit) (follows (known_of h) unit source payload brings) events
+    (payload_all law source payload (heard_at payload) h events is)
+notice_all law unit h (Ok (SendData callback_id status)) events brings is = one (FollowsBy (known_of h) unit) _ events tt is
+notice_all law unit h (Ok (ApplicationUpdate update)) events brings is = interview_all (known_of h) unit update (interviewed_by h.requests update) events is
+notice_all law unit h (Ok (AddNode callback_id status information)) events brings is = none (FollowsBy (known_of h) unit) events is
+notice_all law unit h (Err fault) events brings is = none (FollowsBy (known_of h) unit) events is
 
-pub frame_follows : (h : HostState) (f : FrameParts) (events : List HostEvent) → FrameEvents h f.kind f.func f.body events → AllByRecursion (FollowsBy (unit_text (Framed f))) events
-frame_follows h f events is = kind_all h f.kind f.func f.body (checksum (kind_code f.kind ∷ f.func ∷ f.body)) events is
+kind_all : LeavesRecords → (h : HostState) (k : Kind) (func : ℕ) (body : List ℕ) (sum : ℕ) (events : List HostEvent) → FrameEvents h k func body events
+    → AllByRecursion (FollowsBy (known_of h) (framed (kind_code k ∷ func ∷ body) sum)) events
+kind_all law h kind.Response func body sum events is = response_all (known_of h) (framed (1 ∷ func ∷ body) sum) (response_of func body) events is
+kind_all law h kind.Request func body sum events is = notice_all law (framed (0 ∷ func ∷ body) sum) h (notice_of func body) events (text_brings func body sum) is
+
+pub frame_follows : LeavesRecords → (h : HostState) (f : FrameParts) (events : List HostEvent) → FrameEvents h f.kind f.func f.body events → AllByRecursion (FollowsBy (known_of h) (unit_text (Framed f))) events
+frame_follows law h f events is = kind_all law h f.kind f.func f.body (checksum (kind_code f.kind ∷ f.func ∷ f.body)) events is
+
+-- ---- which of them notes nothing of messages, and which is no interview
+
+abbrev pub IsQuiet : HostEvent → Type 0
+IsQuiet (Finishes n session id command status wake) = ⊥
+IsQuiet (Reports_old n id) = ⊥
+IsQuiet (Hears_value n setting) = ⊥
+IsQuiet (Has_no_room n property) = ⊥
+IsQuiet (Unreads n payload) = ⊥
+IsQuiet (Spends_unread n payload) = ⊥
+IsQuiet event = Unit {0}
+
+abbrev pub AreAlike : List HostEvent → Type 0
+AreAlike events = AllByRecursion IsNoInterview events ⊎ AllByRecursion IsQuiet events
+
+notice_alike : LeavesRecords → (h : HostState) (read : Result Notice BodyFault) (events : List HostEvent) → NoticeEvents h read events → AreAlike events
+notice_alike law h (Ok (ApplicationCommandHandler rx_status source payload)) events is =
+    inl (all-weaker (IsToldIn source payload (heard_at payload) (node_of h source).classes) IsNoInterview (told_quiet source payload (heard_at payload) (node_of h source).classes) events
+    (payload_all law source payload (heard_at payload) h events is))
+notice_alike law h (Ok (SendData callback_id status)) events is = inl (one IsNoInterview _ events tt is)
+notice_alike law h (Ok (ApplicationUpdate update)) events is = inr (by update (interviewed_by h.requests update) is)
+  where
+    by : (it : Update) (brought : Option ℕ) → InterviewEvents it brought events → AllByRecursion IsQuiet events
+    by (Received n basic generic specific classes) (Some capability) these =
+        either IsQuiet (Interviews n (says_listens capability) classes (Received n basic generic specific classes)) (Interview_unkept n (Received n basic generic specific classes)) events tt tt these
+    by RequestFailed (Some capability) these = none IsQuiet events these
+    by (Received n basic generic specific classes) None these = one IsQuiet _ events tt these
+    by RequestFailed None these = one IsQuiet _ events tt these
+notice_alike law h (Ok (AddNode callback_id status information)) events is = inl (none IsNoInterview events is)
+notice_alike law h (Err fault) events is = inl (none IsNoInterview events is)
+
+response_alike : (read : Result Response BodyFault) (events : List HostEvent) → ResponseEvents read events → AreAlike events
+response_alike (Ok response) events is = inl (one IsNoInterview _ events tt is)
+response_alike (Err fault) events is = inl (none IsNoInterview events is)
+
+frame_alike : LeavesRecords → (h : HostState) (k : Kind) (func : ℕ) (body : List ℕ) (events : List HostEvent) → FrameEvents h k func body events → AreAlike events
+frame_alike law h kind.Response func body events is = response_alike (response_of func body) events is
+frame_alike law h kind.Request func body events is = notice_alike law h (notice_of func body) events is
+
+kept_classes : LeavesRecords → (h : HostState) (events : List HostEvent) → AllByRecursion IsNoInterview events → (n : ℕ) → known_of (after_all h events) n ≡ known_of h n
+kept_classes law h [] all n = refl
+kept_classes law h (event ∷ events) all n = kept_classes law (after h event) events all.1 n ∙ event_kept law h event all.0 n
+
+-- after some of them the classes are those at first, or the next one notes nothing of messages
+pub classes_kept : LeavesRecords → (h : HostState) (f : FrameParts) (gone : List HostEvent) (event : HostEvent) (left : List HostEvent) → FrameEvents h f.kind f.func f.body (gone ++ event ∷ left)
+    → IsQuiet event ⊎ ((n : ℕ) → known_of (after_all h gone) n ≡ known_of h n)
+classes_kept law h f gone event left is = by (frame_alike law h f.kind f.func f.body (gone ++ event ∷ left) is)
+  where
+    by : AreAlike (gone ++ event ∷ left) → IsQuiet event ⊎ ((n : ℕ) → known_of (after_all h gone) n ≡ known_of h n)
+    by (inl none_is) = inr (kept_classes law h gone (all-left IsNoInterview gone (event ∷ left) none_is))
+    by (inr all_quiet) = inl (all-right IsQuiet gone (event ∷ left) all_quiet).0

@@ -1,7 +1,23 @@
 -- At each step of a host alone what it notes of messages stands where they were told.
 use Rattle.std.proofs.Common.{◌≡◌, ℕ, ◌%◌, ◌==◌, ◌&&◌, ◌||◌, Bool, true, false, inl, inr, List, [], ◌∷◌, ◌++◌, length, refl, sym, ap, ap₂, ◌∙◌, subst, arith}
-use Rattle.std.specs.Prelude.{◌⊎◌, if◌then◌else◌, ◌-◌, Option, Some, None, bytes_eq, drop, slice_get}
+use Rattle.std.specs.Prelude.{not, ◌≤◌, ◌<◌, unwrap_or, ◌⊎◌, if◌then◌else◌, ◌-◌, Option, Some, None, bytes_eq, drop, slice_get}
 use Rattle.std.specs.List.{AllByRecursion, flat_map, list_any}
+use Rattle.std.specs.Set.{distinct_count}
+use Rattle.std.proofs.lemmas.Bool.{le-leb, lt-leb}
+use Rattle.zw_base.specs.PropertyOrder.{same_property}
+use Rattle.zw_base.specs.declared.property.Property.{Property}
+use Rattle.value_store.specs.Values.{count_with}
+use Rattle.law_transcript.specs.Answers.{properties_kept}
+use Rattle.law_transcript.specs.Nodes.{known_classes}
+use Rattle.law_host.specs.Heard.{listing_heard}
+use Rattle.host_heard.specs.declared.payload.Heard.{Heard}
+use Rattle.host_heard.specs.declared.payload.Heard.TheVariants.{Messages, Sealed, Unread}
+use Rattle.host_orders.specs.Classes.{lists}
+use Rattle.host_model.specs.Did.{after_all}
+use Rattle.host_model.specs.Taking.{is_secure}
+use Rattle.proof_spoken.proofs.Classes.{LeavesRecords}
+use Rattle.proof_spoken.specs.Said.{AreSaid, KnowsListing}
+use Rattle.proof_transcript.proofs.StoredPlaces.{KeepsNoMore}
 use Rattle.std.proofs.lemmas.Bool.{eq-eqb, eqb-true, or_left, or_right}
 use Rattle.zw_base.proofs.Each.{all-append, all-right}
 use Rattle.zw_base.specs.declared.property.Setting.{Setting}
@@ -23,13 +39,15 @@ use Rattle.law_time.specs.Moments.{Allows}
 use Rattle.law_time.specs.Sessions.{is_last_command}
 use Rattle.law_time.specs.Waking.{may_wake}
 use Rattle.host_heard.specs.Telling.{heard_at}
+use Rattle.host_heard.specs.declared.told.Told.{Told}
+use Rattle.proof_alone.specs.Tables.{TieTables}
 use Rattle.host_keep.specs.declared.final_status.FinalStatus.{FinalStatus}
 use Rattle.host_keep.specs.declared.final_status.FinalStatus.TheVariants as final
 use Rattle.host_model.specs.State.{HostState, command_at, node_of}
 use Rattle.host_model.specs.Sessions.{settings_with}
 use Rattle.host_model.specs.After.{is_held}
 use Rattle.host_model.specs.Events as events
-use Rattle.host_model.specs.Events.{HostEvent, Requests_do, Interviews, Interview_unkept, Unreads, Is_unkept, Reports_old, Works, Finishes, Offers, Gives, Spends, Spends_unread, Takes_nonce, Notifies, Resends, Hears_value, Has_no_room, Hears}
+use Rattle.host_model.specs.Events.{HostEvent, Requests_do, Interviews, Interview_unkept, Unreads, Is_unkept, Reports_old, Finishes, Spends_unread, Notifies, Hears_value, Has_no_room, Hears}
 use Rattle.host_model.specs.May.{May as MayHost, IsFinal}
 use Rattle.host_model.specs.Outs.{ended_of, held_entries, noted, outs, stored_entries}
 use Rattle.host_model.proofs.OpenSessions.{final_session}
@@ -41,11 +59,12 @@ use Rattle.proof_alone.specs.Steps.{AreTold, IsOfOthers, Step, Tells, Comes, Mis
 use Rattle.proof_alone.specs.Phases.{Phase, May}
 use Rattle.proof_alone.specs.Runs.{Knowledge, WalkOver}
 use Rattle.proof_alone.proofs.Apart.{AreOfLine, missed_are}
-use Rattle.proof_waking.specs.Judged.{IsBehindFrame, IsOfRequest}
-use Rattle.proof_known.specs.Known.{KnowsNodes}
-use Rattle.proof_known.specs.Noted.{is_ended_by, may_note, tells_end, tells_property, tells_report, tells_value}
+use Rattle.proof_waking.specs.Judged.{IsBehindFrame, IsOfRequest, LastFrame}
+use Rattle.proof_known.specs.Known.{KnowsWhole, TieTold}
+use Rattle.proof_known.proofs.Telling.{by_else, rest_of}
+use Rattle.proof_known.specs.Noted.{has_room, may_count, is_ended_by, may_note, tells_end, tells_property, tells_report, tells_value}
 use Rattle.proof_known.proofs.Events.{AreAnswers, answers_are, event_at, outs_told}
-use Rattle.proof_known.proofs.Followers.{FollowsBy, frame_follows}
+use Rattle.proof_known.proofs.Followers.{FollowsBy, IsQuiet, classes_kept, counts, frame_follows, known_of}
 
 -- ---- entries of which nothing is asked
 
@@ -86,16 +105,7 @@ shared_unasked = record {
   full = λ n past. refl;
 }
 
--- an event that notes none of what is asked of
-abbrev IsQuiet : HostEvent → Type 0
-IsQuiet (Finishes n session id command status wake) = ⊥
-IsQuiet (Reports_old n id) = ⊥
-IsQuiet (Hears_value n setting) = ⊥
-IsQuiet (Has_no_room n property) = ⊥
-IsQuiet (Unreads n payload) = ⊥
-IsQuiet (Spends_unread n payload) = ⊥
-IsQuiet event = Unit {0}
-
+-- events that note none of what is asked of
 quiet_outs : (h : HostState) (event : HostEvent) → IsQuiet event → OutsAre IsUnasked (outs h event)
 quiet_outs h (Finishes n session id command status wake) quiet = absurd quiet
 quiet_outs h (Reports_old n id) quiet = absurd quiet
@@ -198,19 +208,47 @@ any_weaker weak strong goes (one ∷ l) is = by (strong one) refl is (any_weaker
     by true here any more = or_left (weak one) (list_any weak l) (goes one here)
     by false here any more = or_right (weak one) (list_any weak l) (more any)
 
-may_end_by : (past : List Entry) (n id command : ℕ) (ended : Ended) → is_last_command n past command ≡ true → (id == length (sessions n past) % 64) ≡ true
-    → list_any (λ carried. (carried.node == n) && may_tell (tells_end id ended) (heard_at carried.payload)) (brought_here past) ≡ true
+-- what counts of a node with these classes, by its transcript too
+secure_is : (classes : Option (List ℕ)) → is_secure classes ≡ lists (unwrap_or classes []) 0x98
+unfolding lists
+secure_is None = refl
+secure_is (Some classes) = refl
+
+counts_so : (past : List Entry) (n : ℕ) (classes : Option (List ℕ)) (such : Told → Bool) (heard : Heard) → classes ≡ known_classes listing_heard past n
+    → counts classes such heard ≡ may_count past n such heard
+counts_so past n classes such (Messages messages) same =
+    ap (λ (b : Bool). not b && list_any such messages) (secure_is classes ∙ ap (λ (o : Option (List ℕ)). lists (unwrap_or o []) 0x98) same)
+counts_so past n classes such Sealed same = refl
+counts_so past n classes such Unread same = refl
+
+-- what is known of each node is what its transcript lists
+abbrev Lists : List Entry → (ℕ → Option (List ℕ)) → Type 0
+Lists past known = (n : ℕ) → known n ≡ known_classes listing_heard past n
+
+may_end_by : (past : List Entry) (known : ℕ → Option (List ℕ)) (n id command : ℕ) (ended : Ended) → Lists past known → is_last_command n past command ≡ true
+    → (id == length (sessions n past) % 64) ≡ true
+    → list_any (λ carried. (carried.node == n) && counts (known n) (tells_end id ended) (heard_at carried.payload)) (brought_here past) ≡ true
     → list_any (is_ended_by past command ended) (brought_here past) ≡ true
-may_end_by past n id command ended last number any =
-    any_weaker (is_ended_by past command ended) (λ carried. (carried.node == n) && may_tell (tells_end id ended) (heard_at carried.payload)) goes (brought_here past) any
+may_end_by past known n id command ended lists_so last number any =
+    any_weaker (is_ended_by past command ended) (λ carried. (carried.node == n) && counts (known n) (tells_end id ended) (heard_at carried.payload)) goes (brought_here past) any
   where
-    goes : (one : Carried) → ((one.node == n) && may_tell (tells_end id ended) (heard_at one.payload)) ≡ true → is_ended_by past command ended one ≡ true
+    goes : (one : Carried) → ((one.node == n) && counts (known n) (tells_end id ended) (heard_at one.payload)) ≡ true → is_ended_by past command ended one ≡ true
     goes one is =
-        let (here, tells) = and_both (one.node == n) (may_tell (tells_end id ended) (heard_at one.payload)) is in
+        let (here, tells) = and_both (one.node == n) (counts (known n) (tells_end id ended) (heard_at one.payload)) is in
         let same : n ≡ one.node = sym (eqb-true one.node n here) in
-        subst (λ (m : ℕ). (is_last_command m past command && may_tell (tells_end (length (sessions m past) % 64) ended) (heard_at one.payload)) ≡ true) same
+        let counted : may_count past n (tells_end id ended) (heard_at one.payload) ≡ true =
+        sym (counts_so past n (known n) (tells_end id ended) (heard_at one.payload) (lists_so n)) ∙ tells in
+        subst (λ (m : ℕ). (is_last_command m past command && may_count past m (tells_end (length (sessions m past) % 64) ended) (heard_at one.payload)) ≡ true) same
         (ap₂ (λ (a b : Bool). a && b) last
-        (subst (λ (k : ℕ). may_tell (tells_end k ended) (heard_at one.payload) ≡ true) (eqb-true id (length (sessions n past) % 64) number) tells))
+        (subst (λ (k : ℕ). may_count past n (tells_end k ended) (heard_at one.payload) ≡ true) (eqb-true id (length (sessions n past) % 64) number) counted))
+
+any_so : (one other : List ℕ → Bool) → ((text : List ℕ) → one text ≡ other text) → (l : List (List ℕ)) → list_any one l ≡ true → list_any other l ≡ true
+any_so one other same [] is = is
+any_so one other same (text ∷ l) is = by (one text) refl is (any_so one other same l)
+  where
+    by : (b : Bool) → one text ≡ b → (b || list_any one l) ≡ true → (list_any one l ≡ true → list_any other l ≡ true) → (other text || list_any other l) ≡ true
+    by true here any more = or_left (other text) (list_any other l) (sym (same text) ∙ here)
+    by false here any more = or_right (other text) (list_any other l) (more any)
 
 may_finish : (past : List Entry) (command : ℕ) (status : FinalStatus) → list_any (is_ended_by past command (ended_of status)) (brought_here past) ≡ true
     → may_note past (entry.Out command (ended_of status)) ≡ true
@@ -220,30 +258,51 @@ may_finish past command final.NoSupport is = is
 
 -- ---- what follows a frame
 
-module _ (past : List Entry) (m : HostMachine) (unit : List ℕ) (facts : Facts past m.state) (brought : brought_here past ≡ bringing_in unit) where
+-- how many properties of a node are kept, with one more
+abbrev pub Rooms : Type 0
+Rooms = (past : List Entry) (m : HostMachine) → TieTables past m.state m.records → KnowsListing listing_heard past m.state → AreSaid listing_heard m.state.commands past → TieTold past m.state
+    → KeepsNoMore m.state → (n : ℕ) (p : Property) → count_with m.state.store n (p ∷ []) ≡ distinct_count same_property (p ∷ properties_kept listing_heard past n)
+
+module _ (past : List Entry) (m : HostMachine) (unit : List ℕ) (known : ℕ → Option (List ℕ)) (facts : Facts past m.state) (lists_so : Lists past known)
+    (counted : (n : ℕ) (p : Property) → count_with m.state.store n (p ∷ []) ≡ distinct_count same_property (p ∷ properties_kept listing_heard past n))
+    (brought : brought_here past ≡ bringing_in unit) where
   by_payloads : (test : List ℕ → Bool) (n : ℕ) → list_any test (flat_map (from_node n) (bringing_in unit)) ≡ true → list_any test (flat_map (from_node n) (brought_here past)) ≡ true
   by_payloads test n is = ap (λ (l : List Carried). list_any test (flat_map (from_node n) l)) brought ∙ is
 
   finished : (n session id command : ℕ) (status : FinalStatus) (wake : Bool) → MayHost m.state (Finishes n session id command status wake)
-      → FollowsBy unit (Finishes n session id command status wake) → may_note past (entry.Out command (ended_of status)) ≡ true
+      → FollowsBy known unit (Finishes n session id command status wake) → may_note past (entry.Out command (ended_of status)) ≡ true
   finished n session id command status wake may follows =
       let (last, number) = ends_here past m.state n session id command status facts may in
       may_finish past command status
-      (may_end_by past n id command (ended_of status) last number
-      (ap (λ (l : List Carried). list_any (λ carried. (carried.node == n) && may_tell (tells_end id (ended_of status)) (heard_at carried.payload)) l) brought ∙ follows))
+      (may_end_by past known n id command (ended_of status) lists_so last number
+      (ap (λ (l : List Carried). list_any (λ carried. (carried.node == n) && counts (known n) (tells_end id (ended_of status)) (heard_at carried.payload)) l) brought ∙ follows))
 
-  behind_stands : (event : HostEvent) (told : List Entry) → MayHost m.state event → FollowsBy unit event → AreTold (outs m.state event) told → Stand past told
+  old_told : (n id : ℕ) → FollowsBy known unit (Reports_old n id) → may_note past (entry.Old n id) ≡ true
+  old_told n id follows =
+      any_so (λ text. counts (known n) (tells_report id) (heard_at text)) (λ text. may_count past n (tells_report id) (heard_at text))
+      (λ text. counts_so past n (known n) (tells_report id) (heard_at text) (lists_so n)) (flat_map (from_node n) (brought_here past))
+      (by_payloads (λ text. counts (known n) (tells_report id) (heard_at text)) n follows)
+
+  room_is : (n : ℕ) (p : Property) → count_with m.state.store n (p ∷ []) ≤ 512 → has_room past n p ≡ true
+  room_is n p few = le-leb (distinct_count same_property (p ∷ properties_kept listing_heard past n)) 512 (subst (λ (k : ℕ). k ≤ 512) (counted n p) few)
+
+  no_room_is : (n : ℕ) (p : Property) → 512 < count_with m.state.store n (p ∷ []) → not (has_room past n p) ≡ true
+  no_room_is n p many =
+      ap not (lt-leb (distinct_count same_property (p ∷ properties_kept listing_heard past n)) 512 (subst (λ (k : ℕ). 512 < k) (counted n p) many))
+
+  behind_stands : (event : HostEvent) (told : List Entry) → MayHost m.state event → FollowsBy known unit event → AreTold (outs m.state event) told → Stand past told
   behind_stands (Finishes n session id command status wake) told may follows are =
       let stored = stored_entries n (settings_with status (command_at m.state.commands command)) in
       let held = held_entries n (is_held m.state n wake) in
       notes_stand past (entry.Out command (ended_of status)) (stored ++ held) told are (finished n session id command status wake may follows)
       (all-append IsUnasked stored held (stored_unasked n (settings_with status (command_at m.state.commands command))) (held_unasked n (is_held m.state n wake)))
-  behind_stands (Reports_old n id) told may follows are =
-      notes_stand past (entry.Old n id) [] told are (by_payloads (λ payload. may_tell (tells_report id) (heard_at payload)) n follows) tt
+  behind_stands (Reports_old n id) told may follows are = notes_stand past (entry.Old n id) [] told are (old_told n id follows) tt
   behind_stands (Hears_value n setting) told may follows are =
-      notes_stand past (entry.Report n setting) [] told are (by_payloads (λ payload. may_tell (tells_value setting) (heard_at payload)) n follows) tt
+      notes_stand past (entry.Report n setting) [] told are
+      (ap₂ (λ (a b : Bool). a && b) (by_payloads (λ payload. may_tell (tells_value setting) (heard_at payload)) n follows) (room_is n setting.property may)) tt
   behind_stands (Has_no_room n property) told may follows are =
-      notes_stand past (entry.Unstored n property) [] told are (by_payloads (λ payload. may_tell (tells_property property) (heard_at payload)) n follows) tt
+      notes_stand past (entry.Unstored n property) [] told are
+      (ap₂ (λ (a b : Bool). a && b) (by_payloads (λ payload. may_tell (tells_property property) (heard_at payload)) n follows) (no_room_is n property may)) tt
   behind_stands (Unreads n payload) told may follows are = notes_stand past (entry.Unread n payload) [] told are (by_payloads (λ text. bytes_eq text payload) n follows) tt
   behind_stands (Spends_unread n payload) told may follows are = notes_stand past (entry.Unread n payload) [] told are (by_payloads (λ text. bytes_eq text payload) n follows) tt
   behind_stands event told may follows are = quiet_stands past m.state event told tt are
@@ -254,20 +313,40 @@ module _ (past : List Entry) (m : HostMachine) (unit : List ℕ) (facts : Facts 
 abbrev pub Nothing : Knowledge
 Nothing here past m = Unit {0}
 
-module _ (brought : (past : List Entry) (m : HostMachine) (left : List HostEvent) (behind : IsBehindFrame past m left) → brought_here past ≡ bringing_in (unit_text (Framed behind.frame.frame))) where
-  does : (here next : Phase) (past : List Entry) (m : HostMachine) (event : HostEvent) (told : List Entry) → May here m (Does event told) next → KnowsNodes here past m → Stand past told
-  does here next past m event told may known = by (event_at here next past m event told may known.0.1)
+module _ (law : LeavesRecords) (rooms : Rooms)
+    (brought : (past : List Entry) (m : HostMachine) (left : List HostEvent) (behind : IsBehindFrame past m left) → brought_here past ≡ bringing_in (unit_text (Framed behind.frame.frame))) where
+  behind_goes : (here next : Phase) (past : List Entry) (m : HostMachine) (event : HostEvent) (told : List Entry) (left : List HostEvent) → May here m (Does event told) next
+      → KnowsWhole here past m → IsBehindFrame past m (event ∷ left) → Stand past told
+  behind_goes here next past m event told left may known behind = by (classes_kept law f.first f.frame f.gone event left f.followed)
+    where
+      f : LastFrame past (event ∷ left)
+      f = behind.frame
+
+      unit : List ℕ
+      unit = unit_text (Framed f.frame)
+
+      told_so : TieTold past m.state
+      told_so = rest_of here past m (by_else here next m.state event may.0).0 known.0.1
+
+      counted : (n : ℕ) (p : Property) → count_with m.state.store n (p ∷ []) ≡ distinct_count same_property (p ∷ properties_kept listing_heard past n)
+      counted = rooms past m known.0.0.0.0.0.0 known.0.0.0.1 known.0.0.1 told_so known.1
+
+      by : IsQuiet event ⊎ ((n : ℕ) → known_of (after_all f.first f.gone) n ≡ known_of f.first n) → Stand past told
+      by (inl quiet) = quiet_stands past m.state event told quiet may.2
+      by (inr kept) =
+          behind_stands past m unit (known_of f.first) known.0.0.0.0.0.0.facts
+          (λ n. sym (kept n) ∙ (ap (λ (h : HostState). known_of h n) (sym behind.state) ∙ known.0.0.0.1 n)) counted (brought past m (event ∷ left) behind) event told may.1.0
+          (all-right (FollowsBy (known_of f.first) unit) f.gone (event ∷ left) (frame_follows law f.first f.frame (f.gone ++ event ∷ left) f.followed)).0 may.2
+
+  does : (here next : Phase) (past : List Entry) (m : HostMachine) (event : HostEvent) (told : List Entry) → May here m (Does event told) next → KnowsWhole here past m → Stand past told
+  does here next past m event told may known = by (event_at here next past m event told may known.0.0.0.0.1)
     where
       by : IsOwn event ⊎ (IsOfRequest event ⊎ ((left : List HostEvent) × IsBehindFrame past m (event ∷ left))) → Stand past told
       by (inl own) = quiet_stands past m.state event told (own_quiet event own) may.2
       by (inr (inl of)) = quiet_stands past m.state event told (request_quiet event of) may.2
-      by (inr (inr (left, behind))) =
-          let f = behind.frame in
-          let all = frame_follows f.first f.frame (f.gone ++ event ∷ left) f.followed in
-          behind_stands past m (unit_text (Framed f.frame)) known.0.0.0.facts (brought past m (event ∷ left) behind) event told may.1.0
-          (all-right (FollowsBy (unit_text (Framed f.frame))) f.gone (event ∷ left) all).0 may.2
+      by (inr (inr (left, behind))) = behind_goes here next past m event told left may known behind
 
-  step_stands : (here next : Phase) (past : List Entry) (m : HostMachine) (one : Step) → May here m one next → KnowsNodes here past m → Stand past (entries m one)
+  step_stands : (here next : Phase) (past : List Entry) (m : HostMachine) (one : Step) → May here m one next → KnowsWhole here past m → Stand past (entries m one)
   step_stands here next past m (Tells e) may known = all_stand past (e ∷ []) (others_unasked e may.1, tt)
   step_stands here next past m (Comes unit) may known = (refl, tt)
   step_stands here next past m (Misses text marks) may known = all_stand past (entry.Written Chip text ∷ marks) ((λ before. refl), missed_are IsUnasked line_unasked marks may.1)
@@ -282,5 +361,5 @@ module _ (brought : (past : List Entry) (m : HostMachine) (left : List HostEvent
   step_stands here next past m (Judges item rest behind told) may known = quiet_stands past m.state (Hears item) told tt may.1.told_so
   step_stands here next past m (Does event told) may known = does here next past m event told may known
 
-  pub noted_walk : WalkOver KnowsNodes (Allows may_wake) (Allows may_note) Nothing
+  pub noted_walk : WalkOver KnowsWhole (Allows may_wake) (Allows may_note) Nothing
   noted_walk = record { step = λ here next past m one may ground stand known. (step_stands here next past m one may ground, tt); turn = λ here next past m turns ground known. tt }

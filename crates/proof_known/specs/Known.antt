@@ -85,6 +85,10 @@ KnowsCancelled here past m = TellsCancelled past m.records
 abbrev pub KnowsPlaces : Knowledge
 KnowsPlaces here past m = KeepsNoMore m.state
 
+-- all that decides what it answers and stores
+abbrev pub KnowsWhole : Knowledge
+KnowsWhole = both_know KnowsAll KnowsPlaces
+
 -- the words of a line stand last, and what decides its answer is of what stood before them
 pub record AnswersBefore (line : Line) (past : List Entry) (h : HostState) : Type 0 where
   pub before : List Entry

@@ -1,6 +1,6 @@
--- What the host notes of messages was told (Supervision Command Class, and the reports of the Application Command Classes; that what is sealed may tell anything is this project's own
--- rule): each such note stands where a payload of its node was judged that tells it.
-use Rattle.std.specs.Prelude.{ℕ, ◌%◌, ◌==◌, ◌&&◌, bytes_eq, Bool, true, false, List, length}
+-- What the host notes of messages was told (Supervision and Security 0 Command Classes, and the reports of the Application Command Classes; that what is sealed may tell anything is
+-- this project's own rule): each such note stands where a payload of its node was judged that tells it.
+use Rattle.std.specs.Prelude.{not, nat_le, ◌∷◌, ℕ, ◌%◌, ◌==◌, ◌&&◌, bytes_eq, Bool, true, false, List, length}
 use Rattle.std.specs.List.{list_any}
 use Rattle.zw_base.specs.PropertyOrder.{same_property}
 use Rattle.zw_base.specs.declared.property.Property.{Property}
@@ -8,6 +8,8 @@ use Rattle.zw_base.specs.declared.property.Setting.{Setting}
 use Rattle.class_info.specs.declared.report_status.ReportStatus.{ReportStatus}
 use Rattle.class_info.specs.declared.report_status.ReportStatus.TheVariants as statuses
 use Rattle.host_heard.specs.Telling.{heard_at}
+use Rattle.host_heard.specs.declared.payload.Heard.{Heard}
+use Rattle.host_heard.specs.declared.payload.Heard.TheVariants.{Messages}
 use Rattle.host_heard.specs.declared.told.Told.{Told}
 use Rattle.host_heard.specs.declared.told.Told.TheVariants as told
 use Rattle.zw_text.specs.declared.entry.Ended.{Ended}
@@ -20,6 +22,11 @@ use Rattle.law_time.specs.Judged.{brought_here, may_be_told, may_tell, payloads_
 use Rattle.law_time.specs.Moments.{Keeps}
 use Rattle.law_time.specs.Sessions.{is_last_command}
 use Rattle.law_host.specs.Following.{same_setting}
+use Rattle.law_host.specs.Heard.{listing_heard}
+use Rattle.law_transcript.specs.Answers.{properties_kept}
+use Rattle.law_transcript.specs.Nodes.{host_list}
+use Rattle.host_orders.specs.Classes.{lists}
+use Rattle.std.specs.Set.{distinct_count}
 
 -- ---- messages
 
@@ -50,10 +57,19 @@ tells_property property message = false
 
 -- ---- notes
 
+-- what a node that lists Security 0 reports openly counts for nothing
+abbrev pub may_count : List Entry → ℕ → (Told → Bool) → Heard → Bool
+may_count past node such (Messages messages) = not (lists (host_list listing_heard past node) 0x98) && list_any such messages
+may_count past node such heard = may_tell such heard
+
+-- there is room for a property of a node: with it there are at most 512
+abbrev pub has_room : List Entry → ℕ → Property → Bool
+has_room past node property = nat_le (distinct_count same_property (property ∷ properties_kept listing_heard past node)) 512
+
 -- the command is that of the last session of the node, which a report with its id ends so
 abbrev pub is_ended_by : List Entry → ℕ → Ended → Carried → Bool
 is_ended_by past command ended carried =
-    is_last_command carried.node past command && may_tell (tells_end (length (sessions carried.node past) % 64) ended) (heard_at carried.payload)
+    is_last_command carried.node past command && may_count past carried.node (tells_end (length (sessions carried.node past) % 64) ended) (heard_at carried.payload)
 
 abbrev pub may_end : List Entry → ℕ → Ended → Bool
 may_end past command ended = list_any (is_ended_by past command ended) (brought_here past)
@@ -63,9 +79,9 @@ abbrev pub may_note : List Entry → Entry → Bool
 may_note past (Out command endings.Success) = may_end past command endings.Success
 may_note past (Out command endings.Fail) = may_end past command endings.Fail
 may_note past (Out command endings.NoSupport) = may_end past command endings.NoSupport
-may_note past (Report node setting) = may_be_told (tells_value setting) node past
-may_note past (Unstored node property) = may_be_told (tells_property property) node past
-may_note past (Old node id) = may_be_told (tells_report id) node past
+may_note past (Report node setting) = may_be_told (tells_value setting) node past && has_room past node setting.property
+may_note past (Unstored node property) = may_be_told (tells_property property) node past && not (has_room past node property)
+may_note past (Old node id) = list_any (λ payload. may_count past node (tells_report id) (heard_at payload)) (payloads_here node past)
 may_note past (Unread node payload) = list_any (λ text. bytes_eq text payload) (payloads_here node past)
 may_note past entry = true
 

@@ -10,16 +10,12 @@ ghost use Rattle.proof_alone.specs.Phases.{Phase, Resting};
 ghost use Rattle.proof_alone.specs.Runs.{Run, Told, ToldWhole};
 ghost use Rattle.proof_known.specs.Known.{AreForHost, KeepsWhatIsSaid};
 
-use crate::known::{hosts_keep_what_is_said, hosts_know_what_nodes_list};
+use crate::known::{hosts_keep_what_is_said, hosts_know_what_was_told};
 use crate::records::hosts_record_what_is_shown;
 use crate::shown::hosts_show_what_they_keep;
-use host_keep::texts_give_one_thing;
-use host_model::{a_host_begins_with_what_is_kept, a_restart_keeps_what_is_held, facts_are_kept};
-use host_node::a_restart_needs_the_records_alone;
 use proof_alone::{hosts_answer_what_is_asked, hosts_keep_their_tables};
 use proof_host::laws_follow;
-use proof_spoken::world::restarts_go_on;
-use proof_spoken::{tables_are_what_was_said, tables_keep_orders};
+use proof_spoken::tables_are_what_was_said;
 
 /// In any run of a host alone, over a keeper that tells its records and has none at first, in which no line is refused that is for others: each line has the
 /// one answer that the transcript before it demands, and no answer stands elsewhere; where the run does not end at rest, its last line may lack its answer.
@@ -31,17 +27,9 @@ pub fn hosts_answer_lines()
         AnswersAfter [] true listing_heard (refusals_by_host listing_heard) told }
     ensures heard { (keys : Keys) (told : List Entry) → Told (first_alone keys (Some [])) told → AreForHost (heard_by_host told) }
 {
-    hosts_know_what_nodes_list();
-    hosts_keep_what_is_said();
+    hosts_know_what_was_told();
     tables_are_what_was_said();
-    tables_keep_orders();
     laws_follow();
-    facts_are_kept();
-    a_host_begins_with_what_is_kept();
-    a_restart_keeps_what_is_held();
-    a_restart_needs_the_records_alone();
-    restarts_go_on();
-    texts_give_one_thing();
 }
 
 /// So any run of a host alone over such a keeper, in which no line is refused that is for others, answers lines, takes back what a line asks for, has one

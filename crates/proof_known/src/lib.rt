@@ -16,8 +16,8 @@ mod records;
 mod shown;
 
 pub use answers::{hosts_answer_lines, hosts_do_as_is_said};
-pub use known::{hosts_keep_what_is_said, hosts_know_what_nodes_list};
-pub use noted::hosts_note_what_was_told;
+pub use known::{hosts_keep_what_is_said, hosts_know_what_nodes_list, hosts_know_what_was_told};
+pub use noted::{hosts_note_what_was_told, rejected_telling, worked_telling};
 pub use proof_waking as waking;
 pub use records::hosts_record_what_is_shown;
 pub use shown::hosts_show_what_they_keep;
