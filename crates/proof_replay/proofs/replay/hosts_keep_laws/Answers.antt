@@ -4,11 +4,10 @@ use Rattle.std.specs.Prelude.{Some}
 use Rattle.proof_replay.proofs.replay.hosts_keep_laws.Goals as goal
 
 pub returns : goal.returns
-returns c = λ keys heard told. record {
-  orders = c.hosts_keep_their_tables.ensures.laws keys heard told;
-  cancels = (c.hosts_answer_what_is_asked.ensures.told keys heard told).0;
-  carries = (c.hosts_answer_what_is_asked.ensures.told keys heard told).1;
-  follows = (c.hosts_keep_their_tables.ensures.tables keys told.0 heard told.1 told.2).1.following;
-  wakes = c.hosts_wake_as_told.ensures keys (Some []) heard told;
-  ticks = c.hosts_tell_time.ensures.counts keys (Some []) heard told;
+returns c = λ keys whole here heard m run rests fine. record {
+  orders = c.hosts_keep_their_tables.ensures.laws keys heard (here, m, run);
+  said = c.hosts_do_as_is_said.ensures keys whole here heard m run rests fine;
+  notes = c.hosts_note_what_was_told.ensures keys heard (here, m, run);
+  wakes = c.hosts_wake_as_told.ensures keys (Some []) heard (here, m, run);
+  ticks = c.hosts_tell_time.ensures.counts keys (Some []) heard (here, m, run);
 }
