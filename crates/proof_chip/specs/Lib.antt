@@ -1,4 +1,5 @@
 pub mod Serving
+pub mod Bringing
 pub mod Knowing
 pub mod Sending
 pub mod Calling
