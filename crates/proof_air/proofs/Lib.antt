@@ -1,4 +1,4 @@
-mod Logs
+pub mod Logs
 mod Silent
 mod Airing
 pub mod Judging
@@ -16,5 +16,5 @@ pub mod Handling
 pub mod SentBefore
 pub mod Fateless
 pub mod Fated
-mod LandingWalk
+pub mod LandingWalk
 mod Doing

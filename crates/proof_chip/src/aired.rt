@@ -11,7 +11,7 @@ ghost use Rattle.proof_chip.specs.Served.{AirsByLink};
 
 use crate::{calls_go_on, nodes_go_on};
 use proof_air::{history_goes_on, landings_go_on};
-use proof_line::spoken::world::lines_keep_and_ask_well;
+use proof_line::world::lines_keep_and_ask_well;
 use proof_routes::networks_go_on;
 use proof_serial::hosts_write_well;
 use proof_traffic::hosts_obey_the_line;

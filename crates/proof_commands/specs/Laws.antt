@@ -51,7 +51,7 @@ use Rattle.proof_audit.specs.Transcript.{IsNoRepeat, HasRecords}
 use Rattle.proof_world.specs.Devices.{GroupsSessions}
 use Rattle.proof_world.specs.Restarts.{AllKeepWell, BeginsEmpty}
 use Rattle.proof_audit.specs.Headline.{SucceedsAfterChangeOf, IsSupervisedNode}
-use Rattle.proof_commands.specs.Around.{Around}
+use Rattle.run_all.specs.Around.{Around}
 
 -- ---- stories
 

@@ -1,7 +1,7 @@
 //! The laws of stories, of whichever command: each is the contract of a function that does nothing.
 
 ghost use Rattle.std.specs.Prelude.{ℕ, List};
-ghost use Rattle.proof_commands.specs.Around.{Around};
+ghost use Rattle.run_all.specs.Around.{Around};
 ghost use Rattle.proof_commands.specs.Laws.{
   AnswersAsDue,
   AirsAsTaken,
@@ -63,14 +63,13 @@ use proof_audit::transcript::{
     values_are_stored_as_asked,
 };
 use proof_chip::chips_air_what_is_taken;
-use proof_fates::devices::air::{
+use proof_devices::air::{
     lines_are_done_by_devices, lines_bring_what_was_heard, lines_land_in_time,
 };
-use proof_fates::devices::devices_did;
-use proof_fates::devices::routes::{
+use proof_devices::routes::{
     dead_hops_are_forgotten, dead_hops_are_forgotten_in_the_end, frames_go_by_route,
 };
-use proof_fates::{lines_meet_what_is_due, lines_repeat_what_is_asked};
+use proof_devices::{devices_did, lines_meet_what_is_due, lines_repeat_what_is_asked};
 use proof_host::{asides_keep_facts, laws_follow};
 use proof_replay::known::waking::lines_wake_as_told;
 use proof_replay::lines_that_ran_are_heard;

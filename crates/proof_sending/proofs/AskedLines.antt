@@ -18,7 +18,7 @@ use Rattle.host_orders.specs.Errands.{get_text, send_text}
 use Rattle.host_orders.specs.Refusals.{classes_of}
 use Rattle.host_model.specs.State.{HostState, node_of}
 use Rattle.host_model.specs.May.{known_of}
-use Rattle.proof_line.specs.Said.{KnowsListing}
+use Rattle.proof_spoken.specs.Said.{KnowsListing}
 
 pub refused_none : (rest told : List Entry) → begins_refused rest ≡ false → begins_refused told ≡ false → begins_refused (rest ++ told) ≡ false
 refused_none [] told first later = later

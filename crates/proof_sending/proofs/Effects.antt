@@ -31,10 +31,10 @@ use Rattle.world_model.specs.Did.{happens_all, entries_all}
 use Rattle.world_model.specs.Lines.{IsEffect, Asks}
 use Rattle.world_model.proofs.Along.{IsAskedBy, IsOfEffect, anywhere, effect_along}
 use Rattle.proof_host.specs.Facts.{Facts}
-use Rattle.proof_line.specs.Said.{AreSaid}
-use Rattle.proof_line.proofs.Orders.{IsNoOrder}
-use Rattle.proof_line.proofs.Plain.{IsPlain}
-use Rattle.proof_line.proofs.SaidOrders.{IsSo, order_so}
+use Rattle.proof_spoken.specs.Said.{AreSaid}
+use Rattle.proof_spoken.proofs.Orders.{IsNoOrder}
+use Rattle.proof_spoken.proofs.Plain.{IsPlain}
+use Rattle.proof_spoken.proofs.SaidOrders.{IsSo, order_so}
 use Rattle.proof_walk.specs.ByLine.{begun}
 use Rattle.proof_sending.specs.Reasons.{Reason, HasReason, IsDueTask, IsReasoned}
 use Rattle.proof_sending.specs.Due.{IsShown}

@@ -24,9 +24,9 @@ use Rattle.proof_host.specs.Facts.{Facts}
 use Rattle.proof_host.specs.Laws.{HostLaws, numbers_for}
 use Rattle.proof_host.specs.Tables.{taken_at}
 use Rattle.proof_host.proofs.Lists.{each-append}
-use Rattle.proof_line.specs.Said.{AreSaid, KnowsListing, MayAnswer, Tells}
-use Rattle.proof_line.proofs.Plain.{IsPlain}
-use Rattle.proof_line.proofs.SaidOrders.{AsidesKeep, FactsGoOn, plain_so}
+use Rattle.proof_spoken.specs.Said.{AreSaid, KnowsListing, MayAnswer, Tells}
+use Rattle.proof_spoken.proofs.Plain.{IsPlain}
+use Rattle.proof_spoken.proofs.SaidOrders.{AsidesKeep, FactsGoOn, plain_so}
 use Rattle.proof_line.specs.Restarts.{StartsWell}
 use Rattle.proof_sending.specs.Due.{AreCarried}
 use Rattle.proof_sending.specs.Knowing.{Grounded}

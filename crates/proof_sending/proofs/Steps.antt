@@ -38,8 +38,7 @@ use Rattle.world_model.specs.State.{Machine, host_does, host_entries}
 use Rattle.world_model.specs.Events.{Event, Outside_does, Host_does, Host_takes, Decoder_ticks, Refuses, Shows_values, Restarts, fed, happens, entries, notes, May}
 use Rattle.proof_device.proofs.Entered.{IsMark}
 use Rattle.proof_host.proofs.Lists.{each-append}
-use Rattle.proof_line.proofs.Orders.{IsNoOrder}
-use Rattle.proof_line.proofs.Plain.{IsPlain}
+use Rattle.proof_spoken.proofs.Plain.{IsPlain, own_plain}
 use Rattle.proof_walk.specs.Outside.{IsHostNote, IsOfAir}
 use Rattle.proof_walk.specs.ByLine.{IsCommon}
 use Rattle.proof_walk.proofs.Alone.{KindsAre, common_are}
@@ -104,10 +103,6 @@ mine_common (Host_does event) own = own_silent event own
 mine_common (Host_takes count rest items events) mine = tt
 mine_common Decoder_ticks mine = tt
 mine_common event mine = absurd mine
-
-own_plain : (event : HostEvent) → IsOwn event → IsNoOrder event
-own_plain (Accepts order carriage) own = absurd own
-own_plain event own = tt
 
 mine_plain : (event : Event) → IsMine event → IsPlain event
 mine_plain (Host_does event) own = own_plain event own

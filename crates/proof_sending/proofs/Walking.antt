@@ -14,7 +14,7 @@ use Rattle.outside_model.specs.Events.{Begins_line}
 use Rattle.world_model.specs.State.{Machine}
 use Rattle.world_model.specs.Events.{Event, Outside_does, Host_takes, entries, happens, May}
 use Rattle.world_model.specs.Did.{AllAlong}
-use Rattle.proof_line.specs.Said.{AllTell}
+use Rattle.proof_spoken.specs.Said.{AllTell}
 use Rattle.proof_walk.specs.ByLine.{begun}
 use Rattle.proof_walk.specs.Phases.{Phase, Between, Said_line, Begun, Doing, To_tick, Ticked, Arriving, Giving, Ticking_devices, Ticking_chip, Ticking_decoder, Ticking_host, Sleeping, Submitting, Moving, Moved, Turns, Goes, passes_after}
 use Rattle.proof_walk.specs.Walk.{WalkWhere}

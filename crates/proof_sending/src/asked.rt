@@ -13,7 +13,7 @@ ghost use Rattle.host_model.specs.May.{known_of};
 ghost use Rattle.law_transcript.specs.Payloads.{IsAskedFor};
 ghost use Rattle.law_transcript.specs.Restarts.{begins_refused};
 ghost use Rattle.law_transcript.specs.Units.{Carried};
-ghost use Rattle.proof_line.specs.Said.{KnowsListing};
+ghost use Rattle.proof_spoken.specs.Said.{KnowsListing};
 
 /// What lines have asked for stays asked for, whatever stands next, but for a refusal of the last of them; and directly after the words of a line that
 /// asks for a Set or a Get the text has been asked for that the host makes of it, where that knows of the node what the transcript shows.

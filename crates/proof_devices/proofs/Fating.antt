@@ -36,16 +36,16 @@ use Rattle.outside_model.specs.Events.{Arrives, mesh_of, outcome, ticked_entry, 
 use Rattle.proof_host.proofs.Lists.{each-append, each-anywhere}
 use Rattle.proof_device.proofs.ChangesOutside.{fate_listens}
 use Rattle.proof_device.proofs.Entering.{hearing}
-use Rattle.proof_devices.proofs.Fated.{done_none, hearing_none}
-use Rattle.proof_devices.proofs.Fateless.{IsFateless, AreFateless, TellsNoFate, TellNoFate, all_deals_rest}
-use Rattle.proof_devices.specs.Networks.{HasLinks}
-use Rattle.proof_devices.specs.Forgetting.{Passage, passages, passage_by, passage_flown, IsApartFrom, HasPassages}
-use Rattle.proof_devices.proofs.Arriving.{apart_got}
-use Rattle.proof_devices.proofs.Passages.{IsNoFrame, passages_same, links_same, next_passage}
-use Rattle.proof_devices.proofs.Turned.{live_is}
-use Rattle.proof_fates.specs.Meeting.{fate_over, Meets, IsHeardSo, MayMeetSo}
-use Rattle.proof_fates.proofs.Shown.{listener_stands}
-use Rattle.proof_fates.proofs.Stamped.{enters_first}
+use Rattle.proof_air.proofs.Fated.{done_none, hearing_none}
+use Rattle.proof_air.proofs.Fateless.{IsFateless, AreFateless, TellsNoFate, TellNoFate, all_deals_rest}
+use Rattle.proof_routes.specs.Networks.{HasLinks}
+use Rattle.proof_routes.specs.Forgetting.{Passage, passages, passage_by, passage_flown, IsApartFrom, HasPassages}
+use Rattle.proof_routes.proofs.Arriving.{apart_got}
+use Rattle.proof_routes.proofs.Passages.{IsNoFrame, passages_same, links_same, next_passage}
+use Rattle.proof_routes.proofs.Turned.{live_is}
+use Rattle.proof_devices.specs.Meeting.{fate_over, Meets, IsHeardSo, MayMeetSo}
+use Rattle.proof_devices.proofs.FateShown.{listener_stands}
+use Rattle.proof_devices.proofs.Stamped.{enters_first}
 
 -- ---- what becomes of it
 

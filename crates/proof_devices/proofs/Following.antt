@@ -16,9 +16,9 @@ use Rattle.law_transcript.specs.Lists.{EachAfter, listed}
 use Rattle.law_transcript.specs.Repeats.{frame_of, refused_repeat, repeat_entry}
 use Rattle.law_transcript.specs.Sessions.{MayBegin}
 use Rattle.law_wire.specs.Arriving.{FollowsRepeat}
-use Rattle.proof_devices.proofs.Counting.{each-left}
-use Rattle.proof_devices.proofs.Fresh.{same_reason}
-use Rattle.proof_fates.specs.Answering.{MayAnswer}
+use Rattle.proof_air.proofs.Counting.{each-left}
+use Rattle.proof_air.proofs.Fresh.{same_reason}
+use Rattle.proof_devices.specs.Answering.{MayAnswer}
 
 -- each refusal has an entry
 none_refused : (refused : Option Refusal) → flat_map repeat_entry (listed refused) ≡ [] → refused ≡ None

@@ -4,14 +4,14 @@ use Rattle.device_sim.specs.State.{State}
 use Rattle.proof_walk.specs.Time.{MayCount, KnowTime}
 use Rattle.proof_walk.specs.Walk.{Walk, WalkOver, both_know}
 use Rattle.proof_walk.proofs.Over.{over, beside}
-use Rattle.proof_devices.specs.Hearing.{MayHear, KnowAir}
+use Rattle.proof_air.specs.Hearing.{MayHear, KnowAir}
 use Rattle.proof_devices.specs.Living.{MayAny, KnowDevices}
 use Rattle.law_wire.specs.Routes.{MayGo}
-use Rattle.proof_devices.specs.Forgetting.{MayForget, KnowPassages}
-use Rattle.proof_devices.specs.Knowing.{KnowNetworks}
-use Rattle.proof_fates.specs.Answering.{MayAnswer, KnowAnswers, Ground, Listens}
-use Rattle.proof_fates.specs.Meeting as meeting
-use Rattle.proof_fates.proofs.Repeating.{answers_walk}
+use Rattle.proof_routes.specs.Forgetting.{MayForget, KnowPassages}
+use Rattle.proof_routes.specs.Knowing.{KnowNetworks}
+use Rattle.proof_devices.specs.Answering.{MayAnswer, KnowAnswers, Ground, Listens}
+use Rattle.proof_devices.specs.Meeting as meeting
+use Rattle.proof_devices.proofs.Repeating.{answers_walk}
 
 pub ground_walk : (devices : List State) → Walk MayHear KnowAir → Walk MayCount KnowTime → WalkOver (both_know KnowAir KnowTime) MayAny (KnowDevices devices) → Walk MayAny (Ground devices)
 ground_walk devices air time lives =

@@ -27,16 +27,16 @@ use Rattle.proof_walk.specs.Outside.{nothing, CoversOuter, awaits_number}
 use Rattle.proof_walk.specs.Phases.{Phase, Said_line, Doing, To_tick, Arriving, Giving, Ticking_devices, Ticking_chip, Ticking_decoder, Ticking_host, Sleeping, Submitting, Moving, Moved, Goes}
 use Rattle.proof_walk.specs.Walk.{WalkOver}
 use Rattle.proof_walk.proofs.ByLine.{last_is}
-use Rattle.proof_devices.specs.Logs.{Tie}
-use Rattle.proof_devices.proofs.Fateless.{IsFateless, AreFateless, all_deals_rest, event_fateless}
-use Rattle.proof_devices.proofs.Handling.{tie_here}
+use Rattle.proof_air.specs.Logs.{Tie}
+use Rattle.proof_air.proofs.Fateless.{IsFateless, AreFateless, all_deals_rest, event_fateless}
+use Rattle.proof_air.proofs.Handling.{tie_here}
 use Rattle.proof_devices.specs.Living.{Acts, KnowDevices, MovesNone, Numbered}
-use Rattle.proof_devices.proofs.Saying.{tie_of}
-use Rattle.proof_fates.specs.Answering.{Listens}
-use Rattle.proof_fates.specs.Meeting.{IsHeardSo, MayMeetSo, Ground, KnowNothing}
-use Rattle.proof_fates.proofs.Again.{Again, again_tells, dealt, dealt_is, heard_first}
-use Rattle.proof_fates.proofs.Arriving.{arrives_meet, fateless_stand}
-use Rattle.proof_fates.proofs.Repeating.{may_repeat, saying_last}
+use Rattle.proof_routes.proofs.Saying.{tie_of}
+use Rattle.proof_devices.specs.Answering.{Listens}
+use Rattle.proof_devices.specs.Meeting.{IsHeardSo, MayMeetSo, Ground, KnowNothing}
+use Rattle.proof_devices.proofs.Again.{Again, again_tells, dealt, dealt_is, heard_first}
+use Rattle.proof_devices.proofs.Fating.{arrives_meet, fateless_stand}
+use Rattle.proof_devices.proofs.Repeating.{may_repeat, saying_last}
 
 -- who listens where a frame arrives is who does by the transcript (`devices_listen_as_shown` of proof_devices)
 abbrev pub HearsArriving : List State → Type 0

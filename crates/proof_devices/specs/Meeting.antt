@@ -12,9 +12,9 @@ use Rattle.law_wire.specs.Networks.{are_linked, air_links}
 use Rattle.world_model.specs.State.{Machine}
 use Rattle.proof_walk.specs.Phases.{Phase}
 use Rattle.proof_walk.specs.Walk.{both_know}
-use Rattle.proof_devices.specs.Forgetting.{Passage, passages, KnowPassages}
-use Rattle.proof_devices.specs.Knowing.{KnowNetworks}
-use Rattle.proof_fates.specs.Answering as answering
+use Rattle.proof_routes.specs.Forgetting.{Passage, passages, KnowPassages}
+use Rattle.proof_routes.specs.Knowing.{KnowNetworks}
+use Rattle.proof_devices.specs.Answering as answering
 
 -- what becomes of a frame with these ends and this way that arrives now
 abbrev pub fate_over : List State → List Entry → Bool → ℕ → List ℕ → ℕ → Fate

@@ -5,12 +5,12 @@ use Rattle.world_model.specs.State.{Machine, first_machine}
 use Rattle.proof_walk.specs.Walk.{both_know}
 use Rattle.proof_walk.proofs.Lines.{lines_stand}
 use Rattle.proof_walk.proofs.Over.{over}
-use Rattle.proof_devices.specs.Forgetting.{MayForget}
-use Rattle.proof_fates.specs.Meeting.{MayMeetSo, Ground, KnowNothing}
-use Rattle.proof_fates.proofs.Grounds.{ground_walk, frames_walk}
-use Rattle.proof_fates.proofs.Meeting.{fates_walk}
-use Rattle.proof_fates.proofs.Numbered.{all_meet}
-use Rattle.proof_fates.proofs.fates.lines_meet_what_is_due.Goals as goal
+use Rattle.proof_routes.specs.Forgetting.{MayForget}
+use Rattle.proof_devices.specs.Meeting.{MayMeetSo, Ground, KnowNothing}
+use Rattle.proof_devices.proofs.FateGrounds.{ground_walk, frames_walk}
+use Rattle.proof_devices.proofs.Meeting.{fates_walk}
+use Rattle.proof_devices.proofs.Numbered.{all_meet}
+use Rattle.proof_devices.proofs.fates.lines_meet_what_is_due.Goals as goal
 
 pub returns : goal.returns
 returns c = λ keys texts devices lines are numbered.

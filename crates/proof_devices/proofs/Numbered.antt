@@ -17,12 +17,12 @@ use Rattle.law_transcript.specs.Repeats.{frame_of, up_to_frame}
 use Rattle.law_transcript.specs.Restarts.{repeats}
 use Rattle.law_wire.specs.Arriving.{fate_due, fates_due, had_no_way, is_marked, IsHeardWhereDue, MayMeet}
 use Rattle.law_wire.specs.Networks.{air_links}
-use Rattle.proof_devices.proofs.Counting.{at_its_place, each-left}
-use Rattle.proof_devices.specs.Forgetting.{Passage, has_no_way, passage_at}
-use Rattle.proof_devices.proofs.Books.{air_grows}
-use Rattle.proof_devices.proofs.Passages.{GoesSo}
-use Rattle.proof_fates.specs.Meeting.{fate_over, Meets, IsHeardSo, MayMeetSo}
-use Rattle.proof_fates.proofs.Again.{only}
+use Rattle.proof_air.proofs.Counting.{at_its_place, each-left}
+use Rattle.proof_routes.specs.Forgetting.{Passage, has_no_way, passage_at}
+use Rattle.proof_routes.proofs.Books.{air_grows}
+use Rattle.proof_routes.proofs.Passages.{GoesSo}
+use Rattle.proof_devices.specs.Meeting.{fate_over, Meets, IsHeardSo, MayMeetSo}
+use Rattle.proof_devices.proofs.Again.{only}
 
 -- ---- marks
 

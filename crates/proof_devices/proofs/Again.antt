@@ -31,11 +31,11 @@ use Rattle.world_model.specs.State.{Machine}
 use Rattle.world_model.specs.Events.{Outside_does, entries}
 use Rattle.proof_device.proofs.Entering.{hearing}
 use Rattle.proof_walk.specs.Outside.{nothing}
-use Rattle.proof_devices.specs.Logs.{Tie}
-use Rattle.proof_devices.proofs.Fated.{hearing_none}
-use Rattle.proof_devices.proofs.Fateless.{TellNoFate}
-use Rattle.proof_fates.proofs.Shown.{IsShown, again_shown, listener_stands}
-use Rattle.proof_fates.proofs.Stamped.{enters_first, number_none}
+use Rattle.proof_air.specs.Logs.{Tie}
+use Rattle.proof_air.proofs.Fated.{hearing_none}
+use Rattle.proof_air.proofs.Fateless.{TellNoFate}
+use Rattle.proof_devices.proofs.FateShown.{IsShown, again_shown, listener_stands}
+use Rattle.proof_devices.proofs.Stamped.{enters_first, number_none}
 
 pub only : (b : Bool) → (b || false) ≡ b
 only true = refl

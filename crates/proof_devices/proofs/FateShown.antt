@@ -14,9 +14,9 @@ use Rattle.law_transcript.specs.Repeats.{frame_of}
 use Rattle.outside_model.specs.State.{Outside}
 use Rattle.proof_device.proofs.ChangesOutside.{listener_is}
 use Rattle.proof_walk.specs.Outside.{nothing}
-use Rattle.proof_devices.specs.Logs.{plain, Tie}
-use Rattle.proof_devices.proofs.Counting.{departure, at_its_place}
-use Rattle.proof_devices.proofs.Homes.{went_so, shown_so, again_stands}
+use Rattle.proof_air.specs.Logs.{plain, Tie}
+use Rattle.proof_air.proofs.Counting.{departure, at_its_place}
+use Rattle.proof_air.proofs.Homes.{went_so, shown_so, again_stands}
 
 -- which way it goes, and from or to which node
 pub record IsShown (past : List Entry) (number : ℕ) (frame : Flown) : Type 0 where

@@ -18,8 +18,8 @@ use Rattle.world_model.specs.Lines.{IsEffect}
 use Rattle.proof_walk.specs.Phases.{Phase, Said_line, Begun, Doing}
 use Rattle.proof_walk.specs.Time.{KnowTime}
 use Rattle.proof_walk.specs.Walk.{both_know}
-use Rattle.proof_devices.specs.Hearing.{KnowAir}
-use Rattle.proof_devices.specs.Logs.{log_of, IsApart}
+use Rattle.proof_air.specs.Hearing.{KnowAir}
+use Rattle.proof_air.specs.Logs.{log_of, IsApart}
 use Rattle.proof_devices.specs.Living.{Acts, KnowDevices}
 
 -- directly after a line that repeats a frame, fresh by the history before the line, it is heard where somebody is there to hear it

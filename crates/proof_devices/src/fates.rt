@@ -12,9 +12,9 @@ ghost use Rattle.world_lines.specs.Spoken.{Spoken, transcript_of};
 ghost use Rattle.world_lines.specs.Done.{AreDone};
 ghost use Rattle.world_lines.specs.Whole.{AreWhole};
 
-use proof_devices::air::history_goes_on;
-use proof_devices::routes::{frames_go_on, networks_go_on};
-use proof_devices::{devices_listen_as_shown, devices_live_on};
+use crate::{devices_listen_as_shown, devices_live_on};
+use proof_air::history_goes_on;
+use proof_routes::{frames_go_on, networks_go_on};
 use proof_walk::time_goes_on;
 
 /// Over any lines from the first on, the last of which an allocation failure may have cut short, a frame is heard directly after a line that repeats it, where

@@ -9,11 +9,11 @@ use Rattle.world_model.specs.State.{Machine, first_machine}
 use Rattle.proof_host.proofs.Lists.{each-append}
 use Rattle.proof_walk.specs.Walk.{both_know}
 use Rattle.proof_walk.proofs.Lines.{lines_lead, lines_stand}
-use Rattle.proof_fates.specs.Answering.{MayAnswer, KnowAnswers, Ground}
-use Rattle.proof_fates.proofs.Following.{all_follow}
-use Rattle.proof_fates.proofs.Grounds.{ground_walk, answering_walk}
-use Rattle.proof_fates.proofs.Repeating.{answers_first, known_now}
-use Rattle.proof_fates.proofs.fates.lines_repeat_what_is_asked.Goals as goal
+use Rattle.proof_devices.specs.Answering.{MayAnswer, KnowAnswers, Ground}
+use Rattle.proof_devices.proofs.Following.{all_follow}
+use Rattle.proof_devices.proofs.FateGrounds.{ground_walk, answering_walk}
+use Rattle.proof_devices.proofs.Repeating.{answers_first, known_now}
+use Rattle.proof_devices.proofs.fates.lines_repeat_what_is_asked.Goals as goal
 
 pub returns-clause-cut : goal.returns-clause-cut
 returns-clause-cut c = λ keys records devices lines are numbered begins.

@@ -1,5 +1,5 @@
 -- Lines that are said one after another are lines that were read, with all their events.
-use Rattle.std.proofs.Common.{◌≡◌, ℕ, List, [], ◌∷◌, ◌++◌, map, ap, refl, sym, ◌∙◌}
+use Rattle.std.proofs.Common.{◌≡◌, List, [], ◌∷◌, map, ap, refl, sym, ◌∙◌}
 use Rattle.std.specs.Prelude.{Option, Some, None, Result, Ok, Err}
 use Rattle.std.specs.List.{AllByRecursion}
 use Rattle.zw_words.specs.declared.fault.LineFault.{LineFault}
@@ -7,15 +7,12 @@ use Rattle.zw_text.specs.Line.{line_at}
 use Rattle.zw_text.specs.Transcript.{read_as}
 use Rattle.zw_text.specs.declared.line.Line.{Line}
 use Rattle.world_model.specs.State.{Machine}
-use Rattle.world_model.specs.Events.{Event, happens}
+use Rattle.world_model.specs.Events.{Event}
 use Rattle.world_model.specs.Did.{happens_all, MayAll}
 use Rattle.world_model.specs.Prefixes.{IsLineBefore}
 use Rattle.world_model.proofs.EventLists.{happens_all-append, may_all-append}
 use Rattle.proof_serial.specs.Line.{AreLines}
-use Rattle.proof_world.specs.Restarts.{AllStartWell}
 use Rattle.world_lines.specs.Spoken.{Spoken, after, after_all}
-use Rattle.proof_spoken.specs.Spoken.{AreSpoken}
-use Rattle.proof_spoken.specs.Said.{AllTell, LinesTell}
 use Rattle.world_lines.specs.Done.{IsRead, AreDone, events_of}
 
 abbrev pub lines_of : List Spoken → List Line
@@ -49,27 +46,3 @@ all_may m (spoken ∷ more) are = may_all-append m spoken.events (events_of more
 pub all_after : (m : Machine) (lines : List Spoken) → after_all m lines ≡ happens_all m (events_of lines)
 all_after m [] = refl
 all_after m (spoken ∷ more) = all_after (after m spoken) more ∙ sym (happens_all-append m spoken.events (events_of more))
-
--- ---- restarts
-
-both_start : (m : Machine) (a b : List Event) → AllStartWell m (a ++ b) → AllStartWell m a × AllStartWell (happens_all m a) b
-both_start m [] b all = (tt, all)
-both_start m (event ∷ a) b all = let more = both_start (happens m event) a b all.1 in ((all.0, more.0), more.1)
-
-pub are_spoken : (m : Machine) (lines : List Spoken) → AreDone m lines → AllStartWell m (events_of lines) → AreSpoken m lines
-are_spoken m [] are well = tt
-are_spoken m (spoken ∷ more) are well =
-    let both = both_start m spoken.events (events_of more) well in
-    (record { read = are.0.read; is_line = are.0.is_line; may = are.0.may; well = both.0 }, are_spoken (after m spoken) more are.1 both.1)
-
--- ---- what they tell
-
-module _ (listing : ℕ → List ℕ) where
-  both_tell : (m : Machine) (a b : List Event) → AllTell listing m (a ++ b) → AllTell listing m a × AllTell listing (happens_all m a) b
-  both_tell m [] b all = (tt, all)
-  both_tell m (event ∷ a) b all = let more = both_tell (happens m event) a b all.1 in ((all.0, more.0), more.1)
-
-  pub lines_tell : (m : Machine) (lines : List Spoken) → AllTell listing m (events_of lines) → LinesTell listing m lines
-  lines_tell m [] all = tt
-  lines_tell m (spoken ∷ more) all =
-      let both = both_tell m spoken.events (events_of more) all in (both.0, lines_tell (after m spoken) more both.1)

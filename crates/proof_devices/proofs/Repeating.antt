@@ -7,7 +7,7 @@ use Rattle.route_table.specs.declared.route.Route.{Route}
 use Rattle.device_sim.specs.State.{State}
 use Rattle.air_frames.specs.Ages.{refusal_of}
 use Rattle.air_frames.specs.declared.ages.Refusal.{Refusal}
-use Rattle.air_frames.specs.History.{Mark, Goes as goes_mark, Begins as begins_mark, refusal_in}
+use Rattle.air_frames.specs.History.{Mark, refusal_in}
 use Rattle.mesh_sim.specs.Steps.{MayHappen, mesh_outs}
 use Rattle.mesh_sim.specs.Steps as mesh
 use Rattle.zw_text.specs.declared.line.Line.{Line}
@@ -29,12 +29,13 @@ use Rattle.proof_walk.specs.Phases.{Phase, Between, Said_line, Begun, Doing, Tur
 use Rattle.proof_walk.specs.Walk.{WalkOver}
 use Rattle.proof_walk.proofs.ByLine.{last_is}
 use Rattle.proof_walk.proofs.Stepping.{Steps, event_then}
-use Rattle.proof_devices.specs.Logs.{mark_step, plain_log, log_of, IsApart, Tie}
-use Rattle.proof_devices.proofs.Handling.{tie_here}
-use Rattle.proof_devices.proofs.AirHearing.{same_refusal}
+use Rattle.proof_air.specs.Logs.{mark_step, log_of, IsApart, Tie}
+use Rattle.proof_air.proofs.Handling.{tie_here}
+use Rattle.proof_air.proofs.Hearing.{same_refusal}
 use Rattle.proof_devices.specs.Living.{Acts, MovesNone, KnowDevices, Saying}
-use Rattle.proof_fates.specs.Answering.{MayAnswer, Answered, IsAwaited, KnowAnswers, Ground, Listens}
-use Rattle.proof_fates.proofs.Again.{Again, again_tells, heard_first}
+use Rattle.proof_devices.specs.Answering.{MayAnswer, Answered, IsAwaited, KnowAnswers, Ground, Listens}
+use Rattle.proof_devices.proofs.Again.{Again, again_tells, heard_first}
+use Rattle.proof_air.proofs.Logs.{plain_apart}
 
 -- what stands before the last entry
 pub before_is : (before : List Entry) (e : Entry) → before_last (before ++ e ∷ []) ≡ before
@@ -44,11 +45,6 @@ before_is before e =
     ap (λ (n : ℕ). take n (before ++ e ∷ [])) count ∙ take_at before (e ∷ []) (length before) refl
 
 -- none of its frames is of the controller alone, whatever is left out of them
-plain_apart : (log : List Mark) → AllByRecursion IsApart log → AllByRecursion IsApart (plain_log log)
-plain_apart [] apart = tt
-plain_apart (goes_mark departure ∷ log) apart = (apart.0, plain_apart log apart.1)
-plain_apart (begins_mark node ∷ log) apart = (tt, plain_apart log apart.1)
-
 -- a line that repeats no frame
 abbrev IsOther : Line → Type 0
 IsOther (lines.Repeat number) = ⊥
