@@ -382,7 +382,7 @@ kept_anew key old story = (happens_all (first_machine (keys_of key) (Some []) ol
 abbrev pub HearsAsHosts : List ℕ → Around → Around → Type 0
 HearsAsHosts key old new = AlwaysOf key old new
     (λ story. TellsAtRestarts old story → (whole : Bool) → (whole ≡ true → AreSchedules (first key old) story)
-    → HostsKeepLaws whole (heard_by_host (transcript key old story)) (kept_anew key old story))
+    → HostsKeepLaws (keys_of key) whole (heard_by_host (transcript key old story)) (kept_anew key old story))
 
 -- ---- ticks
 

@@ -79,8 +79,8 @@ told_kept : (told held : Option (List (List ℕ))) (heard : List Entry) → Agre
 told_kept None held heard agrees kept = tt
 told_kept (Some texts) held heard agrees kept = subst (λ (o : Option (List (List ℕ))). IfSome o (KeepsRecords heard)) agrees kept
 
-pub kept_as_told : (whole : Bool) (heard : List Entry) (told held : Option (List (List ℕ))) → (whole ≡ true → Agrees told held) → HostsKeepLaws whole heard held → HostsKeepLaws whole heard told
-kept_as_told whole heard told held agrees laws = record {
+pub kept_as_told : (keys : Keys) (whole : Bool) (heard : List Entry) (told held : Option (List (List ℕ))) → (whole ≡ true → Agrees told held) → HostsKeepLaws keys whole heard held → HostsKeepLaws keys whole heard told
+kept_as_told keys whole heard told held agrees laws = record {
   orders = laws.orders;
   said = record {
     answers = laws.said.answers;
@@ -94,10 +94,11 @@ kept_as_told whole heard told held agrees laws = record {
   notes = laws.notes;
   wakes = laws.wakes;
   ticks = laws.ticks;
+  sends = laws.sends;
 }
 
 module _ (laws : (keys : Keys) (whole : Bool) (here : Phase) (heard : List Entry) (m : HostMachine) → Run (first_alone keys (Some [])) here heard m → (whole ≡ true → here ≡ Resting)
-    → AreForHost heard → HostsKeepLaws whole heard m.records)
+    → AreForHost heard → HostsKeepLaws keys whole heard m.records)
     (keys : Keys) (number : ℕ) (told : Option (List (List ℕ))) (past : List Entry) (before : HaveHeard keys number told past) (place : Place) (opens : Opens keys number told place.host)
     (adds : OptAdds told place.shelf.records []) where
   abbrev restarted : List Entry
@@ -136,7 +137,7 @@ module _ (laws : (keys : Keys) (whole : Bool) (here : Phase) (heard : List Entry
         heard = heard;
         hears = hears;
         keeps =
-            kept_as_told whole (past ++ Said restart_word ∷ heard) last.shelf.records held (λ is. subst (λ (r : Option (List (List ℕ))). Agrees r held) (records is) agrees)
+            kept_as_told keys whole (past ++ Said restart_word ∷ heard) last.shelf.records held (λ is. subst (λ (r : Option (List (List ℕ))). Agrees r held) (records is) agrees)
             (laws keys whole Resting (past ++ Said restart_word ∷ heard) (host_machine keys held m.host.state [] m.clock 0 awaits) all (λ is. refl)
             (said_for_host (past ++ Said restart_word ∷ heard) said));
         next = λ is many some. record {
@@ -159,7 +160,7 @@ module _ (laws : (keys : Keys) (whole : Bool) (here : Phase) (heard : List Entry
         heard = [];
         hears = (ran.0, refl);
         keeps =
-            kept_as_told whole (past ++ Said restart_word ∷ []) last.shelf.records held (λ is. absurd (never (sym none ∙ is)))
+            kept_as_told keys whole (past ++ Said restart_word ∷ []) last.shelf.records held (λ is. absurd (never (sym none ∙ is)))
             (laws keys whole Open (past ++ Said restart_word ∷ []) (host_machine keys held place.host.state [] before.clock 0 false) all (λ is. absurd (never (sym none ∙ is)))
             (said_for_host (past ++ Said restart_word ∷ []) (all_said [] tt)));
         next = λ is many some. absurd (never (sym none ∙ is));

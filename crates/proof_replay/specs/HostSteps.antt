@@ -141,5 +141,5 @@ pub record HaveHeard (keys : Keys) (number : ℕ) (told : Option (List (List ℕ
 pub record HearsMore (keys : Keys) (past : List Entry) (clock : ℕ) (whole : Bool) (steps : List Step) (old new : Place) : Type 0 where
   pub heard : List Entry
   pub hears : HearsRun clock steps old new heard
-  pub keeps : HostsKeepLaws whole (past ++ Said restart_word ∷ heard) new.shelf.records
+  pub keeps : HostsKeepLaws keys whole (past ++ Said restart_word ∷ heard) new.shelf.records
   pub next : whole ≡ true → (many : ℕ) → IsSome new.shelf.records → HaveHeard keys many new.shelf.records (past ++ Said restart_word ∷ heard)

@@ -3,8 +3,11 @@ use Rattle.std.specs.Prelude.{◌≡◌, ℕ, Bool, true, List, [], Option, Some
 use Rattle.zw_text.specs.declared.line.ReplayLine.{ReplayLine}
 use Rattle.zw_text.specs.declared.entry.Entry.{Entry}
 use Rattle.s0_crypto.specs.declared.key_pair.Keys.{Keys}
+use Rattle.host_core.specs.Network.{keys_of}
 use Rattle.host_keep.specs.Keeping.{OptAdds}
 use Rattle.law_transcript.specs.Lists.{EachAfter}
+use Rattle.law_transcript.specs.Payloads.{SendsWhatIsDue}
+use Rattle.law_host.specs.Heard.{listing_heard}
 use Rattle.law_time.specs.Waking.{WakesAsTold}
 use Rattle.run_lines.specs.Lines.{TextLine}
 use Rattle.run_replay.specs.Machine.{Lone}
@@ -22,12 +25,15 @@ use Rattle.proof_replay.specs.Heard.{AreReplayed, AreSaid, Replayed, heard_of, t
 -- A command ends, and values, old reports and what cannot be read are noted, only where a payload of the node was judged that tells it.
 -- A node is taken to be awake where it tells so, and wherever it does.
 -- The number of a tick is above those before it, and lines have asked for so many ticks.
-pub record HostsKeepLaws (whole : Bool) (heard : List Entry) (records : Option (List (List ℕ))) : Type 0 where
+-- Each payload that it asks its chip to send is a message of the last session of its node, by what the node listed, a nonce or a question for one, lets the node sleep, or was
+-- asked for by a line; where its keys are those of a network key, by what nodes told openly or sealed with that key.
+pub record HostsKeepLaws (keys : Keys) (whole : Bool) (heard : List Entry) (records : Option (List (List ℕ))) : Type 0 where
   pub orders : HostLaws heard
   pub said : KeepsWhatIsSaid whole heard records
   pub notes : NotesWhatWasTold heard
   pub wakes : WakesAsTold heard
   pub ticks : EachAfter MayCount [] heard
+  pub sends : (key : List ℕ) → keys ≡ keys_of key → SendsWhatIsDue listing_heard key heard
 
 -- A run of a host alone that began without records tells this, and ends at rest; none of its lines is for others; and the keeper holds what it held and the records
 -- of that run, where it tells them.
@@ -41,11 +47,11 @@ pub record IsHeardAlone (keys : Keys) (before after : Option (List (List ℕ))) 
 
 -- Lines were run whole, and this transcript tells them. Over what the host heard of them, with the units that came, it keeps these laws, and the records are those that
 -- were added to what the keeper had.
-pub record HearsLines (lines : List (TextLine ReplayLine)) (old new : Lone) (transcript : List Entry) : Type 0 where
+pub record HearsLines (keys : Keys) (lines : List (TextLine ReplayLine)) (old new : Lone) (transcript : List Entry) : Type 0 where
   pub story : List Replayed
   pub said : AreSaid lines story
   pub are : AreReplayed old story
   pub told : told_of old story ≡ transcript
   pub added : List (List ℕ)
   pub adds : OptAdds old.records new.records added
-  pub keeps : HostsKeepLaws true (heard_of old story) (Some added)
+  pub keeps : HostsKeepLaws keys true (heard_of old story) (Some added)

@@ -18,6 +18,7 @@ ghost use Rattle.proof_replay.specs.Heard.{AreReplayed, IsReadSo, Replayed, hear
 ghost use Rattle.proof_replay.specs.Laws.{HearsLines, HostsKeepLaws, IsHeardAlone};
 
 use proof_alone::{hosts_keep_their_tables, hosts_tell_time};
+use proof_asking::hosts_send_what_is_due;
 use proof_known::waking::hosts_wake_as_told;
 use proof_known::{hosts_do_as_is_said, hosts_note_what_was_told};
 
@@ -32,13 +33,14 @@ pub fn replays_are_a_hosts()
 /// A host alone that begins without records keeps these laws, over a keeper that tells its records, where no line is refused that is for others.
 pub fn hosts_keep_laws()
     ensures { (keys : Keys) (whole : Bool) (here : Phase) (heard : List Entry) (m : HostMachine) → Run (first_alone keys (Some [])) here heard m →
-        (whole ≡ true → here ≡ Resting) → AreForHost heard → HostsKeepLaws whole heard m.records }
+        (whole ≡ true → here ≡ Resting) → AreForHost heard → HostsKeepLaws keys whole heard m.records }
 {
     hosts_keep_their_tables();
     hosts_do_as_is_said();
     hosts_note_what_was_told();
     hosts_tell_time();
     hosts_wake_as_told();
+    hosts_send_what_is_due();
 }
 
 /// So the host of `replay` keeps them over what it heard of any texts that were run whole, each of which is read as its line by its words too, whatever its
@@ -46,7 +48,7 @@ pub fn hosts_keep_laws()
 pub fn texts_that_ran_are_heard()
     ensures { (key : List ℕ) (shelf : Shelf) (lines : List (TextLine ReplayLine)) (new : Point) (transcript : List Entry) →
         AllRan LineRan lines (point_of (first_replay key) shelf) new transcript → AllByRecursion IsReadSo lines →
-        HearsLines lines (lone_of (first_replay key) shelf.records) new.lone transcript }
+        HearsLines (keys_of key) lines (lone_of (first_replay key) shelf.records) new.lone transcript }
 {
     replays_are_a_hosts();
     hosts_keep_laws();

@@ -19,7 +19,7 @@ use proof_known::hosts_answer_lines;
 pub fn lines_that_ran_are_heard()
     ensures { (keys : Keys) (devices : List State) (lines : List Spoken) (whole : Bool) → AreDone (first_machine keys (Some []) devices) lines →
         (whole ≡ true → AreWhole (first_machine keys (Some []) devices) lines) →
-        HostsKeepLaws whole (heard_by_host (transcript_of (first_machine keys (Some []) devices) lines))
+        HostsKeepLaws keys whole (heard_by_host (transcript_of (first_machine keys (Some []) devices) lines))
         (after_all (first_machine keys (Some []) devices) lines).records }
 {
     lines_are_a_hosts();

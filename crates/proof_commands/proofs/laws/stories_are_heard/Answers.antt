@@ -15,8 +15,8 @@ use Rattle.proof_commands.proofs.laws.stories_are_heard.Goals as goal
 
 pub returns : goal.returns
 returns c = λ key old new story unentered is tells whole all.
-    of_new c.lines_are_read_as_said.ensures key old new story unentered is tells (λ (T : List Entry). HostsKeepLaws whole (heard_by_host T) (kept_anew key old story))
+    of_new c.lines_are_read_as_said.ensures key old new story unentered is tells (λ (T : List Entry). HostsKeepLaws (keys_of key) whole (heard_by_host T) (kept_anew key old story))
     (λ done runs.
-    subst (λ (r : Option (List (List ℕ))). HostsKeepLaws whole (heard_by_host (transcript_of (fresh key old) (all_said story))) r)
+    subst (λ (r : Option (List (List ℕ))). HostsKeepLaws (keys_of key) whole (heard_by_host (transcript_of (fresh key old) (all_said story))) r)
     (ap (λ (m : Machine). m.records) (same_machine (fresh key old) story))
     (c.lines_that_ran_are_heard.ensures (keys_of key) old.devices (all_said story) whole done (λ is. runs (all is))))
