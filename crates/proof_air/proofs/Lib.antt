@@ -8,6 +8,7 @@ pub mod Counting
 pub mod Fresh
 pub mod Homes
 pub mod Brought
+pub mod Picked
 mod Ports
 mod Putting
 mod Bringing

@@ -153,8 +153,8 @@ module _ (each : (past : List Entry) (h : HostState) (event : HostEvent) → Fac
   step_goes : (here next : Phase) (past : List Entry) (m : HostMachine) (one : Step) → May here m one next → KnowsTables here past m → Goes next past m one
   step_goes here next past m (Tells e) (between, others, numbered, is) known =
       goes next past m (Tells e) (aside_tie past (e ∷ []) m.state m.records (others_aside e others, tt) known.0) (stays here next is known.1)
-  step_goes here next past m (Comes unit) (between, numbered, is) known = goes next past m (Comes unit) (aside_tie past _ m.state m.records (tt, tt) known.0) (stays here next is known.1)
-  step_goes here next past m (Misses text marks) (between, none, numbered, is) known =
+  step_goes here next past m (Comes unit) (between, numbered, is, frames) known = goes next past m (Comes unit) (aside_tie past _ m.state m.records (tt, tt) known.0) (stays here next is known.1)
+  step_goes here next past m (Misses text marks) (between, none, numbered, is, frames) known =
       goes next past m (Misses text marks) (aside_tie past (entry.Written Chip text ∷ marks) m.state m.records (tt, missed_are IsAside line_aside marks none) known.0) (stays here next is known.1)
   step_goes here next past m (Says words line) (rests, left, line_is, is) known =
       goes next past m (Says words line) (aside_tie past _ m.state m.records (tt, tt) known.0) (stays (Asked line) next is none_to_come)
@@ -188,7 +188,7 @@ module _ (each : (past : List Entry) (h : HostState) (event : HostEvent) → Fac
   turn_goes Open next past m is known = (known.0, stays Sleeping next is none_to_come)
   turn_goes (Behind []) next past m is known = (known.0, stays Open next is none_to_come)
   turn_goes (Behind (event ∷ left)) next past m is known = absurd is
-  turn_goes Sleeping next past m (none, is) known = (known.0, stays Submitting next is none_to_come)
+  turn_goes Sleeping next past m (none, is, frames) known = (known.0, stays Submitting next is none_to_come)
   turn_goes Submitting next past m (pumped, is) known = (known.0, stays Resting next is none_to_come)
 
   pub tables_walk : Walk MayStand KnowsTables

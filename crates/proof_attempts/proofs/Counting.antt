@@ -5,6 +5,7 @@ use Rattle.std.specs.List.{AllByRecursion}
 use Rattle.zw_base.proofs.Each.{all-weaker}
 use Rattle.zw_text.specs.declared.line.Line.{Line}
 use Rattle.zw_text.specs.declared.entry.Refusal.{Refusal}
+use Rattle.zw_text.specs.declared.entry.Ended.TheVariants as ended
 use Rattle.zw_text.specs.declared.entry.Entry.{Entry}
 use Rattle.zw_text.specs.declared.entry.Entry.TheVariants as entry
 use Rattle.zw_text.specs.Transcript.{folded, line_of, waking_at, wakings}
@@ -33,48 +34,56 @@ use Rattle.proof_waking.proofs.Apart.{IsWordless, said_anew, said_in_vain, said_
 use Rattle.proof_walk.specs.Outside.{IsHostNote}
 use Rattle.proof_walk.proofs.HostNotes.{NoteOuts, all_outs_note}
 use Rattle.proof_attempts.specs.Since.{IsLoose, Lasts}
-use Rattle.proof_attempts.specs.Waking.{CountsAwake, TieAwake, Waking, waking_before, waking_in, waking_step}
-use Rattle.proof_attempts.proofs.Nodes.{IsQuiet, event_goes, quiet_all}
+use Rattle.proof_attempts.specs.Waking.{CountsAwake, TieAwake, Waking, releases_of, waking_before, waking_in, waking_step}
+use Rattle.proof_attempts.proofs.Nodes.{IsQuiet, quiet_all}
+use Rattle.proof_attempts.proofs.Releasing.{event_goes}
 
 -- ---- what is told of a node
 
-step_awake : (n : ℕ) (w : Waking) (e : Entry) → (waking_step n w e).awake ≡ last_or w.awake (waking_at n e)
-step_awake n w (entry.Awake node) = by (node == n)
+step_awake : (n : ℕ) (releases : ℕ → Bool) (w : Waking) (e : Entry) → (waking_step n releases w e).awake ≡ last_or w.awake (waking_at n e)
+step_awake n releases w (entry.Awake node) = by (node == n)
   where
     by : (b : Bool) → (if b then record { awake = true; hold = w.hold } else w).awake ≡ last_or w.awake (if b then true ∷ [] else [])
     by true = refl
     by false = refl
-step_awake n w (entry.Asleep node) = by (node == n)
+step_awake n releases w (entry.Asleep node) = by (node == n)
   where
     by : (b : Bool) → (if b then record { awake = false; hold = 0 } else w).awake ≡ last_or w.awake (if b then false ∷ [] else [])
     by true = refl
     by false = refl
-step_awake n w (entry.Held node) = by (node == n)
+step_awake n releases w (entry.Held node) = by (node == n)
   where
     by : (b : Bool) → (if b then record { awake = w.awake; hold = 100 } else w).awake ≡ w.awake
     by true = refl
     by false = refl
-step_awake n w e = refl
+step_awake n releases w (entry.Out command ended.Unanswered) = by (releases command)
+  where
+    by : (b : Bool) → (if b then record { awake = w.awake; hold = 0 } else w).awake ≡ w.awake
+    by true = refl
+    by false = refl
+step_awake n releases w e = refl
 
 last_joined : {A : Type 0} (before : A) (some more : List A) → last_or before (some ++ more) ≡ last_or (last_or before some) more
 last_joined before [] more = refl
 last_joined before (item ∷ some) more = last_joined item some more
 
-told_awake : (n : ℕ) (w : Waking) (told : List Entry) → (folded (waking_step n) w told).awake ≡ last_or w.awake (wakings n told)
-told_awake n w [] = refl
-told_awake n w (e ∷ told) =
-    told_awake n (waking_step n w e) told ∙ ap (λ (b : Bool). last_or b (wakings n told)) (step_awake n w e) ∙ sym (last_joined w.awake (waking_at n e) (wakings n told))
+told_awake : (n : ℕ) (releases : ℕ → Bool) (w : Waking) (told : List Entry) → (folded (waking_step n releases) w told).awake ≡ last_or w.awake (wakings n told)
+told_awake n releases w [] = refl
+told_awake n releases w (e ∷ told) =
+    told_awake n releases (waking_step n releases w e) told ∙ ap (λ (b : Bool). last_or b (wakings n told)) (step_awake n releases w e) ∙ sym (last_joined w.awake (waking_at n e) (wakings n told))
 
 pub line_quiet : AreOfLine IsQuiet
 line_quiet = record { written = λ side text. tt; dropped = λ side. tt; garbled = λ side text. tt; overrun = λ side. tt }
 
 -- of what is put out the notes tell it
-pub told_notes : (n : ℕ) (puts : List HostOut) (told : List Entry) → AreTold puts told → (w : Waking) → folded (waking_step n) w told ≡ folded (waking_step n) w (notes_of puts)
-told_notes n [] told is w = ap (λ (l : List Entry). folded (waking_step n) w l) is
-told_notes n (Note e ∷ puts) told (rest, is, more) w = ap (λ (l : List Entry). folded (waking_step n) w l) is ∙ told_notes n puts rest more (waking_step n w e)
-told_notes n (Write unit ∷ puts) told (marks, rest, is, all, more) w =
-    ap (λ (l : List Entry). folded (waking_step n) w l) is ∙ folded-append (waking_step n) w marks rest
-    ∙ ap (λ (v : Waking). folded (waking_step n) v rest) (quiet_all n w marks (marks_are IsQuiet line_quiet marks all)) ∙ told_notes n puts rest more w
+pub told_notes : (n : ℕ) (releases : ℕ → Bool) (puts : List HostOut) (told : List Entry) → AreTold puts told → (w : Waking)
+    → folded (waking_step n releases) w told ≡ folded (waking_step n releases) w (notes_of puts)
+told_notes n releases [] told is w = ap (λ (l : List Entry). folded (waking_step n releases) w l) is
+told_notes n releases (Note e ∷ puts) told (rest, is, more) w =
+    ap (λ (l : List Entry). folded (waking_step n releases) w l) is ∙ told_notes n releases puts rest more (waking_step n releases w e)
+told_notes n releases (Write unit ∷ puts) told (marks, rest, is, all, more) w =
+    ap (λ (l : List Entry). folded (waking_step n releases) w l) is ∙ folded-append (waking_step n releases) w marks rest
+    ∙ ap (λ (v : Waking). folded (waking_step n releases) v rest) (quiet_all n releases w marks (marks_are IsQuiet line_quiet marks all)) ∙ told_notes n releases puts rest more w
 
 -- ---- entries
 
@@ -82,6 +91,7 @@ pub loose_quiet : (e : Entry) → IsLoose e → IsQuiet e
 loose_quiet (entry.Awake node) loose = absurd loose
 loose_quiet (entry.Held node) loose = absurd loose
 loose_quiet (entry.Asleep node) loose = absurd loose
+loose_quiet (entry.Out command ended.Unanswered) loose = absurd loose
 loose_quiet e loose = tt
 
 pub loose_wordless : (e : Entry) → IsLoose e → IsWordless e
@@ -126,7 +136,9 @@ more_awake past told h later all grows tie n from to =
 
 quiet_awake : (n : ℕ) (told : List Entry) (b : Bool) → AllByRecursion IsQuiet told → b ≡ last_or b (wakings n told)
 quiet_awake n told b all =
-    let w : Waking = record { awake = b; hold = 0 } in sym (ap (λ (v : Waking). v.awake) (quiet_all n w told all)) ∙ told_awake n w told
+    let w : Waking = record { awake = b; hold = 0 } in
+    let none : ℕ → Bool = λ command. false in
+    sym (ap (λ (v : Waking). v.awake) (quiet_all n none w told all)) ∙ told_awake n none w told
 
 -- ---- events
 
@@ -143,7 +155,8 @@ event_awake : (h : HostState) (event : HostEvent) (told : List Entry) → AreTol
 event_awake h event told are places n from to =
     let within : n < length h.nodes = omega (arith, places, to) in
     let w = waking_before event n (waking_in h.nodes n) in
-    (event_goes n h event within).awake ∙ ap (λ (v : Waking). v.awake) (sym (told_notes n (outs h event) told are w)) ∙ told_awake n w told
+    let releases : ℕ → Bool = releases_of (node_of h n) in
+    (event_goes n h event within).awake ∙ ap (λ (v : Waking). v.awake) (sym (told_notes n releases (outs h event) told are w)) ∙ told_awake n releases w told
     ∙ ap (λ (b : Bool). last_or b (wakings n told)) (before_awake event n (waking_in h.nodes n))
 
 asked_awake : (line : Line) (h : HostState) (event : HostEvent) → IsAskedBy line h event → length h.nodes ≡ 233 → (n : ℕ) → 1 ≤ n → n ≤ 232

@@ -46,7 +46,7 @@ between_else : (here : Phase) → IsBetween here → IsElse here
 between_else (Asked line) between = absurd between
 between_else here between = tt
 
-by_else : (here next : Phase) (h : HostState) (event : HostEvent) → GoesBy here h event next → IsElse here × IsElse next
+pub by_else : (here next : Phase) (h : HostState) (event : HostEvent) → GoesBy here h event next → IsElse here × IsElse next
 by_else (Ticking (first ∷ left)) next h event goes = (tt, subst IsElse (sym goes.1) tt)
 by_else (Behind (first ∷ left)) next h event goes = (tt, subst IsElse (sym goes.1) tt)
 by_else Sleeping next h event (node, wants, is, to_is) = (tt, subst IsElse (sym to_is) tt)
@@ -54,7 +54,7 @@ by_else Submitting next h event goes = (tt, subst IsElse (sym goes.1) tt)
 by_else here next h event goes = absurd goes
 
 module _ (Tie : TieOf) where
-  rest_of : (here : Phase) (past : List Entry) (m : HostMachine) → IsElse here → KnowsSince Tie here past m → Tie here past m.state m.clock
+  pub rest_of : (here : Phase) (past : List Entry) (m : HostMachine) → IsElse here → KnowsSince Tie here past m → Tie here past m.state m.clock
   rest_of (Asked line) past m other known = absurd other
   rest_of here past m other known = known
 
@@ -149,7 +149,7 @@ module _ (Tie : TieOf) where
     turn_goes Open next past m is ground known = leads_to next Sleeping past m tt is (lasts.turn Open Sleeping past m tt refl ground known)
     turn_goes (Behind []) next past m is ground known = leads_to next Open past m tt is (lasts.turn (Behind []) Open past m tt refl ground known)
     turn_goes (Behind (event ∷ left)) next past m is ground known = absurd is
-    turn_goes Sleeping next past m is ground known = leads_to next Submitting past m tt is.1 (lasts.turn Sleeping Submitting past m tt (is.0, refl) ground known)
+    turn_goes Sleeping next past m is ground known = leads_to next Submitting past m tt is.1 (lasts.turn Sleeping Submitting past m tt (is.0, refl, is.2) ground known)
     turn_goes Submitting next past m is ground known = leads_to next Resting past m tt is.1 (lasts.turn Submitting Resting past m tt (is.0, refl) ground known)
 
     pub since_walk : WalkOver Ground First First (KnowsSince Tie)

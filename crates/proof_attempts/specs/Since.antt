@@ -1,6 +1,6 @@
 -- What is known of a host alone since it started (this project's own rule): the words of a `restart` are taken back where it is refused, so while a line is asked it is known of what stood
 -- before its words. And how far each node has come in a tick.
-use Rattle.std.specs.Prelude.{◌≡◌, ℕ, ◌+◌, ◌-◌, ◌==◌, ◌||◌, Bool, true, false, if◌then◌else◌, List, [], ◌∷◌, ◌++◌, map}
+use Rattle.std.specs.Prelude.{◌≡◌, ℕ, ◌+◌, ◌-◌, ◌≤◌, ◌==◌, ◌||◌, Bool, true, false, if◌then◌else◌, List, [], ◌∷◌, ◌++◌, map}
 use Rattle.std.specs.List.{AllByRecursion}
 use Rattle.serial_frame.specs.declared.item.Item.{Item}
 use Rattle.serial_frame.specs.declared.unit.Unit.{Unit as LineUnit}
@@ -42,19 +42,28 @@ node_clock Risen clock n = clock - 1
 node_clock (Ticking left) clock n = if is_to_tick n left then clock - 1 else clock
 node_clock here clock n = clock
 
--- the events of a tick that are left: those of the line and of the request come first, then one of each node that has a wait when these are over
-abbrev pub IsNodeTick : HostEvent → Type 0
-IsNodeTick (Node_ticks n) = Unit {0}
-IsNodeTick event = ⊥
+-- ticks of nodes, one of each
+abbrev pub AreNodeTicks : List HostEvent → Type 0
+AreNodeTicks [] = Unit {0}
+AreNodeTicks (Node_ticks n ∷ left) = (is_to_tick n left ≡ false) × AreNodeTicks left
+AreNodeTicks (event ∷ left) = ⊥
 
+-- the events of a tick that are left: those of the line and of the request come first, then one of each node that has a wait when these are over
 abbrev pub TicksLeft : HostState → List HostEvent → Type 0
 TicksLeft h (Line_ticks ∷ left) = left ≡ Requests_do request_ticks BeforeItsTick ∷ map Node_ticks (ticking_nodes (after_all h first_ticks))
 TicksLeft h (Requests_do event moment ∷ left) = left ≡ map Node_ticks (ticking_nodes (after h (Requests_do event moment)))
-TicksLeft h left = AllByRecursion IsNodeTick left
+TicksLeft h left = AreNodeTicks left
 
-abbrev pub TicksAt : Phase → HostState → Type 0
-TicksAt (Ticking left) h = TicksLeft h left
-TicksAt here h = Unit {0}
+-- behind an item no node ticks
+abbrev pub IsBetweenTicks : HostEvent → Type 0
+IsBetweenTicks (Node_ticks n) = ⊥
+IsBetweenTicks event = Unit {0}
+
+abbrev pub TicksAt : Phase → HostState → ℕ → Type 0
+TicksAt Risen h clock = 1 ≤ clock
+TicksAt (Ticking left) h clock = TicksLeft h left × (1 ≤ clock)
+TicksAt (Behind left) h clock = AllByRecursion IsBetweenTicks left
+TicksAt here h clock = Unit {0}
 
 -- ---- ties
 
@@ -80,9 +89,9 @@ abbrev pub KnowsSince : TieOf → Knowledge
 KnowsSince Tie (Asked line) past m = BeforeWords Tie line past m
 KnowsSince Tie here past m = Tie here past m.state m.clock
 
--- the events that are left of a tick
+-- the events that are left of a tick, or behind an item
 abbrev pub InTick : TieOf
-InTick here past h clock = TicksAt here h
+InTick here past h clock = TicksAt here h clock
 
 -- with the tables and the clock
 abbrev pub KnowsTicks : Knowledge

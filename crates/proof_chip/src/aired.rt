@@ -1,4 +1,4 @@
-//! What the controller puts on the air.
+//! What the controller puts on the air, and what the chip brings of what it heard there.
 
 ghost use Rattle.std.specs.Prelude.{Bool, false, true, Option, Some, List, [], ℕ};
 ghost use Rattle.s0_crypto.specs.declared.key_pair.Keys.{Keys};
@@ -20,7 +20,8 @@ use proof_walk::time_goes_on;
 /// Over any lines from the first on, the last of which an allocation failure may have cut short, over a keeper that tells its records and has none at first,
 /// the chip's link keeps the rules of the serial line in time, and by what that link did the controller puts on the air just the frames of the SendData that
 /// are taken: each directly after the answer to its request, unless its node has no way then. Where all lines were run whole it is so up to the end of the
-/// last one.
+/// last one. And with each frame that the chip begins to write, the frames that it has begun bring some of what the controller heard before, one each and in
+/// order.
 pub fn chips_air_what_is_taken()
     ensures cut { (keys : Keys) (devices : List State) (lines : List Spoken) →
         AreDone (first_machine keys (Some []) devices) lines →

@@ -20,6 +20,7 @@ ghost use Rattle.proof_commands.specs.Laws.{
   GroupsChanges,
   HasHeadline,
   HasWholeHeadline,
+  HearsAsHosts,
   KeepsAir,
   KeepsBothLinks,
   KeepsDevices,
@@ -70,7 +71,8 @@ use proof_devices::routes::{
 };
 use proof_devices::{devices_did, lines_meet_what_is_due, lines_repeat_what_is_asked};
 use proof_host::{asides_keep_facts, laws_follow};
-use proof_replay::waking::lines_wake_as_told;
+use proof_replay::known::waking::lines_wake_as_told;
+use proof_replay::lines_that_ran_are_heard;
 use proof_sending::line::{
     lines_clear_at_restarts, lines_clear_nowhere_else, lines_clear_the_line,
     lines_collide_when_asked, lines_keep_links, lines_mark_units, lines_overrun_only_when_full,
@@ -97,6 +99,7 @@ pub fn every_story_keeps_laws()
     stories_air_what_is_taken();
     stories_send_what_is_due();
     stories_wake_as_told();
+    stories_are_heard();
     stories_do_as_shown();
 }
 
@@ -256,6 +259,14 @@ fn stories_wake_as_told()
 {
     lines_are_read_as_said();
     lines_wake_as_told();
+}
+
+/// Over what their hosts heard of lines that were said, stories keep the laws of hosts.
+fn stories_are_heard()
+    ensures { (key : List ℕ) (old new : Around) → HearsAsHosts key old new }
+{
+    lines_are_read_as_said();
+    lines_that_ran_are_heard();
 }
 
 /// The devices did what lines that were said show.

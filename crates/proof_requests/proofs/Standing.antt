@@ -112,12 +112,12 @@ judged_more a told = shown_joined judging_at (up_to_first a) a.following told
 -- ---- how it stands
 
 same_standing : (s : Standing) (copies last : ℕ) (answers : List Answer) (judged : List Judging) → copies ≡ s.copies → last ≡ s.last → answers ≡ s.answers → judged ≡ s.judged
-    → record { frame = s.frame; copies = copies; last = last; answers = answers; judged = judged } ≡ s
+    → record { frame = s.frame; copies = copies; last = last; answers = answers; judged = judged; prior = s.prior } ≡ s
 same_standing s copies last answers judged copies_is last_is answers_is judged_is =
-    ap (λ (n : ℕ). record { frame = s.frame; copies = n; last = last; answers = answers; judged = judged }) copies_is
-    ∙ ap (λ (n : ℕ). record { frame = s.frame; copies = s.copies; last = n; answers = answers; judged = judged }) last_is
-    ∙ ap (λ (l : List Answer). record { frame = s.frame; copies = s.copies; last = s.last; answers = l; judged = judged }) answers_is
-    ∙ ap (λ (l : List Judging). record { frame = s.frame; copies = s.copies; last = s.last; answers = s.answers; judged = l }) judged_is
+    ap (λ (n : ℕ). record { frame = s.frame; copies = n; last = last; answers = answers; judged = judged; prior = s.prior }) copies_is
+    ∙ ap (λ (n : ℕ). record { frame = s.frame; copies = s.copies; last = n; answers = answers; judged = judged; prior = s.prior }) last_is
+    ∙ ap (λ (l : List Answer). record { frame = s.frame; copies = s.copies; last = s.last; answers = l; judged = judged; prior = s.prior }) answers_is
+    ∙ ap (λ (l : List Judging). record { frame = s.frame; copies = s.copies; last = s.last; answers = s.answers; judged = l; prior = s.prior }) judged_is
 
 nothing_more : {A : Type 0} (items more : List A) → more ≡ [] → items ++ more ≡ items
 nothing_more {A} items more none = ap (λ (l : List A). items ++ l) none ∙ append-nil items

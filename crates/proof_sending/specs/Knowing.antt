@@ -77,7 +77,7 @@ pub record Grounded (listing : ℕ → List ℕ) (past : List Entry) (m : Machin
 pub record IsSound (listing : ℕ → List ℕ) (key : List ℕ) (past : List Entry) (m : Machine) : Type 0 where
   pub ground : Grounded listing past m
   pub keys : m.keys ≡ keys_of key
-  pub reasoned : IsReasoned (IsShown listing key past) (keys_of key) m.host.state
+  pub reasoned : IsReasoned (IsShown (always listing) key past) (keys_of key) m.host.state
 
 -- the words of a line are the last entry: it is due by what stands before them
 pub record Saying (listing : ℕ → List ℕ) (key : List ℕ) (line : Line) (past : List Entry) (m : Machine) : Type 0 where
@@ -88,7 +88,7 @@ pub record Saying (listing : ℕ → List ℕ) (key : List ℕ) (line : Line) (p
   pub knew : KnowsListing (always listing) before m.host.state
   pub ground : Grounded listing past m
   pub keys : m.keys ≡ keys_of key
-  pub reasoned : IsReasoned (IsShown listing key before) (keys_of key) m.host.state
+  pub reasoned : IsReasoned (IsShown (always listing) key before) (keys_of key) m.host.state
 
 -- the line has begun
 abbrev pub Opened : (ℕ → List ℕ) → List ℕ → Line → List Entry → Machine → Type 0
@@ -105,7 +105,7 @@ pub record Resting (listing : ℕ → List ℕ) (key : List ℕ) (left : List Ev
   pub ground : Grounded listing past m
   pub keys : m.keys ≡ keys_of key
   pub grows : BringsMore before past
-  pub reasoned : IsReasoned (IsShown listing key before) (keys_of key) m.host.state
+  pub reasoned : IsReasoned (IsShown (always listing) key before) (keys_of key) m.host.state
   pub rests : AllByRecursion IsRest left
 
 -- it is that an order is accepted

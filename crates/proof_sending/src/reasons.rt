@@ -71,7 +71,7 @@ pub fn what_is_judged_gives_reasons()
 /// So each payload that it asks to be sent is due by the transcript, as the law of payloads has it: where the host keeps to the transcript (the sessions that
 /// began are those of its table, and the orders that these carry are as they were asked for), and where the transcript shows the reasons.
 pub fn hosts_ask_what_is_due()
-    ensures { (heard : List Reason) (listing : ℕ → List ℕ) (key : List ℕ) (past : List Entry) (h : HostState) (event : HostEvent) →
+    ensures { (heard : List Reason) (listing : List Entry → ℕ → List ℕ) (key : List ℕ) (past : List Entry) (h : HostState) (event : HostEvent) →
         ((reason : Reason) → Has heard reason → IsShown listing key past reason) → AreBegun past h.nodes → AreCarried listing past h.commands →
         HostFacts h → May h event → HasReason (Has heard) (keys_of key) h event → IsReasoned (Has heard) (keys_of key) h →
         WritesWhatIsDue listing key past (outs h event) }

@@ -136,7 +136,7 @@ module _ (listing : List Entry → ℕ → List ℕ) (past : List Entry) (h : Ho
       by (Some command) (inl is) = ap (λ (n : ℕ). n ∷ []) is
       by (Some command) (inr has) = absurd has
 
-  count_is : (node : ℕ) (more : List Property) → count_with h.store node more ≡ distinct_count same_property (more ++ properties_kept listing past node)
+  pub count_is : (node : ℕ) (more : List Property) → count_with h.store node more ≡ distinct_count same_property (more ++ properties_kept listing past node)
   count_is node more =
       same_count listing past h facts by_table heard no_more
       (λ number n is. number_among past n number (subst (λ (l : List ℕ). Has l n) (sym is) (inl refl)))
