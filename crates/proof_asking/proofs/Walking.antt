@@ -34,7 +34,7 @@ use Rattle.host_model.proofs.Own.{IsOwn, sleepers_own, submitted_own}
 use Rattle.host_model.proofs.Submitted.{next_is, no_more_is}
 use Rattle.world_model.specs.Events.{OpensFrom}
 use Rattle.proof_host.specs.Facts.{Facts}
-use Rattle.proof_line.specs.Said.{AreSaid}
+use Rattle.proof_spoken.specs.Said.{AreSaid}
 use Rattle.proof_sending.specs.Arriving.{ArrivesMore, BringsMore}
 use Rattle.proof_sending.specs.Heard.{ItemTells}
 use Rattle.proof_sending.specs.Reasons.{Reason, HasReason, IsReasoned, WritesDue}

@@ -17,7 +17,7 @@ use Rattle.law_transcript.specs.Units.{arrived}
 use Rattle.law_host.specs.Heard.{listing_heard}
 use Rattle.host_model.specs.State.{HostState}
 use Rattle.host_model.specs.Events.{HostEvent}
-use Rattle.proof_line.specs.Said.{KnowsListing}
+use Rattle.proof_spoken.specs.Said.{KnowsListing}
 use Rattle.proof_sending.specs.Arriving.{BringsMore}
 use Rattle.proof_sending.specs.Due.{IsShown}
 use Rattle.proof_sending.specs.Heard.{GiveReasons}
