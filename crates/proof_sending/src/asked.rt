@@ -20,7 +20,8 @@ ghost use Rattle.proof_spoken.specs.Said.{KnowsListing};
 pub fn lines_ask_for_what_is_queued()
     ensures stays { (listing : List Entry → ℕ → List ℕ) (past told : List Entry) (one : Carried) → begins_refused told ≡ false →
         IsAskedFor listing past one → IsAskedFor listing (past ++ told) one }
-    ensures send { (listing : List Entry → ℕ → List ℕ) (past : List Entry) (words : List ℕ) (h : HostState) (node : ℕ) (word : Word) → KnowsListing listing past h →
+    ensures send { (listing : List Entry → ℕ → List ℕ) (past : List Entry) (words : List ℕ) (h : HostState) (node : ℕ) (word : Word) →
+        KnowsListing listing past h →
         line_of (Said words) ≡ Send node word ∷ [] →
         IsAskedFor listing (past ++ Said words ∷ [])
         (record { node = node; payload = send_text (classes_of (known_of (node_of h node))) word }) }
