@@ -10,7 +10,7 @@
 //! `proofs/Standing` how it stands then; `Line`, `Judging`, `Ended` and `UnderWay` go on with the line, with what was judged, with its end and with its wait;
 //! `Saying` has frames of the chip as text and as what the host makes of them; `OnLine` and `Moving` what happens to a host, `Doing` and `Events` its events,
 //! `Telling` the entries, `Walking` and `Stepping` the walk, and `Ending` what follows. Of its ground `Came` has the units that came,
-//! `Spelled` requests as they are read, `Queued` and `Queueing` those that wait, and `Grounds` all of it. `Brought` has what an interview is told behind an item,
+//! `Spelled` requests as they are read, `Queued` and `Queueing` those that wait, and `Grounds` all of it. `Brought` has what an interview is told,
 //! and `Listening` what it says.
 #![tactic(auto)]
 
