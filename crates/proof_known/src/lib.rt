@@ -1,4 +1,4 @@
-//! What a host alone knows of its nodes and of what it was asked, by its transcript: how it answers, and what it stores, shows and records.
+//! What a host alone knows of its nodes and of what it was asked, by its transcript: how it answers, and what it stores, shows, records and notes.
 //!
 //! A host alone (`proof_alone`) hears what its nodes list in interviews. What it judged is known at each step (`proof_waking`), so of each node it knows what
 //! its transcript shows it to have listed last (`hosts_know_what_nodes_list`). By that each order stands in its table as it was said
