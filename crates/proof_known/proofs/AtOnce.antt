@@ -44,7 +44,7 @@ use Rattle.host_model.specs.State.{HostState}
 use Rattle.host_model.specs.After.{after}
 use Rattle.host_model.specs.Did.{after_all, outs_all}
 use Rattle.host_model.specs.Events as events
-use Rattle.host_model.specs.Events.{HostEvent, Hears, Unreads, Notifies, Hears_value, Has_no_room}
+use Rattle.host_model.specs.Events.{HostEvent, Unreads, Notifies, Hears_value, Has_no_room}
 use Rattle.host_model.specs.Outs.{answer_to, answers, outs}
 use Rattle.host_model.specs.Taking.{FrameEvents, IsTaken, NoticeEvents, PayloadEvents, value_event, value_events}
 use Rattle.host_model.specs.declared.out.HostOut.{HostOut}
