@@ -22,7 +22,7 @@ ghost use Rattle.law_host.specs.Worked.{
   value_otherwise,
 };
 ghost use Rattle.proof_known.specs.Noted.{NotesAtOnce, NotesWhatWasTold};
-ghost use Rattle.proof_known.specs.WorkedNotes.{lock_believed, lock_unread};
+ghost use Rattle.proof_known.specs.WorkedNotes.{ended_unreported, lock_believed, lock_unread};
 
 use crate::known::hosts_know_what_was_told;
 use host_node::a_restart_needs_the_records_alone;
@@ -65,9 +65,10 @@ pub fn worked_telling()
     ensures openly { NotesWhatWasTold lock_unread }
 {}
 
-/// It is broken where a command ends by the report of another session, by one that the node is at work, otherwise than told, or as another command; where a
+/// It is broken where a command ends without a report, by the report of another session, by one that the node is at work, otherwise than told, or as another command; where a
 /// lock is believed that reports openly; and where a value is noted again that is not told.
 pub fn rejected_telling()
+    ensures unreported { NotesWhatWasTold (begun ++ ended_unreported) → ⊥ }
     ensures by_other { NotesWhatWasTold (begun ++ ended_by_other) → ⊥ }
     ensures by_work { NotesWhatWasTold (begun ++ ended_by_work) → ⊥ }
     ensures otherwise { NotesWhatWasTold (begun ++ ended_otherwise) → ⊥ }
