@@ -95,7 +95,7 @@ pub record Took (m : Machine) (count : ℕ) (rest : Rest) : Type 0 where
   pub to_chip : (fed m count rest).outside.outer.to_chip ≡ m.outside.outer.to_chip
   pub chip : (fed m count rest).outside.outer.chip ≡ m.outside.outer.chip
 
-took : (m : Machine) (count : ℕ) (rest : Rest) → Took m count rest
+pub took : (m : Machine) (count : ℕ) (rest : Rest) → Took m count rest
 unfolding outcome
 took m count rest = record { to_host = refl; to_chip = refl; chip = refl }
 

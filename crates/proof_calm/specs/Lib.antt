@@ -1,3 +1,6 @@
 pub mod Marks
 pub mod Quiet
 pub mod Passes
+pub mod Settling
+pub mod Resting
+pub mod Undisturbed
