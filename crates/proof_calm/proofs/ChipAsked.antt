@@ -41,6 +41,7 @@ pub record Asked (down : List LineUnit) (turn : Turn) (most : ℕ) (o n : OuterS
   pub few : length n.chip.state.port.waiting ≤ most
   pub decoder : n.chip.decoder ≡ o.chip.decoder
   pub sends : is_some n.chip.state.sending ≡ true
+  pub given_up : n.chip.state.aborted ≡ o.chip.state.aborted
 
 -- the outcome, by the link's frame
 abbrev by_turn : OuterState → FrameParts → ℕ → List ℕ → ℕ → Option Route → Turn → OuterState
@@ -100,6 +101,7 @@ idle_asked o f node payload id None none few free = record {
   few = let empty = ap (λ (l : List FrameParts). length l) free in omega (arith, empty);
   decoder = refl;
   sends = refl;
+  given_up = refl;
 }
 idle_asked o f node payload id (Some route) none few free = record {
   up_bytes = refl;
@@ -108,6 +110,7 @@ idle_asked o f node payload id (Some route) none few free = record {
   few = let empty = ap (λ (l : List FrameParts). length l) free in omega (arith, empty);
   decoder = refl;
   sends = refl;
+  given_up = refl;
 }
 
 -- ---- a busy one later
@@ -123,10 +126,10 @@ busy_asked o f g copies ticks node payload id route none few busy = by (is_full 
     by : (b : Bool) (r : Option Route) → Asked (Ack ∷ []) (Copied g copies ticks) (length o.chip.state.port.waiting + 1) o
         (each put_out (with_chip o (record (record hs { port = if b then hs.port else record { side = hs.port.side; waiting = hs.port.waiting ++ response ∷ [] } }) { sending = Some (record { node = node; callback_id = id }) }))
         (Write Ack ∷ ((if b then Full ∷ [] else []) ++ sent node payload r))).outer
-    by true None = record { up_bytes = refl; down_bytes = written_once o.to_host none.to_host few; turn_is = busy; few = omega arith; decoder = refl; sends = refl }
-    by true (Some way) = record { up_bytes = refl; down_bytes = written_once o.to_host none.to_host few; turn_is = busy; few = omega arith; decoder = refl; sends = refl }
-    by false None = record { up_bytes = refl; down_bytes = written_once o.to_host none.to_host few; turn_is = busy; few = let one = length_push o.chip.state.port.waiting response in omega (arith, one); decoder = refl; sends = refl }
-    by false (Some way) = record { up_bytes = refl; down_bytes = written_once o.to_host none.to_host few; turn_is = busy; few = let one = length_push o.chip.state.port.waiting response in omega (arith, one); decoder = refl; sends = refl }
+    by true None = record { up_bytes = refl; down_bytes = written_once o.to_host none.to_host few; turn_is = busy; few = omega arith; decoder = refl; sends = refl; given_up = refl }
+    by true (Some way) = record { up_bytes = refl; down_bytes = written_once o.to_host none.to_host few; turn_is = busy; few = omega arith; decoder = refl; sends = refl; given_up = refl }
+    by false None = record { up_bytes = refl; down_bytes = written_once o.to_host none.to_host few; turn_is = busy; few = let one = length_push o.chip.state.port.waiting response in omega (arith, one); decoder = refl; sends = refl; given_up = refl }
+    by false (Some way) = record { up_bytes = refl; down_bytes = written_once o.to_host none.to_host few; turn_is = busy; few = let one = length_push o.chip.state.port.waiting response in omega (arith, one); decoder = refl; sends = refl; given_up = refl }
 
 -- ---- both
 

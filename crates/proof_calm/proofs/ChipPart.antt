@@ -73,16 +73,18 @@ pub record Took (down : List LineUnit) (turn : Turn) (most : ℕ) (n : OuterStat
   pub turn_is : n.chip.state.port.side.turn ≡ turn
   pub few : length n.chip.state.port.waiting ≤ most
   pub sends : is_some n.chip.state.sending ≡ true
+  pub none_given_up : n.chip.state.aborted ≡ 0
 
-asked_took : (down more : List LineUnit) (turn : Turn) (most : ℕ) (p n : OuterState) → Asked more turn most p n → p.to_chip.bytes ≡ [] → p.to_host.bytes ≡ texts down → p.chip.decoder ≡ no_rest
+asked_took : (down more : List LineUnit) (turn : Turn) (most : ℕ) (p n : OuterState) → Asked more turn most p n → p.to_chip.bytes ≡ [] → p.to_host.bytes ≡ texts down → p.chip.decoder ≡ no_rest → p.chip.state.aborted ≡ 0
     → Took (down ++ more) turn most n
-asked_took down more turn most p n asked up bytes rest = record {
+asked_took down more turn most p n asked up bytes rest kept = record {
   up_bytes = ap (λ (w : WayState). w.bytes) asked.up_bytes ∙ up;
   down_bytes = asked.down_bytes ∙ ap (λ (bs : List ℕ). bs ++ texts more) bytes ∙ sym (flat_map-append unit_text down more);
   decoder = asked.decoder ∙ rest;
   turn_is = asked.turn_is;
   few = asked.few;
   sends = asked.sends;
+  none_given_up = asked.given_up ∙ kept;
 }
 
 -- the chip sends nothing where it takes a payload
@@ -121,7 +123,7 @@ asks_took o asked rest ways none fits at may takes_each =
     let is : (chip_takes o (length o.to_chip.bytes) rest ways).outer ≡ (chip_does p (Judged (Good (Framed asked)) one.0)).outer =
     ap (λ (l : List (Item × Option Route)). (each chip_does p (judged_all l)).outer) one.1 in (
       subst (Took (Ack ∷ Framed response ∷ []) (Copied response 1 0) 0) (sym is)
-          (asked_took [] (Ack ∷ Framed response ∷ []) (Copied response 1 0) 0 p (chip_does p (Judged (Good (Framed asked)) one.0)).outer here (empty o rest) at.down_bytes fed.1),
+          (asked_took [] (Ack ∷ Framed response ∷ []) (Copied response 1 0) 0 p (chip_does p (Judged (Good (Framed asked)) one.0)).outer here (empty o rest) at.down_bytes fed.1 at.none_given_up),
       not_sending o.chip.state asked is_taken,
     )
 
@@ -139,7 +141,7 @@ sent_asks_took o asked frame ticks frames rest ways none fits fit at may takes_e
     ap (λ (l : List (Item × Option Route)). (each chip_does p (judged_all l)).outer) one.1 in (
       subst (Took (Framed frame ∷ Ack ∷ []) (Copied frame 1 ticks) (length frames + 1)) (sym is)
           (subst (λ (most : ℕ). Took (Framed frame ∷ Ack ∷ []) (Copied frame 1 ticks) (most + 1) (chip_does p (Judged (Good (Framed asked)) one.0)).outer) many
-          (asked_took (Framed frame ∷ []) (Ack ∷ []) (Copied frame 1 ticks) (length o.chip.state.port.waiting + 1) p (chip_does p (Judged (Good (Framed asked)) one.0)).outer here (empty o rest) at.down_bytes fed.1)),
+          (asked_took (Framed frame ∷ []) (Ack ∷ []) (Copied frame 1 ticks) (length o.chip.state.port.waiting + 1) p (chip_does p (Judged (Good (Framed asked)) one.0)).outer here (empty o rest) at.down_bytes fed.1 at.none_given_up)),
       not_sending o.chip.state asked is_taken,
     )
 
@@ -148,13 +150,13 @@ then_asks : (q : OuterState) (asked : FrameParts) (route : Option Route) (frames
     → IsTakenBy q.chip.state asked → TookAfter frames (chip_does q (Judged (Good (Framed asked)) route)).outer
 then_asks q asked route [] none at is_taken =
     asked_took [] (Ack ∷ Framed response ∷ []) (Copied response 1 0) 0 q (chip_does q (Judged (Good (Framed asked)) route)).outer
-    (idle_takes q asked route none (few_bytes q.to_host.bytes [] at.down_bytes (omega arith)) at.turn_is at.waiting is_taken) at.up_bytes at.down_bytes at.decoder
+    (idle_takes q asked route none (few_bytes q.to_host.bytes [] at.down_bytes (omega arith)) at.turn_is at.waiting is_taken) at.up_bytes at.down_bytes at.decoder at.none_given_up
 then_asks q asked route (frame ∷ frames) none at is_taken =
     let many : length q.chip.state.port.waiting ≡ length frames = ap (λ (l : List FrameParts). length l) at.waiting in
     let fit : IsFrame frame = subst HasFrame at.turn_is at.fit.turn in
     subst (λ (most : ℕ). Took (Framed frame ∷ Ack ∷ []) (Copied frame 1 0) (most + 1) (chip_does q (Judged (Good (Framed asked)) route)).outer) many
     (asked_took (Framed frame ∷ []) (Ack ∷ []) (Copied frame 1 0) (length q.chip.state.port.waiting + 1) q (chip_does q (Judged (Good (Framed asked)) route)).outer
-    (busy_takes q asked frame 1 0 route none (few_bytes q.to_host.bytes (Framed frame ∷ []) at.down_bytes (frame_few frame fit)) at.turn_is is_taken) at.up_bytes at.down_bytes at.decoder)
+    (busy_takes q asked frame 1 0 route none (few_bytes q.to_host.bytes (Framed frame ∷ []) at.down_bytes (frame_few frame fit)) at.turn_is is_taken) at.up_bytes at.down_bytes at.decoder at.none_given_up)
 
 pub heard_asks_took : (o : OuterState) (asked frame : FrameParts) (ticks : ℕ) (frames : List FrameParts) (rest : Rest) (ways : List (Item × Option Route)) → HasNoMarks o → IsFrame asked
     → AtChip (Ack ∷ Framed asked ∷ []) [] (Copied frame 1 ticks) frames o.to_chip o.to_host o.chip → MayTake o (length o.to_chip.bytes) rest ways → TakesEach o.chip.state ways
@@ -168,7 +170,7 @@ heard_asks_took o asked frame ticks frames rest ways none fits at may takes_each
     let has : HasFrames (record { side = o.chip.state.port.side; waiting = frames }) =
     subst (λ (fs : List FrameParts). HasFrames (record { side = o.chip.state.port.side; waiting = fs })) at.waiting (record { turn = at.fit.turn; waiting = at.fit.waiting }) in
     let one : Acked frames p q =
-    subst (Acked frames p) (sym (judges_ack p two.0 ∙ ap (acked p) at.waiting)) (acked_at p frames marks (empty o rest) at.down_bytes fed.1 has) in
+    subst (Acked frames p) (sym (judges_ack p two.0 ∙ ap (acked p) at.waiting)) (acked_at p frames marks (empty o rest) at.down_bytes fed.1 has at.none_given_up) in
     let is_taken : IsTakenBy q.chip.state asked =
     subst (λ (s : ChipState). IsTakenBy s asked) (sym (does_chip p (Judged (Good Ack) two.0))) (subst (TakesEach o.chip.state) two.2 takes_each).1.0 in
     let is : (chip_takes o (length o.to_chip.bytes) rest ways).outer ≡ (chip_does q (Judged (Good (Framed asked)) two.1)).outer =
@@ -208,7 +210,7 @@ took_moved m rest ways passes most ticks host down frame unmarked at_host has ma
     let sends : is_sending n ≡ true = entered_sending x.outer x.entries ∙ took.sends in
     let nothing : for_request (is_sending n) ≡ 0 = ap for_request sends in
     let at : AtChip [] down (Copied frame 1 ticks) x.outer.chip.state.port.waiting x.outer.to_chip x.outer.to_host x.outer.chip =
-    record { up_bytes = took.up_bytes; down_bytes = took.down_bytes; decoder = took.decoder; turn_is = took.turn_is; waiting = refl; fit = still_fit o count rest ways has may.1 } in
+    record { up_bytes = took.up_bytes; down_bytes = took.down_bytes; decoder = took.decoder; turn_is = took.turn_is; waiting = refl; fit = still_fit o count rest ways has may.1; none_given_up = took.none_given_up } in
     let waits = took.few in
     record {
       down = down;

@@ -56,9 +56,9 @@ one_more : (frames : List FrameParts) (frame : FrameParts) → length frames ≤
 one_more frames frame few room = let long = length_push frames frame in grind (arith, few, room, long)
 
 -- where the chip is so but for its link, whose port has one frame more
-gives_one : (o : OuterState) (s : ChipState) (frame : FrameParts) → HasNoMarks o → Has o → s.port ≡ queued o.chip.state.port frame → HasFrames s.port
+gives_one : (o : OuterState) (s : ChipState) (frame : FrameParts) → HasNoMarks o → Has o → s.port ≡ queued o.chip.state.port frame → HasFrames s.port → s.aborted ≡ 0
     → Has (each put_out (with_chip o s) (queued_outs o.chip.state.port frame)).outer
-gives_one o s frame none (Nothing at) port fits =
+gives_one o s frame none (Nothing at) port fits kept =
     subst (λ (outs : List ChipOut). Has (each put_out (with_chip o s) outs).outer) (ap (λ (t : Turn). queued_outs_at t o.chip.state.port frame) (sym at.turn_is))
     (First frame [] (omega arith) (record {
       up_bytes = at.up_bytes;
@@ -69,6 +69,7 @@ gives_one o s frame none (Nothing at) port fits =
       turn_is = turn;
       waiting = ap (λ (p : PortState). p.waiting) (port ∙ idle) ∙ at.waiting;
       fit = fits;
+      none_given_up = kept;
     }))
   where
     idle : queued o.chip.state.port frame ≡ queued_at Idle o.chip.state.port frame
@@ -76,7 +77,7 @@ gives_one o s frame none (Nothing at) port fits =
 
     turn : s.port.side.turn ≡ Copied frame 1 0
     turn = ap (λ (p : PortState). p.side.turn) (port ∙ idle)
-gives_one o s frame none (First first frames few at) port fits =
+gives_one o s frame none (First first frames few at) port fits kept =
     subst (λ (outs : List ChipOut). Has (each put_out (with_chip o s) outs).outer) (ap (λ (t : Turn). queued_outs_at t o.chip.state.port frame) (sym at.turn_is)) (by (is_full o.chip.state.port.waiting) refl)
   where
     busy : queued o.chip.state.port frame ≡ queued_at (Copied first 1 0) o.chip.state.port frame
@@ -93,6 +94,7 @@ gives_one o s frame none (First first frames few at) port fits =
           turn_is = ap (λ (p : PortState). p.side.turn) same ∙ at.turn_is;
           waiting = ap (λ (p : PortState). p.waiting) same ∙ at.waiting;
           fit = fits;
+          none_given_up = kept;
         }))
     by false room =
         let more : s.port ≡ record { side = o.chip.state.port.side; waiting = o.chip.state.port.waiting ++ frame ∷ [] } =
@@ -106,30 +108,37 @@ gives_one o s frame none (First first frames few at) port fits =
           turn_is = ap (λ (p : PortState). p.side.turn) more ∙ at.turn_is;
           waiting = ap (λ (p : PortState). p.waiting) more ∙ ap (λ (fs : List FrameParts). fs ++ frame ∷ []) at.waiting;
           fit = fits;
+          none_given_up = kept;
         }))
 
 -- where the link is as it was
-same_port : (o : OuterState) (s : ChipState) → Has o → s.port ≡ o.chip.state.port → Has (with_chip o s)
-same_port o s (Nothing at) port = Nothing (record {
+same_port : (o : OuterState) (s : ChipState) → Has o → s.port ≡ o.chip.state.port → s.aborted ≡ 0 → Has (with_chip o s)
+same_port o s (Nothing at) port kept = Nothing (record {
   up_bytes = at.up_bytes;
   down_bytes = at.down_bytes;
   decoder = at.decoder;
   turn_is = ap (λ (p : PortState). p.side.turn) port ∙ at.turn_is;
   waiting = ap (λ (p : PortState). p.waiting) port ∙ at.waiting;
   fit = subst HasFrames (sym port) at.fit;
+  none_given_up = kept;
 })
-same_port o s (First frame frames few at) port = First frame frames few (record {
+same_port o s (First frame frames few at) port kept = First frame frames few (record {
   up_bytes = at.up_bytes;
   down_bytes = at.down_bytes;
   decoder = at.decoder;
   turn_is = ap (λ (p : PortState). p.side.turn) port ∙ at.turn_is;
   waiting = ap (λ (p : PortState). p.waiting) port ∙ at.waiting;
   fit = subst HasFrames (sym port) at.fit;
+  none_given_up = kept;
 })
 
 has_fit : (o : OuterState) → Has o → HasFrames o.chip.state.port
 has_fit o (Nothing at) = at.fit
 has_fit o (First frame frames few at) = at.fit
+
+kept_of : (o : OuterState) → Has o → o.chip.state.aborted ≡ 0
+kept_of o (Nothing at) = at.none_given_up
+kept_of o (First frame frames few at) = at.none_given_up
 
 -- ---- an event of the chip
 
@@ -138,16 +147,16 @@ fit_after o event may has = events_have o.chip.state (event ∷ []) (has_fit o h
 
 hears_has : (o : OuterState) (node : ℕ) (payload : List ℕ) → MayOfChip o.chip.state (chip_hears node payload) → Holds o → Has (chip_does o (chip_hears node payload)).outer
 unfolding chip_does
-hears_has o node payload may holds = gives_one o (after o.chip.state (chip_hears node payload)) _ holds.0 holds.1 refl (fit_after o (chip_hears node payload) may holds.1)
+hears_has o node payload may holds = gives_one o (after o.chip.state (chip_hears node payload)) _ holds.0 holds.1 refl (fit_after o (chip_hears node payload) may holds.1) (kept_of o holds.1)
 
 informs_has : (o : OuterState) (node : ℕ) (profile : Option Profile) → MayOfChip o.chip.state (Informed node profile) → Holds o → Has (chip_does o (Informed node profile)).outer
 unfolding chip_does
-informs_has o node profile may holds = gives_one o (after o.chip.state (Informed node profile)) _ holds.0 holds.1 refl (fit_after o (Informed node profile) may holds.1)
+informs_has o node profile may holds = gives_one o (after o.chip.state (Informed node profile)) _ holds.0 holds.1 refl (fit_after o (Informed node profile) may holds.1) (kept_of o holds.1)
 
 ends_has : (o : OuterState) (sending : Option Sending) (status : TransmitStatus) → HasFrames (ended sending o.chip.state status).port → Holds o
     → Has (each put_out (with_chip o (ended sending o.chip.state status)) (ended_outs sending o.chip.state status)).outer
-ends_has o None status fits holds = same_port o o.chip.state holds.1 refl
-ends_has o (Some sending) status fits holds = gives_one o (closed (given o.chip.state (callback_frame sending status)) sending status) (callback_frame sending status) holds.0 holds.1 refl fits
+ends_has o None status fits holds = same_port o o.chip.state holds.1 refl (kept_of o holds.1)
+ends_has o (Some sending) status fits holds = gives_one o (closed (given o.chip.state (callback_frame sending status)) sending status) (callback_frame sending status) holds.0 holds.1 refl fits (kept_of o holds.1)
 
 done_has : (o : OuterState) (status : TransmitStatus) → MayOfChip o.chip.state (Done status) → Holds o → Has (chip_does o (Done status)).outer
 unfolding chip_does
@@ -157,7 +166,7 @@ done_has o status may holds = by (o.chip.state.aborted == 0) (fit_after o (Done 
         → Has (each put_out (with_chip o (if b then ended o.chip.state.sending o.chip.state status else record o.chip.state { aborted = o.chip.state.aborted - 1 }))
         (if b then ended_outs o.chip.state.sending o.chip.state status else [])).outer
     by true fits = ends_has o o.chip.state.sending status fits holds
-    by false fits = same_port o (record o.chip.state { aborted = o.chip.state.aborted - 1 }) holds.1 refl
+    by false fits = same_port o (record o.chip.state { aborted = o.chip.state.aborted - 1 }) holds.1 refl (let kept = kept_of o holds.1 in omega (arith, kept))
 
 -- ---- what the chip is given
 
@@ -189,7 +198,7 @@ forgets_hold o (Some hop) holds = by (linked o.chip.state.table hop.0 hop.1)
     gone = after o.chip.state (Forgets hop.0 hop.1)
 
     by : (b : Bool) → Holds (if b then tells (with_chip o gone) (entry.Forget hop.0 hop.1 ∷ []) else silent o).outer
-    by true = (record { to_chip = holds.0.to_chip; to_host = holds.0.to_host; frames = holds.0.frames; acknowledgements = holds.0.acknowledgements; link = holds.0.link; moves = holds.0.moves }, same_port o gone holds.1 refl)
+    by true = (record { to_chip = holds.0.to_chip; to_host = holds.0.to_host; frames = holds.0.frames; acknowledgements = holds.0.acknowledgements; link = holds.0.link; moves = holds.0.moves }, same_port o gone holds.1 refl (kept_of o holds.1))
     by false = holds
 
 ends_hold : (o : OuterState) (status : ℕ) (dead : Option (ℕ × ℕ)) → Leaves o (frame_ends o status dead)

@@ -162,6 +162,7 @@ module _ (air : Airs) where
             turn_is = ap (λ (c : ChipParts). c.state.port.side.turn) chip ∙ line.at_chip.turn_is;
             waiting = ap (λ (c : ChipParts). c.state.port.waiting) chip ∙ line.at_chip.waiting;
             fit = subst (λ (c : ChipParts). HasFrames c.state.port) (sym chip) line.at_chip.fit;
+            none_given_up = ap (λ (c : ChipParts). c.state.aborted) chip ∙ line.at_chip.none_given_up;
           };
           at_host = record { decoder = read.1; turn_is = judged.turn_is ∙ ap (λ (t : Turn). turn_after t (unit ∷ units)) line.at_host.turn_is };
         },

@@ -58,7 +58,7 @@ chip_idles m down host turn frames rest ways line may =
     let p : OuterState = taken o rest in
     let is : x.outer ≡ p = ap (λ (l : List (Item × Option Route)). (each chip_does p (judged_all l)).outer) (no_ways ways none.0) in
     let at : AtChip [] down turn frames p.to_chip p.to_host p.chip =
-    record { up_bytes = empty o rest; down_bytes = line.at_chip.down_bytes; decoder = none.1; turn_is = line.at_chip.turn_is; waiting = line.at_chip.waiting; fit = line.at_chip.fit } in (
+    record { up_bytes = empty o rest; down_bytes = line.at_chip.down_bytes; decoder = none.1; turn_is = line.at_chip.turn_is; waiting = line.at_chip.waiting; fit = line.at_chip.fit; none_given_up = line.at_chip.none_given_up } in (
       record {
         unmarked = event_unmarked m (Outside_does (Chip_takes count rest ways)) tt may line.unmarked;
         at_chip = entered_chip x.outer x.entries (subst (λ (n : OuterState). AtChip [] down turn frames n.to_chip n.to_host n.chip) (sym is) at);
@@ -97,6 +97,7 @@ host_idles m host turn frames rest items events line may =
           turn_is = ap (λ (c : ChipParts). c.state.port.side.turn) chip ∙ line.at_chip.turn_is;
           waiting = ap (λ (c : ChipParts). c.state.port.waiting) chip ∙ line.at_chip.waiting;
           fit = subst (λ (c : ChipParts). HasFrames c.state.port) (sym chip) line.at_chip.fit;
+          none_given_up = ap (λ (c : ChipParts). c.state.aborted) chip ∙ line.at_chip.none_given_up;
         };
         at_host = record { decoder = read.1; turn_is = ap (λ (g : HostState). g.side.turn) same ∙ line.at_host.turn_is };
       },

@@ -103,6 +103,7 @@ module _ (air : Airs) where
           turn_is = ap (λ (c : ChipParts). c.state.port.side.turn) all.chip ∙ line.at_chip.turn_is;
           waiting = ap (λ (c : ChipParts). c.state.port.waiting) all.chip ∙ line.at_chip.waiting;
           fit = subst (λ (c : ChipParts). HasFrames c.state.port) (sym all.chip) line.at_chip.fit;
+          none_given_up = ap (λ (c : ChipParts). c.state.aborted) all.chip ∙ line.at_chip.none_given_up;
         };
         at_host = record { decoder = line.at_host.decoder; turn_is = side };
       }

@@ -117,6 +117,7 @@ chip_counts o (Nothing at) =
       turn_is = refl;
       waiting = refl;
       fit = record { turn = tt; waiting = tt };
+      none_given_up = at.none_given_up;
     }))))
 chip_counts o (First frame frames few at) =
     subst (HasFor 1) (sym (is_counted o))
@@ -128,6 +129,7 @@ chip_counts o (First frame frames few at) =
       turn_is = refl;
       waiting = refl;
       fit = record { turn = subst HasFrame at.turn_is at.fit.turn; waiting = subst (AllByRecursion IsFrame) at.waiting at.fit.waiting };
+      none_given_up = at.none_given_up;
     }))))
 
 pub chip_given : (m : Machine) → May m (Outside_does Chip_ticks) → IsGiven 0 m → IsGiven 1 (happens m (Outside_does Chip_ticks))

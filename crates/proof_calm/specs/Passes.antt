@@ -29,7 +29,7 @@ use Rattle.proof_calm.specs.Marks.{IsUnmarked}
 abbrev pub texts : List LineUnit → List ℕ
 texts units = flat_map unit_text units
 
--- exactly these units are on their way to the chip and to the host, and nothing is unfinished at the chip; it has this frame on the line, and these wait there
+-- exactly these units are on their way to the chip and to the host, and nothing is unfinished at the chip; it has this frame on the line, and these wait there; and it has given up no payload whose call is to come
 pub record AtChip (up down : List LineUnit) (turn : Turn) (frames : List FrameParts) (to_chip to_host : WayState) (chip : ChipParts) : Type 0 where
   pub up_bytes : to_chip.bytes ≡ texts up
   pub down_bytes : to_host.bytes ≡ texts down
@@ -37,6 +37,7 @@ pub record AtChip (up down : List LineUnit) (turn : Turn) (frames : List FramePa
   pub turn_is : chip.state.port.side.turn ≡ turn
   pub waiting : chip.state.port.waiting ≡ frames
   pub fit : HasFrames chip.state.port
+  pub none_given_up : chip.state.aborted ≡ 0
 
 -- nothing is unfinished at the host, which has this frame on the line
 pub record AtHost (turn : Turn) (host : HostParts) : Type 0 where

@@ -13,7 +13,7 @@ pub returns-clause-first : goal.returns-clause-first
 unfolding first_outer
 returns-clause-first c = λ keys records devices. record {
   unmarked = record { to_chip = refl; to_host = refl; frames = refl; acknowledgements = refl; link = refl; moves = refl };
-  at_chip = record { up_bytes = refl; down_bytes = refl; decoder = refl; turn_is = refl; waiting = refl; fit = record { turn = tt; waiting = tt } };
+  at_chip = record { up_bytes = refl; down_bytes = refl; decoder = refl; turn_is = refl; waiting = refl; fit = record { turn = tt; waiting = tt }; none_given_up = refl };
   at_host = record { decoder = refl; turn_is = refl };
 }
 
