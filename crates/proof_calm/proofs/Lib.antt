@@ -14,3 +14,4 @@ pub mod Parts
 pub mod Given
 pub mod Ticking
 pub mod Walking
+pub mod Sending

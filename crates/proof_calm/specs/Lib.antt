@@ -3,4 +3,5 @@ pub mod Quiet
 pub mod Passes
 pub mod Settling
 pub mod Resting
+pub mod Sending
 pub mod Undisturbed

@@ -15,24 +15,22 @@ use Rattle.outside_model.specs.State.{OuterState}
 use Rattle.world_model.specs.State.{Machine}
 use Rattle.proof_traffic.specs.OnAir.{on_air, hosts_on_air}
 use Rattle.proof_calm.specs.Resting.{LineRests}
+use Rattle.proof_calm.specs.Sending.{SendsNothing}
 
 -- ---- the serial line, which rests, and what waits beside it
 
--- no result is due to the chip, it gives nothing up, and the host owes no abort and has no task that waits
+-- no result is due to the chip, and the host owes no abort and has no task that waits
 pub record NothingWaits (m : Machine) : Type 0 where
   pub none_due : m.outside.outer.due ≡ []
-  pub none_given_up : m.outside.outer.chip.state.aborted ≡ 0
   pub paid : m.host.state.requests.owes ≡ false
   pub no_task : m.host.state.requests.queue ≡ []
 
 -- ---- the request under way
 
--- none is; the chip sends nothing and waits for no call, and no frame of the host is on the air
+-- none is, and the chip sends nothing
 pub record HasNone (m : Machine) : Type 0 where
   pub no_request : m.host.state.requests.under_way ≡ None
-  pub not_sending : m.outside.outer.chip.state.sending ≡ None
-  pub no_call : m.outside.outer.calls ≡ []
-  pub none_flies : hosts_on_air m.outside.outer ≡ 0
+  pub sends : SendsNothing m.outside.outer
 
 -- a SendData that the chip took in the last settling: its frame is the only one of the host on the air, and the one call to come is for it
 pub record IsTaken (m : Machine) : Type 0 where

@@ -17,9 +17,9 @@ ghost use Rattle.proof_calm.specs.Settling.{IsServed};
 use proof_traffic::frames_fly_in_order;
 use proof_work::turns_of_a_pump_leave_nothing;
 
-/// At first the serial line rests: nothing is marked to be lost, no byte is on its way, and neither side has a frame of its own on the line or in a queue. Where
-/// the chip takes the payload of each frame that it judges, it rests again after each quiet line and each tick: whatever frames arrive, every settling brings all
-/// that the chip has for the host, and ends in fewer than 64 passes.
+/// At first the serial line rests: nothing is marked to be lost, no byte is on its way, and neither side has a frame of its own on the line or in a queue.
+/// Where the chip takes the payload of each frame that it judges, it rests again after each quiet line and each tick: whatever frames arrive, every settling
+/// brings all that the chip has for the host, and ends in fewer than 64 passes.
 pub fn the_line_rests()
     ensures first { (keys : Keys) (records : Option (List (List ℕ))) (devices : List State) → LineRests (first_machine keys records devices) }
     ensures walk { WalkWhere IsServed AsksNothing KnowLine }
