@@ -36,7 +36,7 @@ use Rattle.proof_walk.proofs.Times.{does_chip}
 use Rattle.proof_calm.specs.Marks.{HasNoMarks, IsUnmarked}
 use Rattle.proof_calm.proofs.Unmarked.{does_none}
 use Rattle.proof_calm.proofs.Room.{unit_short}
-use Rattle.proof_calm.specs.Passes.{texts, IsPlain, AtChip, AtHost, OnLine, IsTakenBy, TakesEach, turn_after, answers, next_turn, next_down}
+use Rattle.proof_calm.specs.Passes.{chip_taken, ChipMayTake, texts, IsPlain, AtChip, AtHost, OnLine, IsTakenBy, TakesEach, turn_after, answers, next_turn, next_down}
 use Rattle.proof_calm.specs.Settling.{Nothing, An_ack, HasMoved, for_request, is_sending}
 use Rattle.proof_calm.proofs.Reading.{fed_units}
 use Rattle.proof_calm.proofs.ChipTurns.{Acked, acked, acked_at, judges_ack, one_way, entered_chip, chip_turns}
@@ -191,22 +191,16 @@ still_fit o count rest ways has may =
     let p : OuterState = record o { to_chip = way.after o.to_chip (Takes count); chip = record { decoder = rest; state = o.chip.state } } in
     subst (λ (s : ChipState). HasFrames s.port) (sym (does_each p (judged_all ways) may.judges).state) (events_have o.chip.state (judged_all ways) has may.judges)
 
-abbrev pub moved : Machine → Rest → List (Item × Option Route) → Machine
-moved m rest ways = happens m (Outside_does (Chip_takes (length m.outside.outer.to_chip.bytes) rest ways))
-
-abbrev pub MayMove : Machine → Rest → List (Item × Option Route) → Type 0
-MayMove m rest ways = May m (Outside_does (Chip_takes (length m.outside.outer.to_chip.bytes) rest ways))
-
 -- it took a payload
 pub took_moved : (m : Machine) (rest : Rest) (ways : List (Item × Option Route)) (passes most ticks : ℕ) (host : Turn) (down : List LineUnit) (frame : FrameParts) → IsUnmarked m → AtHost host m.host
-    → HasFrames m.outside.outer.chip.state.port → MayMove m rest ways → Took down (Copied frame 1 ticks) most (chip_takes m.outside.outer (length m.outside.outer.to_chip.bytes) rest ways).outer
-    → AllByRecursion IsPlain down → length down ≤ 99 → turn_after host down ≡ Idle → answers down ≡ Ack ∷ [] → most + 2 ≤ passes → HasMoved true passes (moved m rest ways)
+    → HasFrames m.outside.outer.chip.state.port → ChipMayTake m rest ways → Took down (Copied frame 1 ticks) most (chip_takes m.outside.outer (length m.outside.outer.to_chip.bytes) rest ways).outer
+    → AllByRecursion IsPlain down → length down ≤ 99 → turn_after host down ≡ Idle → answers down ≡ Ack ∷ [] → most + 2 ≤ passes → HasMoved true passes (chip_taken m rest ways)
 unfolding happens May MayOutside outcome
 took_moved m rest ways passes most ticks host down frame unmarked at_host has may took plain few over ack enough =
     let o : OuterState = m.outside.outer in
     let count : ℕ = length o.to_chip.bytes in
     let x : Outcome = chip_takes o count rest ways in
-    let n : Machine = moved m rest ways in
+    let n : Machine = chip_taken m rest ways in
     let sends : is_sending n ≡ true = entered_sending x.outer x.entries ∙ took.sends in
     let nothing : for_request (is_sending n) ≡ 0 = ap for_request sends in
     let at : AtChip [] down (Copied frame 1 ticks) x.outer.chip.state.port.waiting x.outer.to_chip x.outer.to_host x.outer.chip =
@@ -229,13 +223,13 @@ took_moved m rest ways passes most ticks host down frame unmarked at_host has ma
 
 -- it took none: its next frame is on its way, or nothing is
 pub heard_moved : (m : Machine) (frame : FrameParts) (ticks : ℕ) (frames : List FrameParts) (rest : Rest) (ways : List (Item × Option Route)) (passes : ℕ) → OnLine (Ack ∷ []) [] Idle (Copied frame 1 ticks) frames m
-    → MayMove m rest ways → length frames + 1 + for_request (is_sending m) ≤ passes → HasMoved true passes (moved m rest ways)
+    → ChipMayTake m rest ways → length frames + 1 + for_request (is_sending m) ≤ passes → HasMoved true passes (chip_taken m rest ways)
 heard_moved m frame ticks frames rest ways passes line may enough =
     let turned = chip_turns m Idle (Copied frame 1 ticks) frames rest ways line may in
     by frames turned.0 (ap (λ (sending : Option Sending). for_request (is_some sending)) turned.1.sending) enough
   where
     n : Machine
-    n = moved m rest ways
+    n = chip_taken m rest ways
 
     by : (fs : List FrameParts) → OnLine [] (next_down fs) Idle (next_turn fs) (drop 1 fs) n → for_request (is_sending n) ≡ for_request (is_sending m) → length fs + 1 + for_request (is_sending m) ≤ passes
         → HasMoved true passes n

@@ -27,11 +27,11 @@ use Rattle.proof_serial.specs.Chip.{HasFrames}
 use Rattle.proof_serial.specs.Line.{host_units}
 use Rattle.proof_serial.proofs.EndedItems.{same_rest}
 use Rattle.proof_serial.proofs.Outer.{routed_all}
-use Rattle.proof_calm.specs.Passes.{AtChip, OnLine}
+use Rattle.proof_calm.specs.Passes.{chip_taken, ChipMayTake, AtChip, OnLine}
 use Rattle.proof_calm.specs.Settling.{is_sending}
 use Rattle.proof_calm.proofs.Unmarked.{event_unmarked}
 use Rattle.proof_calm.proofs.ChipTurns.{entered_chip}
-use Rattle.proof_calm.proofs.ChipPart.{taken, empty, entered_sending, moved, MayMove}
+use Rattle.proof_calm.proofs.ChipPart.{taken, empty, entered_sending}
 use Rattle.proof_calm.proofs.HostTurns.{took}
 
 fed_none : (bytes : List ℕ) (start rest : Rest) (items : List Item) → start ≡ no_rest → bytes ≡ [] → Feeds start (take (length bytes) bytes) rest items → (items ≡ []) × (rest ≡ no_rest)
@@ -47,8 +47,8 @@ no_ways : (ways : List (Item × Option Route)) → map (λ (w : Item × Option R
 no_ways [] none = refl
 no_ways (way ∷ ways) none = absurd cc
 
-pub chip_idles : (m : Machine) (down : List LineUnit) (host turn : Turn) (frames : List FrameParts) (rest : Rest) (ways : List (Item × Option Route)) → OnLine [] down host turn frames m → MayMove m rest ways
-    → OnLine [] down host turn frames (moved m rest ways) × (is_sending (moved m rest ways) ≡ is_sending m) × ((moved m rest ways).host ≡ m.host)
+pub chip_idles : (m : Machine) (down : List LineUnit) (host turn : Turn) (frames : List FrameParts) (rest : Rest) (ways : List (Item × Option Route)) → OnLine [] down host turn frames m → ChipMayTake m rest ways
+    → OnLine [] down host turn frames (chip_taken m rest ways) × (is_sending (chip_taken m rest ways) ≡ is_sending m) × ((chip_taken m rest ways).host ≡ m.host)
 unfolding happens May MayOutside outcome
 chip_idles m down host turn frames rest ways line may =
     let o : OuterState = m.outside.outer in

@@ -23,12 +23,12 @@ use Rattle.world_model.specs.Events.{Host_does, Host_takes, happens, May}
 use Rattle.proof_serial.specs.Chip.{IsFrame, HasFrame, HasFrames}
 use Rattle.proof_serial.specs.Line.{WritesWell}
 use Rattle.proof_traffic.proofs.Parts.{Airs}
-use Rattle.proof_calm.specs.Passes.{texts, IsPlain, OnLine, TakesEach, answers, turn_after}
+use Rattle.proof_calm.specs.Passes.{chip_taken, ChipMayTake, texts, IsPlain, OnLine, TakesEach, answers, turn_after}
 use Rattle.proof_calm.specs.Settling.{Line, Free, Asks, Heard, Heard_asks, Sent, Sent_asks, Leaves, Nothing, An_ack, HasMoved, IsLive, Moves, for_request, for_made, passes_of, is_sending}
 use Rattle.proof_calm.specs.Resting.{Stands}
 use Rattle.proof_calm.proofs.HostTurns.{host_turns}
 use Rattle.proof_calm.proofs.Submitting.{Mute, Submits, Either, next_either, mute_line, submitted_line, same_chip, unit_fits}
-use Rattle.proof_calm.proofs.ChipPart.{moved, MayMove, asks_took, sent_asks_took, heard_asks_took, took_moved, heard_moved}
+use Rattle.proof_calm.proofs.ChipPart.{asks_took, sent_asks_took, heard_asks_took, took_moved, heard_moved}
 use Rattle.proof_calm.proofs.Idle.{chip_idles, host_idles}
 
 -- ---- the chip's part
@@ -40,8 +40,8 @@ fits_on : {up down : List LineUnit} {host : Turn} {frame : FrameParts} {ticks : 
 fits_on line = subst HasFrame line.at_chip.turn_is line.at_chip.fit.turn
 
 heard_asks_moved : (m : Machine) (asked frame : FrameParts) (ticks : ℕ) (frames : List FrameParts) (fits : IsFrame asked) (rest : Rest) (ways : List (Item × Option Route)) (passes : ℕ)
-    → OnLine (Ack ∷ Framed asked ∷ []) [] (Copied asked 1 0) (Copied frame 1 ticks) frames m → MayMove m rest ways → TakesEach m.outside.outer.chip.state ways
-    → length frames + 1 + for_made (is_sending m) + 1 ≤ suc passes → HasMoved true passes (moved m rest ways)
+    → OnLine (Ack ∷ Framed asked ∷ []) [] (Copied asked 1 0) (Copied frame 1 ticks) frames m → ChipMayTake m rest ways → TakesEach m.outside.outer.chip.state ways
+    → length frames + 1 + for_made (is_sending m) + 1 ≤ suc passes → HasMoved true passes (chip_taken m rest ways)
 unfolding May MayOutside
 heard_asks_moved m asked frame ticks [] fits rest ways passes line may served enough =
     let took = heard_asks_took m.outside.outer asked frame ticks [] rest ways line.unmarked fits line.at_chip may.1 served in
@@ -56,8 +56,8 @@ heard_asks_moved m asked frame ticks (next ∷ frames) fits rest ways passes lin
     took_moved m rest ways passes (length frames + 1) 0 (Copied asked 1 0) (Framed next ∷ Ack ∷ []) next line.unmarked line.at_host line.at_chip.fit may took.0 (here.waiting.0, (tt, tt)) (omega arith) refl refl
     (omega (arith, two, enough))
 
-pub chip_part : (m : Machine) (line : Line m) (rest : Rest) (ways : List (Item × Option Route)) (passes : ℕ) → Moves line → MayMove m rest ways → TakesEach m.outside.outer.chip.state ways
-    → passes_of line (is_sending m) + 1 ≤ suc passes → HasMoved true passes (moved m rest ways)
+pub chip_part : (m : Machine) (line : Line m) (rest : Rest) (ways : List (Item × Option Route)) (passes : ℕ) → Moves line → ChipMayTake m rest ways → TakesEach m.outside.outer.chip.state ways
+    → passes_of line (is_sending m) + 1 ≤ suc passes → HasMoved true passes (chip_taken m rest ways)
 unfolding May MayOutside
 chip_part m (Free line) rest ways passes moves may served enough = absurd moves
 chip_part m (Asks asked fits line) rest ways passes moves may served enough =

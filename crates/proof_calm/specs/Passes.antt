@@ -1,5 +1,5 @@
 -- The serial line of an unmarked machine while a settling moves its bytes (this project's own rule): which units are on their way, and where the frames of each side are.
-use Rattle.std.specs.Prelude.{◌≡◌, ℕ, true, List, [], ◌∷◌, map, Option, Some}
+use Rattle.std.specs.Prelude.{◌≡◌, ℕ, true, List, [], ◌∷◌, map, Option, Some, length}
 use Rattle.std.specs.List.{flat_map}
 use Rattle.serial_frame.specs.Frame.{FrameParts}
 use Rattle.serial_frame.specs.Items.{unit_text}
@@ -10,7 +10,7 @@ use Rattle.serial_frame.specs.declared.item.Item.TheVariants.{Good}
 use Rattle.serial_link.specs.State.{turn_heard}
 use Rattle.serial_link.specs.declared.turn.Turn.{Turn}
 use Rattle.serial_link.specs.declared.turn.Turn.TheVariants.{Idle, Copied}
-use Rattle.serial_frame.specs.Stream.{no_rest}
+use Rattle.serial_frame.specs.Stream.{Rest, no_rest}
 use Rattle.serial_pipes.specs.State.{WayState}
 use Rattle.route_table.specs.declared.route.Route.{Route}
 use Rattle.chip_functions.specs.declared.request.Request.TheVariants.{SendData}
@@ -19,8 +19,11 @@ use Rattle.chip_sim.specs.Answers.{takes}
 use Rattle.chip_sim.specs.Requests.{asked}
 use Rattle.chip_sim.specs.Events.{Judged, after}
 use Rattle.host_model.specs.State.{HostParts}
+use Rattle.host_model.specs.Events.{HostEvent}
 use Rattle.outside_model.specs.State.{OuterState}
+use Rattle.outside_model.specs.Events.{Chip_takes}
 use Rattle.world_model.specs.State.{Machine}
+use Rattle.world_model.specs.Events.{Outside_does, Host_takes, happens, May}
 use Rattle.proof_serial.specs.Chip.{IsFrame, HasFrames}
 use Rattle.proof_traffic.specs.OnAir.{on_air}
 use Rattle.proof_calm.specs.Marks.{IsUnmarked}
@@ -48,6 +51,19 @@ pub record OnLine (up down : List LineUnit) (host chip : Turn) (waiting : List F
   pub unmarked : IsUnmarked m
   pub at_chip : AtChip up down chip waiting m.outside.outer.to_chip m.outside.outer.to_host m.outside.outer.chip
   pub at_host : AtHost host m.host
+
+-- the machine once the chip, or the host, has taken all bytes on their way to it; and that it may
+abbrev pub chip_taken : Machine → Rest → List (Item × Option Route) → Machine
+chip_taken m rest ways = happens m (Outside_does (Chip_takes (length m.outside.outer.to_chip.bytes) rest ways))
+
+abbrev pub ChipMayTake : Machine → Rest → List (Item × Option Route) → Type 0
+ChipMayTake m rest ways = May m (Outside_does (Chip_takes (length m.outside.outer.to_chip.bytes) rest ways))
+
+abbrev pub host_taken : Machine → Rest → List Item → List HostEvent → Machine
+host_taken m rest items events = happens m (Host_takes (length m.outside.outer.to_host.bytes) rest items events)
+
+abbrev pub HostMayTake : Machine → Rest → List Item → List HostEvent → Type 0
+HostMayTake m rest items events = May m (Host_takes (length m.outside.outer.to_host.bytes) rest items events)
 
 -- ---- what the host does with the units on their way to it
 
