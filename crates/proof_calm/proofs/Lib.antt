@@ -14,4 +14,5 @@ pub mod Parts
 pub mod Given
 pub mod Ticking
 pub mod Walking
+pub mod Payloads
 pub mod Sending
