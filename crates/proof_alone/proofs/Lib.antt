@@ -16,3 +16,4 @@ pub mod InOrder
 pub mod Tabling
 mod Answering
 pub mod Carrying
+pub mod Listening

@@ -208,18 +208,19 @@ refused_awake past words refusal h tie n from to =
 
 pub awake_lasts : Lasts KnowsTables CountsAwake
 awake_lasts = record {
-  loose = λ here past told h clock all tie.
-      more_awake past told h h (all-weaker IsLoose IsWordless loose_wordless told all) (λ n from to. quiet_awake n told (node_of h n).awake (all-weaker IsLoose IsQuiet loose_quiet told all)) tie;
-  said = λ past words h clock goes_on tie. said_awake past words h goes_on tie;
-  refused = λ past words refusal h clock tie. refused_awake past words refusal h tie;
-  asked = λ line past m event is may ground tie.
+  loose = λ here at past told m all numbered ground tie.
+      more_awake past told m.state m.state (all-weaker IsLoose IsWordless loose_wordless told all) (λ n from to. quiet_awake n told (node_of m.state n).awake (all-weaker IsLoose IsQuiet loose_quiet told all)) tie;
+  numbers = λ here past m other ground later tie. more_awake past (entry.Time m.clock ∷ []) m.state m.state (tt, tt) (λ n from to. quiet_awake n (entry.Time m.clock ∷ []) (node_of m.state n).awake (tt, tt)) tie;
+  said = λ past words m none ground goes_on tie. said_awake past words m.state goes_on tie;
+  refused = λ past words refusal m none ground tie. refused_awake past words refusal m.state tie;
+  asked = λ line past m event is may numbered ground later tie.
       more_awake past (answers m.state event) m.state (after m.state event) (answers_wordless m.state event) (asked_awake line m.state event is ground.0.facts.host.nodes.places) tie;
-  starts = λ before words m state opens anew ground. starts_awake before words m.keys m.records state ground.0.told opens anew;
+  starts = λ before words m state opens anew ground later. starts_awake before words m.keys m.records state ground.0.told opens anew;
   opens = λ past h clock tie. tie;
-  rises = λ past h clock tie. tie;
-  judges = λ past m item rest behind told now ground tie.
+  rises = λ past m ground tie. tie;
+  judges = λ past m item rest behind told now ground later tie.
       more_awake past told m.state (after m.state (Hears item)) (told_wordless m.state (Hears item) told now.told_so) (event_awake m.state (Hears item) told now.told_so ground.0.facts.host.nodes.places) tie;
-  does = λ here next past m event told may ground tie.
+  does = λ here next past m event told may ground later tie.
       more_awake past told m.state (after m.state event) (told_wordless m.state event told may.2) (event_awake m.state event told may.2 ground.0.facts.host.nodes.places) tie;
   turn = λ here next past m other turns ground tie. tie;
 }

@@ -376,21 +376,23 @@ module _ (told_awake : (h : HostState) (n : ℕ) → HostWork h → 1 ≤ times_
 
   pub held_lasts : Lasts KnowsHearing HeldAsTold
   held_lasts = record {
-    loose = λ here past told h clock all tie.
-        same_held here here past (past ++ told) h clock clock (λ n. quiet_held n past told (all-weaker IsLoose IsWordless loose_wordless told all) (all-weaker IsLoose IsQuiet loose_quiet told all)) (λ n. refl) tie;
-    said = λ past words h clock goes_on tie. same_held Resting Resting past (past ++ entry.Said words ∷ []) h clock clock (λ n. by_words n past words false goes_on) (λ n. refl) tie;
-    refused = λ past words refusal h clock tie.
-        same_held Resting Open past (past ++ entry.Said words ∷ (entry.Refused refusal ∷ [])) h clock clock (λ n. in_vain n past words refusal) (λ n. refl) tie;
-    asked = λ line past m event is may ground tie. asked_held line past m event is (known_at (Asked line) past m ground.0 ground.1) tie;
-    starts = λ before words m state opens anew ground n from to.
+    loose = λ here at past told m all numbered ground tie.
+        same_held here here past (past ++ told) m.state m.clock m.clock (λ n. quiet_held n past told (all-weaker IsLoose IsWordless loose_wordless told all) (all-weaker IsLoose IsQuiet loose_quiet told all)) (λ n. refl) tie;
+    numbers = λ here past m other ground later tie.
+        same_held here here past (past ++ entry.Time m.clock ∷ []) m.state m.clock m.clock (λ n. quiet_held n past (entry.Time m.clock ∷ []) (tt, tt) (tt, tt)) (λ n. refl) tie;
+    said = λ past words m none ground goes_on tie. same_held Resting Resting past (past ++ entry.Said words ∷ []) m.state m.clock m.clock (λ n. by_words n past words false goes_on) (λ n. refl) tie;
+    refused = λ past words refusal m none ground tie.
+        same_held Resting Open past (past ++ entry.Said words ∷ (entry.Refused refusal ∷ [])) m.state m.clock m.clock (λ n. in_vain n past words refusal) (λ n. refl) tie;
+    asked = λ line past m event is may numbered ground later tie. asked_held line past m event is (known_at (Asked line) past m ground.0 ground.1) tie;
+    starts = λ before words m state opens anew ground later n from to.
         let none = each_starts (λ s. s.hold ≡ 0) (λ s. refl) (λ s. refl) refl m.keys m.records state ground.0.0.0.0.0.told opens n from in
         let until : held_until n (before ++ entry.Said words ∷ []) ≡ 0 = by_words n before words true anew in
         omega (arith, none, until);
     opens = λ past h clock tie. tie;
-    rises = λ past h clock tie. same_held Resting Risen past past h clock (clock + 1) (λ n. refl) (λ n. omega arith) tie;
-    judges = λ past m item rest behind told now ground tie.
+    rises = λ past m ground tie. same_held Resting Risen past past m.state m.clock (m.clock + 1) (λ n. refl) (λ n. omega arith) tie;
+    judges = λ past m item rest behind told now ground later tie.
         plain_held past m told (known_at Open past m ground.0 ground.1) Open (Behind behind) (Hears item) tt now.told_so (λ n. refl) (λ n. told_now past m told ground.0.0.0.1 now.numbered) tie;
-    does = λ here next past m event told may ground tie.
+    does = λ here next past m event told may ground later tie.
         does_held here next past m event told may.0 may.2 may.3 (known_at here past m ground.0 ground.1) ground.0.0.0.1 (rest_of InTick here past m (by_else here next m.state event may.0).0 ground.0.0.1) tie;
     turn = λ here next past m other turns ground tie. turn_held here next past m turns tie;
   }

@@ -102,15 +102,16 @@ ticks_turn Submitting next m is at = next_at next Resting m.state m.clock is.1 t
 
 pub ticks_last : (Ground : Knowledge) → Lasts Ground InTick
 ticks_last Ground = record {
-  loose = λ here past told h clock all tie. tie;
-  said = λ past words h clock goes_on tie. tt;
-  refused = λ past words refusal h clock tie. tt;
-  asked = λ line past m event is may ground tie. tt;
-  starts = λ before words m state opens anew ground. tt;
+  loose = λ here at past told m all numbered ground tie. tie;
+  numbers = λ here past m other ground later tie. tie;
+  said = λ past words m none ground goes_on tie. tt;
+  refused = λ past words refusal m none ground tie. tt;
+  asked = λ line past m event is may numbered ground later tie. tt;
+  starts = λ before words m state opens anew ground later. tt;
   opens = λ past h clock tie. tt;
-  rises = λ past h clock tie. omega arith;
-  judges = λ past m item rest behind told now ground tie. followed_between (after m.state (Hears item)) m.state.side.turn item behind now.followed;
-  does = λ here next past m event told may ground tie. ticks_does here next m.state m.clock event may.0 tie;
+  rises = λ past m ground tie. omega arith;
+  judges = λ past m item rest behind told now ground later tie. followed_between (after m.state (Hears item)) m.state.side.turn item behind now.followed;
+  does = λ here next past m event told may ground later tie. ticks_does here next m.state m.clock event may.0 tie;
   turn = λ here next past m other turns ground tie. ticks_turn here next m turns tie;
 }
 

@@ -69,12 +69,12 @@ pub record Acked (frames : List FrameParts) (o n : OuterState) : Type 0 where
   pub same : SameChip o n
 
 pub acked_at : (o : OuterState) (frames : List FrameParts) → HasNoMarks o → o.to_chip.bytes ≡ [] → o.to_host.bytes ≡ [] → o.chip.decoder ≡ no_rest
-    → HasFrames (record { side = o.chip.state.port.side; waiting = frames }) → Acked frames o (acked o frames)
-acked_at o [] none up down rest has = record {
-  at = record { up_bytes = up; down_bytes = down; decoder = rest; turn_is = refl; waiting = refl; fit = record { turn = tt; waiting = tt } };
+    → HasFrames (record { side = o.chip.state.port.side; waiting = frames }) → o.chip.state.aborted ≡ 0 → Acked frames o (acked o frames)
+acked_at o [] none up down rest has kept = record {
+  at = record { up_bytes = up; down_bytes = down; decoder = rest; turn_is = refl; waiting = refl; fit = record { turn = tt; waiting = tt }; none_given_up = kept };
   same = record { sending = refl; aborted = refl; due = refl; calls = refl; air = refl };
 }
-acked_at o (frame ∷ frames) none up down rest has =
+acked_at o (frame ∷ frames) none up down rest has kept =
     let empty : length o.to_host.bytes ≡ 0 = ap (λ (bs : List ℕ). length bs) down in
     record {
       at = record {
@@ -86,6 +86,7 @@ acked_at o (frame ∷ frames) none up down rest has =
         turn_is = refl;
         waiting = refl;
         fit = record { turn = has.waiting.0; waiting = has.waiting.1 };
+        none_given_up = kept;
       };
       same = record { sending = refl; aborted = refl; due = refl; calls = refl; air = refl };
     }
@@ -108,7 +109,7 @@ took_ack o turn frames rest ways none at may =
     let marks : HasNoMarks p = record { to_chip = none.to_chip; to_host = none.to_host; frames = none.frames; acknowledgements = none.acknowledgements; link = none.link; moves = none.moves } in
     let fits : HasFrames (record { side = o.chip.state.port.side; waiting = frames }) =
     subst (λ (fs : List FrameParts). HasFrames (record { side = o.chip.state.port.side; waiting = fs })) at.waiting (record { turn = at.fit.turn; waiting = at.fit.waiting }) in
-    let then : Acked frames p (acked p frames) = acked_at p frames marks empty at.down_bytes fed.1 fits in
+    let then : Acked frames p (acked p frames) = acked_at p frames marks empty at.down_bytes fed.1 fits at.none_given_up in
     let is : (chip_takes o count rest ways).outer ≡ acked p frames =
     ap (λ (l : List (Item × Option Route)). (each chip_does p (judged_all l)).outer) one.1 ∙ judges_ack p one.0 ∙ ap (acked p) at.waiting in
     let at_then : Acked frames o (acked p frames) = record { at = then.at; same = record { sending = then.same.sending; aborted = then.same.aborted; due = then.same.due; calls = then.same.calls; air = then.same.air } } in

@@ -116,7 +116,7 @@ off_side h (Gives_text n payload) off = absurd off
 off_side h (Gives_segment n more payload) off = absurd off
 off_side h event off = refl
 
-off_mute : (h : HostState) (event : HostEvent) → IsOff event → host_units (outs h event) ≡ []
+pub off_mute : (h : HostState) (event : HostEvent) → IsOff event → host_units (outs h event) ≡ []
 off_mute h (Requests_do event moment) off = no_units (request_entries h event)
 off_mute h (Finishes n session id command status wake) off =
     no_units (Out command (ended_of status) ∷ (stored_entries n (settings_with status (command_at h.commands command)) ++ held_entries n (is_held h n wake)))

@@ -95,7 +95,7 @@ pub record Took (m : Machine) (count : ℕ) (rest : Rest) : Type 0 where
   pub to_chip : (fed m count rest).outside.outer.to_chip ≡ m.outside.outer.to_chip
   pub chip : (fed m count rest).outside.outer.chip ≡ m.outside.outer.chip
 
-took : (m : Machine) (count : ℕ) (rest : Rest) → Took m count rest
+pub took : (m : Machine) (count : ℕ) (rest : Rest) → Took m count rest
 unfolding outcome
 took m count rest = record { to_host = refl; to_chip = refl; chip = refl }
 
@@ -162,6 +162,7 @@ module _ (air : Airs) where
             turn_is = ap (λ (c : ChipParts). c.state.port.side.turn) chip ∙ line.at_chip.turn_is;
             waiting = ap (λ (c : ChipParts). c.state.port.waiting) chip ∙ line.at_chip.waiting;
             fit = subst (λ (c : ChipParts). HasFrames c.state.port) (sym chip) line.at_chip.fit;
+            none_given_up = ap (λ (c : ChipParts). c.state.aborted) chip ∙ line.at_chip.none_given_up;
           };
           at_host = record { decoder = read.1; turn_is = judged.turn_is ∙ ap (λ (t : Turn). turn_after t (unit ∷ units)) line.at_host.turn_is };
         },

@@ -4,5 +4,15 @@ pub mod Quiet
 pub mod Reading
 pub mod Room
 pub mod ChipTurns
+pub mod ChipAsked
 pub mod Following
 pub mod HostTurns
+pub mod Submitting
+pub mod ChipPart
+pub mod Idle
+pub mod Parts
+pub mod Given
+pub mod Ticking
+pub mod Walking
+pub mod Payloads
+pub mod Sending

@@ -38,7 +38,7 @@ all_both (line ∷ ls) more quiet =
 pub quiet_both : (past told : List Entry) → AreQuiet (past ++ told) → AreQuiet past × AreQuiet told
 quiet_both past told quiet = all_both (lines_run past) (lines_run told) (ap (list_all is_quiet_line) (sym (shown-append line_of past told)) ∙ quiet)
 
-said_quiet : (words : List ℕ) (line : Line) → line_of (entry.Said words) ≡ line ∷ [] → AreQuiet (entry.Said words ∷ []) → is_quiet_line line ≡ true
+pub said_quiet : (words : List ℕ) (line : Line) → line_of (entry.Said words) ≡ line ∷ [] → AreQuiet (entry.Said words ∷ []) → is_quiet_line line ≡ true
 said_quiet words line read quiet =
     (both_true (is_quiet_line line) true (ap (λ (ls : List Line). list_all is_quiet_line (ls ++ [])) (sym read) ∙ quiet)).0
 
@@ -65,7 +65,7 @@ of_tick event tick = absurd tick
 -- ---- the walk
 
 -- a line may begin at any time
-begins_may : (m : Machine) → May m (Outside_does Begins_line)
+pub begins_may : (m : Machine) → May m (Outside_does Begins_line)
 unfolding May MayOutside
 begins_may m = (refl, tt)
 

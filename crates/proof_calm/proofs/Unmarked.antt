@@ -264,6 +264,10 @@ session_none o node sessions none = by (nat_le (peer_of o.air.frames node).begun
     by true = record { to_chip = none.to_chip; to_host = none.to_host; frames = none.frames; acknowledgements = none.acknowledgements; link = none.link; moves = none.moves }
     by false = record { to_chip = none.to_chip; to_host = none.to_host; frames = none.frames; acknowledgements = none.acknowledgements; link = none.link; moves = none.moves }
 
+-- what a frame that arrives makes of the air
+pub steps_none : (w : Outside) (step : AirStep) → IsHearing step → HasNoMarks w.outer → HasNoMarks (record w.outer { air = (mesh_after (mesh_of w) step).air })
+steps_none w step hearing none = with_air w.outer (mesh_after (mesh_of w) step).air none (steps_clear (mesh_of w) step hearing (clear_of w.outer none))
+
 -- a tick later bytes move still
 later_moves : (clock until : ℕ) → nat_lt clock until ≡ false → nat_lt (clock + 1) until ≡ false
 later_moves clock until moves = grind (arith, moves)
@@ -291,7 +295,7 @@ law = record {
   judged = λ awaits past w none. none;
   ticks = λ w. comes w (chip_ticks w.outer) w.devices (λ none. does_none (record w.outer { chip = record { decoder = after_tick w.outer.chip.decoder; state = w.outer.chip.state } }) Ticked tt none);
   gives = λ w route may. comes w (gives w.outer w.devices w.outer.due route) w.devices (λ none. gives_none w.outer w.devices w.outer.due route none);
-  steps = λ w step hearing may awaits past told none. (tt, with_air w.outer (mesh_after (mesh_of w) step).air none (steps_clear (mesh_of w) step hearing (clear_of w.outer none)));
+  steps = λ w step hearing may awaits past told none. (tt, steps_none w step hearing none);
   deals = λ w event events. comes w (deals w.devices w.outer event) w.devices (λ none. deals_none w.devices w.outer event none);
   acts = λ w place device event route found may. comes w (acts w.outer device event route) (slice_set w.devices place (device_after device event)) (λ none. acts_none w.outer device event route none);
 }

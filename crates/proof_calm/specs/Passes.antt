@@ -1,5 +1,5 @@
 -- The serial line of an unmarked machine while a settling moves its bytes (this project's own rule): which units are on their way, and where the frames of each side are.
-use Rattle.std.specs.Prelude.{◌≡◌, ℕ, true, List, [], ◌∷◌, map, Option, Some}
+use Rattle.std.specs.Prelude.{◌≡◌, ℕ, true, List, [], ◌∷◌, map, Option, Some, length}
 use Rattle.std.specs.List.{flat_map}
 use Rattle.serial_frame.specs.Frame.{FrameParts}
 use Rattle.serial_frame.specs.Items.{unit_text}
@@ -10,7 +10,7 @@ use Rattle.serial_frame.specs.declared.item.Item.TheVariants.{Good}
 use Rattle.serial_link.specs.State.{turn_heard}
 use Rattle.serial_link.specs.declared.turn.Turn.{Turn}
 use Rattle.serial_link.specs.declared.turn.Turn.TheVariants.{Idle, Copied}
-use Rattle.serial_frame.specs.Stream.{no_rest}
+use Rattle.serial_frame.specs.Stream.{Rest, no_rest}
 use Rattle.serial_pipes.specs.State.{WayState}
 use Rattle.route_table.specs.declared.route.Route.{Route}
 use Rattle.chip_functions.specs.declared.request.Request.TheVariants.{SendData}
@@ -19,8 +19,11 @@ use Rattle.chip_sim.specs.Answers.{takes}
 use Rattle.chip_sim.specs.Requests.{asked}
 use Rattle.chip_sim.specs.Events.{Judged, after}
 use Rattle.host_model.specs.State.{HostParts}
+use Rattle.host_model.specs.Events.{HostEvent}
 use Rattle.outside_model.specs.State.{OuterState}
+use Rattle.outside_model.specs.Events.{Chip_takes}
 use Rattle.world_model.specs.State.{Machine}
+use Rattle.world_model.specs.Events.{Outside_does, Host_takes, happens, May}
 use Rattle.proof_serial.specs.Chip.{IsFrame, HasFrames}
 use Rattle.proof_traffic.specs.OnAir.{on_air}
 use Rattle.proof_calm.specs.Marks.{IsUnmarked}
@@ -29,7 +32,7 @@ use Rattle.proof_calm.specs.Marks.{IsUnmarked}
 abbrev pub texts : List LineUnit → List ℕ
 texts units = flat_map unit_text units
 
--- exactly these units are on their way to the chip and to the host, and nothing is unfinished at the chip; it has this frame on the line, and these wait there
+-- exactly these units are on their way to the chip and to the host, and nothing is unfinished at the chip; it has this frame on the line, and these wait there; and it has given up no payload whose call is to come
 pub record AtChip (up down : List LineUnit) (turn : Turn) (frames : List FrameParts) (to_chip to_host : WayState) (chip : ChipParts) : Type 0 where
   pub up_bytes : to_chip.bytes ≡ texts up
   pub down_bytes : to_host.bytes ≡ texts down
@@ -37,6 +40,7 @@ pub record AtChip (up down : List LineUnit) (turn : Turn) (frames : List FramePa
   pub turn_is : chip.state.port.side.turn ≡ turn
   pub waiting : chip.state.port.waiting ≡ frames
   pub fit : HasFrames chip.state.port
+  pub none_given_up : chip.state.aborted ≡ 0
 
 -- nothing is unfinished at the host, which has this frame on the line
 pub record AtHost (turn : Turn) (host : HostParts) : Type 0 where
@@ -47,6 +51,19 @@ pub record OnLine (up down : List LineUnit) (host chip : Turn) (waiting : List F
   pub unmarked : IsUnmarked m
   pub at_chip : AtChip up down chip waiting m.outside.outer.to_chip m.outside.outer.to_host m.outside.outer.chip
   pub at_host : AtHost host m.host
+
+-- the machine once the chip, or the host, has taken all bytes on their way to it; and that it may
+abbrev pub chip_taken : Machine → Rest → List (Item × Option Route) → Machine
+chip_taken m rest ways = happens m (Outside_does (Chip_takes (length m.outside.outer.to_chip.bytes) rest ways))
+
+abbrev pub ChipMayTake : Machine → Rest → List (Item × Option Route) → Type 0
+ChipMayTake m rest ways = May m (Outside_does (Chip_takes (length m.outside.outer.to_chip.bytes) rest ways))
+
+abbrev pub host_taken : Machine → Rest → List Item → List HostEvent → Machine
+host_taken m rest items events = happens m (Host_takes (length m.outside.outer.to_host.bytes) rest items events)
+
+abbrev pub HostMayTake : Machine → Rest → List Item → List HostEvent → Type 0
+HostMayTake m rest items events = May m (Host_takes (length m.outside.outer.to_host.bytes) rest items events)
 
 -- ---- what the host does with the units on their way to it
 

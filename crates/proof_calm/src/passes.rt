@@ -12,10 +12,20 @@ ghost use Rattle.serial_link.specs.declared.turn.Turn.{Turn};
 ghost use Rattle.route_table.specs.declared.route.Route.{Route as TheRoute};
 ghost use Rattle.host_model.specs.Did.{after_all};
 ghost use Rattle.host_model.specs.Events.{HostEvent};
-ghost use Rattle.outside_model.specs.Events.{Chip_takes};
 ghost use Rattle.world_model.specs.State.{Machine};
-ghost use Rattle.world_model.specs.Events.{Outside_does, Host_takes, happens, May};
-ghost use Rattle.proof_calm.specs.Passes.{IsPlain, OnLine, SameChip, answers, next_down, next_turn, turn_after};
+ghost use Rattle.proof_calm.specs.Passes.{
+  ChipMayTake,
+  HostMayTake,
+  IsPlain,
+  OnLine,
+  SameChip,
+  answers,
+  chip_taken,
+  host_taken,
+  next_down,
+  next_turn,
+  turn_after,
+};
 
 use proof_traffic::frames_fly_in_order;
 
@@ -24,16 +34,14 @@ use proof_traffic::frames_fly_in_order;
 pub fn each_pass_brings_a_frame()
     ensures to_host { (m : Machine) (unit : LineUnit) (units : List LineUnit) (host turn : Turn) (frames : List FrameParts) (rest : Rest) (items : List Item)
         (events : List HostEvent) → AllByRecursion IsPlain (unit ∷ units) → length units ≤ 99 → OnLine [] (unit ∷ units) host turn frames m →
-        May m (Host_takes (length m.outside.outer.to_host.bytes) rest items events) →
-        OnLine (answers (unit ∷ units)) [] (turn_after host (unit ∷ units)) turn frames (happens m (Host_takes (length m.outside.outer.to_host.bytes) rest items events))
-        × SameChip m.outside.outer (happens m (Host_takes (length m.outside.outer.to_host.bytes) rest items events)).outside.outer
-        × (items ≡ map (λ unit. Good unit) (unit ∷ units))
-        × ((happens m (Host_takes (length m.outside.outer.to_host.bytes) rest items events)).host.state ≡ after_all m.host.state events) }
+        HostMayTake m rest items events →
+        OnLine (answers (unit ∷ units)) [] (turn_after host (unit ∷ units)) turn frames (host_taken m rest items events)
+        × SameChip m.outside.outer (host_taken m rest items events).outside.outer × (items ≡ map (λ unit. Good unit) (unit ∷ units))
+        × ((host_taken m rest items events).host.state ≡ after_all m.host.state events) }
     ensures to_chip { (m : Machine) (host turn : Turn) (frames : List FrameParts) (rest : Rest) (ways : List (Item × Option TheRoute)) →
-        OnLine (Ack ∷ []) [] host turn frames m → May m (Outside_does (Chip_takes (length m.outside.outer.to_chip.bytes) rest ways)) →
-        OnLine [] (next_down frames) host (next_turn frames) (drop 1 frames) (happens m (Outside_does (Chip_takes (length m.outside.outer.to_chip.bytes) rest ways)))
-        × SameChip m.outside.outer (happens m (Outside_does (Chip_takes (length m.outside.outer.to_chip.bytes) rest ways))).outside.outer
-        × ((happens m (Outside_does (Chip_takes (length m.outside.outer.to_chip.bytes) rest ways))).host ≡ m.host) }
+        OnLine (Ack ∷ []) [] host turn frames m → ChipMayTake m rest ways →
+        OnLine [] (next_down frames) host (next_turn frames) (drop 1 frames) (chip_taken m rest ways)
+        × SameChip m.outside.outer (chip_taken m rest ways).outside.outer × ((chip_taken m rest ways).host ≡ m.host) }
 {
     frames_fly_in_order();
 }

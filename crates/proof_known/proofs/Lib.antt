@@ -10,3 +10,4 @@ mod Answering
 pub mod ForHost
 mod Followers
 mod Noting
+mod AtOnce

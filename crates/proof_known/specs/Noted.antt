@@ -1,6 +1,6 @@
 -- What the host notes of messages was told (Supervision and Security 0 Command Classes, and the reports of the Application Command Classes; that what is sealed may tell anything is
 -- this project's own rule): each such note stands where a payload of its node was judged that tells it.
-use Rattle.std.specs.Prelude.{not, nat_le, ◌∷◌, ℕ, ◌%◌, ◌==◌, ◌&&◌, bytes_eq, Bool, true, false, List, length}
+use Rattle.std.specs.Prelude.{◌≡◌, ◌||◌, if◌then◌else◌, [], not, nat_le, ◌∷◌, ℕ, ◌%◌, ◌==◌, ◌&&◌, bytes_eq, Bool, true, false, List, length}
 use Rattle.std.specs.List.{list_any}
 use Rattle.zw_base.specs.PropertyOrder.{same_property}
 use Rattle.zw_base.specs.declared.property.Property.{Property}
@@ -9,19 +9,19 @@ use Rattle.class_info.specs.declared.report_status.ReportStatus.{ReportStatus}
 use Rattle.class_info.specs.declared.report_status.ReportStatus.TheVariants as statuses
 use Rattle.host_heard.specs.Telling.{heard_at}
 use Rattle.host_heard.specs.declared.payload.Heard.{Heard}
-use Rattle.host_heard.specs.declared.payload.Heard.TheVariants.{Messages}
+use Rattle.host_heard.specs.declared.payload.Heard.TheVariants.{Messages, Unread as unread_text}
 use Rattle.host_heard.specs.declared.told.Told.{Told}
 use Rattle.host_heard.specs.declared.told.Told.TheVariants as told
 use Rattle.zw_text.specs.declared.entry.Ended.{Ended}
 use Rattle.zw_text.specs.declared.entry.Ended.TheVariants as endings
 use Rattle.zw_text.specs.declared.entry.Entry.{Entry}
-use Rattle.zw_text.specs.declared.entry.Entry.TheVariants.{Out, Report, Unstored, Old, Unread}
+use Rattle.zw_text.specs.declared.entry.Entry.TheVariants.{Said, Out, Report, Unstored, Old, Unread, Awake}
 use Rattle.zw_text.specs.Transcript.{sessions}
 use Rattle.law_transcript.specs.Units.{Carried}
-use Rattle.law_time.specs.Judged.{brought_here, may_be_told, may_tell, payloads_here}
+use Rattle.law_time.specs.Judged.{brought_here, is_directly_after, is_mark, may_be_told, may_tell, payloads_here}
 use Rattle.law_time.specs.Moments.{Keeps}
 use Rattle.law_time.specs.Sessions.{is_last_command}
-use Rattle.law_host.specs.Following.{same_setting}
+use Rattle.law_host.specs.Following.{same_note, same_setting}
 use Rattle.law_host.specs.Heard.{listing_heard}
 use Rattle.law_transcript.specs.Answers.{properties_kept}
 use Rattle.law_transcript.specs.Nodes.{host_list}
@@ -87,3 +87,34 @@ may_note past entry = true
 
 abbrev pub NotesWhatWasTold : List Entry → Type 0
 NotesWhatWasTold transcript = Keeps may_note transcript
+
+-- ---- notes that stand at once
+
+abbrev pub value_note : List Entry → ℕ → Setting → Entry
+value_note past node setting = if has_room past node setting.property then Report node setting else Unstored node setting.property
+
+-- what a message has noted that comes first: of a value, and of a node that is awake
+abbrev pub told_first : List Entry → ℕ → Told → List Entry
+told_first past node (told.Values (setting ∷ more)) = value_note past node setting ∷ []
+told_first past node told.Notification = Awake node ∷ []
+told_first past node message = []
+
+-- and what a payload has that cannot be read
+abbrev pub first_notes : List Entry → Carried → Heard → List Entry
+first_notes past carried unread_text = Unread carried.node carried.payload ∷ []
+first_notes past carried (Messages (message ∷ more)) = told_first past carried.node message
+first_notes past carried heard = []
+
+abbrev pub is_first : List Entry → Entry → Bool
+is_first [] entry = true
+is_first (note ∷ notes) entry = same_note note entry
+
+-- directly after a payload was judged stands what it has first, where that is known
+abbrev pub may_follow : List Entry → Entry → Bool
+may_follow past entry =
+    is_mark entry
+    || not (is_directly_after past && list_any (λ carried. not (is_first (first_notes past carried (heard_at carried.payload)) entry)) (brought_here past))
+
+pub record NotesAtOnce (whole : Bool) (transcript : List Entry) : Type 0 where
+  pub between : Keeps may_follow transcript
+  pub in_the_end : whole ≡ true → may_follow transcript (Said []) ≡ true

@@ -1,9 +1,14 @@
 -- Transcripts of what is told, beside those of `law_host` (this project's own, made by hand).
 use Rattle.std.specs.Prelude.{codes, List, [], ◌∷◌, ◌++◌, take}
 use Rattle.zw_text.specs.declared.entry.Entry.{Entry}
-use Rattle.zw_text.specs.declared.entry.Entry.TheVariants.{Said, Accepted, Begin, Interviewed}
+use Rattle.zw_text.specs.declared.entry.Entry.TheVariants.{Said, Accepted, Begin, Out, Interviewed}
+use Rattle.zw_text.specs.declared.entry.Ended.TheVariants.{Success}
 use Rattle.law_time.specs.WorkedUnits.{by_chip, host_acknowledges}
 use Rattle.law_host.specs.Worked.{ended_openly, told_openly}
+
+-- a command ends with nothing heard of its node
+abbrev pub ended_unreported : List Entry
+ended_unreported = Out 1 Success ∷ []
 
 -- a lock lists Security 0 in its interview, and a session of it begins
 abbrev pub lock_listed : List Entry

@@ -92,6 +92,7 @@ kept_as_told keys whole heard told held agrees laws = record {
     records_kept = λ is. told_kept told held heard (agrees is) (laws.said.records_kept is);
   };
   notes = laws.notes;
+  at_once = laws.at_once;
   wakes = laws.wakes;
   ticks = laws.ticks;
   sends = laws.sends;

@@ -18,3 +18,5 @@ mod Walking
 mod Stepping
 mod Ending
 mod Grounds
+mod Brought
+mod Listening

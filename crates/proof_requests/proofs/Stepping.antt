@@ -141,7 +141,7 @@ none_on line is = refl
 beside_so : (event these : HostEvent) → event ≡ these → IsBeside these → IsBeside event
 beside_so event these same beside = subst IsBeside (sym same) beside
 
-asked_beside : (line : Line) (h : HostState) (event : HostEvent) → IsAskedBy line h event → IsBeside event
+pub asked_beside : (line : Line) (h : HostState) (event : HostEvent) → IsAskedBy line h event → IsBeside event
 asked_beside (lines.Command order) h event is = beside_so event _ is tt
 asked_beside (lines.Send node word) h event is = beside_so event _ is.1 tt
 asked_beside (lines.Get node end) h event is = beside_so event _ is.1 tt
@@ -305,7 +305,7 @@ request_notes : (h : HostState) (event : HostEvent) → IsOfRequest event → Al
 request_notes h (Requests_do event moment) is = noted_notes (request_entries h event)
 request_notes h event is = absurd is
 
-behind_notes : (first : HostEvent) (left : List HostEvent) (past : List Entry) (m : HostMachine) → KnowsJudged (Behind (first ∷ left)) past m → AllByRecursion IsNote (outs m.state first)
+pub behind_notes : (first : HostEvent) (left : List HostEvent) (past : List Entry) (m : HostMachine) → KnowsJudged (Behind (first ∷ left)) past m → AllByRecursion IsNote (outs m.state first)
 behind_notes first left past m (frames, inl behind) =
     let follow = frame_all behind.frame.first behind.frame.frame (behind.frame.gone ++ (first ∷ left)) behind.frame.followed in
     follow_notes (unit_text (Framed behind.frame.frame)) m.state first (all-right (MayFollow (unit_text (Framed behind.frame.frame))) behind.frame.gone (first ∷ left) follow).0

@@ -60,7 +60,7 @@ quiet_aside (entry.Overrun Host) quiet = tt
 quiet_aside (entry.Overrun Chip) quiet = absurd quiet
 quiet_aside e quiet = tt
 
-quiet_goes : (e : Entry) → IsQuiet e → GoesOn e
+pub quiet_goes : (e : Entry) → IsQuiet e → GoesOn e
 quiet_goes (entry.Said words) quiet = absurd quiet
 quiet_goes (entry.Written Host unit) quiet = ap is_data quiet
 quiet_goes (entry.Written Chip unit) quiet = tt
@@ -116,6 +116,9 @@ asks_by past told later count line_now now came d is stands counted asks =
 nothing_grown : (past told : List Entry) (d : Doing) → asked (past ++ told) ≡ with_entries (asked past) told → AsksNothing past d → AsksNothing (past ++ told) d
 nothing_grown past told d is none = record { unasked = ap (λ (a : Asked). a.frame) is ∙ none.unasked; idle = none.idle; none = none.none; paid = none.paid }
 
+pub quiet_on : (past told : List Entry) → AllByRecursion IsQuiet told → asked (past ++ told) ≡ with_entries (asked past) told
+quiet_on past told all = asked_on past told (fresh_wordless told (all-weaker IsQuiet IsWordless quiet_wordless told all)) (all-weaker IsQuiet GoesOn quiet_goes told all)
+
 -- after quiet entries, with what came and what the host does as they are
 pub tie_quiet : (past told : List Entry) (line_now now : ℕ) (came : List LineUnit) (d : Doing) → AllByRecursion IsQuiet told → TieAsked past line_now now came d → TieAsked (past ++ told) line_now now came d
 tie_quiet past told line_now now came d all tie = by tie
@@ -124,7 +127,7 @@ tie_quiet past told line_now now came d all tie = by tie
     wordless = all-weaker IsQuiet IsWordless quiet_wordless told all
 
     on : asked (past ++ told) ≡ with_entries (asked past) told
-    on = asked_on past told (fresh_wordless told wordless) (all-weaker IsQuiet GoesOn quiet_goes told all)
+    on = quiet_on past told all
 
     counted : acknowledged (past ++ told) ≡ acknowledged past
     counted = acknowledged_more past told 0 wordless (ap length (quiet_uncounted told all)) ∙ none_more (acknowledged past)

@@ -3,4 +3,3 @@ pub mod Asking
 pub mod Effects
 pub mod Saying
 pub mod Walking
-pub mod Listening

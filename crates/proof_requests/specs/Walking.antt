@@ -1,6 +1,6 @@
 -- What is known of the request of a host alone at each phase (this project's own rule), and on what ground: its tables, the time, what it has judged, that answers are judged as they
 -- come, and that what waits to be asked can be read.
-use Rattle.std.specs.Prelude.{◌≡◌, ◌⊎◌, ◌≤◌, ℕ, ◌+◌, false, List, [], ◌∷◌, ◌++◌}
+use Rattle.std.specs.Prelude.{Some, ◌≡◌, ◌⊎◌, ◌≤◌, ℕ, ◌+◌, false, List, [], ◌∷◌, ◌++◌}
 use Rattle.std.specs.List.{AllByRecursion}
 use Rattle.serial_frame.specs.Items.{unit_text}
 use Rattle.serial_frame.specs.declared.unit.Unit.{Unit as LineUnit}
@@ -12,11 +12,13 @@ use Rattle.zw_text.specs.declared.entry.Entry.{Entry}
 use Rattle.zw_text.specs.declared.entry.Entry.TheVariants as entry
 use Rattle.zw_text.specs.Transcript.{line_of}
 use Rattle.law_transcript.specs.Units.{request_in}
+use Rattle.law_time.specs.Requests.{asked}
 use Rattle.host_requests.specs.Events.{RequestsEvent}
 use Rattle.host_requests.specs.Events.RequestsEvent.{IsSent, Fails, Responds, CallsBack, Updates, Ticks}
 use Rattle.host_requests.specs.Frames.{frame_of, request_of, task_request}
 use Rattle.host_requests.specs.State.{next_id}
 use Rattle.host_requests.specs.declared.task.Task.{Task}
+use Rattle.host_requests.specs.declared.under_way.UnderWay.{UnderWay}
 use Rattle.host_requests.specs.declared.task.Purpose.{Purpose}
 use Rattle.host_requests.specs.declared.task.Purpose.TheVariants.{Attempt, Abort}
 use Rattle.host_node.specs.declared.attempt.Moment.TheVariants.{BeforeItsTick}
@@ -31,8 +33,10 @@ use Rattle.proof_alone.specs.Phases.{Phase, Asked, Risen, Ticking, Open, Behind,
 use Rattle.proof_alone.specs.Runs.{Knowledge, both_know}
 use Rattle.proof_alone.specs.Tables.{KnowsTables}
 use Rattle.proof_alone.specs.Time.{KnowsClock}
+use Rattle.proof_alone.specs.Listening.{KnowsListening}
 use Rattle.proof_waking.specs.Judged.{KnowsJudged}
-use Rattle.proof_requests.specs.Asking.{TieAsked, doing_of}
+use Rattle.proof_requests.specs.Standing.{brought_before, prior_of}
+use Rattle.proof_requests.specs.Asking.{Doing, TieAsked, doing_of}
 
 -- ---- the ground
 
@@ -140,3 +144,17 @@ KnowsAsked Risen past m = BeforeTick past m
 KnowsAsked (Ticking left) past m = KnowsTick left past m
 KnowsAsked (Behind left) past m = TieAsked past m.clock m.clock m.came (doing_of (after_all m.state left))
 KnowsAsked here past m = IsTied past m
+
+-- ---- what the request before the last one brought
+
+-- while one is under way the host keeps it
+abbrev pub KeepsBrought : List Entry → Doing → Type 0
+KeepsBrought past d = (u : UnderWay) → d.under_way ≡ Some u → d.leaving.first ≡ brought_before (prior_of (asked past).before)
+
+-- also behind an item, as long as that does not end it
+abbrev pub KnowsBrought : Knowledge
+KnowsBrought (Behind left) past m = KeepsBrought past (doing_of m.state)
+KnowsBrought here past m = Unit {0}
+
+abbrev pub KnowsInterviews : Knowledge
+KnowsInterviews = both_know (both_know (both_know Ground KnowsAsked) KnowsBrought) KnowsListening

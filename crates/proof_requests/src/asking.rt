@@ -10,9 +10,12 @@ ghost use Rattle.proof_alone.specs.State.{HostMachine, first_alone};
 ghost use Rattle.proof_alone.specs.Phases.{Phase, Resting};
 ghost use Rattle.proof_alone.specs.Runs.{Run, Walk, both_know};
 ghost use Rattle.proof_requests.specs.Asking.{Doing, TellsOfHost, TieAsked, doing_of};
-ghost use Rattle.proof_requests.specs.Walking.{Ground, KnowsAsked};
+ghost use Rattle.proof_alone.specs.Listening.{ListensAsTold};
+ghost use Rattle.proof_requests.specs.Walking.{Ground, KnowsAsked, KnowsInterviews};
 
+use host_keep::texts_give_one_thing;
 use host_model::attempts_have_what_they_give;
+use host_node::a_restart_needs_the_records_alone;
 use proof_alone::{hosts_keep_their_tables, hosts_tell_time};
 use proof_waking::hosts_judge_as_told;
 
@@ -33,4 +36,16 @@ pub fn hosts_ask_as_told()
     hosts_keep_their_tables();
     hosts_tell_time();
     hosts_judge_as_told();
+}
+
+/// So each node listens by the transcript (`listens` of `law_time`) as it does in the host, at each step, also where that starts again: an interview says it by
+/// the frame that ended the request before the last one, and of that the host kept the byte.
+pub fn hosts_listen_as_told()
+    ensures walk { Walk (Allows may_wake) KnowsInterviews }
+    ensures first { (keys : Keys) → KnowsInterviews Resting [] (first_alone keys (Some [])) }
+    ensures run { (keys : Keys) (here : Phase) (told : List Entry) (m : HostMachine) → Run (first_alone keys (Some [])) here told m → ListensAsTold told m.state }
+{
+    texts_give_one_thing();
+    a_restart_needs_the_records_alone();
+    hosts_ask_as_told();
 }

@@ -13,7 +13,7 @@ use Rattle.proof_attempts.specs.Since.{InTick, KnowsSince, KnowsTicks}
 use Rattle.proof_attempts.specs.Waking.{HeldAsTold, KnowsHearing, KnowsWork}
 use Rattle.proof_attempts.specs.Working.{WorksInOrder}
 use Rattle.proof_attempts.proofs.Holding.{first_held, held_lasts}
-use Rattle.proof_attempts.proofs.Lasting.{since_walk}
+use Rattle.proof_attempts.proofs.Lasting.{over_both, since_walk}
 use Rattle.proof_attempts.proofs.Ticking.{ticks_last}
 use Rattle.proof_attempts.proofs.waking.hosts_hold_as_told.Goals as goal
 
@@ -24,7 +24,7 @@ ticks_walk tables time =
       step = λ here next past m one may ground stand known. time.step here next past m one may known;
       turn = λ here next past m turns ground known. time.turn here next past m turns known;
     }) in
-    over (both_know KnowsTables KnowsClock) MayCount MayCount (KnowsSince InTick) both (since_walk InTick (both_know KnowsTables KnowsClock) MayCount (ticks_last (both_know KnowsTables KnowsClock)))
+    over_both MayCount (both_know KnowsTables KnowsClock) (KnowsSince InTick) both (since_walk InTick (both_know KnowsTables KnowsClock) (ticks_last (both_know KnowsTables KnowsClock)))
 
 work_walk : Walk MayCount KnowsTicks → Walk MayStand (both_know KnowsTables (KnowsSince WorksInOrder)) → Walk MayCount KnowsWork
 work_walk ticks work =
@@ -50,7 +50,7 @@ pub returns-clause-begins : goal.returns-clause-begins
 returns-clause-begins c = λ keys. (((c.hosts_keep_their_tables.ensures.first keys, first_clock keys), tt), (c.hosts_work_in_order.ensures.first keys).1)
 
 pub returns-clause-walk : goal.returns-clause-walk
-returns-clause-walk c = λ ground. over KnowsHearing MayCount MayCount (KnowsSince HeldAsTold) ground (since_walk HeldAsTold KnowsHearing MayCount (held_lasts c.work_in_order_means.ensures.told))
+returns-clause-walk c = λ ground. over_both MayCount KnowsHearing (KnowsSince HeldAsTold) ground (since_walk HeldAsTold KnowsHearing (held_lasts c.work_in_order_means.ensures.told))
 
 pub returns-clause-first : goal.returns-clause-first
 returns-clause-first c = first_held

@@ -4,8 +4,12 @@ use Rattle.law_transcript.proofs.Deciding.{broken}
 use Rattle.law_time.proofs.Computing.{computing}
 use Rattle.law_host.specs.Worked.{begun, ended_by_other, ended_by_work, ended_of_another, ended_otherwise, value_again}
 use Rattle.proof_known.specs.Noted.{may_note}
-use Rattle.proof_known.specs.WorkedNotes.{lock_believed}
+use Rattle.proof_known.specs.WorkedNotes.{ended_unreported, lock_believed}
 use Rattle.proof_known.proofs.noted.rejected_telling.Goals as goal
+
+pub returns-clause-unreported : goal.returns-clause-unreported
+unfolding computing
+returns-clause-unreported c = broken may_note (begun ++ ended_unreported) refl
 
 pub returns-clause-by_other : goal.returns-clause-by_other
 unfolding computing
