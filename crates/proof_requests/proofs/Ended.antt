@@ -269,7 +269,7 @@ given_up_judged s one now count (four, inl denied) =
     (four, inl (record { answer = denied.answer; first = denied.first; denies = denied.denies; by_now = denied.by_now; judged = omega (arith, frames) }))
 given_up_judged s one now count (four, inr ignored) = (four, inr (record { none = ignored.none; by_now = ignored.by_now }))
 
-line_judged : (s : Standing) (one : Judging) (now count : ℕ) (leaving : Leaving) → one.tick ≡ now → one.place ≡ count + 1 → EndedByLine s now count leaving
+pub line_judged : (s : Standing) (one : Judging) (now count : ℕ) (leaving : Leaving) → one.tick ≡ now → one.place ≡ count + 1 → EndedByLine s now count leaving
     → EndedByLine (with_judging s one) now (count + 1) leaving
 line_judged s one now count leaving tick_is place e = record { paid = e.paid; nothing = e.nothing; given_up = given_up_judged s one now count e.given_up; no_frame = no_frame (first_or_same s one); no_wait = no_wait }
   where
@@ -331,7 +331,7 @@ owed_judged s one tick time =
     by false [] = refl
     by responds (first ∷ more) = ap (λ (b : Bool). (first.tick + 65 == tick) || b) (by responds more)
 
-silence_judged : (s : Standing) (one : Judging) (now : ℕ) (leaving : Leaving) → one.tick ≡ now → EndedInSilence s now leaving → EndedInSilence (with_judging s one) now leaving
+pub silence_judged : (s : Standing) (one : Judging) (now : ℕ) (leaving : Leaving) → one.tick ≡ now → EndedInSilence s now leaving → EndedInSilence (with_judging s one) now leaving
 silence_judged s one now leaving tick_is e =
     record {
       tick = e.tick;

@@ -102,7 +102,7 @@ by_frame s now count leaving e =
       brought = e.brings ∙ sym (ap (λ (l : List Judging). brought_of (request_in s.frame) l) ending);
     }
 
-silence_ends_none : (s : Standing) (now : ℕ) (leaving : Leaving) (e : EndedInSilence s now leaving) → ending_in s ≡ []
+pub silence_ends_none : (s : Standing) (now : ℕ) (leaving : Leaving) (e : EndedInSilence s now leaving) → ending_in s ≡ []
 silence_ends_none s now leaving e = none_ends s late
   where
     late : (one : Judging) → first_ending s ≡ one ∷ [] → counts s one ≡ false
@@ -138,6 +138,15 @@ none_left test (wait ∷ waits) none =
     let parts = or_parts (test wait) (list_any test waits) none in
     ap (λ (b : Bool). if b then wait ∷ filter test waits else filter test waits) parts.0 ∙ none_left test waits parts.1
 
+pub line_ends_none : (s : Standing) (now count : ℕ) (leaving : Leaving) → EndedByLine s now count leaving → ending_in s ≡ []
+line_ends_none s now count leaving e = none_ends s early
+  where
+    early : (one : Judging) → first_ending s ≡ one ∷ [] → counts s one ≡ false
+    early one is =
+        let before : (list_all (is_before_failing one) (failing_in s) || false) ≡ false
+        = ap (λ (l : List Judging). list_any (λ each. list_all (is_before_failing each) (failing_in s)) l) (sym is) ∙ e.no_frame in
+        and_right (list_all (nat_lt one.tick) (wait_in s)) (list_all (is_before_failing one) (failing_in s)) (or_parts (list_all (is_before_failing one) (failing_in s)) false before).0
+
 by_line : (s : Standing) (now count : ℕ) (leaving : Leaving) → EndedByLine s now count leaving → IsOver s now leaving
 by_line s now count leaving e =
     let gave = gave_up s now count e.given_up in
@@ -146,23 +155,17 @@ by_line s now count leaving e =
           (is_abort_frame s.frame && not (are_none (sent_in s)))
           (ap (λ (l : List ℕ). list_any (λ tick. nat_le tick now) l) (giving gave.fails gave.failing) ∙ ap (λ (b : Bool). b || false) (le-leb gave.fails.tick now gave.by_now));
       owed = no_silence s silence now ∙ sym e.paid;
-      brought = e.nothing ∙ sym (ap (λ (l : List Judging). brought_of (request_in s.frame) l) (none_ends s early));
+      brought = e.nothing ∙ sym (ap (λ (l : List Judging). brought_of (request_in s.frame) l) (line_ends_none s now count leaving e));
     }
   where
-    early : (one : Judging) → first_ending s ≡ one ∷ [] → counts s one ≡ false
-    early one is =
-        let before : (list_all (is_before_failing one) (failing_in s) || false) ≡ false
-        = ap (λ (l : List Judging). list_any (λ each. list_all (is_before_failing each) (failing_in s)) l) (sym is) ∙ e.no_frame in
-        and_right (list_all (nat_lt one.tick) (wait_in s)) (list_all (is_before_failing one) (failing_in s)) (or_parts (list_all (is_before_failing one) (failing_in s)) false before).0
-
     silence : silence_in s ≡ []
     silence =
-        ap (λ (l : List Judging). if are_none l then filter (λ wait. list_all (waits_before_failing wait) (failing_in s)) (wait_in s) else []) (none_ends s early)
+        ap (λ (l : List Judging). if are_none l then filter (λ wait. list_all (waits_before_failing wait) (failing_in s)) (wait_in s) else []) (line_ends_none s now count leaving e)
         ∙ none_left (λ wait. list_all (waits_before_failing wait) (failing_in s)) (wait_in s) e.no_wait
 
     giving : (fails : Failing) → failing_in s ≡ fails ∷ [] → giving_up_in s ≡ fails.tick ∷ []
     giving fails is =
-        ap (λ (l : List Judging). if are_none l && are_none (silence_in s) then flat_map (λ one. one.tick ∷ []) (failing_in s) else []) (none_ends s early)
+        ap (λ (l : List Judging). if are_none l && are_none (silence_in s) then flat_map (λ one. one.tick ∷ []) (failing_in s) else []) (line_ends_none s now count leaving e)
         ∙ ap (λ (l : List ℕ). if are_none l then flat_map (λ one. one.tick ∷ []) (failing_in s) else []) silence
         ∙ ap (λ (l : List Failing). flat_map (λ one. one.tick ∷ []) l) is
 

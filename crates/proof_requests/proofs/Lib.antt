@@ -20,3 +20,6 @@ mod Ending
 mod Grounds
 mod Brought
 mod Listening
+mod Questions
+mod Answered
+mod Answering

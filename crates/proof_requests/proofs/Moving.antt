@@ -29,7 +29,7 @@ use Rattle.host_requests.specs.declared.under_way.Progress.TheVariants.{Submitte
 use Rattle.host_requests.specs.declared.under_way.UnderWay.{UnderWay}
 use Rattle.host_model.specs.After.{gives_up}
 use Rattle.proof_alone.specs.Steps.{AreFrames}
-use Rattle.proof_requests.specs.Standing.{Prior, brought_before, brought_by, Standing, first_standing, responses_in, sent_in, with_answer, with_copy, with_judging}
+use Rattle.proof_requests.specs.Standing.{Prior, Standing, brought_before, brought_by, ends_now, first_standing, responses_in, sent_in, with_answer, with_copy, with_judging}
 use Rattle.proof_requests.specs.Asking.{IsKept, Leaving, nothing_left, AsProgress, AsksSo, Doing, EndedByFrame, EndedInSilence, IsCopied, IsPaused, IsSentBy, IsUnderWay, TieLine, TieUnderWay, WasGivenUp, doing_after, doing_from, doing_next, to_come}
 use Rattle.proof_requests.specs.Effects.{AnswerDoes}
 use Rattle.proof_requests.specs.Saying.{FrameSays, frame_next}
@@ -94,7 +94,7 @@ unanswered_so s one now turn Submitted tick_is fresh (busy, none) = record { non
 unanswered_so s one now turn (Sent left) tick_is fresh (idle, none, other, sent, sent_is, since, some) = record { none = none; by = (idle, sent, sent_is, omega (arith, tick_is, since, some)) }
 unanswered_so s one now turn (Answered sent left) tick_is fresh progress = absurd (let bad : true ≡ false = fresh in cc)
 
-abbrev left_of : Bool → Option ℕ → Leaving
+abbrev pub left_of : Bool → Option ℕ → Leaving
 left_of owes first = record { owes = owes; first = first }
 
 module _ (s : Standing) (one : Judging) (now count : ℕ) (rest : List LineUnit) (f : FrameParts) (d : Doing) (first : Option ℕ)
@@ -108,6 +108,10 @@ module _ (s : Standing) (one : Judging) (now count : ℕ) (rest : List LineUnit)
   asks_with : (leaving : Leaving) (o : Option UnderWay) → TieUnderWay (with_judging s one) now now (count + 1) d.turn d.id leaving o
       → AsksSo (with_judging s one) now now (count + 1) rest (record d { under_way = o; leaving = leaving })
   asks_with leaving o under_way = record { line = line_on; under_way = under_way }
+
+  -- one that ends it has
+  pub finished_by : (u : UnderWay) → IsUnderWay s now d.turn d.id u → ends_now s one ≡ true → EndedByFrame (with_judging s one) now (count + 1) (left_of false (brought_by (request_in s.frame) one.unit))
+  finished_by u is ends = frame_ends s one now count d.turn d.id tick_is place u (held_before s one now (count + 1) d.turn (line_held (with_judging s one) now (count + 1) rest d.turn line_on)) is ends
 
   says_so : (u : UnderWay) (next : Next) → IsUnderWay s now d.turn d.id u → IsKept s d.leaving → FrameSays s one u next → AsksSo (with_judging s one) now now (count + 1) rest (doing_next d u next)
   says_so u next is paid (Leaves next_is none ends) =
@@ -134,8 +138,7 @@ module _ (s : Standing) (one : Judging) (now count : ℕ) (rest : List LineUnit)
       let left : left_of false (brought_by (request_in s.frame) one.unit) ≡ left_of (owes_abort u how) (capability_at how) = leaving_is (sym (and_left _ _ loud)) (sym brings) in
       subst (λ (n : Next). AsksSo (with_judging s one) now now (count + 1) rest (doing_next d u n)) (sym next_is)
       (asks_with (record { owes = owes_abort u how; first = capability_at how }) None
-      (inl (subst (λ (l : Leaving). EndedByFrame (with_judging s one) now (count + 1) l) left
-      (frame_ends s one now count d.turn d.id tick_is place u (held_before s one now (count + 1) d.turn (line_held (with_judging s one) now (count + 1) rest d.turn line_on)) is ends))))
+      (inl (subst (λ (l : Leaving). EndedByFrame (with_judging s one) now (count + 1) l) left (finished_by u is ends))))
 
   frame_from : (o : Option UnderWay) → TieUnderWay s now now count d.turn d.id d.leaving o → AsksSo (with_judging s one) now now (count + 1) rest (doing_from d (frame_next d.id first f) o)
   frame_from None ended = asks_with d.leaving None (ended_judged s one now count d.leaving tick_is place ended)

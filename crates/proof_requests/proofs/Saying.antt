@@ -117,7 +117,7 @@ protocol_answers body a b c d e f so =
 
 -- ---- frames as text
 
-response_text : (func : ℕ) (body : List ℕ) (sum : ℕ) → response_in (framed (1 ∷ func ∷ body) sum) ≡ read_well (response_of func body)
+pub response_text : (func : ℕ) (body : List ℕ) (sum : ℕ) → response_in (framed (1 ∷ func ∷ body) sum) ≡ read_well (response_of func body)
 response_text func body sum = ap (λ (b : List ℕ). read_well (response_of func b)) (body_is body func sum)
 
 notice_text : (func : ℕ) (body : List ℕ) (sum : ℕ) → notice_in (framed (0 ∷ func ∷ body) sum) ≡ read_well (notice_of func body)

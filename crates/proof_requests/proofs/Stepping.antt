@@ -91,12 +91,12 @@ as_known here is past m same known = subst (λ (p : Phase). KnowsAsked p past m)
 ground_at : (here is : Phase) (past : List Entry) (m : HostMachine) → here ≡ is → Ground here past m → Ground is past m
 ground_at here is past m same ground = subst (λ (p : Phase). Ground p past m) same ground
 
-not_awaiting : (awaits : Bool) (e : Entry) (told more : List Entry) → (awaits ≡ true → told ≡ []) → told ≡ e ∷ more → awaits ≡ false
+pub not_awaiting : (awaits : Bool) (e : Entry) (told more : List Entry) → (awaits ≡ true → told ≡ []) → told ≡ e ∷ more → awaits ≡ false
 not_awaiting false e told more numbered are = refl
 not_awaiting true e told more numbered are = absurd (let bad : e ∷ more ≡ [] = sym are ∙ numbered refl in cc)
 
 -- where something is told, the number of the tick stands
-time_told : (here : Phase) (past told : List Entry) (m : HostMachine) → Ground here past m → IsNumbered m told → (e : Entry) (more : List Entry) → told ≡ e ∷ more → clock past ≡ m.clock
+pub time_told : (here : Phase) (past told : List Entry) (m : HostMachine) → Ground here past m → IsNumbered m told → (e : Entry) (more : List Entry) → told ≡ e ∷ more → clock past ≡ m.clock
 time_told here past told m ground numbered e more are = clock_is past m ground.0.0.0.1 (not_awaiting m.awaits e told more numbered are)
 
 -- ---- units of the chip

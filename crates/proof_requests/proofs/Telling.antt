@@ -66,7 +66,7 @@ quiet_goes (entry.Written Host unit) quiet = ap is_data quiet
 quiet_goes (entry.Written Chip unit) quiet = tt
 quiet_goes e quiet = tt
 
-quiet_wordless : (e : Entry) → IsQuiet e → IsWordless e
+pub quiet_wordless : (e : Entry) → IsQuiet e → IsWordless e
 quiet_wordless (entry.Said words) quiet = absurd quiet
 quiet_wordless (entry.Refused refusal) quiet = absurd quiet
 quiet_wordless e quiet = tt
@@ -82,7 +82,7 @@ fresh_wordless [] all = refl
 fresh_wordless (entry.Refused refusal ∷ told) all = absurd all.0
 fresh_wordless (e ∷ told) all = refl
 
-quiet_uncounted : (told : List Entry) → AllByRecursion IsQuiet told → filter is_acknowledgement (written Host told) ≡ []
+pub quiet_uncounted : (told : List Entry) → AllByRecursion IsQuiet told → filter is_acknowledgement (written Host told) ≡ []
 quiet_uncounted [] all = refl
 quiet_uncounted (entry.Written Host unit ∷ told) all =
     ap (λ (l : List ℕ). if is_acknowledgement l then unit ∷ filter is_acknowledgement (written Host told) else filter is_acknowledgement (written Host told)) all.0 ∙ quiet_uncounted told all.1
@@ -91,7 +91,7 @@ quiet_uncounted (e ∷ told) all = quiet_uncounted told all.1
 
 -- ---- how many were judged
 
-acknowledged_more : (past told : List Entry) (more : ℕ) → AllByRecursion IsWordless told → acknowledged_in told ≡ more → acknowledged (past ++ told) ≡ acknowledged past + more
+pub acknowledged_more : (past told : List Entry) (more : ℕ) → AllByRecursion IsWordless told → acknowledged_in told ≡ more → acknowledged (past ++ told) ≡ acknowledged past + more
 acknowledged_more past told more all is =
     ap acknowledged_in (wordless_more past told all) ∙ count_more (since_restart past) told ∙ ap (λ (n : ℕ). acknowledged past + n) is
 
@@ -100,7 +100,7 @@ none_more n = omega arith
 
 -- ---- the request goes on
 
-grown : (past told : List Entry) → asked (past ++ told) ≡ with_entries (asked past) told → WasAsked past → WasAsked (past ++ told)
+pub grown : (past told : List Entry) → asked (past ++ told) ≡ with_entries (asked past) told → WasAsked past → WasAsked (past ++ told)
 grown past told is was = record {
   framed = ap (λ (a : Asked). is_data a.frame) is ∙ was.framed;
   whole = ap (λ (a : Asked). up_to_first a ++ a.following) is ∙ sym (append_assoc (up_to_first (asked past)) (asked past).following told) ∙ ap (λ (l : List Entry). l ++ told) was.whole;
@@ -118,6 +118,9 @@ nothing_grown past told d is none = record { unasked = ap (λ (a : Asked). a.fra
 
 pub quiet_on : (past told : List Entry) → AllByRecursion IsQuiet told → asked (past ++ told) ≡ with_entries (asked past) told
 quiet_on past told all = asked_on past told (fresh_wordless told (all-weaker IsQuiet IsWordless quiet_wordless told all)) (all-weaker IsQuiet GoesOn quiet_goes told all)
+
+pub quiet_asides : (told : List Entry) → AllByRecursion IsQuiet told → AllByRecursion IsAside told
+quiet_asides told all = all-weaker IsQuiet IsAside quiet_aside told all
 
 -- after quiet entries, with what came and what the host does as they are
 pub tie_quiet : (past told : List Entry) (line_now now : ℕ) (came : List LineUnit) (d : Doing) → AllByRecursion IsQuiet told → TieAsked past line_now now came d → TieAsked (past ++ told) line_now now came d

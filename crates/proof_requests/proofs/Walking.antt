@@ -76,7 +76,7 @@ others_quiet (entry.Dropped side) others = absurd others
 others_quiet (entry.Overrun side) others = absurd others
 others_quiet e others = tt
 
-marks_quiet : (marks : List Entry) → AllByRecursion IsOfUnit marks → AllByRecursion IsQuiet marks
+pub marks_quiet : (marks : List Entry) → AllByRecursion IsOfUnit marks → AllByRecursion IsQuiet marks
 marks_quiet marks all = all-weaker IsOfUnit IsQuiet mark_quiet marks all
 
 -- where nothing is written what is told is quiet

@@ -6,9 +6,10 @@ ghost use Rattle.serial_frame.specs.declared.unit.Unit.{Unit as LineUnit};
 ghost use Rattle.zw_text.specs.declared.entry.Entry.{Entry};
 ghost use Rattle.law_time.specs.Moments.{Allows};
 ghost use Rattle.law_time.specs.Waking.{may_wake};
+ghost use Rattle.law_time.specs.Questions.{AnswersQuestions};
 ghost use Rattle.proof_alone.specs.State.{HostMachine, first_alone};
 ghost use Rattle.proof_alone.specs.Phases.{Phase, Resting};
-ghost use Rattle.proof_alone.specs.Runs.{Run, Walk, both_know};
+ghost use Rattle.proof_alone.specs.Runs.{Run, Told, Walk, both_know};
 ghost use Rattle.proof_requests.specs.Asking.{Doing, TellsOfHost, TieAsked, doing_of};
 ghost use Rattle.proof_alone.specs.Listening.{ListensAsTold};
 ghost use Rattle.proof_requests.specs.Walking.{Ground, KnowsAsked, KnowsInterviews};
@@ -47,5 +48,12 @@ pub fn hosts_listen_as_told()
 {
     texts_give_one_thing();
     a_restart_needs_the_records_alone();
+    hosts_ask_as_told();
+}
+
+/// So the answers to questions stand where the first response to the last request was judged, directly after it, and wherever it was.
+pub fn hosts_answer_questions()
+    ensures { (keys : Keys) (told : List Entry) → Told (first_alone keys (Some [])) told → AnswersQuestions told }
+{
     hosts_ask_as_told();
 }
