@@ -7,4 +7,7 @@ mod Telling
 mod Showing
 mod Recording
 mod Answering
-mod ForHost
+pub mod ForHost
+mod Followers
+mod Noting
+mod AtOnce

@@ -32,21 +32,25 @@ pub fn print_word(text: &mut String, word: &str) -> Result<(), AllocError>
 pub fn print_count(text: &mut String, word: &str, n: u64) -> Result<(), AllocError>
     ensures { OnOk result (string_bytes text.new ≡ string_bytes text.old ++ join_with_byte 32 (word.now ∷ decimal n ∷ [])) }
 {
-    write!(text, "{word} {n}")
+    text.push_str(word)?;
+    write!(text, " {n}")
 }
 
 /// A word and two numbers.
 pub fn print_pair(text: &mut String, word: &str, first: u64, second: u64) -> Result<(), AllocError>
     ensures { OnOk result (string_bytes text.new ≡ string_bytes text.old ++ join_with_byte 32 (word.now ∷ decimal first ∷ decimal second ∷ [])) }
 {
-    write!(text, "{word} {first} {second}")
+    text.push_str(word)?;
+    write!(text, " {first} {second}")
 }
 
 /// A word, a number and a name.
 pub fn print_named(text: &mut String, word: &str, n: u64, name: &str) -> Result<(), AllocError>
     ensures { OnOk result (string_bytes text.new ≡ string_bytes text.old ++ join_with_byte 32 (word.now ∷ decimal n ∷ name.now ∷ [])) }
 {
-    write!(text, "{word} {n} {name}")
+    text.push_str(word)?;
+    write!(text, " {n} ")?;
+    text.push_str(name)
 }
 
 /// `accepted I node N`
@@ -74,8 +78,9 @@ pub fn print_begin(
 pub fn print_side(text: &mut String, word: &str, side: Side) -> Result<(), AllocError>
     ensures { OnOk result (string_bytes text.new ≡ string_bytes text.old ++ join_with_byte 32 (word.now ∷ side_word side ∷ [])) }
 {
-    let side = side_name(side);
-    write!(text, "{word} {side}")
+    text.push_str(word)?;
+    text.push_str(" ")?;
+    text.push_str(side_name(side))
 }
 
 /// `h HEX` or `c HEX`
@@ -87,9 +92,10 @@ pub fn print_written(
 ) -> Result<(), AllocError>
     ensures { OnOk result (string_bytes text.new ≡ string_bytes text.old ++ join_with_byte 32 (side_word side ∷ encode_upper unit.now ∷ [])) }
 {
-    let side = side_name(side);
     let unit = hex::encode_upper(alloc, unit)?;
-    write!(text, "{side} {unit}")
+    text.push_str(side_name(side))?;
+    text.push_str(" ")?;
+    text.push_str(unit.as_str())
 }
 
 /// `garbled S HEX`
@@ -139,7 +145,8 @@ pub fn print_setting_of(
 {
     let node = node.number();
     let value = setting.value;
-    write!(text, "{word} {node} ")?;
+    text.push_str(word)?;
+    write!(text, " {node} ")?;
     write_property(text, setting.property)?;
     write!(text, " {value}")?;
     Ok(())
