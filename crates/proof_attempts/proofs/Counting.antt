@@ -184,12 +184,16 @@ module _ (P : NodeState → Type 0) (starts : (n : NodeState) → P (after_resta
   all_start (one ∷ more) zero from = absurd (omega (arith, from))
   all_start (one ∷ more) (suc m) from = mapped more m
 
+pub each_restarts : (P : NodeState → Type 0) → ((n : NodeState) → P (after_restart n)) → P (unknown 0) → (keys : Keys) (records : Option (List (List ℕ))) (state : HostState) → IsSome records
+    → OpensFrom keys records state → (m : ℕ) → 1 ≤ m → P (node_of state m)
+each_restarts P starts blank keys None state told opens m from = let bad : false ≡ true = told in absurd cc
+each_restarts P starts blank keys (Some texts) state told (records, are, legal, is) m from = subst (λ (h : HostState). P (node_of h m)) (sym is) (all_start P starts blank _ m from)
+
 pub each_starts : (P : NodeState → Type 0) → ((n : NodeState) → P (new_series (as_recorded n))) → ((n : NodeState) → P (as_recorded n)) → P (unknown 0)
     → (keys : Keys) (records : Option (List (List ℕ))) (state : HostState) → IsSome records → OpensFrom keys records state → (m : ℕ) → 1 ≤ m → P (node_of state m)
-each_starts P anew idle blank keys None state told opens m from = let bad : false ≡ true = told in absurd cc
-each_starts P anew idle blank keys (Some texts) state told (records, are, legal, is) m from =
-    subst (λ (h : HostState). P (node_of h m)) (sym is)
-    (all_start P (λ n. either P (is_open (as_recorded n) && is_up (as_recorded n) && is_idle (as_recorded n).series) (new_series (as_recorded n)) (as_recorded n) (anew n) (idle n)) blank _ m from)
+each_starts P anew idle blank keys records state told opens m from =
+    each_restarts P (λ n. either P (is_open (as_recorded n) && is_up (as_recorded n) && is_idle (as_recorded n).series) (new_series (as_recorded n)) (as_recorded n) (anew n) (idle n)) blank
+    keys records state told opens m from
 
 starts_awake : (before : List Entry) (words : List ℕ) (keys : Keys) (records : Option (List (List ℕ))) (state : HostState) → IsSome records → OpensFrom keys records state
     → is_restart (line_of (entry.Said words)) ≡ true → TieAwake (before ++ entry.Said words ∷ []) state
@@ -212,7 +216,7 @@ awake_lasts = record {
       more_awake past told m.state m.state (all-weaker IsLoose IsWordless loose_wordless told all) (λ n from to. quiet_awake n told (node_of m.state n).awake (all-weaker IsLoose IsQuiet loose_quiet told all)) tie;
   numbers = λ here past m other ground later tie. more_awake past (entry.Time m.clock ∷ []) m.state m.state (tt, tt) (λ n from to. quiet_awake n (entry.Time m.clock ∷ []) (node_of m.state n).awake (tt, tt)) tie;
   said = λ past words m none ground goes_on tie. said_awake past words m.state goes_on tie;
-  refused = λ past words refusal m none ground tie. refused_awake past words refusal m.state tie;
+  refused = λ past words line refusal m none ground later tie. refused_awake past words refusal m.state tie;
   asked = λ line past m event is may numbered ground later tie.
       more_awake past (answers m.state event) m.state (after m.state event) (answers_wordless m.state event) (asked_awake line m.state event is ground.0.facts.host.nodes.places) tie;
   starts = λ before words m state opens anew ground later. starts_awake before words m.keys m.records state ground.0.told opens anew;

@@ -39,7 +39,8 @@ use Rattle.host_requests.specs.Events.{interviewed_by}
 use Rattle.host_model.specs.State.{HostState, node_of}
 use Rattle.host_model.specs.After.{after}
 use Rattle.host_model.specs.Did.{after_all}
-use Rattle.host_model.specs.Events.{HostEvent, Interviews, Interview_unkept, Unreads, Is_unkept, Reports_old, Works, Finishes, Offers, Gives, Spends, Spends_unread, Takes_nonce, Notifies, Resends, Hears_value, Has_no_room}
+use Rattle.host_node.specs.declared.attempt.Moment.TheVariants.{BetweenTicks}
+use Rattle.host_model.specs.Events.{HostEvent, Accepts, Requests_do, Line_ticks, Node_ticks, Begins, Interviews, Interview_unkept, Unreads, Is_unkept, Reports_old, Works, Finishes, Offers, Gives, Spends, Spends_unread, Takes_nonce, Notifies, Resends, Hears_value, Has_no_room}
 use Rattle.host_model.specs.May.{says_listens}
 use Rattle.host_model.specs.Taking.{AreTaken, FinalEvents, FrameEvents, InterviewEvents, IsOpened, IsTaken, NonceGetEvents, NonceReportEvents, NoticeEvents, PayloadEvents, ReportEvents, ResponseEvents, SealedEvents, is_secure, resent, value_event, value_events}
 use Rattle.proof_alone.proofs.Always.{either, none, one}
@@ -53,9 +54,14 @@ Tells (Messages messages) id wake = Has (flat_map (stays_by id) messages) wake
 Tells Sealed id wake = Unit {0}
 Tells Unread id wake = ⊥
 
--- a session that ends is of this node, and ends so
+-- a session that ends is of this node, and ends so; nothing of a request or a tick comes, no command is accepted, and no session begins
 abbrev Ends : ℕ → (ℕ → Bool → Type 0) → HostEvent → Type 0
 Ends n By (Finishes m session id command final wake) = (m ≡ n) × By id wake
+Ends n By Line_ticks = ⊥
+Ends n By (Node_ticks m) = ⊥
+Ends n By (Requests_do event moment) = ⊥
+Ends n By (Accepts order carriage) = ⊥
+Ends n By (Begins m session command) = ⊥
 Ends n By event = Unit {0}
 
 -- ---- messages
@@ -167,15 +173,25 @@ payload_ends h n payload Unread events is = one (Ends n (Tells Unread)) (Unreads
 
 -- ---- frames
 
--- a session that ends behind a frame is of the node whose payload it brings, and ends as that may tell
+-- a session that ends behind a frame is of the node whose payload it brings, and ends as that may tell; a request hears of the frame between two ticks
 abbrev pub Brings : List ℕ → HostEvent → Type 0
 Brings unit (Finishes m session id command final wake) = (payload : List ℕ) × (bringing_in unit ≡ record { node = m; payload = payload } ∷ []) × Tells (heard_at payload) id wake
+Brings unit Line_ticks = ⊥
+Brings unit (Node_ticks m) = ⊥
+Brings unit (Requests_do event moment) = moment ≡ BetweenTicks
+Brings unit (Accepts order carriage) = ⊥
+Brings unit (Begins m session command) = ⊥
 Brings unit event = Unit {0}
 
 own_brings : (unit : List ℕ) (source : ℕ) (payload : List ℕ) → bringing_in unit ≡ record { node = source; payload = payload } ∷ [] → (event : HostEvent) → Ends source (Tells (heard_at payload)) event
     → Brings unit event
 own_brings unit source payload is (Finishes m session id command final wake) (same, tells) =
     (payload, is ∙ ap (λ (k : ℕ). record { node = k; payload = payload } ∷ []) (sym same), tells)
+own_brings unit source payload is Line_ticks ends = absurd ends
+own_brings unit source payload is (Node_ticks m) ends = absurd ends
+own_brings unit source payload is (Requests_do event moment) ends = absurd ends
+own_brings unit source payload is (Accepts order carriage) ends = absurd ends
+own_brings unit source payload is (Begins m session command) ends = absurd ends
 own_brings unit source payload is event ends = tt
 
 abbrev brought_of : Result Notice BodyFault → List Carried
@@ -185,20 +201,20 @@ text_brings : (func : ℕ) (body : List ℕ) (sum : ℕ) → bringing_in (framed
 text_brings func body sum = ap (λ (b : List ℕ). brought_of (notice_of func b)) (body_is body func sum)
 
 response_all : (unit : List ℕ) (read : Result Response BodyFault) (events : List HostEvent) → ResponseEvents read events → AllByRecursion (Brings unit) events
-response_all unit (Ok response) events is = one (Brings unit) _ events tt is
+response_all unit (Ok response) events is = one (Brings unit) _ events refl is
 response_all unit (Err fault) events is = none (Brings unit) events is
 
 interview_all : (unit : List ℕ) (update : Update) (brought : Option ℕ) (events : List HostEvent) → InterviewEvents update brought events → AllByRecursion (Brings unit) events
 interview_all unit (Received n basic generic specific classes) (Some capability) events is =
     either (Brings unit) (Interviews n (says_listens capability) classes (Received n basic generic specific classes)) (Interview_unkept n (Received n basic generic specific classes)) events tt tt is
 interview_all unit RequestFailed (Some capability) events is = none (Brings unit) events is
-interview_all unit (Received n basic generic specific classes) None events is = one (Brings unit) _ events tt is
-interview_all unit RequestFailed None events is = one (Brings unit) _ events tt is
+interview_all unit (Received n basic generic specific classes) None events is = one (Brings unit) _ events refl is
+interview_all unit RequestFailed None events is = one (Brings unit) _ events refl is
 
 notice_all : (unit : List ℕ) (h : HostState) (read : Result Notice BodyFault) (events : List HostEvent) → bringing_in unit ≡ brought_of read → NoticeEvents h read events → AllByRecursion (Brings unit) events
 notice_all unit h (Ok (ApplicationCommandHandler rx_status source payload)) events brings is =
     all-weaker (Ends source (Tells (heard_at payload))) (Brings unit) (own_brings unit source payload brings) events (payload_ends h source payload (heard_at payload) events is)
-notice_all unit h (Ok (SendData callback_id status)) events brings is = one (Brings unit) _ events tt is
+notice_all unit h (Ok (SendData callback_id status)) events brings is = one (Brings unit) _ events refl is
 notice_all unit h (Ok (ApplicationUpdate update)) events brings is = interview_all unit update (interviewed_by h.requests update) events is
 notice_all unit h (Ok (AddNode callback_id status information)) events brings is = none (Brings unit) events is
 notice_all unit h (Err fault) events brings is = none (Brings unit) events is

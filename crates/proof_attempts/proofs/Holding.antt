@@ -37,7 +37,7 @@ use Rattle.proof_alone.specs.Time.{TieClock, passing}
 use Rattle.proof_alone.proofs.Apart.{AreOfLine, told_are}
 use Rattle.proof_alone.proofs.InOrder.{asked_puts, is_asked}
 use Rattle.proof_waking.proofs.Apart.{IsWordless}
-use Rattle.proof_attempts.specs.Since.{InTick, IsBetweenTicks, IsLoose, Lasts, TicksAt, is_to_tick, node_clock}
+use Rattle.proof_attempts.specs.Since.{InTick, IsBetweenTicks, IsLoose, IsOfItem, Lasts, TicksAt, is_to_tick, node_clock}
 use Rattle.proof_attempts.specs.Waking.{HeldAsTold, KnowsHearing, KnowsListening, KnowsWork, TellsAwake, Waking, one_less, releases_of, waking_before, waking_in, waking_step}
 use Rattle.proof_attempts.proofs.Ahead.{ahead_from, ahead_joined}
 use Rattle.proof_attempts.proofs.Counting.{answers_quiet, answers_wordless, each_starts, first_waking, loose_quiet, loose_wordless, told_notes, told_wordless}
@@ -106,7 +106,7 @@ later_is a b t under over is = by (nat_lt a b) refl is
     by false less (inr same) = let above = ltb-false a b less in omega (arith, above, under, same)
 
 -- where the number of the tick stands the clock of the transcript is that of the host
-clock_now : (past : List Entry) (m : HostMachine) → TieClock past m → m.awaits ≡ false → m.clock ≡ clock past
+pub clock_now : (past : List Entry) (m : HostMachine) → TieClock past m → m.awaits ≡ false → m.clock ≡ clock past
 clock_now past m tie awaits = sym (later_is (passing past).before (time_of past) m.clock tie.begun tie.shown (tie.now awaits))
 
 -- at this time, or no node is held
@@ -135,7 +135,7 @@ note_untimed e note = tt
 line_untimed : AreOfLine IsUntimed
 line_untimed = record { written = λ side text. tt; dropped = λ side. tt; garbled = λ side text. tt; overrun = λ side. tt }
 
-told_untimed : (h : HostState) (event : HostEvent) (told : List Entry) → AreTold (outs h event) told → AreUntimed told
+pub told_untimed : (h : HostState) (event : HostEvent) (told : List Entry) → AreTold (outs h event) told → AreUntimed told
 told_untimed h event told are = told_are IsUntimed line_untimed note_untimed (outs h event) told (subst NoteOuts (append-nil (outs h event)) (all_outs_note h (event ∷ []))) are
 
 -- of the first entry, and of those after it
@@ -291,6 +291,10 @@ submitted_between = record {
   unkept = λ n. tt;
 }
 
+of_item : (event : HostEvent) → IsOfItem event → IsBetweenTicks event
+of_item (Node_ticks n) item = absurd item
+of_item event item = tt
+
 asked_between : (event : HostEvent) → IsAsked event → IsBetweenTicks event
 asked_between (Node_ticks n) asked = absurd asked
 asked_between event asked = tt
@@ -308,7 +312,7 @@ does_held (Ticking (Requests_do heard moment ∷ left)) next past m event told g
     let request : AreTold (outs m.state these) told = subst (λ (e : HostEvent). AreTold (outs m.state e) told) goes.0 are in
     subst (λ (p : Phase). HeldAsTold p (past ++ told) (after m.state event) m.clock) (sym goes.1)
     (subst (λ (e : HostEvent). HeldAsTold (Ticking left) (past ++ told) (after m.state e) m.clock) (sym goes.0)
-    (subst (λ (l : List HostEvent). HeldAsTold (Ticking l) (past ++ told) (after m.state these) m.clock) (sym ticks.0)
+    (subst (λ (l : List HostEvent). HeldAsTold (Ticking l) (past ++ told) (after m.state these) m.clock) (sym ticks.0.1)
     (none_left (past ++ told) (after m.state these) m.clock
     (plain_held past m told known (Ticking (these ∷ left)) Risen these tt request (λ n. refl) (λ n. inr (told_unheld m.state these told tt request)) tie))))
 does_held (Ticking (Node_ticks k ∷ left)) next past m event told goes are numbered known clocked ticks tie =
@@ -318,7 +322,7 @@ does_held (Ticking (Node_ticks k ∷ left)) next past m event told goes are numb
 does_held (Ticking (first ∷ left)) next past m event told goes are numbered known clocked ticks tie = absurd ticks.0
 does_held (Behind (first ∷ left)) next past m event told goes are numbered known clocked ticks tie =
     subst (λ (p : Phase). HeldAsTold p (past ++ told) (after m.state event) m.clock) (sym goes.1)
-    (plain_held past m told known (Behind (first ∷ left)) (Behind left) event (subst IsBetweenTicks (sym goes.0) ticks.0) are (λ n. refl) (λ n. told_now past m told clocked numbered) tie)
+    (plain_held past m told known (Behind (first ∷ left)) (Behind left) event (subst IsBetweenTicks (sym goes.0) (of_item first ticks.0)) are (λ n. refl) (λ n. told_now past m told clocked numbered) tie)
 does_held Sleeping next past m event told (node, wants, is, to_is) are numbered known clocked ticks tie =
     subst (λ (p : Phase). HeldAsTold p (past ++ told) (after m.state event) m.clock) (sym to_is)
     (plain_held past m told known Sleeping Sleeping event (subst IsBetweenTicks (sym is) (no_more_is IsBetweenTicks sleepers_between m.state node)) are
@@ -381,7 +385,7 @@ module _ (told_awake : (h : HostState) (n : ℕ) → HostWork h → 1 ≤ times_
     numbers = λ here past m other ground later tie.
         same_held here here past (past ++ entry.Time m.clock ∷ []) m.state m.clock m.clock (λ n. quiet_held n past (entry.Time m.clock ∷ []) (tt, tt) (tt, tt)) (λ n. refl) tie;
     said = λ past words m none ground goes_on tie. same_held Resting Resting past (past ++ entry.Said words ∷ []) m.state m.clock m.clock (λ n. by_words n past words false goes_on) (λ n. refl) tie;
-    refused = λ past words refusal m none ground tie.
+    refused = λ past words line refusal m none ground later tie.
         same_held Resting Open past (past ++ entry.Said words ∷ (entry.Refused refusal ∷ [])) m.state m.clock m.clock (λ n. in_vain n past words refusal) (λ n. refl) tie;
     asked = λ line past m event is may numbered ground later tie. asked_held line past m event is (known_at (Asked line) past m ground.0 ground.1) tie;
     starts = λ before words m state opens anew ground later n from to.

@@ -138,9 +138,9 @@ final_by attempts id byte session None (first ∷ more) is = by (id == wire_id (
     by true is false final_so = (eqb-true id (wire_id (length (first ∷ more))) is, (let same : Final (length (first ∷ more)) ≡ Final session = final_so in cc))
 
 -- it is the last of its node, whose command this is
-record IsEnding (node : NodeState) (id command : ℕ) : Type 0 where
-  id_is : id ≡ length node.book.commands % 64
-  last : last_of node.book.commands ≡ command ∷ []
+pub record IsEnding (node : NodeState) (id command : ℕ) : Type 0 where
+  pub id_is : id ≡ length node.book.commands % 64
+  pub last : last_of node.book.commands ≡ command ∷ []
 
 same_command : (found : Option ℕ) (a b : ℕ) → found ≡ Some a → found ≡ Some b → a ≡ b
 same_command found a b e f = cc
@@ -151,11 +151,16 @@ ending_last node session command opened carried (inl none) = absurd (let bad : N
 ending_last node session command opened carried (inr at) =
     at.last ∙ ap (λ (c : ℕ). c ∷ []) (same_command (open_command node) at.command command at.opened (ap (λ (o : Option ℕ). command_by node o) opened ∙ carried))
 
-ending_of : (h : HostState) (n session id command : ℕ) (status : FinalStatus) → IsFinal h n session id command status → IsEnding (node_of h n) id command
+pub ending_of : (h : HostState) (n session id command : ℕ) (status : FinalStatus) → IsFinal h n session id command status → IsEnding (node_of h n) id command
 ending_of h n session id command status it =
     let node = node_of h n in
     let by = final_by node.book.attempts id (status_byte status) session node.book.outcome node.book.commands it.told in
     record { id_is = by.0; last = ending_last node session command by.1 it.carried (open_last node) }
+
+pub opened_command : (h : HostState) (n session id command : ℕ) (status : FinalStatus) → IsFinal h n session id command status → open_command (node_of h n) ≡ Some command
+opened_command h n session id command status it =
+    let node = node_of h n in
+    ap (λ (o : Option ℕ). command_by node o) (final_by node.book.attempts id (status_byte status) session node.book.outcome node.book.commands it.told).1 ∙ it.carried
 
 -- ---- the entries of a session that ends
 

@@ -75,10 +75,11 @@ module _ (Tie : TieOf) where
   module _ (Ground : Knowledge) (lasts : Lasts Ground Tie) where
     -- ---- lines
 
-    refuses_tie : (past : List Entry) (words : List ℕ) (m : HostMachine) (refusal : Refusal) → m.left ≡ 0 → Ground Resting past m → Tie Resting past m.state m.clock
+    refuses_tie : (past : List Entry) (words : List ℕ) (line : Line) (m : HostMachine) (refusal : Refusal) → m.left ≡ 0 → Ground Resting past m
+        → Ground (Asked line) (past ++ entry.Said words ∷ []) (happens m (Says words line)) → Tie Resting past m.state m.clock
         → Tie Open ((past ++ entry.Said words ∷ []) ++ entry.Refused refusal ∷ []) m.state m.clock
-    refuses_tie past words m refusal none ground known =
-        subst (λ (l : List Entry). Tie Open l m.state m.clock) (sym (append_assoc past (entry.Said words ∷ []) (entry.Refused refusal ∷ []))) (lasts.refused past words refusal m none ground known)
+    refuses_tie past words line m refusal none ground later known =
+        subst (λ (l : List Entry). Tie Open l m.state m.clock) (sym (append_assoc past (entry.Said words ∷ []) (entry.Refused refusal ∷ []))) (lasts.refused past words line refusal m none ground later known)
 
     -- ---- steps
 
@@ -99,6 +100,8 @@ module _ (Tie : TieOf) where
     step_goes here next past m (Says words line) may ground later known =
         let rest : Tie Resting past m.state m.clock = rest_of Resting past m tt (as_known here Resting past m may.0 known) in
         let at : Ground Resting past m = subst (λ (p : Phase). Ground p past m) may.0 ground in
+        let asked : Ground (Asked line) (past ++ entry.Said words ∷ []) (happens m (Says words line))
+        = subst (λ (p : Phase). Ground p (past ++ entry.Said words ∷ []) (happens m (Says words line))) may.3 later in
         subst (λ (p : Phase). KnowsSince Tie p (past ++ entry.Said words ∷ []) (happens m (Says words line))) (sym may.3)
         (record {
           before = past;
@@ -108,7 +111,7 @@ module _ (Tie : TieOf) where
           unnumbered = refl;
           tie = rest;
           goes_on = λ other. lasts.said past words m may.1 at (ap is_restart may.2 ∙ other) rest;
-          in_vain = λ refusal. refuses_tie past words m refusal may.1 at rest;
+          in_vain = λ refusal. refuses_tie past words line m refusal may.1 at asked rest;
         })
     step_goes here next past m (Says_nothing words) may ground later known =
         leads_to next Resting (past ++ entry.Said words ∷ []) (happens m (Says_nothing words)) tt (may.3 ∙ may.0)
@@ -177,4 +180,12 @@ over_both Law Ground Know ground walk = record {
   step = λ here next past m one may known.
       let base = ground.step here next past m one may known.0 in (base.0, (base.1, walk.step here next past m one may known.0 base.1 known.1));
   turn = λ here next past m turns known. (ground.turn here next past m turns known.0, walk.turn here next past m turns known.0 known.1);
+}
+
+-- and on a ground that tells more
+pub on_more : (Big Ground Know : Knowledge) → ((here : Phase) (past : List Entry) (m : HostMachine) → Big here past m → Ground here past m) → WalkBoth Ground Know → WalkBoth Big Know
+on_more Big Ground Know tells walk = record {
+  step = λ here next past m one may ground later known.
+      walk.step here next past m one may (tells here past m ground) (tells next (past ++ entries m one) (happens m one) later) known;
+  turn = λ here next past m turns ground known. walk.turn here next past m turns (tells here past m ground) known;
 }

@@ -11,3 +11,7 @@ mod Opening
 mod SeriesSteps
 mod Finishing
 mod KeptAwake
+mod Doings
+mod SeriesTold
+mod SeriesGoes
+mod SeriesTie

@@ -98,7 +98,7 @@ told_same n status Working = signed n
 told_same n status Old = refl
 
 module _ {A : Type 0} (of : NodeState → A) (anew : (n : NodeState) → of (new_series n) ≡ of n) (again : (n : NodeState) (ticks : ℕ) → of (with_again n ticks) ≡ of n) where
-  again_same : (n : NodeState) → of (after_again_tick n) ≡ of n
+  pub again_same : (n : NodeState) → of (after_again_tick n) ≡ of n
   again_same n =
       let over : NodeState = with_again n 0 in
       either of (n.again_wait == 1) (after_again over) (with_again n (n.again_wait - 1)) (of n)
@@ -119,7 +119,7 @@ runs_by : (b : Bool) (one other : NodeState) (s : Series) → (is_running one.se
 runs_by true one other s f g is = f is
 runs_by false one other s f g is = g is
 
-ran : (n : NodeState) → is_running (after_again_tick n).series ≡ true → is_running n.series ≡ true
+pub ran : (n : NodeState) → is_running (after_again_tick n).series ≡ true → is_running n.series ≡ true
 ran n =
     let over : NodeState = with_again n 0 in
     runs_by (n.again_wait == 1) (after_again over) (with_again n (n.again_wait - 1)) n.series
@@ -138,7 +138,7 @@ fell_at NoneRan = false
 fell_at Again = false
 fell_at (Unanswered fell) = fell
 
-abbrev ends_at : AttemptEnd → Bool → Bool
+abbrev pub ends_at : AttemptEnd → Bool → Bool
 ends_at NoneRan ends = false
 ends_at Again ends = false
 ends_at (Unanswered fell) ends = ends
@@ -152,6 +152,72 @@ none_ends (Unanswered fell) ends none = none
 abbrev pub ends_by : (ℕ → Bool) → Option ℕ → Bool
 ends_by releases None = false
 ends_by releases (Some command) = releases command
+
+-- ---- the notes among what is put out
+
+pub notes_noted : (told : List Entry) → notes_of (noted told) ≡ told
+notes_noted [] = refl
+notes_noted (e ∷ told) = ap (λ (l : List Entry). e ∷ l) (notes_noted told)
+
+pub copy_notes : (copy : Option FrameParts) (told : List Entry) → notes_of (copy_out copy ++ noted told) ≡ told
+copy_notes None told = notes_noted told
+copy_notes (Some f) told = notes_noted told
+
+pub answer_notes : (item : Item) → notes_of (answer_to item) ≡ []
+answer_notes (Good (Framed f)) = refl
+answer_notes (Good Ack) = refl
+answer_notes (Good Nak) = refl
+answer_notes (Good Can) = refl
+answer_notes (refused_item (BadSum want got)) = refl
+answer_notes (refused_item (BadKind x)) = refl
+answer_notes (refused_item (Stray x)) = refl
+answer_notes (refused_item (BadLength m)) = refl
+answer_notes (refused_item Aborted) = refl
+
+-- ---- what changes no node
+
+pub attempt_nodes : (h : HostState) (end : AttemptEnd) (command : Option ℕ) → (attempt_ended h end command).nodes ≡ h.nodes
+attempt_nodes h NoneRan command = refl
+attempt_nodes h Again command = refl
+attempt_nodes h (Unanswered fell) None = refl
+attempt_nodes h (Unanswered fell) (Some command) = refl
+
+pub queued_nodes : (b : Bool) (h other : HostState) → other.nodes ≡ h.nodes → (if b then h else other).nodes ≡ h.nodes
+queued_nodes true h other same = refl
+queued_nodes false h other same = same
+
+pub offered_nodes : (h : HostState) (k : ℕ) (live : Option (List ℕ)) → (offering h k live).nodes ≡ h.nodes
+offered_nodes h k None = refl
+offered_nodes h k (Some nonce) = queued_nodes (is_full h) h _ refl
+
+-- ---- requests that end
+
+-- so it is of the purpose of what ends, and of what is under way
+module _ (Of : Purpose → Type 0) where
+  abbrev pub EndIs : Option End → Type 0
+  EndIs None = Unit {0}
+  EndIs (Some end) = Of end.purpose
+
+  abbrev pub AtIs : Option UnderWay → Type 0
+  AtIs None = Unit {0}
+  AtIs (Some u) = Of u.purpose
+
+  next_is : (u : UnderWay) (next : Next) → Of u.purpose → EndIs (end_of u next)
+  next_is u (GoesOn progress) is = tt
+  next_is u (Ends how) is = is
+
+  from_is : (next : UnderWay → Next) (o : Option UnderWay) → AtIs o → EndIs (end_from next o)
+  from_is next None is = tt
+  from_is next (Some u) is = next_is u (next u) is
+
+  pub end_is : (s : RequestsState) (event : RequestsEvent) → AtIs s.under_way → EndIs (end_at s event)
+  end_is s IsSent is = from_is at_sent s.under_way is
+  end_is s request_fails is = from_is (λ _. Ends LinkFailed) s.under_way is
+  end_is s (Responds response) is = from_is (at_response response) s.under_way is
+  end_is s (CallsBack id status) is = from_is (at_callback s.last_id id status) s.under_way is
+  end_is s (Updates update) is = from_is (at_update s.first update) s.under_way is
+  end_is s request_ticks is = from_is at_tick s.under_way is
+  end_is s event is = tt
 
 -- Of node n, which these of its commands release where they go unanswered. How long it is held is told exactly on this premise.
 module _ (n : ℕ) (releases : ℕ → Bool) (P : Type 0) where
@@ -254,10 +320,6 @@ module _ (n : ℕ) (releases : ℕ → Bool) (P : Type 0) where
   quiet_goes : (old new : List NodeState) (told : List Entry) → AllByRecursion IsQuiet told → waking_in new n ≡ waking_in old n → Goes old new told
   quiet_goes old new told all same = as_told (folded (waking_step n releases) (waking_in old n) told) (waking_in new n) (same ∙ sym (quiet_all n releases (waking_in old n) told all))
 
-  notes_noted : (told : List Entry) → notes_of (noted told) ≡ told
-  notes_noted [] = refl
-  notes_noted (e ∷ told) = ap (λ (l : List Entry). e ∷ l) (notes_noted told)
-
   noted_goes : (old new : List NodeState) (told : List Entry) → Goes old new told → Goes old new (notes_of (noted told))
   noted_goes old new told goes = subst (λ (l : List Entry). Goes old new l) (sym (notes_noted told)) goes
 
@@ -277,46 +339,15 @@ module _ (n : ℕ) (releases : ℕ → Bool) (P : Type 0) where
   attempt_told k (Unanswered fell) None w = slept_told k fell w
   attempt_told k (Unanswered fell) (Some command) w = slept_told k fell (released (releases command) w)
 
-  attempt_nodes : (h : HostState) (end : AttemptEnd) (command : Option ℕ) → (attempt_ended h end command).nodes ≡ h.nodes
-  attempt_nodes h NoneRan command = refl
-  attempt_nodes h Again command = refl
-  attempt_nodes h (Unanswered fell) None = refl
-  attempt_nodes h (Unanswered fell) (Some command) = refl
-
   -- the command of an attempt that runs releases it where it is its own and it does not listen, and that of another node does not; and it is awake while it is told that there is no more for it
   abbrev pub TellsOf : List NodeState → Purpose → Type 0
   TellsOf nodes (Housekeeping (NoMore k)) = P → (node_among nodes k).awake ≡ true
   TellsOf nodes purpose = Unit {0}
 
-  abbrev TellsEnd : List NodeState → Option End → Type 0
-  TellsEnd nodes None = Unit {0}
-  TellsEnd nodes (Some end) = TellsOf nodes end.purpose
-
-  abbrev pub TellsAt : List NodeState → Option UnderWay → Type 0
-  TellsAt nodes None = Unit {0}
-  TellsAt nodes (Some u) = TellsOf nodes u.purpose
-
   pub record Known (nodes : List NodeState) (under_way : Option UnderWay) : Type 0 where
     pub own : (k : ℕ) → is_running (node_among nodes k).series ≡ true → k ≡ n → P → ends_by releases (open_command (node_among nodes k)) ≡ is_false (node_among nodes k).listens
     pub others : (k : ℕ) → (k ≡ n → ⊥) → P → ends_by releases (open_command (node_among nodes k)) ≡ false
-    pub tells : TellsAt nodes under_way
-
-  next_tells : (nodes : List NodeState) (u : UnderWay) (next : Next) → TellsOf nodes u.purpose → TellsEnd nodes (end_of u next)
-  next_tells nodes u (GoesOn progress) tells = tt
-  next_tells nodes u (Ends how) tells = tells
-
-  from_tells : (nodes : List NodeState) (next : UnderWay → Next) (o : Option UnderWay) → TellsAt nodes o → TellsEnd nodes (end_from next o)
-  from_tells nodes next None tells = tt
-  from_tells nodes next (Some u) tells = next_tells nodes u (next u) tells
-
-  end_tells : (nodes : List NodeState) (s : RequestsState) (event : RequestsEvent) → TellsAt nodes s.under_way → TellsEnd nodes (end_at s event)
-  end_tells nodes s IsSent tells = from_tells nodes at_sent s.under_way tells
-  end_tells nodes s request_fails tells = from_tells nodes (λ _. Ends LinkFailed) s.under_way tells
-  end_tells nodes s (Responds response) tells = from_tells nodes (at_response response) s.under_way tells
-  end_tells nodes s (CallsBack id status) tells = from_tells nodes (at_callback s.last_id id status) s.under_way tells
-  end_tells nodes s (Updates update) tells = from_tells nodes (at_update s.first update) s.under_way tells
-  end_tells nodes s request_ticks tells = from_tells nodes at_tick s.under_way tells
-  end_tells nodes s event tells = tt
+    pub tells : AtIs (TellsOf nodes) under_way
 
   part_goes : (h : HostState) (k : ℕ) (end : PartEnd) (moment : Moment) (under_way : Option UnderWay) → Known h.nodes under_way → n < length h.nodes
       → Goes h.nodes (after_part h k end moment).nodes (part_entries h k end)
@@ -361,42 +392,19 @@ module _ (n : ℕ) (releases : ℕ → Bool) (P : Type 0) where
   end_goes h (Housekeeping task) how moment under_way known tells within = task_goes h task how tells within
   end_goes h Abort how moment under_way known tells within = quiet_goes h.nodes h.nodes [] tt refl
 
-  end_if_goes : (h : HostState) (end : Option End) (moment : Moment) (under_way : Option UnderWay) → Known h.nodes under_way → TellsEnd h.nodes end → n < length h.nodes
+  end_if_goes : (h : HostState) (end : Option End) (moment : Moment) (under_way : Option UnderWay) → Known h.nodes under_way → EndIs (TellsOf h.nodes) end → n < length h.nodes
       → Goes h.nodes (after_end_if h end moment).nodes (end_entries_if h end)
   end_if_goes h None moment under_way known tells within = quiet_goes h.nodes h.nodes [] tt refl
   end_if_goes h (Some end) moment under_way known tells within = end_goes h end.purpose end.how moment under_way known tells within
 
   failing_goes : (gives : Bool) (h : HostState) → Known h.nodes h.requests.under_way → n < length h.nodes → Goes h.nodes (failing_if gives h).nodes (failing_entries gives h)
   failing_goes true h known within =
-      end_if_goes (requests_do h request_fails) (end_at h.requests request_fails) BeforeItsTick h.requests.under_way known (end_tells h.nodes h.requests request_fails known.tells) within
+      end_if_goes (requests_do h request_fails) (end_at h.requests request_fails) BeforeItsTick h.requests.under_way known (end_is (TellsOf h.nodes) h.requests request_fails known.tells) within
   failing_goes false h known within = quiet_goes h.nodes h.nodes [] tt refl
-
-  copy_notes : (copy : Option FrameParts) (told : List Entry) → notes_of (copy_out copy ++ noted told) ≡ told
-  copy_notes None told = notes_noted told
-  copy_notes (Some f) told = notes_noted told
-
-  answer_notes : (item : Item) → notes_of (answer_to item) ≡ []
-  answer_notes (Good (Framed f)) = refl
-  answer_notes (Good Ack) = refl
-  answer_notes (Good Nak) = refl
-  answer_notes (Good Can) = refl
-  answer_notes (refused_item (BadSum want got)) = refl
-  answer_notes (refused_item (BadKind x)) = refl
-  answer_notes (refused_item (Stray x)) = refl
-  answer_notes (refused_item (BadLength m)) = refl
-  answer_notes (refused_item Aborted) = refl
 
   dropped_quiet : (full : Bool) (k : ℕ) → AllByRecursion IsQuiet (dropped_if full k)
   dropped_quiet true k = (tt, tt)
   dropped_quiet false k = tt
-
-  queued_nodes : (b : Bool) (h other : HostState) → other.nodes ≡ h.nodes → (if b then h else other).nodes ≡ h.nodes
-  queued_nodes true h other same = refl
-  queued_nodes false h other same = same
-
-  offered_nodes : (h : HostState) (k : ℕ) (live : Option (List ℕ)) → (offering h k live).nodes ≡ h.nodes
-  offered_nodes h k None = refl
-  offered_nodes h k (Some nonce) = queued_nodes (is_full h) h _ refl
 
   dropped_goes : (h later : HostState) (k : ℕ) → later.nodes ≡ h.nodes → Goes h.nodes later.nodes (notes_of (noted (dropped_if (is_full h) k)))
   dropped_goes h later k same =
@@ -473,7 +481,7 @@ module _ (n : ℕ) (releases : ℕ → Bool) (P : Type 0) where
   goes_on h (Hears item) known within = subst (λ (l : List Entry). Goes h.nodes h.nodes l) (sym (answer_notes item)) (quiet_goes h.nodes h.nodes [] tt refl)
   goes_on h (Requests_do event moment) known within =
       noted_goes h.nodes (after h (Requests_do event moment)).nodes (request_entries h event)
-      (end_if_goes (requests_do h event) (end_at h.requests event) moment h.requests.under_way known (end_tells h.nodes h.requests event known.tells) within)
+      (end_if_goes (requests_do h event) (end_at h.requests event) moment h.requests.under_way known (end_is (TellsOf h.nodes) h.requests event known.tells) within)
   goes_on h (Interviews k listens classes update) known within = quiet_goes h.nodes _ (entry.Interviewed k ∷ []) (tt, tt) (set_same h.nodes k _ refl)
   goes_on h (Interview_unkept k update) known within = quiet_goes h.nodes h.nodes (entry.Unkept k ∷ []) (tt, tt) refl
   goes_on h (Unreads k payload) known within = quiet_goes h.nodes h.nodes (entry.Unread k payload ∷ []) (tt, tt) refl

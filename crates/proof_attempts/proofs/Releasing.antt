@@ -27,12 +27,12 @@ use Rattle.host_model.specs.Outs.{outs}
 use Rattle.proof_host.specs.Entries.{notes_of}
 use Rattle.proof_work.specs.Work.{told_at, told_for}
 use Rattle.proof_attempts.specs.Waking.{Follows, TellsAwake, releases_of, waking_before, waking_in, waking_step}
-use Rattle.proof_attempts.proofs.Nodes.{Known, TellsAt, TellsOf, ends_by, goes_on}
+use Rattle.proof_attempts.proofs.Nodes.{AtIs, Known, TellsOf, ends_by, goes_on}
 use Rattle.proof_attempts.proofs.Opening.{OpenLast, has_last, last_is, open_last}
 
 -- ---- its own command
 
-opens : (s : Series) (node : NodeState) → SeriesFacts s node.book node.attempt_wait node.again_wait node.next_segment node.segments node.text node.pending → is_running s ≡ true → IsSome (open_session node.book)
+pub opens : (s : Series) (node : NodeState) → SeriesFacts s node.book node.attempt_wait node.again_wait node.next_segment node.segments node.text node.pending → is_running s ≡ true → IsSome (open_session node.book)
 opens Idle node facts runs = absurd (let bad : false ≡ true = runs in cc)
 opens Due node facts runs = facts.0.is_open
 opens Running node facts runs = facts.0.is_open
@@ -58,7 +58,7 @@ of_one : (commands : List Command) (k n c i : ℕ) → IsCommandOf commands k c 
 of_one commands k n c i one other same =
     sym one.node ∙ ap (λ (x : Command). x.order.node) (one_command (command_at commands c) (command_at commands i) one.command other.command (sym (ap (λ (j : ℕ). command_at commands j) same)) one.found other.found) ∙ other.node
 
-not_last : (commands : List Command) (k n c : ℕ) (begun : List ℕ) → (k ≡ n → ⊥) → IsCommandOf commands k c → AllByRecursion (IsCommandOf commands n) begun → list_any (λ command. command == c) (last_of begun) ≡ false
+pub not_last : (commands : List Command) (k n c : ℕ) (begun : List ℕ) → (k ≡ n → ⊥) → IsCommandOf commands k c → AllByRecursion (IsCommandOf commands n) begun → list_any (λ command. command == c) (last_of begun) ≡ false
 not_last commands k n c [] differs one all = refl
 not_last commands k n c (first ∷ more) differs one all =
     let at = has_last first more in
@@ -87,7 +87,7 @@ module _ (n : ℕ) (h : HostState) where
       known.told k (omega (arith, once))
   tells_by u purpose is these = tt
 
-  tells_at : (o : Option UnderWay) → h.requests.under_way ≡ o → TellsAt n (releases_of (node_of h n)) (TellsAwake h) h.nodes o
+  tells_at : (o : Option UnderWay) → h.requests.under_way ≡ o → AtIs (TellsOf n (releases_of (node_of h n)) (TellsAwake h) h.nodes) o
   tells_at None is = tt
   tells_at (Some u) is = tells_by u u.purpose is refl
 

@@ -79,9 +79,11 @@ no_interview : (n : ℕ) (past : List Entry) (e : Entry) → IsSteady e → list
 no_interview n past (entry.Interviewed node) steady = absurd steady
 no_interview n past e steady = refl
 
+pub same_sessions_by : (n : ℕ) (past : List Entry) (e : Entry) → session_at n e ≡ [] → sessions n (past ++ e ∷ []) ≡ sessions n past
+same_sessions_by n past e none = shown-append (session_at n) past (e ∷ []) ∙ ap (λ (l : List ℕ). sessions n past ++ (l ++ [])) none ∙ append-nil (sessions n past)
+
 pub same_sessions : (n : ℕ) (past : List Entry) (e : Entry) → IsSteady e → sessions n (past ++ e ∷ []) ≡ sessions n past
-same_sessions n past e steady =
-    shown-append (session_at n) past (e ∷ []) ∙ ap (λ (l : List ℕ). sessions n past ++ (l ++ [])) (no_session n e steady) ∙ append-nil (sessions n past)
+same_sessions n past e steady = same_sessions_by n past e (no_session n e steady)
 
 pub same_listens : (n : ℕ) (past : List Entry) (e : Entry) → IsSteady e → listens n (past ++ e ∷ []) ≡ listens n past
 same_listens n past e steady =
@@ -96,7 +98,7 @@ same_releases n past e number steady =
 
 -- of what is put out, by the entries in it
 module _ (Is : Entry → Type 0) (line : AreOfLine Is) where
-  told_so : (puts : List HostOut) (told : List Entry) → OutsAre Is puts → AreTold puts told → AllByRecursion Is told
+  pub told_so : (puts : List HostOut) (told : List Entry) → OutsAre Is puts → AreTold puts told → AllByRecursion Is told
   told_so [] told all is = subst (λ (l : List Entry). AllByRecursion Is l) (sym is) tt
   told_so (Note e ∷ puts) told all (rest, is, more) = subst (λ (l : List Entry). AllByRecursion Is l) (sym is) (all.0, told_so puts rest all.1 more)
   told_so (Write unit ∷ puts) told all (marks, rest, is, of_unit, more) =

@@ -3,6 +3,7 @@ use Rattle.std.proofs.Common.{◌≡◌, ℕ, zero, suc, ◌+◌, ◌<◌, ◌�
 use Rattle.std.specs.List.{AllByRecursion, range_with_len}
 use Rattle.std.proofs.lemmas.Bool.{cases_eq, eq-eqb, ne_eqb, or_left, or_right}
 use Rattle.zw_base.proofs.Each.{all-weaker}
+use Rattle.serial_frame.specs.Items.{unit_text}
 use Rattle.serial_frame.specs.declared.item.Item.{Item}
 use Rattle.serial_frame.specs.declared.item.Item.TheVariants.{Good, Refused}
 use Rattle.serial_frame.specs.declared.unit.Unit.TheVariants.{Ack, Nak, Can, Framed}
@@ -12,14 +13,14 @@ use Rattle.host_requests.specs.Events.RequestsEvent.{Fails as request_fails, IsS
 use Rattle.host_node.specs.State.{needs_tick}
 use Rattle.host_model.specs.State.{HostState, node_of}
 use Rattle.host_model.specs.After.{after, gives_up, is_busy}
-use Rattle.host_model.specs.Events.{HostEvent, Hears, Line_ticks, Node_ticks, Requests_do}
+use Rattle.host_model.specs.Events.{HostEvent, Accepts, Begins, Hears, Line_ticks, Node_ticks, Requests_do}
 use Rattle.host_model.specs.Taking.{IsFollowed, told_if}
 use Rattle.host_model.specs.Ticking.{ticking_nodes}
 use Rattle.proof_alone.specs.State.{HostMachine}
 use Rattle.proof_alone.specs.Phases.{Phase, Resting, Asked, Risen, Ticking, Open, Behind, Sleeping, Submitting, GoesBy, Turns}
 use Rattle.proof_alone.specs.Runs.{Knowledge}
-use Rattle.proof_work.proofs.Doing.{IsOfFrame, frame_of_frame}
-use Rattle.proof_attempts.specs.Since.{AreNodeTicks, InTick, IsBetweenTicks, Lasts, TicksAt, TicksLeft, is_to_tick}
+use Rattle.proof_attempts.proofs.Finishing.{Brings, frame_brings}
+use Rattle.proof_attempts.specs.Since.{AreNodeTicks, InTick, IsOfItem, Lasts, TicksAt, TicksLeft, is_to_tick}
 
 -- ---- the events that are left
 
@@ -53,20 +54,25 @@ all_left h (event ∷ left) all = absurd all
 
 -- ---- the events behind an item
 
-told_between : (told : Bool) (event : RequestsEvent) (events : List HostEvent) → events ≡ told_if told event → AllByRecursion IsBetweenTicks events
-told_between true event events is = subst (λ (l : List HostEvent). AllByRecursion IsBetweenTicks l) (sym is) (tt, tt)
-told_between false event events is = subst (λ (l : List HostEvent). AllByRecursion IsBetweenTicks l) (sym is) tt
+told_between : (told : Bool) (event : RequestsEvent) (events : List HostEvent) → events ≡ told_if told event → AllByRecursion IsOfItem events
+told_between true event events is = subst (λ (l : List HostEvent). AllByRecursion IsOfItem l) (sym is) (refl, tt)
+told_between false event events is = subst (λ (l : List HostEvent). AllByRecursion IsOfItem l) (sym is) tt
 
-frame_between : (event : HostEvent) → IsOfFrame event → IsBetweenTicks event
-frame_between (Node_ticks n) of_it = absurd of_it.1
-frame_between event of_it = tt
+frame_between : (unit : List ℕ) (event : HostEvent) → Brings unit event → IsOfItem event
+frame_between unit Line_ticks brings = absurd brings
+frame_between unit (Node_ticks n) brings = absurd brings
+frame_between unit (Requests_do event moment) brings = brings
+frame_between unit (Accepts order carriage) brings = absurd brings
+frame_between unit (Begins n session command) brings = absurd brings
+frame_between unit event brings = tt
 
-followed_between : (h : HostState) (turn : Turn) (item : Item) (events : List HostEvent) → IsFollowed h turn item events → AllByRecursion IsBetweenTicks events
+followed_between : (h : HostState) (turn : Turn) (item : Item) (events : List HostEvent) → IsFollowed h turn item events → AllByRecursion IsOfItem events
 followed_between h turn (Good Ack) events is = told_between (is_busy turn) request_is_sent events is
 followed_between h turn (Good Nak) events is = told_between (gives_up turn h.side.turn) request_fails events is
 followed_between h turn (Good Can) events is = told_between (gives_up turn h.side.turn) request_fails events is
-followed_between h turn (Good (Framed f)) events is = all-weaker IsOfFrame IsBetweenTicks frame_between events (frame_of_frame h f.kind f.func f.body events is)
-followed_between h turn (Refused refusal) events is = subst (λ (l : List HostEvent). AllByRecursion IsBetweenTicks l) (sym is) tt
+followed_between h turn (Good (Framed f)) events is =
+    let unit : List ℕ = unit_text (Framed f) in all-weaker (Brings unit) IsOfItem (frame_between unit) events (frame_brings h f events is)
+followed_between h turn (Refused refusal) events is = subst (λ (l : List HostEvent). AllByRecursion IsOfItem l) (sym is) tt
 
 -- ---- at each phase
 
@@ -76,10 +82,10 @@ next_at next to h clock is at = subst (λ (p : Phase). TicksAt p h clock) (sym i
 ticks_does : (here next : Phase) (h : HostState) (clock : ℕ) (event : HostEvent) → GoesBy here h event next → TicksAt here h clock → TicksAt next (after h event) clock
 ticks_does (Ticking (Line_ticks ∷ left)) next h clock event goes at =
     next_at next (Ticking left) (after h event) clock goes.1
-    (subst (λ (e : HostEvent). TicksLeft (after h e) left) (sym goes.0) (subst (λ (l : List HostEvent). TicksLeft (after h Line_ticks) l) (sym at.0) refl), at.1)
+    (subst (λ (e : HostEvent). TicksLeft (after h e) left) (sym goes.0) (subst (λ (l : List HostEvent). TicksLeft (after h Line_ticks) l) (sym at.0) (refl, refl)), at.1)
 ticks_does (Ticking (Requests_do told moment ∷ left)) next h clock event goes at =
     next_at next (Ticking left) (after h event) clock goes.1
-    (subst (λ (l : List HostEvent). TicksLeft (after h event) l) (sym at.0) (all_left (after h event) _ (nodes_all (after h (Requests_do told moment)))), at.1)
+    (subst (λ (l : List HostEvent). TicksLeft (after h event) l) (sym at.0.1) (all_left (after h event) _ (nodes_all (after h (Requests_do told moment)))), at.1)
 ticks_does (Ticking (Node_ticks n ∷ left)) next h clock event goes at = next_at next (Ticking left) (after h event) clock goes.1 (all_left (after h event) left at.0.1, at.1)
 ticks_does (Ticking (first ∷ left)) next h clock event goes at = absurd at.0
 ticks_does (Behind (first ∷ left)) next h clock event goes at = next_at next (Behind left) (after h event) clock goes.1 at.1
@@ -105,7 +111,7 @@ ticks_last Ground = record {
   loose = λ here at past told m all numbered ground tie. tie;
   numbers = λ here past m other ground later tie. tie;
   said = λ past words m none ground goes_on tie. tt;
-  refused = λ past words refusal m none ground tie. tt;
+  refused = λ past words line refusal m none ground later tie. tt;
   asked = λ line past m event is may numbered ground later tie. tt;
   starts = λ before words m state opens anew ground later. tt;
   opens = λ past h clock tie. tt;

@@ -115,7 +115,7 @@ module _ (laws : Laws) where
     loose = λ here at past told m all numbered ground tie. tie;
     numbers = λ here past m other ground later tie. tie;
     said = λ past words m none ground goes_on tie. tie;
-    refused = λ past words refusal m none ground tie. (tie.0, tt);
+    refused = λ past words line refusal m none ground later tie. (tie.0, tt);
     asked = λ line past m event is may numbered ground later tie. (laws.each m.state event tie.0 (asked_done line m.state event is) may.0, tt);
     starts = λ before words m state opens anew ground later. (started m.keys m.records state ground.0.told opens, tt);
     opens = λ past h clock tie. (tie.0, tt);

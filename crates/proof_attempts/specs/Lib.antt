@@ -3,3 +3,4 @@ pub mod Waking
 pub mod Working
 pub mod Series
 pub mod Kept
+pub mod Waiting

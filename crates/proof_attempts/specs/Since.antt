@@ -14,15 +14,15 @@ use Rattle.zw_text.specs.Transcript.{line_of}
 use Rattle.law_transcript.specs.Restarts.{is_restart}
 use Rattle.host_model.specs.State.{HostState}
 use Rattle.host_requests.specs.Events.RequestsEvent.{Ticks as request_ticks}
-use Rattle.host_node.specs.declared.attempt.Moment.TheVariants.{BeforeItsTick}
+use Rattle.host_node.specs.declared.attempt.Moment.TheVariants.{BeforeItsTick, BetweenTicks}
 use Rattle.host_model.specs.Did.{MayAll, after_all}
 use Rattle.host_model.specs.Ticking.{first_ticks, ticking_nodes}
-use Rattle.host_model.specs.Events.{HostEvent, Hears, Line_ticks, Node_ticks, Requests_do}
+use Rattle.host_model.specs.Events.{HostEvent, Accepts, Begins, Hears, Line_ticks, Node_ticks, Requests_do}
 use Rattle.host_model.specs.After.{after}
 use Rattle.host_model.specs.Outs.{answers}
 use Rattle.world_model.specs.Events.{OpensFrom}
 use Rattle.proof_alone.specs.State.{HostMachine, done}
-use Rattle.proof_alone.specs.Steps.{Does, IsAskedBy, Step, entries, happens}
+use Rattle.proof_alone.specs.Steps.{Does, IsAskedBy, Says, Step, entries, happens}
 use Rattle.proof_alone.specs.Phases.{Phase, Resting, Asked, Risen, Ticking, Open, Behind, IsJudgedNow, IsNumbered, May, Turns}
 use Rattle.proof_alone.specs.Runs.{Knowledge, both_know}
 use Rattle.proof_alone.specs.Tables.{KnowsTables}
@@ -51,18 +51,26 @@ AreNodeTicks (event ∷ left) = ⊥
 -- the events of a tick that are left: those of the line and of the request come first, then one of each node that has a wait when these are over
 abbrev pub TicksLeft : HostState → List HostEvent → Type 0
 TicksLeft h (Line_ticks ∷ left) = left ≡ Requests_do request_ticks BeforeItsTick ∷ map Node_ticks (ticking_nodes (after_all h first_ticks))
-TicksLeft h (Requests_do event moment ∷ left) = left ≡ map Node_ticks (ticking_nodes (after h (Requests_do event moment)))
+TicksLeft h (Requests_do event moment ∷ left) = (moment ≡ BeforeItsTick) × (left ≡ map Node_ticks (ticking_nodes (after h (Requests_do event moment))))
 TicksLeft h left = AreNodeTicks left
 
--- behind an item no node ticks
+-- no node ticks; and behind an item nothing of a tick comes, no command is accepted, and no session begins
 abbrev pub IsBetweenTicks : HostEvent → Type 0
 IsBetweenTicks (Node_ticks n) = ⊥
 IsBetweenTicks event = Unit {0}
 
+abbrev pub IsOfItem : HostEvent → Type 0
+IsOfItem Line_ticks = ⊥
+IsOfItem (Node_ticks n) = ⊥
+IsOfItem (Requests_do event moment) = moment ≡ BetweenTicks
+IsOfItem (Accepts order carriage) = ⊥
+IsOfItem (Begins n session command) = ⊥
+IsOfItem event = Unit {0}
+
 abbrev pub TicksAt : Phase → HostState → ℕ → Type 0
 TicksAt Risen h clock = 1 ≤ clock
 TicksAt (Ticking left) h clock = TicksLeft h left × (1 ≤ clock)
-TicksAt (Behind left) h clock = AllByRecursion IsBetweenTicks left
+TicksAt (Behind left) h clock = AllByRecursion IsOfItem left
 TicksAt here h clock = Unit {0}
 
 -- ---- ties
@@ -134,7 +142,8 @@ pub record Lasts (Ground : Knowledge) (Tie : TieOf) : Type 0 where
       → Tie here past m.state m.clock → Tie here (past ++ entry.Time m.clock ∷ []) m.state m.clock
   pub said : (past : List Entry) (words : List ℕ) (m : HostMachine) → m.left ≡ 0 → Ground Resting past m → is_restart (line_of (entry.Said words)) ≡ false → Tie Resting past m.state m.clock
       → Tie Resting (past ++ entry.Said words ∷ []) m.state m.clock
-  pub refused : (past : List Entry) (words : List ℕ) (refusal : Refusal) (m : HostMachine) → m.left ≡ 0 → Ground Resting past m → Tie Resting past m.state m.clock
+  pub refused : (past : List Entry) (words : List ℕ) (line : Line) (refusal : Refusal) (m : HostMachine) → m.left ≡ 0 → Ground Resting past m
+      → Ground (Asked line) (past ++ entry.Said words ∷ []) (happens m (Says words line)) → Tie Resting past m.state m.clock
       → Tie Open (past ++ entry.Said words ∷ (entry.Refused refusal ∷ [])) m.state m.clock
   pub asked : (line : Line) (past : List Entry) (m : HostMachine) (event : HostEvent) → IsAskedBy line m.state event → MayAll m.state (event ∷ []) → IsNumbered m (answers m.state event)
       → Ground (Asked line) past m → Ground Open (past ++ answers m.state event) (done m event) → Tie Resting past m.state m.clock → Tie Open (past ++ answers m.state event) (after m.state event) m.clock
