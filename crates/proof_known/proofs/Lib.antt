@@ -11,3 +11,4 @@ pub mod ForHost
 mod Followers
 mod Noting
 mod AtOnce
+mod InTurn
