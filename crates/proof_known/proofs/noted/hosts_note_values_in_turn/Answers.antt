@@ -12,7 +12,8 @@ use Rattle.proof_alone.specs.Runs.{Run, both_know}
 use Rattle.proof_alone.proofs.Running.{over, run_keeps}
 use Rattle.proof_waking.specs.Judged.{KnowsJudged}
 use Rattle.proof_known.specs.Noted.{may_turn}
-use Rattle.proof_known.proofs.InTurn.{KnowsTurn, first_turn, in_turn_walk, rests_none}
+use Rattle.proof_known.proofs.InTurn.{first_turn, in_turn_walk, rests_none}
+use Rattle.proof_known.proofs.Turning.{KnowsTurn}
 use Rattle.proof_known.proofs.noted.hosts_note_values_in_turn.Goals as goal
 
 keeps : goal.After-hosts_judge_as_told → (keys : Keys) (records : Option (List (List ℕ))) {here : Phase} {told : List Entry} {m : HostMachine} → Run (first_alone keys records) here told m
