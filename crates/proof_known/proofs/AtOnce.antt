@@ -1,7 +1,7 @@
 -- At each step of a host alone what a payload has noted first stands directly after its acknowledgement.
-use Rattle.std.proofs.Common.{◌≡◌, ◌⊎◌, ℕ, ◌==◌, ◌&&◌, ◌||◌, not, nat_le, nat_lt, Bool, true, false, if◌then◌else◌, inl, inr, List, [], ◌∷◌, ◌++◌, refl, sym, ap, ap₂, ◌∙◌, subst, append-nil, arith}
-use Rattle.std.specs.Prelude.{Result, Ok, Err, bytes_eq}
-use Rattle.std.specs.List.{AllByRecursion, flat_map, list_any}
+use Rattle.std.proofs.Common.{◌≡◌, ◌⊎◌, ℕ, ◌&&◌, ◌||◌, not, nat_le, nat_lt, Bool, true, false, if◌then◌else◌, inl, inr, List, [], ◌∷◌, ◌++◌, refl, sym, ap, ap₂, ◌∙◌, subst, append-nil, arith}
+use Rattle.std.specs.Prelude.{Result, Ok, Err}
+use Rattle.std.specs.List.{AllByRecursion, list_any}
 use Rattle.std.specs.Set.{distinct_count}
 use Rattle.std.proofs.lemmas.Bool.Decides.{nat_tests}
 use Rattle.std.proofs.lemmas.Bool.{both_ways, eq-eqb, or_left, or_right}
@@ -29,8 +29,8 @@ use Rattle.zw_text.specs.declared.entry.Entry.TheVariants as entry
 use Rattle.zw_text.proofs.Views.{folded-append}
 use Rattle.law_transcript.specs.Answers.{properties_kept}
 use Rattle.law_transcript.specs.Lists.{EachAfter}
-use Rattle.law_transcript.specs.Units.{Carried, bringing_in, bringing_of, read_well}
-use Rattle.law_time.specs.Judged.{after_step, brought_here, directly_step, is_directly_after, is_following, is_mark, judged, last_of}
+use Rattle.law_transcript.specs.Units.{Carried, bringing_in}
+use Rattle.law_time.specs.Judged.{after_step, brought_here, directly_step, is_directly_after, is_following, is_mark}
 use Rattle.law_time.specs.Moments.{Allows}
 use Rattle.law_time.specs.Waking.{may_wake}
 use Rattle.law_host.specs.Following.{same_note}
@@ -53,10 +53,9 @@ use Rattle.host_model.proofs.Own.{IsOwn, sleepers_own, submitted_own}
 use Rattle.host_model.proofs.Submitted.{next_is, no_more_is}
 use Rattle.world_model.specs.Events.{shown_values}
 use Rattle.zw_text.specs.declared.line.Line.TheVariants as lines
-use Rattle.proof_walk.proofs.Bodies.{body_is}
 use Rattle.proof_alone.specs.State.{HostMachine}
 use Rattle.proof_alone.specs.Steps.{AreTold, DidNotCome, IsOfOthers, IsOfUnit, Step, Tells, Comes, Misses, Says, Says_nothing, Asks, Refuses, Shows, Restarts, Begins_tick, Numbers, Judges, Does, entries}
-use Rattle.proof_alone.specs.Phases.{Phase, Resting, Asked, Risen, Ticking, Open, Behind, Sleeping, Submitting, IsBetween, May}
+use Rattle.proof_alone.specs.Phases.{Phase, Resting, Asked, Risen, Ticking, Open, Behind, Sleeping, Submitting, May}
 use Rattle.proof_alone.specs.Runs.{WalkOver}
 use Rattle.proof_waking.specs.Judged.{IsBehindFrame, IsOfRequest, KnowsJudged, LastFrame, Settled}
 use Rattle.proof_waking.proofs.Apart.{IsApart}
@@ -66,6 +65,9 @@ use Rattle.proof_waking.proofs.Settling.{brought_is, settled_more, unfollowed}
 use Rattle.proof_known.specs.Known.{KnowsWhole, TieTold}
 use Rattle.proof_known.specs.Noted.{first_notes, is_first, may_follow}
 use Rattle.proof_known.proofs.Noting.{Nothing, Rooms}
+use Rattle.proof_known.proofs.Followers.{brought_of, bytes_same, same_one, text_brings}
+use Rattle.proof_known.proofs.Turning.{none_here}
+use Rattle.proof_known.proofs.InTurn.{NotBehind, as_phase, between_not}
 
 -- ---- the event that comes first
 
@@ -103,9 +105,6 @@ payload_begins h n payload Sealed events is = tt
 abbrev AllBegin : HostState → List HostEvent → List Carried → Type 0
 AllBegin h events brought = AllByRecursion (λ (carried : Carried). Begins (first_events h carried.node carried.payload (heard_at carried.payload)) events) brought
 
-abbrev brought_of : Result Notice BodyFault → List Carried
-brought_of read = flat_map bringing_of (read_well read)
-
 notice_begins : (h : HostState) (read : Result Notice BodyFault) (events : List HostEvent) → NoticeEvents h read events → AllBegin h events (brought_of read)
 notice_begins h (Ok (ApplicationCommandHandler rx_status source payload)) events is = (payload_begins h source payload (heard_at payload) events is, tt)
 notice_begins h (Ok (SendData callback_id status)) events is = tt
@@ -117,7 +116,7 @@ kind_begins : (h : HostState) (k : Kind) (func : ℕ) (body : List ℕ) (sum : �
     → AllBegin h events (bringing_in (framed (kind_code k ∷ func ∷ body) sum))
 kind_begins h kind.Response func body sum events is = tt
 kind_begins h kind.Request func body sum events is =
-    subst (AllBegin h events) (sym (ap (λ (b : List ℕ). brought_of (notice_of func b)) (body_is body func sum))) (notice_begins h (notice_of func body) events is)
+    subst (AllBegin h events) (sym (text_brings func body sum)) (notice_begins h (notice_of func body) events is)
 
 frame_begins : (h : HostState) (f : FrameParts) (events : List HostEvent) → FrameEvents h f.kind f.func f.body events → AllBegin h events (bringing_in (unit_text (Framed f)))
 frame_begins h f events is = kind_begins h f.kind f.func f.body (checksum (kind_code f.kind ∷ f.func ∷ f.body)) events is
@@ -206,9 +205,6 @@ by_none : (past : List Entry) (e : Entry) → NoneFirst past (brought_here past)
 by_none past e none =
     may_by past e (ap (λ (b : Bool). is_directly_after past && b) (stands_none past e (brought_here past) none) ∙ and_false (is_directly_after past))
 
-none_here : (past : List Entry) → is_following past ≡ false → brought_here past ≡ []
-none_here past none = ap (λ (b : Bool). flat_map bringing_in (if b then last_of (judged past) else [])) none
-
 pub settled_stands : (past : List Entry) (e : Entry) → Settled past → may_follow past e ≡ true
 settled_stands past e settled = by (is_directly_after past) (is_following past) refl refl
   where
@@ -286,13 +282,6 @@ item_stands past (refused_item (BadLength n)) told settled are = none_stand past
 item_stands past (refused_item Aborted) told settled are = none_stand past told are
 
 -- ---- an event behind a frame
-
-same_one : (setting : Setting) → (same_property setting.property setting.property && (setting.value == setting.value)) ≡ true
-same_one setting = ap₂ (λ (a b : Bool). a && b) (same_property_laws.refl setting.property) (eq-eqb setting.value setting.value refl)
-
-bytes_same : (l : List ℕ) → bytes_eq l l ≡ true
-bytes_same [] = refl
-bytes_same (x ∷ l) = ap₂ (λ (a b : Bool). a && b) (eq-eqb x x refl) (bytes_same l)
 
 module _ (past : List Entry) (h : HostState) (counted : (n : ℕ) (p : Property) → count_with h.store n (p ∷ []) ≡ distinct_count same_property (p ∷ properties_kept listing_heard past n)) where
   -- what it puts out is what stands first
@@ -434,14 +423,6 @@ module _ (past : List Entry) (m : HostMachine) (event : HostEvent) (left : List 
 
 -- ---- phases
 
-abbrev NotBehind : Phase → Type 0
-NotBehind (Behind left) = ⊥
-NotBehind here = Unit {0}
-
-between_not : (here : Phase) → IsBetween here → NotBehind here
-between_not (Behind left) between = absurd between
-between_not here between = tt
-
 said_settled : (past before : List Entry) (words : List ℕ) → past ≡ before ++ entry.Said words ∷ [] → Settled past
 said_settled past before words are =
     unfollowed past (ap is_following are ∙ (folded-append after_step false before (entry.Said words ∷ []) ∙ and_none (is_following before)))
@@ -506,9 +487,6 @@ module _ (rooms : Rooms) where
   does (Asked line) next past m event told may known = absurd may.0
   does Risen next past m event told may known = absurd may.0
   does Open next past m event told may known = absurd may.0
-
-  as_phase : (here is : Phase) → here ≡ is → NotBehind is → NotBehind here
-  as_phase here is same other = subst NotBehind (sym same) other
 
   numbers_at_once : (here : Phase) (past : List Entry) (m : HostMachine) → m.awaits ≡ true → KnowsJudged here past m → Stand past (entry.Time m.clock ∷ [])
   numbers_at_once (Behind left) past m awaits (frames, inl behind) = absurd (both_ways m.awaits behind.unnumbered awaits)

@@ -51,6 +51,15 @@ use Rattle.proof_walk.proofs.Bodies.{body_is}
 use Rattle.proof_spoken.proofs.Classes.{IsNoInterview, LeavesRecords, event_kept}
 use Rattle.proof_known.specs.Noted.{ends_so, tells_end, tells_property, tells_report, tells_value}
 
+-- ---- the same
+
+pub same_one : (setting : Setting) → same_setting setting setting ≡ true
+same_one setting = ap₂ (λ (a b : Bool). a && b) (same_property_laws.refl setting.property) (eq-eqb setting.value setting.value refl)
+
+pub bytes_same : (l : List ℕ) → bytes_eq l l ≡ true
+bytes_same [] = refl
+bytes_same (x ∷ l) = ap₂ (λ (a b : Bool). a && b) (eq-eqb x x refl) (bytes_same l)
+
 -- ---- what a payload of a node tells
 
 abbrev Of : ℕ → ℕ → Bool → Type 0
@@ -143,9 +152,6 @@ module _ (n : ℕ) (payload : List ℕ) (heard : Heard) (classes : Option (List 
   resends (Some text) events is = one IsToldIn (Resends n text) events tt is
 
   -- ---- values
-
-  same_one : (setting : Setting) → same_setting setting setting ≡ true
-  same_one setting = ap₂ (λ (a b : Bool). a && b) (same_property_laws.refl setting.property) (eq-eqb setting.value setting.value refl)
 
   value : (b : Bool) (settings : List Setting) (setting : Setting) → TellsOne (Values settings) → ((such : Setting → Bool) → such setting ≡ true → list_any such settings ≡ true)
       → IsToldIn (if b then Has_no_room n setting.property else Hears_value n setting)
@@ -247,10 +253,10 @@ FollowsBy known unit (Unreads n payload) = list_any (λ text. bytes_eq text payl
 FollowsBy known unit (Spends_unread n payload) = list_any (λ text. bytes_eq text payload) (flat_map (from_node n) (bringing_in unit)) ≡ true
 FollowsBy known unit event = Unit {0}
 
-abbrev brought_of : Result Notice BodyFault → List Carried
+abbrev pub brought_of : Result Notice BodyFault → List Carried
 brought_of read = flat_map bringing_of (read_well read)
 
-text_brings : (func : ℕ) (body : List ℕ) (sum : ℕ) → bringing_in (framed (0 ∷ func ∷ body) sum) ≡ brought_of (notice_of func body)
+pub text_brings : (func : ℕ) (body : List ℕ) (sum : ℕ) → bringing_in (framed (0 ∷ func ∷ body) sum) ≡ brought_of (notice_of func body)
 text_brings func body sum = ap (λ (b : List ℕ). brought_of (notice_of func b)) (body_is body func sum)
 
 module _ (known : Known) (unit : List ℕ) (n : ℕ) (payload : List ℕ) (brings : bringing_in unit ≡ record { node = n; payload = payload } ∷ []) where
@@ -276,10 +282,6 @@ module _ (known : Known) (unit : List ℕ) (n : ℕ) (payload : List ℕ) (bring
   text_is m text (same, is) =
       ap (λ (l : List (List ℕ)). list_any (λ one. bytes_eq one text) l) (payloads_are m same)
       ∙ ap (λ (b : Bool). b || false) (subst (λ (l : List ℕ). bytes_eq payload l ≡ true) (sym is) (bytes_same payload))
-    where
-      bytes_same : (l : List ℕ) → bytes_eq l l ≡ true
-      bytes_same [] = refl
-      bytes_same (x ∷ l) = ap₂ (λ (a b : Bool). a && b) (eq-eqb x x refl) (bytes_same l)
 
   follows : (event : HostEvent) → IsToldIn n payload (heard_at payload) (known n) event → FollowsBy known unit event
   follows (Finishes m session id command status wake) is = ended_by (tells_end id (ended_of status)) m is

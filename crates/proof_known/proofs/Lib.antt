@@ -10,4 +10,7 @@ mod Answering
 pub mod ForHost
 mod Followers
 mod Noting
+mod ValuesLeft
+mod Turning
+mod InTurn
 mod AtOnce

@@ -1,6 +1,6 @@
 //! What a host alone notes of messages.
 
-ghost use Rattle.std.specs.Prelude.{true, false, Some, List, [], ◌++◌, ℕ};
+ghost use Rattle.std.specs.Prelude.{true, false, Option, Some, List, [], ◌++◌, ℕ};
 ghost use Rattle.s0_crypto.specs.declared.key_pair.Keys.{Keys};
 ghost use Rattle.zw_text.specs.declared.entry.Entry.{Entry};
 ghost use Rattle.proof_alone.specs.State.{first_alone};
@@ -20,8 +20,9 @@ ghost use Rattle.law_host.specs.Worked.{
   value_heard,
   value_left_out,
   value_otherwise,
+  value_twice,
 };
-ghost use Rattle.proof_known.specs.Noted.{NotesAtOnce, NotesWhatWasTold};
+ghost use Rattle.proof_known.specs.Noted.{NotesAtOnce, NotesInTurn, NotesWhatWasTold};
 ghost use Rattle.proof_known.specs.WorkedNotes.{ended_unreported, lock_believed, lock_unread};
 
 use crate::known::hosts_know_what_was_told;
@@ -55,6 +56,16 @@ pub fn hosts_note_at_once()
     laws_follow();
 }
 
+/// And each value that a payload tells openly is noted, in order and once, before anything else is done, over whatever keeper: as heard, or that there is no
+/// room for it.
+pub fn hosts_note_values_in_turn()
+    ensures told { (keys : Keys) (records : Option (List (List ℕ))) (told : List Entry) → Told (first_alone keys records) told → NotesInTurn false told }
+    ensures whole { (keys : Keys) (records : Option (List (List ℕ))) (told : List Entry) → ToldWhole (first_alone keys records) told →
+        NotesInTurn true told }
+{
+    hosts_judge_as_told();
+}
+
 /// Each ending by its report, an old one, a value and what cannot be read keep the law, and so does a lock whose report comes openly and is not read.
 pub fn worked_telling()
     ensures failure { NotesWhatWasTold (begun ++ failure_told) }
@@ -65,8 +76,8 @@ pub fn worked_telling()
     ensures openly { NotesWhatWasTold lock_unread }
 {}
 
-/// It is broken where a command ends without a report, by the report of another session, by one that the node is at work, otherwise than told, or as another command; where a
-/// lock is believed that reports openly; and where a value is noted again that is not told.
+/// It is broken where a command ends without a report, by the report of another session, by one that the node is at work, otherwise than told, or as another
+/// command; where a lock is believed that reports openly; and where a value is noted again that is not told.
 pub fn rejected_telling()
     ensures unreported { NotesWhatWasTold (begun ++ ended_unreported) → ⊥ }
     ensures by_other { NotesWhatWasTold (begun ++ ended_by_other) → ⊥ }
@@ -84,4 +95,12 @@ pub fn worked_at_once()
     ensures left_out { NotesAtOnce true value_left_out → ⊥ }
     ensures unread_left_out { NotesAtOnce true unread_left_out → ⊥ }
     ensures otherwise { NotesAtOnce true value_otherwise → ⊥ }
+{}
+
+/// A value that is told and noted once keeps the law of values in turn; left out, noted twice, or as another, it is broken.
+pub fn worked_in_turn()
+    ensures value { NotesInTurn true value_heard }
+    ensures left_out { NotesInTurn true value_left_out → ⊥ }
+    ensures twice { NotesInTurn true value_twice → ⊥ }
+    ensures otherwise { NotesInTurn true value_otherwise → ⊥ }
 {}

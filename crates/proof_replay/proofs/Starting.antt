@@ -93,6 +93,7 @@ kept_as_told keys whole heard told held agrees laws = record {
   };
   notes = laws.notes;
   at_once = laws.at_once;
+  in_turn = laws.in_turn;
   wakes = laws.wakes;
   ticks = laws.ticks;
   sends = laws.sends;

@@ -17,13 +17,13 @@ use Rattle.proof_alone.specs.State.{HostMachine, first_alone}
 use Rattle.proof_alone.specs.Phases.{Resting}
 use Rattle.proof_alone.specs.Runs.{Run}
 use Rattle.proof_known.specs.Known.{AreForHost, KeepsWhatIsSaid}
-use Rattle.proof_known.specs.Noted.{NotesAtOnce, NotesWhatWasTold}
+use Rattle.proof_known.specs.Noted.{NotesAtOnce, NotesInTurn, NotesWhatWasTold}
 use Rattle.proof_replay.specs.Heard.{AreReplayed, AreSaid, Replayed, heard_of, told_of}
 
 -- One field a law. Orders, sessions and outcomes keep their laws.
 -- Each line has its answer; what is taken back, carried, stored and shown is so, and the records, where they are told, say what is shown.
 -- A command ends, and values, old reports and what cannot be read are noted, only where a payload of the node was judged that tells it.
--- What cannot be read, a value and that a node is awake are noted at once, where a payload has them first.
+-- What cannot be read, a value and that a node is awake are noted at once, where a payload has them first; and all values that are told openly, in order.
 -- A node is taken to be awake where it tells so, and wherever it does.
 -- The number of a tick is above those before it, and lines have asked for so many ticks.
 -- Each payload that it asks its chip to send is a message of the last session of its node, by what the node listed, a nonce or a question for one, lets the node sleep, or was
@@ -33,6 +33,7 @@ pub record HostsKeepLaws (keys : Keys) (whole : Bool) (heard : List Entry) (reco
   pub said : KeepsWhatIsSaid whole heard records
   pub notes : NotesWhatWasTold heard
   pub at_once : NotesAtOnce whole heard
+  pub in_turn : NotesInTurn whole heard
   pub wakes : WakesAsTold heard
   pub ticks : EachAfter MayCount [] heard
   pub sends : (key : List ℕ) → keys ≡ keys_of key → SendsWhatIsDue listing_heard key heard
