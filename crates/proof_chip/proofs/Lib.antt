@@ -26,6 +26,10 @@ mod Settling
 mod Payloads
 mod Judged
 mod Tallied
+mod Giving
+mod Stamped
+mod Hearing
+mod Finishing
 mod Bringing
 mod Going
 mod Homing
