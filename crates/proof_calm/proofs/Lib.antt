@@ -14,5 +14,6 @@ pub mod Parts
 pub mod Given
 pub mod Ticking
 pub mod Walking
+pub mod Ending
 pub mod Payloads
 pub mod Sending

@@ -4,4 +4,5 @@ pub mod Passes
 pub mod Settling
 pub mod Resting
 pub mod Sending
+pub mod Calls
 pub mod Undisturbed
