@@ -5,4 +5,5 @@ pub mod Settling
 pub mod Resting
 pub mod Sending
 pub mod Calls
+pub mod Networks
 pub mod Undisturbed
