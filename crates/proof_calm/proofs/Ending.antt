@@ -7,14 +7,16 @@ use Rattle.serial_frame.specs.declared.item.Item.TheVariants.{Good}
 use Rattle.serial_frame.specs.declared.unit.Unit.TheVariants.{Ack}
 use Rattle.serial_link.specs.State.{Side}
 use Rattle.serial_link.specs.declared.turn.Turn.{Turn}
-use Rattle.chip_functions.specs.Notice.{notice_of, notice_at, notice_function, notice_body, handler, handler_at}
+use Rattle.chip_functions.specs.Notice.{notice_of, notice_at, notice_function, notice_body, handler, handler_at, update as update_text, update_at}
 use Rattle.chip_functions.specs.Place.{Reading, ◌>>=◌, start_of}
 use Rattle.chip_functions.specs.Field.{read_as}
 use Rattle.chip_functions.specs.Response.{response_of, response_function, response_body}
 use Rattle.chip_functions.specs.declared.fault.BodyFault.{BodyFault}
-use Rattle.chip_functions.specs.declared.function.TheConstants.{SEND_DATA, SEND_DATA_ABORT, APPLICATION_COMMAND_HANDLER}
+use Rattle.chip_functions.specs.declared.function.TheConstants.{SEND_DATA, SEND_DATA_ABORT, REQUEST_NODE_INFO, APPLICATION_COMMAND_HANDLER}
 use Rattle.chip_functions.specs.declared.notice.Notice.{Notice}
-use Rattle.chip_functions.specs.declared.notice.Notice.TheVariants.{ApplicationCommandHandler, SendData}
+use Rattle.chip_functions.specs.declared.notice.Notice.TheVariants.{ApplicationCommandHandler, ApplicationUpdate, SendData}
+use Rattle.chip_functions.specs.declared.notice.Update.{Update}
+use Rattle.chip_functions.specs.declared.notice.Update.TheVariants.{Received, RequestFailed}
 use Rattle.chip_functions.specs.declared.notice.TransmitStatus.{TransmitStatus}
 use Rattle.chip_functions.specs.declared.response.Response.{Response}
 use Rattle.chip_functions.specs.declared.response.Response.TheVariants.{SendData as SendDataAnswer}
@@ -24,13 +26,15 @@ use Rattle.chip_sim.specs.Answers.{notice_frame}
 use Rattle.host_heard.specs.Telling.{heard_at}
 use Rattle.host_requests.specs.Frames.{function_of}
 use Rattle.host_requests.specs.State.{RequestsState}
-use Rattle.host_requests.specs.Next.{at_sent, at_response, at_callback, next_from, acknowledged, sent_from, is_answered, is_sent, judged, response_ticks, notice_ticks}
-use Rattle.host_requests.specs.Events.{RequestsEvent, end_at, after as after_request}
-use Rattle.host_requests.specs.Events.RequestsEvent.{IsSent, Responds, CallsBack}
-use Rattle.host_requests.specs.declared.end.How.TheVariants.{AtCallback}
+use Rattle.host_requests.specs.Next.{at_sent, at_response, at_callback, at_update, ends_at_update, purpose_ends_at_update, next_from, acknowledged, sent_from, is_answered, is_sent, judged, response_ticks, notice_ticks}
+use Rattle.host_requests.specs.Events.{RequestsEvent, end_at, interviewed_from, interviewed_by, after as after_request}
+use Rattle.host_requests.specs.Events.RequestsEvent.{IsSent, Responds, CallsBack, Updates}
+use Rattle.host_requests.specs.declared.end.How.TheVariants.{AtCallback, AtUpdate}
 use Rattle.host_requests.specs.declared.next.Next.{Next}
 use Rattle.host_requests.specs.declared.next.Next.TheVariants as next
 use Rattle.host_requests.specs.declared.task.Purpose.{Purpose}
+use Rattle.host_requests.specs.declared.task.Task.{Task}
+use Rattle.host_requests.specs.declared.task.Task.TheVariants.{Plain, Offer, Segment, NoMore, First, Second, Members, Neighbours, IsFailed, Version, MemoryId, Capabilities}
 use Rattle.host_requests.specs.declared.task.Purpose.TheVariants.{Housekeeping, Attempt, Abort}
 use Rattle.host_requests.specs.declared.under_way.Progress.{Progress}
 use Rattle.host_requests.specs.declared.under_way.Progress.TheVariants.{Submitted, Sent, Answered}
@@ -40,7 +44,7 @@ use Rattle.host_model.specs.State.{HostState}
 use Rattle.host_model.specs.Events.{HostEvent}
 use Rattle.host_model.specs.After.{requests_do, is_busy}
 use Rattle.host_model.specs.Did.{after_all}
-use Rattle.host_model.specs.Taking.{FrameEvents, NoticeEvents, ResponseEvents, IsFollowed, told_if, told_requests}
+use Rattle.host_model.specs.Taking.{FrameEvents, NoticeEvents, InterviewEvents, ResponseEvents, IsFollowed, told_if, told_requests}
 use Rattle.proof_waking.proofs.Followed.{FollowersAre, payload_all}
 use Rattle.proof_calm.specs.Calls.{answer_taken, IsSending, GoesOn}
 use Rattle.proof_calm.proofs.Following.{end_if_kept, IsApart, all_apart}
@@ -159,3 +163,54 @@ pub handler_leaves : (h : HostState) (n : ℕ) (payload : List ℕ) (events : Li
     → (after_all h events).requests.under_way ≡ h.requests.under_way
 handler_leaves h n payload events is =
     ap (λ (k : Side × Option UnderWay × Bool × ℕ). k.1) (all_apart h events (handler_apart h (notice_body (ApplicationCommandHandler 0 n payload)) events is))
+
+-- ---- an ApplicationUpdate
+
+not_asked : REQUEST_NODE_INFO ≡ SEND_DATA → ⊥
+not_asked is = omega (arith, is)
+
+task_stays : (update : Update) (task : Task) → function_of (Housekeeping task) ≡ SEND_DATA → purpose_ends_at_update update (Housekeeping task) ≡ false
+task_stays update (Plain n payload) sends = refl
+task_stays update (Offer n nonce) sends = refl
+task_stays update (Segment n payload) sends = refl
+task_stays update (NoMore n) sends = refl
+task_stays update (First n) sends = refl
+task_stays update (Second n) sends = absurd (not_asked sends)
+task_stays update Members sends = refl
+task_stays update (Neighbours n) sends = refl
+task_stays update (IsFailed n) sends = refl
+task_stays update Version sends = refl
+task_stays update MemoryId sends = refl
+task_stays update Capabilities sends = refl
+
+stays : (update : Update) (purpose : Purpose) → function_of purpose ≡ SEND_DATA → purpose_ends_at_update update purpose ≡ false
+stays update (Housekeeping task) sends = task_stays update task sends
+stays update (Attempt n more payload) sends = refl
+stays update Abort sends = refl
+
+-- no interview ends with it
+none_ends : (update : Update) (first : Option ℕ) (u : UnderWay) → ends_at_update update u ≡ false → interviewed_from first update (Some u) ≡ None
+none_ends (Received n b g s classes) first u not = ap (λ (b : Bool). if b then first else None) not
+none_ends RequestFailed first u not = refl
+
+told_of_none : (update : Update) (events : List HostEvent) → InterviewEvents update None events → events ≡ told_requests (Updates update)
+told_of_none (Received n b g s classes) events is = is
+told_of_none RequestFailed events is = is
+
+update_leaves : (h : HostState) (u : UnderWay) (update : Update) (events : List HostEvent) → IsSending u h → InterviewEvents update (interviewed_by h.requests update) events → GoesOn u (after_all h events)
+update_leaves h u update events sending is =
+    let not : ends_at_update update u ≡ false = stays update u.purpose sending.sends in
+    let none : interviewed_by h.requests update ≡ None = ap (λ (o : Option UnderWay). interviewed_from h.requests.first update o) sending.under_way ∙ none_ends update h.requests.first u not in
+    let are = told_of_none update events (subst (λ (o : Option ℕ). InterviewEvents update o events) none is) in
+    let on : at_update h.requests.first update u ≡ next.GoesOn u.progress = ap (λ (b : Bool). if b then next.Ends (AtUpdate update h.requests.first) else next.GoesOn u.progress) not in
+    record { progress = u.progress; under_way = told_way h (Updates update) events are ∙ goes_on h.requests (at_update h.requests.first update) u u.progress sending.under_way on }
+
+read_leaves : (h : HostState) (u : UnderWay) (events : List HostEvent) → IsSending u h → (r : Reading Update) → NoticeEvents h (read_as (λ x. ApplicationUpdate x) r >>= λ x. Ok x.0) events
+    → GoesOn u (after_all h events)
+read_leaves h u events sending (Ok x) is = update_leaves h u x.0 events sending is
+read_leaves h u events sending (Err fault) is = record { progress = u.progress; under_way = ap (λ (l : List HostEvent). (after_all h l).requests.under_way) is ∙ sending.under_way }
+
+pub updates_leave : (h : HostState) (u : UnderWay) (told : Update) (events : List HostEvent) → IsSending u h
+    → FrameEvents h (notice_frame (ApplicationUpdate told)).kind (notice_frame (ApplicationUpdate told)).func (notice_frame (ApplicationUpdate told)).body events → GoesOn u (after_all h events)
+unfolding notice_of notice_at update_at
+updates_leave h u told events sending is = read_leaves h u events sending (update_text.read (start_of (notice_body (ApplicationUpdate told)))) is

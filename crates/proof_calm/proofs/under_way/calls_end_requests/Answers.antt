@@ -1,5 +1,5 @@
 -- Each item by itself.
-use Rattle.proof_calm.proofs.Ending.{ack_goes_on, answer_goes_on, call_ends, handler_leaves}
+use Rattle.proof_calm.proofs.Ending.{ack_goes_on, answer_goes_on, call_ends, handler_leaves, updates_leave}
 use Rattle.proof_calm.proofs.under_way.calls_end_requests.Goals as goal
 
 pub returns-clause-acknowledged : goal.returns-clause-acknowledged
@@ -13,3 +13,6 @@ returns-clause-called c = λ h u status events sending follows. call_ends h u st
 
 pub returns-clause-heard : goal.returns-clause-heard
 returns-clause-heard c = λ h n payload events follows. handler_leaves h n payload events follows
+
+pub returns-clause-informed : goal.returns-clause-informed
+returns-clause-informed c = λ h u update events sending follows. updates_leave h u update events sending follows
