@@ -10,6 +10,8 @@ use Rattle.serial_frame.specs.Items.{unit_text}
 use Rattle.serial_frame.specs.declared.unit.Unit.{Unit as LineUnit}
 use Rattle.serial_frame.specs.declared.unit.Unit.TheVariants.{Framed}
 use Rattle.s0_session.specs.Nonces.{live_of}
+use Rattle.serial_link.specs.State.{Side}
+use Rattle.host_requests.specs.declared.under_way.UnderWay.{UnderWay}
 use Rattle.host_requests.specs.declared.end.End.{End}
 use Rattle.host_requests.specs.declared.end.How.{How}
 use Rattle.host_requests.specs.declared.task.Task.{Task}
@@ -26,7 +28,7 @@ use Rattle.host_node.specs.Events.NodeEvent.{Ticks as node_ticks}
 use Rattle.host_model.specs.State.{HostState, node_of, with_node, command_at}
 use Rattle.host_model.specs.Sessions.{open_command, settings_with}
 use Rattle.host_model.specs.Ends.{attempt_entries, attempt_ended, PartEnd, Good, Passed_over, Bad, part_end, after_part, after_task, after_end, after_end_if}
-use Rattle.host_model.specs.Events.{HostEvent, Hears, Requests_do, Line_ticks, Submits_abort, Submits_front, Starts, Gives_text, Gives_segment, Finishes, Offers, Gives, Resends, Node_ticks}
+use Rattle.host_model.specs.Events.{HostEvent, Hears, Requests_do, Interviews, Interview_unkept, Line_ticks, Submits_abort, Submits_front, Starts, Gives_text, Gives_segment, Finishes, Offers, Gives, Resends, Node_ticks}
 use Rattle.host_model.specs.After.{after, requests_do, is_full, is_held, node_does, queues_if_room, offering, giving, holding, finishing}
 use Rattle.host_model.specs.Outs.{outs, request_entries, ended_of, stored_entries, held_entries, dropped_if}
 use Rattle.host_model.specs.Did.{after_all, outs_all}
@@ -61,52 +63,82 @@ may_off unit event may = tt
 
 -- ---- it leaves the host's frame, and writes nothing
 
-attempt_side : (h : HostState) (end : AttemptEnd) (command : Option ℕ) → (attempt_ended h end command).side ≡ h.side
-attempt_side h NoneRan command = refl
-attempt_side h Again command = refl
-attempt_side h (Unanswered fell) None = refl
-attempt_side h (Unanswered fell) (Some command) = refl
+-- its frame on the line, the request under way, whether an abort is owed, and the callback id given last
+abbrev pub kept : HostState → Side × Option UnderWay × Bool × ℕ
+kept h = (h.side, h.requests.under_way, h.requests.owes, h.requests.last_id)
 
-part_side : (h : HostState) (n : ℕ) (end : PartEnd) (moment : Moment) → (after_part h n end moment).side ≡ h.side
-part_side h n Good moment = refl
-part_side h n Passed_over moment = refl
-part_side h n Bad moment = attempt_side (with_node h n (after_attempt_end (node_of h n) moment)) (attempt_end (node_of h n)) (open_command (node_of h n))
+attempt_kept : (h : HostState) (end : AttemptEnd) (command : Option ℕ) → kept (attempt_ended h end command) ≡ kept h
+attempt_kept h NoneRan command = refl
+attempt_kept h Again command = refl
+attempt_kept h (Unanswered fell) None = refl
+attempt_kept h (Unanswered fell) (Some command) = refl
 
-task_side : (h : HostState) (task : Task) → (after_task h task).side ≡ h.side
-task_side h (NoMore n) = refl
-task_side h task = refl
+part_kept : (h : HostState) (n : ℕ) (end : PartEnd) (moment : Moment) → kept (after_part h n end moment) ≡ kept h
+part_kept h n Good moment = refl
+part_kept h n Passed_over moment = refl
+part_kept h n Bad moment = attempt_kept (with_node h n (after_attempt_end (node_of h n) moment)) (attempt_end (node_of h n)) (open_command (node_of h n))
 
-end_side : (h : HostState) (purpose : Purpose) (how : How) (moment : Moment) → (after_end h (record { purpose = purpose; how = how }) moment).side ≡ h.side
-end_side h (Attempt n more payload) how moment = part_side h n (part_end more how) moment
-end_side h (Housekeeping task) how moment = task_side h task
-end_side h Abort how moment = refl
+task_kept : (h : HostState) (task : Task) → kept (after_task h task) ≡ kept h
+task_kept h (NoMore n) = refl
+task_kept h task = refl
 
-end_if_side : (h : HostState) (end : Option End) (moment : Moment) → (after_end_if h end moment).side ≡ h.side
-end_if_side h None moment = refl
-end_if_side h (Some end) moment = end_side h end.purpose end.how moment
+end_kept : (h : HostState) (purpose : Purpose) (how : How) (moment : Moment) → kept (after_end h (record { purpose = purpose; how = how }) moment) ≡ kept h
+end_kept h (Attempt n more payload) how moment = part_kept h n (part_end more how) moment
+end_kept h (Housekeeping task) how moment = task_kept h task
+end_kept h Abort how moment = refl
 
-queued_side : (h : HostState) (task : Task) → (queues_if_room h task).side ≡ h.side
-queued_side h task = by (is_full h)
+pub end_if_kept : (h : HostState) (end : Option End) (moment : Moment) → kept (after_end_if h end moment) ≡ kept h
+end_if_kept h None moment = refl
+end_if_kept h (Some end) moment = end_kept h end.purpose end.how moment
+
+queued_kept : (h : HostState) (task : Task) → kept (queues_if_room h task) ≡ kept h
+queued_kept h task = by (is_full h)
   where
-    by : (full : Bool) → (if full then h else requests_do h (request_pushes task)).side ≡ h.side
+    by : (full : Bool) → kept (if full then h else requests_do h (request_pushes task)) ≡ kept h
     by true = refl
     by false = refl
 
-offered_side : (h : HostState) (n : ℕ) (live : Option (List ℕ)) → (offering h n live).side ≡ h.side
-offered_side h n None = refl
-offered_side h n (Some nonce) = queued_side h (Offer n nonce)
+offered_kept : (h : HostState) (n : ℕ) (live : Option (List ℕ)) → kept (offering h n live) ≡ kept h
+offered_kept h n None = refl
+offered_kept h n (Some nonce) = queued_kept h (Offer n nonce)
 
-held_side : (h : HostState) (n : ℕ) (held : Bool) → (holding h n held).side ≡ h.side
-held_side h n true = refl
-held_side h n false = refl
+held_kept : (h : HostState) (n : ℕ) (held : Bool) → kept (holding h n held) ≡ kept h
+held_kept h n true = refl
+held_kept h n false = refl
+
+-- such an event that the requests do not hear of
+abbrev pub IsApart : HostEvent → Type 0
+IsApart (Requests_do event moment) = ⊥
+IsApart (Interviews n listens classes update) = ⊥
+IsApart (Interview_unkept n update) = ⊥
+IsApart event = IsOff event
+
+pub apart_kept : (h : HostState) (event : HostEvent) → IsApart event → kept (after h event) ≡ kept h
+apart_kept h (Finishes n session id command status wake) apart = held_kept (finishing h n id command status) n (is_held h n wake)
+apart_kept h (Offers n) apart = offered_kept h n (live_of h.nonces n)
+apart_kept h (Gives n drawn) apart = offered_kept (giving h n drawn) n (live_of (giving h n drawn).nonces n)
+apart_kept h (Resends n payload) apart = queued_kept h (Segment n payload)
+apart_kept h (Node_ticks n) apart = attempt_kept (node_does h n node_ticks) (tick_end (node_of h n)) (open_command (node_of h n))
+apart_kept h (Requests_do event moment) apart = absurd apart
+apart_kept h (Interviews n listens classes update) apart = absurd apart
+apart_kept h (Interview_unkept n update) apart = absurd apart
+apart_kept h (Hears item) apart = absurd apart
+apart_kept h Line_ticks apart = absurd apart
+apart_kept h Submits_abort apart = absurd apart
+apart_kept h Submits_front apart = absurd apart
+apart_kept h (Starts n plan more payload) apart = absurd apart
+apart_kept h (Gives_text n payload) apart = absurd apart
+apart_kept h (Gives_segment n more payload) apart = absurd apart
+apart_kept h event apart = refl
+
+pub all_apart : (h : HostState) (events : List HostEvent) → AllByRecursion IsApart events → kept (after_all h events) ≡ kept h
+all_apart h [] apart = refl
+all_apart h (event ∷ events) apart = all_apart (after h event) events apart.1 ∙ apart_kept h event apart.0
 
 pub off_side : (h : HostState) (event : HostEvent) → IsOff event → (after h event).side ≡ h.side
-off_side h (Requests_do event moment) off = end_if_side (requests_do h event) (end_at h.requests event) moment
-off_side h (Finishes n session id command status wake) off = held_side (finishing h n id command status) n (is_held h n wake)
-off_side h (Offers n) off = offered_side h n (live_of h.nonces n)
-off_side h (Gives n drawn) off = offered_side (giving h n drawn) n (live_of (giving h n drawn).nonces n)
-off_side h (Resends n payload) off = queued_side h (Segment n payload)
-off_side h (Node_ticks n) off = attempt_side (node_does h n node_ticks) (tick_end (node_of h n)) (open_command (node_of h n))
+off_side h (Requests_do event moment) off = ap (λ (k : Side × Option UnderWay × Bool × ℕ). k.0) (end_if_kept (requests_do h event) (end_at h.requests event) moment)
+off_side h (Interviews n listens classes update) off = refl
+off_side h (Interview_unkept n update) off = refl
 off_side h (Hears item) off = absurd off
 off_side h Line_ticks off = absurd off
 off_side h Submits_abort off = absurd off
@@ -114,7 +146,7 @@ off_side h Submits_front off = absurd off
 off_side h (Starts n plan more payload) off = absurd off
 off_side h (Gives_text n payload) off = absurd off
 off_side h (Gives_segment n more payload) off = absurd off
-off_side h event off = refl
+off_side h event off = ap (λ (k : Side × Option UnderWay × Bool × ℕ). k.0) (apart_kept h event off)
 
 pub off_mute : (h : HostState) (event : HostEvent) → IsOff event → host_units (outs h event) ≡ []
 off_mute h (Requests_do event moment) off = no_units (request_entries h event)

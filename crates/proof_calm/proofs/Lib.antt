@@ -14,5 +14,7 @@ pub mod Parts
 pub mod Given
 pub mod Ticking
 pub mod Walking
+pub mod Links
+pub mod Ending
 pub mod Payloads
 pub mod Sending

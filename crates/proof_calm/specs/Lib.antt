@@ -4,4 +4,6 @@ pub mod Passes
 pub mod Settling
 pub mod Resting
 pub mod Sending
+pub mod Calls
+pub mod Networks
 pub mod Undisturbed
