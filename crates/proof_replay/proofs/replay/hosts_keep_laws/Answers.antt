@@ -1,6 +1,7 @@
 -- Each law is proved of every run of a host alone.
 use Rattle.std.proofs.Common.{◌≡◌, Bool, true, false, List, [], refl, subst, ℕ, ◌∙◌}
 use Rattle.std.specs.Prelude.{Some}
+use Rattle.s0_crypto.specs.declared.key_pair.Keys.{Keys}
 use Rattle.zw_text.specs.declared.entry.Entry.{Entry}
 use Rattle.proof_alone.specs.State.{HostMachine, first_alone}
 use Rattle.proof_alone.specs.Phases.{Phase, Resting}
