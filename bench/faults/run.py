@@ -9,7 +9,8 @@ copy of the program is made there in which it fails; `host`, which has a file of
 second, third and so on is taken where there are more than N, 2,000 if not told. Once more each of these calls fails with all later ones of its kind.
 What is asked of each:
 
-  memory   status 6, and what was written is a prefix of what the run without a fault writes, up to the end of a line; or all is as in that run
+  memory   status 6, and what was written is a prefix of what the run without a fault writes, up to the end of a line, or of `host` to that of a unit;
+           or all is as in that run
   read     status 4, and just the lines were run whose line feed had been read
   write    status 5, and what was written is such a prefix
   keep     10 with nothing written; or a word on standard error, and 9, or 0 where the records have the end of each order; or all is as without a fault
@@ -39,6 +40,8 @@ NO_MEMORY, READ_FAULT, WRITE_FAULT, UNDONE, KEEPER_FAULT = 6, 4, 5, 9, 10
 KINDS = ("memory", "read", "write", "keep")
 # the rows of records that are asked for (docs/RECORDS.md)
 ROW_COMMAND, ROW_BEGIN, ROW_END, SUCCESS = 1, 4, 5, 255
+# what begins a unit (docs/SERIAL.md)
+START, SINGLE = 0x01, (0x06, 0x15, 0x18)
 STATUS = {"memory": NO_MEMORY, "read": READ_FAULT, "write": WRITE_FAULT}
 # name: words, the input (a file of the repository, or what another run wrote) and the most bytes of a read
 RUNS = {
@@ -54,6 +57,19 @@ ASKED = b"set 2 on\ninterview 2\nget 2\nprobe\ntick 20\n"
 ALONE, ON, SHORT = "", ", and all later ones", ", one byte"
 
 Ended = collections.namedtuple("Ended", "status out said kept")
+
+
+def are_units(written):
+    """Whether these bytes are whole units of the Serial API: acknowledgements of one byte, and frames."""
+    at = 0
+    while at < len(written):
+        if written[at] in SINGLE:
+            at += 1
+        elif written[at] == START and at + 1 < len(written):
+            at += 2 + written[at + 1]
+        else:
+            return False
+    return at == len(written)
 
 
 def are_done(kept):
@@ -118,6 +134,8 @@ class Faults:
             return f"{ended.status} in place of {STATUS[kind]}, said {ended.said!r}"
         if not base.out.startswith(ended.out) or name != "host" and ended.out and not ended.out.endswith(b"\n"):
             return "what was written is no prefix of what is written without a fault"
+        if kind == "memory" and name == "host" and not are_units(ended.out):
+            return "a unit was written in part"
         if kind == "read" and name not in ("host", "audit", "check"):
             read = data[:(at - 1) * RUNS[name][2]]
             lines = [line for line in read[:read.rfind(b"\n") + 1].split(b"\n") if line.split() and line[:1] != b"#"]

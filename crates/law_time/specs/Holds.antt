@@ -9,7 +9,7 @@ use Rattle.host_heard.specs.declared.told.Told.TheVariants.{Report}
 use Rattle.host_heard.specs.declared.payload.Heard.{Heard}
 use Rattle.host_heard.specs.declared.payload.Heard.TheVariants.{Messages, Sealed, Unread}
 use Rattle.host_heard.specs.Telling.{heard_at}
-use Rattle.zw_text.specs.declared.entry.Ended.TheVariants.{Success, Fail, NoSupport}
+use Rattle.zw_text.specs.declared.entry.Ended.TheVariants.{Success, Fail, NoSupport, Unanswered}
 use Rattle.zw_text.specs.declared.entry.Entry.{Entry}
 use Rattle.zw_text.specs.declared.entry.Entry.TheVariants.{Said, Out, Store, Held, Asleep}
 use Rattle.zw_text.specs.Transcript.{folded, sessions}
@@ -17,6 +17,7 @@ use Rattle.law_time.specs.Moments.{Keeps, clock}
 use Rattle.law_time.specs.Judged.{last_of, brought_here, payloads_here}
 use Rattle.law_time.specs.Requests.{starts_anew}
 use Rattle.law_time.specs.Interviews.{listens}
+use Rattle.law_time.specs.Sessions.{is_last_command}
 
 -- the command that has just ended by a report: only the values that it confirms may stand after that
 abbrev pub final_step : List ℕ → Entry → List ℕ
@@ -78,10 +79,12 @@ HoldsAsAsked transcript = Keeps may_hold transcript
 
 -- ---- how long
 
--- until when a node is held: 100 ticks, and no longer than it counts as awake, or than the host that holds it runs
+-- until when a node is held: 100 ticks, and no longer than it counts as awake, than its command, where it does not listen, goes unanswered, or than the host that holds
+-- it runs. One that counts as asleep may be held: it then is no longer where its third attempt has ended, which no `asleep` says.
 abbrev pub hold_step : ℕ → List Entry → ℕ → Entry → List Entry → ℕ
 hold_step node past until (Held of) rest = if of == node then clock past + 100 else until
 hold_step node past until (Asleep of) rest = if of == node then 0 else until
+hold_step node past until (Out command Unanswered) rest = if is_last_command node past command && not (listens node past) then 0 else until
 hold_step node past until (Said words) rest = if starts_anew (Said words) rest then 0 else until
 hold_step node past until entry rest = until
 

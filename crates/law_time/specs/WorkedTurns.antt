@@ -9,7 +9,7 @@ use Rattle.zw_text.specs.declared.entry.Refusal.TheVariants as refusals
 use Rattle.zw_text.specs.declared.entry.Entry.{Entry}
 use Rattle.zw_text.specs.declared.entry.Entry.TheVariants.{Said, Accepted, Refused, Begin, Dropped, Out, Awake, Asleep, Held, Interviewed, Done, QueueFull, Report, Unkept, Time, Overrun, InterviewFailed}
 use Rattle.law_time.specs.WorkedEnds.{set_under_way, interview_under_way}
-use Rattle.law_time.specs.WorkedUnits.{abort_sent, by_chip, by_host, chip_acknowledges, failed_asked, host_acknowledges, message_sent, no_more_sent, nonce_asked, nonce_given, notified, set_sent, sleeper_sent, delivered, taken}
+use Rattle.law_time.specs.WorkedUnits.{abort_sent, by_chip, by_host, chip_acknowledges, failed_asked, host_acknowledges, message_sent, no_more_sent, nonce_asked, nonce_given, notified, protocol_known, set_sent, sleeper_sent, delivered, taken}
 use Rattle.law_time.specs.WorkedWaits.{full_queue}
 
 -- ---- series
@@ -100,6 +100,26 @@ told_held = held_sleeper ++ Time 100 ∷ no_more_sent ∷ []
 
 abbrev pub told_again : List Entry
 told_again = known_sleeper ++ Awake 5 ∷ Held 5 ∷ Asleep 5 ∷ Awake 5 ∷ no_more_sent ∷ []
+
+-- it is held as it counts as asleep, with another command that waits; and an interview is answered so
+abbrev pub held_asleep : List Entry
+held_asleep =
+    known_sleeper ++ Said (codes "interval 5 300") ∷ Accepted 1 5 ∷ Awake 5 ∷ Begin 5 1 1 ∷ Out 1 endings.Unanswered ∷ Asleep 5 ∷ Out 1 endings.Success ∷
+    Held 5 ∷ Said (codes "interval 5 600") ∷ Accepted 2 5 ∷ []
+
+abbrev pub interviewed_as : Entry → List Entry
+interviewed_as response =
+    Said (codes "interview 5") ∷ by_host (codes "0104004105BF") ∷ response ∷ host_acknowledges ∷ by_host (codes "01040060059E") ∷
+    by_chip (codes "010D00498405070400003180846C60") ∷ host_acknowledges ∷ Interviewed 5 ∷ []
+
+abbrev pub sleeper_known : Entry
+sleeper_known = by_chip (codes "01090141000000040000B2")
+
+-- the hold ends as that command goes unanswered, where the node listens no more, though it counted as asleep
+abbrev pub told_unheld : List Entry
+told_unheld =
+    held_asleep ++ interviewed_as protocol_known ++ Begin 5 2 2 ∷ interviewed_as sleeper_known ++ Out 2 endings.Unanswered ∷ Awake 5 ∷
+    Out 2 endings.Success ∷ no_more_sent ∷ []
 
 -- two nodes are known, the greater number first, or last
 abbrev pub six_known : List Entry

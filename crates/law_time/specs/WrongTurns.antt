@@ -6,8 +6,8 @@ use Rattle.zw_text.specs.declared.entry.Refusal.TheVariants as refusals
 use Rattle.zw_text.specs.declared.entry.Entry.{Entry}
 use Rattle.zw_text.specs.declared.entry.Entry.TheVariants.{Said, Accepted, Refused, Out, Awake, Asleep, Interviewed, QueueFull, Unkept, Time, Begin, Held}
 use Rattle.law_time.specs.WorkedEnds.{four_lost, set_under_way}
-use Rattle.law_time.specs.WorkedTurns.{both_awake, dropped_at_once, first_sent, first_wanted, given_up, given_up_plug, given_up_sleeper, given_up_waiting, held_sleeper, known_sleeper, no_more_to_six, probed, awake_though_full}
-use Rattle.law_time.specs.WorkedUnits.{by_chip, by_host, failed_asked, host_acknowledges, message_sent, no_more_sent, nonce_asked, nonce_given, set_sent, sleeper_sent, chip_acknowledges, abort_sent}
+use Rattle.law_time.specs.WorkedTurns.{both_awake, dropped_at_once, first_sent, first_wanted, given_up, given_up_plug, given_up_sleeper, given_up_waiting, held_asleep, held_sleeper, interviewed_as, known_sleeper, no_more_to_six, probed, sleeper_known, awake_though_full}
+use Rattle.law_time.specs.WorkedUnits.{by_chip, by_host, failed_asked, host_acknowledges, message_sent, no_more_sent, nonce_asked, nonce_given, protocol_known, set_sent, sleeper_sent, chip_acknowledges, abort_sent}
 
 -- ---- copies
 
@@ -91,6 +91,12 @@ told_listening = Awake 2 ∷ by_host (codes "010900130202840825014D") ∷ []
 
 abbrev pub told_while_held : List Entry
 told_while_held = held_sleeper ++ Time 99 ∷ no_more_sent ∷ []
+
+-- though its command went unanswered, since it listened then
+abbrev pub told_though_held : List Entry
+told_though_held =
+    held_asleep ++ interviewed_as protocol_known ++ Begin 5 2 2 ∷ Out 2 endings.Unanswered ∷ interviewed_as sleeper_known ++ Awake 5 ∷
+    Out 2 endings.Success ∷ no_more_sent ∷ []
 
 -- to the node with the greater number first
 abbrev pub told_out_of_turn : List Entry

@@ -58,6 +58,7 @@ ghost use Rattle.law_time.specs.WorkedTurns.{
   told_by_number,
   told_by_time,
   told_held,
+  told_unheld,
   dropped_at_once,
   dropped_after_lost,
   dropped_after_report,
@@ -99,6 +100,7 @@ ghost use Rattle.law_time.specs.WrongTurns.{
   told_asleep,
   told_listening,
   told_out_of_turn,
+  told_though_held,
   told_unjoined,
   told_unknown,
   told_while_held,
@@ -135,11 +137,11 @@ pub fn worked_queue()
     ensures dropped_woken { FitsQueue (heeds_of (the_switch ∷ [])) dropped_woken }
 {}
 
-/// In worked transcripts the request that has waited longest is sent next: those of each kind of line, over a restart that is refused;
-/// Nonce Reports, and segments that were asked for; and No More Information, to a node that is not held any more, also since the host
-/// restarted, in the order of time and of nodes, and once, where that fails too. An abort goes before them, where the chip took what ended
-/// in silence, and what is of a session goes where none waits: again after another command, a waking, a restart, 100 ticks, and the end of
-/// another command.
+/// In worked transcripts the request that has waited longest is sent next: those of each kind of line, over a restart that is refused; Nonce Reports,
+/// and segments that were asked for; and No More Information, to a node that is not held any more, also since the host restarted or its command went
+/// unanswered, in the order of time and of nodes, and once, where that fails too. An abort goes before them, where the chip took what ended in
+/// silence, and what is of a session goes where none waits: again after another command, a waking, a restart, 100 ticks, and the end of another
+/// command.
 pub fn worked_turns()
     ensures lines { SendsInTurn (heeds_of (the_switch ∷ [])) answered_errands }
     ensures interviews { SendsInTurn (heeds_of (the_sensor ∷ the_other_switch ∷ [])) woken_before_restart }
@@ -171,6 +173,7 @@ pub fn worked_turns()
     ensures told_awake { SendsInTurn (heeds_of (the_switch ∷ [])) told_awake }
     ensures told_held { SendsInTurn (heeds_of (the_switch ∷ [])) told_held }
     ensures told_again { SendsInTurn (heeds_of (the_switch ∷ [])) told_again }
+    ensures unheld { SendsInTurn (heeds_of (the_switch ∷ [])) told_unheld }
     ensures told_by_number { SendsInTurn (heeds_of (the_switch ∷ [])) told_by_number }
     ensures told_by_time { SendsInTurn (heeds_of (the_switch ∷ [])) told_by_time }
     ensures first_resent { SendsInTurn (heeds_of (the_plug ∷ [])) first_resent }
@@ -201,12 +204,12 @@ pub fn rejected_queue()
     ensures before_unit { FitsQueue (heeds_of (the_switch ∷ [])) undropped_before_unit → ⊥ }
 {}
 
-/// Each of these breaks one part of the law: a fifth copy, and one of what was acknowledged; a question sent before an earlier one, that no
-/// line asks for, of a line that is refused, or from before a restart; a Nonce Get sent before a Nonce Report, and a report that was not
-/// kept; a segment with another id, inside another one, beyond the last, of a session that has ended, or of a message that has none; No
-/// More Information sent while a command waits, to a node that has not joined, is not known, is asleep, listens or is held, again where it
-/// has failed, or out of turn; the message of a session sent after its end, or after three attempts for no such reason as above; and a Get
-/// sent before an abort that is owed, or an abort that is not.
+/// Each of these breaks one part of the law: a fifth copy, and one of what was acknowledged; a question sent before an earlier one, that no line asks
+/// for, of a line that is refused, or from before a restart; a Nonce Get sent before a Nonce Report, and a report that was not kept; a segment with
+/// another id, inside another one, beyond the last, of a session that has ended, or of a message that has none; No More Information sent while a
+/// command waits, to a node that has not joined, is not known, is asleep, listens or is held, also where it listened as its command went unanswered,
+/// again where it has failed, or out of turn; the message of a session sent after its end, or after three attempts for no such reason as above; and a
+/// Get sent before an abort that is owed, or an abort that is not.
 pub fn rejected_turns()
     ensures out_of_turn { SendsInTurn (heeds_of (the_switch ∷ [])) sent_out_of_turn → ⊥ }
     ensures unasked { SendsInTurn (heeds_of (the_switch ∷ [])) sent_unasked → ⊥ }
@@ -236,6 +239,7 @@ pub fn rejected_turns()
     ensures told_asleep { SendsInTurn (heeds_of (the_switch ∷ [])) told_asleep → ⊥ }
     ensures listening { SendsInTurn (heeds_of (the_switch ∷ [])) told_listening → ⊥ }
     ensures held { SendsInTurn (heeds_of (the_switch ∷ [])) told_while_held → ⊥ }
+    ensures though_held { SendsInTurn (heeds_of (the_switch ∷ [])) told_though_held → ⊥ }
     ensures told_out_of_turn { SendsInTurn (heeds_of (the_switch ∷ [])) told_out_of_turn → ⊥ }
     ensures other_segment { SendsInTurn (heeds_of (the_plug ∷ [])) resent_of_other → ⊥ }
     ensures inside_segment { SendsInTurn (heeds_of (the_plug ∷ [])) resent_inside → ⊥ }

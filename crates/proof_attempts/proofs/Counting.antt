@@ -5,6 +5,7 @@ use Rattle.std.specs.List.{AllByRecursion}
 use Rattle.zw_base.proofs.Each.{all-weaker}
 use Rattle.zw_text.specs.declared.line.Line.{Line}
 use Rattle.zw_text.specs.declared.entry.Refusal.{Refusal}
+use Rattle.zw_text.specs.declared.entry.Ended.TheVariants as ended
 use Rattle.zw_text.specs.declared.entry.Entry.{Entry}
 use Rattle.zw_text.specs.declared.entry.Entry.TheVariants as entry
 use Rattle.zw_text.specs.Transcript.{folded, line_of, waking_at, wakings}
@@ -33,48 +34,56 @@ use Rattle.proof_waking.proofs.Apart.{IsWordless, said_anew, said_in_vain, said_
 use Rattle.proof_walk.specs.Outside.{IsHostNote}
 use Rattle.proof_walk.proofs.HostNotes.{NoteOuts, all_outs_note}
 use Rattle.proof_attempts.specs.Since.{IsLoose, Lasts}
-use Rattle.proof_attempts.specs.Waking.{CountsAwake, TieAwake, Waking, waking_before, waking_in, waking_step}
-use Rattle.proof_attempts.proofs.Nodes.{IsQuiet, event_goes, quiet_all}
+use Rattle.proof_attempts.specs.Waking.{CountsAwake, TieAwake, Waking, releases_of, waking_before, waking_in, waking_step}
+use Rattle.proof_attempts.proofs.Nodes.{IsQuiet, quiet_all}
+use Rattle.proof_attempts.proofs.Releasing.{event_goes}
 
 -- ---- what is told of a node
 
-step_awake : (n : ℕ) (w : Waking) (e : Entry) → (waking_step n w e).awake ≡ last_or w.awake (waking_at n e)
-step_awake n w (entry.Awake node) = by (node == n)
+step_awake : (n : ℕ) (releases : ℕ → Bool) (w : Waking) (e : Entry) → (waking_step n releases w e).awake ≡ last_or w.awake (waking_at n e)
+step_awake n releases w (entry.Awake node) = by (node == n)
   where
     by : (b : Bool) → (if b then record { awake = true; hold = w.hold } else w).awake ≡ last_or w.awake (if b then true ∷ [] else [])
     by true = refl
     by false = refl
-step_awake n w (entry.Asleep node) = by (node == n)
+step_awake n releases w (entry.Asleep node) = by (node == n)
   where
     by : (b : Bool) → (if b then record { awake = false; hold = 0 } else w).awake ≡ last_or w.awake (if b then false ∷ [] else [])
     by true = refl
     by false = refl
-step_awake n w (entry.Held node) = by (node == n)
+step_awake n releases w (entry.Held node) = by (node == n)
   where
     by : (b : Bool) → (if b then record { awake = w.awake; hold = 100 } else w).awake ≡ w.awake
     by true = refl
     by false = refl
-step_awake n w e = refl
+step_awake n releases w (entry.Out command ended.Unanswered) = by (releases command)
+  where
+    by : (b : Bool) → (if b then record { awake = w.awake; hold = 0 } else w).awake ≡ w.awake
+    by true = refl
+    by false = refl
+step_awake n releases w e = refl
 
 last_joined : {A : Type 0} (before : A) (some more : List A) → last_or before (some ++ more) ≡ last_or (last_or before some) more
 last_joined before [] more = refl
 last_joined before (item ∷ some) more = last_joined item some more
 
-told_awake : (n : ℕ) (w : Waking) (told : List Entry) → (folded (waking_step n) w told).awake ≡ last_or w.awake (wakings n told)
-told_awake n w [] = refl
-told_awake n w (e ∷ told) =
-    told_awake n (waking_step n w e) told ∙ ap (λ (b : Bool). last_or b (wakings n told)) (step_awake n w e) ∙ sym (last_joined w.awake (waking_at n e) (wakings n told))
+told_awake : (n : ℕ) (releases : ℕ → Bool) (w : Waking) (told : List Entry) → (folded (waking_step n releases) w told).awake ≡ last_or w.awake (wakings n told)
+told_awake n releases w [] = refl
+told_awake n releases w (e ∷ told) =
+    told_awake n releases (waking_step n releases w e) told ∙ ap (λ (b : Bool). last_or b (wakings n told)) (step_awake n releases w e) ∙ sym (last_joined w.awake (waking_at n e) (wakings n told))
 
 pub line_quiet : AreOfLine IsQuiet
 line_quiet = record { written = λ side text. tt; dropped = λ side. tt; garbled = λ side text. tt; overrun = λ side. tt }
 
 -- of what is put out the notes tell it
-pub told_notes : (n : ℕ) (puts : List HostOut) (told : List Entry) → AreTold puts told → (w : Waking) → folded (waking_step n) w told ≡ folded (waking_step n) w (notes_of puts)
-told_notes n [] told is w = ap (λ (l : List Entry). folded (waking_step n) w l) is
-told_notes n (Note e ∷ puts) told (rest, is, more) w = ap (λ (l : List Entry). folded (waking_step n) w l) is ∙ told_notes n puts rest more (waking_step n w e)
-told_notes n (Write unit ∷ puts) told (marks, rest, is, all, more) w =
-    ap (λ (l : List Entry). folded (waking_step n) w l) is ∙ folded-append (waking_step n) w marks rest
-    ∙ ap (λ (v : Waking). folded (waking_step n) v rest) (quiet_all n w marks (marks_are IsQuiet line_quiet marks all)) ∙ told_notes n puts rest more w
+pub told_notes : (n : ℕ) (releases : ℕ → Bool) (puts : List HostOut) (told : List Entry) → AreTold puts told → (w : Waking)
+    → folded (waking_step n releases) w told ≡ folded (waking_step n releases) w (notes_of puts)
+told_notes n releases [] told is w = ap (λ (l : List Entry). folded (waking_step n releases) w l) is
+told_notes n releases (Note e ∷ puts) told (rest, is, more) w =
+    ap (λ (l : List Entry). folded (waking_step n releases) w l) is ∙ told_notes n releases puts rest more (waking_step n releases w e)
+told_notes n releases (Write unit ∷ puts) told (marks, rest, is, all, more) w =
+    ap (λ (l : List Entry). folded (waking_step n releases) w l) is ∙ folded-append (waking_step n releases) w marks rest
+    ∙ ap (λ (v : Waking). folded (waking_step n releases) v rest) (quiet_all n releases w marks (marks_are IsQuiet line_quiet marks all)) ∙ told_notes n releases puts rest more w
 
 -- ---- entries
 
@@ -82,6 +91,7 @@ pub loose_quiet : (e : Entry) → IsLoose e → IsQuiet e
 loose_quiet (entry.Awake node) loose = absurd loose
 loose_quiet (entry.Held node) loose = absurd loose
 loose_quiet (entry.Asleep node) loose = absurd loose
+loose_quiet (entry.Out command ended.Unanswered) loose = absurd loose
 loose_quiet e loose = tt
 
 pub loose_wordless : (e : Entry) → IsLoose e → IsWordless e
@@ -126,7 +136,9 @@ more_awake past told h later all grows tie n from to =
 
 quiet_awake : (n : ℕ) (told : List Entry) (b : Bool) → AllByRecursion IsQuiet told → b ≡ last_or b (wakings n told)
 quiet_awake n told b all =
-    let w : Waking = record { awake = b; hold = 0 } in sym (ap (λ (v : Waking). v.awake) (quiet_all n w told all)) ∙ told_awake n w told
+    let w : Waking = record { awake = b; hold = 0 } in
+    let none : ℕ → Bool = λ command. false in
+    sym (ap (λ (v : Waking). v.awake) (quiet_all n none w told all)) ∙ told_awake n none w told
 
 -- ---- events
 
@@ -143,7 +155,8 @@ event_awake : (h : HostState) (event : HostEvent) (told : List Entry) → AreTol
 event_awake h event told are places n from to =
     let within : n < length h.nodes = omega (arith, places, to) in
     let w = waking_before event n (waking_in h.nodes n) in
-    (event_goes n h event within).awake ∙ ap (λ (v : Waking). v.awake) (sym (told_notes n (outs h event) told are w)) ∙ told_awake n w told
+    let releases : ℕ → Bool = releases_of (node_of h n) in
+    (event_goes n h event within).awake ∙ ap (λ (v : Waking). v.awake) (sym (told_notes n releases (outs h event) told are w)) ∙ told_awake n releases w told
     ∙ ap (λ (b : Bool). last_or b (wakings n told)) (before_awake event n (waking_in h.nodes n))
 
 asked_awake : (line : Line) (h : HostState) (event : HostEvent) → IsAskedBy line h event → length h.nodes ≡ 233 → (n : ℕ) → 1 ≤ n → n ≤ 232
@@ -171,12 +184,16 @@ module _ (P : NodeState → Type 0) (starts : (n : NodeState) → P (after_resta
   all_start (one ∷ more) zero from = absurd (omega (arith, from))
   all_start (one ∷ more) (suc m) from = mapped more m
 
+pub each_restarts : (P : NodeState → Type 0) → ((n : NodeState) → P (after_restart n)) → P (unknown 0) → (keys : Keys) (records : Option (List (List ℕ))) (state : HostState) → IsSome records
+    → OpensFrom keys records state → (m : ℕ) → 1 ≤ m → P (node_of state m)
+each_restarts P starts blank keys None state told opens m from = let bad : false ≡ true = told in absurd cc
+each_restarts P starts blank keys (Some texts) state told (records, are, legal, is) m from = subst (λ (h : HostState). P (node_of h m)) (sym is) (all_start P starts blank _ m from)
+
 pub each_starts : (P : NodeState → Type 0) → ((n : NodeState) → P (new_series (as_recorded n))) → ((n : NodeState) → P (as_recorded n)) → P (unknown 0)
     → (keys : Keys) (records : Option (List (List ℕ))) (state : HostState) → IsSome records → OpensFrom keys records state → (m : ℕ) → 1 ≤ m → P (node_of state m)
-each_starts P anew idle blank keys None state told opens m from = let bad : false ≡ true = told in absurd cc
-each_starts P anew idle blank keys (Some texts) state told (records, are, legal, is) m from =
-    subst (λ (h : HostState). P (node_of h m)) (sym is)
-    (all_start P (λ n. either P (is_open (as_recorded n) && is_up (as_recorded n) && is_idle (as_recorded n).series) (new_series (as_recorded n)) (as_recorded n) (anew n) (idle n)) blank _ m from)
+each_starts P anew idle blank keys records state told opens m from =
+    each_restarts P (λ n. either P (is_open (as_recorded n) && is_up (as_recorded n) && is_idle (as_recorded n).series) (new_series (as_recorded n)) (as_recorded n) (anew n) (idle n)) blank
+    keys records state told opens m from
 
 starts_awake : (before : List Entry) (words : List ℕ) (keys : Keys) (records : Option (List (List ℕ))) (state : HostState) → IsSome records → OpensFrom keys records state
     → is_restart (line_of (entry.Said words)) ≡ true → TieAwake (before ++ entry.Said words ∷ []) state
@@ -195,18 +212,19 @@ refused_awake past words refusal h tie n from to =
 
 pub awake_lasts : Lasts KnowsTables CountsAwake
 awake_lasts = record {
-  loose = λ here past told h clock all tie.
-      more_awake past told h h (all-weaker IsLoose IsWordless loose_wordless told all) (λ n from to. quiet_awake n told (node_of h n).awake (all-weaker IsLoose IsQuiet loose_quiet told all)) tie;
-  said = λ past words h clock goes_on tie. said_awake past words h goes_on tie;
-  refused = λ past words refusal h clock tie. refused_awake past words refusal h tie;
-  asked = λ line past m event is may ground tie.
+  loose = λ here at past told m all numbered ground tie.
+      more_awake past told m.state m.state (all-weaker IsLoose IsWordless loose_wordless told all) (λ n from to. quiet_awake n told (node_of m.state n).awake (all-weaker IsLoose IsQuiet loose_quiet told all)) tie;
+  numbers = λ here past m other ground later tie. more_awake past (entry.Time m.clock ∷ []) m.state m.state (tt, tt) (λ n from to. quiet_awake n (entry.Time m.clock ∷ []) (node_of m.state n).awake (tt, tt)) tie;
+  said = λ past words m none ground goes_on tie. said_awake past words m.state goes_on tie;
+  refused = λ past words line refusal m none ground later tie. refused_awake past words refusal m.state tie;
+  asked = λ line past m event is may numbered ground later tie.
       more_awake past (answers m.state event) m.state (after m.state event) (answers_wordless m.state event) (asked_awake line m.state event is ground.0.facts.host.nodes.places) tie;
-  starts = λ before words m state opens anew ground. starts_awake before words m.keys m.records state ground.0.told opens anew;
+  starts = λ before words m state opens anew ground later. starts_awake before words m.keys m.records state ground.0.told opens anew;
   opens = λ past h clock tie. tie;
-  rises = λ past h clock tie. tie;
-  judges = λ past m item rest behind told now ground tie.
+  rises = λ past m ground tie. tie;
+  judges = λ past m item rest behind told now ground later tie.
       more_awake past told m.state (after m.state (Hears item)) (told_wordless m.state (Hears item) told now.told_so) (event_awake m.state (Hears item) told now.told_so ground.0.facts.host.nodes.places) tie;
-  does = λ here next past m event told may ground tie.
+  does = λ here next past m event told may ground later tie.
       more_awake past told m.state (after m.state event) (told_wordless m.state event told may.2) (event_awake m.state event told may.2 ground.0.facts.host.nodes.places) tie;
   turn = λ here next past m other turns ground tie. tie;
 }

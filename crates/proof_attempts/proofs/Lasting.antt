@@ -15,9 +15,9 @@ use Rattle.world_model.specs.Events.{shown_values}
 use Rattle.proof_alone.specs.State.{HostMachine}
 use Rattle.proof_alone.specs.Steps.{DidNotCome, IsOfOthers, Step, Tells, Comes, Misses, Says, Says_nothing, Asks, Refuses, Shows, Restarts, Begins_tick, Numbers, Judges, Does, entries, happens}
 use Rattle.proof_alone.specs.Phases.{Phase, Resting, Asked, Risen, Ticking, Open, Behind, Sleeping, Submitting, GoesBy, IsBetween, May, Turns}
-use Rattle.proof_alone.specs.Runs.{Knowledge, WalkOver}
+use Rattle.proof_alone.specs.Runs.{Knowledge, Walk, both_know}
 use Rattle.proof_waking.proofs.Judging.{asked_on, nothing_on}
-use Rattle.proof_attempts.specs.Since.{BeforeWords, IsElse, IsLoose, KnowsSince, Lasts, TieOf}
+use Rattle.proof_attempts.specs.Since.{BeforeWords, IsElse, IsLoose, KnowsSince, Lasts, TieOf, WalkBoth}
 
 -- ---- entries
 
@@ -46,7 +46,7 @@ between_else : (here : Phase) → IsBetween here → IsElse here
 between_else (Asked line) between = absurd between
 between_else here between = tt
 
-by_else : (here next : Phase) (h : HostState) (event : HostEvent) → GoesBy here h event next → IsElse here × IsElse next
+pub by_else : (here next : Phase) (h : HostState) (event : HostEvent) → GoesBy here h event next → IsElse here × IsElse next
 by_else (Ticking (first ∷ left)) next h event goes = (tt, subst IsElse (sym goes.1) tt)
 by_else (Behind (first ∷ left)) next h event goes = (tt, subst IsElse (sym goes.1) tt)
 by_else Sleeping next h event (node, wants, is, to_is) = (tt, subst IsElse (sym to_is) tt)
@@ -54,7 +54,7 @@ by_else Submitting next h event goes = (tt, subst IsElse (sym goes.1) tt)
 by_else here next h event goes = absurd goes
 
 module _ (Tie : TieOf) where
-  rest_of : (here : Phase) (past : List Entry) (m : HostMachine) → IsElse here → KnowsSince Tie here past m → Tie here past m.state m.clock
+  pub rest_of : (here : Phase) (past : List Entry) (m : HostMachine) → IsElse here → KnowsSince Tie here past m → Tie here past m.state m.clock
   rest_of (Asked line) past m other known = absurd other
   rest_of here past m other known = known
 
@@ -72,77 +72,93 @@ module _ (Tie : TieOf) where
   numbered_else (Asked line) past m awaits known = absurd (both_ways m.awaits known.unnumbered awaits)
   numbered_else here past m awaits known = tt
 
-  module _ (Ground : Knowledge) (First : List Entry → Entry → Type 0) (lasts : Lasts Ground Tie) where
+  module _ (Ground : Knowledge) (lasts : Lasts Ground Tie) where
     -- ---- lines
 
-    words_tie : (line : Line) (past : List Entry) (m : HostMachine) → is_restart (line ∷ []) ≡ false → BeforeWords Tie line past m → Tie Resting past m.state m.clock
-    words_tie line past m goes_on known =
-        subst (λ (l : List Entry). Tie Resting l m.state m.clock) (sym known.are) (lasts.said known.before known.words m.state m.clock (ap is_restart known.read ∙ goes_on) known.tie)
-
-    refuses_tie : (line : Line) (past : List Entry) (m : HostMachine) (refusal : Refusal) → BeforeWords Tie line past m → Tie Open (past ++ entry.Refused refusal ∷ []) m.state m.clock
-    refuses_tie line past m refusal known =
-        let e : Entry = entry.Refused refusal in
-        subst (λ (l : List Entry). Tie Open (l ++ e ∷ []) m.state m.clock) (sym known.are)
-        (subst (λ (l : List Entry). Tie Open l m.state m.clock) (sym (append_assoc known.before (entry.Said known.words ∷ []) (e ∷ [])))
-        (lasts.refused known.before known.words refusal m.state m.clock known.tie))
+    refuses_tie : (past : List Entry) (words : List ℕ) (line : Line) (m : HostMachine) (refusal : Refusal) → m.left ≡ 0 → Ground Resting past m
+        → Ground (Asked line) (past ++ entry.Said words ∷ []) (happens m (Says words line)) → Tie Resting past m.state m.clock
+        → Tie Open ((past ++ entry.Said words ∷ []) ++ entry.Refused refusal ∷ []) m.state m.clock
+    refuses_tie past words line m refusal none ground later known =
+        subst (λ (l : List Entry). Tie Open l m.state m.clock) (sym (append_assoc past (entry.Said words ∷ []) (entry.Refused refusal ∷ []))) (lasts.refused past words line refusal m none ground later known)
 
     -- ---- steps
 
     loose_goes : (here next : Phase) (past : List Entry) (m : HostMachine) (one : Step) → IsElse here → next ≡ here → (happens m one).state ≡ m.state → (happens m one).clock ≡ m.clock
-        → AllByRecursion IsLoose (entries m one) → KnowsSince Tie here past m → KnowsSince Tie next (past ++ entries m one) (happens m one)
-    loose_goes here next past m one other is same at all known =
+        → AllByRecursion IsLoose (entries m one) → m.awaits ≡ false → Ground here past m → KnowsSince Tie here past m → KnowsSince Tie next (past ++ entries m one) (happens m one)
+    loose_goes here next past m one other is same at all numbered ground known =
         leads_to next here (past ++ entries m one) (happens m one) other is
         (subst (λ (h : HostState). Tie here (past ++ entries m one) h (happens m one).clock) (sym same)
         (subst (λ (clock : ℕ). Tie here (past ++ entries m one) m.state clock) (sym at)
-        (lasts.loose here past (entries m one) m.state m.clock all (rest_of here past m other known))))
+        (lasts.loose here here past (entries m one) m all numbered ground (rest_of here past m other known))))
 
-    step_goes : (here next : Phase) (past : List Entry) (m : HostMachine) (one : Step) → May here m one next → Ground here past m → KnowsSince Tie here past m
-        → KnowsSince Tie next (past ++ entries m one) (happens m one)
-    step_goes here next past m (Tells e) may ground known = loose_goes here next past m (Tells e) (between_else here may.0) may.3 refl refl (others_loose e may.1, tt) known
-    step_goes here next past m (Comes unit) may ground known = loose_goes here next past m (Comes unit) (between_else here may.0) may.2 refl refl (tt, tt) known
-    step_goes here next past m (Misses text marks) may ground known =
-        loose_goes here next past m (Misses text marks) (between_else here may.0) may.3 refl refl (tt, missed_loose marks may.1) known
-    step_goes here next past m (Says words line) may ground known =
+    step_goes : (here next : Phase) (past : List Entry) (m : HostMachine) (one : Step) → May here m one next → Ground here past m → Ground next (past ++ entries m one) (happens m one)
+        → KnowsSince Tie here past m → KnowsSince Tie next (past ++ entries m one) (happens m one)
+    step_goes here next past m (Tells e) may ground later known = loose_goes here next past m (Tells e) (between_else here may.0) may.3 refl refl (others_loose e may.1, tt) may.2 ground known
+    step_goes here next past m (Comes unit) may ground later known = loose_goes here next past m (Comes unit) (between_else here may.0) may.2 refl refl (tt, tt) may.1 ground known
+    step_goes here next past m (Misses text marks) may ground later known =
+        loose_goes here next past m (Misses text marks) (between_else here may.0) may.3 refl refl (tt, missed_loose marks may.1) may.2 ground known
+    step_goes here next past m (Says words line) may ground later known =
+        let rest : Tie Resting past m.state m.clock = rest_of Resting past m tt (as_known here Resting past m may.0 known) in
+        let at : Ground Resting past m = subst (λ (p : Phase). Ground p past m) may.0 ground in
+        let asked : Ground (Asked line) (past ++ entry.Said words ∷ []) (happens m (Says words line))
+        = subst (λ (p : Phase). Ground p (past ++ entry.Said words ∷ []) (happens m (Says words line))) may.3 later in
         subst (λ (p : Phase). KnowsSince Tie p (past ++ entry.Said words ∷ []) (happens m (Says words line))) (sym may.3)
-        (record { before = past; words = words; are = refl; read = may.2; unnumbered = refl; tie = rest_of Resting past m tt (as_known here Resting past m may.0 known) })
-    step_goes here next past m (Says_nothing words) may ground known =
+        (record {
+          before = past;
+          words = words;
+          are = refl;
+          read = may.2;
+          unnumbered = refl;
+          tie = rest;
+          goes_on = λ other. lasts.said past words m may.1 at (ap is_restart may.2 ∙ other) rest;
+          in_vain = λ refusal. refuses_tie past words line m refusal may.1 at asked rest;
+        })
+    step_goes here next past m (Says_nothing words) may ground later known =
         leads_to next Resting (past ++ entry.Said words ∷ []) (happens m (Says_nothing words)) tt (may.3 ∙ may.0)
-        (lasts.said past words m.state m.clock (ap is_restart may.2) (rest_of Resting past m tt (as_known here Resting past m may.0 known)))
-    step_goes here next past m (Asks event) (line, here_is, is, may, numbered, to_is) ground known =
+        (lasts.said past words m may.1 (subst (λ (p : Phase). Ground p past m) may.0 ground) (ap is_restart may.2) (rest_of Resting past m tt (as_known here Resting past m may.0 known)))
+    step_goes here next past m (Asks event) (line, here_is, is, may, numbered, to_is) ground later known =
         leads_to next Open (past ++ entries m (Asks event)) (happens m (Asks event)) tt to_is
-        (lasts.asked line past m event is may (subst (λ (p : Phase). Ground p past m) here_is ground)
-        (words_tie line past m (asked_on line m.state event is) (as_known here (Asked line) past m here_is known)))
-    step_goes here next past m (Refuses refusal) (line, here_is, why, numbered, to_is) ground known =
-        leads_to next Open (past ++ entry.Refused refusal ∷ []) (happens m (Refuses refusal)) tt to_is
-        (refuses_tie line past m refusal (as_known here (Asked line) past m here_is known))
-    step_goes here next past m (Shows node) may ground known =
+        (lasts.asked line past m event is may numbered (subst (λ (p : Phase). Ground p past m) here_is ground)
+        (subst (λ (p : Phase). Ground p (past ++ entries m (Asks event)) (happens m (Asks event))) to_is later)
+        ((as_known here (Asked line) past m here_is known).goes_on (asked_on line m.state event is)))
+    step_goes here next past m (Refuses refusal) (line, here_is, why, numbered, to_is) ground later known =
+        leads_to next Open (past ++ entry.Refused refusal ∷ []) (happens m (Refuses refusal)) tt to_is ((as_known here (Asked line) past m here_is known).in_vain refusal)
+    step_goes here next past m (Shows node) may ground later known =
         leads_to next Open (past ++ shown_values m.state node ∷ []) (happens m (Shows node)) tt may.2
-        (lasts.loose Open past (shown_values m.state node ∷ []) m.state m.clock (tt, tt)
-        (lasts.opens past m.state m.clock (words_tie (lines.Store node) past m refl (as_known here (Asked (lines.Store node)) past m may.0 known))))
-    step_goes here next past m (Restarts state) may ground known =
+        (lasts.loose Open (Asked (lines.Store node)) past (shown_values m.state node ∷ []) m (tt, tt) may.1 (subst (λ (p : Phase). Ground p past m) may.0 ground)
+        (lasts.opens past m.state m.clock ((as_known here (Asked (lines.Store node)) past m may.0 known).goes_on refl)))
+    step_goes here next past m (Restarts state) may ground later known =
         let at : BeforeWords Tie lines.Restart past m = as_known here (Asked lines.Restart) past m may.0 known in
         let asked : Ground (Asked lines.Restart) past m = subst (λ (p : Phase). Ground p past m) may.0 ground in
+        let opened : Ground Open past (happens m (Restarts state))
+        = subst (λ (l : List Entry). Ground Open l (happens m (Restarts state))) (append-nil past) (subst (λ (p : Phase). Ground p (past ++ []) (happens m (Restarts state))) may.2 later) in
         leads_to next Open (past ++ []) (happens m (Restarts state)) tt may.2
         (subst (λ (l : List Entry). Tie Open l state m.clock) (sym (append-nil past))
         (subst (λ (l : List Entry). Tie Open l state m.clock) (sym at.are)
-        (lasts.starts at.before at.words m state may.1 (ap is_restart at.read) (subst (λ (l : List Entry). Ground (Asked lines.Restart) l m) at.are asked))))
-    step_goes here next past m (Begins_tick left) may ground known =
+        (lasts.starts at.before at.words m state may.1 (ap is_restart at.read) (subst (λ (l : List Entry). Ground (Asked lines.Restart) l m) at.are asked)
+        (subst (λ (l : List Entry). Ground Open l (happens m (Restarts state))) at.are opened))))
+    step_goes here next past m (Begins_tick left) may ground later known =
         leads_to next Risen (past ++ []) (happens m (Begins_tick left)) tt may.2
-        (subst (λ (l : List Entry). Tie Risen l m.state (m.clock + 1)) (sym (append-nil past)) (lasts.rises past m.state m.clock (rest_of Resting past m tt (as_known here Resting past m may.0 known))))
-    step_goes here next past m Numbers may ground known = loose_goes here next past m Numbers (numbered_else here past m may.0 known) may.1 refl refl (tt, tt) known
-    step_goes here next past m (Judges item rest behind told) may ground known =
+        (subst (λ (l : List Entry). Tie Risen l m.state (m.clock + 1)) (sym (append-nil past))
+        (lasts.rises past m (subst (λ (p : Phase). Ground p past m) may.0 ground) (rest_of Resting past m tt (as_known here Resting past m may.0 known))))
+    step_goes here next past m Numbers may ground later known =
+        let other : IsElse here = numbered_else here past m may.0 known in
+        leads_to next here (past ++ entries m Numbers) (happens m Numbers) other may.1
+        (lasts.numbers here past m other ground (subst (λ (p : Phase). Ground p (past ++ entries m Numbers) (happens m Numbers)) may.1 later) (rest_of here past m other known))
+    step_goes here next past m (Judges item rest behind told) may ground later known =
         leads_to next (Behind behind) (past ++ told) (happens m (Judges item rest behind told)) tt may.2
-        (lasts.judges past m item rest behind told may.1 (subst (λ (p : Phase). Ground p past m) may.0 ground) (rest_of Open past m tt (as_known here Open past m may.0 known)))
-    step_goes here next past m (Does event told) may ground known =
+        (lasts.judges past m item rest behind told may.1 (subst (λ (p : Phase). Ground p past m) may.0 ground)
+        (subst (λ (p : Phase). Ground p (past ++ told) (happens m (Judges item rest behind told))) may.2 later) (rest_of Open past m tt (as_known here Open past m may.0 known)))
+    step_goes here next past m (Does event told) may ground later known =
         let else_so = by_else here next m.state event may.0 in
-        of_rest next (past ++ told) (happens m (Does event told)) else_so.1 (lasts.does here next past m event told may ground (rest_of here past m else_so.0 known))
+        of_rest next (past ++ told) (happens m (Does event told)) else_so.1 (lasts.does here next past m event told may ground later (rest_of here past m else_so.0 known))
 
     turn_goes : (here next : Phase) (past : List Entry) (m : HostMachine) → Turns here m next → Ground here past m → KnowsSince Tie here past m → KnowsSince Tie next past m
     turn_goes Resting next past m is ground known = leads_to next Open past m tt is (lasts.opens past m.state m.clock known)
     turn_goes (Asked line) next past m (inl (nothing, is)) ground known =
-        leads_to next Open past m tt is (lasts.opens past m.state m.clock (words_tie line past m (nothing_on line nothing) known))
+        leads_to next Open past m tt is (lasts.opens past m.state m.clock (known.goes_on (nothing_on line nothing)))
     turn_goes (Asked line) next past m (inr (ticks, line_is, is)) ground known =
-        leads_to next Resting past m tt is (words_tie line past m (ap (λ (l : Line). is_restart (l ∷ [])) line_is) known)
+        leads_to next Resting past m tt is (known.goes_on (ap (λ (l : Line). is_restart (l ∷ [])) line_is))
     turn_goes Risen next past m is ground known = leads_to next (Ticking _) past m tt is (lasts.turn Risen (Ticking _) past m tt refl ground known)
     turn_goes (Ticking []) next past m is ground known = leads_to next Open past m tt is (lasts.turn (Ticking []) Open past m tt refl ground known)
     turn_goes (Ticking (event ∷ left)) next past m is ground known = absurd is
@@ -152,8 +168,24 @@ module _ (Tie : TieOf) where
     turn_goes Sleeping next past m is ground known = leads_to next Submitting past m tt is.1 (lasts.turn Sleeping Submitting past m tt (is.0, refl, is.2) ground known)
     turn_goes Submitting next past m is ground known = leads_to next Resting past m tt is.1 (lasts.turn Submitting Resting past m tt (is.0, refl) ground known)
 
-    pub since_walk : WalkOver Ground First First (KnowsSince Tie)
+    pub since_walk : WalkBoth Ground (KnowsSince Tie)
     since_walk = record {
-      step = λ here next past m one may ground stand known. (stand, step_goes here next past m one may ground known);
+      step = λ here next past m one may ground later known. step_goes here next past m one may ground later known;
       turn = λ here next past m turns ground known. turn_goes here next past m turns ground known;
     }
+
+-- the ground goes on with it
+pub over_both : (Law : List Entry → Entry → Type 0) (Ground Know : Knowledge) → Walk Law Ground → WalkBoth Ground Know → Walk Law (both_know Ground Know)
+over_both Law Ground Know ground walk = record {
+  step = λ here next past m one may known.
+      let base = ground.step here next past m one may known.0 in (base.0, (base.1, walk.step here next past m one may known.0 base.1 known.1));
+  turn = λ here next past m turns known. (ground.turn here next past m turns known.0, walk.turn here next past m turns known.0 known.1);
+}
+
+-- and on a ground that tells more
+pub on_more : (Big Ground Know : Knowledge) → ((here : Phase) (past : List Entry) (m : HostMachine) → Big here past m → Ground here past m) → WalkBoth Ground Know → WalkBoth Big Know
+on_more Big Ground Know tells walk = record {
+  step = λ here next past m one may ground later known.
+      walk.step here next past m one may (tells here past m ground) (tells next (past ++ entries m one) (happens m one) later) known;
+  turn = λ here next past m turns ground known. walk.turn here next past m turns (tells here past m ground) known;
+}

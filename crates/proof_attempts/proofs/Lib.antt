@@ -1,9 +1,17 @@
 pub mod Lasting
 pub mod Ahead
 mod Nodes
+mod Releasing
 mod Counting
 pub mod Ticking
+mod Telling
 mod Holding
 mod Working
 mod Opening
 mod SeriesSteps
+mod Finishing
+mod KeptAwake
+mod Doings
+mod SeriesTold
+mod SeriesGoes
+mod SeriesTie

@@ -15,18 +15,25 @@ use Rattle.serial_frame.specs.declared.item.Refusal.TheVariants.{Stray, BadLengt
 use Rattle.serial_frame.specs.declared.unit.Unit.TheVariants.{Ack, Nak, Can, Framed}
 use Rattle.serial_link.specs.State.{copy_due, tick_side}
 use Rattle.chip_functions.specs.declared.response.Response.TheVariants.{GetRoutingInfo, IsFailedNode as failed_node}
+use Rattle.zw_text.specs.declared.entry.Ended.TheVariants as ended
 use Rattle.zw_text.specs.declared.entry.Entry.{Entry}
 use Rattle.zw_text.specs.declared.entry.Entry.TheVariants as entry
 use Rattle.zw_text.specs.Transcript.{folded}
 use Rattle.host_requests.specs.declared.end.End.{End}
 use Rattle.host_requests.specs.declared.end.How.{How}
-use Rattle.host_requests.specs.declared.end.How.TheVariants.{AtResponse}
+use Rattle.host_requests.specs.declared.end.How.TheVariants.{AtResponse, LinkFailed}
+use Rattle.host_requests.specs.declared.next.Next.{Next}
+use Rattle.host_requests.specs.declared.next.Next.TheVariants.{Ends, GoesOn}
+use Rattle.host_requests.specs.declared.under_way.UnderWay.{UnderWay}
+use Rattle.host_requests.specs.Next.{at_callback, at_response, at_sent, at_tick, at_update, end_from, end_of}
+use Rattle.host_requests.specs.State.{RequestsState}
 use Rattle.host_requests.specs.declared.task.Purpose.{Purpose}
 use Rattle.host_requests.specs.declared.task.Purpose.TheVariants.{Housekeeping, Attempt, Abort}
 use Rattle.host_requests.specs.declared.task.Task.{Task}
 use Rattle.host_requests.specs.declared.task.Task.TheVariants.{Plain, NoMore, Second, Neighbours, IsFailed}
-use Rattle.host_requests.specs.Events.{end_at}
-use Rattle.host_requests.specs.Events.RequestsEvent.{Fails as request_fails}
+use Rattle.host_requests.specs.Events.{RequestsEvent, end_at}
+use Rattle.host_requests.specs.Events.RequestsEvent.{CallsBack, Fails as request_fails, IsSent, Responds, Ticks as request_ticks, Updates}
+use Rattle.host_node.specs.declared.series.Series.{Series}
 use Rattle.host_node.specs.declared.attempt.Moment.{Moment}
 use Rattle.host_node.specs.declared.attempt.Moment.TheVariants.{BeforeItsTick, BetweenTicks}
 use Rattle.host_node.specs.declared.attempt.Plan.{Plan}
@@ -40,6 +47,7 @@ use Rattle.host_node.specs.Events.{after as after_node}
 use Rattle.host_node.specs.Events.NodeEvent.{Reports as node_reports}
 use Rattle.host_node.specs.TableState.{node_of as node_among, with_node}
 use Rattle.host_keep.specs.declared.final_status.FinalStatus.{FinalStatus}
+use Rattle.host_keep.specs.declared.final_status.FinalStatus.TheVariants as final
 use Rattle.host_keep.specs.Status.{status_byte}
 use Rattle.host_model.specs.State.{HostState, command_at, node_of}
 use Rattle.host_model.specs.Sessions.{open_command, settings_with}
@@ -48,118 +56,252 @@ use Rattle.host_model.specs.After.{after, failing_if, finishing, gives_up, givin
 use Rattle.host_model.specs.Outs.{answer_to, copy_out, dropped_if, ended_of, failing_entries, held_entries, noted, outs, request_entries, stored_entries}
 use Rattle.host_model.specs.Events.{HostEvent, Accepts, Cancels, Joins, Hears, Requests_do, Interviews, Interview_unkept, Unreads, Is_unkept, Reports_old, Works, Finishes, Offers, Gives, Spends_unread, Takes_nonce, Notifies, Resends, Hears_value, Has_no_room, Line_ticks, Node_ticks, Queues_no_more, Drops_no_more, Starts, Gives_text, Gives_segment, Begins, Begin_unkept}
 use Rattle.proof_host.specs.Entries.{notes_of}
-use Rattle.proof_attempts.specs.Waking.{Follows, Waking, is_kept, one_less, sleeps, waking_before, waking_in, waking_of, waking_step, wakes}
+use Rattle.proof_attempts.specs.Waking.{Follows, Waking, is_kept, is_released, one_less, sleeps, waking_before, waking_in, waking_of, waking_step, wakes}
 
 -- ---- entries
 
--- none wakes by it, is held or falls asleep
+-- none wakes by it, is held, falls asleep or is released
 abbrev pub IsQuiet : Entry → Type 0
 IsQuiet (entry.Awake node) = ⊥
 IsQuiet (entry.Held node) = ⊥
 IsQuiet (entry.Asleep node) = ⊥
+IsQuiet (entry.Out command ended.Unanswered) = ⊥
 IsQuiet e = Unit {0}
 
-pub quiet_step : (n : ℕ) (w : Waking) (e : Entry) → IsQuiet e → waking_step n w e ≡ w
-quiet_step n w (entry.Awake node) quiet = absurd quiet
-quiet_step n w (entry.Held node) quiet = absurd quiet
-quiet_step n w (entry.Asleep node) quiet = absurd quiet
-quiet_step n w e quiet = refl
+quiet_step : (n : ℕ) (releases : ℕ → Bool) (w : Waking) (e : Entry) → IsQuiet e → waking_step n releases w e ≡ w
+quiet_step n releases w (entry.Awake node) quiet = absurd quiet
+quiet_step n releases w (entry.Held node) quiet = absurd quiet
+quiet_step n releases w (entry.Asleep node) quiet = absurd quiet
+quiet_step n releases w (entry.Out command ended.Unanswered) quiet = absurd quiet
+quiet_step n releases w e quiet = refl
 
-pub quiet_all : (n : ℕ) (w : Waking) (told : List Entry) → AllByRecursion IsQuiet told → folded (waking_step n) w told ≡ w
-quiet_all n w [] all = refl
-quiet_all n w (e ∷ told) all = ap (λ (v : Waking). folded (waking_step n) v told) (quiet_step n w e all.0) ∙ quiet_all n w told all.1
+pub quiet_all : (n : ℕ) (releases : ℕ → Bool) (w : Waking) (told : List Entry) → AllByRecursion IsQuiet told → folded (waking_step n releases) w told ≡ w
+quiet_all n releases w [] all = refl
+quiet_all n releases w (e ∷ told) all = ap (λ (v : Waking). folded (waking_step n releases) v told) (quiet_step n releases w e all.0) ∙ quiet_all n releases w told all.1
 
 -- ---- one node
 
-as_told : (told now : Waking) → now ≡ told → Follows told now
-as_told told now same = subst (λ (w : Waking). Follows told w) (sym same) (record { awake = refl; hold = omega arith })
-
-abbrev slept : Bool → Waking → Waking
-slept fell w = if fell then sleeps w else w
-
--- it sleeps, unless it listens; and that is told where it was awake
-sleep_by : (listens awake : Bool) (n : NodeState) → n.awake ≡ awake → Follows (slept (awake && is_false listens) (record { awake = awake; hold = n.hold })) (waking_of (if listens then n else asleep n))
-sleep_by true true n is = record { awake = is; hold = omega arith }
-sleep_by true false n is = record { awake = is; hold = omega arith }
-sleep_by false true n is = record { awake = refl; hold = omega arith }
-sleep_by false false n is = record { awake = refl; hold = omega arith }
-
-sleep_follows : (n : NodeState) → Follows (slept (falls_asleep n) (waking_of n)) (waking_of (after_sleep n))
-sleep_follows n = sleep_by n.listens n.awake n refl
-
--- an attempt ends
-abbrev fell_at : AttemptEnd → Bool
-fell_at NoneRan = false
-fell_at Again = false
-fell_at (Unanswered fell) = fell
-
-end_by : (runs few : Bool) (n over : NodeState) (attempts : ℕ) (fell : Bool) → Follows (slept fell (waking_of n)) (waking_of over)
-    → Follows (slept (fell_at (if runs then (if few then Again else Unanswered fell) else NoneRan)) (waking_of n)) (waking_of (if runs then (if few then next_due (without_attempt n) attempts else over) else n))
-end_by true true n over attempts fell follows = as_told (waking_of n) (waking_of n) refl
-end_by true false n over attempts fell follows = follows
-end_by false few n over attempts fell follows = as_told (waking_of n) (waking_of n) refl
-
-end_follows : (n : NodeState) (moment : Moment) → Follows (slept (fell_at (attempt_end n)) (waking_of n)) (waking_of (after_attempt_end n moment))
-end_follows n moment =
-    end_by (is_running n.series) (nat_lt (n.book.attempts + 1) 3) n (after_sleep (series_over (without_attempt n) (n.book.attempts + 1) moment)) (n.book.attempts + 1) (falls_asleep n)
-    (sleep_follows (series_over (without_attempt n) (n.book.attempts + 1) moment))
-
 -- what changes nothing of it
-either : (b : Bool) (one other : NodeState) (w : Waking) → waking_of one ≡ w → waking_of other ≡ w → waking_of (if b then one else other) ≡ w
-either true one other w p q = p
-either false one other w p q = q
+either : {A : Type 0} (of : NodeState → A) (b : Bool) (one other : NodeState) (a : A) → of one ≡ a → of other ≡ a → of (if b then one else other) ≡ a
+either of true one other a p q = p
+either of false one other a p q = q
 
 occasion : (n : NodeState) → waking_of (after_occasion n) ≡ waking_of n
-occasion n = either (is_open n && is_up n && is_idle n.series) (new_series n) n (waking_of n) refl refl
+occasion n = either waking_of (is_open n && is_up n && is_idle n.series) (new_series n) n (waking_of n) refl refl
 
 signed : (n : NodeState) → waking_of (after_sign n) ≡ waking_of n
-signed n = either (is_running n.series) (with_wait n 100) n (waking_of n) refl refl
+signed n = either waking_of (is_running n.series) (with_wait n 100) n (waking_of n) refl refl
 
 told_same : (n : NodeState) (status : ℕ) (t : Told) → waking_of (after_told n status t) ≡ waking_of n
 told_same n status (Final session) = refl
 told_same n status Working = signed n
 told_same n status Old = refl
 
-again_same : (n : NodeState) → waking_of (after_again_tick n) ≡ waking_of n
-again_same n =
-    either (n.again_wait == 1) (after_again (with_again n 0)) (with_again n (n.again_wait - 1)) (waking_of n)
-    (either (has_waiting (with_again n 0)) (after_occasion (with_again n 0)) (with_again n 0) (waking_of n) (occasion (with_again n 0)) refl) refl
+module _ {A : Type 0} (of : NodeState → A) (anew : (n : NodeState) → of (new_series n) ≡ of n) (again : (n : NodeState) (ticks : ℕ) → of (with_again n ticks) ≡ of n) where
+  pub again_same : (n : NodeState) → of (after_again_tick n) ≡ of n
+  again_same n =
+      let over : NodeState = with_again n 0 in
+      either of (n.again_wait == 1) (after_again over) (with_again n (n.again_wait - 1)) (of n)
+      (either of (has_waiting over) (after_occasion over) over (of n) (either of (is_open over && is_up over && is_idle over.series) (new_series over) over (of n) (anew over ∙ again n 0) (again n 0)) (again n 0))
+      (again n (n.again_wait - 1))
 
 started : (n : NodeState) (plan : Plan) → waking_of (after_start n plan) ≡ waking_of n
 started n Whole = refl
 started n (Segments count) = refl
 started n (Sealed plain) = refl
 
--- a tick
-tick_by : (b : Bool) (n : NodeState) → Follows (slept (fell_at (if b then attempt_end n else NoneRan)) (waking_of n)) (waking_of (if b then after_attempt_end n BetweenTicks else with_wait n (n.attempt_wait - 1)))
-tick_by true n = end_follows n BetweenTicks
-tick_by false n = as_told (waking_of n) (waking_of n) refl
-
-tick_follows : (n : NodeState) → Follows (slept (fell_at (tick_end n)) (one_less (waking_of n))) (waking_of (after_tick n))
-tick_follows n =
-    let held = after_hold_tick n in
-    let ticked = after_again_tick held in
-    subst (λ (w : Waking). Follows (slept (fell_at (tick_end n)) w) (waking_of (after_tick n))) (again_same held) (tick_by (ticked.attempt_wait == 1) ticked)
-
 notified : (n : NodeState) → waking_of (after_notification n) ≡ wakes (waking_of n)
 notified n = occasion (record n { awake = true; no_more = tried_again n.no_more })
 
--- ---- a list of nodes
+-- an attempt that runs as its tick counts its waits ran before
+runs_by : (b : Bool) (one other : NodeState) (s : Series) → (is_running one.series ≡ true → is_running s ≡ true) → (is_running other.series ≡ true → is_running s ≡ true)
+    → is_running (if b then one else other).series ≡ true → is_running s ≡ true
+runs_by true one other s f g is = f is
+runs_by false one other s f g is = g is
 
-module _ (n : ℕ) where
-  -- one is so, of which this became what it was
-  set_follows : (nodes : List NodeState) (k : ℕ) (state : NodeState) (becomes : Waking → Waking) → n < length nodes → Follows (becomes (waking_in nodes k)) (waking_of state)
-      → Follows (if k == n then becomes (waking_in nodes n) else waking_in nodes n) (waking_in (with_node nodes k state) n)
-  set_follows nodes k state becomes within follows = elim (cases_eq n k) [
+pub ran : (n : NodeState) → is_running (after_again_tick n).series ≡ true → is_running n.series ≡ true
+ran n =
+    let over : NodeState = with_again n 0 in
+    runs_by (n.again_wait == 1) (after_again over) (with_again n (n.again_wait - 1)) n.series
+    (runs_by (has_waiting over) (after_occasion over) over n.series
+    (runs_by (is_open over && is_up over && is_idle over.series) (new_series over) over n.series (λ due. absurd (let bad : false ≡ true = due in cc)) (λ is. is)) (λ is. is)) (λ is. is)
+
+-- its third attempt ends, or it was told that there is no more for it
+abbrev slept : Bool → Waking → Waking
+slept fell w = if fell then sleeps w else w
+
+abbrev released : Bool → Waking → Waking
+released ends w = if ends then is_released w else w
+
+abbrev fell_at : AttemptEnd → Bool
+fell_at NoneRan = false
+fell_at Again = false
+fell_at (Unanswered fell) = fell
+
+abbrev pub ends_at : AttemptEnd → Bool → Bool
+ends_at NoneRan ends = false
+ends_at Again ends = false
+ends_at (Unanswered fell) ends = ends
+
+none_ends : (end : AttemptEnd) (ends : Bool) → ends ≡ false → ends_at end ends ≡ false
+none_ends NoneRan ends none = refl
+none_ends Again ends none = refl
+none_ends (Unanswered fell) ends none = none
+
+-- a command that goes unanswered, where there is one
+abbrev pub ends_by : (ℕ → Bool) → Option ℕ → Bool
+ends_by releases None = false
+ends_by releases (Some command) = releases command
+
+-- ---- the notes among what is put out
+
+pub notes_noted : (told : List Entry) → notes_of (noted told) ≡ told
+notes_noted [] = refl
+notes_noted (e ∷ told) = ap (λ (l : List Entry). e ∷ l) (notes_noted told)
+
+pub copy_notes : (copy : Option FrameParts) (told : List Entry) → notes_of (copy_out copy ++ noted told) ≡ told
+copy_notes None told = notes_noted told
+copy_notes (Some f) told = notes_noted told
+
+pub answer_notes : (item : Item) → notes_of (answer_to item) ≡ []
+answer_notes (Good (Framed f)) = refl
+answer_notes (Good Ack) = refl
+answer_notes (Good Nak) = refl
+answer_notes (Good Can) = refl
+answer_notes (refused_item (BadSum want got)) = refl
+answer_notes (refused_item (BadKind x)) = refl
+answer_notes (refused_item (Stray x)) = refl
+answer_notes (refused_item (BadLength m)) = refl
+answer_notes (refused_item Aborted) = refl
+
+-- ---- what changes no node
+
+pub attempt_nodes : (h : HostState) (end : AttemptEnd) (command : Option ℕ) → (attempt_ended h end command).nodes ≡ h.nodes
+attempt_nodes h NoneRan command = refl
+attempt_nodes h Again command = refl
+attempt_nodes h (Unanswered fell) None = refl
+attempt_nodes h (Unanswered fell) (Some command) = refl
+
+pub queued_nodes : (b : Bool) (h other : HostState) → other.nodes ≡ h.nodes → (if b then h else other).nodes ≡ h.nodes
+queued_nodes true h other same = refl
+queued_nodes false h other same = same
+
+pub offered_nodes : (h : HostState) (k : ℕ) (live : Option (List ℕ)) → (offering h k live).nodes ≡ h.nodes
+offered_nodes h k None = refl
+offered_nodes h k (Some nonce) = queued_nodes (is_full h) h _ refl
+
+-- ---- requests that end
+
+-- so it is of the purpose of what ends, and of what is under way
+module _ (Of : Purpose → Type 0) where
+  abbrev pub EndIs : Option End → Type 0
+  EndIs None = Unit {0}
+  EndIs (Some end) = Of end.purpose
+
+  abbrev pub AtIs : Option UnderWay → Type 0
+  AtIs None = Unit {0}
+  AtIs (Some u) = Of u.purpose
+
+  next_is : (u : UnderWay) (next : Next) → Of u.purpose → EndIs (end_of u next)
+  next_is u (GoesOn progress) is = tt
+  next_is u (Ends how) is = is
+
+  from_is : (next : UnderWay → Next) (o : Option UnderWay) → AtIs o → EndIs (end_from next o)
+  from_is next None is = tt
+  from_is next (Some u) is = next_is u (next u) is
+
+  pub end_is : (s : RequestsState) (event : RequestsEvent) → AtIs s.under_way → EndIs (end_at s event)
+  end_is s IsSent is = from_is at_sent s.under_way is
+  end_is s request_fails is = from_is (λ _. Ends LinkFailed) s.under_way is
+  end_is s (Responds response) is = from_is (at_response response) s.under_way is
+  end_is s (CallsBack id status) is = from_is (at_callback s.last_id id status) s.under_way is
+  end_is s (Updates update) is = from_is (at_update s.first update) s.under_way is
+  end_is s request_ticks is = from_is at_tick s.under_way is
+  end_is s event is = tt
+
+-- Of node n, which these of its commands release where they go unanswered. How long it is held is told exactly on this premise.
+module _ (n : ℕ) (releases : ℕ → Bool) (P : Type 0) where
+  as_told : (told now : Waking) → now ≡ told → Follows P told now
+  as_told told now same = subst (λ (w : Waking). Follows P told w) (sym same) (record { awake = refl; hold = λ p. refl })
+
+  -- it was told that there is no more for it, for which it was awake
+  told_by : (listens awake : Bool) (s : NodeState) → s.awake ≡ awake → (P → awake ≡ true)
+      → Follows P (slept (awake && is_false listens) (record { awake = awake; hold = s.hold })) (waking_of (if listens then s else asleep s))
+  told_by true true s is up = record { awake = is; hold = λ p. refl }
+  told_by true false s is up = record { awake = is; hold = λ p. refl }
+  told_by false true s is up = record { awake = refl; hold = λ p. refl }
+  told_by false false s is up = record { awake = refl; hold = λ p. absurd (let bad : false ≡ true = up p in cc) }
+
+  told_follows : (s : NodeState) → (P → s.awake ≡ true) → Follows P (slept (falls_asleep s) (waking_of s)) (waking_of (after_sleep s))
+  told_follows s up = told_by s.listens s.awake s refl up
+
+  -- its third attempt ends: where it does not listen, it is released
+  over_by : (listens awake ends : Bool) (s : NodeState) → s.awake ≡ awake → (P → ends ≡ is_false listens)
+      → Follows P (slept (awake && is_false listens) (released ends (record { awake = awake; hold = s.hold }))) (waking_of (if listens then s else asleep s))
+  over_by true true true s is so = record { awake = is; hold = λ p. absurd (let bad : true ≡ false = so p in cc) }
+  over_by true true false s is so = record { awake = is; hold = λ p. refl }
+  over_by true false true s is so = record { awake = is; hold = λ p. absurd (let bad : true ≡ false = so p in cc) }
+  over_by true false false s is so = record { awake = is; hold = λ p. refl }
+  over_by false true ends s is so = record { awake = refl; hold = λ p. refl }
+  over_by false false true s is so = record { awake = refl; hold = λ p. refl }
+  over_by false false false s is so = record { awake = refl; hold = λ p. absurd (let bad : false ≡ true = so p in cc) }
+
+  -- an attempt ends, where one runs
+  end_by : (runs few : Bool) (s over : NodeState) (attempts : ℕ) (fell ends : Bool) → (runs ≡ true → Follows P (slept fell (released ends (waking_of s))) (waking_of over))
+      → Follows P (slept (fell_at (if runs then (if few then Again else Unanswered fell) else NoneRan)) (released (ends_at (if runs then (if few then Again else Unanswered fell) else NoneRan) ends) (waking_of s)))
+      (waking_of (if runs then (if few then next_due (without_attempt s) attempts else over) else s))
+  end_by true true s over attempts fell ends follows = as_told (waking_of s) (waking_of s) refl
+  end_by true false s over attempts fell ends follows = follows refl
+  end_by false few s over attempts fell ends follows = as_told (waking_of s) (waking_of s) refl
+
+  end_follows : (s : NodeState) (moment : Moment) (ends : Bool) → (is_running s.series ≡ true → P → ends ≡ is_false s.listens)
+      → Follows P (slept (fell_at (attempt_end s)) (released (ends_at (attempt_end s) ends) (waking_of s))) (waking_of (after_attempt_end s moment))
+  end_follows s moment ends so =
+      let over : NodeState = series_over (without_attempt s) (s.book.attempts + 1) moment in
+      end_by (is_running s.series) (nat_lt (s.book.attempts + 1) 3) s (after_sleep over) (s.book.attempts + 1) (falls_asleep s) ends (λ runs. over_by s.listens s.awake ends over refl (so runs))
+
+  -- a tick
+  tick_by : (b : Bool) (s : NodeState) (ends : Bool) → (is_running s.series ≡ true → P → ends ≡ is_false s.listens)
+      → Follows P (slept (fell_at (if b then attempt_end s else NoneRan)) (released (ends_at (if b then attempt_end s else NoneRan) ends) (waking_of s)))
+      (waking_of (if b then after_attempt_end s BetweenTicks else with_wait s (s.attempt_wait - 1)))
+  tick_by true s ends so = end_follows s BetweenTicks ends so
+  tick_by false s ends so = as_told (waking_of s) (waking_of s) refl
+
+  tick_follows : (s : NodeState) (ends : Bool) → (is_running s.series ≡ true → P → ends ≡ is_false s.listens)
+      → Follows P (slept (fell_at (tick_end s)) (released (ends_at (tick_end s) ends) (one_less (waking_of s)))) (waking_of (after_tick s))
+  tick_follows s ends so =
+      let held = after_hold_tick s in
+      let ticked = after_again_tick held in
+      let hears : ticked.listens ≡ held.listens = again_same (λ m. m.listens) (λ m. refl) (λ m ticks. refl) held in
+      subst (λ (w : Waking). Follows P (slept (fell_at (tick_end s)) (released (ends_at (tick_end s) ends) w)) (waking_of (after_tick s))) (again_same waking_of (λ m. refl) (λ m ticks. refl) held)
+      (tick_by (ticked.attempt_wait == 1) ticked ends (λ runs p. so (ran held runs) p ∙ ap is_false (sym hears)))
+
+  -- a command of another node does not
+  stays : (ends : Bool) (w : Waking) → (P → ends ≡ false) → Follows P (released ends w) w
+  stays true w none = record { awake = refl; hold = λ p. absurd (let bad : true ≡ false = none p in cc) }
+  stays false w none = record { awake = refl; hold = λ p. refl }
+
+  -- ---- a list of nodes
+
+  -- one is so, of which this became what it was, and this is told of another
+  set_both : (nodes : List NodeState) (k : ℕ) (state : NodeState) (becomes other : Waking → Waking) → n < length nodes → (k ≡ n → Follows P (becomes (waking_in nodes k)) (waking_of state))
+      → ((k ≡ n → ⊥) → Follows P (other (waking_in nodes n)) (waking_in nodes n))
+      → Follows P (if k == n then becomes (waking_in nodes n) else other (waking_in nodes n)) (waking_in (with_node nodes k state) n)
+  set_both nodes k state becomes other within here there = elim (cases_eq n k) [
     | inl same ↦
-        subst (λ (m : ℕ). Follows (if m == n then becomes (waking_in nodes n) else waking_in nodes n) (waking_in (with_node nodes m state) n)) same
-        (subst (λ (b : Bool). Follows (if b then becomes (waking_in nodes n) else waking_in nodes n) (waking_in (with_node nodes n state) n)) (sym (eq-eqb n n refl))
-        (subst (λ (s : NodeState). Follows (becomes (waking_in nodes n)) (waking_of s)) (sym (get_or-set_same nodes n state (unknown 0) within))
-        (subst (λ (m : ℕ). Follows (becomes (waking_in nodes m)) (waking_of state)) (sym same) follows)))
-    | inr other ↦
-        subst (λ (b : Bool). Follows (if b then becomes (waking_in nodes n) else waking_in nodes n) (waking_in (with_node nodes k state) n)) (sym (ne_eqb k n (λ same. other (sym same))))
-        (as_told (waking_in nodes n) (waking_in (with_node nodes k state) n) (ap waking_of (get_or-set_other nodes k n state (unknown 0) other)))
+        subst (λ (m : ℕ). Follows P (if m == n then becomes (waking_in nodes n) else other (waking_in nodes n)) (waking_in (with_node nodes m state) n)) same
+        (subst (λ (b : Bool). Follows P (if b then becomes (waking_in nodes n) else other (waking_in nodes n)) (waking_in (with_node nodes n state) n)) (sym (eq-eqb n n refl))
+        (subst (λ (s : NodeState). Follows P (becomes (waking_in nodes n)) (waking_of s)) (sym (get_or-set_same nodes n state (unknown 0) within))
+        (subst (λ (m : ℕ). Follows P (becomes (waking_in nodes m)) (waking_of state)) (sym same) (here (sym same)))))
+    | inr differs ↦
+        subst (λ (b : Bool). Follows P (if b then becomes (waking_in nodes n) else other (waking_in nodes n)) (waking_in (with_node nodes k state) n)) (sym (ne_eqb k n (λ same. differs (sym same))))
+        (subst (λ (w : Waking). Follows P (other (waking_in nodes n)) w) (sym (ap waking_of (get_or-set_other nodes k n state (unknown 0) differs))) (there (λ same. differs (sym same))))
   ]
+
+  set_follows : (nodes : List NodeState) (k : ℕ) (state : NodeState) (becomes : Waking → Waking) → n < length nodes → Follows P (becomes (waking_in nodes k)) (waking_of state)
+      → Follows P (if k == n then becomes (waking_in nodes n) else waking_in nodes n) (waking_in (with_node nodes k state) n)
+  set_follows nodes k state becomes within follows =
+      set_both nodes k state becomes (λ w. w) within (λ same. follows) (λ differs. as_told (waking_in nodes n) (waking_in nodes n) refl)
 
   set_same : (nodes : List NodeState) (k : ℕ) (state : NodeState) → waking_of state ≡ waking_in nodes k → waking_in (with_node nodes k state) n ≡ waking_in nodes n
   set_same nodes k state same = elim (cases_eq n k) [
@@ -173,14 +315,10 @@ module _ (n : ℕ) where
   -- ---- events
 
   abbrev Goes : List NodeState → List NodeState → List Entry → Type 0
-  Goes old new told = Follows (folded (waking_step n) (waking_in old n) told) (waking_in new n)
+  Goes old new told = Follows P (folded (waking_step n releases) (waking_in old n) told) (waking_in new n)
 
   quiet_goes : (old new : List NodeState) (told : List Entry) → AllByRecursion IsQuiet told → waking_in new n ≡ waking_in old n → Goes old new told
-  quiet_goes old new told all same = as_told (folded (waking_step n) (waking_in old n) told) (waking_in new n) (same ∙ sym (quiet_all n (waking_in old n) told all))
-
-  notes_noted : (told : List Entry) → notes_of (noted told) ≡ told
-  notes_noted [] = refl
-  notes_noted (e ∷ told) = ap (λ (l : List Entry). e ∷ l) (notes_noted told)
+  quiet_goes old new told all same = as_told (folded (waking_step n releases) (waking_in old n) told) (waking_in new n) (same ∙ sym (quiet_all n releases (waking_in old n) told all))
 
   noted_goes : (old new : List NodeState) (told : List Entry) → Goes old new told → Goes old new (notes_of (noted told))
   noted_goes old new told goes = subst (λ (l : List Entry). Goes old new l) (sym (notes_noted told)) goes
@@ -190,32 +328,43 @@ module _ (n : ℕ) where
   unless false w = refl
 
   -- what is told of it
-  slept_told : (k : ℕ) (fell : Bool) (w : Waking) → folded (waking_step n) w (asleep_entry fell k) ≡ (if k == n then slept fell w else w)
+  slept_told : (k : ℕ) (fell : Bool) (w : Waking) → folded (waking_step n releases) w (asleep_entry fell k) ≡ (if k == n then slept fell w else w)
   slept_told k true w = refl
   slept_told k false w = sym (unless (k == n) w)
 
-  attempt_told : (k : ℕ) (end : AttemptEnd) (command : Option ℕ) (w : Waking) → folded (waking_step n) w (attempt_entries k end command) ≡ (if k == n then slept (fell_at end) w else w)
+  attempt_told : (k : ℕ) (end : AttemptEnd) (command : Option ℕ) (w : Waking) → folded (waking_step n releases) w (attempt_entries k end command)
+      ≡ (if k == n then slept (fell_at end) (released (ends_at end (ends_by releases command)) w) else released (ends_at end (ends_by releases command)) w)
   attempt_told k NoneRan command w = sym (unless (k == n) w)
   attempt_told k Again command w = sym (unless (k == n) w)
   attempt_told k (Unanswered fell) None w = slept_told k fell w
-  attempt_told k (Unanswered fell) (Some command) w = slept_told k fell w
+  attempt_told k (Unanswered fell) (Some command) w = slept_told k fell (released (releases command) w)
 
-  attempt_nodes : (h : HostState) (end : AttemptEnd) (command : Option ℕ) → (attempt_ended h end command).nodes ≡ h.nodes
-  attempt_nodes h NoneRan command = refl
-  attempt_nodes h Again command = refl
-  attempt_nodes h (Unanswered fell) None = refl
-  attempt_nodes h (Unanswered fell) (Some command) = refl
+  -- the command of an attempt that runs releases it where it is its own and it does not listen, and that of another node does not; and it is awake while it is told that there is no more for it
+  abbrev pub TellsOf : List NodeState → Purpose → Type 0
+  TellsOf nodes (Housekeeping (NoMore k)) = P → (node_among nodes k).awake ≡ true
+  TellsOf nodes purpose = Unit {0}
 
-  part_goes : (h : HostState) (k : ℕ) (end : PartEnd) (moment : Moment) → n < length h.nodes → Goes h.nodes (after_part h k end moment).nodes (part_entries h k end)
-  part_goes h k part_good moment within = quiet_goes h.nodes _ [] tt (set_same h.nodes k (after_sign (node_of h k)) (signed (node_of h k)))
-  part_goes h k Passed_over moment within = quiet_goes h.nodes h.nodes [] tt refl
-  part_goes h k Bad moment within =
+  pub record Known (nodes : List NodeState) (under_way : Option UnderWay) : Type 0 where
+    pub own : (k : ℕ) → is_running (node_among nodes k).series ≡ true → k ≡ n → P → ends_by releases (open_command (node_among nodes k)) ≡ is_false (node_among nodes k).listens
+    pub others : (k : ℕ) → (k ≡ n → ⊥) → P → ends_by releases (open_command (node_among nodes k)) ≡ false
+    pub tells : AtIs (TellsOf nodes) under_way
+
+  part_goes : (h : HostState) (k : ℕ) (end : PartEnd) (moment : Moment) (under_way : Option UnderWay) → Known h.nodes under_way → n < length h.nodes
+      → Goes h.nodes (after_part h k end moment).nodes (part_entries h k end)
+  part_goes h k part_good moment under_way known within = quiet_goes h.nodes _ [] tt (set_same h.nodes k (after_sign (node_of h k)) (signed (node_of h k)))
+  part_goes h k Passed_over moment under_way known within = quiet_goes h.nodes h.nodes [] tt refl
+  part_goes h k Bad moment under_way known within =
       let state = after_attempt_end (node_of h k) moment in
       let end = attempt_end (node_of h k) in
       let command = open_command (node_of h k) in
-      subst (λ (w : Waking). Follows w (waking_in (after_part h k Bad moment).nodes n)) (sym (attempt_told k end command (waking_in h.nodes n)))
-      (subst (λ (l : List NodeState). Follows (if k == n then slept (fell_at end) (waking_in h.nodes n) else waking_in h.nodes n) (waking_in l n)) (sym (attempt_nodes (record h { nodes = with_node h.nodes k state }) end command))
-      (set_follows h.nodes k state (slept (fell_at end)) within (end_follows (node_of h k) moment)))
+      let ends = ends_by releases command in
+      let was = waking_in h.nodes n in
+      subst (λ (w : Waking). Follows P w (waking_in (after_part h k Bad moment).nodes n)) (sym (attempt_told k end command was))
+      (subst (λ (l : List NodeState). Follows P (if k == n then slept (fell_at end) (released (ends_at end ends) was) else released (ends_at end ends) was) (waking_in l n))
+      (sym (attempt_nodes (record h { nodes = with_node h.nodes k state }) end command))
+      (set_both h.nodes k state (λ w. slept (fell_at end) (released (ends_at end ends) w)) (λ w. released (ends_at end ends) w) within
+      (λ same. end_follows (node_of h k) moment ends (λ runs p. known.own k runs same p))
+      (λ differs. stays (ends_at end ends) was (λ p. none_ends end ends (known.others k differs p)))))
 
   neighbours_quiet : (k : ℕ) (how : How) → AllByRecursion IsQuiet (neighbours_entry k how)
   neighbours_quiet k (AtResponse (GetRoutingInfo nodes)) = (tt, tt)
@@ -225,73 +374,57 @@ module _ (n : ℕ) where
   failed_quiet k (AtResponse (failed_node failed)) = (tt, tt)
   failed_quiet k _ = tt
 
-  task_goes : (h : HostState) (task : Task) (how : How) → n < length h.nodes → Goes h.nodes (after_task h task).nodes (task_entries h task how)
-  task_goes h (NoMore k) how within =
+  task_goes : (h : HostState) (task : Task) (how : How) → TellsOf h.nodes (Housekeeping task) → n < length h.nodes → Goes h.nodes (after_task h task).nodes (task_entries h task how)
+  task_goes h (NoMore k) how tells within =
       let state = after_no_more_end (node_of h k) in
       let fell = falls_asleep (node_of h k) in
-      subst (λ (w : Waking). Follows w (waking_in (with_node h.nodes k state) n)) (sym (slept_told k fell (waking_in h.nodes n)))
-      (set_follows h.nodes k state (slept fell) within (sleep_follows (after_no_more (node_of h k) Unasked)))
-  task_goes h (Plain k payload) how within = quiet_goes h.nodes h.nodes (task_entries h (Plain k payload) how) (tt, tt) refl
-  task_goes h (Second k) how within = quiet_goes h.nodes h.nodes (task_entries h (Second k) how) (tt, tt) refl
-  task_goes h (Neighbours k) how within = quiet_goes h.nodes h.nodes (neighbours_entry k how) (neighbours_quiet k how) refl
-  task_goes h (IsFailed k) how within = quiet_goes h.nodes h.nodes (failed_entry k how) (failed_quiet k how) refl
-  task_goes h _ how within = quiet_goes h.nodes h.nodes [] tt refl
+      subst (λ (w : Waking). Follows P w (waking_in (with_node h.nodes k state) n)) (sym (slept_told k fell (waking_in h.nodes n)))
+      (set_follows h.nodes k state (slept fell) within (told_follows (after_no_more (node_of h k) Unasked) tells))
+  task_goes h (Plain k payload) how tells within = quiet_goes h.nodes h.nodes (task_entries h (Plain k payload) how) (tt, tt) refl
+  task_goes h (Second k) how tells within = quiet_goes h.nodes h.nodes (task_entries h (Second k) how) (tt, tt) refl
+  task_goes h (Neighbours k) how tells within = quiet_goes h.nodes h.nodes (neighbours_entry k how) (neighbours_quiet k how) refl
+  task_goes h (IsFailed k) how tells within = quiet_goes h.nodes h.nodes (failed_entry k how) (failed_quiet k how) refl
+  task_goes h _ how tells within = quiet_goes h.nodes h.nodes [] tt refl
 
-  end_goes : (h : HostState) (purpose : Purpose) (how : How) (moment : Moment) → n < length h.nodes
+  end_goes : (h : HostState) (purpose : Purpose) (how : How) (moment : Moment) (under_way : Option UnderWay) → Known h.nodes under_way → TellsOf h.nodes purpose → n < length h.nodes
       → Goes h.nodes (after_end h (record { purpose = purpose; how = how }) moment).nodes (end_entries h (record { purpose = purpose; how = how }))
-  end_goes h (Attempt k more payload) how moment within = part_goes h k (part_end more how) moment within
-  end_goes h (Housekeeping task) how moment within = task_goes h task how within
-  end_goes h Abort how moment within = quiet_goes h.nodes h.nodes [] tt refl
+  end_goes h (Attempt k more payload) how moment under_way known tells within = part_goes h k (part_end more how) moment under_way known within
+  end_goes h (Housekeeping task) how moment under_way known tells within = task_goes h task how tells within
+  end_goes h Abort how moment under_way known tells within = quiet_goes h.nodes h.nodes [] tt refl
 
-  end_if_goes : (h : HostState) (end : Option End) (moment : Moment) → n < length h.nodes → Goes h.nodes (after_end_if h end moment).nodes (end_entries_if h end)
-  end_if_goes h None moment within = quiet_goes h.nodes h.nodes [] tt refl
-  end_if_goes h (Some end) moment within = end_goes h end.purpose end.how moment within
+  end_if_goes : (h : HostState) (end : Option End) (moment : Moment) (under_way : Option UnderWay) → Known h.nodes under_way → EndIs (TellsOf h.nodes) end → n < length h.nodes
+      → Goes h.nodes (after_end_if h end moment).nodes (end_entries_if h end)
+  end_if_goes h None moment under_way known tells within = quiet_goes h.nodes h.nodes [] tt refl
+  end_if_goes h (Some end) moment under_way known tells within = end_goes h end.purpose end.how moment under_way known tells within
 
-  failing_goes : (gives : Bool) (h : HostState) → n < length h.nodes → Goes h.nodes (failing_if gives h).nodes (failing_entries gives h)
-  failing_goes true h within = end_if_goes (requests_do h request_fails) (end_at h.requests request_fails) BeforeItsTick within
-  failing_goes false h within = quiet_goes h.nodes h.nodes [] tt refl
-
-  copy_notes : (copy : Option FrameParts) (told : List Entry) → notes_of (copy_out copy ++ noted told) ≡ told
-  copy_notes None told = notes_noted told
-  copy_notes (Some f) told = notes_noted told
-
-  answer_notes : (item : Item) → notes_of (answer_to item) ≡ []
-  answer_notes (Good (Framed f)) = refl
-  answer_notes (Good Ack) = refl
-  answer_notes (Good Nak) = refl
-  answer_notes (Good Can) = refl
-  answer_notes (refused_item (BadSum want got)) = refl
-  answer_notes (refused_item (BadKind x)) = refl
-  answer_notes (refused_item (Stray x)) = refl
-  answer_notes (refused_item (BadLength m)) = refl
-  answer_notes (refused_item Aborted) = refl
+  failing_goes : (gives : Bool) (h : HostState) → Known h.nodes h.requests.under_way → n < length h.nodes → Goes h.nodes (failing_if gives h).nodes (failing_entries gives h)
+  failing_goes true h known within =
+      end_if_goes (requests_do h request_fails) (end_at h.requests request_fails) BeforeItsTick h.requests.under_way known (end_is (TellsOf h.nodes) h.requests request_fails known.tells) within
+  failing_goes false h known within = quiet_goes h.nodes h.nodes [] tt refl
 
   dropped_quiet : (full : Bool) (k : ℕ) → AllByRecursion IsQuiet (dropped_if full k)
   dropped_quiet true k = (tt, tt)
   dropped_quiet false k = tt
-
-  queued_nodes : (b : Bool) (h other : HostState) → other.nodes ≡ h.nodes → (if b then h else other).nodes ≡ h.nodes
-  queued_nodes true h other same = refl
-  queued_nodes false h other same = same
-
-  offered_nodes : (h : HostState) (k : ℕ) (live : Option (List ℕ)) → (offering h k live).nodes ≡ h.nodes
-  offered_nodes h k None = refl
-  offered_nodes h k (Some nonce) = queued_nodes (is_full h) h _ refl
 
   dropped_goes : (h later : HostState) (k : ℕ) → later.nodes ≡ h.nodes → Goes h.nodes later.nodes (notes_of (noted (dropped_if (is_full h) k)))
   dropped_goes h later k same =
       noted_goes h.nodes later.nodes (dropped_if (is_full h) k) (quiet_goes h.nodes later.nodes (dropped_if (is_full h) k) (dropped_quiet (is_full h) k) (ap (λ (l : List NodeState). waking_in l n) same))
 
   -- a session ends: values are confirmed, and its node may be held
-  stored_told : (k : ℕ) (settings : List Setting) (more : List Entry) (w : Waking) → folded (waking_step n) w (stored_entries k settings ++ more) ≡ folded (waking_step n) w more
+  final_told : (command : ℕ) (status : FinalStatus) (w : Waking) → waking_step n releases w (entry.Out command (ended_of status)) ≡ w
+  final_told command final.NoSupport w = refl
+  final_told command final.Fail w = refl
+  final_told command final.Success w = refl
+
+  stored_told : (k : ℕ) (settings : List Setting) (more : List Entry) (w : Waking) → folded (waking_step n releases) w (stored_entries k settings ++ more) ≡ folded (waking_step n releases) w more
   stored_told k [] more w = refl
   stored_told k (setting ∷ settings) more w = stored_told k settings more w
 
   held_goes : (h : HostState) (k : ℕ) (held : Bool) (w : Waking) → n < length h.nodes → waking_in h.nodes n ≡ w
-      → Follows (folded (waking_step n) w (held_entries k held)) (waking_in (holding h k held).nodes n)
+      → Follows P (folded (waking_step n releases) w (held_entries k held)) (waking_in (holding h k held).nodes n)
   held_goes h k false w within same = as_told w (waking_in h.nodes n) same
   held_goes h k true w within same =
-      subst (λ (v : Waking). Follows (if k == n then is_kept v else v) (waking_in (holding h k true).nodes n)) same
+      subst (λ (v : Waking). Follows P (if k == n then is_kept v else v) (waking_in (holding h k true).nodes n)) same
       (set_follows h.nodes k _ is_kept within (as_told (is_kept (waking_in h.nodes k)) (is_kept (waking_in h.nodes k)) refl))
 
   finished : (h : HostState) (k session id command : ℕ) (status : FinalStatus) (wake_request : Bool) → n < length (finishing h k id command status).nodes
@@ -300,72 +433,80 @@ module _ (n : ℕ) where
       let settings = settings_with status (command_at h.commands command) in
       let held = is_held h k wake_request in
       let state = node_of h k in
-      noted_goes h.nodes (holding (finishing h k id command status) k held).nodes (entry.Out command (ended_of status) ∷ (stored_entries k settings ++ held_entries k held))
-      (subst (λ (w : Waking). Follows w (waking_in (holding (finishing h k id command status) k held).nodes n)) (sym (stored_told k settings (held_entries k held) (waking_in h.nodes n)))
+      let later = (holding (finishing h k id command status) k held).nodes in
+      noted_goes h.nodes later (entry.Out command (ended_of status) ∷ (stored_entries k settings ++ held_entries k held))
+      (subst (λ (w : Waking). Follows P (folded (waking_step n releases) w (stored_entries k settings ++ held_entries k held)) (waking_in later n)) (sym (final_told command status (waking_in h.nodes n)))
+      (subst (λ (w : Waking). Follows P w (waking_in later n)) (sym (stored_told k settings (held_entries k held) (waking_in h.nodes n)))
       (held_goes (finishing h k id command status) k held (waking_in h.nodes n) within
-      (set_same h.nodes k (after_node state (node_reports id (status_byte status))) (told_same state (status_byte status) (told_of state.book id (status_byte status))))))
+      (set_same h.nodes k (after_node state (node_reports id (status_byte status))) (told_same state (status_byte status) (told_of state.book id (status_byte status)))))))
 
   -- a tick of a node
-  twice : (b : Bool) (first then_so : Waking → Waking) (w : Waking) → (if b then then_so (if b then first w else w) else (if b then first w else w)) ≡ (if b then then_so (first w) else w)
-  twice true first then_so w = refl
-  twice false first then_so w = refl
+  twice : (b : Bool) (first then_so other : Waking → Waking) (w : Waking) → (if b then then_so (if b then first w else w) else other (if b then first w else w)) ≡ (if b then then_so (first w) else other w)
+  twice true first then_so other w = refl
+  twice false first then_so other w = refl
 
-  ticked : (h : HostState) (k : ℕ) → n < length h.nodes
-      → Follows (folded (waking_step n) (waking_before (Node_ticks k) n (waking_in h.nodes n)) (notes_of (outs h (Node_ticks k)))) (waking_in (after h (Node_ticks k)).nodes n)
-  ticked h k within =
+  ticked : (h : HostState) (k : ℕ) → Known h.nodes h.requests.under_way → n < length h.nodes
+      → Follows P (folded (waking_step n releases) (waking_before (Node_ticks k) n (waking_in h.nodes n)) (notes_of (outs h (Node_ticks k)))) (waking_in (after h (Node_ticks k)).nodes n)
+  ticked h k known within =
       let state = after_tick (node_of h k) in
       let end = tick_end (node_of h k) in
       let command = open_command (node_of h k) in
-      let fell = fell_at end in
+      let ends = ends_by releases command in
       let was = waking_in h.nodes n in
       let now = waking_in (after h (Node_ticks k)).nodes n in
-      let told_is : folded (waking_step n) (waking_before (Node_ticks k) n was) (notes_of (outs h (Node_ticks k))) ≡ (if k == n then slept fell (one_less was) else was) =
-      ap (λ (l : List Entry). folded (waking_step n) (waking_before (Node_ticks k) n was) l) (notes_noted (attempt_entries k end command))
-      ∙ attempt_told k end command (waking_before (Node_ticks k) n was) ∙ twice (k == n) one_less (slept fell) was in
-      subst (λ (w : Waking). Follows w now) (sym told_is)
-      (subst (λ (l : List NodeState). Follows (if k == n then slept fell (one_less was) else was) (waking_in l n)) (sym (attempt_nodes (record h { nodes = with_node h.nodes k state }) end command))
-      (set_follows h.nodes k state (λ w. slept fell (one_less w)) within (tick_follows (node_of h k))))
+      let told_is : folded (waking_step n releases) (waking_before (Node_ticks k) n was) (notes_of (outs h (Node_ticks k)))
+      ≡ (if k == n then slept (fell_at end) (released (ends_at end ends) (one_less was)) else released (ends_at end ends) was) =
+      ap (λ (l : List Entry). folded (waking_step n releases) (waking_before (Node_ticks k) n was) l) (notes_noted (attempt_entries k end command))
+      ∙ attempt_told k end command (waking_before (Node_ticks k) n was)
+      ∙ twice (k == n) one_less (λ w. slept (fell_at end) (released (ends_at end ends) w)) (λ w. released (ends_at end ends) w) was in
+      subst (λ (w : Waking). Follows P w now) (sym told_is)
+      (subst (λ (l : List NodeState). Follows P (if k == n then slept (fell_at end) (released (ends_at end ends) (one_less was)) else released (ends_at end ends) was) (waking_in l n))
+      (sym (attempt_nodes (record h { nodes = with_node h.nodes k state }) end command))
+      (set_both h.nodes k state (λ w. slept (fell_at end) (released (ends_at end ends) (one_less w))) (λ w. released (ends_at end ends) w) within
+      (λ same. tick_follows (node_of h k) ends (λ runs p. known.own k runs same p))
+      (λ differs. stays (ends_at end ends) was (λ p. none_ends end ends (known.others k differs p)))))
 
   length-same : (nodes : List NodeState) (k : ℕ) (state : NodeState) → n < length nodes → n < length (with_node nodes k state)
   length-same nodes k state within = let same = length-set nodes k state in omega (arith, same, within)
 
-  pub event_goes : (h : HostState) (event : HostEvent) → n < length h.nodes
-      → Follows (folded (waking_step n) (waking_before event n (waking_in h.nodes n)) (notes_of (outs h event))) (waking_in (after h event).nodes n)
-  event_goes h (Accepts order carriage) within =
+  pub goes_on : (h : HostState) (event : HostEvent) → Known h.nodes h.requests.under_way → n < length h.nodes
+      → Follows P (folded (waking_step n releases) (waking_before event n (waking_in h.nodes n)) (notes_of (outs h event))) (waking_in (after h event).nodes n)
+  goes_on h (Accepts order carriage) known within =
       let put = after_put (node_of h order.node) (length h.commands + 1) in
       let puts = with_node h.nodes order.node put in
       quiet_goes h.nodes (after h (Accepts order carriage)).nodes [] tt
       (set_same puts order.node _ (occasion (node_among puts order.node)) ∙ set_same h.nodes order.node put refl)
-  event_goes h (Cancels command) within = quiet_goes h.nodes (after h (Cancels command)).nodes [] tt (set_same h.nodes (node_for h command) _ refl)
-  event_goes h (Joins k) within = quiet_goes h.nodes (after h (Joins k)).nodes [] tt (set_same h.nodes k _ refl)
-  event_goes h (Hears item) within = subst (λ (l : List Entry). Goes h.nodes h.nodes l) (sym (answer_notes item)) (quiet_goes h.nodes h.nodes [] tt refl)
-  event_goes h (Requests_do event moment) within =
-      noted_goes h.nodes (after h (Requests_do event moment)).nodes (request_entries h event) (end_if_goes (requests_do h event) (end_at h.requests event) moment within)
-  event_goes h (Interviews k listens classes update) within = quiet_goes h.nodes _ (entry.Interviewed k ∷ []) (tt, tt) (set_same h.nodes k _ refl)
-  event_goes h (Interview_unkept k update) within = quiet_goes h.nodes h.nodes (entry.Unkept k ∷ []) (tt, tt) refl
-  event_goes h (Unreads k payload) within = quiet_goes h.nodes h.nodes (entry.Unread k payload ∷ []) (tt, tt) refl
-  event_goes h (Is_unkept k) within = quiet_goes h.nodes h.nodes (entry.Unkept k ∷ []) (tt, tt) refl
-  event_goes h (Reports_old k id) within = quiet_goes h.nodes h.nodes (entry.Old k id ∷ []) (tt, tt) refl
-  event_goes h (Works k id) within = quiet_goes h.nodes _ [] tt (set_same h.nodes k _ (told_same (node_of h k) 1 (told_of (node_of h k).book id 1)))
-  event_goes h (Finishes k session id command status wake_request) within =
+  goes_on h (Cancels command) known within = quiet_goes h.nodes (after h (Cancels command)).nodes [] tt (set_same h.nodes (node_for h command) _ refl)
+  goes_on h (Joins k) known within = quiet_goes h.nodes (after h (Joins k)).nodes [] tt (set_same h.nodes k _ refl)
+  goes_on h (Hears item) known within = subst (λ (l : List Entry). Goes h.nodes h.nodes l) (sym (answer_notes item)) (quiet_goes h.nodes h.nodes [] tt refl)
+  goes_on h (Requests_do event moment) known within =
+      noted_goes h.nodes (after h (Requests_do event moment)).nodes (request_entries h event)
+      (end_if_goes (requests_do h event) (end_at h.requests event) moment h.requests.under_way known (end_is (TellsOf h.nodes) h.requests event known.tells) within)
+  goes_on h (Interviews k listens classes update) known within = quiet_goes h.nodes _ (entry.Interviewed k ∷ []) (tt, tt) (set_same h.nodes k _ refl)
+  goes_on h (Interview_unkept k update) known within = quiet_goes h.nodes h.nodes (entry.Unkept k ∷ []) (tt, tt) refl
+  goes_on h (Unreads k payload) known within = quiet_goes h.nodes h.nodes (entry.Unread k payload ∷ []) (tt, tt) refl
+  goes_on h (Is_unkept k) known within = quiet_goes h.nodes h.nodes (entry.Unkept k ∷ []) (tt, tt) refl
+  goes_on h (Reports_old k id) known within = quiet_goes h.nodes h.nodes (entry.Old k id ∷ []) (tt, tt) refl
+  goes_on h (Works k id) known within = quiet_goes h.nodes _ [] tt (set_same h.nodes k _ (told_same (node_of h k) 1 (told_of (node_of h k).book id 1)))
+  goes_on h (Finishes k session id command status wake_request) known within =
       finished h k session id command status wake_request (length-same h.nodes k (after_node (node_of h k) (node_reports id (status_byte status))) within)
-  event_goes h (Offers k) within = dropped_goes h (after h (Offers k)) k (offered_nodes h k (live_of h.nonces k))
-  event_goes h (Gives k drawn) within = dropped_goes h (after h (Gives k drawn)) k (offered_nodes (giving h k drawn) k (live_of (giving h k drawn).nonces k))
-  event_goes h (Spends_unread k payload) within = quiet_goes h.nodes h.nodes (entry.Unread k payload ∷ []) (tt, tt) refl
-  event_goes h (Takes_nonce k seen text) within = quiet_goes h.nodes (after h (Takes_nonce k seen text)).nodes [] tt (set_same h.nodes k _ refl)
-  event_goes h (Notifies k) within = set_follows h.nodes k (after_notification (node_of h k)) wakes within (as_told (wakes (waking_in h.nodes k)) (waking_of (after_notification (node_of h k))) (notified (node_of h k)))
-  event_goes h (Resends k payload) within = dropped_goes h (after h (Resends k payload)) k (queued_nodes (is_full h) h _ refl)
-  event_goes h (Hears_value k setting) within = quiet_goes h.nodes h.nodes (entry.Report k setting ∷ []) (tt, tt) refl
-  event_goes h (Has_no_room k property) within = quiet_goes h.nodes h.nodes (entry.Unstored k property ∷ []) (tt, tt) refl
-  event_goes h Line_ticks within =
+  goes_on h (Offers k) known within = dropped_goes h (after h (Offers k)) k (offered_nodes h k (live_of h.nonces k))
+  goes_on h (Gives k drawn) known within = dropped_goes h (after h (Gives k drawn)) k (offered_nodes (giving h k drawn) k (live_of (giving h k drawn).nonces k))
+  goes_on h (Spends_unread k payload) known within = quiet_goes h.nodes h.nodes (entry.Unread k payload ∷ []) (tt, tt) refl
+  goes_on h (Takes_nonce k seen text) known within = quiet_goes h.nodes (after h (Takes_nonce k seen text)).nodes [] tt (set_same h.nodes k _ refl)
+  goes_on h (Notifies k) known within = set_follows h.nodes k (after_notification (node_of h k)) wakes within (as_told (wakes (waking_in h.nodes k)) (waking_of (after_notification (node_of h k))) (notified (node_of h k)))
+  goes_on h (Resends k payload) known within = dropped_goes h (after h (Resends k payload)) k (queued_nodes (is_full h) h _ refl)
+  goes_on h (Hears_value k setting) known within = quiet_goes h.nodes h.nodes (entry.Report k setting ∷ []) (tt, tt) refl
+  goes_on h (Has_no_room k property) known within = quiet_goes h.nodes h.nodes (entry.Unstored k property ∷ []) (tt, tt) refl
+  goes_on h Line_ticks known within =
       let gives = gives_up h.side.turn (tick_side h.side).turn in
-      subst (λ (l : List Entry). Goes h.nodes (after h Line_ticks).nodes l) (sym (copy_notes (copy_due h.side.turn) (failing_entries gives (line_ticked h)))) (failing_goes gives (line_ticked h) within)
-  event_goes h (Node_ticks k) within = ticked h k within
-  event_goes h (Queues_no_more k) within = quiet_goes h.nodes (after h (Queues_no_more k)).nodes [] tt (set_same h.nodes k _ refl)
-  event_goes h (Drops_no_more k) within = quiet_goes h.nodes _ (entry.QueueFull k ∷ []) (tt, tt) (set_same h.nodes k _ refl)
-  event_goes h (Starts k plan more payload) within = quiet_goes h.nodes (after h (Starts k plan more payload)).nodes [] tt (set_same h.nodes k _ (started (node_of h k) plan))
-  event_goes h (Gives_text k payload) within = quiet_goes h.nodes (after h (Gives_text k payload)).nodes [] tt (set_same h.nodes k _ refl)
-  event_goes h (Gives_segment k more payload) within = quiet_goes h.nodes (after h (Gives_segment k more payload)).nodes [] tt (set_same h.nodes k _ refl)
-  event_goes h (Begins k session command) within = quiet_goes h.nodes _ (entry.Begin k session command ∷ []) (tt, tt) (set_same h.nodes k _ refl)
-  event_goes h (Begin_unkept k) within = quiet_goes h.nodes _ (entry.Unkept k ∷ []) (tt, tt) (set_same h.nodes k _ refl)
-  event_goes h event within = quiet_goes h.nodes h.nodes [] tt refl
+      subst (λ (l : List Entry). Goes h.nodes (after h Line_ticks).nodes l) (sym (copy_notes (copy_due h.side.turn) (failing_entries gives (line_ticked h)))) (failing_goes gives (line_ticked h) known within)
+  goes_on h (Node_ticks k) known within = ticked h k known within
+  goes_on h (Queues_no_more k) known within = quiet_goes h.nodes (after h (Queues_no_more k)).nodes [] tt (set_same h.nodes k _ refl)
+  goes_on h (Drops_no_more k) known within = quiet_goes h.nodes _ (entry.QueueFull k ∷ []) (tt, tt) (set_same h.nodes k _ refl)
+  goes_on h (Starts k plan more payload) known within = quiet_goes h.nodes (after h (Starts k plan more payload)).nodes [] tt (set_same h.nodes k _ (started (node_of h k) plan))
+  goes_on h (Gives_text k payload) known within = quiet_goes h.nodes (after h (Gives_text k payload)).nodes [] tt (set_same h.nodes k _ refl)
+  goes_on h (Gives_segment k more payload) known within = quiet_goes h.nodes (after h (Gives_segment k more payload)).nodes [] tt (set_same h.nodes k _ refl)
+  goes_on h (Begins k session command) known within = quiet_goes h.nodes _ (entry.Begin k session command ∷ []) (tt, tt) (set_same h.nodes k _ refl)
+  goes_on h (Begin_unkept k) known within = quiet_goes h.nodes _ (entry.Unkept k ∷ []) (tt, tt) (set_same h.nodes k _ refl)
+  goes_on h event known within = quiet_goes h.nodes h.nodes [] tt refl

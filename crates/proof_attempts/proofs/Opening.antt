@@ -1,11 +1,11 @@
 -- The last session of a node, and whether it is open, by the tables of a host.
-use Rattle.std.proofs.Common.{◌≡◌, ℕ, suc, ◌-◌, ◌||◌, nat_lt, not, Bool, true, false, if◌then◌else◌, List, [], ◌∷◌, ◌++◌, length, drop, filter, refl, sym, ap, ap₂, ◌∙◌, subst, arith, length-append}
+use Rattle.std.proofs.Common.{◌≡◌, ◌⊎◌, inl, inr, ℕ, suc, ◌-◌, ◌||◌, nat_lt, not, Bool, true, false, if◌then◌else◌, List, [], ◌∷◌, ◌++◌, length, drop, filter, refl, sym, ap, ap₂, ◌∙◌, subst, arith, length-append}
 use Rattle.std.specs.Prelude.{Option, Some, None, slice_get}
 use Rattle.std.specs.List.{AllByRecursion, list_any}
 use Rattle.std.proofs.Math.Seq.{drop-append_seam}
 use Rattle.std.proofs.lemmas.Bool.{lt-ltb}
 use Rattle.zw_base.proofs.Each.{all-right, all-weaker}
-use Rattle.supervision.specs.Host.{command_at as command_of_session}
+use Rattle.supervision.specs.Host.{command_at as command_of_session, open_session}
 use Rattle.zw_text.specs.declared.entry.Entry.{Entry}
 use Rattle.zw_text.specs.declared.entry.Outcome.{Outcome}
 use Rattle.zw_text.specs.declared.entry.Outcome.TheVariants as outcomes
@@ -27,16 +27,16 @@ use Rattle.proof_attempts.specs.Series.{NodeAsTold}
 
 -- ---- the last of some
 
-record IsLast (all : List ℕ) : Type 0 where
-  front : List ℕ
-  last : ℕ
-  are : all ≡ front ++ last ∷ []
+pub record IsLast (all : List ℕ) : Type 0 where
+  pub front : List ℕ
+  pub last : ℕ
+  pub are : all ≡ front ++ last ∷ []
 
-has_last : (first : ℕ) (more : List ℕ) → IsLast (first ∷ more)
+pub has_last : (first : ℕ) (more : List ℕ) → IsLast (first ∷ more)
 has_last first [] = record { front = []; last = first; are = refl }
 has_last first (next ∷ more) = let rest = has_last next more in record { front = first ∷ rest.front; last = rest.last; are = ap (λ (l : List ℕ). first ∷ l) rest.are }
 
-last_is : (front : List ℕ) (last : ℕ) → last_of (front ++ last ∷ []) ≡ last ∷ []
+pub last_is : (front : List ℕ) (last : ℕ) → last_of (front ++ last ∷ []) ≡ last ∷ []
 last_is front last =
     let long = length-append front (last ∷ []) in
     let place : length (front ++ last ∷ []) - 1 ≡ length front = omega (arith, long) in
@@ -51,6 +51,35 @@ session_last front last =
     let long = length-append front (last ∷ []) in
     let count : length (front ++ last ∷ []) ≡ suc (length front) = omega (arith, long) in
     ap (λ (k : ℕ). command_of_session (front ++ last ∷ []) k) count ∙ got_last front last
+
+-- the session that is open is the last
+pub record OpenLast (node : NodeState) : Type 0 where
+  pub front : List ℕ
+  pub command : ℕ
+  pub are : node.book.commands ≡ front ++ command ∷ []
+  pub opened : open_command node ≡ Some command
+  pub last : last_of node.book.commands ≡ command ∷ []
+
+module _ (node : NodeState) where
+  abbrev with_book : Option ℕ → List ℕ → NodeState
+  with_book status commands = record node { book = record node.book { commands = commands; outcome = status } }
+
+  open_by : (status : Option ℕ) (commands : List ℕ)
+      → ((open_session (with_book status commands).book ≡ None) × (open_command (with_book status commands) ≡ None)) ⊎ OpenLast (with_book status commands)
+  open_by (Some final) commands = inl (refl, refl)
+  open_by None [] = inl (refl, refl)
+  open_by None (first ∷ more) =
+      let at = has_last first more in
+      inr (record {
+        front = at.front;
+        command = at.last;
+        are = at.are;
+        opened = ap (λ (l : List ℕ). command_of_session l (length l)) at.are ∙ session_last at.front at.last;
+        last = ap (λ (l : List ℕ). last_of l) at.are ∙ last_is at.front at.last;
+      })
+
+  pub open_last : ((open_session node.book ≡ None) × (open_command node ≡ None)) ⊎ OpenLast node
+  open_last = open_by node.book.outcome node.book.commands
 
 -- ---- outcomes
 

@@ -79,7 +79,7 @@ series_starts n past words is = by_words n past words true is
 -- ---- time
 
 -- none is due by a time
-waits_on : (n : ℕ) (past : List Entry) (now : ℕ) (s : SeriesTold) → list_any (λ tick. nat_le tick now) s.again ≡ false → with_time n past now s ≡ s
+pub waits_on : (n : ℕ) (past : List Entry) (now : ℕ) (s : SeriesTold) → list_any (λ tick. nat_le tick now) s.again ≡ false → with_time n past now s ≡ s
 waits_on n past now s none = ap (λ (b : Bool). if b then (if are_none (waiting n past) then no_series else with_occasion n past no_series) else s) none
 
 or_false : (b : Bool) → b ≡ false → b || false ≡ false
@@ -99,12 +99,15 @@ at_least_one zero now some = absurd (some refl)
 at_least_one (suc k) now some = omega arith
 
 -- at the time of the tie nothing has come
-pub settled : (n : ℕ) (past : List Entry) (s : SeriesTold) (node : NodeState) (now : ℕ) → IsSeries s node now → with_time n past now s ≡ s
-settled n past s node now tie = waits_on n past now s (ap (λ (l : List ℕ). list_any (λ tick. nat_le tick now) l) tie.again ∙ by (cases_eq node.again_wait 0))
+pub none_due : (s : SeriesTold) (node : NodeState) (now : ℕ) → IsSeries s node now → list_any (λ tick. nat_le tick now) s.again ≡ false
+none_due s node now tie = ap (λ (l : List ℕ). list_any (λ tick. nat_le tick now) l) tie.again ∙ by (cases_eq node.again_wait 0)
   where
     by : (node.again_wait ≡ 0) ⊎ (node.again_wait ≡ 0 → ⊥) → list_any (λ tick. nat_le tick now) (wait_end now node.again_wait) ≡ false
     by (inl none) = ap (λ (k : ℕ). list_any (λ tick. nat_le tick now) (wait_end now k)) none
     by (inr some) = not_over now node.again_wait now (at_least_one node.again_wait now some)
+
+pub settled : (n : ℕ) (past : List Entry) (s : SeriesTold) (node : NodeState) (now : ℕ) → IsSeries s node now → with_time n past now s ≡ s
+settled n past s node now tie = waits_on n past now s (none_due s node now tie)
 
 -- ---- a moment at which a series is due
 
@@ -250,7 +253,7 @@ ending_over n past now false true false = refl
 ending_over n past now false false opened = refl
 
 -- what was due by a time is due by a later one
-still_due : (now later : ℕ) → now ≤ later → (all : List ℕ) → list_any (λ tick. nat_le tick now) all ≡ true → list_any (λ tick. nat_le tick later) all ≡ true
+pub still_due : (now later : ℕ) → now ≤ later → (all : List ℕ) → list_any (λ tick. nat_le tick now) all ≡ true → list_any (λ tick. nat_le tick later) all ≡ true
 still_due now later after [] due = due
 still_due now later after (tick ∷ all) due = by (nat_le tick now) refl (still_due now later after all)
   where

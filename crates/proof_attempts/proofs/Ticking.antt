@@ -1,68 +1,123 @@
 -- Which events of a tick are left, at each step of a host alone; and each node with a wait is among them when those of the line and of the request are over.
-use Rattle.std.proofs.Common.{◌≡◌, ℕ, zero, suc, ◌+◌, ◌<◌, ◌≤◌, ◌==◌, Bool, true, false, if◌then◌else◌, inl, inr, List, [], ◌∷◌, map, filter, refl, sym, ap, ◌∙◌, subst, arith}
+use Rattle.std.proofs.Common.{◌≡◌, ℕ, zero, suc, ◌+◌, ◌<◌, ◌≤◌, ◌==◌, ◌||◌, Bool, true, false, if◌then◌else◌, inl, inr, List, [], ◌∷◌, map, filter, refl, sym, ap, ◌∙◌, subst, arith}
 use Rattle.std.specs.List.{AllByRecursion, range_with_len}
-use Rattle.std.proofs.lemmas.Bool.{cases_eq, eq-eqb, or_left, or_right}
+use Rattle.std.proofs.lemmas.Bool.{cases_eq, eq-eqb, ne_eqb, or_left, or_right}
+use Rattle.zw_base.proofs.Each.{all-weaker}
+use Rattle.serial_frame.specs.Items.{unit_text}
+use Rattle.serial_frame.specs.declared.item.Item.{Item}
+use Rattle.serial_frame.specs.declared.item.Item.TheVariants.{Good, Refused}
+use Rattle.serial_frame.specs.declared.unit.Unit.TheVariants.{Ack, Nak, Can, Framed}
+use Rattle.serial_link.specs.declared.turn.Turn.{Turn}
+use Rattle.host_requests.specs.Events.{RequestsEvent}
+use Rattle.host_requests.specs.Events.RequestsEvent.{Fails as request_fails, IsSent as request_is_sent}
 use Rattle.host_node.specs.State.{needs_tick}
 use Rattle.host_model.specs.State.{HostState, node_of}
-use Rattle.host_model.specs.After.{after}
-use Rattle.host_model.specs.Events.{HostEvent, Line_ticks, Node_ticks, Requests_do}
+use Rattle.host_model.specs.After.{after, gives_up, is_busy}
+use Rattle.host_model.specs.Events.{HostEvent, Accepts, Begins, Hears, Line_ticks, Node_ticks, Requests_do}
+use Rattle.host_model.specs.Taking.{IsFollowed, told_if}
 use Rattle.host_model.specs.Ticking.{ticking_nodes}
 use Rattle.proof_alone.specs.State.{HostMachine}
 use Rattle.proof_alone.specs.Phases.{Phase, Resting, Asked, Risen, Ticking, Open, Behind, Sleeping, Submitting, GoesBy, Turns}
 use Rattle.proof_alone.specs.Runs.{Knowledge}
-use Rattle.proof_attempts.specs.Since.{InTick, IsNodeTick, Lasts, TicksAt, TicksLeft, is_to_tick}
+use Rattle.proof_attempts.proofs.Finishing.{Brings, frame_brings}
+use Rattle.proof_attempts.specs.Since.{AreNodeTicks, InTick, IsOfItem, Lasts, TicksAt, TicksLeft, is_to_tick}
 
 -- ---- the events that are left
 
-nodes_all : (nodes : List ℕ) → AllByRecursion IsNodeTick (map Node_ticks nodes)
-nodes_all [] = tt
-nodes_all (n ∷ nodes) = (tt, nodes_all nodes)
+-- of nodes up to a number each ticks once
+none_below : (p : ℕ → Bool) (from count n : ℕ) → n < from → is_to_tick n (map Node_ticks (filter p (range_with_len from count))) ≡ false
+none_below p from zero n below = refl
+none_below p from (suc count) n below = by (p from) (none_below p (from + 1) count n (omega (arith, below)))
+  where
+    by : (b : Bool) → is_to_tick n (map Node_ticks (filter p (range_with_len (from + 1) count))) ≡ false
+        → is_to_tick n (map Node_ticks (if b then from ∷ filter p (range_with_len (from + 1) count) else filter p (range_with_len (from + 1) count))) ≡ false
+    by true rest = ap (λ (b : Bool). b || is_to_tick n (map Node_ticks (filter p (range_with_len (from + 1) count)))) (ne_eqb from n (λ same. absurd (omega (arith, below, same)))) ∙ rest
+    by false rest = rest
 
-all_left : (h : HostState) (left : List HostEvent) → AllByRecursion IsNodeTick left → TicksLeft h left
+nodes_once : (p : ℕ → Bool) (from count : ℕ) → AreNodeTicks (map Node_ticks (filter p (range_with_len from count)))
+nodes_once p from zero = tt
+nodes_once p from (suc count) = by (p from) (nodes_once p (from + 1) count)
+  where
+    by : (b : Bool) → AreNodeTicks (map Node_ticks (filter p (range_with_len (from + 1) count)))
+        → AreNodeTicks (map Node_ticks (if b then from ∷ filter p (range_with_len (from + 1) count) else filter p (range_with_len (from + 1) count)))
+    by true rest = (none_below p (from + 1) count from (omega arith), rest)
+    by false rest = rest
+
+nodes_all : (h : HostState) → AreNodeTicks (map Node_ticks (ticking_nodes h))
+unfolding ticking_nodes
+nodes_all h = nodes_once (λ n. needs_tick (node_of h n)) 1 232
+
+all_left : (h : HostState) (left : List HostEvent) → AreNodeTicks left → TicksLeft h left
 all_left h [] all = tt
 all_left h (Node_ticks n ∷ left) all = all
-all_left h (event ∷ left) all = absurd all.0
+all_left h (event ∷ left) all = absurd all
 
-next_at : (next to : Phase) (h : HostState) → next ≡ to → TicksAt to h → TicksAt next h
-next_at next to h is at = subst (λ (p : Phase). TicksAt p h) (sym is) at
+-- ---- the events behind an item
 
-ticks_does : (here next : Phase) (h : HostState) (event : HostEvent) → GoesBy here h event next → TicksAt here h → TicksAt next (after h event)
-ticks_does (Ticking (Line_ticks ∷ left)) next h event goes at =
-    next_at next (Ticking left) (after h event) goes.1 (subst (λ (e : HostEvent). TicksLeft (after h e) left) (sym goes.0) (subst (λ (l : List HostEvent). TicksLeft (after h Line_ticks) l) (sym at) refl))
-ticks_does (Ticking (Requests_do told moment ∷ left)) next h event goes at =
-    next_at next (Ticking left) (after h event) goes.1
-    (subst (λ (l : List HostEvent). TicksLeft (after h event) l) (sym at) (all_left (after h event) _ (nodes_all (ticking_nodes (after h (Requests_do told moment))))))
-ticks_does (Ticking (Node_ticks n ∷ left)) next h event goes at = next_at next (Ticking left) (after h event) goes.1 (all_left (after h event) left at.1)
-ticks_does (Ticking (first ∷ left)) next h event goes at = absurd at.0
-ticks_does (Behind (first ∷ left)) next h event goes at = next_at next (Behind left) (after h event) goes.1 tt
-ticks_does Sleeping next h event (node, wants, is, to_is) at = next_at next Sleeping (after h event) to_is tt
-ticks_does Submitting next h event goes at = next_at next Submitting (after h event) goes.1 tt
-ticks_does here next h event goes at = absurd goes
+told_between : (told : Bool) (event : RequestsEvent) (events : List HostEvent) → events ≡ told_if told event → AllByRecursion IsOfItem events
+told_between true event events is = subst (λ (l : List HostEvent). AllByRecursion IsOfItem l) (sym is) (refl, tt)
+told_between false event events is = subst (λ (l : List HostEvent). AllByRecursion IsOfItem l) (sym is) tt
 
-ticks_turn : (here next : Phase) (m : HostMachine) → Turns here m next → TicksAt here m.state → TicksAt next m.state
-ticks_turn Resting next m is at = next_at next Open m.state is tt
-ticks_turn (Asked line) next m (inl (nothing, is)) at = next_at next Open m.state is tt
-ticks_turn (Asked line) next m (inr (ticks, line_is, is)) at = next_at next Resting m.state is tt
-ticks_turn Risen next m is at = next_at next (Ticking _) m.state is refl
-ticks_turn (Ticking []) next m is at = next_at next Open m.state is tt
+frame_between : (unit : List ℕ) (event : HostEvent) → Brings unit event → IsOfItem event
+frame_between unit Line_ticks brings = absurd brings
+frame_between unit (Node_ticks n) brings = absurd brings
+frame_between unit (Requests_do event moment) brings = brings
+frame_between unit (Accepts order carriage) brings = absurd brings
+frame_between unit (Begins n session command) brings = absurd brings
+frame_between unit event brings = tt
+
+followed_between : (h : HostState) (turn : Turn) (item : Item) (events : List HostEvent) → IsFollowed h turn item events → AllByRecursion IsOfItem events
+followed_between h turn (Good Ack) events is = told_between (is_busy turn) request_is_sent events is
+followed_between h turn (Good Nak) events is = told_between (gives_up turn h.side.turn) request_fails events is
+followed_between h turn (Good Can) events is = told_between (gives_up turn h.side.turn) request_fails events is
+followed_between h turn (Good (Framed f)) events is =
+    let unit : List ℕ = unit_text (Framed f) in all-weaker (Brings unit) IsOfItem (frame_between unit) events (frame_brings h f events is)
+followed_between h turn (Refused refusal) events is = subst (λ (l : List HostEvent). AllByRecursion IsOfItem l) (sym is) tt
+
+-- ---- at each phase
+
+next_at : (next to : Phase) (h : HostState) (clock : ℕ) → next ≡ to → TicksAt to h clock → TicksAt next h clock
+next_at next to h clock is at = subst (λ (p : Phase). TicksAt p h clock) (sym is) at
+
+ticks_does : (here next : Phase) (h : HostState) (clock : ℕ) (event : HostEvent) → GoesBy here h event next → TicksAt here h clock → TicksAt next (after h event) clock
+ticks_does (Ticking (Line_ticks ∷ left)) next h clock event goes at =
+    next_at next (Ticking left) (after h event) clock goes.1
+    (subst (λ (e : HostEvent). TicksLeft (after h e) left) (sym goes.0) (subst (λ (l : List HostEvent). TicksLeft (after h Line_ticks) l) (sym at.0) (refl, refl)), at.1)
+ticks_does (Ticking (Requests_do told moment ∷ left)) next h clock event goes at =
+    next_at next (Ticking left) (after h event) clock goes.1
+    (subst (λ (l : List HostEvent). TicksLeft (after h event) l) (sym at.0.1) (all_left (after h event) _ (nodes_all (after h (Requests_do told moment)))), at.1)
+ticks_does (Ticking (Node_ticks n ∷ left)) next h clock event goes at = next_at next (Ticking left) (after h event) clock goes.1 (all_left (after h event) left at.0.1, at.1)
+ticks_does (Ticking (first ∷ left)) next h clock event goes at = absurd at.0
+ticks_does (Behind (first ∷ left)) next h clock event goes at = next_at next (Behind left) (after h event) clock goes.1 at.1
+ticks_does Sleeping next h clock event (node, wants, is, to_is) at = next_at next Sleeping (after h event) clock to_is tt
+ticks_does Submitting next h clock event goes at = next_at next Submitting (after h event) clock goes.1 tt
+ticks_does here next h clock event goes at = absurd goes
+
+ticks_turn : (here next : Phase) (m : HostMachine) → Turns here m next → TicksAt here m.state m.clock → TicksAt next m.state m.clock
+ticks_turn Resting next m is at = next_at next Open m.state m.clock is tt
+ticks_turn (Asked line) next m (inl (nothing, is)) at = next_at next Open m.state m.clock is tt
+ticks_turn (Asked line) next m (inr (ticks, line_is, is)) at = next_at next Resting m.state m.clock is tt
+ticks_turn Risen next m is at = next_at next (Ticking _) m.state m.clock is (refl, at)
+ticks_turn (Ticking []) next m is at = next_at next Open m.state m.clock is tt
 ticks_turn (Ticking (event ∷ left)) next m is at = absurd is
-ticks_turn Open next m is at = next_at next Sleeping m.state is tt
-ticks_turn (Behind []) next m is at = next_at next Open m.state is tt
+ticks_turn Open next m is at = next_at next Sleeping m.state m.clock is tt
+ticks_turn (Behind []) next m is at = next_at next Open m.state m.clock is tt
 ticks_turn (Behind (event ∷ left)) next m is at = absurd is
-ticks_turn Sleeping next m is at = next_at next Submitting m.state is.1 tt
-ticks_turn Submitting next m is at = next_at next Resting m.state is.1 tt
+ticks_turn Sleeping next m is at = next_at next Submitting m.state m.clock is.1 tt
+ticks_turn Submitting next m is at = next_at next Resting m.state m.clock is.1 tt
 
 pub ticks_last : (Ground : Knowledge) → Lasts Ground InTick
 ticks_last Ground = record {
-  loose = λ here past told h clock all tie. tie;
-  said = λ past words h clock goes_on tie. tt;
-  refused = λ past words refusal h clock tie. tt;
-  asked = λ line past m event is may ground tie. tt;
-  starts = λ before words m state opens anew ground. tt;
+  loose = λ here at past told m all numbered ground tie. tie;
+  numbers = λ here past m other ground later tie. tie;
+  said = λ past words m none ground goes_on tie. tt;
+  refused = λ past words line refusal m none ground later tie. tt;
+  asked = λ line past m event is may numbered ground later tie. tt;
+  starts = λ before words m state opens anew ground later. tt;
   opens = λ past h clock tie. tt;
-  rises = λ past h clock tie. tt;
-  judges = λ past m item rest behind told now ground tie. tt;
-  does = λ here next past m event told may ground tie. ticks_does here next m.state event may.0 tie;
+  rises = λ past m ground tie. omega arith;
+  judges = λ past m item rest behind told now ground later tie. followed_between (after m.state (Hears item)) m.state.side.turn item behind now.followed;
+  does = λ here next past m event told may ground later tie. ticks_does here next m.state m.clock event may.0 tie;
   turn = λ here next past m other turns ground tie. ticks_turn here next m turns tie;
 }
 

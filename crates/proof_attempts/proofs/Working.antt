@@ -112,15 +112,16 @@ module _ (laws : Laws) where
 
   pub work_lasts : Lasts KnowsTables WorksInOrder
   work_lasts = record {
-    loose = λ here past told h clock all tie. tie;
-    said = λ past words h clock goes_on tie. tie;
-    refused = λ past words refusal h clock tie. (tie.0, tt);
-    asked = λ line past m event is may ground tie. (laws.each m.state event tie.0 (asked_done line m.state event is) may.0, tt);
-    starts = λ before words m state opens anew ground. (started m.keys m.records state ground.0.told opens, tt);
+    loose = λ here at past told m all numbered ground tie. tie;
+    numbers = λ here past m other ground later tie. tie;
+    said = λ past words m none ground goes_on tie. tie;
+    refused = λ past words line refusal m none ground later tie. (tie.0, tt);
+    asked = λ line past m event is may numbered ground later tie. (laws.each m.state event tie.0 (asked_done line m.state event is) may.0, tt);
+    starts = λ before words m state opens anew ground later. (started m.keys m.records state ground.0.told opens, tt);
     opens = λ past h clock tie. (tie.0, tt);
-    rises = λ past h clock tie. tie;
-    judges = λ past m item rest behind told now ground tie. (laws.each m.state (Hears item) tie.0 tt tt, behind_done m item rest behind told now);
-    does = λ here next past m event told may ground tie. does_work here next m.state event may.0 may.1.0 tie;
+    rises = λ past m ground tie. tie;
+    judges = λ past m item rest behind told now ground later tie. (laws.each m.state (Hears item) tie.0 tt tt, behind_done m item rest behind told now);
+    does = λ here next past m event told may ground later tie. does_work here next m.state event may.0 may.1.0 tie;
     turn = λ here next past m other turns ground tie. (tie.0, turn_work here next m other turns tie.0 tie.1);
   }
 

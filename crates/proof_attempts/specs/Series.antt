@@ -3,15 +3,20 @@
 -- the host is. So a node is looked at as its tick leaves that wait, at the time of the tick.
 use Rattle.std.specs.Prelude.{◌≡◌, ℕ, ◌+◌, ◌≤◌, ◌==◌, not, Bool, true, false, if◌then◌else◌, List, [], ◌∷◌}
 use Rattle.zw_text.specs.declared.entry.Entry.{Entry}
-use Rattle.law_transcript.specs.Commands.{waiting}
+use Rattle.zw_text.specs.Transcript.{accepted}
+use Rattle.law_transcript.specs.Commands.{numbers_of, waiting}
 use Rattle.law_time.specs.Requests.{are_none}
 use Rattle.law_time.specs.Sessions.{Series as SeriesTold, is_open, no_series, series_from, with_time}
 use Rattle.law_time.specs.Waking.{is_up}
 use Rattle.host_node.specs.State.{NodeState, has_waiting, is_idle, is_open as has_open, is_up as hears}
 use Rattle.host_node.specs.Steps.{after_again_tick, after_hold_tick}
 use Rattle.host_model.specs.State.{HostState, node_of}
+use Rattle.proof_host.specs.Laws.{numbers_for}
 use Rattle.proof_alone.specs.Phases.{Phase, Risen, Ticking}
-use Rattle.proof_attempts.specs.Since.{TieOf, is_to_tick}
+use Rattle.proof_alone.specs.Runs.{Knowledge, both_know}
+use Rattle.proof_attempts.specs.Since.{KnowsSince, TieOf, is_to_tick}
+use Rattle.proof_attempts.specs.Waiting.{WaitInOrder}
+use Rattle.proof_attempts.specs.Waking.{CountsAwake, KnowsHearing}
 
 -- ---- what the transcript tells
 
@@ -49,3 +54,16 @@ looked_at here h n = if is_ahead here n then again_ticked (node_of h n) else nod
 abbrev pub RunsAsTold : TieOf
 RunsAsTold here past h clock =
     (n : ℕ) → 1 ≤ n → n ≤ 232 → IsSeries (with_time n past clock (series_so_far n past)) (looked_at here h n) clock
+
+-- ---- on what ground
+
+-- the commands that were accepted for a node are those that its orders asked for
+abbrev pub KnowsNumbers : Knowledge
+KnowsNumbers here past m = (n : ℕ) → numbers_of (accepted n past) ≡ numbers_for n past
+
+-- with the work of the host and which nodes listen, which count as awake, and that none that is told that there is no more for it waits with a command
+abbrev pub KnowsKept : Knowledge
+KnowsKept = both_know KnowsHearing KnowsNumbers
+
+abbrev pub KnowsSeries : Knowledge
+KnowsSeries = both_know (both_know KnowsKept (KnowsSince CountsAwake)) (KnowsSince WaitInOrder)

@@ -1,20 +1,28 @@
 //! Which nodes a host counts as awake, its work, and the series of its attempts, by its transcript.
 //!
 //! A host alone (`proof_alone`) tells where a node wakes and falls asleep. So each node counts as awake by its transcript as it does in the host
-//! (`hosts_count_awake`), and is held no longer than by it (`hosts_hold_as_told`). Its work is in order at each step, and where it rests nothing that is due
-//! lacks its request (`hosts_work_in_order`). The last session of a node is open by the transcript as in the host (`hosts_show_open_sessions`); a series of
-//! attempts grows by entries (`series_grow_by_entries`) as it goes in the host (`series_go_with_nodes`, `series_go_with_ticks`).
+//! (`hosts_count_awake`), and is held as long as by it, where each node listens by it as there (`hosts_hold_as_told`); then one is held where the report that
+//! ends its session asks so, and wherever it does (`hosts_hold_as_asked`). Its work is in order at each step, and where it rests nothing that is due lacks
+//! its request (`hosts_work_in_order`); a node that is told that there is no more for it waits for no other attempts with a command
+//! (`hosts_tell_those_that_wait_for_nothing`). The last session of a node is open by the transcript as in the host (`hosts_show_open_sessions`); a series of
+//! attempts grows by entries (`series_grow_by_entries`) as it goes in the host (`series_go_with_nodes`, `series_go_with_ticks`), so each series runs by the
+//! transcript as in the host along each run (`hosts_run_series_as_told`).
 //! The definitions are in `specs/`: `Since` (what a tie of transcript and host owes to last, from where the host started, and how far a node has come in a
-//! tick), `Waking`, `Working` and `Series`. `proofs/Lasting` has what each tie that pays gets: a walk over all runs. `Ahead` has folds that look ahead,
-//! `Nodes`, `Counting`, `Ticking` and `Holding` are of waking, `Working` of work, `Opening` and `SeriesSteps` of sessions and series.
+//! tick), `Waking`, `Kept`, `Working`, `Waiting` and `Series`. `proofs/Lasting` has what each tie that pays gets: a walk over all runs. `Ahead` has folds that
+//! look ahead, `Nodes`, `Releasing`, `Counting`, `Telling`, `Ticking` and `Holding` are of waking, `Finishing` and `KeptAwake` of what a report asks,
+//! `Working` of work, `Doings` of what an event does to each node; `Opening`, `SeriesSteps`, `SeriesTold` (by the entries of an event), `SeriesGoes` (in the
+//! host) and `SeriesTie` are of sessions and series.
 #![tactic(auto)]
 
+mod holds;
 mod series;
 mod waking;
 mod work;
 
+pub use holds::hosts_hold_as_asked;
 pub use series::{
-    hosts_show_open_sessions, series_go_with_nodes, series_go_with_ticks, series_grow_by_entries,
+    hosts_run_series_as_told, hosts_show_open_sessions, series_go_with_nodes, series_go_with_ticks,
+    series_grow_by_entries,
 };
 pub use waking::{hosts_count_awake, hosts_hold_as_told};
-pub use work::hosts_work_in_order;
+pub use work::{hosts_tell_those_that_wait_for_nothing, hosts_work_in_order};

@@ -1,6 +1,6 @@
 //! The last session of a node and the series of its attempts, by the transcript and in a host.
 
-ghost use Rattle.std.specs.Prelude.{◌≡◌, ◌≤◌, ◌+◌, ◌++◌, false, true, List, [], ◌∷◌, ℕ};
+ghost use Rattle.std.specs.Prelude.{◌≡◌, ◌≤◌, ◌+◌, ◌++◌, not, false, true, Some, List, [], ◌∷◌, ℕ};
 ghost use Rattle.zw_text.specs.declared.entry.Ended.TheVariants as endings;
 ghost use Rattle.zw_text.specs.declared.entry.Entry.{Entry};
 ghost use Rattle.zw_text.specs.declared.entry.Entry.TheVariants.{Said};
@@ -17,6 +17,7 @@ ghost use Rattle.law_time.specs.Sessions.{
   last_command,
   new_series,
   no_series,
+  runs,
   series_by_end,
   series_step,
   with_occasion,
@@ -38,13 +39,26 @@ ghost use Rattle.host_node.specs.Steps.{
 };
 ghost use Rattle.host_model.specs.State.{HostState, first_host, node_of};
 ghost use Rattle.s0_crypto.specs.declared.key_pair.Keys.{Keys};
-ghost use Rattle.proof_alone.specs.State.{HostMachine};
+ghost use Rattle.proof_alone.specs.State.{HostMachine, first_alone};
 ghost use Rattle.proof_alone.specs.Phases.{Phase, Resting, Risen, Turns};
-ghost use Rattle.proof_attempts.specs.Since.{IsElse};
+ghost use Rattle.proof_alone.specs.Runs.{Run, Walk, both_know};
+ghost use Rattle.proof_walk.specs.Time.{MayCount};
+ghost use Rattle.proof_attempts.specs.Since.{IsElse, KnowsSince};
+ghost use Rattle.proof_attempts.specs.Waking.{KnowsListening};
 ghost use Rattle.proof_host.specs.Facts.{Facts};
 ghost use Rattle.proof_host.specs.Laws.{numbers_for};
 ghost use Rattle.proof_waking.proofs.Apart.{IsWordless};
-ghost use Rattle.proof_attempts.specs.Series.{IsSeries, NodeAsTold, RunsAsTold, again_ticked, series_so_far};
+ghost use Rattle.proof_attempts.specs.Series.{
+  IsSeries,
+  KnowsKept,
+  KnowsSeries,
+  NodeAsTold,
+  RunsAsTold,
+  again_ticked,
+  series_so_far,
+};
+
+use crate::waking::hosts_hold_as_told;
 
 /// The last session of a node by the transcript is that of its book in the host, and it is open as there. The commands that wait for it are those in the
 /// host, where those that were accepted for it are those that its orders asked for; so where it listens and is awake as there, it is as it is told.
@@ -97,3 +111,15 @@ pub fn series_go_with_ticks()
     ensures turns { (here next : Phase) (past : List Entry) (m : HostMachine) → IsElse here → Turns here m next →
         RunsAsTold here past m.state m.clock → RunsAsTold next past m.state m.clock }
 {}
+
+/// In any run of a host alone, over what tells which nodes listen and which orders the commands of each node were accepted for, a series of attempts runs by
+/// the transcript where it is due or runs in the host, and another one may be due by it as many ticks from now as the host waits for that. Where the host
+/// rests the law that judges how attempts may start judges by the series that it runs.
+pub fn hosts_run_series_as_told()
+    ensures walk { Walk MayCount KnowsKept → Walk MayCount (both_know KnowsSeries (KnowsSince RunsAsTold)) }
+    ensures rests { Walk MayCount KnowsKept → (keys : Keys) (told : List Entry) (m : HostMachine) →
+        KnowsListening Resting [] (first_alone keys (Some [])) → Run (first_alone keys (Some [])) Resting told m →
+        (n : ℕ) → 1 ≤ n → n ≤ 232 → runs n told m.clock ≡ not (is_idle (node_of m.state n).series) }
+{
+    hosts_hold_as_told();
+}

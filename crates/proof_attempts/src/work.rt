@@ -3,7 +3,9 @@
 ghost use Rattle.std.specs.Prelude.{Some, List, [], ℕ};
 ghost use Rattle.s0_crypto.specs.declared.key_pair.Keys.{Keys};
 ghost use Rattle.zw_text.specs.declared.entry.Entry.{Entry};
+ghost use Rattle.host_model.specs.State.{first_host};
 ghost use Rattle.proof_host.specs.Laws.{MayStand};
+ghost use Rattle.proof_walk.specs.Time.{MayCount};
 ghost use Rattle.proof_alone.specs.State.{HostMachine, first_alone};
 ghost use Rattle.proof_alone.specs.Phases.{Phase, Resting};
 ghost use Rattle.proof_alone.specs.Runs.{Run, Walk, both_know};
@@ -11,6 +13,8 @@ ghost use Rattle.proof_alone.specs.Tables.{KnowsTables};
 ghost use Rattle.proof_work.specs.Rests.{IsTended};
 ghost use Rattle.proof_work.specs.Work.{HostWork};
 ghost use Rattle.proof_attempts.specs.Since.{KnowsSince};
+ghost use Rattle.proof_attempts.specs.Waiting.{WaitInOrder};
+ghost use Rattle.proof_attempts.specs.Waking.{KnowsWork};
 ghost use Rattle.proof_attempts.specs.Working.{WorksInOrder};
 
 use proof_alone::hosts_keep_their_tables;
@@ -33,3 +37,9 @@ pub fn hosts_work_in_order()
     turns_of_a_pump_leave_nothing();
     hosts_are_tended();
 }
+
+/// In such a run, while a node is told that there is no more for it, it waits for no other series of attempts, or no command waits for it.
+pub fn hosts_tell_those_that_wait_for_nothing()
+    ensures walk { Walk MayCount KnowsWork → Walk MayCount (both_know KnowsWork (KnowsSince WaitInOrder)) }
+    ensures first { (keys : Keys) → WaitInOrder Resting [] (first_host keys) 0 }
+{}

@@ -1,5 +1,8 @@
 pub mod Serving
+pub mod Bringing
+pub mod WorkedBringing
 pub mod Knowing
 pub mod Sending
 pub mod Calling
+pub mod Tally
 pub mod Served

@@ -47,7 +47,7 @@ use Rattle.proof_alone.specs.Runs.{Run}
 use Rattle.proof_alone.specs.Runs.Run.{Stepped, Turned}
 use Rattle.proof_alone.proofs.InOrder.{asked_puts, is_asked}
 use Rattle.proof_alone.proofs.Hosting.{items_run, kept, pump_run, tick_and_pump}
-use Rattle.proof_replay.specs.Heard.{AreReplayed, IsRun, Replayed, came_of, heard_all, heard_at, heard_of, plain_of}
+use Rattle.proof_replay.specs.Heard.{AreReplayed, IsRun, Replayed, came_of, heard_all, heard_at, heard_of, lone_after, plain_of}
 use Rattle.proof_replay.proofs.Putting.{alone_at, alone_enters, alone_next, alone_put, clock_at, in_tick, untimed}
 
 -- ---- lists of events
@@ -306,10 +306,10 @@ module _ (start : HostMachine) (keys : Keys) (Beside : Option (List (List ℕ)) 
                 (take_goes bytes (past ++ words) m first taking (may_first m first rest both) (rests.1.0, rests.1.1, Stepped (step.Says_nothing said.words) (refl, refl, read, refl) refl refl rests.1.2))),
           )
 
-  pub all_go : (past : List Entry) (m : Lone) (lines : List Replayed) → AreReplayed m lines → Rests 0 past m → (last : Lone) × Rests 0 (past ++ heard_of m lines) last
-  all_go past m [] are rests = (m, subst (λ (l : List Entry). Rests 0 l m) (sym (append-nil past)) rests)
+  pub all_go : (past : List Entry) (m : Lone) (lines : List Replayed) → AreReplayed m lines → Rests 0 past m → Rests 0 (past ++ heard_of m lines) (lone_after m lines)
+  all_go past m [] are rests = subst (λ (l : List Entry). Rests 0 l m) (sym (append-nil past)) rests
   all_go past m (said ∷ more) are rests =
       let one : List Entry = entry.Said said.words ∷ heard_all m said.events in
       let later : Lone = happens_all m said.events in
-      let all = all_go (past ++ one) later more are.1 (line_goes past m said are.0 rests) in
-      (all.0, subst (λ (l : List Entry). Rests 0 l all.0) (append_assoc past one (heard_of later more)) all.1)
+      subst (λ (l : List Entry). Rests 0 l (lone_after later more)) (append_assoc past one (heard_of later more))
+      (all_go (past ++ one) later more are.1 (line_goes past m said are.0 rests))

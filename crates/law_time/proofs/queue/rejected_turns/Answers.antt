@@ -11,7 +11,7 @@ use Rattle.law_time.specs.WrongEntries.{sent_after_end}
 use Rattle.law_time.proofs.Computing.{computing}
 use Rattle.law_transcript.proofs.Deciding.{broken}
 use Rattle.law_time.proofs.queue.rejected_turns.Goals as goal
-use Rattle.law_time.specs.WrongTurns.{asked_over_restart, probed_out_of_turn, reported_unkept, resent_beyond, resent_inside, resent_of_other, resent_of_plain, resent_when_ended, sent_again, sent_asleep, sent_by_other_command, sent_by_other_waking, sent_by_refused_restart, sent_fifth, sent_for_nothing, sent_in_time, sent_over_restart, sent_refused, sent_to_other, sent_too_soon, sent_when_ended, told_asleep, told_listening, told_out_of_turn, told_unjoined, told_unknown, told_while_held, aborted_early}
+use Rattle.law_time.specs.WrongTurns.{asked_over_restart, probed_out_of_turn, reported_unkept, resent_beyond, resent_inside, resent_of_other, resent_of_plain, resent_when_ended, sent_again, sent_asleep, sent_by_other_command, sent_by_other_waking, sent_by_refused_restart, sent_fifth, sent_for_nothing, sent_in_time, sent_over_restart, sent_refused, sent_to_other, sent_too_soon, sent_when_ended, told_asleep, told_listening, told_out_of_turn, told_though_held, told_unjoined, told_unknown, told_while_held, aborted_early}
 
 pub returns-clause-out_of_turn : goal.returns-clause-out_of_turn
 unfolding computing
@@ -124,6 +124,10 @@ returns-clause-listening c = broken (may_send (heeds_of (the_switch ∷ []))) to
 pub returns-clause-held : goal.returns-clause-held
 unfolding computing
 returns-clause-held c = broken (may_send (heeds_of (the_switch ∷ []))) told_while_held refl
+
+pub returns-clause-though_held : goal.returns-clause-though_held
+unfolding computing
+returns-clause-though_held c = broken (may_send (heeds_of (the_switch ∷ []))) told_though_held refl
 
 pub returns-clause-told_out_of_turn : goal.returns-clause-told_out_of_turn
 unfolding computing

@@ -9,7 +9,7 @@ use Rattle.law_time.proofs.Computing.{computing}
 use Rattle.law_transcript.proofs.Deciding.{kept}
 use Rattle.law_time.proofs.queue.worked_turns.Goals as goal
 use Rattle.law_time.specs.WorkedEnds.{aborted_at_fourth}
-use Rattle.law_time.specs.WorkedTurns.{again_after_cancelled, again_by_command, again_by_restart, again_by_waking, again_in_time, asked_after_abort, asked_after_unkept, asked_over_refused, asked_without_abort, discovered, first_resent, nonce_reported, probed, reported_beside_unkept, second_resent, told_again, told_awake, told_by_number, told_by_time, told_held, told_once, told_twice, told_as_numbered, told_by_time_as_numbered, copied_after_overrun, asked_after_interview}
+use Rattle.law_time.specs.WorkedTurns.{again_after_cancelled, again_by_command, again_by_restart, again_by_waking, again_in_time, asked_after_abort, asked_after_unkept, asked_over_refused, asked_without_abort, discovered, first_resent, nonce_reported, probed, reported_beside_unkept, second_resent, told_again, told_awake, told_by_number, told_by_time, told_held, told_unheld, told_once, told_twice, told_as_numbered, told_by_time_as_numbered, copied_after_overrun, asked_after_interview}
 
 pub returns-clause-lines : goal.returns-clause-lines
 unfolding computing
@@ -130,6 +130,10 @@ returns-clause-told_held c = kept (may_send (heeds_of (the_switch ∷ []))) told
 pub returns-clause-told_again : goal.returns-clause-told_again
 unfolding computing
 returns-clause-told_again c = kept (may_send (heeds_of (the_switch ∷ []))) told_again refl
+
+pub returns-clause-unheld : goal.returns-clause-unheld
+unfolding computing
+returns-clause-unheld c = kept (may_send (heeds_of (the_switch ∷ []))) told_unheld refl
 
 pub returns-clause-told_by_number : goal.returns-clause-told_by_number
 unfolding computing

@@ -3,15 +3,15 @@ use Rattle.std.proofs.Common.{[]}
 use Rattle.proof_host.specs.Laws.{MayStand}
 use Rattle.proof_alone.specs.Runs.{both_know}
 use Rattle.proof_alone.specs.Tables.{KnowsTables}
-use Rattle.proof_alone.proofs.Running.{over, run_keeps}
+use Rattle.proof_alone.proofs.Running.{run_keeps}
 use Rattle.proof_attempts.specs.Since.{KnowsSince}
 use Rattle.proof_attempts.specs.Waking.{CountsAwake}
 use Rattle.proof_attempts.proofs.Counting.{awake_lasts, first_awake}
-use Rattle.proof_attempts.proofs.Lasting.{since_walk}
+use Rattle.proof_attempts.proofs.Lasting.{over_both, since_walk}
 use Rattle.proof_attempts.proofs.waking.hosts_count_awake.Goals as goal
 
 pub returns-clause-walk : goal.returns-clause-walk
-returns-clause-walk c = over KnowsTables MayStand MayStand (KnowsSince CountsAwake) c.hosts_keep_their_tables.ensures.walk (since_walk CountsAwake KnowsTables MayStand awake_lasts)
+returns-clause-walk c = over_both MayStand KnowsTables (KnowsSince CountsAwake) c.hosts_keep_their_tables.ensures.walk (since_walk CountsAwake KnowsTables awake_lasts)
 
 pub returns-clause-first : goal.returns-clause-first
 returns-clause-first c = λ keys. (c.hosts_keep_their_tables.ensures.first keys, first_awake keys)

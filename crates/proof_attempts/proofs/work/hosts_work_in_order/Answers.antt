@@ -3,17 +3,17 @@ use Rattle.std.proofs.Common.{[]}
 use Rattle.proof_host.specs.Laws.{MayStand}
 use Rattle.proof_alone.specs.Runs.{both_know}
 use Rattle.proof_alone.specs.Tables.{KnowsTables}
-use Rattle.proof_alone.proofs.Running.{over, run_keeps}
+use Rattle.proof_alone.proofs.Running.{run_keeps}
 use Rattle.proof_attempts.specs.Since.{KnowsSince}
 use Rattle.proof_attempts.specs.Working.{WorksInOrder}
-use Rattle.proof_attempts.proofs.Lasting.{since_walk}
+use Rattle.proof_attempts.proofs.Lasting.{over_both, since_walk}
 use Rattle.proof_attempts.proofs.Working.{in_order, work_lasts}
 use Rattle.proof_attempts.proofs.work.hosts_work_in_order.Goals as goal
 
 pub returns-clause-walk : goal.returns-clause-walk
 returns-clause-walk c =
-    over KnowsTables MayStand MayStand (KnowsSince WorksInOrder) c.hosts_keep_their_tables.ensures.walk
-    (since_walk WorksInOrder KnowsTables MayStand (work_lasts (record {
+    over_both MayStand KnowsTables (KnowsSince WorksInOrder) c.hosts_keep_their_tables.ensures.walk
+    (since_walk WorksInOrder KnowsTables (work_lasts (record {
       each = c.hosts_keep_their_work.ensures.each;
       opens = c.hosts_keep_their_work.ensures.opened;
       items = c.hosts_do_these.ensures.items;
