@@ -4,5 +4,4 @@ pub mod WorkedBringing
 pub mod Knowing
 pub mod Sending
 pub mod Calling
-pub mod Tally
 pub mod Served

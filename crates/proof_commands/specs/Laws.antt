@@ -41,6 +41,7 @@ use Rattle.law_host.specs.Legal.{DevicesDid, IsLegalOnAir}
 use Rattle.law_wire.specs.Routes.{GoesByRoute}
 use Rattle.law_wire.specs.Shown.{ShowsDevices}
 use Rattle.law_wire.specs.Times.{TellsTime}
+use Rattle.law_time.specs.Questions.{AnswersQuestions}
 use Rattle.law_time.specs.Waking.{WakesAsTold}
 use Rattle.law_host.specs.Heard.{heard_by_host}
 use Rattle.law_host.specs.HostLegal.{ShowsValues}
@@ -375,6 +376,10 @@ ClearsNothingElse key old new = AlwaysOf key old new (λ story. (whole : Bool) �
 abbrev pub WakesNodes : List ℕ → Around → Around → Type 0
 WakesNodes key old new = AlwaysOf key old new (λ story. TellsAtRestarts old story → WakesAsTold (transcript key old story))
 
+-- the neighbours of a node, and whether it has failed, stand where the first response to the last request was judged, and wherever it was
+abbrev pub TellsWhatIsAsked : List ℕ → Around → Around → Type 0
+TellsWhatIsAsked key old new = AlwaysOf key old new (λ story. TellsAtRestarts old story → AnswersQuestions (transcript key old story))
+
 -- and over all that its host heard, with what it knows of nodes by their interviews, it keeps the laws of hosts: those of records of what a new keeper would hold
 abbrev pub kept_anew : List ℕ → Around → List Ran → Option (List (List ℕ))
 kept_anew key old story = (happens_all (first_machine (keys_of key) (Some []) old.devices) (events_of story)).records
@@ -430,6 +435,7 @@ pub record KeepsHostLaws (key : List ℕ) (old new : Around) : Type 0 where
   pub records : KeepsWhatIsShown key old new
   pub sends : SendsAsDue key old new
   pub wakes : WakesNodes key old new
+  pub questions : TellsWhatIsAsked key old new
   pub heard : HearsAsHosts key old new
 
 -- what the devices do

@@ -47,6 +47,7 @@ ghost use Rattle.proof_commands.specs.Laws.{
   StoresValues,
   StoriesKeepLaws,
   TakesBackWhenAsked,
+  TellsWhatIsAsked,
   WakesNodes,
   WritesSessions,
 };
@@ -73,6 +74,7 @@ use proof_devices::{devices_did, lines_meet_what_is_due, lines_repeat_what_is_as
 use proof_host::{asides_keep_facts, laws_follow};
 use proof_replay::known::waking::lines_wake_as_told;
 use proof_replay::lines_that_ran_are_heard;
+use proof_requests::lines_answer_questions;
 use proof_sending::line::{
     lines_clear_at_restarts, lines_clear_nowhere_else, lines_clear_the_line,
     lines_collide_when_asked, lines_keep_links, lines_mark_units, lines_overrun_only_when_full,
@@ -99,6 +101,7 @@ pub fn every_story_keeps_laws()
     stories_air_what_is_taken();
     stories_send_what_is_due();
     stories_wake_as_told();
+    stories_answer_questions();
     stories_are_heard();
     stories_do_as_shown();
 }
@@ -259,6 +262,14 @@ fn stories_wake_as_told()
 {
     lines_are_read_as_said();
     lines_wake_as_told();
+}
+
+/// Questions are answered in lines that were said.
+fn stories_answer_questions()
+    ensures { (key : List ℕ) (old new : Around) → TellsWhatIsAsked key old new }
+{
+    lines_are_read_as_said();
+    lines_answer_questions();
 }
 
 /// Over what their hosts heard of lines that were said, stories keep the laws of hosts.

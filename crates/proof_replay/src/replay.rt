@@ -23,6 +23,7 @@ use proof_known::waking::hosts_wake_as_told;
 use proof_known::{
     hosts_do_as_is_said, hosts_note_at_once, hosts_note_values_in_turn, hosts_note_what_was_told,
 };
+use proof_requests::hosts_answer_questions;
 
 /// Of any lines that are run whole, over any bytes and any keeper, what the host of `replay` heard is told by a run of a host alone that began without
 /// records and ends at rest. No line reads the records, so those of that run are added to what the keeper had.
@@ -45,6 +46,7 @@ pub fn hosts_keep_laws()
     hosts_tell_time();
     hosts_wake_as_told();
     hosts_send_what_is_due();
+    hosts_answer_questions();
 }
 
 /// So the host of `replay` keeps them over what it heard of any texts that were run whole, each of which is read as its line by its words too, whatever its

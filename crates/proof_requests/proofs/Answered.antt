@@ -33,6 +33,7 @@ use Rattle.host_requests.specs.Next.{at_response, is_answered, judged as judged_
 use Rattle.host_requests.specs.declared.end.How.{How}
 use Rattle.host_requests.specs.declared.next.Next.{Next}
 use Rattle.host_requests.specs.declared.next.Next.TheVariants.{Ends, GoesOn}
+use Rattle.host_requests.specs.declared.under_way.Progress.{Progress}
 use Rattle.host_requests.specs.declared.under_way.UnderWay.{UnderWay}
 use Rattle.proof_alone.specs.Steps.{IsOfUnit}
 use Rattle.proof_waking.specs.Judged.{TieFrames}
@@ -56,7 +57,7 @@ use Rattle.proof_requests.proofs.Walking.{marks_quiet}
 
 -- ---- what the host makes of a response
 
-cannot_end : (progress : _) (how : How) → GoesOn progress ≡ Ends how → ⊥
+pub cannot_end : (progress : Progress) (how : How) → GoesOn progress ≡ Ends how → ⊥
 cannot_end progress how is = cc
 
 -- it ends a request of its function alone

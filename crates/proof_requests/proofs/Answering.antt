@@ -66,7 +66,7 @@ use Rattle.proof_waking.proofs.Followed.{FollowersAre, payload_all}
 use Rattle.proof_requests.specs.Asking.{TieAsked, doing_of}
 use Rattle.proof_requests.specs.Walking.{Ground, KnowsAsked}
 use Rattle.proof_requests.specs.Questions.{AnswersBy, AnswersNext, AnswersNone, AnswersSo, KnowsAnswers, OwesNone, TellsNoAnswer}
-use Rattle.proof_requests.proofs.Answered.{ends_its_own, frame_here, no_response, notice_unread, response_judged, response_read}
+use Rattle.proof_requests.proofs.Answered.{cannot_end, ends_its_own, frame_here, no_response, notice_unread, response_judged, response_read}
 use Rattle.proof_requests.proofs.Questions.{AreQuiet, Breaks, breaks_after, IsAsking, IsPlain, OutQuiet, end_plain, event_quiet_out, marks_allowed, noted_quiet, other_allowed, owes_after, owes_unasked, quiet_go, quiet_told}
 use Rattle.proof_requests.proofs.Stepping.{not_awaiting, time_told}
 
@@ -100,9 +100,6 @@ record IsFailing (r : Response) (how : How) : Type 0 where
   failed : Bool
   is : r ≡ responses.IsFailedNode failed
   ends : how ≡ AtResponse (responses.IsFailedNode failed)
-
-cannot_end : (progress : Progress) (how : How) → GoesOn progress ≡ Ends how → ⊥
-cannot_end progress how is = cc
 
 ends_so : (answered : Bool) (r : Response) (progress : Progress) (how : How) → (if answered || false then GoesOn progress else Ends (AtResponse r)) ≡ Ends how → how ≡ AtResponse r
 ends_so true r progress how is = absurd (cannot_end progress how is)

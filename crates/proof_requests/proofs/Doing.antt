@@ -9,7 +9,6 @@ use Rattle.host_requests.specs.declared.task.Task.{Task}
 use Rattle.host_requests.specs.declared.task.Task.TheVariants.{NoMore, Offer}
 use Rattle.host_requests.specs.declared.task.Purpose.{Purpose}
 use Rattle.host_requests.specs.declared.task.Purpose.TheVariants.{Housekeeping, Attempt, Abort}
-use Rattle.host_requests.specs.Events.{RequestsEvent}
 use Rattle.host_requests.specs.State.{RequestsState}
 use Rattle.host_requests.specs.Events as requests
 use Rattle.host_node.specs.Events.NodeEvent.{Ticks as node_ticks}

@@ -13,11 +13,14 @@
 //! `Saying` has frames of the chip as text and as what the host makes of them; `OnLine` and `Moving` what happens to a host, `Doing` and `Events` its events,
 //! `Telling` the entries, `Walking` and `Stepping` the walk, and `Ending` what follows. Of its ground `Came` has the units that came,
 //! `Spelled` requests as they are read, `Queued` and `Queueing` those that wait, and `Grounds` all of it. `Brought` has what an interview is told,
-//! and `Listening` what it says. `Answered` has what a response that is judged answers, `Questions` entries that are no answer, and `Answering` the walk over them.
+//! and `Listening` what it says. `Answered` has what a response that is judged answers, `Questions` entries that are no answer, and `Answering` the walk over
+//! them.
 #![tactic(auto)]
 
 mod asking;
 mod entries;
 
-pub use asking::{hosts_answer_questions, hosts_ask_as_told, hosts_listen_as_told};
+pub use asking::{
+    hosts_answer_questions, hosts_ask_as_told, hosts_listen_as_told, lines_answer_questions,
+};
 pub use entries::requests_stand_by_entries;
