@@ -24,6 +24,7 @@ must take it; where memory, a read or a write failed, it is a prefix of the file
 """
 import argparse
 import collections
+import importlib.util
 import itertools
 import os
 import subprocess
@@ -40,8 +41,6 @@ NO_MEMORY, READ_FAULT, WRITE_FAULT, UNDONE, KEEPER_FAULT = 6, 4, 5, 9, 10
 KINDS = ("memory", "read", "write", "keep")
 # the rows of records that are asked for (docs/RECORDS.md)
 ROW_COMMAND, ROW_BEGIN, ROW_END, SUCCESS = 1, 4, 5, 255
-# what begins a unit (docs/SERIAL.md)
-START, SINGLE = 0x01, (0x06, 0x15, 0x18)
 STATUS = {"memory": NO_MEMORY, "read": READ_FAULT, "write": WRITE_FAULT}
 # name: words, the input (a file of the repository, or what another run wrote) and the most bytes of a read
 RUNS = {
@@ -59,17 +58,12 @@ ALONE, ON, SHORT = "", ", and all later ones", ", one byte"
 Ended = collections.namedtuple("Ended", "status out said kept")
 
 
-def are_units(written):
-    """Whether these bytes are whole units of the Serial API: acknowledgements of one byte, and frames."""
-    at = 0
-    while at < len(written):
-        if written[at] in SINGLE:
-            at += 1
-        elif written[at] == START and at + 1 < len(written):
-            at += 2 + written[at + 1]
-        else:
-            return False
-    return at == len(written)
+def hostile():
+    """The script that knows the units of a host."""
+    where = importlib.util.spec_from_file_location("hostile", os.path.join(TOP, "bench", "hostile", "run.py"))
+    made = importlib.util.module_from_spec(where)
+    where.loader.exec_module(made)
+    return made
 
 
 def are_done(kept):
@@ -87,7 +81,7 @@ class Faults:
         self.options, self.folder = options, folder
         self.library, self.records, self.sums, self.copies = (os.path.join(folder, name) for name in ("fail.so", "records", "sums", "copies"))
         subprocess.run(["cc", "-O2", "-shared", "-fPIC", "-o", self.library, os.path.join(HERE, "fail.c")], check=True)
-        self.judged, self.wrong = {}, 0
+        self.judged, self.wrong, self.fault_of_units = {}, 0, hostile().fault_of_units
 
     def call(self, words, data, records=None, seconds=120, **faults):
         """Runs the program; each word of `faults` is a variable of fail.c."""
@@ -134,8 +128,8 @@ class Faults:
             return f"{ended.status} in place of {STATUS[kind]}, said {ended.said!r}"
         if not base.out.startswith(ended.out) or name != "host" and ended.out and not ended.out.endswith(b"\n"):
             return "what was written is no prefix of what is written without a fault"
-        if kind == "memory" and name == "host" and not are_units(ended.out):
-            return "a unit was written in part"
+        if kind == "memory" and name == "host" and self.fault_of_units(ended.out):
+            return self.fault_of_units(ended.out)
         if kind == "read" and name not in ("host", "audit", "check"):
             read = data[:(at - 1) * RUNS[name][2]]
             lines = [line for line in read[:read.rfind(b"\n") + 1].split(b"\n") if line.split() and line[:1] != b"#"]
