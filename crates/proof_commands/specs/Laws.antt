@@ -352,7 +352,7 @@ abbrev pub KeepsBothLinks : List ℕ → Around → Around → Type 0
 KeepsBothLinks key old new = AlwaysOf key old new
     (λ story. TellsAtRestarts old story → (whole : Bool) → (whole ≡ true → AreSchedules (first key old) story) → KeepsLinks whole (transcript key old story))
 
--- by what the chip's link did, the controller puts on the air just what it takes, each frame by the least route of its table
+-- by what the chip's link did, the controller puts on the air just what it takes, each frame by the least route of its table, and brings the host what was heard in order, each once
 abbrev pub AirsAsTaken : List ℕ → Around → Around → Type 0
 AirsAsTaken key old new = AlwaysOf key old new
     (λ story. TellsAtRestarts old story → (whole : Bool) → (whole ≡ true → AreSchedules (first key old) story) → AirsByLink whole old.devices (transcript key old story))
