@@ -25,7 +25,7 @@ one_number n before past (entry.Accepted command node) same (order, is, node_is)
     (subst (λ (m : ℕ). numbers_of (accepted_at n (lines.Command order ∷ []) (entry.Accepted command m)) ≡ number_for n (entry.Accepted command m)) node_is (of_node command order (order.node == n)))
 one_number n before past e same ordered = refl
 
-numbers_from : (n : ℕ) (so_far : Accepting) (past told : List Entry) → so_far.line ≡ line_last past → EachAfter AsOrdered past told
+pub numbers_from : (n : ℕ) (so_far : Accepting) (past told : List Entry) → so_far.line ≡ line_last past → EachAfter AsOrdered past told
     → numbers_of (folded (accepting n) so_far told).commands ≡ numbers_of so_far.commands ++ numbers_for n told
 numbers_from n so_far past [] same ordered = sym (append-nil (numbers_of so_far.commands))
 numbers_from n so_far past (e ∷ told) same ordered =

@@ -14,5 +14,5 @@ pub mod Apart
 mod Timing
 pub mod InOrder
 pub mod Tabling
-mod Answering
-mod Carrying
+pub mod Answering
+pub mod Carrying

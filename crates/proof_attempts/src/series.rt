@@ -49,7 +49,6 @@ ghost use Rattle.proof_host.specs.Laws.{numbers_for};
 ghost use Rattle.proof_waking.proofs.Apart.{IsWordless};
 ghost use Rattle.proof_attempts.specs.Series.{
   IsSeries,
-  KnowsNumbers,
   NodeAsTold,
   RunsAsTold,
   again_ticked,
@@ -58,6 +57,7 @@ ghost use Rattle.proof_attempts.specs.Series.{
 
 use crate::waking::hosts_count_awake;
 use crate::work::{hosts_know_their_work, hosts_tell_those_that_wait_for_nothing};
+use proof_alone::hosts_keep_their_tables;
 
 /// The last session of a node by the transcript is that of its book in the host, and it is open as there. The commands that wait for it are those in the
 /// host, where those that were accepted for it are those that its orders asked for; so where it listens and is awake as there, it is as it is told.
@@ -112,14 +112,14 @@ pub fn series_go_with_ticks()
 {}
 
 /// In any run of a host alone, over a keeper that tells its records and has none at first, where along such runs each node listens by the transcript as it
-/// does in the host, and the commands that were accepted for it are those that its orders asked for: a series of attempts runs by the transcript where it is
-/// due or runs in the host, and another one may be due by it as many ticks from now as the host waits for that. So where the host rests `runs` of `law_time`
-/// says which series the host runs.
+/// does in the host: a series of attempts runs by the transcript where it is due or runs in the host, and another one may be due by it as many ticks from now
+/// as the host waits for that. So where the host rests `runs` of `law_time` says which series the host runs.
 pub fn hosts_run_series_as_told()
-    ensures along { (keys : Keys) → AlongRuns keys KnowsListening → AlongRuns keys KnowsNumbers → AlongRuns keys (KnowsSince RunsAsTold) }
-    ensures rests { (keys : Keys) → AlongRuns keys KnowsListening → AlongRuns keys KnowsNumbers → (told : List Entry) (m : HostMachine) →
+    ensures along { (keys : Keys) → AlongRuns keys KnowsListening → AlongRuns keys (KnowsSince RunsAsTold) }
+    ensures rests { (keys : Keys) → AlongRuns keys KnowsListening → (told : List Entry) (m : HostMachine) →
         Run (first_alone keys (Some [])) Resting told m → (n : ℕ) → 1 ≤ n → n ≤ 232 → runs n told m.clock ≡ not (is_idle (node_of m.state n).series) }
 {
+    hosts_keep_their_tables();
     hosts_count_awake();
     hosts_know_their_work();
     hosts_tell_those_that_wait_for_nothing();
