@@ -9,7 +9,8 @@ copy of the program is made there in which it fails; `host`, which has a file of
 second, third and so on is taken where there are more than N, 2,000 if not told. Once more each of these calls fails with all later ones of its kind.
 What is asked of each:
 
-  memory   status 6, and what was written is a prefix of what the run without a fault writes, up to the end of a line; or all is as in that run
+  memory   status 6, and what was written is a prefix of what the run without a fault writes, up to the end of a line, or of `host` to that of a unit;
+           or all is as in that run
   read     status 4, and just the lines were run whose line feed had been read
   write    status 5, and what was written is such a prefix
   keep     10 with nothing written; or a word on standard error, and 9, or 0 where the records have the end of each order; or all is as without a fault
@@ -23,6 +24,7 @@ must take it; where memory, a read or a write failed, it is a prefix of the file
 """
 import argparse
 import collections
+import importlib.util
 import itertools
 import os
 import subprocess
@@ -56,6 +58,14 @@ ALONE, ON, SHORT = "", ", and all later ones", ", one byte"
 Ended = collections.namedtuple("Ended", "status out said kept")
 
 
+def hostile():
+    """The script that knows the units of a host."""
+    where = importlib.util.spec_from_file_location("hostile", os.path.join(TOP, "bench", "hostile", "run.py"))
+    made = importlib.util.module_from_spec(where)
+    where.loader.exec_module(made)
+    return made
+
+
 def are_done(kept):
     """Whether each command of the records has ended with success."""
     rows = [[int(number) for number in line[1:-1].split(b",")] for line in kept.split(b"\n")[:-1]]
@@ -71,7 +81,7 @@ class Faults:
         self.options, self.folder = options, folder
         self.library, self.records, self.sums, self.copies = (os.path.join(folder, name) for name in ("fail.so", "records", "sums", "copies"))
         subprocess.run(["cc", "-O2", "-shared", "-fPIC", "-o", self.library, os.path.join(HERE, "fail.c")], check=True)
-        self.judged, self.wrong = {}, 0
+        self.judged, self.wrong, self.fault_of_units = {}, 0, hostile().fault_of_units
 
     def call(self, words, data, records=None, seconds=120, **faults):
         """Runs the program; each word of `faults` is a variable of fail.c."""
@@ -118,6 +128,8 @@ class Faults:
             return f"{ended.status} in place of {STATUS[kind]}, said {ended.said!r}"
         if not base.out.startswith(ended.out) or name != "host" and ended.out and not ended.out.endswith(b"\n"):
             return "what was written is no prefix of what is written without a fault"
+        if kind == "memory" and name == "host" and self.fault_of_units(ended.out):
+            return self.fault_of_units(ended.out)
         if kind == "read" and name not in ("host", "audit", "check"):
             read = data[:(at - 1) * RUNS[name][2]]
             lines = [line for line in read[:read.rfind(b"\n") + 1].split(b"\n") if line.split() and line[:1] != b"#"]

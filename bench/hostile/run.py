@@ -139,6 +139,23 @@ def other_digit(chance, line):
     return line[:at] + bytes((chance.choice(b"0123456789ABCDEF" if is_hex else b"123456789"),)) + line[at + 1:]
 
 
+def fault_of_units(out):
+    """Why these bytes are no whole units of a host, or None."""
+    at = 0
+    while at < len(out):
+        size = out[at + 1] + 2 if out[at] == 1 and at + 1 < len(out) else 1
+        unit = out[at:at + size]
+        if size == 1 and unit[0] not in (0x06, 0x15) or len(unit) < size:
+            return f"no unit at {at} of what it wrote: {unit.hex()}"
+        total = 0xFF
+        for byte in unit[1:]:
+            total ^= byte
+        if size > 1 and total:
+            return f"a frame at {at} with a wrong sum: {unit.hex()}"
+        at += size
+    return None
+
+
 def stream(chance, units, size):
     """Bytes of a serial line: units with changes, and some at random between them."""
     out = bytearray()
@@ -214,21 +231,7 @@ class Run:
         return None if (ended, is_bad) in ((0, False), (3, True)) and (not out or out.endswith(b"\n")) else f"{ended} with {out[-100:]!r}"
 
     def fault_of_host(self, ended, out):
-        if ended not in (0, 9):
-            return f"ended with {ended}"
-        at = 0
-        while at < len(out):
-            size = out[at + 1] + 2 if out[at] == 1 and at + 1 < len(out) else 1
-            unit = out[at:at + size]
-            if size == 1 and unit[0] not in (0x06, 0x15) or len(unit) < size:
-                return f"no unit at {at} of what it wrote: {unit.hex()}"
-            total = 0xFF
-            for byte in unit[1:]:
-                total ^= byte
-            if size > 1 and total:
-                return f"a frame at {at} with a wrong sum: {unit.hex()}"
-            at += size
-        return None
+        return fault_of_units(out) if ended in (0, 9) else f"ended with {ended}"
 
 
 class Judge:

@@ -127,6 +127,8 @@ impl Stack {
     }
 
     /// Makes the change of the work, and tells it where that was asked for.
+    #[cold]
+    #[inline(never)]
     fn finish_work(&mut self, out: &mut Replies) -> Result<(), NoMemory>
         requires { out.old ≡ [] }
         ensures ok { OnOk result (self.new ≡ (works_out self.old).device) }

@@ -4,6 +4,7 @@ pub mod RecordText
 pub mod RowReading
 pub mod Keeping
 pub mod Shelf
+pub mod Packed
 pub mod Kept
 pub mod Legal
 pub mod Worked

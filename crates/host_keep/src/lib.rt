@@ -3,7 +3,7 @@
 //! It promises that a text is read as a record exactly when it is that record's text, and that a keeper adds a record
 //! or leaves everything unchanged. It says what records in their order give, and which record may follow them.
 //! The definitions are in `specs/`: `Rows` for the numbers of a record, `RecordText` for its text, `RowReading` for
-//! reading it, `Keeping` and `Shelf` for keepers, `Kept` for what records give, `Legal` for which may follow.
+//! reading it, `Keeping` and `Shelf` for keepers, `Packed` for texts in one, `Kept` for what records give, `Legal` for which may follow.
 #![tactic(auto)]
 
 mod final_status;
@@ -15,6 +15,7 @@ mod plain_keeper;
 mod reading;
 mod record;
 mod row;
+mod texts;
 mod worked;
 mod writing;
 

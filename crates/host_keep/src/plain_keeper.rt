@@ -5,16 +5,15 @@ ghost use Rattle.zw_base.specs.Faults.{Rose, raised};
 ghost use Rattle.host_keep.specs.Keeping.{OptAdds, IsKeptAt};
 
 use crate::keeper::{KeepFault, Keeper};
-use crate::memory_keeper::copy_at;
+use crate::texts::Texts;
 use std::alloc::Global;
 use std::marker::Model;
-use zw_base::{Bytes, List};
+use zw_base::Bytes;
 
 /// A keeper that tells its records and never fails.
 #[derive(Drop)]
 pub struct PlainKeeper {
-    alloc: Global,
-    records: List<Bytes>,
+    records: Texts,
     reads: u64,
 }
 
@@ -23,7 +22,7 @@ impl Model for PlainKeeper {
 
     ghost Value = { PlainShelf };
 
-    ghost view = { λ k. record { records = k.records.items; reads = k.reads } };
+    ghost view = { λ k. record { records = k.records; reads = k.reads } };
 }
 
 impl PlainKeeper {
@@ -32,8 +31,7 @@ impl PlainKeeper {
         ensures { result ≡ record { records = []; reads = 0 } }
     {
         PlainKeeper {
-            alloc,
-            records: List::new(alloc),
+            records: Texts::new(alloc),
             reads: 0,
         }
     }
@@ -60,8 +58,7 @@ impl Keeper for PlainKeeper {
         ensures failed { result ≡ Err KeepFault.Failed → Rose 0 0 }
         ensures never_fails { ¬ (result ≡ Err KeepFault.Failed) }
     {
-        let kept = Bytes::from_slice(self.alloc, bytes)?;
-        self.records.push(kept)?;
+        self.records.push(bytes)?;
         Ok(())
     }
 
@@ -80,7 +77,7 @@ impl Keeper for PlainKeeper {
         ensures failed { result ≡ Err KeepFault.Failed → Rose 0 0 }
         ensures never_fails { ¬ (result ≡ Err KeepFault.Failed) }
     {
-        let found = copy_at(alloc, self.records.as_slice(), at as usize)?;
+        let found = Bytes::from_slice(alloc, self.records.get(at as usize))?;
         self.reads = self.reads.saturating_add(1);
         Ok(found)
     }

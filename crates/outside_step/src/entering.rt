@@ -1,6 +1,6 @@
 //! What was told becomes entries of the transcript.
 
-ghost use Rattle.std.specs.Prelude.{◌≡◌, ◌++◌, ◌+◌, ◌≤◌, ◌∷◌, [], length, OnOk, OnErr, ◌&&◌, ◌||◌};
+ghost use Rattle.std.specs.Prelude.{◌≡◌, ◌++◌, ◌+◌, ◌≤◌, ◌∷◌, [], length, not, OnOk, OnErr, ◌&&◌, ◌||◌};
 ghost use Rattle.outside_model.specs.Events.{stamp, has_entered, ticked_entry};
 ghost use Rattle.outside_model.specs.Did.{Enters};
 ghost use Rattle.outside_model.specs.State.{tells};
@@ -19,6 +19,10 @@ impl OutsideCore {
         if told.is_empty() {
             return Ok(());
         }
+        if out.is_empty() && !self.is_to_stamp() {
+            *out = told;
+            return Ok(());
+        }
         let Some(room) = told.len().checked_add(1) else {
             return Err(NoMemory);
         };
@@ -35,10 +39,17 @@ impl OutsideCore {
         ensures entered { out.new.items ≡ out.old.items ++ ticked_entry self.old }
         ensures room { out.old.room ≤ out.new.room + 1 }
     {
-        if self.in_tick && !self.stamped {
+        if self.is_to_stamp() {
             out.put(Entry::Time { tick: self.clock });
             self.stamped = true;
         }
+    }
+
+    /// Whether a tick runs whose number is not entered yet.
+    fn is_to_stamp(&self) -> bool
+        ensures { result ≡ (self.now.in_tick && not self.now.stamped) }
+    {
+        self.in_tick && !self.stamped
     }
 
     /// A line is refused.

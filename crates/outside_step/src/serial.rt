@@ -13,6 +13,9 @@ use serial_pipes::{CAPACITY, Garble, Way};
 use zw_base::{List, NoMemory};
 use zw_text::{Entry, Side};
 
+/// The most bytes that the chip takes at once.
+const PIECE: usize = 256;
+
 impl OutsideCore {
     /// The host writes a unit.
     pub fn write_host(&mut self, unit: &Unit, told: &mut List<Entry>) -> Result<(), NoMemory>
@@ -71,6 +74,15 @@ impl OutsideCore {
         Ok(())
     }
 
+    /// How many bytes the chip takes at once: as many as move at a time, and no more than a piece.
+    fn most_at_once(&self) -> usize
+        ensures some { 1 ≤ result }
+        ensures to_max { result ≤ PIECE }
+    {
+        let most = self.piece();
+        if most > PIECE { PIECE } else { most }
+    }
+
     /// The chip takes the next piece.
     fn chip_takes_piece(&mut self, told: &mut List<Entry>) -> Result<(), NoMemory>
         requires some { 0 < length self.old.to_chip.bytes }
@@ -78,8 +90,8 @@ impl OutsideCore {
         ensures { OnOk result ((count : ℕ) × (1 ≤ count) × (count ≤ length self.old.to_chip.bytes)
             × TakesBytes count self.old self.new told.old.items told.new.items) }
     {
-        let mut buffer = [0; CAPACITY];
-        let most = self.piece();
+        let mut buffer = [0; PIECE];
+        let most = self.most_at_once();
         let piece = take_into(&mut self.to_chip, &mut buffer, most);
         let mut outputs = List::new(self.alloc);
         self.chip.feed(piece, &mut outputs)?;
@@ -134,8 +146,8 @@ pub fn tell_cleared(side: Side, bytes: usize, told: &mut List<Entry>) -> Result<
 }
 
 /// Moves the first bytes of a direction into a buffer, and answers with them.
-fn take_into<'a>(way: &mut Way, buffer: &'a mut [u8; CAPACITY], most: usize) -> &'a [u8]
-    requires to_max { most ≤ CAPACITY }
+fn take_into<'a>(way: &mut Way, buffer: &'a mut [u8; PIECE], most: usize) -> &'a [u8]
+    requires to_max { most ≤ PIECE }
     ensures read { result.now ≡ take most way.old.bytes }
     ensures way { way.new ≡ after way.old (Takes (length result.now)) }
 {

@@ -11,7 +11,7 @@ use Rattle.host_model.specs.declared.out.HostOut.{HostOut}
 use Rattle.port_run.specs.declared.stop.Stop.{Stop}
 use Rattle.port_run.specs.declared.stop.Stop.TheVariants.{ReadFault, WriteFault, InputTooLong, NoMemory}
 use Rattle.port_run.specs.Steps.{Place, Step, Asks, Takes, Rests, Ticks, Pumps, Ran, AllRan}
-use Rattle.port_run.specs.Serving.{unit_bytes, units_of, Wrote, Halts, bytes_at, bytes_of, Reads, Went, EndsReading, Broke}
+use Rattle.port_run.specs.Serving.{unit_bytes, units_of, WritesFirst, Wrote, Halts, bytes_at, bytes_of, Reads, Went, EndsReading, Broke}
 
 -- ---- runs of the host
 
@@ -35,6 +35,15 @@ wrote_both first later a b c s t u one two = record {
   written = subst (λ (l : List ℕ). Appends s u l) (sym (units-append one.outs two.outs)) (Appends-trans s t u (units_of one.outs) (units_of two.outs) one.written two.written);
 }
 
+-- all units of the first list were written, and then the first ones of the later list
+first_after : (s t u : Option (List ℕ)) (first later : List HostOut) → Appends s t (units_of first) → WritesFirst t u later → WritesFirst s u (first ++ later)
+first_after s t u first later one (prefix, rest, are, two) = (
+  first ++ prefix,
+  rest,
+  ap (λ (o : List HostOut). first ++ o) are ∙ sym (append_assoc first prefix rest),
+  subst (λ (l : List ℕ). Appends s u l) (sym (units-append first prefix)) (Appends-trans s t u (units_of first) (units_of prefix) one two),
+)
+
 pub halts_after : (stop : Stop) (first later : List Step) (a b c : Place) (s t u : Option (List ℕ)) → Wrote first a b s t → Halts stop later b c t u → Halts stop (first ++ later) a c s u
 halts_after ReadFault first later a b c s t u one two = wrote_both first later a b c s t u one two
 halts_after InputTooLong first later a b c s t u one two = wrote_both first later a b c s t u one two
@@ -57,7 +66,7 @@ halts_after NoMemory first later a b c s t u one two = record {
     rose = two.did.rose;
     never_falls = two.did.never_falls;
   };
-  written = subst (λ (l : List ℕ). AppendsPrefix s u l) (sym (units-append one.outs two.all)) (AppendsPrefix-append s t u (units_of one.outs) (units_of two.all) one.written two.written);
+  written = first_after s t u one.outs two.all one.written two.written;
 }
 
 -- ---- what is read

@@ -14,7 +14,7 @@ use Rattle.port_run.specs.declared.stop.Stop.{Stop}
 use Rattle.port_run.specs.declared.stop.Stop.TheVariants.{ReadFault, WriteFault, InputTooLong, NoMemory}
 use Rattle.port_run.specs.Steps.{Place, Step, Asks, Takes, Ticks, Pumps, Ran}
 use Rattle.port_run.specs.Schedule.{IsLate}
-use Rattle.port_run.specs.Serving.{units_of, WritesPart, Halts, bytes_of, Reads, Went, EndsReading, Broke}
+use Rattle.port_run.specs.Serving.{units_of, WritesPart, WritesFirst, WritesSome, Halts, bytes_of, Reads, Went, EndsReading, Broke}
 use Rattle.port_run.proofs.StepLists.{units-append, ran_one, went_one}
 use Rattle.port_run.proofs.Joining.{WentStill, BrokeStill}
 use Rattle.run_lines.proofs.Pieces.{AppendsPrefix-append, AppendsPrefix-more}
@@ -38,14 +38,14 @@ consumed_parts None m prefix left took = (None, tt, tt)
 consumed_parts (Some xs) None prefix left took = absurd took
 consumed_parts (Some xs) (Some ys) prefix left took = (Some (left ++ ys), took ∙ append_assoc prefix left ys, refl)
 
-prefix_nothing : (s : Option (List ℕ)) (xs : List ℕ) → AppendsPrefix s s xs
-prefix_nothing s xs = ([], (xs, refl), Appends-nil s)
+none_written : (s : Option (List ℕ)) (outs : List HostOut) → WritesFirst s s outs
+none_written s outs = ([], outs, refl, Appends-nil s)
 
 -- the step was done, and its units were written in part
-half : (stop : Stop) (step : Step) (old new : Place) (outs : List HostOut) (s t : Option (List ℕ)) → Ran step old new outs → WritesPart stop s t (units_of outs) → Halts stop (step ∷ []) old new s t
-half ReadFault step old new outs s t ran part = absurd part.0
-half InputTooLong step old new outs s t ran part = absurd part.0
-half WriteFault step old new outs s t ran part = record { outs = outs; ran = ran_one step old new outs ran; written = part.1 }
+half : (stop : Stop) (step : Step) (old new : Place) (outs : List HostOut) (s t : Option (List ℕ)) → Ran step old new outs → WritesSome stop s t outs → Halts stop (step ∷ []) old new s t
+half ReadFault step old new outs s t ran part = absurd part
+half InputTooLong step old new outs s t ran part = absurd part
+half WriteFault step old new outs s t ran part = record { outs = outs; ran = ran_one step old new outs ran; written = part }
 half NoMemory step old new outs s t ran part = record {
   mid = new;
   some = outs;
@@ -53,8 +53,14 @@ half NoMemory step old new outs s t ran part = record {
   ran = ran_one step old new outs ran;
   events = [];
   did = did_nothing new.host.state new.host.state outs outs new.shelf new.shelf refl refl (none_added new.shelf.records) (omega arith);
-  written = part.1;
+  written = part;
 }
+
+is_late : (stop : Stop) (s t : Option (List ℕ)) (outs : List HostOut) → WritesSome stop s t outs → IsLate stop
+is_late ReadFault s t outs part = part
+is_late InputTooLong s t outs part = part
+is_late WriteFault s t outs part = tt
+is_late NoMemory s t outs part = tt
 
 ends_late : (stop : Stop) (n : ℕ) → IsLate stop → n ≤ MAX_INPUT → EndsReading stop n []
 ends_late ReadFault n late within = absurd late
@@ -63,10 +69,10 @@ ends_late WriteFault n late within = refl
 ends_late NoMemory n late within = omega (arith, within)
 
 pub broke_write : (Cut : Stop → List Step → Type 0) (step : Step) (stop : Stop) (old new : Place) (outs : List HostOut) (s t l m : Option (List ℕ)) (n : ℕ) → Ran step old new outs
-    → WritesPart stop s t (units_of outs) → Reads (step ∷ []) l m → n + length (bytes_of (step ∷ [])) ≤ MAX_INPUT → (IsLate stop → Cut stop (step ∷ [])) → Broke Cut stop old new s t l m n
+    → WritesSome stop s t outs → Reads (step ∷ []) l m → n + length (bytes_of (step ∷ [])) ≤ MAX_INPUT → (IsLate stop → Cut stop (step ∷ [])) → Broke Cut stop old new s t l m n
 broke_write Cut step stop old new outs s t l m n ran part reads within cut = record {
   steps = step ∷ [];
-  cut = cut part.0;
+  cut = cut (is_late stop s t outs part);
   halts = half stop step old new outs s t ran part;
   mid = m;
   reads = reads;
@@ -74,7 +80,7 @@ broke_write Cut step stop old new outs s t l m n ran part reads within cut = rec
   consumed = Consumes-nil m;
   short = omega arith;
   within = within;
-  ends = ends_late stop (n + length (bytes_of (step ∷ []))) part.0 within;
+  ends = ends_late stop (n + length (bytes_of (step ∷ []))) (is_late stop s t outs part) within;
 }
 
 -- there was no memory before the step was done; nothing was written
@@ -90,7 +96,7 @@ broke_host Cut old new outs s l n stops within cut = record {
     ran = (refl, refl);
     events = stops.events;
     did = stops.did;
-    written = prefix_nothing s (units_of outs);
+    written = none_written s outs;
   };
   mid = l;
   reads = Keeps-refl l;
@@ -109,11 +115,11 @@ step_ok (Ok value) step old new outs shown s t reads none same ran written = λ 
     went_one step old new outs s t l l n n ran (subst (λ (o : List HostOut). Appends s t (units_of o)) same written) (reads l) (omega (arith, ap length none))
 
 pub step_err : {T : Type 0} (answer : Result T Stop) (Cut : Stop → List Step → Type 0) (step : Step) (old new : Place) (outs shown : List HostOut) (s t : Option (List ℕ)) → ((l : Option (List ℕ)) → Reads (step ∷ []) l l)
-    → bytes_of (step ∷ []) ≡ [] → shown ≡ outs → Ran step old new outs → ((stop : Stop) → IsLate stop → Cut stop (step ∷ [])) → IfErr answer (λ stop. WritesPart stop s t (units_of shown))
+    → bytes_of (step ∷ []) ≡ [] → shown ≡ outs → Ran step old new outs → ((stop : Stop) → IsLate stop → Cut stop (step ∷ [])) → IfErr answer (λ stop. WritesSome stop s t shown)
     → IfErr answer (λ stop. BrokeStill Cut stop old new s t)
 step_err (Ok value) Cut step old new outs shown s t reads none same ran cut part = tt
 step_err (Err stop) Cut step old new outs shown s t reads none same ran cut part =
-    λ l n within. broke_write Cut step stop old new outs s t l l n ran (subst (λ (o : List HostOut). WritesPart stop s t (units_of o)) same part) (reads l) (omega (arith, within, ap length none)) (cut stop)
+    λ l n within. broke_write Cut step stop old new outs s t l l n ran (subst (λ (o : List HostOut). WritesSome stop s t o) same part) (reads l) (omega (arith, within, ap length none)) (cut stop)
 
 -- bytes were taken
 pub take_ok : {T E : Type 0} (answer : Result T E) (bytes : List ℕ) (old new : Place) (outs shown : List HostOut) (s t : Option (List ℕ)) → shown ≡ outs → Ran (Takes bytes) old new outs → OnOk answer (Appends s t (units_of shown))
@@ -124,11 +130,11 @@ take_ok (Ok value) bytes old new outs shown s t same ran written = λ l m n took
     (ap (λ (b : List ℕ). n + length b) (sym (append-nil bytes)))
 
 pub take_err : {T : Type 0} (answer : Result T Stop) (bytes : List ℕ) (old new : Place) (outs shown : List HostOut) (s t : Option (List ℕ)) → shown ≡ outs → Ran (Takes bytes) old new outs
-    → IfErr answer (λ stop. WritesPart stop s t (units_of shown))
+    → IfErr answer (λ stop. WritesSome stop s t shown)
     → IfErr answer (λ stop. (l m : Option (List ℕ)) (n : ℕ) → Consumes l m bytes → n + length bytes ≤ MAX_INPUT → Broke (CutTaking bytes) stop old new s t l m n)
 take_err (Ok value) bytes old new outs shown s t same ran part = tt
 take_err (Err stop) bytes old new outs shown s t same ran part = λ l m n took within.
-    broke_write (CutTaking bytes) (Takes bytes) stop old new outs s t l m n ran (subst (λ (o : List HostOut). WritesPart stop s t (units_of o)) same part) (m, took, Keeps-refl m)
+    broke_write (CutTaking bytes) (Takes bytes) stop old new outs s t l m n ran (subst (λ (o : List HostOut). WritesSome stop s t o) same part) (m, took, Keeps-refl m)
     (omega (arith, within, ap length (append-nil bytes))) (cut_taken bytes stop)
   where
     cut_taken : (bytes' : List ℕ) (stop' : Stop) → IsLate stop' → CutTaking bytes' stop' (Takes bytes' ∷ [])
@@ -155,7 +161,7 @@ broke_feed old new bytes outs s l m n fed took short within =
         ran = ran_one (Takes fed.prefix) old mid fed.some fed.fed;
         events = fed.begun;
         did = fed.did;
-        written = prefix_nothing s (units_of outs);
+        written = none_written s outs;
       };
       mid = cut.0;
       reads = (cut.0, cut.1, Keeps-refl cut.0);
@@ -200,8 +206,12 @@ feed_stopped host host' bytes a b puts outs s none fed short l m n took within =
 
 -- of a list of outputs a prefix was written, and then a part of the next
 pub outs_part : (stop : Stop) (a b c : Option (List ℕ)) (outs : List HostOut) (i : ℕ) (one : HostOut) → i < length outs → one ≡ get_or outs i one → Appends a b (units_of (take i outs))
-    → WritesPart stop b c (unit_bytes one) → WritesPart stop a c (units_of outs)
-outs_part stop a b c outs i one within at so_far (late, part) =
+    → WritesPart stop b c (unit_bytes one) → WritesSome stop a c outs
+outs_part ReadFault a b c outs i one within at so_far part = absurd part
+outs_part InputTooLong a b c outs i one within at so_far part = absurd part
+outs_part NoMemory a b c outs i one within at so_far none =
+    (take i outs, drop i outs, sym (take-append-drop i outs), subst (λ (s : Option (List ℕ)). Appends a s (units_of (take i outs))) (sym none) so_far)
+outs_part WriteFault a b c outs i one within at so_far part =
     let before : List ℕ = units_of (take i outs) in
     let after : List ℕ = units_of (drop (suc i) outs) in
     let whole : units_of outs ≡ (before ++ unit_bytes one) ++ after =
@@ -210,7 +220,7 @@ outs_part stop a b c outs i one within at so_far (late, part) =
     ∙ ap (λ (l : List HostOut). before ++ units_of l) (drop-cons outs i one within)
     ∙ ap (λ (o : HostOut). before ++ (unit_bytes o ++ after)) (sym at)
     ∙ sym (append_assoc before (unit_bytes one) after) in
-    (late, subst (λ (l : List ℕ). AppendsPrefix a c l) (sym whole) (AppendsPrefix-more a c (before ++ unit_bytes one) after (AppendsPrefix-append a b c before (unit_bytes one) so_far part)))
+    subst (λ (l : List ℕ). AppendsPrefix a c l) (sym whole) (AppendsPrefix-more a c (before ++ unit_bytes one) after (AppendsPrefix-append a b c before (unit_bytes one) so_far part))
 
 -- ---- a line
 
@@ -228,7 +238,7 @@ unasked line old new s still = λ l n within. record {
     ran = (refl, refl);
     events = [];
     did = did_nothing old.host.state new.host.state [] [] old.shelf new.shelf (ap (λ (p : HostParts). p.state) still.host) refl still.records still.never_falls;
-    written = prefix_nothing s [];
+    written = none_written s [];
   };
   mid = l;
   reads = Keeps-refl l;

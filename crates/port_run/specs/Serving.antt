@@ -1,5 +1,5 @@
 -- What was read and written at steps (this project's own rule).
-use Rattle.std.specs.Prelude.{◌≡◌, ℕ, ◌+◌, ◌<◌, ◌≤◌, List, [], ◌∷◌, length, Option}
+use Rattle.std.specs.Prelude.{◌≡◌, ℕ, ◌+◌, ◌<◌, ◌≤◌, List, [], ◌∷◌, ◌++◌, length, Option}
 use Rattle.std.specs.List.{flat_map}
 use Rattle.std.specs.Io.KnownBytes.{Keeps, Consumes, Appends, IsAtEnd}
 use Rattle.run_lines.specs.declared.reader.TheConstants.{PIECE, MAX_INPUT}
@@ -11,7 +11,6 @@ use Rattle.host_model.specs.declared.out.HostOut.TheVariants.{Write, Note}
 use Rattle.run_lines.specs.Writing.{AppendsPrefix}
 use Rattle.port_run.specs.declared.stop.Stop.{Stop}
 use Rattle.port_run.specs.declared.stop.Stop.TheVariants.{ReadFault, WriteFault, InputTooLong, NoMemory}
-use Rattle.port_run.specs.Schedule.{IsLate}
 use Rattle.port_run.specs.Steps.{Place, Step, Asks, Takes, Rests, Ticks, Pumps, AllRan}
 
 -- ---- what is written
@@ -24,9 +23,23 @@ unit_bytes (Note entry) = []
 abbrev pub units_of : List HostOut → List ℕ
 units_of outs = flat_map unit_bytes outs
 
--- a write failed, or there was no memory for a unit; a prefix of the bytes was written
+-- a write failed, and a prefix of the bytes of a unit was written; or there was no memory for it, and none of them was
 abbrev pub WritesPart : Stop → Option (List ℕ) → Option (List ℕ) → List ℕ → Type 0
-WritesPart stop sink sink' bytes = IsLate stop × AppendsPrefix sink sink' bytes
+WritesPart ReadFault sink sink' bytes = ⊥
+WritesPart InputTooLong sink sink' bytes = ⊥
+WritesPart WriteFault sink sink' bytes = AppendsPrefix sink sink' bytes
+WritesPart NoMemory sink sink' bytes = sink' ≡ sink
+
+-- the units of the first of these were written, each whole
+abbrev pub WritesFirst : Option (List ℕ) → Option (List ℕ) → List HostOut → Type 0
+WritesFirst sink sink' outs = (prefix rest : List HostOut) × (outs ≡ prefix ++ rest) × Appends sink sink' (units_of prefix)
+
+-- a write failed, and a prefix of the bytes of all units was written; or there was no memory for one, and those before it were written
+abbrev pub WritesSome : Stop → Option (List ℕ) → Option (List ℕ) → List HostOut → Type 0
+WritesSome ReadFault sink sink' outs = ⊥
+WritesSome InputTooLong sink sink' outs = ⊥
+WritesSome WriteFault sink sink' outs = AppendsPrefix sink sink' (units_of outs)
+WritesSome NoMemory sink sink' outs = WritesFirst sink sink' outs
 
 -- steps were done, and the units that the host put out were written
 pub record Wrote (steps : List Step) (old new : Place) (sink sink' : Option (List ℕ)) : Type 0 where
@@ -40,7 +53,7 @@ pub record WrotePrefix (steps : List Step) (old new : Place) (sink sink' : Optio
   pub ran : AllRan steps old new outs
   pub written : AppendsPrefix sink sink' (units_of outs)
 
--- steps were done, then events of the next one, and then there was no memory; a prefix of the units was written
+-- steps were done, then events of the next one, and then there was no memory; the first of the units were written, each whole
 pub record Stopped (steps : List Step) (old new : Place) (sink sink' : Option (List ℕ)) : Type 0 where
   pub mid : Place
   pub some : List HostOut
@@ -48,7 +61,7 @@ pub record Stopped (steps : List Step) (old new : Place) (sink sink' : Option (L
   pub ran : AllRan steps old mid some
   pub events : List HostEvent
   pub did : Did events mid.host.state new.host.state some all mid.shelf new.shelf
-  pub written : AppendsPrefix sink sink' (units_of all)
+  pub written : WritesFirst sink sink' all
 
 abbrev pub Halts : Stop → List Step → Place → Place → Option (List ℕ) → Option (List ℕ) → Type 0
 Halts ReadFault steps old new sink sink' = Wrote steps old new sink sink'

@@ -1,11 +1,12 @@
 -- What the host of a port does, one step at a time (this project's own rule, over the events of a host).
-use Rattle.std.specs.Prelude.{◌≡◌, ℕ, ◌+◌, ◌≤◌, List, [], ◌∷◌, ◌++◌, length, Option, Some, None}
+use Rattle.std.specs.Prelude.{◌≡◌, ◌≢◌, ℕ, ◌+◌, ◌≤◌, Bool, true, false, List, [], ◌∷◌, ◌++◌, length, Option, Some, None}
 use Rattle.serial_frame.specs.Stream.{after_tick}
 use Rattle.zw_base.specs.Faults.{Rose}
 use Rattle.zw_text.specs.declared.line.Line.{Line}
 use Rattle.zw_text.specs.declared.line.Line.TheVariants.{Command, Send, Get, Join, Interview, Probe}
 use Rattle.host_keep.specs.Keeping.{OptAdds, Shelf}
 use Rattle.host_orders.specs.declared.refused.Refused.{Refused}
+use Rattle.host_orders.specs.declared.refused.Refused.TheVariants.{NoMemory}
 use Rattle.host_orders.specs.Errands.{send_refusal, send_text, get_refusal, get_text}
 use Rattle.host_orders.specs.Refusals.{classes_of}
 use Rattle.host_requests.specs.declared.task.Task.TheVariants.{Plain}
@@ -71,10 +72,16 @@ pub record IsStill (old new : Place) : Type 0 where
   pub records : OptAdds old.shelf.records new.shelf.records []
   pub never_falls : old.shelf.faults ≤ new.shelf.faults
 
--- a rule refuses, or none does and the keeper failed
-abbrev pub IsRefusedBy : Option Refused → ℕ → ℕ → Type 0
-IsRefusedBy (Some rule) faults faults' = Unit {0}
-IsRefusedBy None faults faults' = Rose faults faults'
+-- of these lines a record is kept
+abbrev pub is_recorded : Line → Bool
+is_recorded (Command order) = true
+is_recorded (Join node) = true
+is_recorded line = false
+
+-- a rule refuses, which is no allocation failure; or none does, a record was to be kept, and the keeper failed
+abbrev pub IsRefusedBy : Bool → Option Refused → ℕ → ℕ → Type 0
+IsRefusedBy recorded (Some rule) faults faults' = rule ≢ NoMemory
+IsRefusedBy recorded None faults faults' = (recorded ≡ true) × Rose faults faults'
 
 -- events of this kind happened, and the host put this out
 abbrev pub HostDoes : (List HostEvent → Type 0) → Place → Place → List HostOut → Type 0
@@ -88,7 +95,7 @@ pub record IsTaken (line : Line) (answer : Answer) (old new : Place) : Type 0 wh
   pub decoder : new.host.decoder ≡ old.host.decoder
 
 abbrev pub Asked : Line → Answer → Place → Place → Type 0
-Asked line refused old new = IsStill old new × IsRefusedBy (refusal_by old.host.state line) old.shelf.faults new.shelf.faults
+Asked line refused old new = IsStill old new × IsRefusedBy (is_recorded line) (refusal_by old.host.state line) old.shelf.faults new.shelf.faults
 Asked line Taken old new = IsTaken line Taken old new
 Asked line (numbered command) old new = IsTaken line (numbered command) old new
 

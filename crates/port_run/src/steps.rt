@@ -6,7 +6,7 @@ ghost use Rattle.zw_base.specs.Faults.{Rose};
 ghost use Rattle.run_lines.specs.declared.reader.TheConstants.{MAX_INPUT, PIECE};
 ghost use Rattle.port_run.specs.Steps.{place, Asks, Takes, Ticks, Pumps};
 ghost use Rattle.port_run.specs.Schedule.{tick_steps, CutIn, CutTaking, CutPiece, CutPlain};
-ghost use Rattle.port_run.specs.Serving.{unit_bytes, units_of, WritesPart, Went, Broke};
+ghost use Rattle.port_run.specs.Serving.{unit_bytes, units_of, WritesPart, WritesSome, Went, Broke};
 
 use crate::Stop;
 use crate::asking::{Answer, ask};
@@ -21,7 +21,7 @@ use zw_text::Line;
 /// Writes the units among what the host put out, in their order.
 fn write_units<K: Sink>(alloc: Global, sink: &mut K, outs: &[HostOut]) -> Result<(), Stop>
     ensures ok { OnOk result (Appends (K.written sink.old) (K.written sink.new) (units_of outs.now)) }
-    ensures err { IfErr result (λ stop. WritesPart stop (K.written sink.old) (K.written sink.new) (units_of outs.now)) }
+    ensures err { IfErr result (λ stop. WritesSome stop (K.written sink.old) (K.written sink.new) outs.now) }
     ensures never_falls { K.faults sink.old ≤ K.faults sink.new }
     ensures failed { IsErrOf result Stop.WriteFault → Rose (K.faults sink.old) (K.faults sink.new) }
 {

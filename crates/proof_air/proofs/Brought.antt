@@ -1,5 +1,5 @@
 -- What the chip's frames bring: an ApplicationCommandHandler its own payload, and all other frames none.
-use Rattle.std.proofs.Common.{◌≡◌, ◌≤◌, ℕ, ◌+◌, ◌-◌, ◌&&◌, Bool, true, false, List, [], ◌∷◌, ◌++◌, length, refl, sym, ap, subst, ◌∙◌, append-nil, nat_le}
+use Rattle.std.proofs.Common.{◌≡◌, ◌≤◌, ◌⊎◌, ℕ, ◌+◌, ◌-◌, ◌&&◌, Bool, true, false, inl, inr, List, [], ◌∷◌, ◌++◌, length, refl, sym, ap, subst, ◌∙◌, append-nil, nat_le}
 use Rattle.std.proofs.lemmas.Bool.{leb-true}
 use Rattle.std.specs.Prelude.{Result, Ok, Err}
 use Rattle.std.specs.List.{flat_map}
@@ -58,12 +58,17 @@ these past brought is same were = subst (λ (l : List Carried). WereHeard (heard
 pub response_brings : (past : List Entry) (func : ℕ) (body : List ℕ) → Brings past (record { kind = of_response; func = func; body = body })
 response_brings past func body = tt
 
+pub callback_bringing : (sending : Sending) (status : TransmitStatus) → bringing_in (unit_text (Framed (callback_frame sending status))) ≡ []
+callback_bringing sending status = notice_brings (SendData sending.callback_id status) ∙ callback_none (notice_body (SendData sending.callback_id status))
+
+pub update_bringing : (u : Update) → bringing_in (unit_text (Framed (notice_frame (ApplicationUpdate u)))) ≡ []
+update_bringing u = notice_brings (ApplicationUpdate u) ∙ update_none (notice_body (ApplicationUpdate u))
+
 pub callback_brings : (past : List Entry) (sending : Sending) (status : TransmitStatus) → Brings past (callback_frame sending status)
-callback_brings past sending status =
-    these past _ [] (notice_brings (SendData sending.callback_id status) ∙ callback_none (notice_body (SendData sending.callback_id status))) tt
+callback_brings past sending status = these past _ [] (callback_bringing sending status) tt
 
 pub update_brings : (past : List Entry) (u : Update) → Brings past (notice_frame (ApplicationUpdate u))
-update_brings past u = these past _ [] (notice_brings (ApplicationUpdate u) ∙ update_none (notice_body (ApplicationUpdate u))) tt
+update_brings past u = these past _ [] (update_bringing u) tt
 
 -- ---- a frame that brings a payload
 
@@ -73,16 +78,29 @@ not_read : (source : ℕ) (payload : List ℕ) → nat_le 1 source && nat_le sou
 unfolding notice_of notice_at handler_at
 not_read source payload none = rw none refl
 
-pub handler_brings : (past : List Entry) (source : ℕ) (payload : List ℕ) → 1 ≤ length payload → ArePicked (record { node = source; payload = payload } ∷ []) (heard_home past)
-    → Brings past (notice_frame (ApplicationCommandHandler 0 source payload))
-handler_brings past source payload some picked = by (nat_le 1 source && nat_le source 232) refl
+-- it brings its payload, or nothing
+abbrev pub BringsOwn : ℕ → List ℕ → Type 0
+BringsOwn source payload =
+    let brought : List Carried = bringing_in (unit_text (Framed (notice_frame (ApplicationCommandHandler 0 source payload)))) in
+    (brought ≡ []) ⊎ (brought ≡ record { node = source; payload = payload } ∷ [])
+
+pub handler_bringing : (source : ℕ) (payload : List ℕ) → 1 ≤ length payload → BringsOwn source payload
+handler_bringing source payload some = by (nat_le 1 source && nat_le source 232) refl
   where
-    by : (b : Bool) → nat_le 1 source && nat_le source 232 ≡ b → Brings past (notice_frame (ApplicationCommandHandler 0 source payload))
+    by : (b : Bool) → nat_le 1 source && nat_le source 232 ≡ b → BringsOwn source payload
     by true is =
         let parts = both_true (nat_le 1 source) (nat_le source 232) is in
         let node : IsNode source = (leb-true 1 source parts.0, leb-true source 232 parts.1) in
         let read : notice_of APPLICATION_COMMAND_HANDLER (notice_body (ApplicationCommandHandler 0 source payload)) ≡ Ok (ApplicationCommandHandler 0 source payload)
         = notice_only APPLICATION_COMMAND_HANDLER (notice_body (ApplicationCommandHandler 0 source payload)) (ApplicationCommandHandler 0 source payload)
         (record { row = (node, some); function = refl; tail = []; text = sym (append-nil (notice_body (ApplicationCommandHandler 0 source payload))) }) in
-        these past _ (record { node = source; payload = payload } ∷ []) (notice_brings (ApplicationCommandHandler 0 source payload) ∙ ap brought_of read) (picked, tt)
-    by false is = these past _ [] (notice_brings (ApplicationCommandHandler 0 source payload) ∙ ap brought_of (not_read source payload is)) tt
+        inr (notice_brings (ApplicationCommandHandler 0 source payload) ∙ ap brought_of read)
+    by false is = inl (notice_brings (ApplicationCommandHandler 0 source payload) ∙ ap brought_of (not_read source payload is))
+
+pub handler_brings : (past : List Entry) (source : ℕ) (payload : List ℕ) → 1 ≤ length payload → ArePicked (record { node = source; payload = payload } ∷ []) (heard_home past)
+    → Brings past (notice_frame (ApplicationCommandHandler 0 source payload))
+handler_brings past source payload some picked = by (handler_bringing source payload some)
+  where
+    by : BringsOwn source payload → Brings past (notice_frame (ApplicationCommandHandler 0 source payload))
+    by (inl none) = these past _ [] none tt
+    by (inr one) = these past _ (record { node = source; payload = payload } ∷ []) one (picked, tt)

@@ -45,14 +45,14 @@ use Rattle.proof_air.proofs.Silent.{words_last}
 
 -- ---- the last entry
 
-folded_last : (before : List Line) (told : List Entry) → AreUntimed told → is_repeat before ≡ false → is_repeat (folded line_after before told) ≡ false
+pub folded_last : (before : List Line) (told : List Entry) → AreUntimed told → is_repeat before ≡ false → is_repeat (folded line_after before told) ≡ false
 folded_last before [] untimed none = none
 folded_last before (e ∷ told) untimed none = folded_last (line_of e) told untimed.1 (ap is_repeat (untimed_line e untimed.0))
 
-still_apart : (past told : List Entry) → AreUntimed told → repeats past ≡ false → repeats (past ++ told) ≡ false
+pub still_apart : (past told : List Entry) → AreUntimed told → repeats past ≡ false → repeats (past ++ told) ≡ false
 still_apart past told untimed none = ap is_repeat (folded-append line_after [] past told) ∙ folded_last (line_last past) told untimed none
 
-number_apart : (past : List Entry) (n : ℕ) → repeats (past ++ entry.Time n ∷ []) ≡ false
+pub number_apart : (past : List Entry) (n : ℕ) → repeats (past ++ entry.Time n ∷ []) ≡ false
 number_apart past n = ap is_repeat (last_is past (entry.Time n))
 
 -- ---- the law outside the host

@@ -1,4 +1,4 @@
-mod Logs
+pub mod Logs
 mod Silent
 mod Airing
 pub mod Judging
@@ -8,6 +8,7 @@ pub mod Counting
 pub mod Fresh
 pub mod Homes
 pub mod Brought
+pub mod Picked
 mod Ports
 mod Putting
 mod Bringing
@@ -15,5 +16,5 @@ pub mod Handling
 pub mod SentBefore
 pub mod Fateless
 pub mod Fated
-mod LandingWalk
+pub mod LandingWalk
 mod Doing

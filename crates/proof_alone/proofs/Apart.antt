@@ -9,6 +9,7 @@ use Rattle.zw_text.specs.declared.entry.Entry.{Entry}
 use Rattle.zw_text.specs.declared.entry.Entry.TheVariants as entry
 use Rattle.host_model.specs.declared.out.HostOut.{HostOut}
 use Rattle.host_model.specs.declared.out.HostOut.TheVariants.{Note, Write}
+use Rattle.proof_device.proofs.HostOuts.{OutsAre}
 use Rattle.proof_walk.specs.Outside.{IsHostNote}
 use Rattle.proof_walk.proofs.HostNotes.{NoteOuts}
 use Rattle.proof_alone.specs.Steps.{AreTold, DidNotCome, IsOfUnit}
@@ -44,3 +45,10 @@ module _ (Is : Entry → Type 0) (line : AreOfLine Is) where
   told_are note (Write unit ∷ puts) told notes (marks, rest, is, all, more) =
       subst (λ (l : List Entry). AllByRecursion Is l) (sym is)
       (line.written Host (unit_text unit), all-append Is marks rest (marks_are marks all) (told_are note puts rest notes.1 more))
+
+  pub puts_are : (puts : List HostOut) (told : List Entry) → OutsAre Is puts → AreTold puts told → AllByRecursion Is told
+  puts_are [] told are is = subst (λ (l : List Entry). AllByRecursion Is l) (sym is) tt
+  puts_are (Note e ∷ puts) told are (rest, is, more) = subst (λ (l : List Entry). AllByRecursion Is l) (sym is) (are.0, puts_are puts rest are.1 more)
+  puts_are (Write unit ∷ puts) told are (marks, rest, is, all, more) =
+      subst (λ (l : List Entry). AllByRecursion Is l) (sym is)
+      (line.written Host (unit_text unit), all-append Is marks rest (marks_are marks all) (puts_are puts rest are.1 more))

@@ -1,8 +1,12 @@
 -- Steps of others: entries, units of the chip that come or do not, and the number of a tick before them.
-use Rattle.std.proofs.Common.{◌≡◌, ℕ, ◌==◌, ◌&&◌, not, Bool, true, false, if◌then◌else◌, List, [], ◌∷◌, ◌++◌, drop, refl, sym, ap, ◌∙◌, subst, append-nil, append_assoc}
+use Rattle.std.proofs.Common.{◌≡◌, ◌≤◌, ℕ, ◌==◌, ◌&&◌, ◌||◌, not, Bool, true, false, if◌then◌else◌, inl, List, [], ◌∷◌, ◌++◌, length, drop, refl, sym, ap, ◌∙◌, subst, append-nil, append_assoc, arith}
 use Rattle.std.proofs.lemmas.Grind.{flat_map-append}
+use Rattle.std.proofs.lemmas.List.{length-set}
+use Rattle.std.proofs.lemmas.Slice.Eq.{bytes_eq-Decides}
 use Rattle.std.specs.Prelude.{Option, nat_lt}
 use Rattle.std.specs.List.{AllByRecursion}
+use Rattle.std.specs.Str.{bytes_eq}
+use Rattle.zw_base.proofs.Each.{all-append}
 use Rattle.serial_frame.specs.Frame.{FrameParts}
 use Rattle.serial_frame.specs.Items.{unit_text}
 use Rattle.serial_frame.specs.declared.item.Item.{Item}
@@ -10,7 +14,8 @@ use Rattle.serial_frame.specs.declared.item.Item.TheVariants.{Good, Refused}
 use Rattle.serial_frame.specs.declared.item.Refusal.TheVariants.{BadSum}
 use Rattle.serial_frame.specs.declared.unit.Unit.{Unit as LineUnit}
 use Rattle.serial_frame.specs.declared.unit.Unit.TheVariants.{Ack, Nak, Can, Framed}
-use Rattle.serial_pipes.specs.State.{WayState, change_for, fits, garbled, mark_for}
+use Rattle.serial_frame.specs.declared.unit.TheConstants.{ACK, NAK, CAN}
+use Rattle.serial_pipes.specs.State.{WayState, change_for, fits, garbled, garbled_place, mark_for}
 use Rattle.serial_pipes.specs.Events.{Writes, after, passing, told_by}
 use Rattle.serial_pipes.specs.Events as way
 use Rattle.serial_pipes.specs.declared.marks.Garble.{Garble}
@@ -20,6 +25,7 @@ use Rattle.s0_crypto.specs.declared.key_pair.Keys.{Keys}
 use Rattle.zw_words.specs.declared.side.Side.TheVariants.{Chip}
 use Rattle.zw_text.specs.declared.entry.Entry.{Entry}
 use Rattle.zw_text.specs.declared.entry.Entry.TheVariants as entry
+use Rattle.law_time.specs.Requests.{is_answer}
 use Rattle.host_model.specs.State.{HostState}
 use Rattle.outside_model.specs.State.{OuterState}
 use Rattle.outside_model.specs.Events.{has_entered, stamp, ticked_entry}
@@ -29,9 +35,9 @@ use Rattle.proof_walk.specs.Outside.{awaits_number}
 use Rattle.proof_walk.proofs.Times.{time_of}
 use Rattle.proof_line.proofs.Tellings.{Tells}
 use Rattle.proof_alone.specs.State.{HostMachine, host_machine}
-use Rattle.proof_alone.specs.Steps.{DidNotCome, IsOfOthers, Comes, Misses, Numbers}
+use Rattle.proof_alone.specs.Steps.{AreFrames, ChangesFrame, DidNotCome, IsFramed, IsOfOthers, Comes, Misses, Numbers}
 use Rattle.proof_alone.specs.Steps as step
-use Rattle.proof_alone.specs.Phases.{Phase, IsBetween}
+use Rattle.proof_alone.specs.Phases.{MayCome, Phase, IsBetween}
 use Rattle.proof_alone.specs.Runs.{Run}
 use Rattle.proof_alone.specs.Runs.Run.{Stepped}
 use Rattle.proof_alone.proofs.Stamps.{Time3, entered}
@@ -57,6 +63,53 @@ changes_left w unit all = marks_left w (mark_for w.marks unit) (unit_text unit) 
 pub good_both : (a b : List Item) → good_units (a ++ b) ≡ good_units a ++ good_units b
 good_both a b = flat_map-append good_unit a b
 
+-- ---- frames, and what a change makes of them
+
+-- a text of two bytes or more answers no frame
+not_one : (text : List ℕ) (byte : ℕ) → 2 ≤ length text → bytes_eq text (byte ∷ []) ≡ false
+not_one text byte long = by (bytes_eq text (byte ∷ [])) refl
+  where
+    by : (b : Bool) → bytes_eq text (byte ∷ []) ≡ b → bytes_eq text (byte ∷ []) ≡ false
+    by false is = is
+    by true is = absurd (let same = ap (λ (l : List ℕ). length l) ((bytes_eq-Decides text (byte ∷ [])).0 is) in omega (arith, same, long))
+
+long_answers_none : (text : List ℕ) → 2 ≤ length text → is_answer text ≡ false
+long_answers_none text long =
+    ap (λ (b : Bool). b || bytes_eq text (NAK ∷ []) || bytes_eq text (CAN ∷ [])) (not_one text ACK long)
+    ∙ ap (λ (b : Bool). b || bytes_eq text (CAN ∷ [])) (not_one text NAK long) ∙ not_one text CAN long
+
+garbled_answers_none : (garble : Garble) (f : FrameParts) → is_answer (garbled garble (unit_text (Framed f))) ≡ false
+garbled_answers_none garble f =
+    let text : List ℕ = unit_text (Framed f) in
+    let same : length (garbled garble text) ≡ length text = length-set text (garbled_place garble text) _ in
+    long_answers_none (garbled garble text) (omega (arith, same))
+
+-- the items that frames become are frames
+pub framed_items : (way : WayState) (units : List LineUnit) → AreFrames units → AreFrames (good_units (items_all way units))
+framed_items way [] frames = tt
+framed_items way (unit ∷ units) frames =
+    subst AreFrames (sym (good_both (items_of way unit) (items_all (after way (Writes unit)) units)))
+    (all-append IsFramed (good_units (items_of way unit)) (good_units (items_all (after way (Writes unit)) units)) (one unit frames.0) (framed_items (after way (Writes unit)) units frames.1))
+  where
+    changed : (garbles : List Garble) (f : FrameParts) → AreFrames (good_units (unit_item garbles (Framed f) ∷ []))
+    changed [] f = (tt, tt)
+    changed (garble ∷ garbles) f = by (garble.xor == 0)
+      where
+        by : (same : Bool) → AreFrames (good_units ((if same then Good (Framed f) else Refused (BadSum (wanted_sum (garbled garble (unit_text (Framed f)))) (found_sum (garbled garble (unit_text (Framed f)))))) ∷ []))
+        by true = (tt, tt)
+        by false = tt
+
+    one : (unit : LineUnit) → IsFramed unit → AreFrames (good_units (items_of way unit))
+    one (Framed f) framed = by (fits way.bytes (unit_text (Framed f))) (nat_lt 0 way.marks.drops)
+      where
+        by : (room lost : Bool) → AreFrames (good_units (if room then (if lost then [] else unit_item way.marks.garbles (Framed f) ∷ []) else []))
+        by true true = tt
+        by true false = changed way.marks.garbles f
+        by false lost = tt
+    one Ack framed = absurd framed
+    one Nak framed = absurd framed
+    one Can framed = absurd framed
+
 -- ---- with these fields, which stay
 
 module _ (start : HostMachine) (keys : Keys) (records : Option (List (List ℕ))) (state : HostState) (left : ℕ) where
@@ -80,13 +133,13 @@ module _ (start : HostMachine) (keys : Keys) (records : Option (List (List ℕ))
         let next : Here (told ++ one ∷ []) came = Stepped (step.Tells one) (between, all.0, refl, refl) refl refl run in
         subst (λ (l : List Entry). Here l came) (append_assoc told (one ∷ []) asides) (asides_run asides (told ++ one ∷ []) came all.1 next)
 
-    comes : (told : List Entry) (came : List LineUnit) (unit : LineUnit) → Here told came → Here (told ++ entry.Written Chip (unit_text unit) ∷ []) (came ++ unit ∷ [])
-    comes told came unit run = Stepped (Comes unit) (between, refl, refl) refl refl run
+    comes : (told : List Entry) (came : List LineUnit) (unit : LineUnit) → MayCome here unit → Here told came → Here (told ++ entry.Written Chip (unit_text unit) ∷ []) (came ++ unit ∷ [])
+    comes told came unit may run = Stepped (Comes unit) (between, refl, refl, may) refl refl run
 
-    misses : (told : List Entry) (came : List LineUnit) (text : List ℕ) (marks : List Entry) → DidNotCome marks → Here told came
+    misses : (told : List Entry) (came : List LineUnit) (text : List ℕ) (marks : List Entry) → DidNotCome marks → ChangesFrame text marks → Here told came
         → Here (told ++ entry.Written Chip text ∷ marks) (came ++ [])
-    misses told came text marks none run =
-        subst (λ (l : List LineUnit). Here (told ++ entry.Written Chip text ∷ marks) l) (sym (append-nil came)) (Stepped (Misses text marks) (between, none, refl, refl) refl refl run)
+    misses told came text marks none changes run =
+        subst (λ (l : List LineUnit). Here (told ++ entry.Written Chip text ∷ marks) l) (sym (append-nil came)) (Stepped (Misses text marks) (between, none, refl, refl, changes) refl refl run)
 
     -- ---- a unit that the chip writes
 
@@ -94,13 +147,13 @@ module _ (start : HostMachine) (keys : Keys) (records : Option (List (List ℕ))
     By told came bytes unit mark items = Here (told ++ entry.Written Chip (unit_text unit) ∷ told_by Chip bytes mark (unit_text unit)) (came ++ good_units items)
 
     lost_by : (told : List Entry) (came : List LineUnit) (bytes : List ℕ) (unit : LineUnit) (room : Bool) → Here told came → By told came bytes unit Lost (if room then [] else [])
-    lost_by told came bytes unit true run = misses told came (unit_text unit) (entry.Dropped Chip ∷ []) tt run
-    lost_by told came bytes unit false run = misses told came (unit_text unit) (entry.Dropped Chip ∷ []) tt run
+    lost_by told came bytes unit true run = misses told came (unit_text unit) (entry.Dropped Chip ∷ []) tt tt run
+    lost_by told came bytes unit false run = misses told came (unit_text unit) (entry.Dropped Chip ∷ []) tt tt run
 
-    free_by : (told : List Entry) (came : List LineUnit) (unit : LineUnit) (room : Bool) → Here told came
+    free_by : (told : List Entry) (came : List LineUnit) (unit : LineUnit) (room : Bool) → MayCome here unit → Here told came
         → Here (told ++ entry.Written Chip (unit_text unit) ∷ (if room then [] else entry.Overrun Chip ∷ [])) (came ++ good_units (if room then Good unit ∷ [] else []))
-    free_by told came unit true run = comes told came unit run
-    free_by told came unit false run = misses told came (unit_text unit) (entry.Overrun Chip ∷ []) tt run
+    free_by told came unit true may run = comes told came unit may run
+    free_by told came unit false may run = misses told came (unit_text unit) (entry.Overrun Chip ∷ []) tt tt run
 
     changed_none : (f : FrameParts) (refused : Item) (room same : Bool) → same ≡ false → good_units (refused ∷ []) ≡ []
         → good_units (if room then (if same then Good (Framed f) else refused) ∷ [] else []) ≡ []
@@ -114,41 +167,41 @@ module _ (start : HostMachine) (keys : Keys) (records : Option (List (List ℕ))
         let t : List ℕ = unit_text (Framed f) in
         let c : List ℕ = garbled garble t in
         subst (λ (l : List LineUnit). Here (told ++ entry.Written Chip t ∷ told_by Chip bytes (Changed garble) t) (came ++ l)) (sym (changed_none f (Refused (BadSum (wanted_sum c) (found_sum c))) (fits bytes t) (garble.xor == 0) other refl))
-        (by c (fits bytes c))
+        (by c (refl, garbled_answers_none garble f) (fits bytes c))
       where
-        by : (c : List ℕ) (room : Bool) → Here (told ++ entry.Written Chip (unit_text (Framed f)) ∷ (entry.Garbled Chip c ∷ (if room then [] else entry.Overrun Chip ∷ []))) (came ++ [])
-        by c true = misses told came (unit_text (Framed f)) (entry.Garbled Chip c ∷ []) tt run
-        by c false = misses told came (unit_text (Framed f)) (entry.Garbled Chip c ∷ (entry.Overrun Chip ∷ [])) tt run
+        by : (c : List ℕ) → (is_answer (unit_text (Framed f)) ≡ false) × (is_answer c ≡ false) → (room : Bool) → Here (told ++ entry.Written Chip (unit_text (Framed f)) ∷ (entry.Garbled Chip c ∷ (if room then [] else entry.Overrun Chip ∷ []))) (came ++ [])
+        by c changes true = misses told came (unit_text (Framed f)) (entry.Garbled Chip c ∷ []) tt changes run
+        by c changes false = misses told came (unit_text (Framed f)) (entry.Garbled Chip c ∷ (entry.Overrun Chip ∷ [])) tt changes run
 
     -- by the change that waits
-    change_by : (told : List Entry) (came : List LineUnit) (bytes : List ℕ) (unit : LineUnit) (garbles : List Garble) → AllChange garbles → Here told came
+    change_by : (told : List Entry) (came : List LineUnit) (bytes : List ℕ) (unit : LineUnit) (garbles : List Garble) → MayCome here unit → AllChange garbles → Here told came
         → By told came bytes unit (change_for garbles unit) (if fits bytes (unit_text unit) then unit_item garbles unit ∷ [] else [])
-    change_by told came bytes Ack garbles all run = free_by told came Ack (fits bytes (unit_text Ack)) run
-    change_by told came bytes Nak garbles all run = free_by told came Nak (fits bytes (unit_text Nak)) run
-    change_by told came bytes Can garbles all run = free_by told came Can (fits bytes (unit_text Can)) run
-    change_by told came bytes (Framed f) [] all run = free_by told came (Framed f) (fits bytes (unit_text (Framed f))) run
-    change_by told came bytes (Framed f) (garble ∷ garbles) all run = changed_by told came bytes f garble all.0 run
+    change_by told came bytes Ack garbles may all run = free_by told came Ack (fits bytes (unit_text Ack)) may run
+    change_by told came bytes Nak garbles may all run = free_by told came Nak (fits bytes (unit_text Nak)) may run
+    change_by told came bytes Can garbles may all run = free_by told came Can (fits bytes (unit_text Can)) may run
+    change_by told came bytes (Framed f) [] may all run = free_by told came (Framed f) (fits bytes (unit_text (Framed f))) (inl tt) run
+    change_by told came bytes (Framed f) (garble ∷ garbles) may all run = changed_by told came bytes f garble all.0 run
 
-    pub unit_run : (told : List Entry) (came : List LineUnit) (w : WayState) (unit : LineUnit) → AllChange w.marks.garbles → Here told came
+    pub unit_run : (told : List Entry) (came : List LineUnit) (w : WayState) (unit : LineUnit) → MayCome here unit → AllChange w.marks.garbles → Here told came
         → Here (told ++ way.told Chip w unit) (came ++ good_units (items_of w unit))
-    unit_run told came w unit all run = by (nat_lt 0 w.marks.drops)
+    unit_run told came w unit may all run = by (nat_lt 0 w.marks.drops)
       where
         by : (b : Bool) → By told came w.bytes unit (if b then Lost else change_for w.marks.garbles unit)
             (if fits w.bytes (unit_text unit) then (if b then [] else unit_item w.marks.garbles unit ∷ []) else [])
         by true = lost_by told came w.bytes unit (fits w.bytes (unit_text unit)) run
-        by false = change_by told came w.bytes unit w.marks.garbles all run
+        by false = change_by told came w.bytes unit w.marks.garbles may all run
 
     -- units one after another, among entries of others
-    pub tells_run : (units : List LineUnit) (entries told : List Entry) (came : List LineUnit) (w : WayState) → AllChange w.marks.garbles → Tells IsOfOthers Chip w units entries → Here told came
-        → Here (told ++ entries) (came ++ good_units (items_all w units))
-    tells_run [] entries told came w all tells run = subst (λ (l : List LineUnit). Here (told ++ entries) l) (sym (append-nil came)) (asides_run entries told came tells run)
-    tells_run (unit ∷ units) entries told came w all (before, rest, is, asides, more) run =
+    pub tells_run : (units : List LineUnit) (entries told : List Entry) (came : List LineUnit) (w : WayState) → AllByRecursion (MayCome here) units → AllChange w.marks.garbles
+        → Tells IsOfOthers Chip w units entries → Here told came → Here (told ++ entries) (came ++ good_units (items_all w units))
+    tells_run [] entries told came w may all tells run = subst (λ (l : List LineUnit). Here (told ++ entries) l) (sym (append-nil came)) (asides_run entries told came tells run)
+    tells_run (unit ∷ units) entries told came w may all (before, rest, is, asides, more) run =
         let one : List Entry = way.told Chip w unit in
         let next : WayState = after w (Writes unit) in
         let first : Here (told ++ before) came = asides_run before told came asides run in
-        let second : Here ((told ++ before) ++ one) (came ++ good_units (items_of w unit)) = unit_run (told ++ before) came w unit all first in
+        let second : Here ((told ++ before) ++ one) (came ++ good_units (items_of w unit)) = unit_run (told ++ before) came w unit may.0 all first in
         let third : Here (((told ++ before) ++ one) ++ rest) ((came ++ good_units (items_of w unit)) ++ good_units (items_all next units)) =
-        tells_run units rest ((told ++ before) ++ one) (came ++ good_units (items_of w unit)) next (changes_left w unit all) more second in
+        tells_run units rest ((told ++ before) ++ one) (came ++ good_units (items_of w unit)) next may.1 (changes_left w unit all) more second in
         let texts : ((told ++ before) ++ one) ++ rest ≡ told ++ entries =
         append_assoc (told ++ before) one rest ∙ append_assoc told before (one ++ rest) ∙ ap (λ (l : List Entry). told ++ l) (sym is) in
         let units_are : (came ++ good_units (items_of w unit)) ++ good_units (items_all next units) ≡ came ++ good_units (items_of w unit ++ items_all next units) =

@@ -19,7 +19,7 @@ use Rattle.proof_walk.specs.Outside.{IsHostNote}
 use Rattle.proof_walk.proofs.HostNotes.{NoteOuts, all_outs_note}
 use Rattle.proof_line.proofs.Holding.{NoMark}
 use Rattle.proof_alone.specs.State.{HostMachine}
-use Rattle.proof_alone.specs.Steps.{AreTold, DidNotCome, IsOfUnit, Step, Tells, Comes, Misses, Says, Says_nothing, Asks, Refuses, Shows, Restarts, Begins_tick, Numbers, Judges, Does, entries, happens}
+use Rattle.proof_alone.specs.Steps.{AreTold, ChangesFrame, DidNotCome, IsOfUnit, Step, Tells, Comes, Misses, Says, Says_nothing, Asks, Refuses, Shows, Restarts, Begins_tick, Numbers, Judges, Does, entries, happens}
 use Rattle.proof_alone.specs.Phases.{Phase, IsBetween, May}
 use Rattle.proof_alone.specs.Runs.{Knowledge, Run, WalkOver, both_know}
 use Rattle.proof_alone.specs.Runs.Run.{Begins, Stepped, Turned}
@@ -179,14 +179,14 @@ module _ (start : HostMachine) where
 
   -- a unit that did not come
   misses_run : (here next : Phase) (past : List Entry) (m : HostMachine) (text : List ℕ) (marks : List Entry) → IsBetween here → m.awaits ≡ false → next ≡ here → DidNotCome marks
-      → Run start here (heard_by_host past) m → Run start next (heard_by_host (past ++ entry.Written Chip text ∷ marks)) m
-  misses_run here next past m text (entry.Dropped Chip ∷ []) between awaits is none ran = left_out here next past (entry.Written Chip text ∷ entry.Dropped Chip ∷ []) m tt refl is ran
-  misses_run here next past m text (entry.Overrun Chip ∷ []) between awaits is none ran = left_out here next past (entry.Written Chip text ∷ entry.Overrun Chip ∷ []) m tt refl is ran
-  misses_run here next past m text (entry.Garbled Chip changed ∷ []) between awaits is none ran =
-      Stepped (Misses changed (entry.Garbled Chip changed ∷ [])) (between, tt, awaits, is) (after_it past (entry.Written Chip text ∷ entry.Garbled Chip changed ∷ []) tt) refl ran
-  misses_run here next past m text (entry.Garbled Chip changed ∷ entry.Overrun Chip ∷ []) between awaits is none ran =
+      → ChangesFrame text marks → Run start here (heard_by_host past) m → Run start next (heard_by_host (past ++ entry.Written Chip text ∷ marks)) m
+  misses_run here next past m text (entry.Dropped Chip ∷ []) between awaits is none changes ran = left_out here next past (entry.Written Chip text ∷ entry.Dropped Chip ∷ []) m tt refl is ran
+  misses_run here next past m text (entry.Overrun Chip ∷ []) between awaits is none changes ran = left_out here next past (entry.Written Chip text ∷ entry.Overrun Chip ∷ []) m tt refl is ran
+  misses_run here next past m text (entry.Garbled Chip changed ∷ []) between awaits is none changes ran =
+      Stepped (Misses changed (entry.Garbled Chip changed ∷ [])) (between, tt, awaits, is, (changes.1, changes.1)) (after_it past (entry.Written Chip text ∷ entry.Garbled Chip changed ∷ []) tt) refl ran
+  misses_run here next past m text (entry.Garbled Chip changed ∷ entry.Overrun Chip ∷ []) between awaits is none changes ran =
       left_out here next past (entry.Written Chip text ∷ entry.Garbled Chip changed ∷ entry.Overrun Chip ∷ []) m tt refl is ran
-  misses_run here next past m text marks between awaits is none ran = absurd none
+  misses_run here next past m text marks between awaits is none changes ran = absurd none
 
   -- a refusal: that of a line of others is not heard
   refusal_goes : (here next : Phase) (past : List Entry) (m : HostMachine) (refused : Refusal) → May here m (Refuses refused) next → KnowsWords here past m → Know here past m
@@ -214,7 +214,7 @@ module _ (start : HostMachine) where
   step_goes here next past m (Tells e) may words ran = (anything past (e ∷ []), aside_run here next past m e may ran)
   step_goes here next past m (Comes unit) may words ran = kept here next past m (Comes unit) may tt (λ before. refl) ran
   step_goes here next past m (Misses text marks) may words ran =
-      (anything past (entry.Written Chip text ∷ marks), misses_run here next past m text marks may.0 may.2 may.3 may.1 ran)
+      (anything past (entry.Written Chip text ∷ marks), misses_run here next past m text marks may.0 may.2 may.3 may.1 may.4 ran)
   step_goes here next past m (Says words line) may known ran = kept here next past m (Says words line) may tt (λ before. refl) ran
   step_goes here next past m (Says_nothing words) may known ran = kept here next past m (Says_nothing words) may tt (λ before. refl) ran
   step_goes here next past m (Asks event) may words ran = kept here next past m (Asks event) may (answers_apart m.state event) (answers_heard m.state event) ran

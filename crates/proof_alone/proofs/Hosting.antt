@@ -26,7 +26,7 @@ use Rattle.world_model.specs.State.{routed, routed_one, with_texts}
 use Rattle.proof_serial.specs.Units.{good_units}
 use Rattle.proof_walk.proofs.Times.{time_of}
 use Rattle.proof_alone.specs.State.{HostMachine, host_machine}
-use Rattle.proof_alone.specs.Steps.{AreTold, Does, Judges, TakesItem}
+use Rattle.proof_alone.specs.Steps.{AreFrames, AreTold, Does, Judges, TakesItem}
 use Rattle.proof_alone.specs.Phases.{Phase, Resting, Risen, Ticking, Open, Behind, Sleeping, Submitting, GoesBy}
 use Rattle.proof_alone.specs.Runs.{Run}
 use Rattle.proof_alone.specs.Runs.Run.{Stepped, Turned}
@@ -159,13 +159,13 @@ module _ (W : Type 0) (at : W → OuterState) (put : W → List HostOut → List
       → To Risen past records h came w → Then Open past records h came w (tick_events h)
   tick_run past records h came w may run = Turned refl (part_run Ticking (λ first more g. (refl, refl)) (tick_events h) past records h came w may (Turned refl run))
 
-  lets_run : (events : List HostEvent) (past : List Entry) (records : Option (List (List ℕ))) (h : HostState) (came : List LineUnit) (w : W) → LetsSleep h events → MayAll h events
+  lets_run : (events : List HostEvent) (past : List Entry) (records : Option (List (List ℕ))) (h : HostState) (came : List LineUnit) (w : W) → AreFrames came → LetsSleep h events → MayAll h events
       → To Sleeping past records h came w → Then Submitting past records h came w events
-  lets_run [] past records h came w lets may run = Turned (lets, refl) (then_none Sleeping past records h came w run)
-  lets_run (event ∷ events) past records h came w (node, wants, is, more) may run =
+  lets_run [] past records h came w frames lets may run = Turned (lets, refl, frames) (then_none Sleeping past records h came w run)
+  lets_run (event ∷ events) past records h came w frames (node, wants, is, more) may run =
       let one = does_run Sleeping Sleeping past records h came w event (node, wants, is, refl) (may.0, tt, may.2) run in
       then_both Submitting past records h came w (event ∷ []) events
-      (lets_run events (past ++ told w h (event ∷ [])) (kept records h (event ∷ [])) (after h event) came (later w h (event ∷ [])) more may.1 one)
+      (lets_run events (past ++ told w h (event ∷ [])) (kept records h (event ∷ [])) (after h event) came (later w h (event ∷ [])) frames more may.1 one)
 
   submits_run : (events : List HostEvent) (past : List Entry) (records : Option (List (List ℕ))) (h : HostState) (came : List LineUnit) (w : W) → Submits h events → MayAll h events
       → To Submitting past records h came w → Then Resting past records h came w events
@@ -175,22 +175,22 @@ module _ (W : Type 0) (at : W → OuterState) (put : W → List HostOut → List
       then_both Resting past records h came w (event ∷ []) events
       (submits_run events (past ++ told w h (event ∷ [])) (kept records h (event ∷ [])) (after h event) came (later w h (event ∷ [])) more may.1 one)
 
-  pub pump_run : (events : List HostEvent) (past : List Entry) (records : Option (List (List ℕ))) (h : HostState) (came : List LineUnit) (w : W) → Pumps h events → MayAll h events
+  pub pump_run : (events : List HostEvent) (past : List Entry) (records : Option (List (List ℕ))) (h : HostState) (came : List LineUnit) (w : W) → AreFrames came → Pumps h events → MayAll h events
       → To Open past records h came w → Then Resting past records h came w events
-  pump_run events past records h came w (first, more, are, lets, submits) may run =
+  pump_run events past records h came w frames (first, more, are, lets, submits) may run =
       let both : MayAll h (first ++ more) = subst (MayAll h) are may in
       subst (λ (l : List HostEvent). Then Resting past records h came w l) (sym are)
       (then_both Resting past records h came w first more
       (submits_run more (past ++ told w h first) (kept records h first) (after_all h first) came (later w h first) submits (may_rest h first more both)
-      (lets_run first past records h came w lets (may_first h first more both) (Turned refl run))))
+      (lets_run first past records h came w frames lets (may_first h first more both) (Turned refl run))))
 
   -- a tick, and the pump that follows
-  pub tick_and_pump : (pumped : List HostEvent) (past : List Entry) (records : Option (List (List ℕ))) (h : HostState) (came : List LineUnit) (w : W) → Pumps (after_all h (tick_events h)) pumped
+  pub tick_and_pump : (pumped : List HostEvent) (past : List Entry) (records : Option (List (List ℕ))) (h : HostState) (came : List LineUnit) (w : W) → AreFrames came → Pumps (after_all h (tick_events h)) pumped
       → MayAll h (tick_events h ++ pumped) → To Risen past records h came w → Then Resting past records h came w (tick_events h ++ pumped)
-  tick_and_pump pumped past records h came w pumps may run =
+  tick_and_pump pumped past records h came w frames pumps may run =
       let events : List HostEvent = tick_events h in
       then_both Resting past records h came w events pumped
-      (pump_run pumped (past ++ told w h events) (kept records h events) (after_all h events) came (later w h events) pumps (may_rest h events pumped may)
+      (pump_run pumped (past ++ told w h events) (kept records h events) (after_all h events) came (later w h events) frames pumps (may_rest h events pumped may)
       (tick_run past records h came w (may_first h events pumped may) run))
 
   -- ---- items

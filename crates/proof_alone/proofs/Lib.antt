@@ -11,8 +11,9 @@ mod ReadingWalk
 mod Words
 mod Hearing
 pub mod Apart
-mod Timing
+pub mod Timing
 pub mod InOrder
 pub mod Tabling
 pub mod Answering
 pub mod Carrying
+pub mod Listening

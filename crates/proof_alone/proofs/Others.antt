@@ -1,5 +1,5 @@
 -- What is entered of what happens outside the host: units of the chip, among entries of others, and no note of a host.
-use Rattle.std.proofs.Common.{◌≡◌, ℕ, true, false, List, [], ◌∷◌, ◌++◌, length, refl, sym, ap, subst}
+use Rattle.std.proofs.Common.{◌≡◌, ℕ, true, false, List, [], ◌∷◌, ◌++◌, length, refl, sym, ap, subst, arith}
 use Rattle.std.specs.Prelude.{Option, Some, None}
 use Rattle.std.specs.List.{AllByRecursion}
 use Rattle.zw_base.proofs.Each.{all-append, all-left, all-right, all-weaker}
@@ -7,6 +7,7 @@ use Rattle.serial_frame.specs.Items.{IsUnit, unit_text}
 use Rattle.serial_frame.specs.Stream.{Rest}
 use Rattle.serial_frame.specs.declared.item.Item.{Item}
 use Rattle.serial_frame.specs.declared.unit.Unit.{Unit as LineUnit}
+use Rattle.serial_frame.specs.declared.unit.Unit.TheVariants.{Ack, Nak, Can, Framed}
 use Rattle.serial_pipes.specs.State.{WayState, mark_for}
 use Rattle.serial_pipes.specs.Events.{Writes, after as way_after, told}
 use Rattle.route_table.specs.declared.route.Route.{Route}
@@ -36,9 +37,9 @@ use Rattle.proof_walk.proofs.Linking.{acts_of_air, of_link}
 use Rattle.proof_walk.proofs.Stamping.{Fits, outcome_comes, steps_come}
 use Rattle.proof_walk.proofs.Times.{IsWithin}
 use Rattle.proof_line.proofs.Holding.{TellsNothing}
-use Rattle.proof_line.proofs.Tellings.{IsBeside, Tells, tells_weaker}
+use Rattle.proof_line.proofs.Tellings.{IsBeside, Tells, answers_all, tells_weaker}
 use Rattle.proof_line.proofs.ChipTelling.{IsArriving, arriving_tells, line_tells, takes_tell, tick_tells}
-use Rattle.proof_alone.specs.Steps.{IsOfOthers}
+use Rattle.proof_alone.specs.Steps.{AreFrames, IsOfOthers}
 
 -- ---- what may be entered there
 
@@ -245,26 +246,44 @@ pub record ToldOutside (w : Outside) (event : OuterEvent) : Type 0 where
   pub to_host : (outcome w event).outer.to_host.bytes ≡ (written_all w.outer.to_host units).bytes
   pub fit : HasFrames (outcome w event).outer.chip.state.port → AllByRecursion IsUnit units
 
-pub arriving_told : (w : Outside) (event : OuterEvent) → IsArriving event → IsOfChip event → is_own event ≡ true → May w event → ToldOutside w event
+-- all of them frames
+pub record ToldFrames (w : Outside) (event : OuterEvent) : Type 0 where
+  pub all : ToldOutside w event
+  pub framed : AreFrames all.units
+
+unanswering : (units : List LineUnit) → answers_all units ≡ 0 → AreFrames units
+unanswering [] none = tt
+unanswering (Framed f ∷ units) none = (tt, unanswering units (omega (arith, none)))
+unanswering (Ack ∷ units) none = absurd (omega (arith, none))
+unanswering (Nak ∷ units) none = absurd (omega (arith, none))
+unanswering (Can ∷ units) none = absurd (omega (arith, none))
+
+pub arriving_told : (w : Outside) (event : OuterEvent) → IsArriving event → IsOfChip event → is_own event ≡ true → May w event → ToldFrames w event
 arriving_told w event arriving of_chip own may =
     let got = arriving_tells w event arriving in
     record {
-      units = got.units;
-      told = strictly w.outer.to_host got.units (outcome w event).entries (tells_weaker IsBeside TellsNothing (λ e beside. beside.0) by_chip w.outer.to_host got.units (outcome w event).entries got.told)
-          (chip_other w event of_chip may) (own_other w event own);
-      to_host = got.to_host;
-      fit = got.fit;
+      all = record {
+        units = got.units;
+        told = strictly w.outer.to_host got.units (outcome w event).entries (tells_weaker IsBeside TellsNothing (λ e beside. beside.0) by_chip w.outer.to_host got.units (outcome w event).entries got.told)
+            (chip_other w event of_chip may) (own_other w event own);
+        to_host = got.to_host;
+        fit = got.fit;
+      };
+      framed = unanswering got.units got.frames;
     }
 
-pub tick_told : (w : Outside) → HasFrames w.outer.chip.state.port → May w Chip_ticks → ToldOutside w Chip_ticks
+pub tick_told : (w : Outside) → HasFrames w.outer.chip.state.port → May w Chip_ticks → ToldFrames w Chip_ticks
 tick_told w has may =
     let got = tick_tells w has in
     record {
-      units = got.units;
-      told = strictly w.outer.to_host got.units (outcome w Chip_ticks).entries
-          (tells_weaker IsBeside TellsNothing (λ e beside. beside.0) by_chip w.outer.to_host got.units (outcome w Chip_ticks).entries got.told) (chip_other w Chip_ticks tt may) (own_other w Chip_ticks refl);
-      to_host = got.to_host;
-      fit = got.fit;
+      all = record {
+        units = got.units;
+        told = strictly w.outer.to_host got.units (outcome w Chip_ticks).entries
+            (tells_weaker IsBeside TellsNothing (λ e beside. beside.0) by_chip w.outer.to_host got.units (outcome w Chip_ticks).entries got.told) (chip_other w Chip_ticks tt may) (own_other w Chip_ticks refl);
+        to_host = got.to_host;
+        fit = got.fit;
+      };
+      framed = unanswering got.units got.frames;
     }
 
 -- what the chip judges it may
@@ -287,15 +306,18 @@ takes_told w count rest ways has may =
 
 -- a frame is heard again
 pub repeats_told : (w : Outside) (number : ℕ) (drawn : List ℕ) (route : Option Route) → (outcome w (Repeats number drawn route)).entries ≡ (steps w (mesh.Repeats number drawn route)).entries
-    → MayHappen (mesh_of w) (mesh.Repeats number drawn route) → ToldOutside w (Repeats number drawn route)
+    → MayHappen (mesh_of w) (mesh.Repeats number drawn route) → ToldFrames w (Repeats number drawn route)
 repeats_told w number drawn route same may =
     let event : OuterEvent = Repeats number drawn route in
     let got = line_tells w event tt in
     record {
-      units = got.units;
-      told = strictly w.outer.to_host got.units (outcome w event).entries got.told (subst AreOther (sym same) (steps_other w (mesh.Repeats number drawn route) tt may)) (own_other w event refl);
-      to_host = got.to_host;
-      fit = got.fit;
+      all = record {
+        units = got.units;
+        told = strictly w.outer.to_host got.units (outcome w event).entries got.told (subst AreOther (sym same) (steps_other w (mesh.Repeats number drawn route) tt may)) (own_other w event refl);
+        to_host = got.to_host;
+        fit = got.fit;
+      };
+      framed = unanswering got.units got.frames;
     }
 
 -- what a device does by itself

@@ -1,6 +1,7 @@
 -- The reading of the simulator's machine goes on: with what happens outside the host, with what the host does, and where it takes bytes.
-use Rattle.std.proofs.Common.{◌≡◌, ℕ, suc, Bool, true, false, List, [], ◌∷◌, ◌++◌, refl, sym, ap, ◌∙◌, subst, append-nil}
+use Rattle.std.proofs.Common.{◌≡◌, ℕ, suc, Bool, true, false, inl, inr, List, [], ◌∷◌, ◌++◌, length, refl, sym, ap, ◌∙◌, subst, append-nil}
 use Rattle.std.specs.List.{AllByRecursion}
+use Rattle.zw_base.proofs.Each.{all-append, all-weaker}
 use Rattle.serial_frame.specs.Stream.{Feeds, Rest, no_rest}
 use Rattle.serial_frame.specs.declared.item.Item.{Item}
 use Rattle.serial_frame.specs.declared.unit.Unit.{Unit as LineUnit}
@@ -20,6 +21,7 @@ use Rattle.proof_serial.specs.Chip.{HasFrames}
 use Rattle.proof_serial.specs.Line.{Carried, LineAfter}
 use Rattle.proof_serial.specs.Units.{good_units}
 use Rattle.proof_serial.specs.Way.{Carries, items_all, written_all}
+use Rattle.proof_serial.proofs.EndedItems.{feeds_all}
 use Rattle.proof_serial.proofs.Events.{event_after}
 use Rattle.proof_serial.proofs.Outer.{entered_still}
 use Rattle.proof_serial.proofs.Ways.{carries_all}
@@ -27,14 +29,14 @@ use Rattle.proof_walk.proofs.Times.{IsWithin, outcome_time}
 use Rattle.proof_line.proofs.Tellings.{Tells, tells_none}
 use Rattle.proof_alone.specs.State.{HostMachine, host_machine}
 use Rattle.proof_alone.specs.Steps as step
-use Rattle.proof_alone.specs.Steps.{IsOfOthers}
-use Rattle.proof_alone.specs.Phases.{GoesBy, IsBetween, Open, Phase, Resting, Risen}
-use Rattle.proof_alone.specs.Reading.{IsFine, Reads, read_of}
+use Rattle.proof_alone.specs.Steps.{AreFrames, IsFramed, IsOfOthers}
+use Rattle.proof_alone.specs.Phases.{GoesBy, IsBetween, MayCome, Open, Phase, Resting, Risen}
+use Rattle.proof_alone.specs.Reading.{IsFine, Reads, ReadsWith, read_of}
 use Rattle.proof_alone.specs.Runs.{Run}
 use Rattle.proof_alone.specs.Runs.Run.{Stepped}
-use Rattle.proof_alone.proofs.Coming.{AllChange, asides_run, at_time, good_both, stamp_run, tells_run}
+use Rattle.proof_alone.proofs.Coming.{AllChange, asides_run, at_time, framed_items, good_both, stamp_run, tells_run}
 use Rattle.proof_alone.proofs.Hosting.{does_run, items_run, outside_at, outside_enters, outside_next, outside_put}
-use Rattle.proof_alone.proofs.Others.{ToldOutside}
+use Rattle.proof_alone.proofs.Others.{ToldFrames, ToldOutside}
 use Rattle.proof_alone.proofs.Stamps.{Time3, outs_told, same_entered, same_stamp}
 
 -- the way to the host is as it was
@@ -50,18 +52,29 @@ pub may_one : (m : Machine) (event : HostEvent) → May m (Host_does event) → 
 unfolding May
 may_one m event may = may
 
+-- any unit may come where items are judged
+any_come : (units : List LineUnit) → AllByRecursion (MayCome Open) units
+any_come [] = tt
+any_come (unit ∷ units) = (inr refl, any_come units)
+
+-- all items that were on their way were judged
+none_left : (items left : List Item) → items ≡ items ++ left → left ≡ []
+none_left [] left is = sym is
+none_left (item ∷ items) left is = none_left items left cc
+
 module _ (start : HostMachine) where
   -- ---- outside the host
 
   -- what is known of its entries is enough to run on with them, where no number is to be entered
-  pub outer_reads : (here : Phase) (left : ℕ) (past : List Entry) (m : Machine) (event : OuterEvent) → IsBetween here → IsWithin event → May m (Outside_does event) → IsFine m (Outside_does event)
-      → (reads : Reads start here left past m) (tells : ToldOutside m.outside event)
+  pub outer_reads : (Only Later : List LineUnit → Type 0) (here : Phase) (left : ℕ) (past : List Entry) (m : Machine) (event : OuterEvent) → IsBetween here → IsWithin event
+      → May m (Outside_does event) → IsFine m (Outside_does event) → (reads : ReadsWith Only start here left past m) (tells : ToldOutside m.outside event)
+      → ((came : List LineUnit) → Only came → Later (came ++ good_units (items_all m.outside.outer.to_host tells.units)))
       → ((all : List Entry) → Run start here all (host_machine m.keys m.records m.host.state (good_units reads.down) m.outside.outer.clock left false)
       → Run start here (all ++ (outcome m.outside event).entries)
       (host_machine m.keys m.records m.host.state (good_units reads.down ++ good_units (items_all m.outside.outer.to_host tells.units)) m.outside.outer.clock left false))
-      → Reads start here left (past ++ entries m (Outside_does event)) (happens m (Outside_does event))
+      → ReadsWith Later start here left (past ++ entries m (Outside_does event)) (happens m (Outside_does event))
   unfolding happens entries
-  outer_reads here left past m event between within may fine reads tells runs =
+  outer_reads Only Later here left past m event between within may fine reads tells grows runs =
       let after : LineAfter m (Outside_does event) reads.up reads.down = event_after m (Outside_does event) reads.up reads.down reads.carried reads.frames may fine.0 fine.1 in
       let still = entered_still x.outer said in
       let fit = tells.fit (subst (λ (c : ChipParts). HasFrames c.state.port) still.chip after.frames) in
@@ -76,6 +89,8 @@ module _ (start : HostMachine) where
           to_host = subst (λ (l : List ℕ). Feeds m.host.decoder l no_rest (reads.down ++ more)) (sym bytes) (carries_all m.host.decoder o.to_host tells.units reads.down reads.carried.to_host fit);
         };
         frames = after.frames;
+        rests = after.at_host ∙ reads.rests;
+        only = subst Later (sym (good_both reads.down more)) (grows came reads.only);
         run = subst (λ (l : List LineUnit). Run start here (past ++ stamp x.outer said) (read_of left (happens m (Outside_does event)) l)) (sym (good_both reads.down more))
             (subst (λ (l : List Entry). Run start here (past ++ l) (read_of left (happens m (Outside_does event)) (came ++ good_units more))) (sym (same_stamp o x.outer said same))
             (subst (λ (t : Time3). Run start here (past ++ stamp o said) (at_time m.keys m.records m.host.state (came ++ good_units more) left t)) (sym (same_entered o x.outer said same)) ran));
@@ -110,21 +125,34 @@ module _ (start : HostMachine) where
       goes true all silent run = none all (silent refl) run
       goes false all silent run = runs all run
 
-  -- units of the chip among entries of others, where each change that waits changes its frame
+  -- frames of the chip among entries of others, where each change that waits changes its frame
   pub told_reads : (here : Phase) (left : ℕ) (past : List Entry) (m : Machine) (event : OuterEvent) → IsBetween here → IsWithin event → May m (Outside_does event) → IsFine m (Outside_does event)
-      → AllChange m.outside.outer.to_host.marks.garbles → ToldOutside m.outside event → Reads start here left past m
+      → AllChange m.outside.outer.to_host.marks.garbles → ToldFrames m.outside event → Reads start here left past m
       → Reads start here left (past ++ entries m (Outside_does event)) (happens m (Outside_does event))
   told_reads here left past m event between within may fine changes tells reads =
-      outer_reads here left past m event between within may fine reads tells
+      outer_reads AreFrames AreFrames here left past m event between within may fine reads tells.all
+      (λ came all. all-append IsFramed came (good_units (items_all m.outside.outer.to_host tells.all.units)) all (framed_items m.outside.outer.to_host tells.all.units tells.framed))
       (λ all run.
-      tells_run start m.keys m.records m.host.state left here between m.outside.outer.clock tells.units (outcome m.outside event).entries all (good_units reads.down) m.outside.outer.to_host changes tells.told run)
+      tells_run start m.keys m.records m.host.state left here between m.outside.outer.clock tells.all.units (outcome m.outside event).entries all (good_units reads.down) m.outside.outer.to_host
+      (all-weaker IsFramed (MayCome here) (λ unit framed. inl framed) tells.all.units tells.framed) changes tells.all.told run)
+
+  -- any units of it, where they may be judged
+  pub answered_reads : (Later : List LineUnit → Type 0) (left : ℕ) (past : List Entry) (m : Machine) (event : OuterEvent) → IsWithin event → May m (Outside_does event) → IsFine m (Outside_does event)
+      → AllChange m.outside.outer.to_host.marks.garbles → ToldOutside m.outside event → ((came : List LineUnit) → Later came) → Reads start Open left past m
+      → ReadsWith Later start Open left (past ++ entries m (Outside_does event)) (happens m (Outside_does event))
+  answered_reads Later left past m event within may fine changes tells later reads =
+      outer_reads AreFrames Later Open left past m event tt within may fine reads tells (λ came all. later (came ++ good_units (items_all m.outside.outer.to_host tells.units)))
+      (λ all run.
+      tells_run start m.keys m.records m.host.state left Open tt m.outside.outer.clock tells.units (outcome m.outside event).entries all (good_units reads.down) m.outside.outer.to_host (any_come tells.units) changes
+      tells.told run)
 
   -- entries of others alone
   pub quiet_reads : (here : Phase) (left : ℕ) (past : List Entry) (m : Machine) (event : OuterEvent) → IsBetween here → IsWithin event → May m (Outside_does event) → IsFine m (Outside_does event)
       → AllByRecursion IsOfOthers (outcome m.outside event).entries → (outcome m.outside event).outer.to_host.bytes ≡ m.outside.outer.to_host.bytes → Reads start here left past m
       → Reads start here left (past ++ entries m (Outside_does event)) (happens m (Outside_does event))
   quiet_reads here left past m event between within may fine asides bytes reads =
-      outer_reads here left past m event between within may fine reads (record { units = []; told = asides; to_host = bytes; fit = λ has. tt })
+      outer_reads AreFrames AreFrames here left past m event between within may fine reads (record { units = []; told = asides; to_host = bytes; fit = λ has. tt })
+      (λ came all. subst AreFrames (sym (append-nil came)) all)
       (λ all run.
       subst (λ (l : List LineUnit). Run start here (all ++ (outcome m.outside event).entries) (host_machine m.keys m.records m.host.state l m.outside.outer.clock left false))
       (sym (append-nil (good_units reads.down)))
@@ -141,6 +169,8 @@ module _ (start : HostMachine) where
         down = reads.down;
         carried = record { to_chip = after.carried.to_chip; to_host = reads.carried.to_host };
         frames = after.frames;
+        rests = reads.rests;
+        only = reads.only;
         run = Stepped (step.Begins_tick left) (refl, refl, refl) refl refl reads.run;
       }
 
@@ -170,6 +200,8 @@ module _ (start : HostMachine) where
         carried = same_way m n reads.up after.up_after reads.down after.carried.to_chip (ap (λ (k : Machine). k.host.decoder) same)
             (ap (λ (k : Machine). k.outside.outer.to_host.bytes) same ∙ ap (λ (y : WayState). y.bytes) (way_stays m event)) reads.carried;
         frames = after.frames;
+        rests = after.at_host ∙ reads.rests;
+        only = reads.only;
         run = subst (λ (l : List Entry). Run start next (past ++ l) (read_of left n (good_units reads.down))) (sym (silent_entries m event none))
             (subst (λ (k : Machine). Run start next (past ++ host_entries m (event ∷ [])) (read_of left k (good_units reads.down))) (sym same) ran);
       }
@@ -177,13 +209,15 @@ module _ (start : HostMachine) where
       way_stays : (m : Machine) (event : HostEvent) → (host_does m (event ∷ [])).outside.outer.to_host ≡ m.outside.outer.to_host
       way_stays m event = (outs_told (outs_all m.host.state (event ∷ [])) m.outside).to_host
 
-  -- it takes bytes, and judges the items that end in them
-  pub takes_reads : (left : ℕ) (past : List Entry) (m : Machine) (count : ℕ) (rest : Rest) (items : List Item) (events : List HostEvent) → May m (Host_takes count rest items events)
-      → IsFine m (Host_takes count rest items events) → Reads start Open left past m
-      → Reads start Open left (past ++ entries m (Host_takes count rest items events)) (happens m (Host_takes count rest items events))
+  -- it takes all bytes, and judges the items that end in them
+  pub takes_reads : (Only : List LineUnit → Type 0) (left : ℕ) (past : List Entry) (m : Machine) (rest : Rest) (items : List Item) (events : List HostEvent)
+      → May m (Host_takes (length m.outside.outer.to_host.bytes) rest items events) → IsFine m (Host_takes (length m.outside.outer.to_host.bytes) rest items events) → ReadsWith Only start Open left past m
+      → Reads start Open left (past ++ entries m (Host_takes (length m.outside.outer.to_host.bytes) rest items events)) (happens m (Host_takes (length m.outside.outer.to_host.bytes) rest items events))
   unfolding happens entries outcome devices_after May
-  takes_reads left past m count rest items events may fine reads =
+  takes_reads Only left past m rest items events may fine reads =
+      let count : ℕ = length m.outside.outer.to_host.bytes in
       let event : Event = Host_takes count rest items events in
+      let all = feeds_all m.host.decoder rest m.outside.outer.to_host.bytes reads.down items may.feeds reads.carried.to_host in
       let after : LineAfter m event reads.up reads.down = event_after m event reads.up reads.down reads.carried reads.frames may fine.0 fine.1 in
       let came : good_units reads.down ≡ good_units items ++ good_units after.down_after = ap good_units after.down_is ∙ good_both items after.down_after in
       record {
@@ -191,6 +225,8 @@ module _ (start : HostMachine) where
         down = after.down_after;
         carried = after.carried;
         frames = after.frames;
+        rests = all.rest;
+        only = subst (λ (l : List Item). AreFrames (good_units l)) (sym (none_left items after.down_after (all.all ∙ after.down_is))) tt;
         run = items_run Outside outside_at outside_put outside_next outside_enters start m.keys left items events past m.records m.host.state (good_units after.down_after) (fed m count rest).outside may.judged may.may
             (subst (λ (l : List LineUnit). Run start Open past (read_of left m l)) came reads.run);
       }

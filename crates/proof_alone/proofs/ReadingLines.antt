@@ -54,7 +54,7 @@ use Rattle.proof_walk.specs.ByLine.{IsAsked}
 use Rattle.proof_walk.proofs.Times.{IsWithin, time_of}
 use Rattle.proof_line.specs.Marks.{LeftMarks, Marked}
 use Rattle.proof_alone.specs.State.{HostMachine, host_machine, with_world}
-use Rattle.proof_alone.specs.Steps.{AsksNothing, IsOfOthers, IsAskedBy}
+use Rattle.proof_alone.specs.Steps.{AreFrames, AsksNothing, IsOfOthers, IsAskedBy}
 use Rattle.proof_alone.specs.Steps as step
 use Rattle.proof_alone.specs.Phases.{Asked, Open}
 use Rattle.proof_alone.specs.Reading.{EffectReads, IsByHand, IsFine, IsSilent, LeavesHost, Reads, ReadsCleared, read_of}
@@ -193,7 +193,7 @@ module _ (start : HostMachine) where
   -- ---- where a line has begun
 
   opens : (line : Line) (past : List Entry) (m : Machine) → AsksNothing line → Reads start (Asked line) 0 past m → Reads start Open 0 past m
-  opens line past m nothing reads = record { up = reads.up; down = reads.down; carried = reads.carried; frames = reads.frames; run = Turned (inl (nothing, refl)) reads.run }
+  opens line past m nothing reads = record { up = reads.up; down = reads.down; carried = reads.carried; frames = reads.frames; rests = reads.rests; only = reads.only; run = Turned (inl (nothing, refl)) reads.run }
 
   silent_reads : (past : List Entry) (m : Machine) (event : OuterEvent) → IsSilent event → May m (Outside_does event) → IsFine m (Outside_does event) → Reads start Open 0 past m
       → Reads start Open 0 (past ++ entries m (Outside_does event)) (happens m (Outside_does event))
@@ -212,6 +212,8 @@ module _ (start : HostMachine) where
         down = reads.down;
         carried = record { to_chip = after_it.carried.to_chip; to_host = reads.carried.to_host };
         frames = after_it.frames;
+        rests = reads.rests;
+        only = reads.only;
         run = subst (λ (l : List Entry). Run start (Asked lines.Discover) l (read_of 0 m (good_units reads.down))) (sym (append-nil past)) reads.run;
       }
 
@@ -239,6 +241,8 @@ module _ (start : HostMachine) where
         down = reads.down;
         carried = same_way m n reads.up after_it.up_after reads.down after_it.carried.to_chip got.decoder got.to_host reads.carried;
         frames = after_it.frames;
+        rests = after_it.at_host ∙ reads.rests;
+        only = reads.only;
         run = subst (λ (k : Keys). Run start Open said (at_time k n.records n.host.state came 0 (time_of n.outside.outer))) (sym got.keys)
             (subst (λ (r : Option (List (List ℕ))). Run start Open said (at_time m.keys r n.host.state came 0 (time_of n.outside.outer))) (sym got.records)
             (subst (λ (h : HostState). Run start Open said (at_time m.keys (kept m.records m.host.state (event ∷ [])) h came 0 (time_of n.outside.outer))) (sym got.state)
@@ -276,6 +280,8 @@ module _ (start : HostMachine) where
         down = reads.down;
         carried = record { to_chip = after_it.carried.to_chip; to_host = reads.carried.to_host };
         frames = after_it.frames;
+        rests = reads.rests;
+        only = reads.only;
         run = told_run line past m.outside.outer m came (entry.Refused refused)
             (λ all there. Stepped (step.Refuses refused) (line, refl, inl (same_refused m line refused came m.outside.outer.clock 0 false may), refl, refl) refl refl there) reads.run;
       }
@@ -292,6 +298,8 @@ module _ (start : HostMachine) where
         down = reads.down;
         carried = record { to_chip = after_it.carried.to_chip; to_host = reads.carried.to_host };
         frames = after_it.frames;
+        rests = reads.rests;
+        only = reads.only;
         run = told_run (lines.Store node) past m.outside.outer m (good_units reads.down) (shown_values m.host.state node)
             (λ all there. Stepped (step.Shows node) (refl, refl, refl) refl refl there) reads.run;
       }
@@ -309,6 +317,7 @@ module _ (start : HostMachine) where
         down = after_it.down_after;
         carried = after_it.carried;
         frames = after_it.frames;
+        rests = after_it.at_host ∙ reads.rests;
         run = Stepped (step.Restarts state) (refl, may, refl) refl refl reads.run;
       }
 
@@ -345,6 +354,7 @@ module _ (start : HostMachine) where
         down = after_it.down_after;
         carried = after_it.carried;
         frames = after_it.frames;
+        rests = after_it.at_host ∙ reads.rests;
         run = clear_run past m x.outer x.entries (cleared_aside Host (length m.outside.outer.to_chip.bytes)) refl reads.run;
       }
 
@@ -360,6 +370,8 @@ module _ (start : HostMachine) where
         down = after_it.down_after;
         carried = after_it.carried;
         frames = after_it.frames;
+        rests = after_it.at_host ∙ reads.rests;
+        only = subst AreFrames (sym (ap good_units after_it.down_is)) tt;
         run = subst (λ (l : List LineUnit). Run start Open (past ++ entries m event) (read_of 0 (happens m event) l)) (sym (ap good_units after_it.down_is))
             (clear_run past m x.outer x.entries (cleared_aside Chip (length m.outside.outer.to_host.bytes)) refl reads.run);
       }
@@ -382,6 +394,8 @@ module _ (start : HostMachine) where
         down = reads.down;
         carried = same_way m n reads.up after_it.up_after reads.down after_it.carried.to_chip refl (ap (λ (y : Outcome). (has_entered y.outer y.entries).to_host.bytes) is) reads.carried;
         frames = after_it.frames;
+        rests = after_it.at_host ∙ reads.rests;
+        only = reads.only;
         run = subst (λ (y : Outcome). Run start Open (past ++ stamp y.outer y.entries) (at_time m.keys m.records m.host.state came 0 (time_of (has_entered y.outer y.entries)))) (sym is) ran;
       }
 

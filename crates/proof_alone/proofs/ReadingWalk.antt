@@ -1,7 +1,14 @@
 -- So the machine of the simulator is read as a host alone, over all lines.
-use Rattle.std.proofs.Common.{◌≡◌, ℕ, zero, suc, ◌+◌, true, false, inl, inr, List, [], ◌∷◌, ◌++◌, length, refl, sym, subst, append-nil}
+use Rattle.std.proofs.Common.{◌≡◌, ℕ, zero, suc, ◌+◌, Bool, true, false, inl, inr, List, [], ◌∷◌, ◌++◌, length, refl, sym, ◌∙◌, subst, append-nil}
 use Rattle.std.specs.Prelude.{Option}
+use Rattle.serial_frame.specs.Stream.{Feeds, Rest, no_rest}
+use Rattle.serial_frame.specs.declared.item.Item.{Item}
 use Rattle.serial_frame.specs.declared.unit.Unit.{Unit as LineUnit}
+use Rattle.route_table.specs.declared.route.Route.{Route}
+use Rattle.chip_sim.specs.Did.{judged_all}
+use Rattle.chip_sim.specs.Events.{ChipEvent, after, outs}
+use Rattle.chip_sim.specs.declared.out.ChipOut.{ChipOut}
+use Rattle.chip_sim.specs.declared.out.ChipOut.TheVariants as chip_out
 use Rattle.zw_words.specs.declared.side.Side.TheVariants.{Chip}
 use Rattle.zw_text.specs.declared.line.Line.{Line}
 use Rattle.zw_text.specs.declared.line.Line.TheVariants as lines
@@ -13,37 +20,40 @@ use Rattle.law_transcript.specs.Restarts.{ticks_of}
 use Rattle.host_model.specs.Pumping.{no_more_event}
 use Rattle.host_model.specs.Ticking.{tick_events}
 use Rattle.host_model.proofs.Silence.{tick_silent}
-use Rattle.outside_model.specs.Events.{OuterEvent, Arrives, Begins_line, Begins_tick, Chip_takes, Chip_ticks, Device_ticks, Gives, devices_after, is_own, outcome}
+use Rattle.outside_model.specs.Events.{OuterEvent, Arrives, Begins_line, Begins_tick, Chip_takes, Chip_ticks, Device_ticks, Gives, devices_after, has_entered, is_own, outcome}
 use Rattle.outside_model.specs.Events.{May as MayOutside}
 use Rattle.s0_crypto.specs.declared.key_pair.Keys.{Keys}
 use Rattle.device_sim.specs.State.{State}
-use Rattle.outside_model.specs.State.{first_outer}
+use Rattle.outside_model.specs.State.{OuterState, Outcome, Outside, first_outer, is_stalled, with_chip}
+use Rattle.outside_model.specs.Chip.{chip_does, put_out}
 use Rattle.world_model.specs.State.{Machine, first_machine}
 use Rattle.world_model.specs.Did.{AllAlong}
 use Rattle.world_model.specs.Events.{Event, Decoder_ticks, Host_does, Host_takes, Outside_does, May, entries, happens}
 use Rattle.proof_serial.specs.Line.{AllAtRest, AllWriteWell, LineAfter}
 use Rattle.proof_serial.specs.Units.{good_units}
+use Rattle.proof_serial.proofs.EndedItems.{feeds_all}
 use Rattle.proof_serial.proofs.Events.{event_after}
 use Rattle.proof_serial.proofs.First.{first_carried, first_frames}
 use Rattle.proof_walk.specs.ByLine.{begun}
-use Rattle.proof_walk.specs.Phases.{Phase, Between, Said_line, Begun, Doing, To_tick, Ticked, Arriving, Giving, Ticking_devices, Ticking_chip, Ticking_decoder, Ticking_host, Sleeping, Submitting, Moving, Moved, Goes, Turns, passes_after}
+use Rattle.proof_walk.specs.Phases.{Phase, Between, Said_line, Begun, Doing, To_tick, Ticked, Arriving, Giving, Ticking_devices, Ticking_chip, Ticking_decoder, Ticking_host, Sleeping, Submitting, Moving, Moved, Goes, IsStill, Turns, passes_after}
 use Rattle.proof_walk.specs.Walk.{Walk, WalkWhere}
 use Rattle.proof_walk.proofs.ByLine.{next_silent, no_more_silent}
 use Rattle.proof_walk.proofs.Stepping.{Steps, event_then}
-use Rattle.proof_walk.proofs.Times.{IsWithin}
+use Rattle.proof_walk.proofs.Times.{IsWithin, each_keeps}
 use Rattle.proof_line.specs.Marks.{KnowMarks, Marked, MayMark}
 use Rattle.proof_line.proofs.ChipTelling.{IsArriving}
 use Rattle.proof_alone.specs.State.{HostMachine, first_alone}
 use Rattle.proof_alone.specs.Steps as step
 use Rattle.proof_alone.specs.Phases as alone
-use Rattle.proof_alone.specs.Reading.{EffectReads, IsFine, Reads, ReadsAt, ReadsMarked, read_of}
+use Rattle.proof_alone.specs.Steps.{AreFrames}
+use Rattle.proof_alone.specs.Reading.{EffectReads, IsFine, OnlyThen, Reads, ReadsAt, ReadsMarked, ReadsWith, read_of}
 use Rattle.proof_alone.specs.Reading.EffectReads.{Asks_host, Refuses_line, Shows_node, Starts_again, Does_silently, Does_by_hand, Begins_discovery, Goes_on_asking, Clears_both, Clears_one, Is_done}
 use Rattle.proof_alone.specs.Runs.{Run, Told}
 use Rattle.proof_alone.specs.Runs.Run.{Begins, Stepped, Turned}
 use Rattle.proof_alone.proofs.Changing.{all_change}
 use Rattle.proof_alone.proofs.Coming.{AllChange}
 use Rattle.proof_alone.proofs.Others.{IsOfChip, arriving_told, takes_told, tick_told}
-use Rattle.proof_alone.proofs.Reading.{does_reads, same_way, takes_reads, tick_reads, told_reads}
+use Rattle.proof_alone.proofs.Reading.{answered_reads, does_reads, same_way, takes_reads, tick_reads, told_reads}
 use Rattle.proof_alone.proofs.ReadingLines.{effect_done, effect_next, effect_reads, marked_of}
 
 -- nothing is asked of an entry
@@ -53,6 +63,36 @@ Anything past e = Unit {0}
 pub anything : (past told : List Entry) → EachAfter Anything past told
 anything past [] = tt
 anything past (e ∷ told) = (tt, anything (past ++ e ∷ []) told)
+
+-- ---- a stall
+
+-- what the chip puts out leaves the time, and how long the line is stalled
+put_leaves : (o : OuterState) (out : ChipOut) → is_stalled (put_out o out).outer ≡ is_stalled o
+put_leaves o (chip_out.Write unit) = refl
+put_leaves o (chip_out.OnAir to route payload) = refl
+put_leaves o chip_out.NoRoute = refl
+put_leaves o (chip_out.AskInfo node) = refl
+put_leaves o chip_out.Full = refl
+
+does_leaves : (o : OuterState) (event : ChipEvent) → is_stalled (chip_does o event).outer ≡ is_stalled o
+unfolding chip_does
+does_leaves o event = each_keeps is_stalled put_out put_leaves (with_chip o (after o.chip.state event)) (outs o.chip.state event)
+
+takes_leaves : (w : Outside) (count : ℕ) (rest : Rest) (ways : List (Item × Option Route)) → is_stalled (outcome w (Chip_takes count rest ways)).outer ≡ is_stalled w.outer
+unfolding outcome
+takes_leaves w count rest ways = each_keeps is_stalled chip_does does_leaves _ (judged_all ways)
+
+entered_leaves : (o : OuterState) (told : List Entry) → is_stalled (has_entered o told) ≡ is_stalled o
+entered_leaves o [] = refl
+entered_leaves o (e ∷ told) = refl
+
+-- bytes have moved, and may move on
+moves_on : (m : Machine) (count : ℕ) (rest : Rest) (ways : List (Item × Option Route)) → May m (Outside_does (Chip_takes count rest ways))
+    → is_stalled (happens m (Outside_does (Chip_takes count rest ways))).outside.outer ≡ false
+unfolding happens May MayOutside
+moves_on m count rest ways may =
+    let x : Outcome = outcome m.outside (Chip_takes count rest ways) in
+    entered_leaves x.outer x.entries ∙ takes_leaves m.outside count rest ways ∙ may.1.moves
 
 -- where marks are known, each change that waits is one
 changes_of : (past : List Entry) (m : Machine) → Marked past m → AllChange m.outside.outer.to_host.marks.garbles
@@ -67,10 +107,18 @@ module _ (start : HostMachine) where
 
   -- ---- parts
 
-  turned : (here next : alone.Phase) (left : ℕ) (past : List Entry) (m : Machine) → ((came : List LineUnit) → alone.Turns here (read_of left m came) next) → Reads start here left past m
-      → Reads start next left past m
+  turned : (here next : alone.Phase) (left : ℕ) (past : List Entry) (m : Machine) → ((came : List LineUnit) → AreFrames came → alone.Turns here (read_of left m came) next)
+      → Reads start here left past m → Reads start next left past m
   turned here next left past m turns reads =
-      record { up = reads.up; down = reads.down; carried = reads.carried; frames = reads.frames; run = Turned (turns (good_units reads.down)) reads.run }
+      record {
+        up = reads.up;
+        down = reads.down;
+        carried = reads.carried;
+        frames = reads.frames;
+        rests = reads.rests;
+        only = reads.only;
+        run = Turned (turns (good_units reads.down) reads.only) reads.run;
+      }
 
   said_reads : (past : List Entry) (m : Machine) (words : List ℕ) (line : Line) → line_of (Said words) ≡ line ∷ [] → Reads start alone.Resting 0 past m
       → Reads start (alone.Asked line) (ticks_of line) (past ++ Said words ∷ []) (begun m)
@@ -80,6 +128,8 @@ module _ (start : HostMachine) where
     down = reads.down;
     carried = record { to_chip = reads.carried.to_chip; to_host = reads.carried.to_host };
     frames = reads.frames;
+    rests = reads.rests;
+    only = reads.only;
     run = Stepped (step.Says words line) (refl, refl, read, refl) refl refl reads.run;
   }
 
@@ -98,6 +148,8 @@ module _ (start : HostMachine) where
         down = reads.down;
         carried = same_way m n reads.up after.up_after reads.down after.carried.to_chip after.at_host refl reads.carried;
         frames = after.frames;
+        rests = after.at_host ∙ reads.rests;
+        only = reads.only;
         run = Turned refl (subst (λ (l : List Entry). Run start alone.Risen l (read_of ticks m (good_units reads.down))) (sym (append-nil past)) reads.run);
       }
 
@@ -161,14 +213,15 @@ module _ (start : HostMachine) where
       let count : ℕ = length m.outside.outer.to_chip.bytes in
       comes next (Moved true passes ticks) event (Outside_does (Chip_takes count rest ways)) past m event_is next_is may fine
       (λ may_it fine_it.
-      told_reads start alone.Resting ticks past m (Chip_takes count rest ways) tt tt may_it fine_it (changes_of past m marks)
-      (takes_told m.outside count rest ways reads.frames (outside_may m (Chip_takes count rest ways) may_it)) reads)
+      answered_reads start (OnlyThen true (happens m (Outside_does (Chip_takes count rest ways)))) ticks past m (Chip_takes count rest ways) tt may_it fine_it (changes_of past m marks)
+      (takes_told m.outside count rest ways reads.frames (outside_may m (Chip_takes count rest ways) may_it)) (λ came. moves_on m count rest ways may_it)
+      (turned alone.Resting alone.Open ticks past m (λ came only. refl) reads))
   event_keeps (Moved has_moved passes ticks) next past m event (rest, items, done, event_is, next_is) may fine marks reads =
       let taken : Event = Host_takes (length m.outside.outer.to_host.bytes) rest items done in
       comes next (Sleeping passes ticks) event taken past m event_is next_is may fine
       (λ may_it fine_it.
-      turned alone.Open alone.Sleeping ticks (past ++ entries m taken) (happens m taken) (λ came. refl)
-      (takes_reads start ticks past m (length m.outside.outer.to_host.bytes) rest items done may_it fine_it (turned alone.Resting alone.Open ticks past m (λ came. refl) reads)))
+      turned alone.Open alone.Sleeping ticks (past ++ entries m taken) (happens m taken) (λ came only. refl)
+      (takes_reads start (OnlyThen has_moved m) ticks past m rest items done may_it fine_it reads))
   event_keeps here next past m event goes may fine marks reads = absurd goes
 
   -- ---- parts that begin
@@ -176,15 +229,31 @@ module _ (start : HostMachine) where
   to : (next phase : Phase) (past : List Entry) (m : Machine) → next ≡ phase → At phase past m → At next past m
   to next phase past m is reads = subst (λ (q : Phase). At q past m) (sym is) reads
 
-  settles : (left : ℕ) (past : List Entry) (m : Machine) → Reads start alone.Resting left past m → Reads start alone.Sleeping left past m
-  settles left past m reads = turned alone.Open alone.Sleeping left past m (λ came. refl) (turned alone.Resting alone.Open left past m (λ came. refl) reads)
+  moved_not : (left : ℕ) (past : List Entry) (m : Machine) → Reads start alone.Open left past m → ReadsWith (OnlyThen false m) start alone.Open left past m
+  moved_not left past m reads =
+      record { up = reads.up; down = reads.down; carried = reads.carried; frames = reads.frames; rests = reads.rests; only = reads.only; run = reads.run }
+
+  -- where no byte can move no answer waits
+  settles : (has_moved : Bool) (left : ℕ) (past : List Entry) (m : Machine) → IsStill (is_stalled m.outside.outer) m.outside.outer.to_host.bytes
+      → ReadsWith (OnlyThen has_moved m) start alone.Open left past m → Reads start alone.Sleeping left past m
+  settles has_moved left past m still reads =
+      turned alone.Open alone.Sleeping left past m (λ came only. refl)
+      (record { up = reads.up; down = reads.down; carried = reads.carried; frames = reads.frames; rests = reads.rests; only = by has_moved reads.only still; run = reads.run })
+    where
+      by : (moved : Bool) → OnlyThen moved m (good_units reads.down) → IsStill (is_stalled m.outside.outer) m.outside.outer.to_host.bytes → AreFrames (good_units reads.down)
+      by false frames still = frames
+      by true moves (inl stalled) = absurd (let bad : true ≡ false = sym stalled ∙ moves in cc)
+      by true moves (inr none) =
+          let carried : Feeds no_rest [] no_rest reads.down =
+          subst (λ (l : List ℕ). Feeds no_rest l no_rest reads.down) none (subst (λ (r : Rest). Feeds r m.outside.outer.to_host.bytes no_rest reads.down) reads.rests reads.carried.to_host) in
+          subst (λ (l : List Item). AreFrames (good_units l)) (feeds_all no_rest no_rest [] reads.down [] (record { reads = (tt, refl); ticks = refl }) carried).all tt
 
   turn_keeps : (here next : Phase) (past : List Entry) (m : Machine) → Turns here m next → At here past m → At next past m
   turn_keeps (Begun line) next past m (inl (events, is, next_is)) reads = to next (Doing line events) past m next_is (effect_reads start past m line events is reads)
   turn_keeps (Begun line) next past m (inr (ticks, line_is, next_is)) reads =
       to next (To_tick ticks) past m next_is
-      (turned (alone.Asked (lines.Tick ticks)) alone.Resting ticks past m (λ came. inr (ticks, refl, refl)) (subst (λ (l : Line). Reads start (alone.Asked l) (ticks_of l) past m) line_is reads))
-  turn_keeps (Doing line []) next past m next_is reads = to next (Sleeping 64 0) past m next_is (turned alone.Open alone.Sleeping 0 past m (λ came. refl) (effect_done start past m line reads))
+      (turned (alone.Asked (lines.Tick ticks)) alone.Resting ticks past m (λ came only. inr (ticks, refl, refl)) (subst (λ (l : Line). Reads start (alone.Asked l) (ticks_of l) past m) line_is reads))
+  turn_keeps (Doing line []) next past m next_is reads = to next (Sleeping 64 0) past m next_is (turned alone.Open alone.Sleeping 0 past m (λ came only. refl) (effect_done start past m line reads))
   turn_keeps (To_tick zero) next past m next_is reads = to next Between past m next_is reads
   turn_keeps (Ticked ticks) next past m next_is reads = to next _ past m next_is reads
   turn_keeps (Arriving zero ticks) next past m next_is reads = to next _ past m next_is reads
@@ -192,16 +261,17 @@ module _ (start : HostMachine) where
   turn_keeps (Ticking_devices place zero ticks) next past m next_is reads = to next _ past m next_is reads
   turn_keeps (Ticking_host [] ticks) next past m next_is reads =
       to next (Sleeping 64 ticks) past m next_is
-      (turned alone.Open alone.Sleeping ticks past m (λ came. refl) (turned (alone.Ticking []) alone.Open ticks past m (λ came. refl) reads.1))
+      (turned alone.Open alone.Sleeping ticks past m (λ came only. refl) (turned (alone.Ticking []) alone.Open ticks past m (λ came only. refl) reads.1))
   turn_keeps (Sleeping passes ticks) next past m (wants, next_is) reads =
-      to next (Submitting passes ticks) past m next_is (turned alone.Sleeping alone.Submitting ticks past m (λ came. (wants, refl)) reads)
+      to next (Submitting passes ticks) past m next_is (turned alone.Sleeping alone.Submitting ticks past m (λ came only. (wants, refl, only)) reads)
   turn_keeps (Submitting zero ticks) next past m (pumped, next_is) reads =
-      to next (To_tick ticks) past m next_is (turned alone.Submitting alone.Resting ticks past m (λ came. (pumped, refl)) reads)
+      to next (To_tick ticks) past m next_is (turned alone.Submitting alone.Resting ticks past m (λ came only. (pumped, refl)) reads)
   turn_keeps (Submitting (suc passes) ticks) next past m (pumped, next_is) reads =
-      to next (Moving passes ticks) past m next_is (turned alone.Submitting alone.Resting ticks past m (λ came. (pumped, refl)) reads)
-  turn_keeps (Moving passes ticks) next past m (still, next_is) reads = to next (Moved false passes ticks) past m next_is reads
+      to next (Moving passes ticks) past m next_is (turned alone.Submitting alone.Resting ticks past m (λ came only. (pumped, refl)) reads)
+  turn_keeps (Moving passes ticks) next past m (still, next_is) reads =
+      to next (Moved false passes ticks) past m next_is (moved_not ticks past m (turned alone.Resting alone.Open ticks past m (λ came only. refl) reads))
   turn_keeps (Moved has_moved passes ticks) next past m (still, next_is) reads =
-      to next (Sleeping (passes_after has_moved passes) ticks) past m next_is (settles ticks past m reads)
+      to next (Sleeping (passes_after has_moved passes) ticks) past m next_is (settles has_moved ticks past m still reads)
   turn_keeps here next past m turns reads = absurd turns
 
   pub reading_walk : Walk MayMark KnowMarks → WalkWhere IsFine Anything (ReadsMarked start)
@@ -215,7 +285,7 @@ module _ (start : HostMachine) where
 
   -- ---- what was read so far
 
-  told_by : (here : alone.Phase) (left : ℕ) (past : List Entry) (m : Machine) → Reads start here left past m → Told start past
+  told_by : {Such : List LineUnit → Type 0} (here : alone.Phase) (left : ℕ) (past : List Entry) (m : Machine) → ReadsWith Such start here left past m → Told start past
   told_by here left past m reads = (here, read_of left m (good_units reads.down), reads.run)
 
   effect_told : (line : Line) (left : List Event) (past : List Entry) (m : Machine) → EffectReads start line left past m → Told start past
@@ -247,7 +317,7 @@ module _ (start : HostMachine) where
   all_told (Sleeping passes ticks) past m reads = told_by alone.Sleeping ticks past m reads
   all_told (Submitting passes ticks) past m reads = told_by alone.Submitting ticks past m reads
   all_told (Moving passes ticks) past m reads = told_by alone.Resting ticks past m reads
-  all_told (Moved has_moved passes ticks) past m reads = told_by alone.Resting ticks past m reads
+  all_told (Moved has_moved passes ticks) past m reads = told_by {Such = OnlyThen has_moved m} alone.Open ticks past m reads
 
 -- ---- all lines
 
@@ -258,6 +328,8 @@ first_reads keys records devices = record {
   down = [];
   carried = first_carried keys records devices;
   frames = first_frames keys records devices;
+  rests = refl;
+  only = tt;
   run = Begins;
 }
 

@@ -28,7 +28,7 @@ use Rattle.proof_line.specs.Asking.{HostAsks}
 use Rattle.proof_line.specs.Restarts.{IsHeld, KeepsWell, StartsWell}
 use Rattle.proof_line.proofs.Always.{IsInOrder}
 use Rattle.proof_line.proofs.Aside.{Asides}
-use Rattle.proof_line.proofs.FactsKept.{asides}
+use Rattle.proof_line.proofs.FactsKept.{asides_keep}
 use Rattle.proof_line.proofs.FirstHosts.{first_asks, opened_asks}
 use Rattle.proof_line.proofs.Hosts.{event_asks, of_joined}
 use Rattle.proof_line.proofs.Notes.{Puts, Trailing, puts_at}
@@ -105,7 +105,7 @@ module _ (each : (past : List Entry) (h : HostState) (event : HostEvent) → Fac
     (goes_on : (m : Machine) (event : Event) → HostFacts m.host.state → IsHeld m.host.state m.records → world.May m event → KeepsWell m event
     → StartsWell m event × IsHeld (world.happens m event).host.state (world.happens m event).records) where
   aside_tie : (past told : List Entry) (h : HostState) (records : Option (List (List ℕ))) → Asides told → TieTables past h records → TieTables (past ++ told) h records
-  aside_tie past told h records all tie = record { facts = asides each aside starts past h told tie.facts all; held = tie.held; asks = tie.asks; told = tie.told }
+  aside_tie past told h records all tie = record { facts = asides_keep aside past h told tie.facts all; held = tie.held; asks = tie.asks; told = tie.told }
 
   -- an event, with what is entered of it
   event_tie : (past told : List Entry) (m : HostMachine) (event : HostEvent) → MayAll m.state (event ∷ []) → IsInOrder m.state event → Facts (past ++ told) (after m.state event)
@@ -121,7 +121,7 @@ module _ (each : (past : List Entry) (h : HostState) (event : HostEvent) → Fac
       let last = event_told m.state event told none are in
       let facts =
       subst (λ (l : List Entry). Facts l (after m.state event)) (append_assoc past last.prefix (entries_at m.state event) ∙ ap (λ (l : List Entry). past ++ l) (sym last.are))
-      (each (past ++ last.prefix) m.state event (asides each aside starts past m.state last.prefix tie.facts last.asides) may.0) in
+      (each (past ++ last.prefix) m.state event (asides_keep aside past m.state last.prefix tie.facts last.asides) may.0) in
       event_tie past told m event may ordered facts tie
 
   asked_tie : (past : List Entry) (m : HostMachine) (event : HostEvent) → MayAll m.state (event ∷ []) → IsInOrder m.state event → IsAsked event
@@ -153,8 +153,8 @@ module _ (each : (past : List Entry) (h : HostState) (event : HostEvent) → Fac
   step_goes : (here next : Phase) (past : List Entry) (m : HostMachine) (one : Step) → May here m one next → KnowsTables here past m → Goes next past m one
   step_goes here next past m (Tells e) (between, others, numbered, is) known =
       goes next past m (Tells e) (aside_tie past (e ∷ []) m.state m.records (others_aside e others, tt) known.0) (stays here next is known.1)
-  step_goes here next past m (Comes unit) (between, numbered, is) known = goes next past m (Comes unit) (aside_tie past _ m.state m.records (tt, tt) known.0) (stays here next is known.1)
-  step_goes here next past m (Misses text marks) (between, none, numbered, is) known =
+  step_goes here next past m (Comes unit) (between, numbered, is, frames) known = goes next past m (Comes unit) (aside_tie past _ m.state m.records (tt, tt) known.0) (stays here next is known.1)
+  step_goes here next past m (Misses text marks) (between, none, numbered, is, frames) known =
       goes next past m (Misses text marks) (aside_tie past (entry.Written Chip text ∷ marks) m.state m.records (tt, missed_are IsAside line_aside marks none) known.0) (stays here next is known.1)
   step_goes here next past m (Says words line) (rests, left, line_is, is) known =
       goes next past m (Says words line) (aside_tie past _ m.state m.records (tt, tt) known.0) (stays (Asked line) next is none_to_come)
@@ -188,7 +188,7 @@ module _ (each : (past : List Entry) (h : HostState) (event : HostEvent) → Fac
   turn_goes Open next past m is known = (known.0, stays Sleeping next is none_to_come)
   turn_goes (Behind []) next past m is known = (known.0, stays Open next is none_to_come)
   turn_goes (Behind (event ∷ left)) next past m is known = absurd is
-  turn_goes Sleeping next past m (none, is) known = (known.0, stays Submitting next is none_to_come)
+  turn_goes Sleeping next past m (none, is, frames) known = (known.0, stays Submitting next is none_to_come)
   turn_goes Submitting next past m (pumped, is) known = (known.0, stays Resting next is none_to_come)
 
   pub tables_walk : Walk MayStand KnowsTables

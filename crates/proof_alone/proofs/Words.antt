@@ -57,7 +57,7 @@ words_turn Risen next past m is = elsewhere next (Ticking _) past m is tt
 words_turn (Ticking []) next past m is = elsewhere next Open past m is tt
 words_turn Open next past m is = elsewhere next Sleeping past m is tt
 words_turn (Behind []) next past m is = elsewhere next Open past m is tt
-words_turn Sleeping next past m (wants, is) = elsewhere next Submitting past m is tt
+words_turn Sleeping next past m (wants, is, frames) = elsewhere next Submitting past m is tt
 words_turn Submitting next past m (pumped, is) = elsewhere next Resting past m is tt
 words_turn here next past m turns = absurd turns
 

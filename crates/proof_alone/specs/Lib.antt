@@ -7,3 +7,4 @@ pub mod Time
 pub mod Tables
 pub mod Words
 pub mod Answering
+pub mod Listening

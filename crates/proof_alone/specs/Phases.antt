@@ -20,7 +20,7 @@ use Rattle.host_model.specs.Ticking.{tick_events}
 use Rattle.world_model.specs.Events.{OpensFrom}
 use Rattle.world_model.specs.Refusals.{IsRefused}
 use Rattle.proof_alone.specs.State.{HostMachine, with_world}
-use Rattle.proof_alone.specs.Steps.{AreTold, AsksNothing, DidNotCome, IsOfOthers, IsAskedBy, Step, Tells, Comes, Misses, Says, Says_nothing, Asks, Refuses, Shows, Restarts, Begins_tick, Numbers, Judges, Does, TakesItem}
+use Rattle.proof_alone.specs.Steps.{AreTold, AsksNothing, DidNotCome, IsOfOthers, IsAskedBy, Step, Tells, Comes, Misses, Says, Says_nothing, Asks, Refuses, Shows, Restarts, Begins_tick, Numbers, Judges, Does, TakesItem, AreFrames, ChangesFrame, IsFramed}
 
 pub data Phase : Type 0 where
   -- it has pumped: a line may be said, or a tick begin
@@ -63,11 +63,15 @@ pub record IsJudgedNow (m : HostMachine) (item : Item) (rest : List LineUnit) (b
   pub told_so : AreTold (outs m.state (Hears item)) told
   pub numbered : IsNumbered m told
 
+-- an answer comes where it is judged before the host goes on; a frame may have to wait
+abbrev pub MayCome : Phase → LineUnit → Type 0
+MayCome here unit = IsFramed unit ⊎ (here ≡ Open)
+
 -- the step may come here, and leads there
 abbrev pub May : Phase → HostMachine → Step → Phase → Type 0
 May here m (Tells told) next = IsBetween here × IsOfOthers told × (m.awaits ≡ false) × (next ≡ here)
-May here m (Comes unit) next = IsBetween here × (m.awaits ≡ false) × (next ≡ here)
-May here m (Misses text marks) next = IsBetween here × DidNotCome marks × (m.awaits ≡ false) × (next ≡ here)
+May here m (Comes unit) next = IsBetween here × (m.awaits ≡ false) × (next ≡ here) × MayCome here unit
+May here m (Misses text marks) next = IsBetween here × DidNotCome marks × (m.awaits ≡ false) × (next ≡ here) × ChangesFrame text marks
 May here m (Says words line) next = (here ≡ Resting) × (m.left ≡ 0) × (line_of (Said words) ≡ line ∷ []) × (next ≡ Asked line)
 May here m (Says_nothing words) next = (here ≡ Resting) × (m.left ≡ 0) × (line_of (Said words) ≡ []) × (next ≡ here)
 May here m (Asks event) next = (line : Line) × (here ≡ Asked line) × IsAskedBy line m.state event × MayAll m.state (event ∷ []) × IsNumbered m (answers m.state event) × (next ≡ Open)
@@ -88,6 +92,6 @@ Turns Risen m next = next ≡ Ticking (tick_events m.state)
 Turns (Ticking []) m next = next ≡ Open
 Turns Open m next = next ≡ Sleeping
 Turns (Behind []) m next = next ≡ Open
-Turns Sleeping m next = (first_wanting m.state.nodes ≡ None) × (next ≡ Submitting)
+Turns Sleeping m next = (first_wanting m.state.nodes ≡ None) × (next ≡ Submitting) × AreFrames m.came
 Turns Submitting m next = IsPumped m.state × (next ≡ Resting)
 Turns here m next = ⊥

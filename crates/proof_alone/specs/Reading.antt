@@ -1,7 +1,8 @@
 -- How the machine of the simulator is read as a host alone, at each phase of a line (this project's own rule): chip, air and devices are forgotten, and what has come for the host
 -- are the good units on their way to it.
-use Rattle.std.specs.Prelude.{◌≡◌, ℕ, true, List, [], ◌∷◌}
+use Rattle.std.specs.Prelude.{◌≡◌, ℕ, Bool, true, false, List, [], ◌∷◌}
 use Rattle.std.specs.List.{AllByRecursion}
+use Rattle.serial_frame.specs.Stream.{no_rest}
 use Rattle.serial_frame.specs.declared.item.Item.{Item}
 use Rattle.serial_frame.specs.declared.unit.Unit.{Unit as LineUnit}
 use Rattle.zw_words.specs.declared.side.Side.TheVariants.{Host, Chip}
@@ -16,6 +17,7 @@ use Rattle.host_model.specs.State.{HostState}
 use Rattle.host_model.specs.Events.{HostEvent, Queues}
 use Rattle.host_model.specs.Asking.{places_refusal}
 use Rattle.host_model.proofs.Silence.{Silent}
+use Rattle.outside_model.specs.State.{is_stalled}
 use Rattle.outside_model.specs.Events.{OuterEvent, Clears_pipe, Collides_next, Cuts, Discovers, Joins, Links, Loses, Loses_acks, Marks_change, Marks_loss, Repeats, Sets_device, Shows, Stalls, Wakes_device}
 use Rattle.world_model.specs.State.{Machine}
 use Rattle.world_model.specs.Events.{Event, Host_does, Outside_does, Refuses, Shows_values}
@@ -28,7 +30,7 @@ use Rattle.proof_walk.specs.Outside.{awaits_number}
 use Rattle.proof_walk.specs.Phases as sim
 use Rattle.proof_line.specs.Marks.{KnowMarks}
 use Rattle.proof_alone.specs.State.{HostMachine, host_machine}
-use Rattle.proof_alone.specs.Steps.{AsksNothing, IsAskedBy}
+use Rattle.proof_alone.specs.Steps.{AreFrames, AsksNothing, IsAskedBy}
 use Rattle.proof_alone.specs.Phases.{Phase, Resting, Asked, Risen, Ticking, Open, Sleeping, Submitting}
 use Rattle.proof_alone.specs.Runs.{Run}
 
@@ -36,13 +38,24 @@ use Rattle.proof_alone.specs.Runs.{Run}
 abbrev pub read_of : ℕ → Machine → List LineUnit → HostMachine
 read_of left m came = host_machine m.keys m.records m.host.state came m.outside.outer.clock left (awaits_number m.outside.outer)
 
--- a run of the host alone has these entries, and leads to this phase with what the machine is read as
-pub record Reads (start : HostMachine) (here : Phase) (left : ℕ) (past : List Entry) (m : Machine) : Type 0 where
+-- a run of the host alone has these entries, and leads to this phase with what the machine is read as; of what has come this is so
+pub record ReadsWith (Such : List LineUnit → Type 0) (start : HostMachine) (here : Phase) (left : ℕ) (past : List Entry) (m : Machine) : Type 0 where
   pub up : List Item
   pub down : List Item
   pub carried : Carried m up down
   pub frames : HasFrames m.outside.outer.chip.state.port
+  pub rests : m.host.decoder ≡ no_rest
+  pub only : Such (good_units down)
   pub run : Run start here past (read_of left m (good_units down))
+
+-- it is frames alone
+abbrev pub Reads : HostMachine → Phase → ℕ → List Entry → Machine → Type 0
+Reads start here left past m = ReadsWith AreFrames start here left past m
+
+-- and once the chip has taken bytes answers too, until the host takes those that are there: then no byte is held up
+abbrev pub OnlyThen : Bool → Machine → List LineUnit → Type 0
+OnlyThen true m came = is_stalled m.outside.outer ≡ false
+OnlyThen false m came = AreFrames came
 
 -- the host has started again, and what is on its way to it is not cleared yet
 pub record ReadsCleared (start : HostMachine) (past : List Entry) (m : Machine) : Type 0 where
@@ -50,6 +63,7 @@ pub record ReadsCleared (start : HostMachine) (past : List Entry) (m : Machine) 
   pub down : List Item
   pub carried : Carried m up down
   pub frames : HasFrames m.outside.outer.chip.state.port
+  pub rests : m.host.decoder ≡ no_rest
   pub run : Run start Open past (read_of 0 m [])
 
 -- ---- the effect of a line
@@ -118,7 +132,7 @@ ReadsAt start (sim.Ticking_host events ticks) past m = Silent events × Reads st
 ReadsAt start (sim.Sleeping passes ticks) past m = Reads start Sleeping ticks past m
 ReadsAt start (sim.Submitting passes ticks) past m = Reads start Submitting ticks past m
 ReadsAt start (sim.Moving passes ticks) past m = Reads start Resting ticks past m
-ReadsAt start (sim.Moved has_moved passes ticks) past m = Reads start Resting ticks past m
+ReadsAt start (sim.Moved has_moved passes ticks) past m = ReadsWith (OnlyThen has_moved m) start Open ticks past m
 
 -- what holds of each event of lines: both sides of the line are at rest where they tick or start again, and write frames that the format carries
 abbrev pub IsFine : Machine → Event → Type 0

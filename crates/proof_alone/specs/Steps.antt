@@ -5,6 +5,7 @@ use Rattle.serial_frame.specs.Items.{unit_text}
 use Rattle.serial_frame.specs.declared.item.Item.{Item}
 use Rattle.serial_frame.specs.declared.item.Item.TheVariants.{Good, Refused as refused_item}
 use Rattle.serial_frame.specs.declared.unit.Unit.{Unit as LineUnit}
+use Rattle.serial_frame.specs.declared.unit.Unit.TheVariants.{Framed}
 use Rattle.zw_words.specs.declared.side.Side.TheVariants.{Host, Chip}
 use Rattle.zw_text.specs.declared.line.Line.{Line}
 use Rattle.zw_text.specs.declared.line.Line.TheVariants as lines
@@ -12,6 +13,7 @@ use Rattle.zw_text.specs.declared.entry.Refusal.{Refusal}
 use Rattle.zw_text.specs.declared.entry.Entry.{Entry}
 use Rattle.zw_text.specs.declared.entry.Entry.TheVariants as entry
 use Rattle.law_transcript.specs.Restarts.{ticks_of}
+use Rattle.law_time.specs.Requests.{is_answer}
 use Rattle.host_orders.specs.Errands.{send_refusal, send_text, get_refusal, get_text}
 use Rattle.host_orders.specs.Refusals.{classes_of}
 use Rattle.host_requests.specs.declared.task.Task.TheVariants as task
@@ -54,6 +56,11 @@ DidNotCome (entry.Overrun Chip ∷ []) = Unit {0}
 DidNotCome (entry.Garbled Chip unit ∷ []) = Unit {0}
 DidNotCome (entry.Garbled Chip unit ∷ entry.Overrun Chip ∷ []) = Unit {0}
 DidNotCome _ = ⊥
+
+-- neither a unit that was changed nor what it became answers a frame
+abbrev pub ChangesFrame : List ℕ → List Entry → Type 0
+ChangesFrame text (entry.Garbled Chip unit ∷ more) = (is_answer text ≡ false) × (is_answer unit ≡ false)
+ChangesFrame text marks = Unit {0}
 
 -- what the host puts out is entered: its notes, and its units, each with what became of it
 abbrev pub AreTold : List HostOut → List Entry → Type 0
@@ -149,6 +156,16 @@ entries m (Begins_tick left) = []
 entries m Numbers = entry.Time m.clock ∷ []
 entries m (Judges item rest behind told) = told
 entries m (Does event told) = told
+
+-- ---- which units have come
+
+-- nothing but frames: no answer
+abbrev pub IsFramed : LineUnit → Type 0
+IsFramed (Framed f) = Unit {0}
+IsFramed unit = ⊥
+
+abbrev pub AreFrames : List LineUnit → Type 0
+AreFrames came = AllByRecursion IsFramed came
 
 -- ---- which units are judged
 

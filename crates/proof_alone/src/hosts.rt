@@ -14,7 +14,7 @@ ghost use Rattle.proof_alone.specs.Phases.{Phase, Resting};
 ghost use Rattle.proof_alone.specs.Runs.{Run, Told, ToldWhole};
 
 use proof_line::marks_go_on;
-use proof_line::spoken::world::lines_keep_and_ask_well;
+use proof_line::world::lines_keep_and_ask_well;
 use proof_serial::{hosts_write_well, units_are_judged_whole};
 
 /// Over any lines from the first on, the last of which an allocation failure may have cut short, over a keeper that tells its records and has none at first,

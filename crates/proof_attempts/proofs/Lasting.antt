@@ -170,7 +170,7 @@ module _ (Tie : TieOf) where
     turn_goes Open next past m is ground known = leads_to next Sleeping past m tt is (lasts.turn Open Sleeping past m tt refl ground known)
     turn_goes (Behind []) next past m is ground known = leads_to next Open past m tt is (lasts.turn (Behind []) Open past m tt refl ground known)
     turn_goes (Behind (event ∷ left)) next past m is ground known = absurd is
-    turn_goes Sleeping next past m is ground known = leads_to next Submitting past m tt is.1 (lasts.turn Sleeping Submitting past m tt (is.0, refl) ground known)
+    turn_goes Sleeping next past m is ground known = leads_to next Submitting past m tt is.1 (lasts.turn Sleeping Submitting past m tt (is.0, refl, is.2) ground known)
     turn_goes Submitting next past m is ground known = leads_to next Resting past m tt is.1 (lasts.turn Submitting Resting past m tt (is.0, refl) ground known)
 
     pub since_walk : WalkBoth Ground (KnowsSince Tie)

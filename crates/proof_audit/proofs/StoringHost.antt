@@ -27,7 +27,7 @@ use Rattle.proof_once.specs.Tied.{KeepsOrders}
 use Rattle.proof_transcript.proofs.RoutineNotes.{IsRoutine, event_routine}
 use Rattle.proof_audit.specs.Tables.{IsToStore}
 use Rattle.proof_host.proofs.Effects.{notes_noted as notes-noted}
-use Rattle.proof_headline.proofs.Succeeding.{owned}
+use Rattle.proof_headline.proofs.Succeeding.{owned, routine_none}
 
 -- ---- values in their place, by what each command asks for
 
@@ -147,10 +147,6 @@ values-known commands node [] more calm = all-weaker IsCalm (IsInTable commands)
 values-known commands node (setting ∷ made) more calm = (tt, values-known commands node made more calm)
 
 -- entries without a success and without a value
-routine-success : (entry : Entry) → IsRoutine entry → IsNoSuccess entry
-routine-success (Out command ended.Success) routine = absurd routine
-routine-success entry routine = tt
-
 none-asked : (commands : List Command) (entries : List Entry) → AllByRecursion IsNoSuccess entries → shown (stores_at commands) entries ≡ []
 none-asked commands [] none = refl
 none-asked commands (entry ∷ entries) none = ap₂ (λ (a b : List Entry). a ++ b) (one entry none.0) (none-asked commands entries none.1)
@@ -240,7 +236,7 @@ module _ (keeps : HostKeepsOrders) where
       (held-calm n (is_held h n wake_request)))
   event-stores past h (Interviews n listens classes update) facts may later stored = stored-calm (after h (Interviews n listens classes update)).commands (entries_at h (Interviews n listens classes update)) (tt, tt)
   event-stores past h event facts may later stored =
-      routine-stores past h event facts later stored (all-weaker IsRoutine IsNoSuccess routine-success (entries_at h event) (event_routine h event tt))
+      routine-stores past h event facts later stored (all-weaker IsRoutine IsNoSuccess routine_none (entries_at h event) (event_routine h event tt))
 
   -- the transcript goes on in place
   pub event-goes-on : (past : List Entry) (h : HostState) (event : HostEvent) → Facts past h → MayHost h event → Facts (past ++ entries_at h event) (after h event) → IsStored h.commands past

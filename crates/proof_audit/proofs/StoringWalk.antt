@@ -1,5 +1,5 @@
 -- Over lines, the values of each success stand directly after it, by the host's table.
-use Rattle.std.proofs.Common.{◌≡◌, List, [], ◌∷◌, ◌++◌, map, sym, ap, subst, ◌∙◌, append_assoc, append-nil}
+use Rattle.std.proofs.Common.{List, [], ◌∷◌, ◌++◌, map, sym, ap, subst, ◌∙◌, append_assoc, append-nil}
 use Rattle.zw_text.specs.declared.entry.Entry.{Entry}
 use Rattle.zw_text.specs.declared.entry.Entry.TheVariants.{Refused, Said}
 use Rattle.host_model.specs.State.{HostState}
@@ -20,6 +20,7 @@ use Rattle.proof_host.specs.Entries.{IsAside, entries_at}
 use Rattle.proof_host.specs.Facts.{Facts}
 use Rattle.proof_transcript.proofs.Aside.{Asides, own_aside, stamp_aside}
 use Rattle.proof_transcript.proofs.Notes.{Trailing, event_following}
+use Rattle.proof_transcript.proofs.FactsKept.{asides_keep, one_after}
 use Rattle.proof_transcript.specs.Restarts.{AllStartWell, StartsWell}
 use Rattle.proof_once.specs.Tied.{KeepsOrders}
 use Rattle.proof_transcript.specs.Spoken.{AreSpoken, IsSpoken}
@@ -46,12 +47,8 @@ MachineKeepsOrders = (m : Machine) (event : Event) → StartsWell m event → Ke
 module _ (keeps : HostKeepsOrders) (machine_keeps : MachineKeepsOrders) (each : EventKeeps) (aside : AsideKeeps) (machine : MachineKeeps) where
   -- ---- the host
 
-  asides-keep : (past : List Entry) (h : HostState) (es : List Entry) → Facts past h → Asides es → Facts (past ++ es) h
-  asides-keep past h [] facts all = subst (λ (l : List Entry). Facts l h) (sym (append-nil past)) facts
-  asides-keep past h (e ∷ es) facts all = subst (λ (l : List Entry). Facts l h) (append_assoc past (e ∷ []) es) (asides-keep (past ++ e ∷ []) h es (aside past h e facts all.0) all.1)
-
   asides-so : (past : List Entry) (h : HostState) (es : List Entry) → Asides es → HostStored past h → HostStored (past ++ es) h
-  asides-so past h es all so = record { facts = asides-keep past h es so.facts all; stored = stored-then h.commands past es so.stored (stored-asides h.commands es all) }
+  asides-so past h es all so = record { facts = asides_keep aside past h es so.facts all; stored = stored-then h.commands past es so.stored (stored-asides h.commands es all) }
 
   event-so : (past : List Entry) (h : HostState) (event : HostEvent) (all : List Entry) → MayHost h event → Trailing (entries_at h event) all → HostStored past h → HostStored (past ++ all) (after h event)
   event-so past h event all may following so =
@@ -63,21 +60,12 @@ module _ (keeps : HostKeepsOrders) (machine_keeps : MachineKeepsOrders) (each : 
         stored = event-goes-on keeps (past ++ following.prefix) h event first.facts may later first.stored;
       })
 
-  one-after : (m : Machine) (event : HostEvent) → ((h : HostState) → answers h event ≡ []) → Trailing (entries_at m.host.state event) (host_entries m (event ∷ []))
-  one-after m event silent =
-      let h = m.host.state in
-      subst (λ (l : List Entry). Trailing (entries_at h event) l)
-      (ap (λ (l : List Entry). entries_all_outside m.outside (routed (outs h event)) ++ entries_all_outside m.outside (map Host_notes l)) (silent h)
-      ∙ (append-nil (entries_all_outside m.outside (routed (outs h event)))
-      ∙ ap (λ (l : List HostOut). entries_all_outside m.outside (routed l)) (sym (append-nil (outs h event)))))
-      (event_following m.outside m.outside h event)
-
   events-so : (past : List Entry) (m : Machine) (events : List HostEvent) → MayAllHost m.host.state events → Silent events → HostStored past m.host.state
       → HostStored (past ++ host_entries m events) (after_host m.host.state events)
   events-so past m [] may silent so = subst (λ (l : List Entry). HostStored l m.host.state) (sym (append-nil past)) so
   events-so past m (event ∷ events) may silent so =
       let first = host_entries m (event ∷ []) in
-      let next = event-so past m.host.state event first may.0 (one-after m event silent.0) so in
+      let next = event-so past m.host.state event first may.0 (one_after m event silent.0) so in
       subst (λ (l : List Entry). HostStored l (after_host m.host.state (event ∷ events)))
       (append_assoc past first (host_entries (host_does m (event ∷ [])) events) ∙ ap (λ (l : List Entry). past ++ l) (entries_cons m event events))
       (events-so (past ++ first) (host_does m (event ∷ [])) events may.1 silent.1 next)

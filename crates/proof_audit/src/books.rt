@@ -40,8 +40,8 @@ pub fn sessions_are_in_order()
         EachKeeps breaks_sessions [] (transcript ++ table) }
 {}
 
-/// The once-only rule, also with the table after the run: where the headline holds of devices of the kinds of their nodes, no two of one node; all changes are shown,
-/// each in one piece, those of one session together; and a session that made one had begun.
+/// The once-only rule, also with the table after the run: where the headline holds of devices of the kinds of their nodes, no two of one node; all changes are
+/// shown, each in one piece, those of one session together; and a session that made one had begun.
 pub fn changes_are_made_once()
     ensures { (before after : Items State) (transcript table : Items Entry) → HostLaws transcript → AreAsked (listing_of before) transcript →
         Headline before after transcript → AllByRecursion (IsShown transcript) after → AllByRecursion (GroupsSessions transcript) after → AreApart after →
@@ -51,8 +51,8 @@ pub fn changes_are_made_once()
     what_is_over_stays();
 }
 
-/// Over any lines, the last of which an allocation failure may have cut short, what is entered is whole changes of devices, each in one piece, and entries that show
-/// no change.
+/// Over any lines, the last of which an allocation failure may have cut short, what is entered is whole changes of devices, each in one piece, and entries that
+/// show no change.
 pub fn changes_are_entered_whole()
     ensures { (m : Machine) (lines : Items Spoken) → AreDone m lines → ArePieces (after_all m lines).outside.devices (transcript_of m lines) }
 {

@@ -46,10 +46,11 @@ pub fn a_table_is_its_lines()
         AllByRecursion IsOfTable (table_of (always listing) ticks transcript devices) }
 {}
 
-/// Over any lines, the last of which an allocation failure may have cut short, the values that the command of each success asks for stand directly after it, all of
-/// them, and none elsewhere: where the keeper tells its records and had none at first, and each device is of the kind of its node.
+/// Over any lines, the last of which an allocation failure may have cut short, the values that the command of each success asks for stand directly after it,
+/// all of them, and none elsewhere: where the keeper tells its records and had none at first, and each device is of the kind of its node.
 pub fn values_are_stored_directly()
-    ensures { (keys : Keys) (devices : Items State) (lines : Items Spoken) → AllByRecursion IsOfItsKind devices → AreDone (first_machine keys (Some []) devices) lines →
+    ensures { (keys : Keys) (devices : Items State) (lines : Items Spoken) →
+        AllByRecursion IsOfItsKind devices → AreDone (first_machine keys (Some []) devices) lines →
         StoresDirectly (listing_of devices) (transcript_of (first_machine keys (Some []) devices) lines) }
 {
     tables_keep_orders();

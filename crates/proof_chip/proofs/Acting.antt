@@ -1,9 +1,11 @@
 -- What devices and the air do puts no frame of the controller on the air, since node 1 has not joined; so what is known of the law of what goes on the air goes on.
-use Rattle.std.proofs.Common.{◌≡◌, ℕ, zero, suc, ◌+◌, ◌-◌, ◌==◌, Bool, true, false, List, [], ◌∷◌, ◌++◌, length, refl, sym, ap, ◌∙◌, eqb-true}
+use Rattle.std.proofs.Common.{◌≡◌, ℕ, zero, suc, ◌+◌, ◌-◌, ◌==◌, ◌&&◌, nat_le, Bool, true, false, if◌then◌else◌, inl, inr, List, [], ◌∷◌, ◌++◌, length, refl, sym, ap, ◌∙◌, subst, append-nil, append_assoc, eqb-true}
+use Rattle.std.proofs.lemmas.Bool.{leb-true}
 use Rattle.std.specs.Prelude.{Option, Some, None, option_map, slice_get, slice_set}
 use Rattle.std.specs.List.{AllByRecursion, flat_map}
 use Rattle.zw_base.proofs.Each.{all-append, all-weaker}
 use Rattle.serial_link.specs.Rules.{Step}
+use Rattle.chip_sim.specs.Events.{Heard as chip_hears, collides}
 use Rattle.route_table.specs.declared.route.Route.{Route}
 use Rattle.device_sim.specs.State.{State}
 use Rattle.device_sim.specs.Event.{DeviceEvent, Hears, device_after, device_replies}
@@ -20,18 +22,26 @@ use Rattle.mesh_sim.specs.Air.{AirState, departing, is_joined}
 use Rattle.mesh_sim.specs.Fates.{Mesh, fate_of, listener_of}
 use Rattle.mesh_sim.specs.Steps.{AirStep, acknowledged, answers, answers_if, arrival_outs_as, arrival_outs, changed, done_of, landed, mesh_after, mesh_outs, outs_again, outs_at, repeat_outs, repeat_outs_by, sent_event, status_of}
 use Rattle.mesh_sim.specs.Steps as mesh
+use Rattle.zw_text.specs.declared.entry.Entry.{Entry}
+use Rattle.zw_text.specs.declared.entry.Entry.TheVariants.{Heard}
 use Rattle.law_transcript.specs.Nodes.{controller}
 use Rattle.law_wire.specs.Asked.{Sending}
-use Rattle.outside_model.specs.State.{OuterState, Outcome, Outside, outside, each}
+use Rattle.outside_model.specs.State.{OuterState, Outcome, Outside, outside, each, silent}
+use Rattle.outside_model.specs.Chip.{chip_does}
 use Rattle.outside_model.specs.Air.{deals, sent_entries}
 use Rattle.outside_model.specs.Devices.{acts, changes_entries, new_changes}
 use Rattle.outside_model.specs.Events.{mesh_of, steps}
 use Rattle.proof_device.proofs.Entered.{IsChange, changes_entered}
 use Rattle.proof_walk.specs.Outside.{Comes, IsHearing}
-use Rattle.proof_line.proofs.ChipAccounts.{steps_account, steps_by}
+use Rattle.proof_air.specs.Carrying.{IsHome}
+use Rattle.proof_air.proofs.Judging.{both_true}
+use Rattle.proof_line.proofs.ChipAccounts.{all_account, all_results, heard_account, steps_account, steps_by}
 use Rattle.proof_chip.specs.Knowing.{AnyEntry}
-use Rattle.proof_chip.specs.Sending.{KnowsAir}
-use Rattle.proof_chip.proofs.Going.{AreApart, IsApart, IsNotOwn, account_goes, apart_goes, change_apart, deals_other}
+use Rattle.proof_chip.specs.Sending.{AirSo, ComingSo, KnowsAir}
+use Rattle.proof_chip.proofs.Bringing.{some_heard}
+use Rattle.proof_chip.proofs.Going.{AreApart, IsApart, IsNotOwn, account_goes, apart_goes, change_apart, chip_so, deals_other, heard_so, less_so}
+use Rattle.proof_chip.proofs.Homing.{IsBrought}
+use Rattle.proof_chip.proofs.Quieting.{IsUnanswered}
 use Rattle.proof_chip.proofs.Passing.{IsOther}
 
 -- the controller has not joined the air
@@ -144,6 +154,10 @@ hearing_outs_own there step hearing home = absurd hearing
 
 -- ---- what goes on
 
+heard_answers : (b : Bool) (from : ℕ) (payload : List ℕ) → IsUnanswered b (chip_hears from payload)
+heard_answers true from payload = tt
+heard_answers false from payload = tt
+
 all_other : (there : List State) (events : List AirEvent) (o : OuterState) → AreNotOwn events → AllByRecursion IsOther (each (deals there) o events).entries
 all_other there [] o own = tt
 all_other there (event ∷ events) o own =
@@ -157,9 +171,45 @@ module _ (devices : List State) (Are : List Sending → Type 0) where
       apart_goes devices Are did w (outside (acts w.outer device event route).outer (slice_set w.devices place (device_after device event))) (acts w.outer device event route).entries
       (acts_apart w.outer device event route home) refl
 
-  pub steps_go : (did : List Step) (w : Outside) (step : AirStep) → IsHearing step → NotHome w.outer.air
-      → Comes AnyEntry (KnowsAir devices Are did) w (steps w step) (mesh_after (mesh_of w) step).devices (KnowsAir devices Are (did ++ steps_by (steps_account w step)))
-  steps_go did w step hearing home =
-      let there : List State = (mesh_after (mesh_of w) step).devices in
-      let o : OuterState = record w.outer { air = (mesh_after (mesh_of w) step).air } in
-      account_goes devices Are there did (steps_account w step) (all_other there (mesh_outs (mesh_of w) step) o (hearing_outs_own (mesh_of w) step hearing home))
+  abbrev AllGo : List State → List AirEvent → OuterState → List Step → List Entry → Type 0
+  AllGo there events o did past =
+      AirSo devices Are (did ++ steps_by (all_account there events o)) (past ++ (each (deals there) o events).entries) (each (deals there) o events).outer.chip.state.port
+
+  -- a payload that is heard comes to the chip
+  comes_so : (o : OuterState) (did : List Step) (past : List Entry) (from : ℕ) (payload : List ℕ) (b : Bool) → (nat_le 1 (length payload) && nat_le (length payload) 46) ≡ b
+      → ComingSo devices Are (record { node = from; payload = payload } ∷ []) did past o.chip.state.port
+      → AirSo devices Are (did ++ steps_by (heard_account b o from payload)) (past ++ (if b then chip_does o (chip_hears from payload) else silent o).entries)
+      (if b then chip_does o (chip_hears from payload) else silent o).outer.chip.state.port
+  comes_so o did past from payload true is knows =
+      let some = leb-true 1 (length payload) (both_true (nat_le 1 (length payload)) (nat_le (length payload) 46) is).0 in
+      chip_so devices Are (record { node = from; payload = payload } ∷ []) did past o (chip_hears from payload) (heard_answers (collides o.chip.state) from payload)
+      (λ frames was. some_heard frames o.chip.state from payload past some was) knows
+  comes_so o did past from payload false is knows =
+      subst (λ (l : List Step). AirSo devices Are l (past ++ []) o.chip.state.port) (sym (append-nil did))
+      (subst (λ (l : List Entry). AirSo devices Are did l o.chip.state.port) (sym (append-nil past)) (less_so devices Are (record { node = from; payload = payload } ∷ []) did past o.chip.state.port knows))
+
+  one_so : (there : List State) (o : OuterState) (did : List Step) (past : List Entry) (number from : ℕ) (payload : List ℕ) → IsHome past number from payload → AirSo devices Are did past o.chip.state.port
+      → AllGo there (tells.Heard number ∷ tells.ToChip number from payload ∷ []) o did past
+  one_so there o did past number from payload home knows =
+      let b : Bool = nat_le 1 (length payload) && nat_le (length payload) 46 in
+      let x : Outcome = if b then chip_does o (chip_hears from payload) else silent o in
+      let here : List Entry = past ++ Heard number ∷ [] in
+      let got = comes_so o did here from payload b refl (heard_so devices Are did past o.chip.state.port number (record { node = from; payload = payload } ∷ []) home knows) in
+      let told : here ++ x.entries ≡ past ++ (Heard number ∷ (x.entries ++ [])) =
+      append_assoc past (Heard number ∷ []) x.entries ∙ ap (λ (l : List Entry). past ++ Heard number ∷ l) (sym (append-nil x.entries)) in
+      subst (λ (l : List Step). AirSo devices Are (did ++ l) (past ++ (Heard number ∷ (x.entries ++ []))) x.outer.chip.state.port) (sym (append-nil (steps_by (heard_account b o from payload))))
+      (subst (λ (l : List Entry). AirSo devices Are (did ++ steps_by (heard_account b o from payload)) l x.outer.chip.state.port) told got)
+
+  all_go : (there : List State) (events : List AirEvent) (o : OuterState) (did : List Step) (past : List Entry) → AreNotOwn events → IsBrought past events → AirSo devices Are did past o.chip.state.port
+      → AllGo there events o did past
+  all_go there events o did past own (inl none) knows =
+      (account_goes devices Are there did (all_account there events o) (all_other there events o own) (all_results there events o none) false past (λ (is : false ≡ true). absurd cc) knows).1
+  all_go there events o did past own (inr one) knows =
+      subst (λ (l : List AirEvent). AllGo there l o did past) (sym one.are) (one_so there o did past one.number one.from one.payload one.home knows)
+
+  pub steps_go : (did : List Step) (w : Outside) (step : AirStep) → IsHearing step → NotHome w.outer.air → (past : List Entry) → IsBrought past (mesh_outs (mesh_of w) step)
+      → AirSo devices Are did past w.outer.chip.state.port
+      → AirSo devices Are (did ++ steps_by (steps_account w step)) (past ++ (steps w step).entries) (steps w step).outer.chip.state.port
+  unfolding steps_account
+  steps_go did w step hearing home past brought knows =
+      all_go (mesh_after (mesh_of w) step).devices (mesh_outs (mesh_of w) step) (record w.outer { air = (mesh_after (mesh_of w) step).air }) did past (hearing_outs_own (mesh_of w) step hearing home) brought knows

@@ -103,7 +103,7 @@ module _ (devices : List State) (Ground : Phase → List Entry → Machine → T
       let alike = event_alike m event mild in
       weaker devices (AreNow m.outside.outer) (AreNow (happens m event).outside.outer) (did ++ event_steps m event) (past ++ entries m event) (happens m event).outside.outer.chip.state.port
       (now_as devices m.outside.outer (happens m event).outside.outer alike.0 alike.1)
-      (event_keeps devices (AreNow m.outside.outer) did m event (mild_takes event mild) (law.home here past m ground) may past now)
+      (event_keeps devices (AreNow m.outside.outer) did m event (mild_takes event mild) may past (law.history here past m ground) now)
 
   -- within a tick, before its results have come
   mild_before : (past : List Entry) (m : Machine) (event : OuterEvent) → TakesNone (Outside_does event) → IsWithin event → May m (Outside_does event) → (here : Phase) → Ground here past m → Before past m
@@ -111,13 +111,13 @@ module _ (devices : List State) (Ground : Phase → List Entry → Machine → T
   mild_before past m event none within may here ground before =
       weaker devices (AreBefore m.outside.outer) (AreBefore (happens m (Outside_does event)).outside.outer) (did ++ event_steps m (Outside_does event)) (past ++ entries m (Outside_does event))
       (happens m (Outside_does event)).outside.outer.chip.state.port (before_then m.outside.outer (happens m (Outside_does event)).outside.outer (within_clock m event within))
-      (event_keeps devices (AreBefore m.outside.outer) did m (Outside_does event) none (law.home here past m ground) may past before)
+      (event_keeps devices (AreBefore m.outside.outer) did m (Outside_does event) none may past (law.history here past m ground) before)
 
   begins_tick : (past : List Entry) (m : Machine) → May m (Outside_does Begins_tick) → (here : Phase) → Ground here past m → Now past m
       → BeforeAfter past m (Outside_does Begins_tick)
   begins_tick past m may here ground now =
       weaker devices (AreNow m.outside.outer) (AreBefore (happens m (Outside_does Begins_tick)).outside.outer) (did ++ event_steps m (Outside_does Begins_tick)) (past ++ entries m (Outside_does Begins_tick))
-      (happens m (Outside_does Begins_tick)).outside.outer.chip.state.port (tick_before m) (event_keeps devices (AreNow m.outside.outer) did m (Outside_does Begins_tick) tt (law.home here past m ground) may past now)
+      (happens m (Outside_does Begins_tick)).outside.outer.chip.state.port (tick_before m) (event_keeps devices (AreNow m.outside.outer) did m (Outside_does Begins_tick) tt may past (law.history here past m ground) now)
 
   takes : (passes ticks : ℕ) (past : List Entry) (m : Machine) (count : ℕ) (rest : _) (ways : _) → May m (Outside_does (Chip_takes count rest ways)) → Ground (Moving passes ticks) past m → Now past m
       → NowAfter past m (Outside_does (Chip_takes count rest ways))
@@ -192,4 +192,4 @@ module _ (devices : List State) (Ground : Phase → List Entry → Machine → T
 pub air_first : (keys : Keys) (records : Option (List (List ℕ))) (devices : List State) → SideObeys [] no_port.port.side → KnowAir devices [] Between [] (first_machine keys records devices)
 unfolding first_outer
 air_first keys records devices obeys =
-    (([], serves_none (first_machine keys records devices).outside.outer.chip.state.port refl obeys, λ later goes. record { so = tt; over = tt; are = (refl, tt) }), tt)
+    (([], serves_none (first_machine keys records devices).outside.outer.chip.state.port refl obeys, record { some = tt; turns = λ later goes. tt }, λ later goes. record { so = tt; over = tt; are = (refl, tt) }), tt)

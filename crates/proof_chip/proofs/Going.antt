@@ -1,9 +1,10 @@
 -- What is known of the law of what goes on the air, whatever is so of the SendData that are not over, goes on with each event at which no frame is answered: what the chip is given, its ticks,
 -- what the air tells, and what lines do.
-use Rattle.std.proofs.Common.{◌≡◌, ◌==◌, Bool, true, false, List, [], ◌∷◌, ◌++◌, refl, sym, ap, subst, append-nil, append_assoc}
+use Rattle.std.proofs.Common.{◌≡◌, ℕ, ◌==◌, Bool, true, false, List, [], ◌∷◌, ◌++◌, refl, sym, ap, subst, append-nil, append_assoc}
 use Rattle.std.specs.Prelude.{Option}
 use Rattle.std.specs.List.{AllByRecursion}
 use Rattle.zw_base.proofs.Each.{all-append, all-both, all-left, all-right, all-weaker}
+use Rattle.serial_frame.specs.Frame.{FrameParts}
 use Rattle.serial_frame.specs.Stream.{after_tick}
 use Rattle.serial_frame.specs.Items.{unit_text}
 use Rattle.serial_frame.specs.declared.unit.Unit.{Unit as LineUnit}
@@ -12,7 +13,7 @@ use Rattle.serial_pipes.specs.Events.{told, told_by}
 use Rattle.route_table.specs.declared.route.Route.{Route}
 use Rattle.chip_sim.specs.Waiting.{PortState}
 use Rattle.chip_sim.specs.State.{ChipState}
-use Rattle.chip_sim.specs.Events.{ChipEvent, Judged, Ticked, Forgets, Collides, after, collides, outs}
+use Rattle.chip_sim.specs.Events.{ChipEvent, Judged, Ticked, Heard as chip_hears, Forgets, Collides, after, collides, outs}
 use Rattle.chip_sim.specs.Link.{link_steps}
 use Rattle.chip_sim.specs.Rules.{posts}
 use Rattle.mesh_sim.specs.Fates.{place_of}
@@ -22,6 +23,9 @@ use Rattle.zw_words.specs.declared.side.Side.TheVariants.{Host as by_host, Chip 
 use Rattle.zw_text.specs.declared.entry.Entry.{Entry}
 use Rattle.zw_text.specs.declared.entry.Entry.TheVariants as entry
 use Rattle.law_transcript.specs.Nodes.{controller}
+use Rattle.law_transcript.specs.Repeats.{frame_of}
+use Rattle.law_transcript.specs.Units.{Carried}
+use Rattle.law_transcript.specs.Carrying.{homeward}
 use Rattle.law_wire.specs.Asked.{Course, Sending}
 use Rattle.law_wire.specs.Taking.{MayAir}
 use Rattle.outside_model.specs.Devices.{State, shown_entries}
@@ -33,21 +37,23 @@ use Rattle.outside_model.specs.Nodes.{listens_at}
 use Rattle.outside_model.specs.Air.{deals, change_entries, change_at}
 use Rattle.outside_model.specs.Events.{OuterEvent, Host_writes, Host_takes, Host_notes, Shows, Joins, Discovers, Links, Loses, Loses_acks, Marks_loss, Marks_change, Clears_pipe, Collides_next, Stalls, Cuts, outcome}
 use Rattle.proof_device.proofs.Entered.{IsChange, IsCleared, IsMark, IsShown, all_cleared, all_shown, change_entered, told_by_marks}
-use Rattle.proof_device.proofs.Results.{Gives, IsGiven, ends_go, gives_go, to_chip_goes}
+use Rattle.proof_device.proofs.Results.{Gives, IsGiven, IsResult, ends_go, gives_go, to_chip_goes}
 use Rattle.proof_host.proofs.Lists.{each-append}
 use Rattle.proof_walk.specs.Outside.{Comes, IsNote, IsOfAir, IsSimple, Moves}
 use Rattle.proof_walk.proofs.Moving.{moves_both}
 use Rattle.proof_walk.proofs.Times.{does_chip}
 use Rattle.proof_chip.specs.Serving.{Serves}
 use Rattle.proof_chip.specs.Knowing.{AnyEntry}
-use Rattle.proof_chip.specs.Sending.{KeepsAir, KnowsAir}
+use Rattle.proof_chip.specs.Bringing.{BringSome}
+use Rattle.proof_chip.specs.Sending.{AirSo, ComingSo, KeepsAir, KnowsAir}
 use Rattle.proof_chip.proofs.Airing.{same_last}
+use Rattle.proof_chip.proofs.Bringing.{HearsNone, brings_aside, brings_event, brings_heard, brings_less, posts_none, some_more}
 use Rattle.proof_chip.proofs.Growing.{serves_aside, serves_event}
 use Rattle.proof_chip.proofs.Judged.{goes_back}
 use Rattle.proof_chip.proofs.Passing.{IsOther, others_no_ack, others_stand, puts_other}
 use Rattle.proof_chip.proofs.Quieting.{IsUnanswered, event_none}
 use Rattle.proof_chip.proofs.Telling.{AreAside, IsAside}
-use Rattle.proof_line.proofs.ChipAccounts.{Account, Still, Both, Later, Does, Forgotten as ForgottenLink, Of_air, In_air, gives_account, steps_by}
+use Rattle.proof_line.proofs.ChipAccounts.{Account, Still, Both, Later, Does, Forgotten as ForgottenLink, Of_air, In_air, IsOfResults, gives_account, gives_results, steps_by}
 use Rattle.proof_chip.proofs.Walking.{air_aside, any_each, cleared_aside, discovers_port, host_aside, joins_port, shown_aside}
 
 -- ---- entries
@@ -105,6 +111,10 @@ collides_answers : (b : Bool) → IsUnanswered b Collides
 collides_answers true = tt
 collides_answers false = tt
 
+result_hears : (event : ChipEvent) → IsResult event → HearsNone event
+result_hears (chip_hears node payload) result = absurd result
+result_hears event result = tt
+
 -- what the air tells is no frame of the controller
 abbrev pub IsNotOwn : AirEvent → Type 0
 IsNotOwn (air_event.Sent frame from to route payload) = (from == controller) ≡ false
@@ -155,33 +165,59 @@ module _ (devices : List State) (Are : List Sending → Type 0) where
       }
 
   -- the port stays
+  apart_so : (coming : List Carried) (did : List Step) (past told : List Entry) (port later : PortState) → AreApart told → later.side ≡ port.side → later.waiting ≡ port.waiting
+      → ComingSo devices Are coming did past port → ComingSo devices Are coming did (past ++ told) later
+  apart_so coming did past told port later apart side waiting (frames, serves, brings, keeps) =
+      let aside = all-weaker IsApart IsAside (λ e is. is.0) told apart in (
+        frames,
+        serves_aside did frames past told port later aside side waiting serves,
+        brings_aside did frames past coming told aside brings,
+        λ course goes. keeps_others course past told (all-weaker IsApart IsOther (λ e is. is.1) told apart) (keeps course goes),
+      )
+
   pub apart_goes : (did : List Step) (w later : Outside) (told : List Entry) → AreApart told → later.outer.chip.state.port ≡ w.outer.chip.state.port
       → Moves AnyEntry (KnowsAir devices Are did) w told (KnowsAir devices Are did) later
-  apart_goes did w later told apart same awaits past silent (frames, serves, keeps) = (
+  apart_goes did w later told apart same awaits past silent knows = (
     any_each past told,
-    (
-      frames,
-      serves_aside did frames past told w.outer.chip.state.port later.outer.chip.state.port (all-weaker IsApart IsAside (λ e is. is.0) told apart) (ap (λ (p : PortState). p.side) same)
-          (ap (λ (p : PortState). p.waiting) same) serves,
-      λ course goes. keeps_others course past told (all-weaker IsApart IsOther (λ e is. is.1) told apart) (keeps course goes),
-    ),
+    apart_so [] did past told w.outer.chip.state.port later.outer.chip.state.port apart (ap (λ (p : PortState). p.side) same) (ap (λ (p : PortState). p.waiting) same) knows,
   )
 
+  -- a frame is heard, and what it brings is to come
+  pub heard_so : (did : List Step) (past : List Entry) (port : PortState) (number : ℕ) (coming : List Carried) → homeward (frame_of past number) ≡ coming → AirSo devices Are did past port
+      → ComingSo devices Are coming did (past ++ entry.Heard number ∷ []) port
+  heard_so did past port number coming is (frames, serves, brings, keeps) = (
+    frames,
+    serves_aside did frames past (entry.Heard number ∷ []) port port (tt, tt) refl refl serves,
+    brings_heard did frames past number coming is brings,
+    λ course goes. keeps_others course past (entry.Heard number ∷ []) (tt, tt) (keeps course goes),
+  )
+
+  -- and does not come
+  pub less_so : (coming : List Carried) (did : List Step) (past : List Entry) (port : PortState) → ComingSo devices Are coming did past port → AirSo devices Are did past port
+  less_so coming did past port (frames, serves, brings, keeps) = (frames, serves, brings_less did frames past coming brings, keeps)
+
   -- an event of the chip that answers no frame
-  pub chip_goes : (did : List Step) (w : Outside) (event : ChipEvent) → IsUnanswered (collides w.outer.chip.state) event
-      → Comes AnyEntry (KnowsAir devices Are did) w (chip_does w.outer event) w.devices (KnowsAir devices Are (did ++ link_steps w.outer.chip.state event))
+  pub chip_so : (coming : List Carried) (did : List Step) (past : List Entry) (o : OuterState) (event : ChipEvent) → IsUnanswered (collides o.chip.state) event
+      → ((frames : List FrameParts) → BringSome frames coming past → BringSome (frames ++ posts o.chip.state event) [] past) → ComingSo devices Are coming did past o.chip.state.port
+      → AirSo devices Are (did ++ link_steps o.chip.state event) (past ++ (chip_does o event).entries) (chip_does o event).outer.chip.state.port
   unfolding chip_does
-  chip_goes did w event none awaits past silent (frames, serves, keeps) =
-      let s : ChipState = w.outer.chip.state in
-      let entered : List Entry = (chip_does w.outer event).entries in
-      let others = puts_other (outs s event) (with_chip w.outer (after s event)) (event_none s event none) in (
-        any_each past entered,
-        (
-          frames ++ posts s event,
-          subst (λ (x : ChipState). Serves (did ++ link_steps s event) (frames ++ posts s event) (past ++ entered) x.port) (sym (does_chip w.outer event)) (serves_event did frames past w.outer event serves),
-          λ course goes. keeps_others course past entered others (keeps course (goes_back did (link_steps s event) course goes)),
-        ),
+  chip_so coming did past o event none some (frames, serves, brings, keeps) =
+      let s : ChipState = o.chip.state in
+      let entered : List Entry = (chip_does o event).entries in
+      let others = puts_other (outs s event) (with_chip o (after s event)) (event_none s event none) in (
+        frames ++ posts s event,
+        subst (λ (x : ChipState). Serves (did ++ link_steps s event) (frames ++ posts s event) (past ++ entered) x.port) (sym (does_chip o event)) (serves_event did frames past o event serves),
+        brings_event did frames past o event serves [] (some frames brings.some) brings,
+        λ course goes. keeps_others course past entered others (keeps course (goes_back did (link_steps s event) course goes)),
       )
+
+  pub chip_goes : (did : List Step) (w : Outside) (event : ChipEvent) → IsUnanswered (collides w.outer.chip.state) event → HearsNone event
+      → Comes AnyEntry (KnowsAir devices Are did) w (chip_does w.outer event) w.devices (KnowsAir devices Are (did ++ link_steps w.outer.chip.state event))
+  chip_goes did w event none hears awaits past silent knows = (
+    any_each past (chip_does w.outer event).entries,
+    chip_so [] did past w.outer event none
+        (λ frames some. some_more frames (posts w.outer.chip.state event) past (posts_none w.outer.chip.state event hears) some) knows,
+  )
 
   -- ---- what the chip is given, by the account of it
 
@@ -198,34 +234,35 @@ module _ (devices : List State) (Are : List Sending → Type 0) where
         moves_both AnyEntry (KnowsAir devices Are did) (KnowsAir devices Are did) (KnowsAir devices Are now) (outside o there) (outside p there) (outside x.outer there) [] x.entries
         (apart_goes did (outside o there) (outside p there) [] tt (ap (λ (s : ChipState). s.port) same)) goes
 
-    pub account_goes : (did : List Step) {o : OuterState} {x : Outcome} (account : Account o x) → Others o x → Goes did o x (did ++ steps_by account)
-    account_goes did (Still o p is) others = apart_on did o (silent p) tt (ap (λ (s : ChipState). s.port) is.chip)
-    account_goes did (Both o first next one later) others =
+    pub account_goes : (did : List Step) {o : OuterState} {x : Outcome} (account : Account o x) → Others o x → IsOfResults account → Goes did o x (did ++ steps_by account)
+    account_goes did (Still o p is) others results = apart_on did o (silent p) tt (ap (λ (s : ChipState). s.port) is.chip)
+    account_goes did (Both o first next one later) others results =
         let more : List Step = did ++ steps_by one in
         let x : Outcome = and_then first next in
         subst (λ (l : List Step). Goes did o x l) (append_assoc did (steps_by one) (steps_by later))
         (moves_both AnyEntry (KnowsAir devices Are did) (KnowsAir devices Are more) (KnowsAir devices Are (more ++ steps_by later)) (outside o there) (outside first.outer there)
         (outside (next first.outer).outer there) first.entries (next first.outer).entries
-        (account_goes did one (all-left IsOther first.entries (next first.outer).entries others)) (account_goes more later (all-right IsOther first.entries (next first.outer).entries others)))
-    account_goes did (Later o p x is account) others = after_same did (did ++ steps_by account) o p x is.chip (account_goes did account others)
-    account_goes did (Does o event given) others = chip_goes did (outside o there) event (given_answers (collides o.chip.state) event given)
-    account_goes did (ForgottenLink o a b) others = apart_on did o (tells (with_chip o (after o.chip.state (Forgets a b))) (entry.Forget a b ∷ [])) ((tt, tt), tt) refl
-    account_goes did (Of_air o x of_air to_host to_chip port) others = apart_on did o x (both_apart x.entries (all-weaker IsOfAir IsAside air_aside x.entries of_air) others) port
-    account_goes did (In_air o air x account) others = after_same did (did ++ steps_by account) o (record o { air = air }) x refl (account_goes did account others)
+        (account_goes did one (all-left IsOther first.entries (next first.outer).entries others) results.0)
+        (account_goes more later (all-right IsOther first.entries (next first.outer).entries others) results.1))
+    account_goes did (Later o p x is account) others results = after_same did (did ++ steps_by account) o p x is.chip (account_goes did account others results)
+    account_goes did (Does o event given) others results = chip_goes did (outside o there) event (given_answers (collides o.chip.state) event given) (result_hears event results)
+    account_goes did (ForgottenLink o a b) others results = apart_on did o (tells (with_chip o (after o.chip.state (Forgets a b))) (entry.Forget a b ∷ [])) ((tt, tt), tt) refl
+    account_goes did (Of_air o x of_air to_host to_chip port) others results = apart_on did o x (both_apart x.entries (all-weaker IsOfAir IsAside air_aside x.entries of_air) others) port
+    account_goes did (In_air o air x account) others results = after_same did (did ++ steps_by account) o (record o { air = air }) x refl (account_goes did account others results)
 
   -- the results of the ticks before, and a tick of the chip
   pub results_go : (did : List Step) (w : Outside) (route : Option Route)
       → Comes AnyEntry (KnowsAir devices Are did) w (gives w.outer w.devices w.outer.due route) w.devices (KnowsAir devices Are (did ++ steps_by (gives_account w route)))
-  results_go did w route = account_goes w.devices did (gives_account w route) (results_other w.outer w.devices route)
+  results_go did w route = account_goes w.devices did (gives_account w route) (results_other w.outer w.devices route) (gives_results w route)
 
   pub tick_goes : (did : List Step) (w : Outside) → Comes AnyEntry (KnowsAir devices Are did) w (chip_ticks w.outer) w.devices (KnowsAir devices Are (did ++ link_steps w.outer.chip.state Ticked))
   tick_goes did w =
       let fed : OuterState = record w.outer { chip = record { decoder = after_tick w.outer.chip.decoder; state = w.outer.chip.state } } in
-      after_same w.devices did (did ++ link_steps w.outer.chip.state Ticked) w.outer fed (chip_does fed Ticked) refl (chip_goes did (outside fed w.devices) Ticked (ticked_answers (collides w.outer.chip.state)))
+      after_same w.devices did (did ++ link_steps w.outer.chip.state Ticked) w.outer fed (chip_does fed Ticked) refl (chip_goes did (outside fed w.devices) Ticked (ticked_answers (collides w.outer.chip.state)) tt)
 
   pub collides_goes : (did : List Step) (w : Outside) → Comes AnyEntry (KnowsAir devices Are did) w (outcome w Collides_next) w.devices (KnowsAir devices Are (did ++ link_steps w.outer.chip.state Collides))
   unfolding outcome chip_does
-  collides_goes did w = chip_goes did w Collides (collides_answers (collides w.outer.chip.state))
+  collides_goes did w = chip_goes did w Collides (collides_answers (collides w.outer.chip.state)) tt
 
   -- ---- what lines do, and hosts
 

@@ -1,10 +1,9 @@
--- What other walks tell is the ground of the law of what goes on the air: node 1 has not joined; and where bytes move, clock, joined nodes and ways of the chip are those of the transcript, once
+-- What other walks tell is the ground of the law of what goes on the air: where bytes move, clock, joined nodes and ways of the chip are those of the transcript, once
 -- the number of the tick is entered.
 use Rattle.std.proofs.Common.{◌≡◌, ◌≤◌, ℕ, Bool, true, false, if◌then◌else◌, List, [], ◌∷◌, ◌++◌, reverse, inl, inr, refl, sym, ap, ◌∙◌, subst, append-nil, arith}
 use Rattle.std.specs.List.{AllByRecursion}
 use Rattle.route_table.specs.Network.{Network}
 use Rattle.chip_sim.specs.Nodes.{is_marked}
-use Rattle.mesh_sim.specs.Air.{is_joined as is_on_air}
 use Rattle.zw_text.specs.declared.entry.Entry.{Entry}
 use Rattle.zw_text.specs.declared.entry.Entry.TheVariants as entry
 use Rattle.law_transcript.specs.Nodes.{controller, is_joined}
@@ -15,8 +14,6 @@ use Rattle.outside_model.specs.Devices.{State}
 use Rattle.outside_model.specs.Events.{ticked_entry}
 use Rattle.world_model.specs.State.{Machine}
 use Rattle.proof_walk.specs.Outside.{awaits_number}
-use Rattle.proof_walk.specs.Phases.{Phase, Said_line, Begun, Doing, Ticking_host}
-use Rattle.proof_air.specs.Hearing.{KnowAir as KnowHistory}
 use Rattle.proof_air.specs.Landing.{Landed}
 use Rattle.proof_air.proofs.SentBefore.{number_clock}
 use Rattle.proof_routes.specs.Networks.{Tie}
@@ -25,16 +22,6 @@ use Rattle.proof_routes.proofs.Walks.{IsSame, chip_same, home_same, route_same, 
 use Rattle.proof_chip.specs.Knowing.{SameNodes}
 use Rattle.proof_chip.specs.Sending.{Agrees, TieWays}
 use Rattle.proof_chip.proofs.Passing.{ShowsNone, network_all, shown_all}
-
--- ---- node 1
-
-pub home_of : (here : Phase) (past : List Entry) (m : Machine) → KnowHistory here past m → is_on_air m.outside.outer.air controller ≡ false
-home_of (Said_line line) past m known = known.0.home
-home_of (Begun line) past m known = known.0.home
-home_of (Doing line left) past m (inl awaits) = awaits.tie.home
-home_of (Doing line left) past m (inr known) = known.1.0.0.home
-home_of (Ticking_host events ticks) past m known = known.1.0.0.home
-home_of here past m known = known.0.0.home
 
 -- ---- the number of the tick
 

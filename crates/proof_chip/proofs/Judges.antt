@@ -31,6 +31,7 @@ use Rattle.outside_model.specs.Events.{Chip_takes, entries, happens, has_entered
 use Rattle.proof_walk.proofs.Times.{each_keeps, does_chip, does_time, time_of}
 use Rattle.proof_chip.specs.Serving.{Serves}
 use Rattle.proof_chip.specs.Sending.{Agrees, AirSo, AreNow, AreSending, ItemsSo, TieItems, TieWays}
+use Rattle.proof_chip.proofs.Bringing.{brings_event, posts_none, some_more}
 use Rattle.proof_chip.proofs.Growing.{serves_event}
 use Rattle.proof_chip.proofs.Judged.{decided, judged_ties, none_passed}
 use Rattle.proof_chip.proofs.Airing.{answer}
@@ -49,12 +50,13 @@ module _ (devices : List State) where
   item_keeps : (did : List Step) (past : List Entry) (o : OuterState) (item : Item) (route : Option Route) → May o.chip.state (Judged item route) → ItemsSo devices did past o
       → ItemsSo devices (did ++ link_steps o.chip.state (Judged item route)) (past ++ (chip_does o (Judged item route)).entries) (chip_does o (Judged item route)).outer
   unfolding chip_does
-  item_keeps did past o item route may (frames, serves, ties) =
+  item_keeps did past o item route may (frames, serves, brings, ties) =
       let e : ChipEvent = Judged item route in
       let all : List Step = did ++ link_steps o.chip.state e in
       let more : List FrameParts = frames ++ posts o.chip.state e in (
         more,
         subst (λ (s : ChipState). Serves all more (past ++ (chip_does o e).entries) s.port) (sym (does_chip o e)) (serves_event did frames past o e serves),
+        brings_event did frames past o e serves [] (some_more frames (posts o.chip.state e) past (posts_none o.chip.state e tt) brings.some) brings,
         judged_ties devices did frames past o (chip_does o e).outer serves ties (ap (λ (t : Bool × Bool × ℕ). t.2) (does_time o e)) route item (does_chip o e) may,
       )
 
@@ -97,8 +99,8 @@ module _ (devices : List State) where
   }
 
   pub items_same : (did : List Step) (past : List Entry) (o p : OuterState) → p.chip.state ≡ o.chip.state → p.clock ≡ o.clock → ItemsSo devices did past o → ItemsSo devices did past p
-  items_same did past o p chip clock (frames, serves, ties) =
-      (frames, subst (λ (s : ChipState). Serves did frames past s.port) (sym chip) serves, ties_same did past o p chip clock ties)
+  items_same did past o p chip clock (frames, serves, brings, ties) =
+      (frames, subst (λ (s : ChipState). Serves did frames past s.port) (sym chip) serves, brings, ties_same did past o p chip clock ties)
 
   takes_keep : (did : List Step) (past : List Entry) (o : OuterState) (count : ℕ) (rest : Rest) (ways : List (Item × Option Route)) → MayTake o count rest ways → ItemsSo devices did past o
       → ItemsSo devices (did ++ over link_steps o.chip.state (judged_all ways)) (past ++ (chip_takes o count rest ways).entries) (chip_takes o count rest ways).outer
@@ -109,9 +111,10 @@ module _ (devices : List State) where
   -- ---- from what is known at any time, and back
 
   items_of : (did : List Step) (past : List Entry) (o : OuterState) → Agrees devices past o → AirSo devices (AreNow o) did past o.chip.state.port → ItemsSo devices did past o
-  items_of did past o agrees (frames, serves, keeps) = (
+  items_of did past o agrees (frames, serves, brings, keeps) = (
     frames,
     serves,
+    brings,
     record {
       airs = λ later goes. let was = keeps later goes in record { so = was.so; over = was.over; under = was.are.0; few = was.are.1 };
       agrees = agrees;
@@ -119,8 +122,8 @@ module _ (devices : List State) where
   )
 
   air_so : (did : List Step) (past : List Entry) (o : OuterState) → ItemsSo devices did past o → AirSo devices (AreNow o) did past o.chip.state.port
-  air_so did past o (frames, serves, ties) =
-      (frames, serves, λ later goes. let was = ties.airs later goes in record { so = was.so; over = was.over; are = (was.under, was.few) })
+  air_so did past o (frames, serves, brings, ties) =
+      (frames, serves, brings, λ later goes. let was = ties.airs later goes in record { so = was.so; over = was.over; are = (was.under, was.few) })
 
   -- ---- where nothing is entered
 
@@ -152,7 +155,7 @@ module _ (devices : List State) where
         let now : List Step = did ++ link_steps o.chip.state e in
         let both = both_none first.entries rest.entries none in
         let quiet = silent_item o one.0 one.1 both.0 in
-        let goes = (chip_goes devices Are did (outside o there) e quiet false past (λ (is : false ≡ true). absurd cc) knows).1 in
+        let goes = (chip_goes devices Are did (outside o there) e quiet tt false past (λ (is : false ≡ true). absurd cc) knows).1 in
         let here : AirSo devices Are now past first.outer.chip.state.port =
         subst (λ (l : List Entry). AirSo devices Are now l first.outer.chip.state.port) (ap (λ (l : List Entry). past ++ l) both.0 ∙ append-nil past) goes in
         let later = silent_all now ways past first.outer both.1 here in
@@ -168,8 +171,8 @@ module _ (devices : List State) where
   -- what is known of them is weaker, or said of another state
   pub weaker : (Are Other : List Sending → Type 0) (did : List Step) (past : List Entry) (port : PortState) → ((sendings : List Sending) → Are sendings → Other sendings) → AirSo devices Are did past port
       → AirSo devices Other did past port
-  weaker Are Other did past port goes (frames, serves, keeps) =
-      (frames, serves, λ later goes_on. let was = keeps later goes_on in record { so = was.so; over = was.over; are = goes (last_sending later past) was.are })
+  weaker Are Other did past port goes (frames, serves, brings, keeps) =
+      (frames, serves, brings, λ later goes_on. let was = keeps later goes_on in record { so = was.so; over = was.over; are = goes (last_sending later past) was.are })
 
   pub now_as : (o p : OuterState) → p.chip.state.sending ≡ o.chip.state.sending → p.clock ≡ o.clock → (sendings : List Sending) → AreNow o sendings → AreNow p sendings
   now_as o p sending clock sendings are = (

@@ -21,7 +21,9 @@ mod Requesting
 mod Passing
 mod Payloads
 mod Judged
+mod Bringing
 mod Going
+mod Homing
 mod Acting
 mod Keeping
 mod Judges

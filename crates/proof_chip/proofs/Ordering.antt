@@ -112,7 +112,7 @@ module _ (devices : List State) (steps : List Step) (frames : List FrameParts) (
   -- ---- a frame that is begun
 
   -- it is among those that were begun by the end
-  began : (front : List Entry) (unit : List ℕ) (rest : List Entry) → entered ≡ front ++ entry.Written by_chip unit ∷ rest → begins_next later (past ++ front) ≡ true
+  pub began : (front : List Entry) (unit : List ℕ) (rest : List Entry) → entered ≡ front ++ entry.Written by_chip unit ∷ rest → begins_next later (past ++ front) ≡ true
       → frame_texts (submitted_in (steps ++ link_steps o.chip.state e))
       ≡ (begun later (past ++ front) ++ unit ∷ []) ++ shown_after (begun_at later) ((past ++ front) ++ entry.Written by_chip unit ∷ []) rest
   began front unit rest is begins =

@@ -25,6 +25,7 @@ use Rattle.proof_serial.specs.Line.{host_units}
 use Rattle.proof_traffic.specs.Links.{KeepsItsLink, host_link_steps}
 use Rattle.proof_walk.specs.Phases.{Phase, Between, Giving}
 use Rattle.proof_walk.specs.Walk.{Walk, WalkWhere}
+use Rattle.proof_air.proofs.Handling.{tie_here}
 use Rattle.proof_routes.specs.Networks.{Tie}
 use Rattle.proof_routes.specs.Knowing.{KnowNetworks}
 use Rattle.proof_line.specs.Linked.{Cuts, IsOrderly}
@@ -32,11 +33,12 @@ use Rattle.proof_line.proofs.ChipAccounts.{event_steps}
 use Rattle.proof_line.proofs.LinkWalk.{event_knows, said_knows, turn_knows}
 use Rattle.proof_chip.specs.Calling.{KnowCalls}
 use Rattle.proof_chip.specs.Knowing.{AnyEntry}
+use Rattle.proof_chip.specs.Bringing.{BringsInOrder}
 use Rattle.proof_chip.specs.Sending.{GroundAir, KnowAir}
 use Rattle.proof_chip.specs.Served.{AirsByLink, KnowBeside, KnowServing}
 use Rattle.proof_chip.specs.Serving.{GoesOn}
 use Rattle.proof_chip.proofs.Airs.{event_goes, said_goes, turn_goes}
-use Rattle.proof_chip.proofs.Grounds.{agrees_of, home_of}
+use Rattle.proof_chip.proofs.Grounds.{agrees_of}
 use Rattle.proof_chip.proofs.Walking.{any_each}
 
 -- ---- the ground
@@ -44,7 +46,7 @@ use Rattle.proof_chip.proofs.Walking.{any_each}
 pub ground_air : (devices : List State) → ((past : List Entry) (m : Machine) → KnowNetworks devices Between past m → Tie devices past m.outside)
     → ((ticks : _) (past : List Entry) (m : Machine) → KnowCalls (Giving 0 ticks) past m → m.outside.outer.chip.state.sending ≡ None) → GroundAir devices (KnowBeside devices)
 ground_air devices tie none = record {
-  home = λ here past m known. home_of here past m known.0.0.0.0.0;
+  history = λ here past m known. tie_here here past m known.0.0.0.0.0;
   agrees = λ passes ticks past m known. agrees_of devices past m (tie past m known.0.0.1) known.0.1.0 known.0.0.0.1;
   none = λ ticks past m known. none ticks past m known.1;
 }
@@ -82,16 +84,25 @@ goes_none course = record { frames = []; flags = []; passed = sym (append-nil co
 
 module _ (devices : List State) (did : List Step) (here : Phase) (past : List Entry) (m : Machine) (known : KnowAir devices did here past m) where
   kept : EachAfter (MayAir devices (course_of did)) [] past
-  kept = let (frames, serves, keeps) = known.0 in (keeps (course_of did) (goes_none (course_of did))).so
+  kept = let (frames, serves, brings, keeps) = known.0 in (keeps (course_of did) (goes_none (course_of did))).so
+
+  brought : (course : Course) → course ≡ course_of did → BringsInOrder course past
+  brought course same =
+      let (frames, serves, brings, keeps) = known.0 in subst (λ (c : Course). BringsInOrder c past) (sym same) (brings.turns (course_of did) (goes_none (course_of did)))
 
   pub airs_cut : Cuts did past → AirsByLink false devices past
-  airs_cut cuts = record { link = cuts.links.chip; airs = subst (λ (course : Course). EachAfter (MayAir devices course) [] past) (sym cuts.course) kept }
+  airs_cut cuts = record {
+    link = cuts.links.chip;
+    airs = subst (λ (course : Course). EachAfter (MayAir devices course) [] past) (sym cuts.course) kept;
+    brings = brought _ cuts.course;
+  }
 
   pub airs_whole : Cuts did (past ++ Said [] ∷ []) → AirsByLink true devices past
   airs_whole cuts = record {
     link = cuts.links.chip;
     airs =
-        let (frames, serves, keeps) = known.0 in
+        let (frames, serves, brings, keeps) = known.0 in
         subst (λ (course : Course). EachAfter (MayAir devices course) [] (past ++ Said [] ∷ [])) (sym cuts.course)
         (each-append (MayAir devices (course_of did)) [] past (Said [] ∷ []) kept ((keeps (course_of did) (goes_none (course_of did))).over, tt));
+    brings = brought _ cuts.course;
   }

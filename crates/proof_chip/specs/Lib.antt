@@ -1,4 +1,6 @@
 pub mod Serving
+pub mod Bringing
+pub mod WorkedBringing
 pub mod Knowing
 pub mod Sending
 pub mod Calling

@@ -13,6 +13,7 @@ use Rattle.chip_sim.specs.declared.out.Sending.{Sending as SendingParts}
 use Rattle.zw_text.specs.declared.entry.Entry.{Entry}
 use Rattle.law_transcript.specs.Lists.{EachAfter}
 use Rattle.law_transcript.specs.Nodes.{controller, is_joined}
+use Rattle.law_transcript.specs.Units.{Carried}
 use Rattle.law_wire.specs.Networks.{chip_network}
 use Rattle.law_wire.specs.Routes.{HasNoRoute}
 use Rattle.law_wire.specs.Asked.{Course, Sending, clock_of, course_of, in_tick, last_sending}
@@ -20,11 +21,12 @@ use Rattle.law_wire.specs.Taking.{IsPassedOver, MayAir}
 use Rattle.outside_model.specs.Devices.{State}
 use Rattle.outside_model.specs.State.{OuterState}
 use Rattle.outside_model.specs.Events.{OuterEvent, Begins_tick, Chip_takes, Arrives, Gives, ticked_entry}
-use Rattle.mesh_sim.specs.Air.{is_joined as is_on_air}
 use Rattle.world_model.specs.State.{Machine}
 use Rattle.proof_walk.specs.Phases.{Phase, Doing, Ticked, Arriving, Giving, Moving}
-use Rattle.proof_walk.specs.Outside.{CoversOuter, Knowing}
+use Rattle.proof_walk.specs.Outside.{CoversOuter, Knowing, nothing}
+use Rattle.proof_air.specs.Logs.{Tie}
 use Rattle.proof_chip.specs.Serving.{GoesOn, Serves}
+use Rattle.proof_chip.specs.Bringing.{Brings}
 
 -- the one under way by the transcript is that of the chip
 abbrev pub AreSending : Option SendingParts → List Sending → Type 0
@@ -63,9 +65,10 @@ pub record TieItems (devices : List State) (steps : List Step) (past : List Entr
   pub airs : (later : Course) → GoesOn (course_of steps) later → TieAir devices later past o
   pub agrees : Agrees devices past o
 
--- with these steps of the link, it was given some frames, with which all this is so
+-- with these steps of the link, it was given some frames, which bring what was heard in order, and with which all this is so
 abbrev pub ItemsSo : List State → List Step → List Entry → OuterState → Type 0
-ItemsSo devices did past o = (frames : List FrameParts) × Serves did frames past o.chip.state.port × TieItems devices did past o
+ItemsSo devices did past o =
+    (frames : List FrameParts) × Serves did frames past o.chip.state.port × Brings did frames [] past × TieItems devices did past o
 
 -- ---- at any time
 
@@ -75,10 +78,15 @@ pub record KeepsAir (devices : List State) (Are : List Sending → Type 0) (cour
   pub over : IsPassedOver false devices course past
   pub are : Are (last_sending course past)
 
--- with these steps of the link, it was given some frames, with which this is so of each course that goes on
+-- with these steps of the link, it was given some frames, which with this to come bring what was heard in order, and with which this is so of each course that goes on
+abbrev pub ComingSo : List State → (List Sending → Type 0) → List Carried → List Step → List Entry → PortState → Type 0
+ComingSo devices Are coming did past port =
+    (frames : List FrameParts) × Serves did frames past port × Brings did frames coming past
+    × ((later : Course) → GoesOn (course_of did) later → KeepsAir devices Are later past)
+
+-- between events nothing is to come
 abbrev pub AirSo : List State → (List Sending → Type 0) → List Step → List Entry → PortState → Type 0
-AirSo devices Are did past port =
-    (frames : List FrameParts) × Serves did frames past port × ((later : Course) → GoesOn (course_of did) later → KeepsAir devices Are later past)
+AirSo devices Are did past port = ComingSo devices Are [] did past port
 
 abbrev pub KnowsAir : List State → (List Sending → Type 0) → List Step → Knowing
 KnowsAir devices Are did awaits past w = AirSo devices Are did past w.outer.chip.state.port
@@ -115,9 +123,9 @@ AreAt here o sendings = AreNow o sendings
 abbrev pub KnowAir : List State → List Step → Phase → List Entry → Machine → Type 0
 KnowAir devices did here past m = AirSo devices (AreAt here m.outside.outer) did past m.outside.outer.chip.state.port × LeavesMild here
 
--- What other walks are to tell: node 1 has not joined the air; where the chip may take bytes, it agrees with the transcript once the number of the tick is entered; and once all results of a
+-- What other walks are to tell: the history of the air; where the chip may take bytes, it agrees with the transcript once the number of the tick is entered; and once all results of a
 -- tick have come, it has nothing under way.
 pub record GroundAir (devices : List State) (Ground : Phase → List Entry → Machine → Type 0) : Type 0 where
-  pub home : (here : Phase) (past : List Entry) (m : Machine) → Ground here past m → is_on_air m.outside.outer.air controller ≡ false
+  pub history : (here : Phase) (past : List Entry) (m : Machine) → Ground here past m → Tie nothing past m.outside
   pub agrees : (passes ticks : ℕ) (past : List Entry) (m : Machine) → Ground (Moving passes ticks) past m → Agrees devices (past ++ ticked_entry m.outside.outer) m.outside.outer
   pub none : (ticks : ℕ) (past : List Entry) (m : Machine) → Ground (Giving 0 ticks) past m → m.outside.outer.chip.state.sending ≡ None

@@ -16,6 +16,7 @@ use Rattle.proof_air.specs.Hearing.{KnowAir as KnowHistory}
 use Rattle.proof_air.specs.Landing.{KnowLanding}
 use Rattle.proof_routes.specs.Knowing.{KnowNetworks}
 use Rattle.proof_line.specs.Linked.{KnowCuts}
+use Rattle.proof_chip.specs.Bringing.{BringsInOrder}
 use Rattle.proof_chip.specs.Calling.{KnowCalls}
 use Rattle.proof_chip.specs.Knowing.{KnownNodes}
 use Rattle.proof_chip.specs.Sending.{KnowAir}
@@ -33,7 +34,8 @@ KnowServing devices here past m = KnowBeside devices here past m × ((did : List
 
 -- ---- of a run
 
--- the chip's link keeps the rules, and by what that link did the controller puts on the air just what it takes
+-- the chip's link keeps the rules, and by what that link did the controller puts on the air just what it takes, and the chip brings the host what was heard in order
 pub record AirsByLink (whole : Bool) (devices : List State) (transcript : List Entry) : Type 0 where
   pub link : KeepsLink Chip (ended whole transcript)
   pub airs : AirsWhatIsTaken devices (course_of (joined link.parts)) (ended whole transcript)
+  pub brings : BringsInOrder (course_of (joined link.parts)) transcript

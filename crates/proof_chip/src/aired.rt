@@ -1,4 +1,4 @@
-//! What the controller puts on the air.
+//! What the controller puts on the air, and what the chip brings of what it heard there.
 
 ghost use Rattle.std.specs.Prelude.{Bool, false, true, Option, Some, List, [], ℕ};
 ghost use Rattle.s0_crypto.specs.declared.key_pair.Keys.{Keys};
@@ -11,7 +11,7 @@ ghost use Rattle.proof_chip.specs.Served.{AirsByLink};
 
 use crate::{calls_go_on, nodes_go_on};
 use proof_air::{history_goes_on, landings_go_on};
-use proof_line::spoken::world::lines_keep_and_ask_well;
+use proof_line::world::lines_keep_and_ask_well;
 use proof_routes::networks_go_on;
 use proof_serial::hosts_write_well;
 use proof_traffic::hosts_obey_the_line;
@@ -20,7 +20,8 @@ use proof_walk::time_goes_on;
 /// Over any lines from the first on, the last of which an allocation failure may have cut short, over a keeper that tells its records and has none at first,
 /// the chip's link keeps the rules of the serial line in time, and by what that link did the controller puts on the air just the frames of the SendData that
 /// are taken: each directly after the answer to its request, unless its node has no way then. Where all lines were run whole it is so up to the end of the
-/// last one.
+/// last one. And with each frame that the chip begins to write, the frames that it has begun bring some of what the controller heard before, one each and in
+/// order.
 pub fn chips_air_what_is_taken()
     ensures cut { (keys : Keys) (devices : List State) (lines : List Spoken) →
         AreDone (first_machine keys (Some []) devices) lines →

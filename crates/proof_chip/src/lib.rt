@@ -5,13 +5,15 @@
 //! `nodes_go_on`; `calls_go_on`; and over all of these, with the walk of both links (`proof_line`), `chips_air_what_is_taken`.
 //! The definitions are in `specs/`: `Serving` (what the chip's link did and was given, beside the transcript), `Knowing` (what is known of it at each phase
 //! of a line), `Sending` (which SendData it has under way, and what that needs to be known of chip and transcript), `Calling` (the results that it waits
-//! for) and `Served` (all of that with both links, by the same steps).
+//! for), `Served` (all of that with both links, by the same steps) and `Bringing` (that what was heard is brought in order, with worked transcripts).
 #![tactic(auto)]
 
 mod aired;
 mod calls;
 mod order;
+mod worked;
 
 pub use aired::chips_air_what_is_taken;
 pub use calls::calls_go_on;
 pub use order::{chips_serve_in_order, nodes_go_on, service_goes_on};
+pub use worked::worked_bringing;

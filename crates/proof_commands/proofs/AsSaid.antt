@@ -8,7 +8,7 @@ use Rattle.world_model.specs.Events.{Event}
 use Rattle.world_lines.specs.Spoken.{transcript_of}
 use Rattle.world_lines.specs.Done.{AreDone}
 use Rattle.world_lines.specs.Whole.{AreWhole}
-use Rattle.proof_commands.specs.Around.{Around}
+use Rattle.run_all.specs.Around.{Around}
 use Rattle.proof_commands.specs.Laws.{Ran, AreSchedules, IsStory, TellsAtRestarts, TellsItsRecords, first, has_restart, transcript, transcript_from}
 use Rattle.proof_commands.proofs.Further.{reads_as}
 use Rattle.proof_commands.proofs.Speaking.{ReadAgain, all_done, all_said, same_transcript, story_done}

@@ -15,7 +15,7 @@ use Rattle.host_model.specs.declared.out.HostOut.TheVariants.{Write, Note}
 use Rattle.host_model.proofs.Silence.{Silent}
 use Rattle.proof_host.specs.Entries.{IsAside, notes_of, entries_at}
 use Rattle.proof_host.specs.Facts.{Facts}
-use Rattle.proof_world.proofs.Aside.{Asides}
+use Rattle.proof_world.proofs.FactsKept.{after_keeps}
 use Rattle.proof_world.proofs.Notes.{Puts, puts_at, Trailing, after_nothing}
 use Rattle.run_replay.specs.Machine.{entry_of, entries_of, timed}
 
@@ -69,25 +69,13 @@ asked_following h event =
 
 module _ (each : (past : List Entry) (h : HostState) (event : HostEvent) → Facts past h → MayHost h event → Facts (past ++ entries_at h event) (after h event))
     (aside : (past : List Entry) (h : HostState) (entry : Entry) → Facts past h → IsAside entry → Facts (past ++ entry ∷ []) h) where
-  asides : (past : List Entry) (h : HostState) (entries : List Entry) → Facts past h → Asides entries → Facts (past ++ entries) h
-  asides past h [] facts all = subst (λ (l : List Entry). Facts l h) (sym (append-nil past)) facts
-  asides past h (e ∷ entries) facts all =
-      subst (λ (l : List Entry). Facts l h) (append_assoc past (e ∷ []) entries) (asides (past ++ e ∷ []) h entries (aside past h e facts all.0) all.1)
-
-  -- an event of the host, entered after others
-  pub after_keeps : (past all : List Entry) (h : HostState) (event : HostEvent) → Facts past h → MayHost h event → Trailing (entries_at h event) all → Facts (past ++ all) (after h event)
-  after_keeps past all h event facts may following =
-      subst (λ (l : List Entry). Facts l (after h event))
-      (append_assoc past following.prefix (entries_at h event) ∙ ap (λ (l : List Entry). past ++ l) (sym following.are))
-      (each (past ++ following.prefix) h event (asides past h following.prefix facts following.asides) may)
-
   -- events that answer no line
   pub silent_keeps : (past : List Entry) (h : HostState) (es : List HostEvent) → Facts past h → MayAllHost h es → Silent es → Facts (past ++ entries_of (outs_all h es)) (after_all h es)
   silent_keeps past h [] facts may silent = subst (λ (l : List Entry). Facts l h) (sym (append-nil past)) facts
   silent_keeps past h (e ∷ es) facts may silent =
       subst (λ (l : List Entry). Facts l (after_all (after h e) es))
       (append_assoc past (entries_of (outs h e)) (entries_of (outs_all (after h e) es)) ∙ ap (λ (l : List Entry). past ++ l) (sym (map-append entry_of (outs h e) (outs_all (after h e) es))))
-      (silent_keeps (past ++ entries_of (outs h e)) (after h e) es (after_keeps past (entries_of (outs h e)) h e facts may.0 (silent_after h e (silent.0 h))) may.1 silent.1)
+      (silent_keeps (past ++ entries_of (outs h e)) (after h e) es (after_keeps each aside past (entries_of (outs h e)) h e facts may.0 (silent_after h e (silent.0 h))) may.1 silent.1)
 
   timed_so : (past : List Entry) (h : HostState) (tick : ℕ) (es : List HostEvent) (puts : List HostOut) → puts ≡ outs_all h es → Facts past h → MayAllHost h es → Silent es
       → Facts (past ++ timed tick puts) (after_all h es)

@@ -7,7 +7,7 @@ use Rattle.world_model.specs.Events.{Event}
 use Rattle.world_model.specs.Did.{happens_all}
 use Rattle.run_lines.specs.Lines.{TextLine}
 use Rattle.world_lines.specs.Spoken.{after_all, transcript_of}
-use Rattle.proof_commands.specs.Around.{Around}
+use Rattle.run_all.specs.Around.{Around}
 use Rattle.proof_commands.specs.Laws.{Ran, IsReadAs, IsStory, TellsAtRestarts, events_of, first, transcript, with_last}
 use Rattle.proof_commands.proofs.Reading.{AreRead}
 use Rattle.proof_commands.proofs.Unentered.{same_lines, further_may, further_devices, further_host}

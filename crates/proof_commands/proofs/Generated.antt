@@ -33,9 +33,10 @@ use Rattle.run_lines.specs.declared.status.Status.TheVariants as status
 use Rattle.run_generate.specs.Generate.{AllDone, IsCutShort, SomeDone, SumsUp, command_lines, first_lines, generated_lines, is_accepted, is_success, joining_lines, loss_lines, node_at, summary_text, word_at}
 use Rattle.run_sim.specs.Sim.{Point, at, said}
 use Rattle.world_lines.specs.Done.{IsRead}
-use Rattle.proof_commands.specs.Around.{Around, shelf_in}
+use Rattle.run_all.specs.Around.{Around, shelf_in}
+use Rattle.run_all.specs.Commands.{RunsGenerate}
 use Rattle.proof_commands.specs.Laws.{AreBegun, IsReadAs, IsStory, Ran, TellsAtRestarts, events_of, first, has_restart, lines_of, transcript}
-use Rattle.proof_commands.specs.Generate.{HasStory, RunsGenerate, Tells, TellsInPart, Writes, plain_lines}
+use Rattle.proof_commands.specs.Generate.{HasStory, Tells, TellsInPart, Writes, plain_lines}
 use Rattle.proof_commands.proofs.Reading.{are_prefix}
 use Rattle.proof_commands.proofs.Speaking.{ReadAgain}
 use Rattle.proof_commands.proofs.Stories.{Story, Tale, cut_story, no_tale, none_unentered, schedules_begun, tale_on, whole_story}

@@ -31,7 +31,7 @@ use Rattle.proof_audit.specs.Rules.{KeepsLaws}
 use Rattle.proof_audit.specs.Tables.{StoresDirectly}
 use Rattle.proof_audit.specs.Whole.{KeepsRules}
 use Rattle.proof_audit.proofs.KindsStay.{kinds_stay}
-use Rattle.proof_commands.specs.Around.{Around}
+use Rattle.run_all.specs.Around.{Around}
 use Rattle.proof_commands.specs.Laws.{Ran, StoriesKeepLaws, TellsAtRestarts, last, transcript}
 use Rattle.proof_commands.specs.Sim.{IsAuditable, Tells, WritesInOrder}
 use Rattle.proof_commands.proofs.Further.{reads_as, told as story_of, whole_devices}

@@ -21,7 +21,7 @@ use Rattle.run_lines.specs.declared.status.Status.TheVariants.{Ok as all_well}
 use Rattle.run_lines.proofs.Pieces.{Appends-append}
 use Rattle.proof_audit.specs.Legible.{AreInRange, AreLegible, AreOfLine, IsLegible, SaysWords, ShowTexts}
 use Rattle.proof_audit.specs.Whole.{AnswersYes, KeepsRules}
-use Rattle.proof_commands.specs.Around.{Around}
+use Rattle.run_all.specs.Around.{Around}
 use Rattle.proof_commands.specs.Laws.{Ran, TellsAtRestarts, first, transcript}
 use Rattle.proof_commands.specs.Sim.{Tells, WritesInOrder}
 use Rattle.proof_commands.proofs.Reading.{AreRead}

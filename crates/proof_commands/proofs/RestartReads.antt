@@ -19,9 +19,10 @@ use Rattle.run_lines.specs.declared.status.Status.{Status}
 use Rattle.run_lines.specs.Lines.{TextLine, lines_in, AllRan, StopsIn, RanLines}
 use Rattle.run_sim.specs.Sim.{Point, point_of, LineRan, PartRan, said}
 use Rattle.law_transcript.specs.Restarts.{begins_refused}
-use Rattle.proof_commands.specs.Around.{Around, shelf_in}
+use Rattle.run_all.specs.Around.{Around, shelf_in}
+use Rattle.run_all.specs.Commands.{RunsSim}
 use Rattle.proof_commands.specs.Laws.{Ran, lines_of}
-use Rattle.proof_commands.specs.Sim.{AreRun, RunsSim}
+use Rattle.proof_commands.specs.Sim.{AreRun}
 use Rattle.proof_commands.specs.RestartReads.{accepts, reads_of, reads_in, ReadsRecords}
 use Rattle.proof_commands.proofs.Stories.{Tale, no_tale, tale_on}
 

@@ -18,12 +18,9 @@ use Rattle.proof_world.specs.Restarts.{AllStartWell}
 use Rattle.run_sim.specs.Sim.{said}
 use Rattle.proof_commands.specs.Laws.{Ran, events_of, transcript_from}
 use Rattle.proof_audit.proofs.BegunChanges.{may-front as may_prefix}
+use Rattle.proof_devices.proofs.LastLine.{may_later}
 
 -- ---- events of two lists
-
-pub may_rest : (m : Machine) (a b : List Event) → MayAll m (a ++ b) → MayAll (happens_all m a) b
-may_rest m [] b may = may
-may_rest m (e ∷ a) b may = may_rest (happens m e) a b may.1
 
 starts_prefix : (m : Machine) (a b : List Event) → AllStartWell m (a ++ b) → AllStartWell m a
 starts_prefix m [] b well = tt
@@ -48,7 +45,7 @@ module _ (keeps : (past : List Entry) (m : Machine) (events : List Event) → Fa
       let rest = events_of more in
       let next = happens_all m ran.events in
       let one = line_keeps past m ran facts (may_prefix m ran.events rest may) (starts_prefix m ran.events rest well) in
-      let all = story_keeps ((past ++ said ran.line) ++ entries_all m ran.events) next more one (may_rest m ran.events rest may) (starts_rest m ran.events rest well) in
+      let all = story_keeps ((past ++ said ran.line) ++ entries_all m ran.events) next more one (may_later m ran.events rest may) (starts_rest m ran.events rest well) in
       subst (λ (x : Machine). Facts (past ++ transcript_from m (ran ∷ more)) x.host.state) (sym (happens_all-append m ran.events rest))
       (subst (λ (l : List Entry). Facts l (happens_all next rest).host.state)
       (append_assoc (past ++ said ran.line) (entries_all m ran.events) (transcript_from next more) ∙ append_assoc past (said ran.line) (entries_all m ran.events ++ transcript_from next more))

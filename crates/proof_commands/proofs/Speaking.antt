@@ -13,11 +13,11 @@ use Rattle.world_model.specs.Prefixes.{IsLineBefore}
 use Rattle.run_lines.specs.Pieces.{said_text}
 use Rattle.world_lines.specs.Spoken.{Spoken, after_all, transcript_of}
 use Rattle.world_lines.specs.Done.{AreDone, events_of as events_said}
-use Rattle.proof_commands.specs.Around.{Around}
+use Rattle.run_all.specs.Around.{Around}
 use Rattle.proof_commands.specs.Laws.{Ran, AreBegun, IsStory, events_of, first, transcript_from}
-use Rattle.proof_commands.proofs.SimKeeping.{may_rest}
 use Rattle.proof_audit.proofs.BegunChanges.{may-front as may_prefix}
 use Rattle.proof_commands.proofs.Reading.{AreRead}
+use Rattle.proof_devices.proofs.LastLine.{may_later}
 
 -- ---- the same story
 
@@ -58,7 +58,7 @@ all_done again m (ran ∷ more) read are may = (
     is_line = before_said more ran.line.line m ran.events are.0;
     may = may_prefix m ran.events (events_of more) may;
   },
-  all_done again (happens_all m ran.events) more read.1 are.1 (may_rest m ran.events (events_of more) may),
+  all_done again (happens_all m ran.events) more read.1 are.1 (may_later m ran.events (events_of more) may),
 )
 
 -- ---- of a run

@@ -19,9 +19,10 @@ use Rattle.run_lines.specs.declared.running.LinesEnd.TheVariants.{All, Bad, Read
 use Rattle.run_lines.specs.declared.status.Status.{Status}
 use Rattle.run_lines.specs.Lines.{TextLine, lines_in, AllRan, StopsIn, RanLines}
 use Rattle.run_sim.specs.Sim.{Point, point_of, at, LineRan, PartRan, said}
-use Rattle.proof_commands.specs.Around.{Around, shelf_in}
+use Rattle.run_all.specs.Around.{Around, shelf_in}
+use Rattle.run_all.specs.Commands.{RunsSim}
 use Rattle.proof_commands.specs.Laws.{Ran, events_of, lines_of, transcript_from, AreSchedules, AreBegun, with_last, IsUnentered}
-use Rattle.proof_commands.specs.Sim.{AreRun, EndsAs, EndsWhole, RunsSim, Tells}
+use Rattle.proof_commands.specs.Sim.{AreRun, EndsAs, EndsWhole, Tells}
 use Rattle.proof_commands.proofs.Reading.{texts_read}
 
 -- lines that were run whole, with their events

@@ -31,7 +31,7 @@ use Rattle.run_sim.specs.World.{first_world}
 use Rattle.world_lines.specs.Spoken.{Spoken, after_all, transcript_of}
 use Rattle.world_lines.specs.Done.{AreDone}
 use Rattle.world_lines.specs.Whole.{AreWhole}
-use Rattle.proof_commands.specs.Around.{Around, shelf_in}
+use Rattle.run_all.specs.Around.{Around, shelf_in}
 use Rattle.proof_commands.specs.Laws.{Ran, AreSchedules, IsStory, TellsAtRestarts, events_of, first, last, transcript}
 use Rattle.proof_commands.specs.Sim.{EndsAs, EndsWhole, Tells, WritesTable}
 use Rattle.proof_commands.proofs.Speaking.{ReadAgain, all_done, all_said, same_machine, same_transcript}

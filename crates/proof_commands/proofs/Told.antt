@@ -13,7 +13,7 @@ use Rattle.run_lines.specs.Lines.{TextLine}
 use Rattle.law_transcript.specs.Restarts.{is_restart}
 use Rattle.proof_host.specs.Facts.{Facts}
 use Rattle.proof_world.specs.Restarts.{AllKeepWell, AllStartWell, BeginsEmpty, IsHeld}
-use Rattle.proof_commands.specs.Around.{Around}
+use Rattle.run_all.specs.Around.{Around}
 use Rattle.proof_commands.specs.Laws.{Ran, AreBegun, AreSchedules, IsStory, KeepsRecords, TellsAtRestarts, events_of, first, has_restart, last, lines_of, transcript, transcript_from}
 use Rattle.proof_audit.proofs.BegunChanges.{may-front as may_prefix}
 use Rattle.proof_commands.proofs.Unread.{all_keep_over, all_may_over, all_over, all_start_unread, begun_over, over, schedules_over, story_unread, transcript_over}

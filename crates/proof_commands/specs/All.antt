@@ -2,7 +2,7 @@
 use Rattle.std.specs.Prelude.{ℕ, List, drop}
 use Rattle.run_lines.specs.declared.status.Status.{Status}
 use Rattle.port_run.specs.Ending.{desk}
-use Rattle.proof_commands.specs.Around.{Around, shelf_in}
+use Rattle.run_all.specs.Around.{Around, shelf_in}
 use Rattle.proof_commands.specs.Laws.{StoriesKeepLaws}
 use Rattle.proof_commands.specs.Sim.{SimKeepsLaws}
 use Rattle.proof_commands.specs.RestartReads.{ReadsAtRestarts}

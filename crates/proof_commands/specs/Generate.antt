@@ -9,17 +9,13 @@ use Rattle.run_lines.specs.Lines.{TextLine}
 use Rattle.run_lines.specs.Writing.{AppendsPrefix}
 use Rattle.run_lines.specs.declared.status.Status.{Status}
 use Rattle.run_lines.specs.declared.status.Status.TheVariants.{Ok, WriteFault, NoMemory}
-use Rattle.run_generate.specs.Generate.{GenerateRan, generated_lines, summary_text}
+use Rattle.run_generate.specs.Generate.{generated_lines, summary_text}
 use Rattle.law_transcript.specs.Nodes.{listing_of, always}
 use Rattle.law_transcript.specs.Restarts.{ticks_asked}
 use Rattle.law_transcript.specs.Table.{table_of}
-use Rattle.proof_commands.specs.Around.{Around, shelf_in}
+use Rattle.run_all.specs.Around.{Around}
+use Rattle.run_all.specs.Commands.{RunsGenerate}
 use Rattle.proof_commands.specs.Laws.{AreSchedules, IsStory, Ran, first, lines_of, transcript}
-
--- `generate` ran so, with what it was given and what it leaves
-abbrev pub RunsGenerate : Status → ℕ → List ℕ → Around → Around → Type 0
-RunsGenerate ended hundreds key old new =
-    GenerateRan ended hundreds key old.devices new.devices (shelf_in old) (shelf_in new) old.written new.written
 
 -- the lines of a story, without their texts
 abbrev pub plain_lines : List Ran → List Line

@@ -41,15 +41,18 @@ use Rattle.law_host.specs.Legal.{DevicesDid, IsLegalOnAir}
 use Rattle.law_wire.specs.Routes.{GoesByRoute}
 use Rattle.law_wire.specs.Shown.{ShowsDevices}
 use Rattle.law_wire.specs.Times.{TellsTime}
+use Rattle.law_time.specs.Questions.{AnswersQuestions}
 use Rattle.law_time.specs.Waking.{WakesAsTold}
+use Rattle.law_host.specs.Heard.{heard_by_host}
 use Rattle.law_host.specs.HostLegal.{ShowsValues}
 use Rattle.proof_chip.specs.Served.{AirsByLink}
+use Rattle.proof_replay.specs.Laws.{HostsKeepLaws}
 use Rattle.proof_sending.specs.Line.{ClearsAtRestarts, ClearsNowhereElse, OverrunsOnlyWhenFull}
 use Rattle.proof_audit.specs.Transcript.{IsNoRepeat, HasRecords}
 use Rattle.proof_world.specs.Devices.{GroupsSessions}
 use Rattle.proof_world.specs.Restarts.{AllKeepWell, BeginsEmpty}
 use Rattle.proof_audit.specs.Headline.{SucceedsAfterChangeOf, IsSupervisedNode}
-use Rattle.proof_commands.specs.Around.{Around}
+use Rattle.run_all.specs.Around.{Around}
 
 -- ---- stories
 
@@ -349,7 +352,7 @@ abbrev pub KeepsBothLinks : List ℕ → Around → Around → Type 0
 KeepsBothLinks key old new = AlwaysOf key old new
     (λ story. TellsAtRestarts old story → (whole : Bool) → (whole ≡ true → AreSchedules (first key old) story) → KeepsLinks whole (transcript key old story))
 
--- by what the chip's link did, the controller puts on the air just what it takes, each frame by the least route of its table
+-- by what the chip's link did, the controller puts on the air just what it takes, each frame by the least route of its table, and brings the host what was heard in order, each once
 abbrev pub AirsAsTaken : List ℕ → Around → Around → Type 0
 AirsAsTaken key old new = AlwaysOf key old new
     (λ story. TellsAtRestarts old story → (whole : Bool) → (whole ≡ true → AreSchedules (first key old) story) → AirsByLink whole old.devices (transcript key old story))
@@ -372,6 +375,19 @@ ClearsNothingElse key old new = AlwaysOf key old new (λ story. (whole : Bool) �
 -- over a new keeper, a node is taken to be awake where it tells so, and wherever it does
 abbrev pub WakesNodes : List ℕ → Around → Around → Type 0
 WakesNodes key old new = AlwaysOf key old new (λ story. TellsAtRestarts old story → WakesAsTold (transcript key old story))
+
+-- the neighbours of a node, and whether it has failed, stand where the first response to the last request was judged, and wherever it was
+abbrev pub TellsWhatIsAsked : List ℕ → Around → Around → Type 0
+TellsWhatIsAsked key old new = AlwaysOf key old new (λ story. TellsAtRestarts old story → AnswersQuestions (transcript key old story))
+
+-- and over all that its host heard, with what it knows of nodes by their interviews, it keeps the laws of hosts: those of records of what a new keeper would hold
+abbrev pub kept_anew : List ℕ → Around → List Ran → Option (List (List ℕ))
+kept_anew key old story = (happens_all (first_machine (keys_of key) (Some []) old.devices) (events_of story)).records
+
+abbrev pub HearsAsHosts : List ℕ → Around → Around → Type 0
+HearsAsHosts key old new = AlwaysOf key old new
+    (λ story. TellsAtRestarts old story → (whole : Bool) → (whole ≡ true → AreSchedules (first key old) story)
+    → HostsKeepLaws (keys_of key) whole (heard_by_host (transcript key old story)) (kept_anew key old story))
 
 -- ---- ticks
 
@@ -419,6 +435,8 @@ pub record KeepsHostLaws (key : List ℕ) (old new : Around) : Type 0 where
   pub records : KeepsWhatIsShown key old new
   pub sends : SendsAsDue key old new
   pub wakes : WakesNodes key old new
+  pub questions : TellsWhatIsAsked key old new
+  pub heard : HearsAsHosts key old new
 
 -- what the devices do
 pub record KeepsDeviceLaws (key : List ℕ) (old new : Around) : Type 0 where

@@ -1,4 +1,3 @@
-pub mod Around
 pub mod Mesh
 pub mod Laws
 pub mod Sim

@@ -17,6 +17,7 @@ use Rattle.proof_host.specs.Laws.{HostLaws}
 use Rattle.proof_host.specs.Stores.{StoresLaw}
 use Rattle.run_replay.specs.Machine.{Lone, Event, Does_itself, Does_asked, Takes, Ticks, Refuses, Shows_values, MayAll, entries_all, first_replay, happens_all, lone_of}
 use Rattle.run_replay.specs.Replay.{Point, point_of, LineRan, PartRan, ReplayRan, said}
+use Rattle.host_core.specs.Network.{keys_of}
 use Rattle.proof_replay.specs.Laws.{HearsLines}
 
 -- A transcript keeps the laws of orders, sessions and outcomes, shows the tables of this host, and its confirmed values are those of the last
@@ -98,11 +99,11 @@ KeepsHostLaws status key left left' shelf shelf' sink sink' =
     → IsKept (λ lines point transcript. KeepsHost transcript point.lone.host.state)
     ran.told.end (lines_in replay_at ran.told.texts) (point_of (first_replay key) shelf) ran.point ran.told.transcript
 
--- and over what the host heard, with the units that came in the bytes, it keeps the laws of hosts, whatever its keeper holds
+-- and over what the host heard, with the units that came in the bytes, it keeps the laws of hosts, whatever its keeper holds: those of records of the records that it added
 abbrev pub HearsAlone : Status → List ℕ → Option (List ℕ) → Option (List ℕ) → Shelf → Shelf → Option (List ℕ) → Option (List ℕ) → Type 0
 HearsAlone status key left left' shelf shelf' sink sink' =
     (ran : ReplayRan status key left left' shelf shelf' sink sink')
-    → IsKept (λ lines point transcript. HearsLines lines (lone_of (first_replay key) shelf.records) transcript)
+    → IsKept (λ lines point transcript. HearsLines (keys_of key) lines (lone_of (first_replay key) shelf.records) point.lone transcript)
     ran.told.end (lines_in replay_at ran.told.texts) (point_of (first_replay key) shelf) ran.point ran.told.transcript
 
 -- the records at exit are those at entry and those of what the host did

@@ -12,9 +12,10 @@ use Rattle.run_lines.specs.declared.running.LinesEnd.TheVariants.{NoMemory}
 use Rattle.run_lines.specs.declared.status.Status.{Status}
 use Rattle.run_lines.specs.Lines.{lines_in}
 use Rattle.law_transcript.specs.Restarts.{begins_refused}
-use Rattle.proof_commands.specs.Around.{Around}
+use Rattle.run_all.specs.Around.{Around}
+use Rattle.run_all.specs.Commands.{RunsSim}
 use Rattle.proof_commands.specs.Laws.{Ran, AreSchedules, first, transcript}
-use Rattle.proof_commands.specs.Sim.{AreRun, RunsSim}
+use Rattle.proof_commands.specs.Sim.{AreRun}
 
 -- an order was accepted: its number is the first entry of its line
 abbrev pub accepts : Line → List Entry → Bool

@@ -14,21 +14,16 @@ use Rattle.run_lines.specs.declared.running.LinesEnd.TheVariants.{NoMemory}
 use Rattle.run_lines.specs.declared.status.Status.{Status}
 use Rattle.run_lines.specs.declared.status.Status.TheVariants.{Ok}
 use Rattle.run_lines.specs.Lines.{TextLine, lines_in}
-use Rattle.run_sim.specs.Sim.{SimRan, shown_text}
+use Rattle.run_sim.specs.Sim.{shown_text}
 use Rattle.law_transcript.specs.Nodes.{first_node, listing_of, always}
 use Rattle.law_transcript.specs.Restarts.{ticks_asked}
 use Rattle.law_transcript.specs.Table.{table_of}
 use Rattle.proof_audit.specs.Books.{IsOfItsKind}
 use Rattle.proof_audit.specs.Whole.{AnswersYes}
 use Rattle.proof_audit.specs.Headline.{IsSupervisedNode}
-use Rattle.proof_commands.specs.Around.{Around, shelf_in}
+use Rattle.run_all.specs.Around.{Around}
+use Rattle.run_all.specs.Commands.{RunsSim}
 use Rattle.proof_commands.specs.Laws.{AreSchedules, IsFairWorld, IsStory, Ran, TellsAtRestarts, events_of, first, lines_of, transcript}
-
--- `sim` ran so, with what it was given and what it leaves
-abbrev pub RunsSim : Status → Bool → List ℕ → Around → Around → Type 0
-RunsSim ended quiet key old new =
-    SimRan ended quiet key old.left new.left old.devices new.devices (shelf_in old) (shelf_in new) old.kept new.kept old.keeper_reads new.keeper_reads
-    old.written new.written
 
 -- ---- the story of a run
 

@@ -3,7 +3,7 @@
 ghost use Rattle.std.specs.Prelude.{◌≡◌, ℕ, List, length};
 ghost use Rattle.run_lines.specs.declared.status.Status.{Status};
 ghost use Rattle.proof_commands.specs.All.{KeepsLaws};
-ghost use Rattle.proof_commands.specs.Around.{Around};
+ghost use Rattle.run_all.specs.Around.{Around};
 
 use crate::generate::generate_keeps_laws;
 use crate::include::include_keeps_laws;

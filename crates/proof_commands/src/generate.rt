@@ -2,7 +2,7 @@
 
 ghost use Rattle.std.specs.Prelude.{ℕ, List};
 ghost use Rattle.run_lines.specs.declared.status.Status.{Status};
-ghost use Rattle.proof_commands.specs.Around.{Around};
+ghost use Rattle.run_all.specs.Around.{Around};
 ghost use Rattle.proof_commands.specs.Generate.{GenerateKeepsLaws};
 
 use crate::lines_are_read_as_said;

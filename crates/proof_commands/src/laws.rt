@@ -1,7 +1,7 @@
 //! The laws of stories, of whichever command: each is the contract of a function that does nothing.
 
 ghost use Rattle.std.specs.Prelude.{ℕ, List};
-ghost use Rattle.proof_commands.specs.Around.{Around};
+ghost use Rattle.run_all.specs.Around.{Around};
 ghost use Rattle.proof_commands.specs.Laws.{
   AnswersAsDue,
   AirsAsTaken,
@@ -20,6 +20,7 @@ ghost use Rattle.proof_commands.specs.Laws.{
   GroupsChanges,
   HasHeadline,
   HasWholeHeadline,
+  HearsAsHosts,
   KeepsAir,
   KeepsBothLinks,
   KeepsDevices,
@@ -46,6 +47,7 @@ ghost use Rattle.proof_commands.specs.Laws.{
   StoresValues,
   StoriesKeepLaws,
   TakesBackWhenAsked,
+  TellsWhatIsAsked,
   WakesNodes,
   WritesSessions,
 };
@@ -62,16 +64,17 @@ use proof_audit::transcript::{
     values_are_stored_as_asked,
 };
 use proof_chip::chips_air_what_is_taken;
-use proof_fates::devices::air::{
+use proof_devices::air::{
     lines_are_done_by_devices, lines_bring_what_was_heard, lines_land_in_time,
 };
-use proof_fates::devices::devices_did;
-use proof_fates::devices::routes::{
+use proof_devices::routes::{
     dead_hops_are_forgotten, dead_hops_are_forgotten_in_the_end, frames_go_by_route,
 };
-use proof_fates::{lines_meet_what_is_due, lines_repeat_what_is_asked};
+use proof_devices::{devices_did, lines_meet_what_is_due, lines_repeat_what_is_asked};
 use proof_host::{asides_keep_facts, laws_follow};
-use proof_replay::waking::lines_wake_as_told;
+use proof_replay::known::waking::lines_wake_as_told;
+use proof_replay::lines_that_ran_are_heard;
+use proof_requests::lines_answer_questions;
 use proof_sending::line::{
     lines_clear_at_restarts, lines_clear_nowhere_else, lines_clear_the_line,
     lines_collide_when_asked, lines_keep_links, lines_mark_units, lines_overrun_only_when_full,
@@ -98,6 +101,8 @@ pub fn every_story_keeps_laws()
     stories_air_what_is_taken();
     stories_send_what_is_due();
     stories_wake_as_told();
+    stories_answer_questions();
+    stories_are_heard();
     stories_do_as_shown();
 }
 
@@ -257,6 +262,22 @@ fn stories_wake_as_told()
 {
     lines_are_read_as_said();
     lines_wake_as_told();
+}
+
+/// Questions are answered in lines that were said.
+fn stories_answer_questions()
+    ensures { (key : List ℕ) (old new : Around) → TellsWhatIsAsked key old new }
+{
+    lines_are_read_as_said();
+    lines_answer_questions();
+}
+
+/// Over what their hosts heard of lines that were said, stories keep the laws of hosts.
+fn stories_are_heard()
+    ensures { (key : List ℕ) (old new : Around) → HearsAsHosts key old new }
+{
+    lines_are_read_as_said();
+    lines_that_ran_are_heard();
 }
 
 /// The devices did what lines that were said show.

@@ -1,4 +1,7 @@
-//! The laws of whole runs of the commands, at every status, as one promise: `commands_keep_laws`.
+//! The laws of whole runs of the commands, at every status, as one promise: `commands_keep_laws`; and the top call, `run`.
+//!
+//! `run` is the whole program without its real input and output: `run_command` of `run_all`, which says what a run did,
+//! with that promise.
 //!
 //! A run of `sim` (`specs/Sim`) and of `generate` (`specs/Generate`) has a story: its lines, each with its events of the
 //! machine, and the laws are of every such story (`specs/Laws`). In a run of `sim` a restart reads the records
@@ -8,7 +11,7 @@
 //! every host (`proof_host`) and of lines that add nodes (`proof_include`) holds of each such story.
 //! A transcript has the words of a line, separated by one space, and not its text. Nothing is lost by this
 //! (`lines_are_read_as_said`), so a law that reads the lines of a run from its transcript reads the lines that were
-//! run. There is no code here.
+//! run. Besides `run` there is no code here.
 #![tactic(auto)]
 
 mod all;
@@ -19,8 +22,10 @@ mod mesh;
 mod port;
 mod replay;
 mod sim;
+mod top;
 mod words;
 
 pub use all::commands_keep_laws;
 pub use mesh::the_mesh_is_auditable;
+pub use top::run;
 pub use words::{lines_are_read_as_said, replayed_lines_are_read_as_said, said_lines_are_entries};

@@ -1,7 +1,7 @@
 //! The mesh that the program simulates is one that the laws of a run are of.
 
 ghost use Rattle.std.specs.Prelude.{◌≡◌, ℕ, List, [], Some};
-ghost use Rattle.proof_commands.specs.Around.{Around};
+ghost use Rattle.run_all.specs.Around.{Around};
 ghost use Rattle.proof_commands.specs.Laws.{Ran};
 ghost use Rattle.proof_commands.specs.Mesh.{mesh};
 ghost use Rattle.proof_commands.specs.Sim.{IsAuditable};

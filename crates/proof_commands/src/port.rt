@@ -10,7 +10,8 @@ ghost use Rattle.host_model.specs.Opening.{opened};
 ghost use Rattle.proof_host.specs.Facts.{Facts};
 ghost use Rattle.port_run.specs.Ending.{Desk};
 ghost use Rattle.proof_commands.specs.Lives.{AreLivesOf, GoesOn, entries_of, records_of};
-ghost use Rattle.proof_commands.specs.Port.{AddsRecords, BeginsUnheard, ConfirmsValues, DoneIsSuccess, HasStory, HearsAlone, KeepsOrders, LeavesALife, PortKeepsLaws, ShowsTables};
+ghost use Rattle.proof_commands.specs.Port.{AddsRecords, BeginsUnheard, ConfirmsValues, DoneIsSuccess, HasStory, HearsAlone};
+ghost use Rattle.proof_commands.specs.Port.{KeepsOrders, LeavesALife, PortKeepsLaws, ShowsTables};
 
 use host_keep::a_text_is_of_one_record;
 use host_model::{a_host_begins_with_what_is_kept, a_restart_keeps_what_is_held};

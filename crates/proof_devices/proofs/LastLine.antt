@@ -75,7 +75,7 @@ pub after_more : (m : Machine) (front : List Spoken) (line : Spoken) → after_a
 after_more m [] line = refl
 after_more m (first ∷ front) line = after_more (after m first) front line
 
-may_later : (m : Machine) (a b : List Event) → MayAll m (a ++ b) → MayAll (happens_all m a) b
+pub may_later : (m : Machine) (a b : List Event) → MayAll m (a ++ b) → MayAll (happens_all m a) b
 may_later m [] b may = may
 may_later m (event ∷ a) b may = may_later (happens m event) a b may.1
 

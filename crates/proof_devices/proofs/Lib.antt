@@ -22,16 +22,13 @@ mod Clocks
 mod AtOnce
 mod Standing
 mod Halting
-mod LastLine
-pub use Rattle.proof_air.proofs.Counting
-pub use Rattle.proof_air.proofs.Fated
-pub use Rattle.proof_air.proofs.Fateless
-pub use Rattle.proof_air.proofs.Fresh
-pub use Rattle.proof_air.proofs.Handling
-pub use Rattle.proof_air.proofs.Hearing as AirHearing
-pub use Rattle.proof_air.proofs.Homes
-pub use Rattle.proof_routes.proofs.Arriving
-pub use Rattle.proof_routes.proofs.Books
-pub use Rattle.proof_routes.proofs.Passages
-pub use Rattle.proof_routes.proofs.Saying
-pub use Rattle.proof_routes.proofs.Turned
+pub mod LastLine
+mod FateShown
+mod Stamped
+mod Again
+mod Repeating
+mod Following
+mod Numbered
+mod Fating
+mod Meeting
+mod FateGrounds

@@ -1,14 +1,13 @@
 -- In a tick the number that was entered last is its own, and nothing answers a `repeat`.
 use Rattle.std.proofs.Common.{◌≡◌, ℕ, ◌&&◌, not, Bool, true, false, if◌then◌else◌, List, [], ◌∷◌, ◌++◌, refl, sym, ap, ◌∙◌, append-nil, nat_lt, ◌-◌}
 use Rattle.std.specs.Prelude.{None, slice_get}
-use Rattle.zw_text.specs.declared.line.Line.{Line}
 use Rattle.zw_text.specs.declared.entry.Entry.{Entry}
 use Rattle.zw_text.specs.declared.entry.Entry.TheVariants as entry
-use Rattle.zw_text.specs.Transcript.{AirFrame, frames, frame_at, line_of, lines_run, line_last, line_after, tick_at, ticks, last_number, time_of, folded}
-use Rattle.zw_text.proofs.Views.{shown-append, folded-append}
+use Rattle.zw_text.specs.Transcript.{AirFrame, frames, frame_at, lines_run, tick_at, ticks, last_number, time_of}
+use Rattle.zw_text.proofs.Views.{shown-append}
 use Rattle.law_transcript.specs.Lists.{EachAfter}
 use Rattle.law_transcript.specs.Repeats.{frame_of}
-use Rattle.law_transcript.specs.Restarts.{is_repeat, repeats, ticks_asked}
+use Rattle.law_transcript.specs.Restarts.{repeats, ticks_asked}
 use Rattle.law_transcript.specs.Devices.{lived_by}
 use Rattle.outside_model.specs.State.{OuterState, Outside}
 use Rattle.outside_model.specs.Events.{OuterEvent, Begins_line, Begins_tick, ticked_entry, is_own}
@@ -17,10 +16,10 @@ use Rattle.world_model.specs.Events.{Event, happens, entries, May}
 use Rattle.proof_walk.specs.Outside.{Moves, Link, CoversOuter, awaits_number}
 use Rattle.proof_walk.proofs.Linking.{of_link}
 use Rattle.proof_walk.proofs.Machines.{machine_keeps}
-use Rattle.proof_walk.proofs.Untimed.{AreUntimed, untimed_line, same_time, untimed_law}
-use Rattle.proof_walk.proofs.ByLine.{last_is}
+use Rattle.proof_walk.proofs.Untimed.{AreUntimed, same_time, untimed_law}
 use Rattle.proof_walk.proofs.Clock.{last_of_more}
 use Rattle.proof_devices.specs.Living.{MayAny, Numbered, KnownNumber, GoesWithin}
+use Rattle.proof_air.proofs.LandingWalk.{still_apart, number_apart}
 
 pub each_any : (past told : List Entry) → EachAfter MayAny past told
 each_any past [] = tt
@@ -28,18 +27,8 @@ each_any past (e ∷ told) = (tt, each_any (past ++ e ∷ []) told)
 
 -- ---- the last entry
 
-folded_last : (before : List Line) (told : List Entry) → AreUntimed told → is_repeat before ≡ false → is_repeat (folded line_after before told) ≡ false
-folded_last before [] untimed none = none
-folded_last before (e ∷ told) untimed none = folded_last (line_of e) told untimed.1 (ap is_repeat (untimed_line e untimed.0))
-
-still_apart : (past told : List Entry) → AreUntimed told → repeats past ≡ false → repeats (past ++ told) ≡ false
-still_apart past told untimed none = ap is_repeat (folded-append line_after [] past told) ∙ folded_last (line_last past) told untimed none
-
 pub number_is : (past : List Entry) (n : ℕ) → time_of (past ++ entry.Time n ∷ []) ≡ n
 number_is past n = ap (last_number 0) (shown-append tick_at past (entry.Time n ∷ [])) ∙ last_of_more 0 (ticks past) n
-
-number_apart : (past : List Entry) (n : ℕ) → repeats (past ++ entry.Time n ∷ []) ≡ false
-number_apart past n = ap is_repeat (last_is past (entry.Time n))
 
 -- ---- outside the host
 

@@ -37,6 +37,7 @@ use Rattle.world_model.proofs.Hosting.{entries_cons}
 use Rattle.host_model.proofs.Silence.{Silent, judged_silent}
 use Rattle.proof_spoken.proofs.Aside.{Asides, own_aside, stamp_aside}
 use Rattle.proof_spoken.proofs.Notes.{Trailing, event_following}
+use Rattle.proof_spoken.proofs.FactsKept.{after_keeps, asides_keep, one_after}
 use Rattle.proof_once.specs.Tied.{MakesWhatIsTaken}
 use Rattle.law_transcript.proofs.Having.{all_has}
 use Rattle.proof_once.specs.Truly.{IsDoneBy, IsTrue, TellTruly, TellsTruly}
@@ -57,7 +58,7 @@ aside_none : (entry : Entry) → IsAside entry → IsNoSuccess entry
 aside_none (Out number how) aside = absurd aside
 aside_none entry aside = tt
 
-routine_none : (entry : Entry) → IsRoutine entry → IsNoSuccess entry
+pub routine_none : (entry : Entry) → IsRoutine entry → IsNoSuccess entry
 routine_none (Out number ended.Success) routine = absurd routine
 routine_none entry routine = tt
 
@@ -142,10 +143,6 @@ module _ (endings : EndingsShown) where
 module _ (each : (past : List Entry) (h : HostState) (event : HostEvent) → Facts past h → MayHost h event → Facts (past ++ entries_at h event) (after h event))
     (aside : (past : List Entry) (h : HostState) (entry : Entry) → Facts past h → IsAside entry → Facts (past ++ entry ∷ []) h) (Ends : List Entry → Entry → Type 0) (free : Frees Ends) (Of : ℕ → Type 0)
     (finish : MayFinish Ends Of) where
-  asides_keep : (past : List Entry) (h : HostState) (es : List Entry) → Facts past h → Asides es → Facts (past ++ es) h
-  asides_keep past h [] facts all = subst (λ (l : List Entry). Facts l h) (sym (append-nil past)) facts
-  asides_keep past h (e ∷ es) facts all = subst (λ (l : List Entry). Facts l h) (append_assoc past (e ∷ []) es) (asides_keep (past ++ e ∷ []) h es (aside past h e facts all.0) all.1)
-
   -- ---- one event of a host
 
   event_ends : (past now : List Entry) (h : HostState) (devices : List State) (event : HostEvent) → IsSince past now → Facts now h → AllByRecursion (IsShownAmong past) devices → MayHost h event
@@ -162,23 +159,9 @@ module _ (each : (past : List Entry) (h : HostState) (event : HostEvent) → Fac
   after_ends past now all h devices event since facts shown may true following =
       subst (λ (l : List Entry). EachAfter Ends now l) (sym following.are)
       (each-append Ends now following.prefix (entries_at h event) (asides_end Ends free now following.prefix following.asides)
-      (event_ends past (now ++ following.prefix) h devices event (since_more past now following.prefix since) (asides_keep now h following.prefix facts following.asides) shown may true))
-
-  after_keeps : (now all : List Entry) (h : HostState) (event : HostEvent) → Facts now h → MayHost h event → Trailing (entries_at h event) all → Facts (now ++ all) (after h event)
-  after_keeps now all h event facts may following =
-      subst (λ (l : List Entry). Facts l (after h event)) (append_assoc now following.prefix (entries_at h event) ∙ ap (λ (l : List Entry). now ++ l) (sym following.are))
-      (each (now ++ following.prefix) h event (asides_keep now h following.prefix facts following.asides) may)
+      (event_ends past (now ++ following.prefix) h devices event (since_more past now following.prefix since) (asides_keep aside now h following.prefix facts following.asides) shown may true))
 
   -- ---- events that bytes of the chip make a host do
-
-  one_after : (m : Machine) (event : HostEvent) → ((h : HostState) → answers h event ≡ []) → Trailing (entries_at m.host.state event) (host_entries m (event ∷ []))
-  one_after m event silent =
-      let h = m.host.state in
-      subst (λ (l : List Entry). Trailing (entries_at h event) l)
-      (ap (λ (l : List Entry). entries_all_outside m.outside (routed (outs h event)) ++ entries_all_outside m.outside (map Host_notes l)) (silent h)
-      ∙ (append-nil (entries_all_outside m.outside (routed (outs h event)))
-      ∙ ap (λ (l : List HostOut). entries_all_outside m.outside (routed l)) (sym (append-nil (outs h event)))))
-      (event_following m.outside m.outside h event)
 
   events_end : (past now : List Entry) (m : Machine) (devices : List State) (events : List HostEvent) → IsSince past now → Facts now m.host.state → AllByRecursion (IsShownAmong past) devices
       → MayAllHost m.host.state events → Silent events → ((node : ℕ) → Of node → TellTruly node m.host.state devices events) → EachAfter Ends now (host_entries m events)
@@ -188,7 +171,7 @@ module _ (each : (past : List Entry) (h : HostState) (event : HostEvent) → Fac
       let first = host_entries m (event ∷ []) in
       subst (λ (l : List Entry). EachAfter Ends now l) (entries_cons m event events)
       (each-append Ends now first (host_entries (host_does m (event ∷ [])) events) (after_ends past now first m.host.state devices event since facts shown may.0 (λ node of. (true node of).0) following)
-      (events_end past (now ++ first) (host_does m (event ∷ [])) devices events (since_more past now first since) (after_keeps now first m.host.state event facts may.0 following) shown may.1 silent.1
+      (events_end past (now ++ first) (host_does m (event ∷ [])) devices events (since_more past now first since) (after_keeps each aside now first m.host.state event facts may.0 following) shown may.1 silent.1
       (λ node of. (true node of).1)))
 
   -- ---- events of the machine

@@ -1,4 +1,4 @@
--- What a host heard of a run has no refusal of a line that is for others.
+-- What a host heard of a run has no refusal of a line that is for others; nor has what has no such line.
 use Rattle.std.proofs.Common.{◌≡◌, ◌⊎◌, ℕ, Bool, true, false, if◌then◌else◌, inl, inr, List, [], ◌∷◌, ◌++◌, refl, sym, ap, ◌∙◌}
 use Rattle.zw_words.specs.declared.side.Side.TheVariants.{Chip, Host}
 use Rattle.zw_text.specs.declared.line.Line.{Line}
@@ -11,7 +11,7 @@ use Rattle.law_transcript.specs.Lists.{EachAfter}
 use Rattle.law_host.specs.Heard.{come_as, heard_as, heard_by_host, heard_from, is_of_others, is_of_outside, is_refusal_of_others, listing_heard}
 use Rattle.proof_host.proofs.Lists.{each-append}
 use Rattle.proof_walk.proofs.ByLine.{last_is}
-use Rattle.proof_known.specs.Known.{AreForHost, IsAnswerAlone, IsForHost}
+use Rattle.proof_known.specs.Known.{AreForHost, AreSaidToHost, IsAnswerAlone, IsForHost}
 
 -- ---- an entry as it was heard
 
@@ -70,6 +70,22 @@ heard_for_host before seen past [] last with_it each = tt
 heard_for_host before seen past (e ∷ told) last with_it each =
     each-append IsForHost seen (as_heard before e told) (heard_from (line_of e) told) (heard_fine before seen past e told last with_it each.0)
     (heard_for_host (line_of e) (seen ++ as_heard before e told) (past ++ e ∷ []) told (last_is past e) (said_with before seen e told) each.1)
+
+-- ---- where no line is for others
+
+words_for : (before : List Line) (e : Entry) → is_of_others before ≡ false → is_refusal_of_others before e ≡ false
+words_for before (entry.Refused refusal) none = none
+words_for before e none = refl
+
+for_host_after : (past told : List Entry) → is_of_others (line_last past) ≡ false → AreSaidToHost told → EachAfter IsForHost past told
+for_host_after past [] none said = tt
+for_host_after past (e ∷ told) none said =
+    (words_for (line_last past) e none, for_host_after (past ++ e ∷ []) told (ap is_of_others (last_is past e) ∙ said.0) said.1)
+
+pub said_for_host : (told : List Entry) → AreSaidToHost told → AreForHost told
+said_for_host told said = for_host_after [] told refl said
+
+-- ---- what was heard
 
 pub heard_is_for_host : (told : List Entry) → EachAfter IsAnswerAlone [] told → AreForHost (heard_by_host told)
 heard_is_for_host told each = heard_for_host [] [] [] told refl (inl refl) each

@@ -7,4 +7,10 @@ mod Telling
 mod Showing
 mod Recording
 mod Answering
-mod ForHost
+pub mod ForHost
+mod Followers
+mod Noting
+mod ValuesLeft
+mod Turning
+mod InTurn
+mod AtOnce

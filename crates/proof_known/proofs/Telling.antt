@@ -259,7 +259,7 @@ pub between_else : (here : Phase) → IsBetween here → IsElse here
 between_else (Asked line) between = absurd between
 between_else here between = tt
 
-rest_of : (here : Phase) (past : List Entry) (m : HostMachine) → IsElse here → KnowsTold here past m → TieTold past m.state
+pub rest_of : (here : Phase) (past : List Entry) (m : HostMachine) → IsElse here → KnowsTold here past m → TieTold past m.state
 rest_of (Asked line) past m other known = absurd other
 rest_of here past m other known = known
 

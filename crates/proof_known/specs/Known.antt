@@ -1,6 +1,7 @@
 -- What a host alone knows of its nodes and of what it was asked, by its transcript (this project's own rule): of each node the classes that it listed in its last interview, and of each
 -- order what was said.
 use Rattle.std.specs.Prelude.{◌≡◌, ◌⊎◌, ℕ, Bool, true, false, List, [], ◌∷◌, ◌++◌, Option, IfSome}
+use Rattle.std.specs.List.{AllByRecursion}
 use Rattle.zw_base.specs.declared.property.Property.{Property}
 use Rattle.zw_text.specs.declared.line.Line.{Line}
 use Rattle.zw_text.specs.declared.entry.Entry.{Entry}
@@ -14,7 +15,7 @@ use Rattle.law_transcript.specs.Records.{KeepsRecords}
 use Rattle.law_transcript.specs.Sessions.{MayBegin}
 use Rattle.law_transcript.specs.Stores.{StoresConfirmed, heard_value}
 use Rattle.law_wire.specs.Serial.{ended}
-use Rattle.law_host.specs.Heard.{is_refusal_of_others, listing_heard}
+use Rattle.law_host.specs.Heard.{is_of_others, is_refusal_of_others, listing_heard}
 use Rattle.law_host.specs.HostLegal.{ShowsValues}
 use Rattle.value_store.specs.Values.{stored_of}
 use Rattle.host_model.specs.State.{HostState, node_of}
@@ -84,6 +85,10 @@ KnowsCancelled here past m = TellsCancelled past m.records
 abbrev pub KnowsPlaces : Knowledge
 KnowsPlaces here past m = KeepsNoMore m.state
 
+-- all that decides what it answers and stores
+abbrev pub KnowsWhole : Knowledge
+KnowsWhole = both_know KnowsAll KnowsPlaces
+
 -- the words of a line stand last, and what decides its answer is of what stood before them
 pub record AnswersBefore (line : Line) (past : List Entry) (h : HostState) : Type 0 where
   pub before : List Entry
@@ -110,6 +115,13 @@ IsForHost past entry = is_refusal_of_others (line_last past) entry ≡ false
 
 abbrev pub AreForHost : List Entry → Type 0
 AreForHost told = EachAfter IsForHost [] told
+
+-- so it is where no line is for others
+abbrev pub IsSaidToHost : Entry → Type 0
+IsSaidToHost entry = is_of_others (line_of entry) ≡ false
+
+abbrev pub AreSaidToHost : List Entry → Type 0
+AreSaidToHost told = AllByRecursion IsSaidToHost told
 
 -- what is proved of a host that starts with nothing kept, over what it heard, and of its keeper's records
 pub record KeepsWhatIsSaid (whole : Bool) (heard : List Entry) (records : Option (List (List ℕ))) : Type 0 where

@@ -1,32 +1,21 @@
-//! The answers of a host alone, and all that is proved of what it heard.
+//! The answers of a host alone, and all that is proved of it here.
 
 ghost use Rattle.std.specs.Prelude.{◌≡◌, Bool, true, false, Some, List, []};
 ghost use Rattle.s0_crypto.specs.declared.key_pair.Keys.{Keys};
-ghost use Rattle.device_sim.specs.State.{State};
 ghost use Rattle.zw_text.specs.declared.entry.Entry.{Entry};
 ghost use Rattle.law_transcript.specs.Answers.{AnswersAfter, refusals_by_host};
 ghost use Rattle.law_host.specs.Heard.{heard_by_host, listing_heard};
-ghost use Rattle.world_model.specs.State.{first_machine};
-ghost use Rattle.world_lines.specs.Spoken.{Spoken, after_all, transcript_of};
-ghost use Rattle.world_lines.specs.Done.{AreDone};
-ghost use Rattle.world_lines.specs.Whole.{AreWhole};
-ghost use Rattle.proof_alone.specs.State.{first_alone};
-ghost use Rattle.proof_alone.specs.Runs.{Told, ToldWhole};
+ghost use Rattle.proof_alone.specs.State.{HostMachine, first_alone};
+ghost use Rattle.proof_alone.specs.Phases.{Phase, Resting};
+ghost use Rattle.proof_alone.specs.Runs.{Run, Told, ToldWhole};
 ghost use Rattle.proof_known.specs.Known.{AreForHost, KeepsWhatIsSaid};
 
-use crate::known::{hosts_keep_what_is_said, hosts_know_what_nodes_list};
+use crate::known::{hosts_keep_what_is_said, hosts_know_what_was_told};
 use crate::records::hosts_record_what_is_shown;
 use crate::shown::hosts_show_what_they_keep;
-use host_keep::texts_give_one_thing;
-use host_model::{a_host_begins_with_what_is_kept, a_restart_keeps_what_is_held, facts_are_kept};
-use host_node::a_restart_needs_the_records_alone;
-use proof_alone::{
-    hosts_answer_what_is_asked, lines_are_a_hosts, what_is_heard_is_a_hosts,
-    what_is_heard_keeps_the_laws_of_hosts,
-};
+use proof_alone::{hosts_answer_what_is_asked, hosts_keep_their_tables};
 use proof_host::laws_follow;
-use proof_spoken::world::restarts_go_on;
-use proof_spoken::{tables_are_what_was_said, tables_keep_orders};
+use proof_spoken::tables_are_what_was_said;
 
 /// In any run of a host alone, over a keeper that tells its records and has none at first, in which no line is refused that is for others: each line has the
 /// one answer that the transcript before it demands, and no answer stands elsewhere; where the run does not end at rest, its last line may lack its answer.
@@ -38,32 +27,20 @@ pub fn hosts_answer_lines()
         AnswersAfter [] true listing_heard (refusals_by_host listing_heard) told }
     ensures heard { (keys : Keys) (told : List Entry) → Told (first_alone keys (Some [])) told → AreForHost (heard_by_host told) }
 {
-    hosts_know_what_nodes_list();
-    hosts_keep_what_is_said();
+    hosts_know_what_was_told();
     tables_are_what_was_said();
-    tables_keep_orders();
     laws_follow();
-    facts_are_kept();
-    a_host_begins_with_what_is_kept();
-    a_restart_keeps_what_is_held();
-    a_restart_needs_the_records_alone();
-    restarts_go_on();
-    texts_give_one_thing();
 }
 
-/// So over any lines from the first on, the last of which an allocation failure may have cut short, over such a keeper: by what the host heard of them it
-/// answers lines, takes back what a line asks for, has one session of a node at a time and each command in one, stores what is confirmed and shows what it
-/// stored; and where all were run whole, the keeper's records give what the transcript of what was heard shows.
-pub fn what_is_heard_keeps_what_is_said()
-    ensures { (keys : Keys) (devices : List State) (lines : List Spoken) (whole : Bool) → AreDone (first_machine keys (Some []) devices) lines →
-        (whole ≡ true → AreWhole (first_machine keys (Some []) devices) lines) →
-        KeepsWhatIsSaid whole (heard_by_host (transcript_of (first_machine keys (Some []) devices) lines))
-        (after_all (first_machine keys (Some []) devices) lines).records }
+/// So any run of a host alone over such a keeper, in which no line is refused that is for others, answers lines, takes back what a line asks for, has one
+/// session of a node at a time and each command in one, stores what is confirmed and shows what it stored; and where it ends at rest, the keeper's records
+/// give what its transcript shows.
+pub fn hosts_do_as_is_said()
+    ensures { (keys : Keys) (whole : Bool) (here : Phase) (told : List Entry) (m : HostMachine) → Run (first_alone keys (Some [])) here told m →
+        (whole ≡ true → here ≡ Resting) → AreForHost told → KeepsWhatIsSaid whole told m.records }
 {
-    lines_are_a_hosts();
-    what_is_heard_is_a_hosts();
+    hosts_keep_their_tables();
     hosts_answer_what_is_asked();
-    what_is_heard_keeps_the_laws_of_hosts();
     hosts_keep_what_is_said();
     hosts_show_what_they_keep();
     hosts_record_what_is_shown();

@@ -11,8 +11,10 @@ ghost use Rattle.proof_once.specs.ByTable.{IsTable};
 ghost use Rattle.proof_alone.specs.State.{HostMachine, first_alone};
 ghost use Rattle.proof_alone.specs.Phases.{Phase, Resting};
 ghost use Rattle.proof_alone.specs.Runs.{Run, Told, Walk};
-ghost use Rattle.proof_known.specs.Known.{KnowsHeard, KnowsNodes, KnowsOrders};
+ghost use Rattle.proof_known.specs.Known.{KnowsHeard, KnowsNodes, KnowsOrders, KnowsWhole};
 
+use host_keep::texts_give_one_thing;
+use host_model::{a_host_begins_with_what_is_kept, a_restart_keeps_what_is_held, facts_are_kept};
 use host_node::a_restart_needs_the_records_alone;
 use proof_alone::hosts_keep_their_tables;
 use proof_host::laws_follow;
@@ -48,4 +50,21 @@ pub fn hosts_keep_what_is_said()
     tables_are_what_was_said();
     laws_follow();
     restarts_go_on();
+}
+
+/// In such a run, at each phase: which nodes are joined, and what was heard of each of their values, is what the transcript shows; and it has places in its
+/// store only for what its commands set and for what it heard. So all is known that decides what it answers and stores.
+pub fn hosts_know_what_was_told()
+    ensures walk { Walk (Allows may_wake) KnowsWhole }
+    ensures first { (keys : Keys) → KnowsWhole Resting [] (first_alone keys (Some [])) }
+{
+    hosts_know_what_nodes_list();
+    hosts_keep_what_is_said();
+    tables_keep_orders();
+    facts_are_kept();
+    a_host_begins_with_what_is_kept();
+    a_restart_keeps_what_is_held();
+    a_restart_needs_the_records_alone();
+    restarts_go_on();
+    texts_give_one_thing();
 }

@@ -1,30 +1,36 @@
 -- Of which events of the chip an outcome outside the host is made, and the steps that the chip's link does at each event of the machine.
-use Rattle.std.proofs.Common.{◌≡◌, ℕ, List, [], ◌∷◌, ◌++◌, refl}
+use Rattle.std.proofs.Common.{◌≡◌, ◌&&◌, ℕ, Bool, true, false, if◌then◌else◌, List, [], ◌∷◌, ◌++◌, length, nat_le, refl}
 use Rattle.std.specs.Prelude.{Option, Some, None}
 use Rattle.std.specs.List.{AllByRecursion}
+use Rattle.zw_base.proofs.Each.{all-weaker}
 use Rattle.serial_link.specs.Rules.{Step}
 use Rattle.route_table.specs.declared.route.Route.{Route}
 use Rattle.chip_sim.specs.Did.{judged_all}
-use Rattle.chip_sim.specs.Events.{ChipEvent, Collides, Forgets, Ticked, after}
+use Rattle.chip_sim.specs.Events.{ChipEvent, Collides, Done, Forgets, Heard as chip_hears, Informed, Ticked, after}
 use Rattle.chip_sim.specs.Link.{link_steps}
 use Rattle.chip_sim.specs.Rules.{over}
 use Rattle.device_sim.specs.State.{State}
 use Rattle.device_sim.specs.Event.{DeviceEvent}
 use Rattle.air_frames.specs.Ages.{refusal_of}
 use Rattle.air_frames.specs.declared.ages.Refusal.{Refusal as RepeatRefusal}
+use Rattle.mesh_sim.specs.declared.event.AirEvent.{AirEvent}
+use Rattle.mesh_sim.specs.declared.event.AirEvent.TheVariants as air_event
 use Rattle.mesh_sim.specs.Air.{AirState}
-use Rattle.mesh_sim.specs.Steps.{AirStep}
+use Rattle.mesh_sim.specs.Fates.{place_of}
+use Rattle.mesh_sim.specs.Steps.{AirStep, mesh_after, mesh_outs}
 use Rattle.mesh_sim.specs.Steps as mesh
 use Rattle.zw_text.specs.declared.entry.Entry.TheVariants as entry
-use Rattle.outside_model.specs.State.{OuterState, Outside, Outcome, silent, tells, and_then, with_chip}
+use Rattle.outside_model.specs.State.{OuterState, Outside, Outcome, each, silent, tells, and_then, with_chip}
 use Rattle.outside_model.specs.Chip.{chip_does}
-use Rattle.outside_model.specs.Results.{gives}
+use Rattle.outside_model.specs.Results.{device_at, frame_ends, gives}
+use Rattle.outside_model.specs.Air.{change_at, change_entries, deals}
 use Rattle.outside_model.specs.Devices.{acts_at}
-use Rattle.outside_model.specs.Events.{OuterEvent, Arrives, Chip_takes, Chip_ticks, Collides_next, Gives, Repeats, steps}
+use Rattle.outside_model.specs.Events.{OuterEvent, Arrives, Chip_takes, Chip_ticks, Collides_next, Gives, Repeats, mesh_of, steps}
 use Rattle.world_model.specs.State.{Machine}
 use Rattle.world_model.specs.Events.{Event, Outside_does}
-use Rattle.proof_device.proofs.Results.{Gives as GivesSo, IsGiven, IsSameChip, gives_go}
-use Rattle.proof_line.proofs.ChipTelling.{at_goes, steps_go}
+use Rattle.proof_device.proofs.Entered.{IsChange, change_entered}
+use Rattle.proof_device.proofs.Results.{Calls, Gives as GivesSo, IsGiven, IsResult, IsSameChip, due_goes, end_goes}
+use Rattle.proof_line.proofs.ChipTelling.{at_goes, change_of_air}
 use Rattle.proof_walk.specs.Outside.{IsOfAir}
 
 -- ---- accounts
@@ -58,12 +64,99 @@ accounts = record {
   forgotten = λ o a b. Forgotten o a b;
 }
 
--- a frame arrives or is heard again; results are given; a device does something
-pub steps_account : (w : Outside) (step : AirStep) → Account w.outer (steps w step)
-steps_account w step = steps_go Account accounts (λ o x of_air to_host to_chip port. Of_air o x of_air to_host to_chip port) (λ o air x account. In_air o air x account) w step
+-- ---- of results alone
 
-pub gives_account : (w : Outside) (route : Option Route) → Account w.outer (gives w.outer w.devices w.outer.due route)
-gives_account w route = gives_go Account accounts w.outer w.devices w.outer.due route
+-- the chip hears no payload
+abbrev pub IsOfResults : {o : OuterState} {x : Outcome} → Account o x → Type 0
+IsOfResults (Still o p is) = Unit {0}
+IsOfResults (Both o first next one later) = IsOfResults one × IsOfResults later
+IsOfResults (Later o p x is account) = IsOfResults account
+IsOfResults (Does o event given) = IsResult event
+IsOfResults (Forgotten o a b) = Unit {0}
+IsOfResults (Of_air o x of_air to_host to_chip port) = Unit {0}
+IsOfResults (In_air o air x account) = IsOfResults account
+
+abbrev Results : OuterState → Outcome → Type 0
+Results o x = (account : Account o x) × IsOfResults account
+
+does_result : (o : OuterState) (event : ChipEvent) → IsResult event → Results o (chip_does o event)
+does_result o (Done status) is = (Does o (Done status) tt, tt)
+does_result o (Informed node profile) is = (Does o (Informed node profile) tt, tt)
+does_result o event is = absurd is
+
+results : Calls Results
+results = record {
+  still = λ o p is. (Still o p is, tt);
+  both = λ o first next one later. let rest = later first.outer in (Both o first next one.0 rest.0, (one.1, rest.1));
+  later = λ o p x is one. (Later o p x is one.0, one.1);
+  result = does_result;
+}
+
+-- ---- what the air tells
+
+-- no payload comes to the chip
+abbrev pub IsNoPayload : AirEvent → Type 0
+IsNoPayload (air_event.ToChip frame from payload) = ⊥
+IsNoPayload event = Unit {0}
+
+abbrev still_so : (o : OuterState) → Account o (silent o)
+still_so o = Still o o (record { chip = refl; to_chip = refl; to_host = refl; air = refl; in_tick = refl; stamped = refl; clock = refl })
+
+-- the chip hears a payload that has room in a frame
+abbrev pub heard_account : (b : Bool) (o : OuterState) (from : ℕ) (payload : List ℕ) → Account o (if b then chip_does o (chip_hears from payload) else silent o)
+heard_account true o from payload = Does o (chip_hears from payload) tt
+heard_account false o from payload = still_so o
+
+-- a frame of the chip has ended
+pub ends_so : (o : OuterState) (status : ℕ) (dead : Option (ℕ × ℕ)) → Results o (frame_ends o status dead)
+ends_so o status dead = end_goes Results results (λ p a b. (Forgotten p a b, tt)) o status dead
+
+module _ (devices : List State) where
+  pub changes_told : (node at : ℕ) → AllByRecursion IsOfAir (change_entries node (change_at (device_at devices (place_of node devices)) at))
+  changes_told node at =
+      let change = change_at (device_at devices (place_of node devices)) at in all-weaker IsChange IsOfAir change_of_air (change_entries node change) (change_entered node change)
+
+  abbrev pub deal_account : (o : OuterState) (event : AirEvent) → Account o (deals devices o event)
+  deal_account o (air_event.Heard frame) = Of_air o (deals devices o (air_event.Heard frame)) (tt, tt) refl refl refl
+  deal_account o (air_event.Lost frame) = Of_air o (deals devices o (air_event.Lost frame)) (tt, tt) refl refl refl
+  deal_account o (air_event.Unheard frame) = Of_air o (deals devices o (air_event.Unheard frame)) (tt, tt) refl refl refl
+  deal_account o (air_event.Sent frame from to route payload) = Of_air o (deals devices o (air_event.Sent frame from to route payload)) (tt, tt) refl refl refl
+  deal_account o (air_event.Changed node at) = Of_air o (deals devices o (air_event.Changed node at)) (changes_told node at) refl refl refl
+  deal_account o (air_event.ToChip frame from payload) = heard_account (nat_le 1 (length payload) && nat_le (length payload) 46) o from payload
+  deal_account o (air_event.Done frame status dead) = (ends_so o status dead).0
+
+  abbrev pub all_account : (events : List AirEvent) (o : OuterState) → Account o (each (deals devices) o events)
+  all_account [] o = still_so o
+  all_account (event ∷ events) o = Both o (deals devices o event) (λ later. each (deals devices) later events) (deal_account o event) (all_account events (deals devices o event).outer)
+
+  deal_results : (o : OuterState) (event : AirEvent) → IsNoPayload event → IsOfResults (deal_account o event)
+  deal_results o (air_event.ToChip frame from payload) none = absurd none
+  deal_results o (air_event.Done frame status dead) none = (ends_so o status dead).1
+  deal_results o (air_event.Heard frame) none = tt
+  deal_results o (air_event.Lost frame) none = tt
+  deal_results o (air_event.Unheard frame) none = tt
+  deal_results o (air_event.Sent frame from to route payload) none = tt
+  deal_results o (air_event.Changed node at) none = tt
+
+  pub all_results : (events : List AirEvent) (o : OuterState) → AllByRecursion IsNoPayload events → IsOfResults (all_account events o)
+  all_results [] o none = tt
+  all_results (event ∷ events) o none = (deal_results o event none.0, all_results events (deals devices o event).outer none.1)
+
+-- a frame arrives or is heard again; results are given; a device does something
+unfoldable pub steps_account : (w : Outside) (step : AirStep) → Account w.outer (steps w step)
+steps_account w step =
+    In_air w.outer (mesh_after (mesh_of w) step).air (steps w step)
+    (all_account (mesh_after (mesh_of w) step).devices (mesh_outs (mesh_of w) step) (record w.outer { air = (mesh_after (mesh_of w) step).air }))
+
+pub gives_so : (w : Outside) (route : Option Route) → Results w.outer (gives w.outer w.devices w.outer.due route)
+gives_so w route = due_goes Results results w.outer w.devices w.outer.due route
+
+unfoldable pub gives_account : (w : Outside) (route : Option Route) → Account w.outer (gives w.outer w.devices w.outer.due route)
+gives_account w route = (gives_so w route).0
+
+pub gives_results : (w : Outside) (route : Option Route) → IsOfResults (gives_account w route)
+unfolding gives_account
+gives_results w route = (gives_so w route).1
 
 pub at_account : (o : OuterState) (found : Option State) (event : DeviceEvent) (route : Option Route) → Account o (acts_at o found event route)
 at_account o found event route = at_goes Account accounts (λ p x of_air to_host to_chip port. Of_air p x of_air to_host to_chip port) (λ p air x account. In_air p air x account) o found event route

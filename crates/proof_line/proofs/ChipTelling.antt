@@ -286,7 +286,7 @@ results = record {
 
 -- ---- the air and the devices
 
-change_of_air : (e : Entry) → IsChange e → IsOfAir e
+pub change_of_air : (e : Entry) → IsChange e → IsOfAir e
 change_of_air (entry.Dev node by setting) change = tt
 change_of_air e change = absurd change
 

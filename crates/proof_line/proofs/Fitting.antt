@@ -30,7 +30,7 @@ use Rattle.proof_serial.proofs.ChangedUnits.{garbled_long}
 use Rattle.proof_serial.proofs.Ways.{carries_more}
 use Rattle.proof_line.specs.Rooms.{MayFit, LastFits, HasUnanswered, answers_due, Fills}
 use Rattle.proof_line.proofs.Standing.{last_only, but_last, same_itself, frame_long}
-use Rattle.proof_line.proofs.Holding.{pipe_grows, own_pipe, other_pipe}
+use Rattle.proof_line.proofs.Holding.{pipe_grows, own_pipe, other_pipe, sum_more}
 use Rattle.proof_serial.proofs.Outer.{wrong as no_refusal}
 
 -- ---- the unit that stands last
@@ -138,10 +138,6 @@ arrives side way unit = by (nat_lt 0 way.marks.drops)
     by false = change_arrives side way unit way.marks.garbles refl
 
 -- ---- what it makes of the pipe of its side
-
-pub sum_more : (counts : List ℕ) (n : ℕ) → sum_of (counts ++ n ∷ []) ≡ sum_of counts + n
-sum_more [] n = omega arith
-sum_more (count ∷ counts) n = let more = sum_more counts n in omega (arith, more)
 
 due_both : (xs ys : List Item) → answers_due (xs ++ ys) ≡ answers_due xs + answers_due ys
 due_both [] ys = omega arith

@@ -240,7 +240,7 @@ module _ (side : Side) (way : WayState) (unit : LineUnit) where
 
 -- ---- what pipes hold
 
-sum_more : (counts : List ℕ) (n : ℕ) → sum_of (counts ++ n ∷ []) ≡ sum_of counts + n
+pub sum_more : (counts : List ℕ) (n : ℕ) → sum_of (counts ++ n ∷ []) ≡ sum_of counts + n
 sum_more [] n = plus_none n
   where
     plus_none : (n : ℕ) → n + 0 ≡ 0 + n

@@ -50,8 +50,8 @@ use Rattle.proof_walk.proofs.HostNotes.{NoteOuts, is_note, all_outs_note}
 use Rattle.proof_walk.proofs.Machines.{UnitsAre}
 use Rattle.proof_traffic.specs.Links.{host_link_steps, host_link_steps_all}
 use Rattle.proof_line.specs.Links.{TicksNot}
-use Rattle.proof_spoken.proofs.Always.{one, none, either}
-use Rattle.proof_spoken.proofs.Heard.{IsOfPayload, payload_of}
+use Rattle.proof_world.proofs.Always.{one, none, either}
+use Rattle.proof_world.proofs.Heard.{IsOfPayload, payload_of}
 use Rattle.proof_line.specs.Rooms.{answer_due, answers_due}
 use Rattle.proof_line.proofs.Chipping.{IsFrame}
 use Rattle.proof_line.proofs.Hosting.{note_apart}

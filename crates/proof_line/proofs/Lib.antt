@@ -46,16 +46,12 @@ mod LinkRestarts
 mod LinkOnes
 pub mod LinkSome
 pub mod LinkWalk
-pub use Rattle.proof_spoken.proofs.Orders
-pub use Rattle.proof_spoken.proofs.Plain
-pub use Rattle.proof_spoken.proofs.RoutineNotes
-pub use Rattle.proof_spoken.proofs.SaidOrders
-pub use Rattle.proof_spoken.proofs.SpokenLines
-pub use Rattle.proof_spoken.proofs.Always
-pub use Rattle.proof_spoken.proofs.Aside
-pub use Rattle.proof_spoken.proofs.Errands
-pub use Rattle.proof_spoken.proofs.FactsKept
-pub use Rattle.proof_spoken.proofs.FirstHosts
-pub use Rattle.proof_spoken.proofs.Heard
-pub use Rattle.proof_spoken.proofs.Hosts
-pub use Rattle.proof_spoken.proofs.Notes
+pub use Rattle.proof_world.proofs.SpokenLines
+pub use Rattle.proof_world.proofs.Always
+pub use Rattle.proof_world.proofs.Aside
+pub use Rattle.proof_world.proofs.Errands
+pub use Rattle.proof_world.proofs.FactsKept
+pub use Rattle.proof_world.proofs.FirstHosts
+pub use Rattle.proof_world.proofs.Heard
+pub use Rattle.proof_world.proofs.Hosts
+pub use Rattle.proof_world.proofs.Notes

@@ -6,7 +6,6 @@ pub mod Arrivals
 pub mod Links
 pub mod Rooms
 pub mod Linked
-pub use Rattle.proof_spoken.specs.Said
-pub use Rattle.proof_spoken.specs.Restarts
-pub use Rattle.proof_spoken.specs.Asking
-pub use Rattle.proof_spoken.specs.Lines
+pub use Rattle.proof_world.specs.Restarts
+pub use Rattle.proof_world.specs.Asking
+pub use Rattle.proof_world.specs.Lines

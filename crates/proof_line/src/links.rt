@@ -12,9 +12,9 @@ ghost use Rattle.world_lines.specs.Whole.{AreWhole};
 
 use crate::lines_clear_nowhere_else;
 use proof_serial::hosts_write_well;
-use proof_spoken::world::lines_keep_and_ask_well;
 use proof_traffic::hosts_obey_the_line;
 use proof_walk::time_goes_on;
+use proof_world::lines_keep_and_ask_well;
 
 /// Over any lines from the first on, the last of which an allocation failure may have cut short, over a keeper that tells its records and has none at
 /// first, both sides keep the rules of the serial line in time, and with links that do so just what was on its way is told at each restart that is not

@@ -47,7 +47,7 @@ use Rattle.proof_alone.specs.Runs.{Run}
 use Rattle.proof_alone.specs.Runs.Run.{Stepped, Turned}
 use Rattle.proof_alone.proofs.InOrder.{asked_puts, is_asked}
 use Rattle.proof_alone.proofs.Hosting.{items_run, kept, pump_run, tick_and_pump}
-use Rattle.proof_replay.specs.Heard.{AreReplayed, IsRun, Replayed, came_of, heard_all, heard_at, heard_of, plain_of}
+use Rattle.proof_replay.specs.Heard.{AreReplayed, IsRun, Replayed, came_of, heard_all, heard_at, heard_of, lone_after, plain_of}
 use Rattle.proof_replay.proofs.Putting.{alone_at, alone_enters, alone_next, alone_put, clock_at, in_tick, untimed}
 
 -- ---- lists of events
@@ -117,7 +117,7 @@ module _ (start : HostMachine) (keys : Keys) (Beside : Option (List (List ℕ)) 
         now,
         grown m held pumped beside,
         untimed start keys now n.host.state [] 0 m.clock Resting past (entries_of (outs_all m.host.state pumped))
-            (pump_run OuterState alone_at alone_put alone_next alone_enters start keys 0 pumped past held m.host.state [] (clock_at m.clock false) pumps may run),
+            (pump_run OuterState alone_at alone_put alone_next alone_enters start keys 0 pumped past held m.host.state [] (clock_at m.clock false) tt pumps may run),
       )
 
   pump_goes : (past : List Entry) (m : Lone) (events : List Event) → IsPump m events → MayAll m events → At Open 0 false past m → At Resting 0 false (past ++ heard_all m events) (happens_all m events)
@@ -126,18 +126,18 @@ module _ (start : HostMachine) (keys : Keys) (Beside : Option (List (List ℕ)) 
 
   -- ---- bytes of the chip
 
-  comes_run : (units : List LineUnit) (past : List Entry) (came : List LineUnit) (held : Option (List (List ℕ))) (m : Lone) → Run start Resting past (host_machine keys held m.host.state came m.clock 0 false)
-      → Run start Resting (past ++ came_of units) (host_machine keys held m.host.state (came ++ units) m.clock 0 false)
+  comes_run : (units : List LineUnit) (past : List Entry) (came : List LineUnit) (held : Option (List (List ℕ))) (m : Lone) → Run start Open past (host_machine keys held m.host.state came m.clock 0 false)
+      → Run start Open (past ++ came_of units) (host_machine keys held m.host.state (came ++ units) m.clock 0 false)
   comes_run [] past came held m run =
-      subst (λ (l : List Entry). Run start Resting l (host_machine keys held m.host.state (came ++ []) m.clock 0 false)) (sym (append-nil past))
-      (subst (λ (l : List LineUnit). Run start Resting past (host_machine keys held m.host.state l m.clock 0 false)) (sym (append-nil came)) run)
+      subst (λ (l : List Entry). Run start Open l (host_machine keys held m.host.state (came ++ []) m.clock 0 false)) (sym (append-nil past))
+      (subst (λ (l : List LineUnit). Run start Open past (host_machine keys held m.host.state l m.clock 0 false)) (sym (append-nil came)) run)
   comes_run (unit ∷ units) past came held m run =
-      let one : Run start Resting (past ++ entry.Written by_chip (unit_text unit) ∷ []) (host_machine keys held m.host.state (came ++ unit ∷ []) m.clock 0 false) =
-      Stepped (step.Comes unit) (tt, refl, refl) refl refl run in
+      let one : Run start Open (past ++ entry.Written by_chip (unit_text unit) ∷ []) (host_machine keys held m.host.state (came ++ unit ∷ []) m.clock 0 false) =
+      Stepped (step.Comes unit) (tt, refl, refl, inr refl) refl refl run in
       let all = comes_run units (past ++ entry.Written by_chip (unit_text unit) ∷ []) (came ++ unit ∷ []) held m one in
-      subst (λ (l : List Entry). Run start Resting l (host_machine keys held m.host.state (came ++ unit ∷ units) m.clock 0 false))
+      subst (λ (l : List Entry). Run start Open l (host_machine keys held m.host.state (came ++ unit ∷ units) m.clock 0 false))
       (append_assoc past (entry.Written by_chip (unit_text unit) ∷ []) (came_of units))
-      (subst (λ (l : List LineUnit). Run start Resting ((past ++ entry.Written by_chip (unit_text unit) ∷ []) ++ came_of units) (host_machine keys held m.host.state l m.clock 0 false))
+      (subst (λ (l : List LineUnit). Run start Open ((past ++ entry.Written by_chip (unit_text unit) ∷ []) ++ came_of units) (host_machine keys held m.host.state l m.clock 0 false))
       (append_assoc came (unit ∷ []) units) all)
 
   pub taken_run : (past : List Entry) (m : Lone) (bytes : List ℕ) (rest : Rest) (items : List Item) (judged : List HostEvent) → May m (Takes bytes rest items judged) → At Resting 0 false past m
@@ -147,7 +147,7 @@ module _ (start : HostMachine) (keys : Keys) (Beside : Option (List (List ℕ)) 
       let n : Lone = happens m (Takes bytes rest items judged) in
       let now : Option (List (List ℕ)) = kept held m.host.state judged in
       let units : List LineUnit = good_units items in
-      let came : Run start Open (past ++ came_of units) (host_machine keys held m.host.state units m.clock 0 false) = Turned refl (comes_run units past [] held m run) in
+      let came : Run start Open (past ++ came_of units) (host_machine keys held m.host.state units m.clock 0 false) = comes_run units past [] held m (Turned refl run) in
       let all =
       untimed start keys now n.host.state [] 0 m.clock Open (past ++ came_of units) (entries_of (outs_all m.host.state judged))
       (items_run OuterState alone_at alone_put alone_next alone_enters start keys 0 items judged (past ++ came_of units) held m.host.state [] (clock_at m.clock false) may.judged may.may
@@ -260,7 +260,7 @@ module _ (start : HostMachine) (keys : Keys) (Beside : Option (List (List ℕ)) 
       let begun : Run start Risen past (host_machine keys held h [] (m.clock + 1) more true) = Stepped (step.Begins_tick more) (refl, refl, refl) (sym (append-nil past)) refl run in
       let all =
       in_tick start keys now n.host.state [] more (m.clock + 1) past (outs_all h (tick_events h ++ pumped))
-      (tick_and_pump OuterState alone_at alone_put alone_next alone_enters start keys more pumped past held h [] (clock_at (m.clock + 1) true) pumps may begun) in
+      (tick_and_pump OuterState alone_at alone_put alone_next alone_enters start keys more pumped past held h [] (clock_at (m.clock + 1) true) tt pumps may begun) in
       (all.0, (now, grown m held (tick_events h ++ pumped) beside, all.1))
 
   ticks_goes : (count : ℕ) (past : List Entry) (m : Lone) (events : List Event) → AreTicks count m events → MayAll m events → Rests count past m
@@ -306,10 +306,10 @@ module _ (start : HostMachine) (keys : Keys) (Beside : Option (List (List ℕ)) 
                 (take_goes bytes (past ++ words) m first taking (may_first m first rest both) (rests.1.0, rests.1.1, Stepped (step.Says_nothing said.words) (refl, refl, read, refl) refl refl rests.1.2))),
           )
 
-  pub all_go : (past : List Entry) (m : Lone) (lines : List Replayed) → AreReplayed m lines → Rests 0 past m → (last : Lone) × Rests 0 (past ++ heard_of m lines) last
-  all_go past m [] are rests = (m, subst (λ (l : List Entry). Rests 0 l m) (sym (append-nil past)) rests)
+  pub all_go : (past : List Entry) (m : Lone) (lines : List Replayed) → AreReplayed m lines → Rests 0 past m → Rests 0 (past ++ heard_of m lines) (lone_after m lines)
+  all_go past m [] are rests = subst (λ (l : List Entry). Rests 0 l m) (sym (append-nil past)) rests
   all_go past m (said ∷ more) are rests =
       let one : List Entry = entry.Said said.words ∷ heard_all m said.events in
       let later : Lone = happens_all m said.events in
-      let all = all_go (past ++ one) later more are.1 (line_goes past m said are.0 rests) in
-      (all.0, subst (λ (l : List Entry). Rests 0 l all.0) (append_assoc past one (heard_of later more)) all.1)
+      subst (λ (l : List Entry). Rests 0 l (lone_after later more)) (append_assoc past one (heard_of later more))
+      (all_go (past ++ one) later more are.1 (line_goes past m said are.0 rests))

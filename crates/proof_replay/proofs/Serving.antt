@@ -1,6 +1,6 @@
 -- Steps of `host` are runs of a host alone: each begins with words, and a pump follows it.
-use Rattle.std.proofs.Common.{◌≡◌, ℕ, ◌+◌, Bool, true, false, inr, List, [], ◌∷◌, ◌++◌, refl, sym, ap, ◌∙◌, subst, append_assoc, append-nil}
-use Rattle.std.specs.Prelude.{Option, Some, None, ⊤}
+use Rattle.std.proofs.Common.{◌≡◌, ℕ, ◌+◌, Bool, true, false, inl, inr, length, List, [], ◌∷◌, ◌++◌, refl, sym, ap, ◌∙◌, subst, append_assoc, append-nil}
+use Rattle.std.specs.Prelude.{◌≢◌, Option, Some, None, ⊤}
 use Rattle.std.specs.List.{flat_map}
 use Rattle.s0_crypto.specs.declared.key_pair.Keys.{Keys}
 use Rattle.zw_words.specs.Fields.{ends, last, next}
@@ -12,9 +12,17 @@ use Rattle.zw_text.specs.declared.line.Line.{Line}
 use Rattle.zw_text.specs.declared.line.Line.TheVariants as lines
 use Rattle.zw_text.specs.declared.entry.Entry.{Entry}
 use Rattle.zw_text.specs.declared.entry.Entry.TheVariants.{Said}
+use Rattle.zw_text.specs.declared.entry.Entry.TheVariants as entry
+use Rattle.zw_text.specs.declared.entry.Refusal.{Refusal}
+use Rattle.zw_text.specs.declared.entry.Refusal.TheVariants as refusal
+use Rattle.host_orders.specs.Errands.{get_refusal, send_refusal}
+use Rattle.host_orders.specs.declared.refused.Refused.{Refused as Rule}
+use Rattle.host_orders.specs.declared.refused.Refused.TheVariants as refused
 use Rattle.law_transcript.specs.Restarts.{ticks_of}
 use Rattle.host_keep.specs.Keeping.{OptAdds}
-use Rattle.host_model.specs.State.{HostParts, HostState}
+use Rattle.host_model.specs.State.{HostParts, HostState, node_of}
+use Rattle.host_model.specs.Asking.{interview_refusal, join_refusal, places_refusal, refusal_for}
+use Rattle.host_model.specs.May.{known_of}
 use Rattle.host_model.specs.Events.{HostEvent}
 use Rattle.host_model.specs.Did.{Did, after_all, outs_all, records_all, texts_of}
 use Rattle.host_model.specs.Outs.{answers}
@@ -24,21 +32,23 @@ use Rattle.host_model.specs.Ticking.{tick_events}
 use Rattle.host_model.specs.declared.out.HostOut.{HostOut}
 use Rattle.host_model.proofs.EventLists.{did_both}
 use Rattle.world_model.specs.State.{with_texts}
+use Rattle.world_model.specs.Refusals.{IsRefused, IsRefusedBy, IsRefusedOrUnkept, shown}
 use Rattle.world_model.proofs.Hosting.{adds_is}
 use Rattle.port_run.specs.Lines.{is_served}
-use Rattle.port_run.specs.Steps.{Place, Step, Asks, Takes, Rests, Ticks, Pumps, AllRan, IsTaken, Ran, asked_by, refusal_by}
+use Rattle.port_run.specs.Steps.{Place, Step, Asks, Takes, Rests, Ticks, Pumps, AllRan, IsTaken, Ran, asked_by, is_recorded, refusal_by}
+use Rattle.port_run.specs.Steps as port
 use Rattle.port_run.specs.declared.asking.Answer.{Answer}
 use Rattle.port_run.specs.declared.asking.Answer.TheVariants.{Taken, Command, Refused}
 use Rattle.proof_serial.specs.Units.{good_units}
-use Rattle.run_replay.specs.Machine.{Lone, entries, entries_of, happens, May, timed}
-use Rattle.proof_alone.specs.State.{HostMachine, host_machine}
+use Rattle.run_replay.specs.Machine.{Lone, alone, entries, entries_of, happens, May, timed}
+use Rattle.proof_alone.specs.State.{HostMachine, host_machine, with_world}
 use Rattle.proof_alone.specs.Steps as step
 use Rattle.proof_alone.specs.Steps.{IsAskedBy}
 use Rattle.proof_alone.specs.Phases.{Phase, Resting, Asked, Open}
 use Rattle.proof_alone.specs.Runs.{Run}
 use Rattle.proof_alone.specs.Runs.Run.{Stepped, Turned}
 use Rattle.proof_replay.specs.Heard.{came_of}
-use Rattle.proof_replay.specs.HostSteps.{AreOrderly, HearsPart, HearsSteps, IsServed, WithPump, chip_word, clock_after, refused_word, restart_word, tick_words}
+use Rattle.proof_replay.specs.HostSteps.{AreOrderly, HearsPart, HearsSteps, IsServed, WithPump, chip_word, clock_after, lone_at, restart_word, tick_words}
 use Rattle.proof_replay.proofs.Replaying.{asked_says, pumped_run, taken_run, tick_one}
 use Rattle.proof_replay.proofs.Replaying as replaying
 
@@ -49,15 +59,11 @@ unfoldable reading : ⊤
 unfolding next ends last digits_in number_in between_in words line_words line_word_in line_by
 reading = tt
 
-chip_is : line_of (Said chip_word) ≡ []
+pub chip_is : line_of (Said chip_word) ≡ []
 unfolding reading
 chip_is = refl
 
-refused_is : line_of (Said refused_word) ≡ []
-unfolding reading
-refused_is = refl
-
-tick_is : line_of (Said tick_words) ≡ lines.Tick 1 ∷ []
+pub tick_is : line_of (Said tick_words) ≡ lines.Tick 1 ∷ []
 unfolding reading
 tick_is = refl
 
@@ -85,10 +91,59 @@ asks_one (lines.Interview node) h served none = record { event = _; are = refl; 
 asks_one lines.Probe h served none = record { event = _; are = refl; asked = (none, refl); no_ticks = refl }
 asks_one line h served none = absurd (unserved served)
 
--- ---- places
+served_ticks : (line : Line) → is_served (first_word line) ≡ true → ticks_of line ≡ 0
+served_ticks (lines.Tick ticks) served = absurd (unserved served)
+served_ticks line served = refl
 
-abbrev pub lone_at : Place → ℕ → Lone
-lone_at place clock = record { host = place.host; clock = clock; records = place.shelf.records }
+-- ---- how a line is refused
+
+shown_for : (rule : Rule) → rule ≢ refused.NoMemory → (entered : Refusal) × (shown rule ≡ Some entered)
+shown_for refused.NotJoined some = (refusal.NotJoined, refl)
+shown_for refused.NotInterviewed some = (refusal.NotInterviewed, refl)
+shown_for (refused.Unsupported class) some = (refusal.Unsupported class, refl)
+shown_for refused.BadValue some = (refusal.BadValue, refl)
+shown_for refused.Unsupervised some = (refusal.Unsupervised, refl)
+shown_for (refused.TooLong bytes) some = (refusal.TooLong bytes, refl)
+shown_for (refused.MailboxFull waiting) some = (refusal.MailboxFull waiting, refl)
+shown_for (refused.StoreFull properties) some = (refusal.StoreFull properties, refl)
+shown_for refused.Secured some = (refusal.Secured, refl)
+shown_for (refused.QueueFull waiting) some = (refusal.QueueFull waiting, refl)
+shown_for refused.AlreadyJoined some = (refusal.AlreadyJoined, refl)
+shown_for refused.KeeperFault some = (refusal.KeeperFault, refl)
+shown_for refused.NoMemory some = absurd (some refl)
+
+by_rule : (rule : Option Rule) (faults faults' : ℕ) → port.IsRefusedBy false rule faults faults' → (entered : Refusal) × IsRefusedBy rule entered
+by_rule None faults faults' by = absurd (unserved by.0)
+by_rule (Some rule) faults faults' by = shown_for rule by
+
+by_keeper : (rule : Option Rule) (faults faults' : ℕ) → port.IsRefusedBy true rule faults faults' → (entered : Refusal) × IsRefusedOrUnkept rule entered
+by_keeper None faults faults' by = (refusal.KeeperFault, inr (refl, refl))
+by_keeper (Some rule) faults faults' by = let (entered, is) = shown_for rule by in (entered, inl is)
+
+-- and so the host alone refuses it, whatever its records
+record Refuses (line : Line) (m : Lone) : Type 0 where
+  entered : Refusal
+  is : IsRefused (alone m) line entered
+  whatever : (keys : Keys) (held : Option (List (List ℕ))) → IsRefused (with_world (host_machine keys held m.host.state [] m.clock 0 false)) line entered
+
+refuses : (line : Line) (m : Lone) (faults faults' : ℕ) → is_served (first_word line) ≡ true → port.IsRefusedBy (is_recorded line) (refusal_by m.host.state line) faults faults' → Refuses line m
+refuses (lines.Command order) m faults faults' served by =
+    let (entered, is) = by_keeper (refusal_for m.host.state order) faults faults' by in record { entered = entered; is = is; whatever = λ keys held. is }
+refuses (lines.Join node) m faults faults' served by =
+    let (entered, is) = by_keeper (join_refusal m.host.state node) faults faults' by in record { entered = entered; is = is; whatever = λ keys held. is }
+refuses (lines.Send node word) m faults faults' served by =
+    let (entered, is) = by_rule (send_refusal (known_of (node_of m.host.state node)) (length m.host.state.requests.queue) word) faults faults' by in
+    record { entered = entered; is = is; whatever = λ keys held. is }
+refuses (lines.Get node end) m faults faults' served by =
+    let (entered, is) = by_rule (get_refusal (known_of (node_of m.host.state node)) (length m.host.state.requests.queue) end) faults faults' by in
+    record { entered = entered; is = is; whatever = λ keys held. is }
+refuses (lines.Interview node) m faults faults' served by =
+    let (entered, is) = by_rule (interview_refusal m.host.state node) faults faults' by in record { entered = entered; is = is; whatever = λ keys held. is }
+refuses lines.Probe m faults faults' served by =
+    let (entered, is) = by_rule (places_refusal m.host.state 3) faults faults' by in record { entered = entered; is = is; whatever = λ keys held. is }
+refuses line m faults faults' served by = absurd (unserved served)
+
+-- ---- places
 
 pub none_added : (records later : Option (List (List ℕ))) → OptAdds records later [] → later ≡ records
 none_added None later adds = adds
@@ -147,22 +202,6 @@ module _ (start : HostMachine) (keys : Keys) (Beside : Option (List (List ℕ)) 
   none_said : (past : List Entry) (clock : ℕ) (place : Place) (said : List ℕ) → line_of (Said said) ≡ [] → Rests0 past (lone_at place clock) → At Resting (past ++ Said said ∷ []) place clock
   none_said past clock place said none (awaits, (held, beside, run)) = (held, beside, Stepped (step.Says_nothing said) (refl, refl, none, refl) refl refl run)
 
-  refused_part : (past : List Entry) (clock : ℕ) (line : Line) (old new : Place) (both : WithPump (Asks line Refused) old new) → Rests0 past (lone_at old clock)
-      → Part clock (Asks line Refused) old new both past
-  refused_part past clock line old new both rests =
-      let still = both.ran.0.0 in
-      let before : List Entry = past ++ Said refused_word ∷ [] in
-      let (held, beside, run) = none_said past clock old refused_word refused_is rests in
-      let there : At Open before both.mid clock = (
-        held,
-        subst (λ (r : Option (List (List ℕ))). Beside r held) (sym (none_added old.shelf.records both.mid.shelf.records still.records)) beside,
-        subst (λ (p : HostParts). Run start Open before (host_machine keys held p.state [] clock 0 false)) (sym still.host) (Turned refl run),
-      ) in (
-        Said refused_word ∷ entries_of both.rest,
-        refl,
-        subst (λ (l : List Entry). Rests0 l (lone_at new clock)) (append_assoc past (Said refused_word ∷ []) (entries_of both.rest)) (pump_part before clock both.mid new both.rest both.pumped there),
-      )
-
   -- the words of a line
   line_said : (past : List Entry) (clock : ℕ) (place : Place) (line : Line) (said : List ℕ) → line_of (Said said) ≡ line ∷ [] → ticks_of line ≡ 0 → Rests0 past (lone_at place clock)
       → At (Asked line) (past ++ Said said ∷ []) place clock
@@ -172,6 +211,28 @@ module _ (start : HostMachine) (keys : Keys) (Beside : Option (List (List ℕ)) 
     subst (λ (n : ℕ). Run start (Asked line) (past ++ Said said ∷ []) (host_machine keys held place.host.state [] clock n false)) none
         (Stepped (step.Says said line) (refl, refl, read, refl) refl refl run),
   )
+
+  refused_part : (past : List Entry) (clock : ℕ) (line : Line) (old new : Place) (both : WithPump (Asks line Refused) old new) → IsServed line → Rests0 past (lone_at old clock)
+      → Part clock (Asks line Refused) old new both past
+  refused_part past clock line old new both (said, read, served) rests =
+      let still = both.ran.0.0 in
+      let by : Refuses line (lone_at old clock) = refuses line (lone_at old clock) old.shelf.faults both.mid.shelf.faults served both.ran.0.1 in
+      let asked : List Entry = past ++ Said said ∷ [] in
+      let before : List Entry = asked ++ entry.Refused by.entered ∷ [] in
+      let (held, beside, run) = line_said past clock old line said read (served_ticks line served) rests in
+      let told : Run start Open before (host_machine keys held old.host.state [] clock 0 false) =
+      Stepped (step.Refuses by.entered) (line, refl, inl (by.whatever keys held), refl, refl) refl refl run in
+      let there : At Open before both.mid clock = (
+        held,
+        subst (λ (r : Option (List (List ℕ))). Beside r held) (sym (none_added old.shelf.records both.mid.shelf.records still.records)) beside,
+        subst (λ (p : HostParts). Run start Open before (host_machine keys held p.state [] clock 0 false)) (sym still.host) told,
+      ) in (
+        Said said ∷ (entry.Refused by.entered ∷ entries_of both.rest),
+        (said, read, by.entered, by.is, refl),
+        subst (λ (l : List Entry). Rests0 l (lone_at new clock))
+            (append_assoc asked (entry.Refused by.entered ∷ []) (entries_of both.rest) ∙ append_assoc past (Said said ∷ []) (entry.Refused by.entered ∷ entries_of both.rest))
+            (pump_part before clock both.mid new both.rest both.pumped there),
+      )
 
   taken_part : (past : List Entry) (clock : ℕ) (line : Line) (answer : Answer) (old mid new : Place) (rest : List HostOut) → IsServed line → IsTaken line answer old mid → Ran Pumps mid new rest
       → Rests0 past (lone_at old clock)
@@ -275,7 +336,7 @@ module _ (start : HostMachine) (keys : Keys) (Beside : Option (List (List ℕ)) 
 
   part_of : (past : List Entry) (clock : ℕ) (line : Line) (answer : Answer) (old new : Place) (both : WithPump (Asks line answer) old new) → IsServed line → Rests0 past (lone_at old clock)
       → Part clock (Asks line answer) old new both past
-  part_of past clock line Refused old new both served rests = refused_part past clock line old new both rests
+  part_of past clock line Refused old new both served rests = refused_part past clock line old new both served rests
   part_of past clock line Taken old new both served rests = taken_part past clock line Taken old both.mid new both.rest served both.ran.0 both.pumped rests
   part_of past clock line (Command number) old new both served rests = taken_part past clock line (Command number) old both.mid new both.rest served both.ran.0 both.pumped rests
 

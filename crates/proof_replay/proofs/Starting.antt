@@ -1,6 +1,7 @@
 -- A host of `host` starts as a line `restart` after what hosts heard before, and goes on by its steps.
 use Rattle.std.proofs.Common.{◌≡◌, ℕ, Bool, true, false, List, [], ◌∷◌, ◌++◌, refl, sym, ap, ◌∙◌, subst, append_assoc, append-nil}
-use Rattle.std.specs.Prelude.{Option, Some, None, IsSome, length}
+use Rattle.std.specs.Prelude.{Option, Some, None, IfSome, IsSome, length}
+use Rattle.zw_base.proofs.Each.{all-append}
 use Rattle.s0_crypto.specs.declared.key_pair.Keys.{Keys}
 use Rattle.zw_text.specs.declared.line.Line.TheVariants as lines
 use Rattle.zw_text.specs.declared.entry.Entry.{Entry}
@@ -16,15 +17,20 @@ use Rattle.world_model.specs.State.{with_texts}
 use Rattle.world_model.specs.Events.{OpensFrom}
 use Rattle.port_run.specs.Steps.{Place, Step, Asks, Takes, Rests, Ticks, Pumps, AllRan}
 use Rattle.run_replay.specs.Machine.{Lone, entries_of}
-use Rattle.proof_alone.specs.State.{first_alone, host_machine}
+use Rattle.law_transcript.specs.Records.{KeepsRecords}
+use Rattle.law_host.specs.Heard.{is_of_others}
+use Rattle.proof_alone.specs.State.{HostMachine, first_alone, host_machine}
 use Rattle.proof_alone.specs.Steps as step
-use Rattle.proof_alone.specs.Phases.{Asked, Open, Resting}
-use Rattle.proof_alone.specs.Runs.{Run, Told}
+use Rattle.proof_alone.specs.Phases.{Phase, Asked, Open, Resting}
+use Rattle.proof_alone.specs.Runs.{Run}
 use Rattle.proof_alone.specs.Runs.Run.{Begins, Stepped}
+use Rattle.proof_known.specs.Known.{AreForHost, AreSaidToHost, IsSaidToHost}
+use Rattle.proof_known.proofs.ForHost.{said_for_host}
 use Rattle.proof_replay.specs.HostSteps.{HaveHeard, HearsMore, HearsRun, Holds, IsRunSteps, restart_word}
 use Rattle.proof_replay.specs.Laws.{HostsKeepLaws}
 use Rattle.proof_replay.proofs.Serving.{none_added, pump_part, restart_is, steps_go}
 use Rattle.proof_replay.proofs.Serving as serving
+use Rattle.proof_replay.proofs.Words.{never, run_said}
 
 -- ---- records
 
@@ -49,7 +55,7 @@ holds_last many (Some texts) held some agrees = agrees
 
 -- nothing was heard before, where the keeper holds nothing
 pub none_before : (keys : Keys) (number : ℕ) (told : Option (List (List ℕ))) → Holds number told (Some []) → HaveHeard keys number told []
-none_before keys number told holds = record { held = Some []; state = first_host keys; clock = 0; awaits = false; run = Begins; holds = holds }
+none_before keys number told holds = record { held = Some []; state = first_host keys; clock = 0; awaits = false; run = Begins; holds = holds; said = tt }
 
 none_of : (records : List Record) → length records ≡ 0 → AreTextsOf records []
 none_of [] none = tt
@@ -66,7 +72,36 @@ opens_from keys number told held host holds opens =
     let (texts, same, are) = texts_held number told held opens.records holds opens.many opens.are in
     subst (λ (o : Option (List (List ℕ))). OpensFrom keys o (opened keys opens.records)) (sym same) (opens.records, are, opens.legal, refl)
 
-module _ (laws : (keys : Keys) (heard : List Entry) → Told (first_alone keys (Some [])) heard → HostsKeepLaws heard)
+-- ---- laws
+
+-- the records of the run are those that the keeper tells
+told_kept : (told held : Option (List (List ℕ))) (heard : List Entry) → Agrees told held → IfSome held (KeepsRecords heard) → IfSome told (KeepsRecords heard)
+told_kept None held heard agrees kept = tt
+told_kept (Some texts) held heard agrees kept = subst (λ (o : Option (List (List ℕ))). IfSome o (KeepsRecords heard)) agrees kept
+
+pub kept_as_told : (keys : Keys) (whole : Bool) (heard : List Entry) (told held : Option (List (List ℕ))) → (whole ≡ true → Agrees told held) → HostsKeepLaws keys whole heard held → HostsKeepLaws keys whole heard told
+kept_as_told keys whole heard told held agrees laws = record {
+  orders = laws.orders;
+  said = record {
+    answers = laws.said.answers;
+    cancels = laws.said.cancels;
+    sessions = laws.said.sessions;
+    carries = laws.said.carries;
+    stores = laws.said.stores;
+    values = laws.said.values;
+    records_kept = λ is. told_kept told held heard (agrees is) (laws.said.records_kept is);
+  };
+  notes = laws.notes;
+  at_once = laws.at_once;
+  in_turn = laws.in_turn;
+  wakes = laws.wakes;
+  questions = laws.questions;
+  ticks = laws.ticks;
+  sends = laws.sends;
+}
+
+module _ (laws : (keys : Keys) (whole : Bool) (here : Phase) (heard : List Entry) (m : HostMachine) → Run (first_alone keys (Some [])) here heard m → (whole ≡ true → here ≡ Resting)
+    → AreForHost heard → HostsKeepLaws keys whole heard m.records)
     (keys : Keys) (number : ℕ) (told : Option (List (List ℕ))) (past : List Entry) (before : HaveHeard keys number told past) (place : Place) (opens : Opens keys number told place.host)
     (adds : OptAdds told place.shelf.records []) where
   abbrev restarted : List Entry
@@ -88,19 +123,26 @@ module _ (laws : (keys : Keys) (heard : List Entry) → Told (first_alone keys (
   all_heard : (heard : List Entry) → restarted ++ heard ≡ past ++ Said restart_word ∷ heard
   all_heard heard = append_assoc past (Said restart_word ∷ []) heard
 
+  all_said : (heard : List Entry) → AreSaidToHost heard → AreSaidToHost (past ++ Said restart_word ∷ heard)
+  all_said heard said = all-append IsSaidToHost past (Said restart_word ∷ heard) before.said (ap is_of_others restart_is, said)
+
   abbrev Rested : List Entry → Lone → Type 0
   Rested all m = serving.Rests0 (first_alone keys (Some [])) keys Agrees agrees_on all m
 
-  hears_so : (whole : Bool) (steps : List Step) (last : Place) (heard : List Entry) (m : Lone) → HearsRun before.clock steps place last heard → Rested (restarted ++ heard) m
-      → (whole ≡ true → m.records ≡ last.shelf.records) → HearsMore keys past before.clock whole steps place last
-  hears_so whole steps last heard m hears rests records =
+  hears_so : (whole : Bool) (steps : List Step) (last : Place) (heard : List Entry) (m : Lone) → IsRunSteps whole steps → HearsRun before.clock steps place last heard
+      → Rested (restarted ++ heard) m → (whole ≡ true → m.records ≡ last.shelf.records) → HearsMore keys past before.clock whole steps place last
+  hears_so whole steps last heard m orderly hears rests records =
       let (awaits, (held, agrees, run)) = rests in
       let all : Run (first_alone keys (Some [])) Resting (past ++ Said restart_word ∷ heard) (host_machine keys held m.host.state [] m.clock 0 awaits) =
       subst (λ (l : List Entry). Run (first_alone keys (Some [])) Resting l (host_machine keys held m.host.state [] m.clock 0 awaits)) (all_heard heard) run in
+      let said : AreSaidToHost (past ++ Said restart_word ∷ heard) = all_said heard (run_said before.clock whole steps place last heard orderly hears) in
       record {
         heard = heard;
         hears = hears;
-        keeps = laws keys (past ++ Said restart_word ∷ heard) (Resting, host_machine keys held m.host.state [] m.clock 0 awaits, all);
+        keeps =
+            kept_as_told keys whole (past ++ Said restart_word ∷ heard) last.shelf.records held (λ is. subst (λ (r : Option (List (List ℕ))). Agrees r held) (records is) agrees)
+            (laws keys whole Resting (past ++ Said restart_word ∷ heard) (host_machine keys held m.host.state [] m.clock 0 awaits) all (λ is. refl)
+            (said_for_host (past ++ Said restart_word ∷ heard) said));
         next = λ is many some. record {
           held = held;
           state = m.host.state;
@@ -108,6 +150,7 @@ module _ (laws : (keys : Keys) (heard : List Entry) → Told (first_alone keys (
           awaits = awaits;
           run = all;
           holds = holds_last many last.shelf.records held some (subst (λ (r : Option (List (List ℕ))). Agrees r held) (records is) agrees);
+          said = said;
         };
       }
 
@@ -119,15 +162,18 @@ module _ (laws : (keys : Keys) (heard : List Entry) → Told (first_alone keys (
       record {
         heard = [];
         hears = (ran.0, refl);
-        keeps = laws keys (past ++ Said restart_word ∷ []) (Open, host_machine keys held place.host.state [] before.clock 0 false, all);
-        next = λ is many some. let bad : false ≡ true = sym none ∙ is in absurd cc;
+        keeps =
+            kept_as_told keys whole (past ++ Said restart_word ∷ []) last.shelf.records held (λ is. absurd (never (sym none ∙ is)))
+            (laws keys whole Open (past ++ Said restart_word ∷ []) (host_machine keys held place.host.state [] before.clock 0 false) all (λ is. absurd (never (sym none ∙ is)))
+            (said_for_host (past ++ Said restart_word ∷ []) (all_said [] tt)));
+        next = λ is many some. absurd (never (sym none ∙ is));
       }
   hears_more whole (Pumps ∷ steps) last outs orderly (mid, first, later, pumped, more, are) =
       let start = first_alone keys (Some []) in
       let (heard, hears, m, rests, records) =
       steps_go start keys Agrees agrees_on whole steps (restarted ++ entries_of first) before.clock mid last later orderly more
       (pump_part start keys Agrees agrees_on restarted before.clock place mid first pumped started) in
-      hears_so whole (Pumps ∷ steps) last (entries_of first ++ heard) m (mid, first, heard, pumped, hears, refl)
+      hears_so whole (Pumps ∷ steps) last (entries_of first ++ heard) m orderly (mid, first, heard, pumped, hears, refl)
       (subst (λ (l : List Entry). Rested l m) (append_assoc restarted (entries_of first) heard) rests) records
   hears_more whole (Asks line answer ∷ steps) last outs orderly ran = absurd orderly
   hears_more whole (Takes bytes ∷ steps) last outs orderly ran = absurd orderly

@@ -55,6 +55,11 @@ abbrev pub heard_of : Lone → List Replayed → List Entry
 heard_of m [] = []
 heard_of m (said ∷ more) = Said said.words ∷ (heard_all m said.events ++ heard_of (happens_all m said.events) more)
 
+-- where they lead
+abbrev pub lone_after : Lone → List Replayed → Lone
+lone_after m [] = m
+lone_after m (said ∷ more) = lone_after (happens_all m said.events) more
+
 -- ---- texts that ran
 
 -- what is entered of them: the same without those units

@@ -1,6 +1,6 @@
--- What the host of `host` hears at its steps (this project's own rule). A line is its words, and one that was refused is words that are no line. Bytes that
--- were read are the word `chip`, which is no line, and the units that came whole in them; a tick is a line `tick 1`; and a start from records is a line
--- `restart` after what hosts heard before.
+-- What the host of `host` hears at its steps (this project's own rule). A line is its words, and one that was refused has its refusal. Bytes that were read are
+-- the word `chip`, which is no line, and the units that came whole in them; a tick is a line `tick 1`; and a start from records is a line `restart` after what
+-- hosts heard before.
 use Rattle.std.specs.Prelude.{◌≡◌, ℕ, ◌+◌, Bool, true, false, List, [], ◌∷◌, ◌++◌, codes, Option, Some, None, IsSome}
 use Rattle.std.specs.List.{flat_map}
 use Rattle.s0_crypto.specs.declared.key_pair.Keys.{Keys}
@@ -9,6 +9,8 @@ use Rattle.zw_text.specs.Transcript.{line_of}
 use Rattle.zw_text.specs.declared.line.Line.{Line}
 use Rattle.zw_text.specs.declared.entry.Entry.{Entry}
 use Rattle.zw_text.specs.declared.entry.Entry.TheVariants.{Said}
+use Rattle.zw_text.specs.declared.entry.Entry.TheVariants as entry
+use Rattle.zw_text.specs.declared.entry.Refusal.{Refusal}
 use Rattle.host_model.specs.State.{HostState}
 use Rattle.host_model.specs.Outs.{answers}
 use Rattle.host_model.specs.declared.out.HostOut.{HostOut}
@@ -18,10 +20,12 @@ use Rattle.port_run.specs.declared.asking.Answer.TheVariants.{Refused}
 use Rattle.port_run.specs.declared.line.PortLine.{PortLine}
 use Rattle.port_run.specs.declared.line.PortLine.TheVariants.{Plain, Wait}
 use Rattle.proof_serial.specs.Units.{good_units}
-use Rattle.run_replay.specs.Machine.{entries_of, timed}
+use Rattle.world_model.specs.Refusals.{IsRefused}
+use Rattle.run_replay.specs.Machine.{Lone, alone, entries_of, timed}
 use Rattle.proof_alone.specs.State.{first_alone, host_machine}
 use Rattle.proof_alone.specs.Phases.{Resting}
 use Rattle.proof_alone.specs.Runs.{Run}
+use Rattle.proof_known.specs.Known.{AreSaidToHost}
 use Rattle.proof_replay.specs.Heard.{came_of}
 use Rattle.proof_replay.specs.Laws.{HostsKeepLaws}
 
@@ -29,9 +33,6 @@ use Rattle.proof_replay.specs.Laws.{HostsKeepLaws}
 
 abbrev pub chip_word : List ℕ
 chip_word = codes "chip"
-
-abbrev pub refused_word : List ℕ
-refused_word = codes "refused"
 
 abbrev pub tick_words : List ℕ
 tick_words = codes "tick 1"
@@ -58,9 +59,15 @@ pub record WithPump (step : Step) (old new : Place) : Type 0 where
   pub ran : Ran step old mid first
   pub pumped : Ran Pumps mid new rest
 
--- what is heard of them, after so many ticks
+-- the host at a place, after so many ticks
+abbrev pub lone_at : Place → ℕ → Lone
+lone_at place clock = record { host = place.host; clock = clock; records = place.shelf.records }
+
+-- what is heard of them
 abbrev pub HearsPart : ℕ → (step : Step) (old new : Place) → WithPump step old new → List Entry → Type 0
-HearsPart clock (Asks line Refused) old new both part = part ≡ Said refused_word ∷ entries_of both.rest
+HearsPart clock (Asks line Refused) old new both part =
+    (words : List ℕ) × (line_of (Said words) ≡ line ∷ []) × (refusal : Refusal) × IsRefused (alone (lone_at old clock)) line refusal
+    × (part ≡ Said words ∷ (entry.Refused refusal ∷ entries_of both.rest))
 HearsPart clock (Asks line answer) old new both part =
     (words : List ℕ) × (line_of (Said words) ≡ line ∷ []) × (part ≡ Said words ∷ (flat_map (answers old.host.state) (asked_by old.host.state line) ++ entries_of both.rest))
 HearsPart clock (Takes bytes) old new both part =
@@ -119,7 +126,7 @@ Holds number None held = (number ≡ 0) × (held ≡ Some [])
 Holds number (Some texts) held = held ≡ Some texts
 
 -- Hosts with these keys have heard this, in earlier runs, over a keeper that holds so many records now and tells these; so many ticks have passed. The last
--- one was at rest.
+-- one was at rest, and no line was for others.
 pub record HaveHeard (keys : Keys) (number : ℕ) (told : Option (List (List ℕ))) (past : List Entry) : Type 0 where
   pub held : Option (List (List ℕ))
   pub state : HostState
@@ -127,11 +134,12 @@ pub record HaveHeard (keys : Keys) (number : ℕ) (told : Option (List (List ℕ
   pub awaits : Bool
   pub run : Run (first_alone keys (Some [])) Resting past (host_machine keys held state [] clock 0 awaits)
   pub holds : Holds number told held
+  pub said : AreSaidToHost past
 
 -- From its start a host did these steps and heard this, and over what hosts have heard by now these laws hold. Where it came to rest, and its keeper tells
 -- its records, hosts have heard all that when the next one starts.
 pub record HearsMore (keys : Keys) (past : List Entry) (clock : ℕ) (whole : Bool) (steps : List Step) (old new : Place) : Type 0 where
   pub heard : List Entry
   pub hears : HearsRun clock steps old new heard
-  pub keeps : HostsKeepLaws (past ++ Said restart_word ∷ heard)
+  pub keeps : HostsKeepLaws keys whole (past ++ Said restart_word ∷ heard) new.shelf.records
   pub next : whole ≡ true → (many : ℕ) → IsSome new.shelf.records → HaveHeard keys many new.shelf.records (past ++ Said restart_word ∷ heard)

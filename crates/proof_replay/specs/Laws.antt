@@ -1,36 +1,63 @@
 -- What a host keeps true over all that it heard, whatever that was (this project's own rule).
-use Rattle.std.specs.Prelude.{◌≡◌, ℕ, List, []}
+use Rattle.std.specs.Prelude.{◌≡◌, ℕ, Bool, true, List, [], Option, Some}
 use Rattle.zw_text.specs.declared.line.ReplayLine.{ReplayLine}
 use Rattle.zw_text.specs.declared.entry.Entry.{Entry}
-use Rattle.law_transcript.specs.Answers.{CancelsWhenAsked}
+use Rattle.s0_crypto.specs.declared.key_pair.Keys.{Keys}
+use Rattle.host_core.specs.Network.{keys_of}
+use Rattle.host_keep.specs.Keeping.{OptAdds}
 use Rattle.law_transcript.specs.Lists.{EachAfter}
-use Rattle.law_transcript.specs.Once.{CarriesOnce}
-use Rattle.law_transcript.specs.Stores.{MayStore}
+use Rattle.law_transcript.specs.Payloads.{SendsWhatIsDue}
+use Rattle.law_host.specs.Heard.{listing_heard}
+use Rattle.law_time.specs.Questions.{AnswersQuestions}
 use Rattle.law_time.specs.Waking.{WakesAsTold}
 use Rattle.run_lines.specs.Lines.{TextLine}
 use Rattle.run_replay.specs.Machine.{Lone}
 use Rattle.proof_host.specs.Laws.{HostLaws}
 use Rattle.proof_walk.specs.Time.{MayCount}
+use Rattle.proof_alone.specs.State.{HostMachine, first_alone}
+use Rattle.proof_alone.specs.Phases.{Resting}
+use Rattle.proof_alone.specs.Runs.{Run}
+use Rattle.proof_known.specs.Known.{AreForHost, KeepsWhatIsSaid}
+use Rattle.proof_known.specs.Noted.{NotesAtOnce, NotesInTurn, NotesWhatWasTold}
 use Rattle.proof_replay.specs.Heard.{AreReplayed, AreSaid, Replayed, heard_of, told_of}
 
 -- One field a law. Orders, sessions and outcomes keep their laws.
--- A command is taken back only directly after a line that asks for it, and where it waits.
--- The sessions of a node carry commands that were accepted for it, each once and in order.
--- A value is entered as confirmed only after a success, or after another value of it.
+-- Each line has its answer; what is taken back, carried, stored and shown is so, and the records, where they are told, say what is shown.
+-- A command ends, and values, old reports and what cannot be read are noted, only where a payload of the node was judged that tells it.
+-- What cannot be read, a value and that a node is awake are noted at once, where a payload has them first; and all values that are told openly, in order.
 -- A node is taken to be awake where it tells so, and wherever it does.
+-- The answers to questions stand where the first response to the last request was judged, and wherever it was.
 -- The number of a tick is above those before it, and lines have asked for so many ticks.
-pub record HostsKeepLaws (heard : List Entry) : Type 0 where
+-- Each payload that it asks its chip to send is a message of the last session of its node, by what the node listed, a nonce or a question for one, lets the node sleep, or was
+-- asked for by a line; where its keys are those of a network key, by what nodes told openly or sealed with that key.
+pub record HostsKeepLaws (keys : Keys) (whole : Bool) (heard : List Entry) (records : Option (List (List ℕ))) : Type 0 where
   pub orders : HostLaws heard
-  pub cancels : CancelsWhenAsked heard
-  pub carries : (node : ℕ) → CarriesOnce node heard
-  pub follows : EachAfter MayStore [] heard
+  pub said : KeepsWhatIsSaid whole heard records
+  pub notes : NotesWhatWasTold heard
+  pub at_once : NotesAtOnce whole heard
+  pub in_turn : NotesInTurn whole heard
   pub wakes : WakesAsTold heard
+  pub questions : AnswersQuestions heard
   pub ticks : EachAfter MayCount [] heard
+  pub sends : (key : List ℕ) → keys ≡ keys_of key → SendsWhatIsDue listing_heard key heard
 
--- Lines were run whole, and this transcript tells them. Over what the host heard of them, with the units that came, it keeps these laws.
-pub record HearsLines (lines : List (TextLine ReplayLine)) (old : Lone) (transcript : List Entry) : Type 0 where
+-- A run of a host alone that began without records tells this, and ends at rest; none of its lines is for others; and the keeper holds what it held and the records
+-- of that run, where it tells them.
+pub record IsHeardAlone (keys : Keys) (before after : Option (List (List ℕ))) (heard : List Entry) : Type 0 where
+  pub last : HostMachine
+  pub added : List (List ℕ)
+  pub run : Run (first_alone keys (Some [])) Resting heard last
+  pub for_host : AreForHost heard
+  pub tells : last.records ≡ Some added
+  pub adds : OptAdds before after added
+
+-- Lines were run whole, and this transcript tells them. Over what the host heard of them, with the units that came, it keeps these laws, and the records are those that
+-- were added to what the keeper had.
+pub record HearsLines (keys : Keys) (lines : List (TextLine ReplayLine)) (old new : Lone) (transcript : List Entry) : Type 0 where
   pub story : List Replayed
   pub said : AreSaid lines story
   pub are : AreReplayed old story
   pub told : told_of old story ≡ transcript
-  pub keeps : HostsKeepLaws (heard_of old story)
+  pub added : List (List ℕ)
+  pub adds : OptAdds old.records new.records added
+  pub keeps : HostsKeepLaws keys true (heard_of old story) (Some added)

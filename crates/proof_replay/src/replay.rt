@@ -1,6 +1,6 @@
 //! Lines of `replay`, as runs of a host alone.
 
-ghost use Rattle.std.specs.Prelude.{Option, Some, List, [], ℕ};
+ghost use Rattle.std.specs.Prelude.{◌≡◌, Bool, true, Option, Some, List, [], ℕ};
 ghost use Rattle.std.specs.List.{AllByRecursion};
 ghost use Rattle.zw_text.specs.declared.line.ReplayLine.{ReplayLine};
 ghost use Rattle.zw_text.specs.declared.entry.Entry.{Entry};
@@ -10,37 +10,51 @@ ghost use Rattle.host_core.specs.Network.{keys_of};
 ghost use Rattle.run_lines.specs.Lines.{AllRan, TextLine};
 ghost use Rattle.run_replay.specs.Machine.{first_replay, lone_of};
 ghost use Rattle.run_replay.specs.Replay.{LineRan, Point, point_of};
-ghost use Rattle.proof_alone.specs.State.{first_alone};
-ghost use Rattle.proof_alone.specs.Runs.{Told, ToldWhole};
-ghost use Rattle.proof_replay.specs.Heard.{AreReplayed, IsReadSo, Replayed, heard_of};
-ghost use Rattle.proof_replay.specs.Laws.{HearsLines, HostsKeepLaws};
+ghost use Rattle.proof_alone.specs.State.{HostMachine, first_alone};
+ghost use Rattle.proof_alone.specs.Phases.{Phase, Resting};
+ghost use Rattle.proof_alone.specs.Runs.{Run};
+ghost use Rattle.proof_known.specs.Known.{AreForHost};
+ghost use Rattle.proof_replay.specs.Heard.{AreReplayed, IsReadSo, Replayed, heard_of, lone_after};
+ghost use Rattle.proof_replay.specs.Laws.{HearsLines, HostsKeepLaws, IsHeardAlone};
 
-use proof_alone::{hosts_answer_what_is_asked, hosts_keep_their_tables, hosts_tell_time};
-use proof_waking::hosts_wake_as_told;
+use proof_alone::{hosts_keep_their_tables, hosts_tell_time};
+use proof_asking::hosts_send_what_is_due;
+use proof_known::waking::hosts_wake_as_told;
+use proof_known::{
+    hosts_do_as_is_said, hosts_note_at_once, hosts_note_values_in_turn, hosts_note_what_was_told,
+};
+use proof_requests::hosts_answer_questions;
 
-/// Of any lines that are run whole, over any bytes and any keeper, what the host of `replay` heard is told by a run of a host alone that ends at rest. No
-/// line reads the records, so it is one over whatever records.
+/// Of any lines that are run whole, over any bytes and any keeper, what the host of `replay` heard is told by a run of a host alone that began without
+/// records and ends at rest. No line reads the records, so those of that run are added to what the keeper had.
 pub fn replays_are_a_hosts()
-    ensures { (key : List ℕ) (records held : Option (List (List ℕ))) (lines : List Replayed) → AreReplayed (lone_of (first_replay key) records) lines →
-        ToldWhole (first_alone (keys_of key) held) (heard_of (lone_of (first_replay key) records) lines) }
+    ensures { (key : List ℕ) (records : Option (List (List ℕ))) (lines : List Replayed) → AreReplayed (lone_of (first_replay key) records) lines →
+        IsHeardAlone (keys_of key) records (lone_after (lone_of (first_replay key) records) lines).records
+        (heard_of (lone_of (first_replay key) records) lines) }
 {}
 
-/// A host alone that begins without records keeps these laws, over a keeper that tells its records.
+/// A host alone that begins without records keeps these laws, over a keeper that tells its records, where no line is refused that is for others.
 pub fn hosts_keep_laws()
-    ensures { (keys : Keys) (heard : List Entry) → Told (first_alone keys (Some [])) heard → HostsKeepLaws heard }
+    ensures { (keys : Keys) (whole : Bool) (here : Phase) (heard : List Entry) (m : HostMachine) → Run (first_alone keys (Some [])) here heard m →
+        (whole ≡ true → here ≡ Resting) → AreForHost heard → HostsKeepLaws keys whole heard m.records }
 {
     hosts_keep_their_tables();
-    hosts_answer_what_is_asked();
+    hosts_do_as_is_said();
+    hosts_note_what_was_told();
+    hosts_note_at_once();
+    hosts_note_values_in_turn();
     hosts_tell_time();
     hosts_wake_as_told();
+    hosts_send_what_is_due();
+    hosts_answer_questions();
 }
 
 /// So the host of `replay` keeps them over what it heard of any texts that were run whole, each of which is read as its line by its words too, whatever its
-/// keeper had or tells. What was entered of these texts is what it heard, without the units that came.
+/// keeper had or tells: of the records that it added. What was entered of these texts is what it heard, without the units that came.
 pub fn texts_that_ran_are_heard()
     ensures { (key : List ℕ) (shelf : Shelf) (lines : List (TextLine ReplayLine)) (new : Point) (transcript : List Entry) →
         AllRan LineRan lines (point_of (first_replay key) shelf) new transcript → AllByRecursion IsReadSo lines →
-        HearsLines lines (lone_of (first_replay key) shelf.records) transcript }
+        HearsLines (keys_of key) lines (lone_of (first_replay key) shelf.records) new.lone transcript }
 {
     replays_are_a_hosts();
     hosts_keep_laws();

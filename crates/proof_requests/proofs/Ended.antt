@@ -7,7 +7,7 @@ use Rattle.law_time.specs.Requests.{Answer, Failing, Judging, are_none, failing_
 use Rattle.law_transcript.specs.Units.{request_in}
 use Rattle.law_time.specs.Ends.{is_abort_frame, is_before_failing, is_sending, wait_by, waits_before_failing}
 use Rattle.proof_requests.specs.Standing.{Standing, counted, failing_in, first_ending, responses_in, sent_in, ticks_sent, wait_in, with_answer, with_copy, with_judging}
-use Rattle.proof_requests.specs.Asking.{EndedByFrame, EndedByLine, EndedInSilence, HasEnded, WasGivenUp, WasSent, is_owed}
+use Rattle.proof_requests.specs.Asking.{Leaving, EndedByFrame, EndedByLine, EndedInSilence, HasEnded, WasGivenUp, WasSent, is_owed}
 use Rattle.proof_requests.specs.Effects.{AnswerDoes, denied_at}
 use Rattle.proof_requests.proofs.Line.{answer_does, counted_four, counted_more, failing_four, first_stays, four_is, in_time, same_counted, ticks_one}
 use Rattle.proof_requests.proofs.Judging.{IsFirstNow, ending_kept, first_or_same, responses_judged}
@@ -24,18 +24,18 @@ given_up_later s now later count more time judged (four, inl denied) =
     (four, inl (record { answer = denied.answer; first = denied.first; denies = denied.denies; by_now = omega (arith, by_now, time); judged = omega (arith, frames, judged) }))
 given_up_later s now later count more time judged (four, inr ignored) = let by_now = ignored.by_now in (four, inr (record { none = ignored.none; by_now = omega (arith, by_now, time) }))
 
-pub ended_later : (s : Standing) (now later count more : ℕ) (owes : Bool) → now ≤ later → count ≤ more → HasEnded s now count owes → HasEnded s later more owes
-ended_later s now later count more owes time judged (inl e) =
+pub ended_later : (s : Standing) (now later count more : ℕ) (leaving : Leaving) → now ≤ later → count ≤ more → HasEnded s now count leaving → HasEnded s later more leaving
+ended_later s now later count more leaving time judged (inl e) =
     let by_now = e.by_now in
     let place = e.judged in
-    inl (record { paid = e.paid; one = e.one; first = e.first; by_now = omega (arith, by_now, time); judged = omega (arith, place, judged); waits = e.waits; stands = e.stands })
-ended_later s now later count more owes time judged (inr (inl e)) =
+    inl (record { paid = e.paid; one = e.one; brings = e.brings; first = e.first; by_now = omega (arith, by_now, time); judged = omega (arith, place, judged); waits = e.waits; stands = e.stands })
+ended_later s now later count more leaving time judged (inr (inl e)) =
     let by_now = e.by_now in
-    inr (inl (record { tick = e.tick; owed = e.owed; wait = e.wait; by_now = omega (arith, by_now, time); late = e.late; stands = e.stands }))
-ended_later s now later count more owes time judged (inr (inr (inl e))) =
-    inr (inr (inl (record { paid = e.paid; given_up = given_up_later s now later count more time judged e.given_up; no_frame = e.no_frame; no_wait = e.no_wait })))
-ended_later s now later count more owes time judged (inr (inr (inr e))) =
-    inr (inr (inr (record { paid = e.paid; abort = e.abort; sent = sent_later s now later time e.sent })))
+    inr (inl (record { tick = e.tick; owed = e.owed; nothing = e.nothing; wait = e.wait; by_now = omega (arith, by_now, time); late = e.late; stands = e.stands }))
+ended_later s now later count more leaving time judged (inr (inr (inl e))) =
+    inr (inr (inl (record { paid = e.paid; nothing = e.nothing; given_up = given_up_later s now later count more time judged e.given_up; no_frame = e.no_frame; no_wait = e.no_wait })))
+ended_later s now later count more leaving time judged (inr (inr (inr e))) =
+    inr (inr (inr (record { paid = e.paid; nothing = e.nothing; abort = e.abort; sent = sent_later s now later time e.sent })))
 
 -- ---- an answer
 
@@ -74,15 +74,16 @@ wait_denied tick answer time = ap (λ (b : Bool). b && true) (by (nat_lt tick an
     by true is = or_left (nat_lt tick answer.tick) (tick == answer.tick) is
     by false is = or_right (nat_lt tick answer.tick) (tick == answer.tick) (eq-eqb tick answer.tick (let more = ltb-false tick answer.tick is in omega (arith, more, time)))
 
-pub frame_answered : (s : Standing) (answer : Answer) (now count : ℕ) (owes : Bool) → answer.tick ≡ now → count ≤ answer.frames → EndedByFrame s now count owes
-    → EndedByFrame (with_answer s answer) now count owes
-frame_answered s answer now count owes tick_is frames e = by (answer_does s answer)
+pub frame_answered : (s : Standing) (answer : Answer) (now count : ℕ) (leaving : Leaving) → answer.tick ≡ now → count ≤ answer.frames → EndedByFrame s now count leaving
+    → EndedByFrame (with_answer s answer) now count leaving
+frame_answered s answer now count leaving tick_is frames e = by (answer_does s answer)
   where
     ended : (sent : List ℕ) (fails : List Failing) → sent_in (with_answer s answer) ≡ sent → failing_in (with_answer s answer) ≡ fails → list_all (nat_lt e.one.tick) (wait_with s sent) ≡ true
-        → list_all (is_before_failing e.one) fails ≡ true → EndedByFrame (with_answer s answer) now count owes
+        → list_all (is_before_failing e.one) fails ≡ true → EndedByFrame (with_answer s answer) now count leaving
     ended sent fails sent_is fails_is waits stands = record {
       paid = e.paid;
       one = e.one;
+      brings = e.brings;
       first = e.first;
       by_now = e.by_now;
       judged = e.judged;
@@ -93,7 +94,7 @@ frame_answered s answer now count owes tick_is frames e = by (answer_does s answ
     unsent : sent_in s ≡ [] → list_all (nat_lt e.one.tick) (wait_with s []) ≡ true
     unsent none = ap (λ (l : List ℕ). list_all (nat_lt e.one.tick) (wait_with s l)) (sym none) ∙ e.waits
 
-    by : AnswerDoes s (with_answer s answer) answer → EndedByFrame (with_answer s answer) now count owes
+    by : AnswerDoes s (with_answer s answer) answer → EndedByFrame (with_answer s answer) now count leaving
     by (inl same) = ended (sent_in s) (failing_in s) same.sent same.failing e.waits e.stands
     by (inr (inl acks)) =
         ended (now ∷ []) [] (acks.sent ∙ ap (λ (n : ℕ). n ∷ []) tick_is) acks.failing
@@ -102,14 +103,15 @@ frame_answered s answer now count owes tick_is frames e = by (answer_does s answ
         ended [] (denied_at answer ∷ []) denies.still_unsent denies.failing (unsent denies.unsent)
         (frame_denied e.one answer (let place = e.judged in omega (arith, place, frames)))
 
-pub silence_answered : (s : Standing) (answer : Answer) (now : ℕ) (owes : Bool) → answer.tick ≡ now → EndedInSilence s now owes → EndedInSilence (with_answer s answer) now owes
-silence_answered s answer now owes tick_is e = by (answer_does s answer)
+pub silence_answered : (s : Standing) (answer : Answer) (now : ℕ) (leaving : Leaving) → answer.tick ≡ now → EndedInSilence s now leaving → EndedInSilence (with_answer s answer) now leaving
+silence_answered s answer now leaving tick_is e = by (answer_does s answer)
   where
     ended : (sent : List ℕ) (fails : List Failing) → sent_in (with_answer s answer) ≡ sent → failing_in (with_answer s answer) ≡ fails → wait_with s sent ≡ e.tick ∷ []
-        → list_all (waits_before_failing e.tick) fails ≡ true → EndedInSilence (with_answer s answer) now owes
+        → list_all (waits_before_failing e.tick) fails ≡ true → EndedInSilence (with_answer s answer) now leaving
     ended sent fails sent_is fails_is wait stands = record {
       tick = e.tick;
       owed = e.owed;
+      nothing = e.nothing;
       wait = ap (λ (l : List ℕ). wait_with s l) sent_is ∙ wait;
       by_now = e.by_now;
       late = e.late;
@@ -119,7 +121,7 @@ silence_answered s answer now owes tick_is e = by (answer_does s answer)
     unsent : sent_in s ≡ [] → wait_with s [] ≡ e.tick ∷ []
     unsent none = ap (λ (l : List ℕ). wait_with s l) (sym none) ∙ e.wait
 
-    by : AnswerDoes s (with_answer s answer) answer → EndedInSilence (with_answer s answer) now owes
+    by : AnswerDoes s (with_answer s answer) answer → EndedInSilence (with_answer s answer) now leaving
     by (inl same) = ended (sent_in s) (failing_in s) same.sent same.failing e.wait e.stands
     by (inr (inl acks)) =
         ended (now ∷ []) [] (acks.sent ∙ ap (λ (n : ℕ). n ∷ []) tick_is) acks.failing
@@ -158,10 +160,11 @@ given_up_answered s answer now count tick_is (four, inl denied) = (
 given_up_answered s answer now count tick_is (four, inr ignored) =
     (four, inr (record { none = given_up_counted s answer now count tick_is (four, inr ignored) ∙ ignored.none; by_now = ignored.by_now }))
 
-line_answered : (s : Standing) (answer : Answer) (now count : ℕ) (owes : Bool) → answer.tick ≡ now → EndedByLine s now count owes → EndedByLine (with_answer s answer) now count owes
-line_answered s answer now count owes tick_is e =
+line_answered : (s : Standing) (answer : Answer) (now count : ℕ) (leaving : Leaving) → answer.tick ≡ now → EndedByLine s now count leaving → EndedByLine (with_answer s answer) now count leaving
+line_answered s answer now count leaving tick_is e =
     let same = same_counted s answer (given_up_counted s answer now count tick_is e.given_up) in record {
       paid = e.paid;
+      nothing = e.nothing;
       given_up = given_up_answered s answer now count tick_is e.given_up;
       no_frame = ap (λ (l : List Failing). list_any (λ one. list_all (is_before_failing one) l) (first_ending s)) same.failing ∙ e.no_frame;
       no_wait = ap (λ (l : List ℕ). list_any (λ wait. list_all (waits_before_failing wait) (failing_in (with_answer s answer))) (wait_with s l)) same.sent
@@ -179,12 +182,12 @@ sent_answered s answer now was = by (answer_does s answer)
     by (inr (inl acks)) = absurd (bad acks.unsent)
     by (inr (inr denies)) = absurd (bad denies.unsent)
 
-pub ended_answered : (s : Standing) (answer : Answer) (now count : ℕ) (owes : Bool) → answer.tick ≡ now → count ≤ answer.frames → HasEnded s now count owes
-    → HasEnded (with_answer s answer) now count owes
-ended_answered s answer now count owes tick_is frames (inl e) = inl (frame_answered s answer now count owes tick_is frames e)
-ended_answered s answer now count owes tick_is frames (inr (inl e)) = inr (inl (silence_answered s answer now owes tick_is e))
-ended_answered s answer now count owes tick_is frames (inr (inr (inl e))) = inr (inr (inl (line_answered s answer now count owes tick_is e)))
-ended_answered s answer now count owes tick_is frames (inr (inr (inr e))) = inr (inr (inr (record { paid = e.paid; abort = e.abort; sent = sent_answered s answer now e.sent })))
+pub ended_answered : (s : Standing) (answer : Answer) (now count : ℕ) (leaving : Leaving) → answer.tick ≡ now → count ≤ answer.frames → HasEnded s now count leaving
+    → HasEnded (with_answer s answer) now count leaving
+ended_answered s answer now count leaving tick_is frames (inl e) = inl (frame_answered s answer now count leaving tick_is frames e)
+ended_answered s answer now count leaving tick_is frames (inr (inl e)) = inr (inl (silence_answered s answer now leaving tick_is e))
+ended_answered s answer now count leaving tick_is frames (inr (inr (inl e))) = inr (inr (inl (line_answered s answer now count leaving tick_is e)))
+ended_answered s answer now count leaving tick_is frames (inr (inr (inr e))) = inr (inr (inr (record { paid = e.paid; nothing = e.nothing; abort = e.abort; sent = sent_answered s answer now e.sent })))
 
 -- ---- a frame is judged
 
@@ -266,9 +269,9 @@ given_up_judged s one now count (four, inl denied) =
     (four, inl (record { answer = denied.answer; first = denied.first; denies = denied.denies; by_now = denied.by_now; judged = omega (arith, frames) }))
 given_up_judged s one now count (four, inr ignored) = (four, inr (record { none = ignored.none; by_now = ignored.by_now }))
 
-line_judged : (s : Standing) (one : Judging) (now count : ℕ) (owes : Bool) → one.tick ≡ now → one.place ≡ count + 1 → EndedByLine s now count owes
-    → EndedByLine (with_judging s one) now (count + 1) owes
-line_judged s one now count owes tick_is place e = record { paid = e.paid; given_up = given_up_judged s one now count e.given_up; no_frame = no_frame (first_or_same s one); no_wait = no_wait }
+pub line_judged : (s : Standing) (one : Judging) (now count : ℕ) (leaving : Leaving) → one.tick ≡ now → one.place ≡ count + 1 → EndedByLine s now count leaving
+    → EndedByLine (with_judging s one) now (count + 1) leaving
+line_judged s one now count leaving tick_is place e = record { paid = e.paid; nothing = e.nothing; given_up = given_up_judged s one now count e.given_up; no_frame = no_frame (first_or_same s one); no_wait = no_wait }
   where
     gave : GaveUp s now count
     gave = gave_up s now count e.given_up
@@ -298,12 +301,13 @@ line_judged s one now count owes tick_is place e = record { paid = e.paid; given
 pub wait_judged : (s : Standing) (one : Judging) → wait_in (with_judging s one) ≡ waiting (is_abort_frame s.frame) (sent_in s) (responses_in s ++ (if is_response_to s.frame one.unit then one ∷ [] else []))
 wait_judged s one = ap (λ (l : List Judging). waiting (is_abort_frame s.frame) (sent_in s) l) (responses_judged s one)
 
-frame_judged : (s : Standing) (one : Judging) (now count : ℕ) (owes : Bool) → one.tick ≡ now → EndedByFrame s now count owes → EndedByFrame (with_judging s one) now (count + 1) owes
-frame_judged s one now count owes tick_is e =
+frame_judged : (s : Standing) (one : Judging) (now count : ℕ) (leaving : Leaving) → one.tick ≡ now → EndedByFrame s now count leaving → EndedByFrame (with_judging s one) now (count + 1) leaving
+frame_judged s one now count leaving tick_is e =
     let by_now = e.by_now in
     let place = e.judged in record {
       paid = e.paid;
       one = e.one;
+      brings = e.brings;
       first = ending_kept s one e.one e.first;
       by_now = e.by_now;
       judged = omega (arith, place);
@@ -327,11 +331,12 @@ owed_judged s one tick time =
     by false [] = refl
     by responds (first ∷ more) = ap (λ (b : Bool). (first.tick + 65 == tick) || b) (by responds more)
 
-silence_judged : (s : Standing) (one : Judging) (now : ℕ) (owes : Bool) → one.tick ≡ now → EndedInSilence s now owes → EndedInSilence (with_judging s one) now owes
-silence_judged s one now owes tick_is e =
+pub silence_judged : (s : Standing) (one : Judging) (now : ℕ) (leaving : Leaving) → one.tick ≡ now → EndedInSilence s now leaving → EndedInSilence (with_judging s one) now leaving
+silence_judged s one now leaving tick_is e =
     record {
       tick = e.tick;
       owed = e.owed ∙ sym (owed_judged s one e.tick time);
+      nothing = e.nothing;
       wait = wait_judged s one ∙ silence_kept e.tick one (is_abort_frame s.frame) (sent_in s) (responses_in s) (is_response_to s.frame one.unit) time e.wait;
       by_now = e.by_now;
       late = late (first_or_same s one);
@@ -345,13 +350,13 @@ silence_judged s one now owes tick_is e =
     late (inl same) = ap (λ (l : List Judging). list_all (λ each. nat_le e.tick each.tick) l) same ∙ e.late
     late (inr first) = ap (λ (l : List Judging). list_all (λ each. nat_le e.tick each.tick) l) first.now ∙ ap (λ (b : Bool). b && true) (le-leb e.tick one.tick time)
 
-pub ended_judged : (s : Standing) (one : Judging) (now count : ℕ) (owes : Bool) → one.tick ≡ now → one.place ≡ count + 1 → HasEnded s now count owes
-    → HasEnded (with_judging s one) now (count + 1) owes
-ended_judged s one now count owes tick_is place (inl e) = inl (frame_judged s one now count owes tick_is e)
-ended_judged s one now count owes tick_is place (inr (inl e)) = inr (inl (silence_judged s one now owes tick_is e))
-ended_judged s one now count owes tick_is place (inr (inr (inl e))) = inr (inr (inl (line_judged s one now count owes tick_is place e)))
-ended_judged s one now count owes tick_is place (inr (inr (inr e))) =
-    inr (inr (inr (record { paid = e.paid; abort = e.abort; sent = record { tick = e.sent.tick; sent = e.sent.sent; by_now = e.sent.by_now } })))
+pub ended_judged : (s : Standing) (one : Judging) (now count : ℕ) (leaving : Leaving) → one.tick ≡ now → one.place ≡ count + 1 → HasEnded s now count leaving
+    → HasEnded (with_judging s one) now (count + 1) leaving
+ended_judged s one now count leaving tick_is place (inl e) = inl (frame_judged s one now count leaving tick_is e)
+ended_judged s one now count leaving tick_is place (inr (inl e)) = inr (inl (silence_judged s one now leaving tick_is e))
+ended_judged s one now count leaving tick_is place (inr (inr (inl e))) = inr (inr (inl (line_judged s one now count leaving tick_is place e)))
+ended_judged s one now count leaving tick_is place (inr (inr (inr e))) =
+    inr (inr (inr (record { paid = e.paid; nothing = e.nothing; abort = e.abort; sent = record { tick = e.sent.tick; sent = e.sent.sent; by_now = e.sent.by_now } })))
 
 -- ---- a copy
 
@@ -387,18 +392,19 @@ copy_stands s now test is = by (copy_fails s now)
     by (inl none) = ap (λ (l : List Failing). list_all test l) none
     by (inr one) = ap (λ (l : List Failing). list_all test l) one ∙ ap (λ (b : Bool). b && true) is
 
-pub ended_copied : (s : Standing) (now count : ℕ) (owes : Bool) → s.copies ≤ 3 → sent_in s ≡ [] → HasEnded s now count owes → HasEnded (with_copy s now) now count owes
-ended_copied s now count owes few unsent ended = by ended
+pub ended_copied : (s : Standing) (now count : ℕ) (leaving : Leaving) → s.copies ≤ 3 → sent_in s ≡ [] → HasEnded s now count leaving → HasEnded (with_copy s now) now count leaving
+ended_copied s now count leaving few unsent ended = by ended
   where
     wait : wait_in (with_copy s now) ≡ wait_in s
     wait = ap (λ (l : List ℕ). wait_with s l) (sent_copied s now) ∙ ap (λ (l : List ℕ). wait_with s l) (sym unsent)
 
-    by : HasEnded s now count owes → HasEnded (with_copy s now) now count owes
+    by : HasEnded s now count leaving → HasEnded (with_copy s now) now count leaving
     by (inl e) =
         let by_now = e.by_now in
         inl (record {
           paid = e.paid;
           one = e.one;
+          brings = e.brings;
           first = e.first;
           by_now = e.by_now;
           judged = e.judged;
@@ -410,6 +416,7 @@ ended_copied s now count owes few unsent ended = by ended
         inr (inl (record {
           tick = e.tick;
           owed = e.owed;
+          nothing = e.nothing;
           wait = wait ∙ e.wait;
           by_now = e.by_now;
           late = e.late;

@@ -1,22 +1,27 @@
 -- Whether the last request has ended, and whether an abort is owed, by the transcript, is what the host holds.
 use Rattle.std.proofs.Common.{◌≡◌, ◌⊎◌, ◌<◌, ℕ, ◌+◌, ◌==◌, ◌&&◌, ◌||◌, not, Bool, true, false, if◌then◌else◌, inl, inr, List, [], ◌∷◌, filter, take, refl, sym, ap, ◌∙◌, subst, arith}
-use Rattle.std.specs.Prelude.{Option, Some, None, is_none, nat_le, nat_lt}
+use Rattle.std.specs.Prelude.{Option, Some, None, Result, Ok, Err, is_none, nat_le, nat_lt}
 use Rattle.std.specs.List.{AllByRecursion, flat_map, list_all, list_any}
 use Rattle.std.proofs.lemmas.Bool.{and_from, and_left, and_parts, and_right, le-leb, le-ltb, leb-true, lt-leb, ltb-true, or_parts}
 use Rattle.serial_frame.specs.declared.unit.Unit.{Unit as LineUnit}
 use Rattle.serial_link.specs.State.{IsBusy}
 use Rattle.serial_link.specs.declared.turn.Turn.{Turn}
 use Rattle.serial_link.specs.declared.turn.Turn.TheVariants.{Idle, Copied, Paused}
-use Rattle.law_transcript.specs.Units.{request_in}
+use Rattle.chip_functions.specs.declared.fault.BodyFault.{BodyFault}
+use Rattle.chip_functions.specs.declared.request.Request.{Request}
+use Rattle.chip_functions.specs.declared.request.Request.TheVariants.{GetNodeProtocolInfo}
+use Rattle.chip_functions.specs.Request.{request_of as read_request}
+use Rattle.law_transcript.specs.Units.{body_in, function_in, is_frame, read_well, request_in}
 use Rattle.zw_text.specs.declared.entry.Entry.{Entry}
 use Rattle.law_time.specs.Judged.{acknowledged, is_data}
 use Rattle.law_time.specs.Requests.{Answer, Failing, Judging, are_none, asked, failing_by}
-use Rattle.law_time.specs.Ends.{has_ended, is_abort_frame, is_before_failing, is_sending, owes_abort, waits_before_failing}
+use Rattle.law_time.specs.Ends.{has_ended, is_abort, is_abort_frame, is_before_failing, is_sending, owes_abort, waits_before_failing}
 use Rattle.host_requests.specs.declared.under_way.Progress.{Progress}
 use Rattle.host_requests.specs.declared.under_way.Progress.TheVariants.{Submitted, Sent, Answered}
 use Rattle.host_requests.specs.declared.under_way.UnderWay.{UnderWay}
-use Rattle.proof_requests.specs.Standing.{Standing, counted, ending_in, failing_in, first_ending, giving_up_in, has_ended_in, owes_abort_in, responses_in, sent_in, silence_in, standing_of, ticks_sent, wait_in}
-use Rattle.proof_requests.specs.Asking.{AreFrames, AsProgress, Doing, EndedAsAbort, EndedByFrame, EndedByLine, EndedInSilence, HasEnded, IsUnderWay, TellsOfHost, TieAsked, TieLine, TieUnderWay, WasAsked}
+use Rattle.proof_alone.specs.Steps.{AreFrames}
+use Rattle.proof_requests.specs.Standing.{Standing, brought_of, counted, ending_in, failing_in, first_ending, giving_up_in, has_ended_in, owes_abort_in, responses_in, sent_in, silence_in, standing_of, ticks_sent, wait_in}
+use Rattle.proof_requests.specs.Asking.{Leaving, AsProgress, Doing, EndedAsAbort, EndedByFrame, EndedByLine, EndedInSilence, HasEnded, IsUnderWay, TellsOfHost, TieAsked, TieLine, TieUnderWay, WasAsked}
 use Rattle.proof_requests.proofs.Line.{counted_copied, counted_few, failing_few, failing_four, failing_sent, few_is, less_than_due, none_to_come}
 use Rattle.proof_requests.proofs.Judging.{ending_kinds, or_false}
 use Rattle.proof_requests.proofs.Ended.{gave_up, waiting}
@@ -75,31 +80,30 @@ no_silence s none now =
     ∙ and_right (list_any is_sending (request_in s.frame)) false refl
 
 -- it has ended, and what is owed is owed
-pub record IsOver (s : Standing) (now : ℕ) (owes : Bool) : Type 0 where
+pub record IsOver (s : Standing) (now : ℕ) (leaving : Leaving) : Type 0 where
   pub ended : has_ended_in s now ≡ true
-  pub owed : owes_abort_in s now ≡ owes
+  pub owed : owes_abort_in s now ≡ leaving.owes
+  pub brought : leaving.first ≡ brought_of (request_in s.frame) (ending_in s)
 
 -- what ends it is that frame, that wait, or the line
-pub frame_ending : (s : Standing) (now count : ℕ) (owes : Bool) (e : EndedByFrame s now count owes) → ending_in s ≡ e.one ∷ []
-frame_ending s now count owes e =
+pub frame_ending : (s : Standing) (now count : ℕ) (leaving : Leaving) (e : EndedByFrame s now count leaving) → ending_in s ≡ e.one ∷ []
+frame_ending s now count leaving e =
     ap (λ (l : List Judging). filter (counts s) l) e.first
     ∙ ap (λ (b : Bool). if b then e.one ∷ [] else []) (and_from (list_all (nat_lt e.one.tick) (wait_in s)) (list_all (is_before_failing e.one) (failing_in s)) e.waits e.stands)
 
-by_frame : (s : Standing) (now count : ℕ) (owes : Bool) → EndedByFrame s now count owes → IsOver s now owes
-by_frame s now count owes e =
-    let ending = frame_ending s now count owes e in
+by_frame : (s : Standing) (now count : ℕ) (leaving : Leaving) → EndedByFrame s now count leaving → IsOver s now leaving
+by_frame s now count leaving e =
+    let ending = frame_ending s now count leaving e in
     let silence : silence_in s ≡ [] =
     ap (λ (l : List Judging). if are_none l then filter (λ wait. list_all (waits_before_failing wait) (failing_in s)) (wait_in s) else []) ending in record {
       ended = ap (λ (l : List Judging). not (are_none l) || list_any (λ tick. nat_le tick now) (silence_in s) || list_any (λ tick. nat_le tick now) (giving_up_in s)
           || (is_abort_frame s.frame && not (are_none (sent_in s)))) ending;
       owed = no_silence s silence now ∙ sym e.paid;
+      brought = e.brings ∙ sym (ap (λ (l : List Judging). brought_of (request_in s.frame) l) ending);
     }
 
-pub silence_is : (s : Standing) (now : ℕ) (owes : Bool) (e : EndedInSilence s now owes) → silence_in s ≡ e.tick ∷ []
-silence_is s now owes e =
-    ap (λ (l : List Judging). if are_none l then filter (λ wait. list_all (waits_before_failing wait) (failing_in s)) (wait_in s) else []) (none_ends s late)
-    ∙ ap (λ (l : List ℕ). filter (λ wait. list_all (waits_before_failing wait) (failing_in s)) l) e.wait
-    ∙ ap (λ (b : Bool). if b then e.tick ∷ [] else []) e.stands
+pub silence_ends_none : (s : Standing) (now : ℕ) (leaving : Leaving) (e : EndedInSilence s now leaving) → ending_in s ≡ []
+silence_ends_none s now leaving e = none_ends s late
   where
     late : (one : Judging) → first_ending s ≡ one ∷ [] → counts s one ≡ false
     late one is =
@@ -108,9 +112,15 @@ silence_is s now owes e =
         and_left (list_all (nat_lt one.tick) (wait_in s)) (list_all (is_before_failing one) (failing_in s))
         (ap (λ (l : List ℕ). list_all (nat_lt one.tick) l) e.wait ∙ ap (λ (b : Bool). b && true) (le-ltb one.tick e.tick time))
 
-in_silence : (s : Standing) (now : ℕ) (owes : Bool) → EndedInSilence s now owes → IsOver s now owes
-in_silence s now owes e =
-    let silence = silence_is s now owes e in record {
+pub silence_is : (s : Standing) (now : ℕ) (leaving : Leaving) (e : EndedInSilence s now leaving) → silence_in s ≡ e.tick ∷ []
+silence_is s now leaving e =
+    ap (λ (l : List Judging). if are_none l then filter (λ wait. list_all (waits_before_failing wait) (failing_in s)) (wait_in s) else []) (silence_ends_none s now leaving e)
+    ∙ ap (λ (l : List ℕ). filter (λ wait. list_all (waits_before_failing wait) (failing_in s)) l) e.wait
+    ∙ ap (λ (b : Bool). if b then e.tick ∷ [] else []) e.stands
+
+in_silence : (s : Standing) (now : ℕ) (leaving : Leaving) → EndedInSilence s now leaving → IsOver s now leaving
+in_silence s now leaving e =
+    let silence = silence_is s now leaving e in record {
       ended = second_of (not (are_none (ending_in s))) (list_any (λ tick. nat_le tick now) (silence_in s)) (list_any (λ tick. nat_le tick now) (giving_up_in s))
           (is_abort_frame s.frame && not (are_none (sent_in s)))
           (ap (λ (l : List ℕ). list_any (λ tick. nat_le tick now) l) silence ∙ ap (λ (b : Bool). b || false) (le-leb e.tick now e.by_now));
@@ -118,6 +128,7 @@ in_silence s now owes e =
           ∙ ap (λ (b : Bool). list_any is_sending (request_in s.frame) && ((b && list_any (λ one. one.tick + 65 == e.tick) (responses_in s)) || false)) (le-leb e.tick now e.by_now)
           ∙ ap (λ (b : Bool). list_any is_sending (request_in s.frame) && b) (or_false (list_any (λ one. one.tick + 65 == e.tick) (responses_in s)))
           ∙ sym e.owed;
+      brought = e.nothing ∙ sym (ap (λ (l : List Judging). brought_of (request_in s.frame) l) (silence_ends_none s now leaving e));
     }
 
 -- of waits that do not count none is left
@@ -127,15 +138,8 @@ none_left test (wait ∷ waits) none =
     let parts = or_parts (test wait) (list_any test waits) none in
     ap (λ (b : Bool). if b then wait ∷ filter test waits else filter test waits) parts.0 ∙ none_left test waits parts.1
 
-by_line : (s : Standing) (now count : ℕ) (owes : Bool) → EndedByLine s now count owes → IsOver s now owes
-by_line s now count owes e =
-    let gave = gave_up s now count e.given_up in
-    record {
-      ended = third_of (not (are_none (ending_in s))) (list_any (λ tick. nat_le tick now) (silence_in s)) (list_any (λ tick. nat_le tick now) (giving_up_in s))
-          (is_abort_frame s.frame && not (are_none (sent_in s)))
-          (ap (λ (l : List ℕ). list_any (λ tick. nat_le tick now) l) (giving gave.fails gave.failing) ∙ ap (λ (b : Bool). b || false) (le-leb gave.fails.tick now gave.by_now));
-      owed = no_silence s silence now ∙ sym e.paid;
-    }
+pub line_ends_none : (s : Standing) (now count : ℕ) (leaving : Leaving) → EndedByLine s now count leaving → ending_in s ≡ []
+line_ends_none s now count leaving e = none_ends s early
   where
     early : (one : Judging) → first_ending s ≡ one ∷ [] → counts s one ≡ false
     early one is =
@@ -143,14 +147,25 @@ by_line s now count owes e =
         = ap (λ (l : List Judging). list_any (λ each. list_all (is_before_failing each) (failing_in s)) l) (sym is) ∙ e.no_frame in
         and_right (list_all (nat_lt one.tick) (wait_in s)) (list_all (is_before_failing one) (failing_in s)) (or_parts (list_all (is_before_failing one) (failing_in s)) false before).0
 
+by_line : (s : Standing) (now count : ℕ) (leaving : Leaving) → EndedByLine s now count leaving → IsOver s now leaving
+by_line s now count leaving e =
+    let gave = gave_up s now count e.given_up in
+    record {
+      ended = third_of (not (are_none (ending_in s))) (list_any (λ tick. nat_le tick now) (silence_in s)) (list_any (λ tick. nat_le tick now) (giving_up_in s))
+          (is_abort_frame s.frame && not (are_none (sent_in s)))
+          (ap (λ (l : List ℕ). list_any (λ tick. nat_le tick now) l) (giving gave.fails gave.failing) ∙ ap (λ (b : Bool). b || false) (le-leb gave.fails.tick now gave.by_now));
+      owed = no_silence s silence now ∙ sym e.paid;
+      brought = e.nothing ∙ sym (ap (λ (l : List Judging). brought_of (request_in s.frame) l) (line_ends_none s now count leaving e));
+    }
+  where
     silence : silence_in s ≡ []
     silence =
-        ap (λ (l : List Judging). if are_none l then filter (λ wait. list_all (waits_before_failing wait) (failing_in s)) (wait_in s) else []) (none_ends s early)
+        ap (λ (l : List Judging). if are_none l then filter (λ wait. list_all (waits_before_failing wait) (failing_in s)) (wait_in s) else []) (line_ends_none s now count leaving e)
         ∙ none_left (λ wait. list_all (waits_before_failing wait) (failing_in s)) (wait_in s) e.no_wait
 
     giving : (fails : Failing) → failing_in s ≡ fails ∷ [] → giving_up_in s ≡ fails.tick ∷ []
     giving fails is =
-        ap (λ (l : List Judging). if are_none l && are_none (silence_in s) then flat_map (λ one. one.tick ∷ []) (failing_in s) else []) (none_ends s early)
+        ap (λ (l : List Judging). if are_none l && are_none (silence_in s) then flat_map (λ one. one.tick ∷ []) (failing_in s) else []) (line_ends_none s now count leaving e)
         ∙ ap (λ (l : List ℕ). if are_none l then flat_map (λ one. one.tick ∷ []) (failing_in s) else []) silence
         ∙ ap (λ (l : List Failing). flat_map (λ one. one.tick ∷ []) l) is
 
@@ -161,12 +176,25 @@ none_either : (b : Bool) → none_if b ≡ []
 none_either true = refl
 none_either false = refl
 
-by_abort : (s : Standing) (now : ℕ) (owes : Bool) → EndedAsAbort s now owes → IsOver s now owes
-by_abort s now owes e = record {
+-- an abort brings nothing
+abort_brings : (q : Request) (ending : List Judging) → (is_abort q || false) ≡ true → brought_of (q ∷ []) ending ≡ None
+abort_brings q [] is = refl
+abort_brings (GetNodeProtocolInfo n) (one ∷ more) is = absurd (let bad : false ≡ true = is in cc)
+abort_brings q (one ∷ more) is = refl
+
+aborts_bring : (b : Bool) (read : Result Request BodyFault) (ending : List Judging) → list_any is_abort (if b then read_well read else []) ≡ true
+    → None ≡ brought_of (if b then read_well read else []) ending
+aborts_bring true (Ok q) ending is = sym (abort_brings q ending is)
+aborts_bring true (Err fault) ending is = absurd (let bad : false ≡ true = is in cc)
+aborts_bring false read ending is = absurd (let bad : false ≡ true = is in cc)
+
+by_abort : (s : Standing) (now : ℕ) (leaving : Leaving) → EndedAsAbort s now leaving → IsOver s now leaving
+by_abort s now leaving e = record {
   ended = last_of_four (not (are_none (ending_in s))) (list_any (λ tick. nat_le tick now) (silence_in s)) (list_any (λ tick. nat_le tick now) (giving_up_in s))
       (is_abort_frame s.frame && not (are_none (sent_in s)))
       (and_from (is_abort_frame s.frame) (not (are_none (sent_in s))) e.abort (ap (λ (l : List ℕ). not (are_none l)) e.sent.sent));
   owed = no_silence s silence now ∙ sym e.paid;
+  brought = e.nothing ∙ aborts_bring (is_frame s.frame 0) (read_request (function_in s.frame) (body_in s.frame)) (ending_in s) e.abort;
 }
   where
     unwaited : wait_in s ≡ []
@@ -175,11 +203,11 @@ by_abort s now owes e = record {
     silence : silence_in s ≡ []
     silence = ap (λ (l : List ℕ). if are_none (ending_in s) then filter (λ wait. list_all (waits_before_failing wait) (failing_in s)) l else []) unwaited ∙ none_either (are_none (ending_in s))
 
-pub over_so : (s : Standing) (now count : ℕ) (owes : Bool) → HasEnded s now count owes → IsOver s now owes
-over_so s now count owes (inl e) = by_frame s now count owes e
-over_so s now count owes (inr (inl e)) = in_silence s now owes e
-over_so s now count owes (inr (inr (inl e))) = by_line s now count owes e
-over_so s now count owes (inr (inr (inr e))) = by_abort s now owes e
+pub over_so : (s : Standing) (now count : ℕ) (leaving : Leaving) → HasEnded s now count leaving → IsOver s now leaving
+over_so s now count leaving (inl e) = by_frame s now count leaving e
+over_so s now count leaving (inr (inl e)) = in_silence s now leaving e
+over_so s now count leaving (inr (inr (inl e))) = by_line s now count leaving e
+over_so s now count leaving (inr (inr (inr e))) = by_abort s now leaving e
 
 -- ---- while it is under way, and no answer is to come
 
@@ -274,10 +302,10 @@ told_of_host past now came d (inl none) = record {
     nothing_asked was = let bad : false ≡ true = ap is_data (sym none.unasked) ∙ was.framed in cc
 told_of_host past now came d (inr (was, asks)) = record { ended = λ other frames. ended_so d.under_way asks.under_way frames; owed = λ other idle. owed_so d.under_way idle asks.under_way }
   where
-    ended_so : (o : Option UnderWay) → TieUnderWay (standing_of (asked past)) now now (acknowledged past) d.turn d.id d.owes o → AreFrames came → has_ended (asked past) now ≡ is_none o
-    ended_so None ended frames = (over_so (standing_of (asked past)) now (acknowledged past) d.owes ended).ended
+    ended_so : (o : Option UnderWay) → TieUnderWay (standing_of (asked past)) now now (acknowledged past) d.turn d.id d.leaving o → AreFrames came → has_ended (asked past) now ≡ is_none o
+    ended_so None ended frames = (over_so (standing_of (asked past)) now (acknowledged past) d.leaving ended).ended
     ended_so (Some u) (is, paid) frames = not_over (standing_of (asked past)) now (acknowledged past) came d.turn d.id u frames asks.line is
 
-    owed_so : (o : Option UnderWay) → o ≡ None → TieUnderWay (standing_of (asked past)) now now (acknowledged past) d.turn d.id d.owes o → owes_abort (asked past) now ≡ d.owes
-    owed_so None idle ended = (over_so (standing_of (asked past)) now (acknowledged past) d.owes ended).owed
+    owed_so : (o : Option UnderWay) → o ≡ None → TieUnderWay (standing_of (asked past)) now now (acknowledged past) d.turn d.id d.leaving o → owes_abort (asked past) now ≡ d.leaving.owes
+    owed_so None idle ended = (over_so (standing_of (asked past)) now (acknowledged past) d.leaving ended).owed
     owed_so (Some u) idle is = absurd (let bad : Some u ≡ None = idle in cc)

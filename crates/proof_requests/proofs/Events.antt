@@ -36,6 +36,7 @@ use Rattle.host_model.specs.Events.{HostEvent, Requests_do}
 use Rattle.host_model.specs.Taking.{FrameEvents, InterviewEvents, NoticeEvents, ResponseEvents}
 use Rattle.proof_waking.proofs.Followed.{FollowersAre, payload_all}
 use Rattle.proof_requests.specs.Asking.{Doing, doing_after, doing_from, doing_next, doing_of}
+use Rattle.proof_requests.specs.Walking.{IsOfChip}
 use Rattle.proof_requests.specs.Saying.{frame_next, kind_next, notice_next, response_next}
 use Rattle.proof_requests.proofs.Doing.{IsBeside, beside_same, end_if_same}
 
@@ -105,11 +106,26 @@ response_does h (Ok response) events is =
     one_does h (Requests_do (request_responds response) _) events _ is (request_moves h (request_responds response) _ (at_response response) (next_does h (at_response response) h.requests.under_way refl))
 response_does h (Err fault) events is = none_does h events is
 
-updates_does : (h : HostState) (update : Update) → doing_of (requests_do h (request_updates update)) ≡ doing_after (doing_of h) (at_update h.requests.first update)
+pub updates_does : (h : HostState) (update : Update) → doing_of (requests_do h (request_updates update)) ≡ doing_after (doing_of h) (at_update h.requests.first update)
 updates_does h update = next_does h (at_update h.requests.first update) h.requests.under_way refl
 
 told_update : (h : HostState) (update : Update) (moment : Moment) → doing_of (after h (Requests_do (request_updates update) moment)) ≡ doing_after (doing_of h) (at_update h.requests.first update)
 told_update h update moment = request_moves h (request_updates update) moment (at_update h.requests.first update) (updates_does h update)
+
+-- what it hears of the line, of the chip and of a tick
+pub chip_does : (h : HostState) (event : RequestsEvent) (moment : Moment) → IsOfChip event
+    → (next : UnderWay → Next) × (doing_of (after h (Requests_do event moment)) ≡ doing_after (doing_of h) next)
+chip_does h request_is_sent moment of_it = (at_sent, sent_does h moment)
+chip_does h request_fails moment of_it = ((λ u. Ends LinkFailed), fails_does h moment)
+chip_does h (request_responds response) moment of_it =
+    (at_response response, request_moves h (request_responds response) moment (at_response response) (next_does h (at_response response) h.requests.under_way refl))
+chip_does h (request_calls_back id status) moment of_it = (
+  at_callback h.requests.last_id id status,
+  request_moves h (request_calls_back id status) moment (at_callback h.requests.last_id id status) (next_does h (at_callback h.requests.last_id id status) h.requests.under_way refl),
+)
+chip_does h (request_updates update) moment of_it = (at_update h.requests.first update, told_update h update moment)
+chip_does h request_ticks moment of_it = (at_tick, ticks_does h moment)
+chip_does h event moment of_it = absurd of_it
 
 -- that none came interviews no node
 failed_none : (first : Option ℕ) (o : Option UnderWay) (capability : ℕ) → interviewed_from first RequestFailed o ≡ Some capability → ⊥

@@ -6,10 +6,20 @@ mod Ended
 mod OnLine
 mod UnderWay
 mod Saying
-mod Doing
+pub mod Doing
 mod Moving
 mod Events
 mod Telling
+mod Spelled
+mod Came
+mod Queued
+mod Queueing
 mod Walking
 mod Stepping
 mod Ending
+mod Grounds
+mod Brought
+mod Listening
+mod Questions
+mod Answered
+mod Answering

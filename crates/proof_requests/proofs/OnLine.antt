@@ -11,8 +11,9 @@ use Rattle.serial_link.specs.declared.turn.Turn.{Turn}
 use Rattle.serial_link.specs.declared.turn.Turn.TheVariants.{Idle, Copied, Paused}
 use Rattle.law_time.specs.Judged.{is_acknowledgement}
 use Rattle.law_time.specs.Requests.{Answer, Judging}
-use Rattle.proof_requests.specs.Standing.{Standing, first_standing, sent_in, ticks_sent, with_answer, with_copy, with_judging}
-use Rattle.proof_requests.specs.Asking.{AreFrames, IsCopied, IsPaused, TieLine, WasGivenUp, WasIgnored, WasSent, frames_among, to_come}
+use Rattle.proof_alone.specs.Steps.{AreFrames}
+use Rattle.proof_requests.specs.Standing.{Prior, Standing, first_standing, sent_in, ticks_sent, with_answer, with_copy, with_judging}
+use Rattle.proof_requests.specs.Asking.{IsCopied, IsPaused, TieLine, WasGivenUp, WasIgnored, WasSent, frames_among, to_come}
 use Rattle.proof_requests.proofs.Line.{counted_copied, counted_few, few_is, four_is, none_to_come, ticks_more, ticks_none}
 use Rattle.proof_requests.proofs.Ended.{given_up_answered, given_up_judged, given_up_later, sent_answered, sent_later}
 
@@ -271,8 +272,8 @@ line_ticks s before now count came (Paused f copies ticks) next frames tie = by 
 
 -- ---- a frame is submitted
 
-pub line_submitted : (f : FrameParts) (now count : ℕ) (came : List LineUnit) → AreFrames came → TieLine (first_standing (unit_text (Framed f)) now) now count came (Copied f 1 0)
-line_submitted f now count came frames = record {
+pub line_submitted : (f : FrameParts) (now count : ℕ) (prior : Prior) (came : List LineUnit) → AreFrames came → TieLine (first_standing (unit_text (Framed f)) now prior) now count came (Copied f 1 0)
+line_submitted f now count prior came frames = record {
   frame = refl;
   copies_are = refl;
   since = omega arith;

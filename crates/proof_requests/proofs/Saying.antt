@@ -1,6 +1,6 @@
 -- What a frame of the chip makes of the request under way is what the transcript says of it.
 use Rattle.std.proofs.Common.{◌≡◌, ◌⊎◌, ℕ, ◌==◌, ◌&&◌, ◌||◌, not, Bool, true, false, if◌then◌else◌, inl, inr, List, [], ◌∷◌, refl, sym, ap, ap₂, ◌∙◌}
-use Rattle.std.specs.Prelude.{Option, Result, Ok, Err, slice_index}
+use Rattle.std.specs.Prelude.{Option, Some, None, Result, Ok, Err, slice_index}
 use Rattle.std.specs.List.{list_any}
 use Rattle.std.proofs.lemmas.Bool.{and_right, both_ways, eq-eqb, eqb-true}
 use Rattle.serial_frame.specs.Frame.{FrameParts, checksum, framed, kind_code}
@@ -9,9 +9,11 @@ use Rattle.serial_frame.specs.declared.frame.Kind.{Kind}
 use Rattle.serial_frame.specs.declared.frame.Kind.TheVariants as kind
 use Rattle.serial_frame.specs.declared.unit.Unit.TheVariants.{Framed}
 use Rattle.serial_link.specs.declared.turn.Turn.{Turn}
-use Rattle.chip_functions.specs.Field.{byte, coded, mask, read_as}
+use Rattle.chip_functions.specs.Field.{Field, byte, coded, mask, read_as, ◌then◌}
 use Rattle.chip_functions.specs.Notice.{notice_of}
-use Rattle.chip_functions.specs.Place.{Reading, ◌>>=◌, start_of}
+use Rattle.chip_functions.specs.Place.{Place, Reading, ◌>>=◌, byte_from, start_of}
+use Rattle.chip_functions.proofs.FieldLaws.{as_takes, bind_ok, ok_is}
+use Rattle.chip_functions.specs.declared.fault.BodyFault.TheVariants.{Short}
 use Rattle.chip_functions.specs.Request.{request_function}
 use Rattle.chip_functions.specs.Response.{capabilities, capabilities_at, failed_code, failed_of, init_data, init_data_at, memory_id, memory_id_at, protocol_info, protocol_info_at, response_at, response_function, response_of, version, version_at}
 use Rattle.chip_functions.specs.declared.fault.BodyFault.{BodyFault}
@@ -25,12 +27,12 @@ use Rattle.chip_functions.specs.declared.request.Request.{Request}
 use Rattle.chip_functions.specs.declared.request.Request.TheVariants.{RequestNodeInfo}
 use Rattle.chip_functions.specs.declared.response.Response.{Response}
 use Rattle.chip_functions.specs.declared.response.Response.TheVariants as response
-use Rattle.law_transcript.specs.Units.{function_in, notice_in, read_well}
+use Rattle.law_transcript.specs.Units.{body_in, function_in, notice_in, read_well, request_in}
 use Rattle.law_time.specs.Judged.{response_in}
 use Rattle.law_time.specs.Requests.{Judging, are_none, is_response_to}
 use Rattle.law_time.specs.Ends.{ends_by, is_abort, is_abort_frame, is_callback, is_information, refuses}
 use Rattle.host_requests.specs.Frames.{function_of, no_more_information, nonce_report, request_of, send}
-use Rattle.host_requests.specs.Next.{at_response, is_answered, is_sent, is_silent, is_update_of, judged, purpose_ends_at_update, taken}
+use Rattle.host_requests.specs.Next.{at_response, capability_at, is_answered, is_sent, is_silent, is_update_of, judged, purpose_ends_at_update, taken}
 use Rattle.host_requests.specs.declared.end.How.{How}
 use Rattle.host_requests.specs.declared.end.How.TheVariants.{AtCallback, AtResponse, AtUpdate, Refused}
 use Rattle.host_requests.specs.declared.next.Next.{Next}
@@ -42,7 +44,7 @@ use Rattle.host_requests.specs.declared.under_way.Progress.{Progress}
 use Rattle.host_requests.specs.declared.under_way.Progress.TheVariants.{Submitted, Sent, Answered}
 use Rattle.host_requests.specs.declared.under_way.UnderWay.{UnderWay}
 use Rattle.proof_walk.proofs.Bodies.{body_is}
-use Rattle.proof_requests.specs.Standing.{Standing, ends_now, responses_in}
+use Rattle.proof_requests.specs.Standing.{Standing, brought_by, ends_now, responses_in}
 use Rattle.proof_requests.proofs.Judging.{and_true, or_false}
 use Rattle.proof_requests.specs.Asking.{AsProgress, IsUnderWay}
 use Rattle.proof_requests.specs.Saying.{FrameSays, frame_next, kind_next, notice_next, response_next}
@@ -89,16 +91,54 @@ unfolding response_of response_at
 information_answers body answer so =
     let same : response.RequestNodeInfo (slice_index body 0) ≡ response.RequestNodeInfo answer = byte_says (λ n. response.RequestNodeInfo n) body (response.RequestNodeInfo answer) so in cc
 
+-- and that of a node's capability is its first byte
+protocol_byte : (a b c d e f x y z u v w : ℕ) → response.GetNodeProtocolInfo a b c d e f ≡ response.GetNodeProtocolInfo x y z u v w → a ≡ x
+protocol_byte a b c d e f x y z u v w same = cc
+
+byte_is : (body : List ℕ) (x : ℕ × Place) → byte_from 0 body ≡ Ok x → slice_index body 0 ≡ x.0
+byte_is [] x so = absurd (let bad : Err (Short 1 0) ≡ Ok x = so in cc)
+byte_is (b ∷ rest) x so = ap (λ (y : ℕ × Place). y.0) (ok_is (b, record { before = 1; rest = rest }) x so)
+
+then_first : {B : Type 0} (second : Field B) (body : List ℕ) (x : ℕ × B) (q : Place) → (byte then second).read (start_of body) ≡ Ok (x, q) → slice_index body 0 ≡ x.0
+then_first {B} second body x q so =
+    let a = bind_ok (byte_from 0 body) (λ y. second.read y.1 >>= λ z. Ok ((y.0, z.0), z.1)) (x, q) so in
+    let b = bind_ok (second.read a.0.1) (λ z. Ok ((a.0.0, z.0), z.1)) (x, q) a.2 in
+    let made : (ℕ × B) × Place = ((a.0.0, b.0.0), b.0.1) in
+    byte_is body a.0 a.1 ∙ ap (λ (y : (ℕ × B) × Place). y.0.0) (ok_is made (x, q) b.2)
+
+protocol_answers : (body : List ℕ) (a b c d e f : ℕ) → response_of GET_NODE_PROTOCOL_INFO body ≡ Ok (response.GetNodeProtocolInfo a b c d e f) → slice_index body 0 ≡ a
+unfolding response_of response_at protocol_info_at
+protocol_answers body a b c d e f so =
+    let r : Response = response.GetNodeProtocolInfo a b c d e f in
+    let got = bind_ok (protocol_info_at (start_of body)) (λ x. Ok x.0) r so in
+    let made = as_takes (λ x. response.GetNodeProtocolInfo x.0 x.1.0 x.1.1.0 x.1.1.1.0 x.1.1.1.1.0 x.1.1.1.1.1) (protocol_info.read (start_of body)) got.0.0 got.0.1 got.1 in
+    let same : response.GetNodeProtocolInfo made.0.0 made.0.1.0 made.0.1.1.0 made.0.1.1.1.0 made.0.1.1.1.1.0 made.0.1.1.1.1.1 ≡ r = made.2 ∙ ok_is got.0.0 r got.2 in
+    then_first (byte then byte then byte then byte then byte) body made.0 got.0.1 made.1 ∙ protocol_byte _ _ _ _ _ _ a b c d e f same
+
 -- ---- frames as text
 
-response_text : (func : ℕ) (body : List ℕ) (sum : ℕ) → response_in (framed (1 ∷ func ∷ body) sum) ≡ read_well (response_of func body)
+pub response_text : (func : ℕ) (body : List ℕ) (sum : ℕ) → response_in (framed (1 ∷ func ∷ body) sum) ≡ read_well (response_of func body)
 response_text func body sum = ap (λ (b : List ℕ). read_well (response_of func b)) (body_is body func sum)
 
 notice_text : (func : ℕ) (body : List ℕ) (sum : ℕ) → notice_in (framed (0 ∷ func ∷ body) sum) ≡ read_well (notice_of func body)
 notice_text func body sum = ap (λ (b : List ℕ). read_well (notice_of func b)) (body_is body func sum)
 
-refusal_text : (func : ℕ) (body : List ℕ) (sum : ℕ) → refuses (framed (1 ∷ func ∷ body) sum) ≡ (slice_index body 0 == 0)
-refusal_text func body sum = ap (λ (b : List ℕ). slice_index b 0 == 0) (body_is body func sum)
+byte_text : (func : ℕ) (body : List ℕ) (sum : ℕ) → slice_index (body_in (framed (1 ∷ func ∷ body) sum)) 0 ≡ slice_index body 0
+byte_text func body sum = ap (λ (b : List ℕ). slice_index b 0) (body_is body func sum)
+
+-- ---- what a request brings
+
+other_request : (p : Purpose) (id : ℕ) (unit : List ℕ) → (function_of p == GET_NODE_PROTOCOL_INFO) ≡ false → brought_by (request_of p id ∷ []) unit ≡ None
+other_request (Housekeeping (First n)) id unit other = absurd (let bad : true ≡ false = other in cc)
+other_request (Housekeeping task) id unit other = refl
+other_request (Attempt n more payload) id unit other = refl
+other_request Abort id unit other = refl
+
+protocol_request : (p : Purpose) (id : ℕ) (unit : List ℕ) → (function_of p == GET_NODE_PROTOCOL_INFO) ≡ true → brought_by (request_of p id ∷ []) unit ≡ Some (slice_index (body_in unit) 0)
+protocol_request (Housekeeping (First n)) id unit same = refl
+protocol_request (Housekeeping task) id unit same = absurd (let bad : false ≡ true = same in cc)
+protocol_request (Attempt n more payload) id unit same = absurd (let bad : false ≡ true = same in cc)
+protocol_request Abort id unit same = absurd (let bad : false ≡ true = same in cc)
 
 -- ---- kinds of requests
 
@@ -171,9 +211,14 @@ module _ (s : Standing) (one : Judging) (now : ℕ) (turn : Turn) (id : ℕ) (u 
       ap (λ (l : List Request). list_any (ends_by (are_none (responses_in s) && is_response_to s.frame one.unit) one.unit) l) is.request
       ∙ ap (λ (b : Bool). ends_by b one.unit (request_of u.purpose id) || false) is_first
 
-  ends_or_leaves : (b : Bool) (how : How) (next : Next) → is_silent how ≡ false → next ≡ (if b then Ends how else GoesOn u.progress) → is_response_to s.frame one.unit ≡ false → ends_now s one ≡ b → FrameSays s one u next
-  ends_or_leaves true how next loud next_is none ends = Finishes how next_is loud ends
-  ends_or_leaves false how next loud next_is none ends = Leaves next_is none ends
+  ends_or_leaves : (b : Bool) (how : How) (next : Next) → is_silent how ≡ false → next ≡ (if b then Ends how else GoesOn u.progress) → is_response_to s.frame one.unit ≡ false → ends_now s one ≡ b
+      → capability_at how ≡ brought_by (request_in s.frame) one.unit → FrameSays s one u next
+  ends_or_leaves true how next loud next_is none ends brings = Finishes how next_is loud ends brings
+  ends_or_leaves false how next loud next_is none ends brings = Leaves next_is none ends
+
+  -- what it brings where it ends it
+  brings_as : (request : Request) → request_of u.purpose id ≡ request → brought_by (request_in s.frame) one.unit ≡ brought_by (request ∷ []) one.unit
+  brings_as request same = ap (λ (l : List Request). brought_by l one.unit) is.request ∙ ap (λ (q : Request). brought_by (q ∷ []) one.unit) same
 
   -- ---- a notice
 
@@ -212,6 +257,7 @@ module _ (s : Standing) (one : Judging) (now : ℕ) (turn : Turn) (id : ℕ) (u 
       ends_or_leaves s one now turn id u is (callback == id) (AtCallback status) (notice_next id first (Ok (CalledBack callback status)) u) refl
       (ap (λ (n : ℕ). if (n == SEND_DATA) && (callback == id) then Ends (AtCallback status) else GoesOn u.progress) sends.function) none
       (sends_so s one now turn id u is (Ok (CalledBack callback status)) notices none first sends ∙ or_none (callback == id))
+      (sym (brings_as s one now turn id u is (send sends.node sends.payload id) sends.request))
   called_back callback status notices (inr (inl informs)) =
       leaves_none s one now turn id u is (Ok (CalledBack callback status)) notices none first _
       (ap (λ (n : ℕ). if (n == SEND_DATA) && (callback == id) then Ends (AtCallback status) else GoesOn u.progress) informs.function)
@@ -231,6 +277,7 @@ module _ (s : Standing) (one : Judging) (now : ℕ) (turn : Turn) (id : ℕ) (u 
       (ap (λ (b : Bool). if b then Ends (AtUpdate update first) else GoesOn u.progress) (informs.update update)) none
       (informs_so s one now turn id u is (Ok (ApplicationUpdate update)) notices none first informs ∙ or_none (is_information informs.node (ApplicationUpdate update))
       ∙ information_is informs.node update)
+      (sym (brings_as s one now turn id u is (RequestNodeInfo informs.node) informs.request))
   updated update notices (inr (inr answers)) =
       leaves_none s one now turn id u is (Ok (ApplicationUpdate update)) notices none first _
       (ap (λ (b : Bool). if b then Ends (AtUpdate update first) else GoesOn u.progress) (answers.no_update update))
@@ -279,19 +326,19 @@ module _ (s : Standing) (one : Judging) (now : ℕ) (turn : Turn) (id : ℕ) (u 
 
   -- the first to a SendData or a RequestNodeInfo says whether it was taken
   taken_so : (answer : ℕ) (b : Bool) → (answer == 0) ≡ b → (next : Next) → next ≡ taken answer u → is_answered u.progress ≡ false → is_abort_frame s.frame ≡ false
-      → is_response_to s.frame one.unit ≡ true → ends_now s one ≡ b → FrameSays s one u next
-  taken_so answer true refused next next_is fresh other responds ends =
-      Finishes Refused (next_is ∙ ap (λ (b : Bool). if b then Ends Refused else GoesOn (Answered (is_sent u.progress) 65)) refused) refl ends
-  taken_so answer false refused next next_is fresh other responds ends =
+      → is_response_to s.frame one.unit ≡ true → ends_now s one ≡ b → None ≡ brought_by (request_in s.frame) one.unit → FrameSays s one u next
+  taken_so answer true refused next next_is fresh other responds ends brings =
+      Finishes Refused (next_is ∙ ap (λ (b : Bool). if b then Ends Refused else GoesOn (Answered (is_sent u.progress) 65)) refused) refl ends brings
+  taken_so answer false refused next next_is fresh other responds ends brings =
       Takes (next_is ∙ ap (λ (b : Bool). if b then Ends Refused else GoesOn (Answered (is_sent u.progress) 65)) refused) fresh other responds ends
 
   -- what the first response makes of it, by kind
   abbrev IsFirst : Type 0
   IsFirst = (are_none (responses_in s) && is_response_to s.frame one.unit) ≡ true
 
-  first_says : (func : ℕ) (body : List ℕ) (r : Response) → response_of func body ≡ Ok r → func ≡ function_of u.purpose → (refuses one.unit ≡ (slice_index body 0 == 0)) → is_answered u.progress ≡ false
+  first_says : (func : ℕ) (body : List ℕ) (r : Response) → response_of func body ≡ Ok r → func ≡ function_of u.purpose → slice_index (body_in one.unit) 0 ≡ slice_index body 0 → is_answered u.progress ≡ false
       → is_response_to s.frame one.unit ≡ true → IsFirst → Kinds u.purpose id → (next : Next) → next ≡ judged r u → FrameSays s one u next
-  first_says func body r read func_is refusal fresh responds is_first (inl sends) next next_is = by r read next_is
+  first_says func body r read func_is byte fresh responds is_first (inl sends) next next_is = by r read next_is
     where
       send_is : func ≡ SEND_DATA
       send_is = func_is ∙ sends.function
@@ -301,14 +348,15 @@ module _ (s : Standing) (one : Judging) (now : ℕ) (turn : Turn) (id : ℕ) (u 
 
       ends : (answer : ℕ) → response_of func body ≡ Ok (response.SendData answer) → ends_now s one ≡ (answer == 0)
       ends answer so =
-          refused_so true is_first sends ∙ ap (λ (b : Bool). b || false) refusal ∙ or_false (slice_index body 0 == 0)
+          refused_so true is_first sends ∙ ap (λ (n : ℕ). (n == 0) || false) byte ∙ or_false (slice_index body 0 == 0)
           ∙ ap (λ (n : ℕ). n == 0) (send_answers body answer (ap (λ (n : ℕ). response_of n body) (sym send_is) ∙ so))
 
       wrong : (code : ℕ) → code ≡ func → (code == SEND_DATA) ≡ false → ⊥
       wrong code same other = both_ways (code == SEND_DATA) other (ap (λ (n : ℕ). n == SEND_DATA) (same ∙ send_is))
 
       by : (q : Response) → response_of func body ≡ Ok q → next ≡ judged q u → FrameSays s one u next
-      by (response.SendData answer) so goes = taken_so answer (answer == 0) refl next goes fresh no_abort responds (ends answer so)
+      by (response.SendData answer) so goes =
+          taken_so answer (answer == 0) refl next goes fresh no_abort responds (ends answer so) (sym (brings_as s one now turn id u is (send sends.node sends.payload id) sends.request))
       by (response.GetInitData a b c d e) so goes = absurd (wrong GET_INIT_DATA (response_is func body (response.GetInitData a b c d e) so) refl)
       by (response.GetCapabilities a b c d e f) so goes = absurd (wrong GET_CAPABILITIES (response_is func body (response.GetCapabilities a b c d e f) so) refl)
       by (response.GetVersion a b) so goes = absurd (wrong GET_VERSION (response_is func body (response.GetVersion a b) so) refl)
@@ -317,7 +365,7 @@ module _ (s : Standing) (one : Judging) (now : ℕ) (turn : Turn) (id : ℕ) (u 
       by (response.RequestNodeInfo a) so goes = absurd (wrong REQUEST_NODE_INFO (response_is func body (response.RequestNodeInfo a) so) refl)
       by (response.IsFailedNode a) so goes = absurd (wrong IS_FAILED_NODE (response_is func body (response.IsFailedNode a) so) refl)
       by (response.GetRoutingInfo a) so goes = absurd (wrong GET_ROUTING_INFO (response_is func body (response.GetRoutingInfo a) so) refl)
-  first_says func body r read func_is refusal fresh responds is_first (inr (inl informs)) next next_is = by r read next_is
+  first_says func body r read func_is byte fresh responds is_first (inr (inl informs)) next next_is = by r read next_is
     where
       ask_is : func ≡ REQUEST_NODE_INFO
       ask_is = func_is ∙ informs.function
@@ -327,14 +375,15 @@ module _ (s : Standing) (one : Judging) (now : ℕ) (turn : Turn) (id : ℕ) (u 
 
       ends : (answer : ℕ) → response_of func body ≡ Ok (response.RequestNodeInfo answer) → ends_now s one ≡ (answer == 0)
       ends answer so =
-          uninformed_so true is_first informs ∙ ap (λ (b : Bool). b || false) refusal ∙ or_false (slice_index body 0 == 0)
+          uninformed_so true is_first informs ∙ ap (λ (n : ℕ). (n == 0) || false) byte ∙ or_false (slice_index body 0 == 0)
           ∙ ap (λ (n : ℕ). n == 0) (information_answers body answer (ap (λ (n : ℕ). response_of n body) (sym ask_is) ∙ so))
 
       wrong : (code : ℕ) → code ≡ func → (code == REQUEST_NODE_INFO) ≡ false → ⊥
       wrong code same other = both_ways (code == REQUEST_NODE_INFO) other (ap (λ (n : ℕ). n == REQUEST_NODE_INFO) (same ∙ ask_is))
 
       by : (q : Response) → response_of func body ≡ Ok q → next ≡ judged q u → FrameSays s one u next
-      by (response.RequestNodeInfo answer) so goes = taken_so answer (answer == 0) refl next goes fresh no_abort responds (ends answer so)
+      by (response.RequestNodeInfo answer) so goes =
+          taken_so answer (answer == 0) refl next goes fresh no_abort responds (ends answer so) (sym (brings_as s one now turn id u is (RequestNodeInfo informs.node) informs.request))
       by (response.GetInitData a b c d e) so goes = absurd (wrong GET_INIT_DATA (response_is func body (response.GetInitData a b c d e) so) refl)
       by (response.GetCapabilities a b c d e f) so goes = absurd (wrong GET_CAPABILITIES (response_is func body (response.GetCapabilities a b c d e f) so) refl)
       by (response.GetVersion a b) so goes = absurd (wrong GET_VERSION (response_is func body (response.GetVersion a b) so) refl)
@@ -343,10 +392,24 @@ module _ (s : Standing) (one : Judging) (now : ℕ) (turn : Turn) (id : ℕ) (u 
       by (response.SendData a) so goes = absurd (wrong SEND_DATA (response_is func body (response.SendData a) so) refl)
       by (response.IsFailedNode a) so goes = absurd (wrong IS_FAILED_NODE (response_is func body (response.IsFailedNode a) so) refl)
       by (response.GetRoutingInfo a) so goes = absurd (wrong GET_ROUTING_INFO (response_is func body (response.GetRoutingInfo a) so) refl)
-  first_says func body r read func_is refusal fresh responds is_first (inr (inr answers)) next next_is = by r read next_is
+  first_says func body r read func_is byte fresh responds is_first (inr (inr answers)) next next_is = by r read next_is
     where
       ends : ends_now s one ≡ true
       ends = answered_so true is_first answers
+
+      asks : (q : Response) → response_of func body ≡ Ok q → function_of u.purpose ≡ response_function q
+      asks q so = sym (response_is func body q so ∙ func_is)
+
+      brings_none : (q : Response) → response_of func body ≡ Ok q → (response_function q == GET_NODE_PROTOCOL_INFO) ≡ false → None ≡ brought_by (request_in s.frame) one.unit
+      brings_none q so other =
+          sym (brings_as s one now turn id u is (request_of u.purpose id) refl ∙ other_request u.purpose id one.unit (ap (λ (n : ℕ). n == GET_NODE_PROTOCOL_INFO) (asks q so) ∙ other))
+
+      brings_byte : (a b c d e f : ℕ) → response_of func body ≡ Ok (response.GetNodeProtocolInfo a b c d e f) → Some a ≡ brought_by (request_in s.frame) one.unit
+      brings_byte a b c d e f so =
+          let code : func ≡ GET_NODE_PROTOCOL_INFO = sym (response_is func body (response.GetNodeProtocolInfo a b c d e f) so) in
+          sym (brings_as s one now turn id u is (request_of u.purpose id) refl
+          ∙ protocol_request u.purpose id one.unit (ap (λ (n : ℕ). n == GET_NODE_PROTOCOL_INFO) (asks (response.GetNodeProtocolInfo a b c d e f) so))
+          ∙ ap (λ (n : ℕ). Some n) (byte ∙ protocol_answers body a b c d e f (ap (λ (n : ℕ). response_of n body) (sym code) ∙ so)))
 
       wrong : (code : ℕ) → code ≡ func → (function_of u.purpose == code) ≡ false → ⊥
       wrong code same other = both_ways (function_of u.purpose == code) other (eq-eqb (function_of u.purpose) code (sym (same ∙ func_is)))
@@ -354,18 +417,19 @@ module _ (s : Standing) (one : Judging) (now : ℕ) (turn : Turn) (id : ℕ) (u 
       by : (q : Response) → response_of func body ≡ Ok q → next ≡ judged q u → FrameSays s one u next
       by (response.SendData a) so goes = absurd (wrong SEND_DATA (response_is func body (response.SendData a) so) answers.no_sending)
       by (response.RequestNodeInfo a) so goes = absurd (wrong REQUEST_NODE_INFO (response_is func body (response.RequestNodeInfo a) so) answers.no_information)
-      by (response.GetInitData a b c d e) so goes = Finishes (AtResponse (response.GetInitData a b c d e)) goes refl ends
-      by (response.GetCapabilities a b c d e f) so goes = Finishes (AtResponse (response.GetCapabilities a b c d e f)) goes refl ends
-      by (response.GetVersion a b) so goes = Finishes (AtResponse (response.GetVersion a b)) goes refl ends
-      by (response.MemoryGetId a b) so goes = Finishes (AtResponse (response.MemoryGetId a b)) goes refl ends
-      by (response.GetNodeProtocolInfo a b c d e f) so goes = Finishes (AtResponse (response.GetNodeProtocolInfo a b c d e f)) goes refl ends
-      by (response.IsFailedNode a) so goes = Finishes (AtResponse (response.IsFailedNode a)) goes refl ends
-      by (response.GetRoutingInfo a) so goes = Finishes (AtResponse (response.GetRoutingInfo a)) goes refl ends
+      by (response.GetInitData a b c d e) so goes = Finishes (AtResponse (response.GetInitData a b c d e)) goes refl ends (brings_none (response.GetInitData a b c d e) so refl)
+      by (response.GetCapabilities a b c d e f) so goes = Finishes (AtResponse (response.GetCapabilities a b c d e f)) goes refl ends (brings_none (response.GetCapabilities a b c d e f) so refl)
+      by (response.GetVersion a b) so goes = Finishes (AtResponse (response.GetVersion a b)) goes refl ends (brings_none (response.GetVersion a b) so refl)
+      by (response.MemoryGetId a b) so goes = Finishes (AtResponse (response.MemoryGetId a b)) goes refl ends (brings_none (response.MemoryGetId a b) so refl)
+      by (response.GetNodeProtocolInfo a b c d e f) so goes = Finishes (AtResponse (response.GetNodeProtocolInfo a b c d e f)) goes refl ends (brings_byte a b c d e f so)
+      by (response.IsFailedNode a) so goes = Finishes (AtResponse (response.IsFailedNode a)) goes refl ends (brings_none (response.IsFailedNode a) so refl)
+      by (response.GetRoutingInfo a) so goes = Finishes (AtResponse (response.GetRoutingInfo a)) goes refl ends (brings_none (response.GetRoutingInfo a) so refl)
 
   -- a response, by whether its function is that of the request
-  responded : (func : ℕ) (body : List ℕ) (r : Response) → response_of func body ≡ Ok r → is_response_to s.frame one.unit ≡ (func == function_of u.purpose) → refuses one.unit ≡ (slice_index body 0 == 0)
+  responded : (func : ℕ) (body : List ℕ) (r : Response) → response_of func body ≡ Ok r → is_response_to s.frame one.unit ≡ (func == function_of u.purpose)
+      → slice_index (body_in one.unit) 0 ≡ slice_index body 0
       → FrameSays s one u (at_response r u)
-  responded func body r read responds refusal = by (is_answered u.progress) (func == function_of u.purpose) refl refl
+  responded func body r read responds byte = by (is_answered u.progress) (func == function_of u.purpose) refl refl
     where
       unanswered : are_none (responses_in s) ≡ not (is_answered u.progress)
       unanswered = unanswered_is s now turn u.progress is.progress
@@ -388,7 +452,7 @@ module _ (s : Standing) (one : Judging) (now : ℕ) (turn : Turn) (id : ℕ) (u 
       by false false answered_is same_is =
           Leaves (next_so false false answered_is same_is) (responds ∙ same_is) (not_first_ends (first_so false false answered_is same_is) (kinds u.purpose id))
       by false true answered_is same_is =
-          first_says func body r read (eqb-true func (function_of u.purpose) same_is) refusal answered_is (responds ∙ same_is) (first_so false true answered_is same_is) (kinds u.purpose id)
+          first_says func body r read (eqb-true func (function_of u.purpose) same_is) byte answered_is (responds ∙ same_is) (first_so false true answered_is same_is) (kinds u.purpose id)
           (at_response r u) (next_so false true answered_is same_is)
 
   unread : is_response_to s.frame one.unit ≡ false → FrameSays s one u (GoesOn u.progress)
@@ -409,11 +473,11 @@ module _ (s : Standing) (one : Judging) (now : ℕ) (turn : Turn) (id : ℕ) (u 
           ∙ ap (λ (n : ℕ). (func == n) && not (are_none (response_in (framed (1 ∷ func ∷ body) sum)))) frame_function
           ∙ ap (λ (l : List Response). (func == function_of u.purpose) && not (are_none l)) (response_text func body sum ∙ ap read_well so)
 
-      refusal : refuses one.unit ≡ (slice_index body 0 == 0)
-      refusal = ap refuses unit_is ∙ refusal_text func body sum
+      byte : slice_index (body_in one.unit) 0 ≡ slice_index body 0
+      byte = ap (λ (l : List ℕ). slice_index (body_in l) 0) unit_is ∙ byte_text func body sum
 
       by : (read : Result Response BodyFault) → response_of func body ≡ read → FrameSays s one u (response_next read u)
-      by (Ok r) so = responded s one now turn id u is (ap notice_in unit_is) func body r so (responds (Ok r) so ∙ and_true (func == function_of u.purpose)) refusal
+      by (Ok r) so = responded s one now turn id u is (ap notice_in unit_is) func body r so (responds (Ok r) so ∙ and_true (func == function_of u.purpose)) byte
       by (Err fault) so = unread s one now turn id u is (ap notice_in unit_is) (responds (Err fault) so ∙ and_right (func == function_of u.purpose) false refl)
 
   notice_says : (first : Option ℕ) (func : ℕ) (body : List ℕ) (sum : ℕ) → one.unit ≡ framed (0 ∷ func ∷ body) sum → FrameSays s one u (notice_next id first (notice_of func body) u)

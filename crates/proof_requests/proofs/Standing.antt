@@ -13,6 +13,7 @@ use Rattle.law_transcript.specs.Lists.{shown_after}
 use Rattle.law_time.specs.Moments.{clock}
 use Rattle.law_time.specs.Judged.{acknowledged, frames_come, is_acknowledgement, is_data, judged, last_of}
 use Rattle.law_time.specs.Requests.{Answer, Asked, Judging, Since, answer_at, answers_from, copies, is_answer, is_missed, judged_since, judging_at, last_copy, up_to_first}
+use Rattle.proof_alone.proofs.Listening.{shown_joined}
 use Rattle.proof_requests.specs.Standing.{IsAside, Standing, answers_since, standing_of, with_answer, with_copy, with_entries, with_judging}
 use Rattle.proof_requests.proofs.Growing.{NoFrame, copies_one, copies_same, last_all, last_copied, last_more}
 
@@ -85,14 +86,6 @@ last_same a told is_framed all = ap (λ (since : Since). clock since.past) (last
 
 -- ---- what was judged
 
-shown_joined : {B : Type 0} (shows : List Entry → Entry → List B) (past some told : List Entry)
-    → shown_after shows past (some ++ told) ≡ shown_after shows past some ++ shown_after shows (past ++ some) told
-shown_joined {B} shows past [] told = ap (λ (l : List Entry). shown_after shows l told) (sym (append-nil past))
-shown_joined {B} shows past (e ∷ some) told =
-    ap (λ (l : List B). shows past e ++ l) (shown_joined shows (past ++ e ∷ []) some told)
-    ∙ sym (append_assoc (shows past e) (shown_after shows (past ++ e ∷ []) some) (shown_after shows ((past ++ e ∷ []) ++ some) told))
-    ∙ ap (λ (l : List Entry). shown_after shows past (e ∷ some) ++ shown_after shows l told) (append_assoc past (e ∷ []) some)
-
 abbrev judging_of : List Entry → List ℕ → List Judging
 judging_of past unit = map (λ frame. record { unit = frame; tick = clock past; place = acknowledged past + 1 }) (last_of (judged (past ++ entry.Written Host unit ∷ [])))
 
@@ -112,12 +105,12 @@ judged_more a told = shown_joined judging_at (up_to_first a) a.following told
 -- ---- how it stands
 
 same_standing : (s : Standing) (copies last : ℕ) (answers : List Answer) (judged : List Judging) → copies ≡ s.copies → last ≡ s.last → answers ≡ s.answers → judged ≡ s.judged
-    → record { frame = s.frame; copies = copies; last = last; answers = answers; judged = judged } ≡ s
+    → record { frame = s.frame; copies = copies; last = last; answers = answers; judged = judged; prior = s.prior } ≡ s
 same_standing s copies last answers judged copies_is last_is answers_is judged_is =
-    ap (λ (n : ℕ). record { frame = s.frame; copies = n; last = last; answers = answers; judged = judged }) copies_is
-    ∙ ap (λ (n : ℕ). record { frame = s.frame; copies = s.copies; last = n; answers = answers; judged = judged }) last_is
-    ∙ ap (λ (l : List Answer). record { frame = s.frame; copies = s.copies; last = s.last; answers = l; judged = judged }) answers_is
-    ∙ ap (λ (l : List Judging). record { frame = s.frame; copies = s.copies; last = s.last; answers = s.answers; judged = l }) judged_is
+    ap (λ (n : ℕ). record { frame = s.frame; copies = n; last = last; answers = answers; judged = judged; prior = s.prior }) copies_is
+    ∙ ap (λ (n : ℕ). record { frame = s.frame; copies = s.copies; last = n; answers = answers; judged = judged; prior = s.prior }) last_is
+    ∙ ap (λ (l : List Answer). record { frame = s.frame; copies = s.copies; last = s.last; answers = l; judged = judged; prior = s.prior }) answers_is
+    ∙ ap (λ (l : List Judging). record { frame = s.frame; copies = s.copies; last = s.last; answers = s.answers; judged = l; prior = s.prior }) judged_is
 
 nothing_more : {A : Type 0} (items more : List A) → more ≡ [] → items ++ more ≡ items
 nothing_more {A} items more none = ap (λ (l : List A). items ++ l) none ∙ append-nil items

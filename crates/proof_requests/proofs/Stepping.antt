@@ -1,5 +1,6 @@
 -- At each step of a host alone, and wherever a part begins, what it asks is known.
-use Rattle.std.proofs.Common.{◌≡◌, ℕ, Bool, true, false, if◌then◌else◌, inl, inr, List, [], ◌∷◌, ◌++◌, map, refl, sym, ap, ◌∙◌, subst, append-nil, append_assoc}
+use Rattle.std.proofs.Common.{◌≡◌, ◌≤◌, ℕ, Bool, true, false, if◌then◌else◌, inl, inr, List, [], ◌∷◌, ◌++◌, length, map, refl, sym, ap, ◌∙◌, subst, append-nil, append_assoc}
+use Rattle.std.specs.Prelude.{Some}
 use Rattle.std.specs.List.{AllByRecursion}
 use Rattle.std.proofs.lemmas.Bool.{both_ways}
 use Rattle.zw_base.proofs.Each.{all-append, all-right, all-weaker}
@@ -16,8 +17,6 @@ use Rattle.zw_text.specs.declared.line.Line.TheVariants as lines
 use Rattle.zw_text.specs.declared.entry.Refusal.{Refusal}
 use Rattle.zw_text.specs.declared.entry.Entry.{Entry}
 use Rattle.zw_text.specs.declared.entry.Entry.TheVariants as entry
-use Rattle.zw_text.proofs.Views.{folded-append}
-use Rattle.law_transcript.specs.Lists.{EachAfter}
 use Rattle.law_transcript.specs.Restarts.{is_restart}
 use Rattle.law_time.specs.Moments.{clock}
 use Rattle.law_time.specs.Requests.{is_answer}
@@ -29,12 +28,16 @@ use Rattle.host_requests.specs.State.{next_id}
 use Rattle.host_requests.specs.declared.task.Task.{Task}
 use Rattle.host_requests.specs.declared.task.Purpose.{Purpose}
 use Rattle.host_requests.specs.declared.task.Purpose.TheVariants.{Attempt, Abort, Housekeeping}
+use Rattle.host_node.specs.Search.{next_of}
 use Rattle.host_node.specs.Steps.{tick_end}
 use Rattle.host_node.specs.declared.attempt.Moment.TheVariants.{BeforeItsTick}
 use Rattle.host_model.specs.State.{HostState, first_host, node_of}
+use Rattle.host_model.specs.Facts.{HostFacts}
+use Rattle.host_model.specs.May.{IsFree, May as may_event}
 use Rattle.host_model.specs.Sessions.{open_command}
+use Rattle.supervision.specs.Host.{open_session}
 use Rattle.host_model.specs.Ends.{attempt_entries}
-use Rattle.host_model.specs.After.{after, is_busy, is_full, task_purpose}
+use Rattle.host_model.specs.After.{after, is_full, task_purpose}
 use Rattle.host_model.specs.Did.{MayAll, after_all}
 use Rattle.host_model.specs.Events.{HostEvent, Accepts, Cancels, Hears, Requests_do, Line_ticks, Node_ticks, Queues_no_more, Drops_no_more, Submits_abort, Submits_front, Starts, Gives_text, Gives_segment, Begins, Begin_unkept}
 use Rattle.host_model.specs.Outs.{answer_to, answers, outs, request_entries}
@@ -44,17 +47,21 @@ use Rattle.host_model.specs.declared.out.HostOut.TheVariants.{Write}
 use Rattle.host_model.proofs.Submitted.{SubmittedAre, next_is}
 use Rattle.world_model.specs.Events.{shown_values}
 use Rattle.proof_alone.specs.State.{HostMachine, done}
-use Rattle.proof_alone.specs.Steps.{AreTold, AsksNothing as AsksNone, IsAskedBy, IsOfUnit, Step, Tells, Comes, Misses, Says, Says_nothing, Asks, Refuses, Shows, Restarts, Begins_tick, Numbers, Judges, Does, entries, happens}
-use Rattle.proof_alone.specs.Phases.{Phase, Resting, Asked, Risen, Ticking, Open, Behind, Sleeping, Submitting, IsBetween, IsJudgedNow, IsNumbered, May, Turns}
-use Rattle.proof_alone.specs.Runs.{Walk, both_know}
+use Rattle.proof_alone.specs.Steps.{AreFrames, AreTold, AsksNothing as AsksNone, IsAskedBy, IsOfUnit, Step, Tells, Comes, Misses, Says, Says_nothing, Asks, Refuses, Shows, Restarts, Begins_tick, Numbers, Judges, Does, entries, happens}
+use Rattle.proof_alone.specs.Phases.{Phase, Resting, Asked, Risen, Ticking, Open, Behind, Sleeping, Submitting, IsBetween, IsJudgedNow, IsNumbered, May, MayCome, Turns}
+use Rattle.proof_alone.specs.Runs.{WalkOver}
+use Rattle.proof_alone.proofs.Timing.{clock_is}
 use Rattle.proof_waking.specs.Judged.{IsOfRequest, KnowsJudged, TieFrames}
 use Rattle.proof_waking.proofs.Followed.{MayFollow, frame_all}
 use Rattle.proof_waking.proofs.Parts.{IsNote, follow_notes}
-use Rattle.proof_requests.specs.Asking.{AreFrames, AsksNothing, Doing, IsFramed, TieAsked, doing_of}
-use Rattle.proof_requests.specs.Walking.{AsksBefore, ChangesFrames, Ground, HalfTick, IsNodeTick, IsTied, KnowsAsked, KnowsTick, ReadsAs, WalkBoth, answer_step}
-use Rattle.proof_requests.proofs.Doing.{IsBeside, beside_same}
+use Rattle.proof_requests.specs.Asking.{AsksNothing, Doing, TieAsked, doing_of}
+use Rattle.proof_requests.specs.Walking.{AsksBefore, Ground, HalfTick, IsNodeTick, IsRead, IsTied, KnowsAsked, KnowsTick, ReadsAs}
+use Rattle.proof_requests.proofs.Doing.{IsBeside, beside_same, same_asks}
 use Rattle.proof_requests.proofs.OnLine.{IsAnswer}
-use Rattle.proof_requests.proofs.Telling.{ChangesFrame, IsQuiet, mark_quiet, tie_anew, tie_in_vain, tie_missed, tie_quiet, tie_said}
+use Rattle.proof_requests.proofs.Queued.{AreRead, PayloadsBring, served_is_node}
+use Rattle.proof_requests.proofs.Queueing.{opened_asks}
+use Rattle.proof_requests.proofs.Spelled.{id_from, id_to, read_again}
+use Rattle.proof_requests.proofs.Telling.{IsQuiet, mark_quiet, tie_anew, tie_in_vain, tie_missed, tie_quiet, tie_said}
 use Rattle.proof_requests.proofs.Walking.{answer_comes_tie, at_end, event_quiet, frame_comes_tie, judges_acknowledgement, judges_can, judges_frame, judges_nak, line_ticks_tie, noted_notes, others_quiet, request_ticks_tie, same_doing, submits_tie, submitted_doing}
 
 -- ---- where no part of the host runs
@@ -84,13 +91,13 @@ as_known here is past m same known = subst (λ (p : Phase). KnowsAsked p past m)
 ground_at : (here is : Phase) (past : List Entry) (m : HostMachine) → here ≡ is → Ground here past m → Ground is past m
 ground_at here is past m same ground = subst (λ (p : Phase). Ground p past m) same ground
 
-not_awaiting : (awaits : Bool) (e : Entry) (told more : List Entry) → (awaits ≡ true → told ≡ []) → told ≡ e ∷ more → awaits ≡ false
+pub not_awaiting : (awaits : Bool) (e : Entry) (told more : List Entry) → (awaits ≡ true → told ≡ []) → told ≡ e ∷ more → awaits ≡ false
 not_awaiting false e told more numbered are = refl
 not_awaiting true e told more numbered are = absurd (let bad : e ∷ more ≡ [] = sym are ∙ numbered refl in cc)
 
 -- where something is told, the number of the tick stands
-time_told : (here : Phase) (past told : List Entry) (m : HostMachine) → Ground here past m → IsNumbered m told → (e : Entry) (more : List Entry) → told ≡ e ∷ more → clock past ≡ m.clock
-time_told here past told m ground numbered e more are = ground.0 (not_awaiting m.awaits e told more numbered are)
+pub time_told : (here : Phase) (past told : List Entry) (m : HostMachine) → Ground here past m → IsNumbered m told → (e : Entry) (more : List Entry) → told ≡ e ∷ more → clock past ≡ m.clock
+time_told here past told m ground numbered e more are = clock_is past m ground.0.0.0.1 (not_awaiting m.awaits e told more numbered are)
 
 -- ---- units of the chip
 
@@ -98,36 +105,23 @@ frame_step : (here : Phase) (past : List Entry) (m : HostMachine) (f : FramePart
 frame_step here past m f is known =
     between here past (entry.Written Chip (unit_text (Framed f)) ∷ []) m (happens m (Comes (Framed f))) is refl (λ line_now now tie. frame_comes_tie past line_now now m.came (doing_of m.state) f tie) known
 
-no_answer_left : (came : List LineUnit) (unit : LineUnit) → IsAnswer unit → AreFrames (came ++ unit ∷ []) → ⊥
-no_answer_left came Ack is frames = (all-right IsFramed came (Ack ∷ []) frames).0
-no_answer_left came Nak is frames = (all-right IsFramed came (Nak ∷ []) frames).0
-no_answer_left came Can is frames = (all-right IsFramed came (Can ∷ []) frames).0
-no_answer_left came (Framed f) is frames = is
+-- an answer comes where items may be judged
+answer_goes : (here : Phase) (past : List Entry) (m : HostMachine) (unit : LineUnit) → m.awaits ≡ false → IsAnswer unit → is_answer (unit_text unit) ≡ true → here ≡ Open → Ground here past m
+    → KnowsAsked here past m → Goes here past m (Comes unit)
+answer_goes here past m unit numbered answers text is ground known =
+    let there = ground_at here Open past m is ground in
+    leads here Open past m (Comes unit) is
+    (answer_comes_tie past m.clock m.came (doing_of m.state) unit answers text (clock_is past m there.0.0.0.1 numbered) there.0.0.1.frames (as_known here Open past m is known))
 
-answer_step_goes : (here : Phase) (past : List Entry) (m : HostMachine) (unit : LineUnit) → IsBetween here → m.awaits ≡ false → IsAnswer unit → is_answer (unit_text unit) ≡ true → Ground here past m
-    → Ground here (past ++ entry.Written Chip (unit_text unit) ∷ []) (happens m (Comes unit)) → KnowsAsked here past m → Goes here past m (Comes unit)
-answer_step_goes Open past m unit is numbered answers text ground later known =
-    answer_comes_tie past m.clock m.came (doing_of m.state) unit answers text (ground.0 numbered) ground.1.0.frames known
-answer_step_goes Resting past m unit is numbered answers text ground later known = absurd (no_answer_left m.came unit answers later.1.1)
-answer_step_goes Risen past m unit is numbered answers text ground later known = absurd (no_answer_left m.came unit answers later.1.1)
-answer_step_goes (Asked line) past m unit is numbered answers text ground later known = absurd is
-answer_step_goes (Ticking left) past m unit is numbered answers text ground later known = absurd is
-answer_step_goes (Behind left) past m unit is numbered answers text ground later known = absurd is
-answer_step_goes Sleeping past m unit is numbered answers text ground later known = absurd is
-answer_step_goes Submitting past m unit is numbered answers text ground later known = absurd is
-
-comes : (here : Phase) (past : List Entry) (m : HostMachine) (unit : LineUnit) → IsBetween here → m.awaits ≡ false → Ground here past m
-    → Ground here (past ++ entry.Written Chip (unit_text unit) ∷ []) (happens m (Comes unit)) → KnowsAsked here past m → Goes here past m (Comes unit)
-comes here past m (Framed f) is numbered ground later known = frame_step here past m f is known
-comes here past m Ack is numbered ground later known = answer_step_goes here past m Ack is numbered tt refl ground later known
-comes here past m Nak is numbered ground later known = answer_step_goes here past m Nak is numbered tt refl ground later known
-comes here past m Can is numbered ground later known = answer_step_goes here past m Can is numbered tt refl ground later known
-
-changes_of : (past : List Entry) (text : List ℕ) (marks : List Entry) → EachAfter ChangesFrames (past ++ entry.Written Chip text ∷ []) marks → ChangesFrame text marks
-changes_of past text [] each = tt
-changes_of past text (entry.Garbled Chip unit ∷ more) each = sym (folded-append answer_step false past (entry.Written Chip text ∷ [])) ∙ each.0
-changes_of past text (entry.Garbled Host unit ∷ more) each = tt
-changes_of past text (e ∷ more) each = tt
+comes : (here : Phase) (past : List Entry) (m : HostMachine) (unit : LineUnit) → IsBetween here → m.awaits ≡ false → MayCome here unit → Ground here past m → KnowsAsked here past m
+    → Goes here past m (Comes unit)
+comes here past m (Framed f) is numbered may ground known = frame_step here past m f is known
+comes here past m Ack is numbered (inl framed) ground known = absurd framed
+comes here past m Nak is numbered (inl framed) ground known = absurd framed
+comes here past m Can is numbered (inl framed) ground known = absurd framed
+comes here past m Ack is numbered (inr there) ground known = answer_goes here past m Ack numbered tt refl there ground known
+comes here past m Nak is numbered (inr there) ground known = answer_goes here past m Nak numbered tt refl there ground known
+comes here past m Can is numbered (inr there) ground known = answer_goes here past m Can numbered tt refl there ground known
 
 -- ---- lines
 
@@ -147,7 +141,7 @@ none_on line is = refl
 beside_so : (event these : HostEvent) → event ≡ these → IsBeside these → IsBeside event
 beside_so event these same beside = subst IsBeside (sym same) beside
 
-asked_beside : (line : Line) (h : HostState) (event : HostEvent) → IsAskedBy line h event → IsBeside event
+pub asked_beside : (line : Line) (h : HostState) (event : HostEvent) → IsAskedBy line h event → IsBeside event
 asked_beside (lines.Command order) h event is = beside_so event _ is tt
 asked_beside (lines.Send node word) h event is = beside_so event _ is.1 tt
 asked_beside (lines.Get node end) h event is = beside_so event _ is.1 tt
@@ -192,7 +186,7 @@ numbers Sleeping past m awaits ground known = tie_quiet past (entry.Time m.clock
 numbers Submitting past m awaits ground known = tie_quiet past (entry.Time m.clock ∷ []) m.clock m.clock m.came (doing_of m.state) (tt, tt) known
 numbers Risen past m awaits ground known =
     record { before = known.before; next = known.next; tie = tie_quiet past (entry.Time m.clock ∷ []) known.before known.before m.came (doing_of m.state) (tt, tt) known.tie }
-numbers (Asked line) past m awaits ground known = absurd (both_ways m.awaits ground.1.0.unnumbered awaits)
+numbers (Asked line) past m awaits ground known = absurd (both_ways m.awaits ground.0.0.1.unnumbered awaits)
 numbers (Behind left) past m awaits ground known = tie_quiet past (entry.Time m.clock ∷ []) m.clock m.clock m.came (doing_of (after_all m.state left)) (tt, tt) known
 numbers (Ticking left) past m awaits ground (inl (nodes, is, all, known)) =
     inl (nodes, is, all, record { before = known.before; next = known.next; tie = tie_quiet past (entry.Time m.clock ∷ []) known.before known.before m.came (doing_of m.state) (tt, tt) known.tie })
@@ -233,7 +227,7 @@ item_goes past m (Good (Framed f)) rest behind told now ground tie =
     ∙ ap (λ (l : List Entry). entry.Written Host (unit_text Ack) ∷ l) (append-nil marks) in
     subst (λ (l : List Entry). Judged past m (Good (Framed f)) rest behind l) (sym are)
     (judges_frame past m.clock m.state f rest behind marks (time_told Open past told m ground now.numbered (entry.Written Host (unit_text Ack)) marks are) now.followed all
-    (subst (TieFrames past) now.takes ground.1.0.frames)
+    (subst (TieFrames past) now.takes ground.0.0.1.frames)
     (subst (λ (l : List LineUnit). TieAsked past m.clock m.clock l (doing_of m.state)) now.takes tie))
 item_goes past m (Good Ack) rest behind told now ground tie =
     none_told past told m.clock rest (doing_of (after_all (after m.state (Hears (Good Ack))) behind)) now.told_so
@@ -291,7 +285,7 @@ tick_does first left past m event told event_is is numbered ground (inl (nodes, 
           (record {
             before = known.before;
             next = known.next;
-            tie = line_ticks_tie past told known.before m.clock m.came m.state known.next ground.1.1 (time_told (Ticking (first ∷ left)) past told m ground numbered)
+            tie = line_ticks_tie past told known.before m.clock m.came m.state known.next ground.0.1 (time_told (Ticking (first ∷ left)) past told m ground numbered)
                 (subst (λ (e : HostEvent). AreTold (outs m.state e) told) line_is is) known.tie;
           }),
     ))
@@ -311,7 +305,7 @@ request_notes : (h : HostState) (event : HostEvent) → IsOfRequest event → Al
 request_notes h (Requests_do event moment) is = noted_notes (request_entries h event)
 request_notes h event is = absurd is
 
-behind_notes : (first : HostEvent) (left : List HostEvent) (past : List Entry) (m : HostMachine) → KnowsJudged (Behind (first ∷ left)) past m → AllByRecursion IsNote (outs m.state first)
+pub behind_notes : (first : HostEvent) (left : List HostEvent) (past : List Entry) (m : HostMachine) → KnowsJudged (Behind (first ∷ left)) past m → AllByRecursion IsNote (outs m.state first)
 behind_notes first left past m (frames, inl behind) =
     let follow = frame_all behind.frame.first behind.frame.frame (behind.frame.gone ++ (first ∷ left)) behind.frame.followed in
     follow_notes (unit_text (Framed behind.frame.frame)) m.state first (all-right (MayFollow (unit_text (Framed behind.frame.frame))) behind.frame.gone (first ∷ left) follow).0
@@ -322,7 +316,7 @@ behind_does : (first : HostEvent) (left : List HostEvent) (past : List Entry) (m
 behind_does first left past m event told event_is is ground known =
     subst (λ (e : HostEvent). KnowsAsked (Behind left) (past ++ told) (done m e)) (sym event_is)
     (tie_quiet past told m.clock m.clock m.came (doing_of (after_all (after m.state first) left))
-    (event_quiet m.state first told (behind_notes first left past m ground.1.0) (subst (λ (e : HostEvent). AreTold (outs m.state e) told) event_is is)) known)
+    (event_quiet m.state first told (behind_notes first left past m ground.0.0.1) (subst (λ (e : HostEvent). AreTold (outs m.state e) told) event_is is)) known)
 
 -- of a pump
 sleep_beside : (full : Bool) (n : ℕ) → IsBeside (if full then Drops_no_more n else Queues_no_more n)
@@ -340,15 +334,15 @@ sleep_does past m node event told event_is is tie =
     (subst (λ (e : HostEvent). AllByRecursion IsNote (outs m.state e)) (sym event_is) (sleep_notes m.state (is_full m.state) node)) is tie
 
 -- what is submitted, by its purpose
-free_of : (h : HostState) (event : HostEvent) → IsNext h event → is_busy (doing_of h).turn ≡ false
-free_of h event next = next.0.free_line
+free_of : (h : HostState) (event : HostEvent) → IsNext h event → IsFree h
+free_of h event next = next.0
 
-written_tie : (past told : List Entry) (m : HostMachine) (purpose : Purpose) (event : HostEvent) → doing_of (after m.state event) ≡ submitted_doing purpose m.state.requests.last_id
-    → AreFrames m.came → is_busy m.state.side.turn ≡ false → ReadsAs m.state purpose → ((e : Entry) (more : List Entry) → told ≡ e ∷ more → clock past ≡ m.clock)
+written_tie : (past told : List Entry) (m : HostMachine) (purpose : Purpose) (event : HostEvent) → doing_of (after m.state event) ≡ submitted_doing purpose m.state.requests.last_id m.state.requests.first
+    → AreFrames m.came → IsFree m.state → ReadsAs m.state purpose → ((e : Entry) (more : List Entry) → told ≡ e ∷ more → clock past ≡ m.clock)
     → AreTold (Write (Framed (frame_of purpose (next_id m.state.requests.last_id))) ∷ []) told → IsTied past m → IsTied (past ++ told) (done m event)
 written_tie past told m purpose event does frames free read time is tie =
-    same_doing (past ++ told) m.clock m.clock m.came (submitted_doing purpose m.state.requests.last_id) (doing_of (after m.state event)) does
-    (submits_tie past told m.clock m.state.requests.last_id m.came (doing_of m.state) purpose frames free read time is tie)
+    same_doing (past ++ told) m.clock m.clock m.came (submitted_doing purpose m.state.requests.last_id m.state.requests.first) (doing_of (after m.state event)) does
+    (submits_tie past told m.clock m.state.requests.last_id m.came (doing_of m.state) purpose frames free.free_line free.none_under_way read time is tie)
 
 -- which events a pump may submit
 abbrev IsSubmission : HostEvent → Type 0
@@ -374,99 +368,118 @@ submissions = record {
 
 -- the task that waited longest is under way
 front_does : (h : HostState) (queue : List Task) → h.requests.queue ≡ queue → (queue ≡ [] → ⊥) → h.requests.owes ≡ false
-    → doing_of (after h Submits_front) ≡ submitted_doing (task_purpose h.requests.queue) h.requests.last_id
+    → doing_of (after h Submits_front) ≡ submitted_doing (task_purpose h.requests.queue) h.requests.last_id h.requests.first
 front_does h [] is some paid = absurd (some refl)
 front_does h (task ∷ rest) is some paid =
-    front_by (h.requests.queue) is ∙ ap (λ (l : List Task). submitted_doing (task_purpose l) h.requests.last_id) (sym is)
+    front_by (h.requests.queue) is ∙ ap (λ (l : List Task). submitted_doing (task_purpose l) h.requests.last_id h.requests.first) (sym is)
   where
     front_by : (queue : List Task) → queue ≡ task ∷ rest
         → doing_of (record h { requests = task_begun h.requests queue; side = record { turn = Copied (frame_of (task_purpose queue) (next_id h.requests.last_id)) 1 0; collisions = h.side.collisions } })
-        ≡ submitted_doing (task_purpose (task ∷ rest)) h.requests.last_id
+        ≡ submitted_doing (task_purpose (task ∷ rest)) h.requests.last_id h.requests.first
     front_by [] are = absurd (let bad : [] ≡ task ∷ rest = are in cc)
     front_by (first ∷ others) are =
         let same : first ≡ task = cc in
-        ap (λ (t : Task). record (submitted_doing (Housekeeping t) h.requests.last_id) { owes = h.requests.owes }) same
-        ∙ ap (λ (b : Bool). record (submitted_doing (Housekeeping task) h.requests.last_id) { owes = b }) paid
+        ap (λ (t : Task). record (submitted_doing (Housekeeping t) h.requests.last_id h.requests.first) { leaving = record { owes = h.requests.owes; first = h.requests.first } }) same
+        ∙ ap (λ (b : Bool). record (submitted_doing (Housekeeping task) h.requests.last_id h.requests.first) { leaving = record { owes = b; first = h.requests.first } }) paid
 
-part_does : (h : HostState) (p : Purpose) (d : Doing) → d ≡ record (submitted_doing p h.requests.last_id) { owes = h.requests.owes } → h.requests.owes ≡ false → d ≡ submitted_doing p h.requests.last_id
-part_does h p d is paid = is ∙ ap (λ (b : Bool). record (submitted_doing p h.requests.last_id) { owes = b }) paid
+part_does : (h : HostState) (p : Purpose) (d : Doing) → d ≡ record (submitted_doing p h.requests.last_id h.requests.first) { leaving = record { owes = h.requests.owes; first = h.requests.first } } → h.requests.owes ≡ false
+    → d ≡ submitted_doing p h.requests.last_id h.requests.first
+part_does h p d is paid = is ∙ ap (λ (b : Bool). record (submitted_doing p h.requests.last_id h.requests.first) { leaving = record { owes = b; first = h.requests.first } }) paid
 
-submit_does : (past : List Entry) (m : HostMachine) (event : HostEvent) (told : List Entry) → IsSubmission event → IsNext m.state event → MayAll m.state (event ∷ []) → AreTold (outs m.state event) told
+-- what is written is read as it
+part_read : (h : HostState) (n : ℕ) (more : Bool) (payload : List ℕ) → next_of h.nodes h.served ≡ Some n → 1 ≤ length payload → ReadsAs h (Attempt n more payload)
+part_read h n more payload next some =
+    read_again (Attempt n more payload) (next_id h.requests.last_id) (served_is_node h n next, some, id_from h.requests.last_id, id_to h.requests.last_id)
+
+front_is_read : (h : HostState) (queue : List Task) → AreRead queue → ReadsAs h (task_purpose queue)
+front_is_read h [] are = read_again Abort (next_id h.requests.last_id) tt
+front_is_read h (task ∷ rest) are = read_again (Housekeeping task) (next_id h.requests.last_id) (are.0 (next_id h.requests.last_id) (id_from h.requests.last_id) (id_to h.requests.last_id))
+
+event_is_read : PayloadsBring → (h : HostState) (event : HostEvent) → HostFacts h → may_event h event → AreRead h.requests.queue → IsRead h event
+event_is_read brings h Submits_abort facts may are = read_again Abort (next_id h.requests.last_id) tt
+event_is_read brings h Submits_front facts may are = front_is_read h h.requests.queue are
+event_is_read brings h (Starts n plan more payload) facts may are = part_read h n more payload may.0.next (brings.starts h n plan more payload facts may.1).0
+event_is_read brings h (Gives_text n payload) facts may are = part_read h n false payload may.0.next (brings.texts h n payload facts may.1)
+event_is_read brings h (Gives_segment n more payload) facts may are =
+    part_read h n more payload may.0.next (brings.segments h (node_of h n) (open_session (node_of h n).book) (node_of h n).next_segment payload may.2).0
+event_is_read brings h event facts may are = tt
+
+submit_does : PayloadsBring → (past : List Entry) (m : HostMachine) (event : HostEvent) (told : List Entry) → IsSubmission event → IsNext m.state event → MayAll m.state (event ∷ []) → AreTold (outs m.state event) told
     → IsNumbered m told → Ground Submitting past m → IsTied past m → IsTied (past ++ told) (done m event)
-submit_does past m Submits_abort told sub next may is numbered ground tie =
-    written_tie past told m Abort Submits_abort refl ground.1.1.0 (free_of m.state Submits_abort next) (ground.1.1.1 Submits_abort next may) (time_told Submitting past told m ground numbered) is tie
-submit_does past m Submits_front told sub next may is numbered ground tie =
-    written_tie past told m (task_purpose m.state.requests.queue) Submits_front (front_does m.state m.state.requests.queue refl may.0.2 may.0.1) ground.1.1.0 (free_of m.state Submits_front next)
-    (ground.1.1.1 Submits_front next may) (time_told Submitting past told m ground numbered) is tie
-submit_does past m (Starts n plan more payload) told sub next may is numbered ground tie =
-    written_tie past told m (Attempt n more payload) (Starts n plan more payload) (part_does m.state (Attempt n more payload) (doing_of (after m.state (Starts n plan more payload))) refl may.0.0.paid) ground.1.1.0
-    (free_of m.state (Starts n plan more payload) next) (ground.1.1.1 (Starts n plan more payload) next may) (time_told Submitting past told m ground numbered) is tie
-submit_does past m (Gives_text n payload) told sub next may is numbered ground tie =
-    written_tie past told m (Attempt n false payload) (Gives_text n payload) (part_does m.state (Attempt n false payload) (doing_of (after m.state (Gives_text n payload))) refl may.0.0.paid) ground.1.1.0
-    (free_of m.state (Gives_text n payload) next) (ground.1.1.1 (Gives_text n payload) next may) (time_told Submitting past told m ground numbered) is tie
-submit_does past m (Gives_segment n more payload) told sub next may is numbered ground tie =
-    written_tie past told m (Attempt n more payload) (Gives_segment n more payload) (part_does m.state (Attempt n more payload) (doing_of (after m.state (Gives_segment n more payload))) refl may.0.0.paid) ground.1.1.0
-    (free_of m.state (Gives_segment n more payload) next) (ground.1.1.1 (Gives_segment n more payload) next may) (time_told Submitting past told m ground numbered) is tie
-submit_does past m (Begins n session command) told sub next may is numbered ground tie = beside_goes past m (Begins n session command) told tt (tt, tt) is tie
-submit_does past m (Begin_unkept n) told sub next may is numbered ground tie = beside_goes past m (Begin_unkept n) told tt (tt, tt) is tie
-submit_does past m event told sub next may is numbered ground tie = absurd sub
+submit_does brings past m Submits_abort told sub next may is numbered ground tie =
+    written_tie past told m Abort Submits_abort refl ground.0.1 (free_of m.state Submits_abort next) (event_is_read brings m.state Submits_abort ground.0.0.0.0.0.facts.host may.0 ground.1.0) (time_told Submitting past told m ground numbered) is tie
+submit_does brings past m Submits_front told sub next may is numbered ground tie =
+    written_tie past told m (task_purpose m.state.requests.queue) Submits_front (front_does m.state m.state.requests.queue refl may.0.2 may.0.1) ground.0.1 (free_of m.state Submits_front next)
+    (event_is_read brings m.state Submits_front ground.0.0.0.0.0.facts.host may.0 ground.1.0) (time_told Submitting past told m ground numbered) is tie
+submit_does brings past m (Starts n plan more payload) told sub next may is numbered ground tie =
+    written_tie past told m (Attempt n more payload) (Starts n plan more payload) (part_does m.state (Attempt n more payload) (doing_of (after m.state (Starts n plan more payload))) refl may.0.0.paid) ground.0.1
+    (free_of m.state (Starts n plan more payload) next) (event_is_read brings m.state (Starts n plan more payload) ground.0.0.0.0.0.facts.host may.0 ground.1.0) (time_told Submitting past told m ground numbered) is tie
+submit_does brings past m (Gives_text n payload) told sub next may is numbered ground tie =
+    written_tie past told m (Attempt n false payload) (Gives_text n payload) (part_does m.state (Attempt n false payload) (doing_of (after m.state (Gives_text n payload))) refl may.0.0.paid) ground.0.1
+    (free_of m.state (Gives_text n payload) next) (event_is_read brings m.state (Gives_text n payload) ground.0.0.0.0.0.facts.host may.0 ground.1.0) (time_told Submitting past told m ground numbered) is tie
+submit_does brings past m (Gives_segment n more payload) told sub next may is numbered ground tie =
+    written_tie past told m (Attempt n more payload) (Gives_segment n more payload) (part_does m.state (Attempt n more payload) (doing_of (after m.state (Gives_segment n more payload))) refl may.0.0.paid) ground.0.1
+    (free_of m.state (Gives_segment n more payload) next) (event_is_read brings m.state (Gives_segment n more payload) ground.0.0.0.0.0.facts.host may.0 ground.1.0) (time_told Submitting past told m ground numbered) is tie
+submit_does brings past m (Begins n session command) told sub next may is numbered ground tie = beside_goes past m (Begins n session command) told tt (tt, tt) is tie
+submit_does brings past m (Begin_unkept n) told sub next may is numbered ground tie = beside_goes past m (Begin_unkept n) told tt (tt, tt) is tie
+submit_does brings past m event told sub next may is numbered ground tie = absurd sub
 
-does : (here next : Phase) (past : List Entry) (m : HostMachine) (event : HostEvent) (told : List Entry) → May here m (Does event told) next → Ground here past m → KnowsAsked here past m
+does : PayloadsBring → (here next : Phase) (past : List Entry) (m : HostMachine) (event : HostEvent) (told : List Entry) → May here m (Does event told) next → Ground here past m → KnowsAsked here past m
     → Goes next past m (Does event told)
-does (Ticking (first ∷ left)) next past m event told may ground known =
+does brings (Ticking (first ∷ left)) next past m event told may ground known =
     leads next (Ticking left) past m (Does event told) may.0.1 (tick_does first left past m event told may.0.0 may.2 may.3 ground known)
-does (Behind (first ∷ left)) next past m event told may ground known =
+does brings (Behind (first ∷ left)) next past m event told may ground known =
     leads next (Behind left) past m (Does event told) may.0.1 (behind_does first left past m event told may.0.0 may.2 ground known)
-does Sleeping next past m event told may ground known =
+does brings Sleeping next past m event told may ground known =
     let (node, wants, is, next_is) = may.0 in
     leads next Sleeping past m (Does event told) next_is (sleep_does past m node event told is may.2 known)
-does Submitting next past m event told may ground known =
+does brings Submitting next past m event told may ground known =
     leads next Submitting past m (Does event told) may.0.1
-    (submit_does past m event told (next_is IsSubmission submissions m.state event may.0.0) may.0.0 may.1 may.2 may.3 ground known)
-does (Ticking []) next past m event told may ground known = absurd may.0
-does (Behind []) next past m event told may ground known = absurd may.0
-does Resting next past m event told may ground known = absurd may.0
-does (Asked line) next past m event told may ground known = absurd may.0
-does Risen next past m event told may ground known = absurd may.0
-does Open next past m event told may ground known = absurd may.0
+    (submit_does brings past m event told (next_is IsSubmission submissions m.state event may.0.0) may.0.0 may.1 may.2 may.3 ground known)
+does brings (Ticking []) next past m event told may ground known = absurd may.0
+does brings (Behind []) next past m event told may ground known = absurd may.0
+does brings Resting next past m event told may ground known = absurd may.0
+does brings (Asked line) next past m event told may ground known = absurd may.0
+does brings Risen next past m event told may ground known = absurd may.0
+does brings Open next past m event told may ground known = absurd may.0
 
 -- ---- the walk
 
-step_goes : (here next : Phase) (past : List Entry) (m : HostMachine) (one : Step) → May here m one next → Ground here past m → Ground next (past ++ entries m one) (happens m one)
-    → EachAfter ChangesFrames past (entries m one) → KnowsAsked here past m → Goes next past m one
-step_goes here next past m (Tells e) may ground later each known =
+step_goes : PayloadsBring → (here next : Phase) (past : List Entry) (m : HostMachine) (one : Step) → May here m one next → Ground here past m → KnowsAsked here past m
+    → Goes next past m one
+step_goes brings here next past m (Tells e) may ground known =
     leads next here past m (Tells e) may.3
     (between here past (e ∷ []) m m may.0 refl (λ line_now now tie. tie_quiet past (e ∷ []) line_now now m.came (doing_of m.state) (others_quiet e may.1, tt) tie) known)
-step_goes here next past m (Comes unit) may ground later each known =
+step_goes brings here next past m (Comes unit) may ground known =
     leads next here past m (Comes unit) may.2
-    (comes here past m unit may.0 may.1 ground (ground_at next here (past ++ entry.Written Chip (unit_text unit) ∷ []) (happens m (Comes unit)) may.2 later) known)
-step_goes here next past m (Misses text marks) may ground later each known =
+    (comes here past m unit may.0 may.1 may.3 ground known)
+step_goes brings here next past m (Misses text marks) may ground known =
     leads next here past m (Misses text marks) may.3
     (between here past (entry.Written Chip text ∷ marks) m m may.0 refl
-    (λ line_now now tie. tie_missed past text marks line_now now m.came (doing_of m.state) may.1 (changes_of past text marks each.1) tie) known)
-step_goes here next past m (Says words line) may ground later each known =
+    (λ line_now now tie. tie_missed past text marks line_now now m.came (doing_of m.state) may.1 may.4 tie) known)
+step_goes brings here next past m (Says words line) may ground known =
     leads next (Asked line) past m (Says words line) may.3 (record { before = past; words = words; are = refl; read = may.2; tie = as_known here Resting past m may.0 known })
-step_goes here next past m (Says_nothing words) may ground later each known =
+step_goes brings here next past m (Says_nothing words) may ground known =
     leads next Resting past m (Says_nothing words) (may.3 ∙ may.0)
     (tie_said past words m.clock m.clock m.came (doing_of m.state) (ap is_restart may.2) (as_known here Resting past m may.0 known))
-step_goes here next past m (Asks event) may ground later each known =
+step_goes brings here next past m (Asks event) may ground known =
     leads next Open past m (Asks event) may.5 (asks may.0 past m event may.2 (as_known here (Asked may.0) past m may.1 known))
-step_goes here next past m (Refuses refusal) may ground later each known =
+step_goes brings here next past m (Refuses refusal) may ground known =
     leads next Open past m (Refuses refusal) may.4 (refuses may.0 past m refusal (as_known here (Asked may.0) past m may.1 known))
-step_goes here next past m (Shows node) may ground later each known =
+step_goes brings here next past m (Shows node) may ground known =
     leads next Open past m (Shows node) may.2
     (tie_quiet past (shown_values m.state node ∷ []) m.clock m.clock m.came (doing_of m.state) (tt, tt) (on_words (lines.Store node) past m refl (as_known here (Asked (lines.Store node)) past m may.0 known)))
-step_goes here next past m (Restarts state) may ground later each known =
+step_goes brings here next past m (Restarts state) may ground known =
     leads next Open past m (Restarts state) may.2
-    (restarts past m state ((ground_at here (Asked lines.Restart) past m may.0 ground).1.1.1 state may.1) (as_known here (Asked lines.Restart) past m may.0 known))
-step_goes here next past m (Begins_tick left) may ground later each known =
+    (restarts past m state (same_asks state (first_host m.keys) (opened_asks m.keys m.records state ground.0.0.0.0.0.told may.1)) (as_known here (Asked lines.Restart) past m may.0 known))
+step_goes brings here next past m (Begins_tick left) may ground known =
     leads next Risen past m (Begins_tick left) may.2
     (record { before = m.clock; next = refl; tie = at_end past m.clock m.clock m.came (doing_of m.state) (as_known here Resting past m may.0 known) })
-step_goes here next past m Numbers may ground later each known = leads next here past m Numbers may.1 (numbers here past m may.0 ground known)
-step_goes here next past m (Judges item rest behind told) may ground later each known =
+step_goes brings here next past m Numbers may ground known = leads next here past m Numbers may.1 (numbers here past m may.0 ground known)
+step_goes brings here next past m (Judges item rest behind told) may ground known =
     leads next (Behind behind) past m (Judges item rest behind told) may.2
     (item_goes past m item rest behind told may.1 (ground_at here Open past m may.0 ground) (as_known here Open past m may.0 known))
-step_goes here next past m (Does event told) may ground later each known = does here next past m event told may ground known
+step_goes brings here next past m (Does event told) may ground known = does brings here next past m event told may ground known
 
 to : (next phase : Phase) (past : List Entry) (m : HostMachine) → next ≡ phase → KnowsAsked phase past m → KnowsAsked next past m
 to next phase past m is known = subst (λ (p : Phase). KnowsAsked p past m) (sym is) known
@@ -481,33 +494,25 @@ ticked past m (inl (nodes, are, all, known)) = absurd (let bad : [] ≡ Line_tic
 ticked past m (inr (inl (nodes, are, all, known))) = absurd (let bad : [] ≡ Requests_do request_ticks BeforeItsTick ∷ nodes = are in cc)
 ticked past m (inr (inr (all, known))) = known
 
-turn_goes : (here next : Phase) (past : List Entry) (m : HostMachine) → Turns here m next → Ground here past m → Ground next past m → KnowsAsked here past m → KnowsAsked next past m
-turn_goes Resting next past m is ground later known = to next Open past m is known
-turn_goes (Asked line) next past m (inl (nothing, is)) ground later known = to next Open past m is (on_words line past m (none_on line nothing) known)
-turn_goes (Asked line) next past m (inr (ticks, line_is, is)) ground later known =
+turn_goes : (here next : Phase) (past : List Entry) (m : HostMachine) → Turns here m next → KnowsAsked here past m → KnowsAsked next past m
+turn_goes Resting next past m is known = to next Open past m is known
+turn_goes (Asked line) next past m (inl (nothing, is)) known = to next Open past m is (on_words line past m (none_on line nothing) known)
+turn_goes (Asked line) next past m (inr (ticks, line_is, is)) known =
     to next Resting past m is (on_words line past m (ap (λ (l : Line). is_restart (l ∷ [])) line_is) known)
-turn_goes Risen next past m is ground later known =
+turn_goes Risen next past m is known =
     to next (Ticking (tick_events m.state)) past m is (inl (map Node_ticks (ticking_nodes (after_all m.state first_ticks)), refl, all_nodes (ticking_nodes (after_all m.state first_ticks)), known))
-turn_goes (Ticking []) next past m is ground later known = to next Open past m is (ticked past m known)
-turn_goes (Ticking (first ∷ left)) next past m is ground later known = absurd is
-turn_goes Open next past m is ground later known = to next Sleeping past m is known
-turn_goes (Behind []) next past m is ground later known = to next Open past m is known
-turn_goes (Behind (first ∷ left)) next past m is ground later known = absurd is
-turn_goes Sleeping next past m is ground later known = to next Submitting past m is.1 known
-turn_goes Submitting next past m is ground later known = to next Resting past m is.1 known
+turn_goes (Ticking []) next past m is known = to next Open past m is (ticked past m known)
+turn_goes (Ticking (first ∷ left)) next past m is known = absurd is
+turn_goes Open next past m is known = to next Sleeping past m is known
+turn_goes (Behind []) next past m is known = to next Open past m is known
+turn_goes (Behind (first ∷ left)) next past m is known = absurd is
+turn_goes Sleeping next past m is known = to next Submitting past m is.1 known
+turn_goes Submitting next past m is known = to next Resting past m is.1 known
 
-pub asked_walk : WalkBoth ChangesFrames KnowsAsked
-asked_walk = record { step = step_goes; turn = turn_goes }
-
--- over a walk of the ground it is a walk
-pub over_ground : Walk ChangesFrames Ground → Walk ChangesFrames (both_know Ground KnowsAsked)
-over_ground ground = record {
-  step = λ here next past m one may known.
-      let base = ground.step here next past m one may known.0 in
-      (base.0, (base.1, step_goes here next past m one may known.0 base.1 base.0 known.1));
-  turn = λ here next past m turns known.
-      let base = ground.turn here next past m turns known.0 in
-      (base, turn_goes here next past m turns known.0 base known.1);
+pub asked_walk : PayloadsBring → (First : List Entry → Entry → Type 0) → WalkOver Ground First First KnowsAsked
+asked_walk brings First = record {
+  step = λ here next past m one may ground stand known. (stand, step_goes brings here next past m one may ground known);
+  turn = λ here next past m turns ground known. turn_goes here next past m turns known;
 }
 
 -- a host that asks for nothing, and has said nothing

@@ -17,9 +17,9 @@ use Rattle.law_time.specs.Judged.{acknowledged, frames_come, is_acknowledgement,
 use Rattle.law_transcript.specs.Lists.{shown_after}
 use Rattle.law_time.specs.Requests.{Answer, Asked, answers_from, asked, is_answer, is_missed, is_new, judging_at, up_to_first}
 use Rattle.proof_walk.proofs.Untimed.{AreUntimed, same_time}
-use Rattle.proof_alone.specs.Steps.{DidNotCome, IsOfUnit}
+use Rattle.proof_alone.specs.Steps.{ChangesFrame, DidNotCome, IsOfUnit}
 use Rattle.proof_waking.proofs.Apart.{IsWordless, acknowledged_in, count_more, said_in_vain, said_on, wordless_more}
-use Rattle.proof_requests.specs.Standing.{GoesOn, IsAside, Standing, first_standing, standing_of, with_answer, with_copy, with_entries, with_judging}
+use Rattle.proof_requests.specs.Standing.{prior_of, GoesOn, IsAside, Standing, first_standing, standing_of, with_answer, with_copy, with_entries, with_judging}
 use Rattle.proof_requests.specs.Asking.{AsksNothing, AsksSo, Doing, TieAsked, WasAsked}
 use Rattle.proof_requests.proofs.Growing.{NoFrame, asked_anew, asked_copy, asked_in_vain, asked_new, asked_on, asked_said}
 use Rattle.proof_requests.proofs.Standing.{come_at, stands_answered, stands_aside, stands_copied, stands_judged, stands_lost}
@@ -60,13 +60,13 @@ quiet_aside (entry.Overrun Host) quiet = tt
 quiet_aside (entry.Overrun Chip) quiet = absurd quiet
 quiet_aside e quiet = tt
 
-quiet_goes : (e : Entry) → IsQuiet e → GoesOn e
+pub quiet_goes : (e : Entry) → IsQuiet e → GoesOn e
 quiet_goes (entry.Said words) quiet = absurd quiet
 quiet_goes (entry.Written Host unit) quiet = ap is_data quiet
 quiet_goes (entry.Written Chip unit) quiet = tt
 quiet_goes e quiet = tt
 
-quiet_wordless : (e : Entry) → IsQuiet e → IsWordless e
+pub quiet_wordless : (e : Entry) → IsQuiet e → IsWordless e
 quiet_wordless (entry.Said words) quiet = absurd quiet
 quiet_wordless (entry.Refused refusal) quiet = absurd quiet
 quiet_wordless e quiet = tt
@@ -82,7 +82,7 @@ fresh_wordless [] all = refl
 fresh_wordless (entry.Refused refusal ∷ told) all = absurd all.0
 fresh_wordless (e ∷ told) all = refl
 
-quiet_uncounted : (told : List Entry) → AllByRecursion IsQuiet told → filter is_acknowledgement (written Host told) ≡ []
+pub quiet_uncounted : (told : List Entry) → AllByRecursion IsQuiet told → filter is_acknowledgement (written Host told) ≡ []
 quiet_uncounted [] all = refl
 quiet_uncounted (entry.Written Host unit ∷ told) all =
     ap (λ (l : List ℕ). if is_acknowledgement l then unit ∷ filter is_acknowledgement (written Host told) else filter is_acknowledgement (written Host told)) all.0 ∙ quiet_uncounted told all.1
@@ -91,7 +91,7 @@ quiet_uncounted (e ∷ told) all = quiet_uncounted told all.1
 
 -- ---- how many were judged
 
-acknowledged_more : (past told : List Entry) (more : ℕ) → AllByRecursion IsWordless told → acknowledged_in told ≡ more → acknowledged (past ++ told) ≡ acknowledged past + more
+pub acknowledged_more : (past told : List Entry) (more : ℕ) → AllByRecursion IsWordless told → acknowledged_in told ≡ more → acknowledged (past ++ told) ≡ acknowledged past + more
 acknowledged_more past told more all is =
     ap acknowledged_in (wordless_more past told all) ∙ count_more (since_restart past) told ∙ ap (λ (n : ℕ). acknowledged past + n) is
 
@@ -100,7 +100,7 @@ none_more n = omega arith
 
 -- ---- the request goes on
 
-grown : (past told : List Entry) → asked (past ++ told) ≡ with_entries (asked past) told → WasAsked past → WasAsked (past ++ told)
+pub grown : (past told : List Entry) → asked (past ++ told) ≡ with_entries (asked past) told → WasAsked past → WasAsked (past ++ told)
 grown past told is was = record {
   framed = ap (λ (a : Asked). is_data a.frame) is ∙ was.framed;
   whole = ap (λ (a : Asked). up_to_first a ++ a.following) is ∙ sym (append_assoc (up_to_first (asked past)) (asked past).following told) ∙ ap (λ (l : List Entry). l ++ told) was.whole;
@@ -116,6 +116,12 @@ asks_by past told later count line_now now came d is stands counted asks =
 nothing_grown : (past told : List Entry) (d : Doing) → asked (past ++ told) ≡ with_entries (asked past) told → AsksNothing past d → AsksNothing (past ++ told) d
 nothing_grown past told d is none = record { unasked = ap (λ (a : Asked). a.frame) is ∙ none.unasked; idle = none.idle; none = none.none; paid = none.paid }
 
+pub quiet_on : (past told : List Entry) → AllByRecursion IsQuiet told → asked (past ++ told) ≡ with_entries (asked past) told
+quiet_on past told all = asked_on past told (fresh_wordless told (all-weaker IsQuiet IsWordless quiet_wordless told all)) (all-weaker IsQuiet GoesOn quiet_goes told all)
+
+pub quiet_asides : (told : List Entry) → AllByRecursion IsQuiet told → AllByRecursion IsAside told
+quiet_asides told all = all-weaker IsQuiet IsAside quiet_aside told all
+
 -- after quiet entries, with what came and what the host does as they are
 pub tie_quiet : (past told : List Entry) (line_now now : ℕ) (came : List LineUnit) (d : Doing) → AllByRecursion IsQuiet told → TieAsked past line_now now came d → TieAsked (past ++ told) line_now now came d
 tie_quiet past told line_now now came d all tie = by tie
@@ -124,7 +130,7 @@ tie_quiet past told line_now now came d all tie = by tie
     wordless = all-weaker IsQuiet IsWordless quiet_wordless told all
 
     on : asked (past ++ told) ≡ with_entries (asked past) told
-    on = asked_on past told (fresh_wordless told wordless) (all-weaker IsQuiet GoesOn quiet_goes told all)
+    on = quiet_on past told all
 
     counted : acknowledged (past ++ told) ≡ acknowledged past
     counted = acknowledged_more past told 0 wordless (ap length (quiet_uncounted told all)) ∙ none_more (acknowledged past)
@@ -213,7 +219,7 @@ tie_copied past unit line_now now came d none old same was asks =
 -- ---- a request is written
 
 pub tie_new : (past : List Entry) (unit : List ℕ) (line_now now : ℕ) (came : List LineUnit) (d : Doing) → is_acknowledgement unit ≡ false → is_data unit ≡ true → is_new (asked past) unit ≡ true
-    → AsksSo (first_standing unit (clock (past ++ entry.Written Host unit ∷ []))) line_now now (acknowledged past) came d
+    → AsksSo (first_standing unit (clock (past ++ entry.Written Host unit ∷ [])) (prior_of past)) line_now now (acknowledged past) came d
     → TieAsked (past ++ entry.Written Host unit ∷ []) line_now now came d
 tie_new past unit line_now now came d none framed new asks =
     let is = asked_new past unit new in
@@ -323,11 +329,6 @@ changed_lost text unit frame = record {
   unjudged = λ past. refl;
 }
 
--- each frame that is changed is a frame
-abbrev pub ChangesFrame : List ℕ → List Entry → Type 0
-ChangesFrame text (entry.Garbled Chip unit ∷ more) = is_answer text ≡ false
-ChangesFrame text marks = Unit {0}
-
 pub tie_missed : (past : List Entry) (text : List ℕ) (marks : List Entry) (line_now now : ℕ) (came : List LineUnit) (d : Doing) → DidNotCome marks → ChangesFrame text marks
     → TieAsked past line_now now came d → TieAsked (past ++ entry.Written Chip text ∷ marks) line_now now came d
 tie_missed past text (entry.Dropped Chip ∷ []) line_now now came d did changes tie =
@@ -335,7 +336,7 @@ tie_missed past text (entry.Dropped Chip ∷ []) line_now now came d did changes
 tie_missed past text (entry.Overrun Chip ∷ []) line_now now came d did changes tie =
     tie_lost past (entry.Written Chip text ∷ (entry.Overrun Chip ∷ [])) line_now now came d (lost_one text (entry.Overrun Chip) (inr refl)) tie
 tie_missed past text (entry.Garbled Chip unit ∷ []) line_now now came d did changes tie =
-    tie_quiet past (entry.Written Chip text ∷ (entry.Garbled Chip unit ∷ [])) line_now now came d (changes, (tt, tt)) tie
+    tie_quiet past (entry.Written Chip text ∷ (entry.Garbled Chip unit ∷ [])) line_now now came d (changes.0, (tt, tt)) tie
 tie_missed past text (entry.Garbled Chip unit ∷ entry.Overrun Chip ∷ []) line_now now came d did changes tie =
-    tie_lost past (entry.Written Chip text ∷ (entry.Garbled Chip unit ∷ (entry.Overrun Chip ∷ []))) line_now now came d (changed_lost text unit changes) tie
+    tie_lost past (entry.Written Chip text ∷ (entry.Garbled Chip unit ∷ (entry.Overrun Chip ∷ []))) line_now now came d (changed_lost text unit changes.0) tie
 tie_missed past text marks line_now now came d did changes tie = absurd did

@@ -1,6 +1,6 @@
 -- The request under way goes on, or ends, as the transcript tells: where a frame of the chip is judged, where its frame is acknowledged or given up, and at a tick.
 use Rattle.std.proofs.Common.{◌≡◌, ◌⊎◌, ◌≤◌, ◌<◌, ℕ, ◌+◌, ◌-◌, ◌==◌, ◌&&◌, ◌||◌, Bool, true, false, if◌then◌else◌, inl, inr, List, [], ◌∷◌, ◌++◌, take, refl, sym, ap, ◌∙◌, subst, append-nil, arith}
-use Rattle.std.specs.Prelude.{nat_le, nat_lt}
+use Rattle.std.specs.Prelude.{None, nat_le, nat_lt}
 use Rattle.std.specs.List.{list_all, list_any}
 use Rattle.std.proofs.lemmas.Bool.{and_right, eq-eqb, le-leb, le-ltb, lt-ltb, or_left, or_right}
 use Rattle.serial_frame.specs.declared.unit.Unit.{Unit as LineUnit}
@@ -13,8 +13,8 @@ use Rattle.law_time.specs.Ends.{is_abort_frame, is_before_failing, is_sending, w
 use Rattle.host_requests.specs.declared.under_way.Progress.{Progress}
 use Rattle.host_requests.specs.declared.under_way.Progress.TheVariants.{Submitted, Sent, Answered}
 use Rattle.host_requests.specs.declared.under_way.UnderWay.{UnderWay}
-use Rattle.proof_requests.specs.Standing.{Standing, ends_now, failing_in, first_ending, responses_in, sent_in, ticks_sent, wait_in, with_judging}
-use Rattle.proof_requests.specs.Asking.{AsProgress, EndedByFrame, EndedByLine, EndedInSilence, IsSentBy, IsUnderWay, TieLine, WasGivenUp, WasIgnored, is_owed}
+use Rattle.proof_requests.specs.Standing.{brought_by, Standing, ends_now, failing_in, first_ending, responses_in, sent_in, ticks_sent, wait_in, with_judging}
+use Rattle.proof_requests.specs.Asking.{nothing_left, AsProgress, EndedByFrame, EndedByLine, EndedInSilence, IsSentBy, IsUnderWay, TieLine, WasGivenUp, WasIgnored, is_owed}
 use Rattle.proof_requests.proofs.Line.{GivesUpLater, IsFresh, IsOpenLine, copied_open, failing_four, failing_sent, four_is, paused_open}
 use Rattle.proof_requests.proofs.Judging.{and_true, ending_judged, responses_judged}
 use Rattle.proof_requests.proofs.Ended.{gave_up, wait_judged, wait_too_late, waiting}
@@ -106,10 +106,12 @@ in_time one now count (fails ∷ more) tick_is place (first, later) =
 
 module _ (s : Standing) (one : Judging) (now count : ℕ) (turn : Turn) (id : ℕ) (tick_is : one.tick ≡ now) (place : one.place ≡ count + 1) where
   -- it ends the request
-  pub frame_ends : (u : UnderWay) → IsHeld s now (count + 1) turn → IsUnderWay s now turn id u → ends_now s one ≡ true → EndedByFrame (with_judging s one) now (count + 1) false
+  pub frame_ends : (u : UnderWay) → IsHeld s now (count + 1) turn → IsUnderWay s now turn id u → ends_now s one ≡ true
+      → EndedByFrame (with_judging s one) now (count + 1) (record { owes = false; first = brought_by (request_in s.frame) one.unit })
   frame_ends u held is ends = record {
     paid = refl;
     one = one;
+    brings = refl;
     first = ending_judged s one is.unended ∙ ap (λ (b : Bool). if b then one ∷ [] else []) ends;
     by_now = omega (arith, tick_is);
     judged = omega (arith, place);
@@ -186,10 +188,11 @@ unwaited s fails responses unsent are over =
     by false [] over = refl
     by false (response ∷ more) over = ap (λ (b : Bool). (b && true) || false) (wait_too_late (response.tick + 65) fails over)
 
-pub line_ends : (s : Standing) (now count : ℕ) → first_ending s ≡ [] → (given_up : WasGivenUp s now count) → Over now [] (responses_in s) → EndedByLine s now count false
+pub line_ends : (s : Standing) (now count : ℕ) → first_ending s ≡ [] → (given_up : WasGivenUp s now count) → Over now [] (responses_in s) → EndedByLine s now count nothing_left
 line_ends s now count none given_up over =
     let gave = gave_up s now count given_up in record {
       paid = refl;
+      nothing = refl;
       given_up = given_up;
       no_frame = ap (λ (l : List Judging). list_any (λ one. list_all (is_before_failing one) (failing_in s)) l) none;
       no_wait = ap (λ (l : List Failing). list_any (λ wait. list_all (waits_before_failing wait) l) (wait_in s)) gave.failing
@@ -208,13 +211,14 @@ ignored_waits tick false [] over = refl
 ignored_waits tick false (one ∷ more) over = ap (λ (b : Bool). ((b || false) && true) || false) (le-ltb (one.tick + 65) tick (over one more refl))
 
 pub line_ignores : (s : Standing) (now count : ℕ) → first_ending s ≡ [] → s.copies ≡ 4 → WasIgnored s now → ((one : Judging) (more : List Judging) → responses_in s ≡ one ∷ more → now ≤ one.tick + 65)
-    → EndedByLine s now count false
+    → EndedByLine s now count nothing_left
 line_ignores s now count none four ignored over =
     let unsent : sent_in s ≡ [] = ap (λ (l : List Answer). take 1 (ticks_sent l)) ignored.none in
     let failing : failing_in s ≡ record { tick = s.last + 15; at_answer = false; frames = 0 } ∷ []
     = failing_four s (four_is s.copies four) unsent ∙ ap (λ (l : List Answer). failing_by l s.last ∷ []) ignored.none in
     record {
       paid = refl;
+      nothing = refl;
       given_up = (four, inr ignored);
       no_frame = ap (λ (l : List Judging). list_any (λ one. list_all (is_before_failing one) (failing_in s)) l) none;
       no_wait = ap (λ (l : List Failing). list_any (λ wait. list_all (waits_before_failing wait) l) (wait_in s)) failing
@@ -248,10 +252,11 @@ later_fails wait now count (fails ∷ more) is (first, later) = ap (λ (b : Bool
         or_right (nat_lt wait fails.tick) (fails.at_answer && (wait == fails.tick))
         (ap (λ (b : Bool). b && (wait == fails.tick)) at_answer ∙ eq-eqb wait fails.tick (is ∙ sym same))
 
-silent_at : (s : Standing) (wait now count : ℕ) → wait_in s ≡ wait ∷ [] → wait ≡ now → first_ending s ≡ [] → GivesUpLater now count (failing_in s) → EndedInSilence s now (is_owed s wait)
+silent_at : (s : Standing) (wait now count : ℕ) → wait_in s ≡ wait ∷ [] → wait ≡ now → first_ending s ≡ [] → GivesUpLater now count (failing_in s) → EndedInSilence s now (record { owes = is_owed s wait; first = None })
 silent_at s wait now count wait_is is none later = record {
   tick = wait;
   owed = refl;
+  nothing = refl;
   wait = wait_is;
   by_now = omega (arith, is);
   late = ap (λ (l : List Judging). list_all (λ one. nat_le wait one.tick) l) none;
@@ -270,9 +275,9 @@ owed_answered s one more are =
     (or_left (one.tick + 65 == one.tick + 65) (list_any (λ each. each.tick + 65 == one.tick + 65) more) (eq-eqb (one.tick + 65) (one.tick + 65) refl))
     ∙ and_true (list_any is_sending (request_in s.frame))
 
-pub sent_ends : (s : Standing) (before now count : ℕ) (turn : Turn) → now ≡ before + 1 → first_ending s ≡ [] → AsProgress s before turn (Sent 1) → EndedInSilence s now false
+pub sent_ends : (s : Standing) (before now count : ℕ) (turn : Turn) → now ≡ before + 1 → first_ending s ≡ [] → AsProgress s before turn (Sent 1) → EndedInSilence s now nothing_left
 sent_ends s before now count turn next none (idle, unanswered, other, sent, sent_is, since, some) =
-    subst (EndedInSilence s now) (owed_unanswered s (sent + 15) unanswered)
+    subst (λ (b : Bool). EndedInSilence s now (record { owes = b; first = None })) (owed_unanswered s (sent + 15) unanswered)
     (silent_at s (sent + 15) now count
     (ap (λ (b : Bool). waiting b (sent_in s) (responses_in s)) other ∙ ap (λ (l : List ℕ). waiting false l (responses_in s)) sent_is
     ∙ ap (λ (l : List Judging). waiting false (sent ∷ []) l) unanswered)
@@ -280,9 +285,9 @@ sent_ends s before now count turn next none (idle, unanswered, other, sent, sent
     (subst (GivesUpLater now count) (sym (failing_sent s sent sent_is)) tt))
 
 pub answered_ends : (s : Standing) (before now count : ℕ) (turn : Turn) (sent : Bool) → now ≡ before + 1 → first_ending s ≡ [] → IsHeld s now count turn → AsProgress s before turn (Answered sent 1)
-    → EndedInSilence s now (list_any is_sending (request_in s.frame))
+    → EndedInSilence s now (record { owes = list_any is_sending (request_in s.frame); first = None })
 answered_ends s before now count turn true next none held (other, one, more, are, since, some, few, (idle, sent, sent_is, in_time)) =
-    subst (EndedInSilence s now) (owed_answered s one more are)
+    subst (λ (b : Bool). EndedInSilence s now (record { owes = b; first = None })) (owed_answered s one more are)
     (silent_at s (one.tick + 65) now count
     (ap (λ (b : Bool). waiting b (sent_in s) (responses_in s)) other ∙ ap (λ (l : List ℕ). waiting false l (responses_in s)) sent_is
     ∙ ap (λ (l : List Judging). waiting false (sent ∷ []) l) are
@@ -290,7 +295,7 @@ answered_ends s before now count turn true next none held (other, one, more, are
     (omega (arith, since, next)) none
     (subst (GivesUpLater now count) (sym (failing_sent s sent sent_is)) tt))
 answered_ends s before now count turn false next none held (other, one, more, are, since, some, few, busy) =
-    subst (EndedInSilence s now) (owed_answered s one more are)
+    subst (λ (b : Bool). EndedInSilence s now (record { owes = b; first = None })) (owed_answered s one more are)
     (silent_at s (one.tick + 65) now count (wait (held.opened busy).fresh) (omega (arith, since, next)) none (held.opened busy).later)
   where
     waited : (sent : List ℕ) → sent_in s ≡ sent → waiting false sent (one ∷ more) ≡ (one.tick + 65) ∷ [] → wait_in s ≡ (one.tick + 65) ∷ []

@@ -21,7 +21,8 @@ use Rattle.chip_functions.specs.declared.request.Request.{Request}
 use Rattle.law_transcript.specs.Units.{request_in}
 use Rattle.law_time.specs.Moments.{clock}
 use Rattle.law_time.specs.Judged.{acknowledged, frames_come, is_acknowledgement, is_data}
-use Rattle.law_time.specs.Requests.{Answer, are_none, asked, copies as copies_of, is_answer, is_copy, is_new, sent_at}
+use Rattle.law_time.specs.Ends.{ending}
+use Rattle.law_time.specs.Requests.{Answer, Judging, are_none, asked, copies as copies_of, is_answer, is_copy, is_new, sent_at}
 use Rattle.host_requests.specs.Events.RequestsEvent.{Fails as request_fails, IsSent as request_is_sent, Ticks as request_ticks}
 use Rattle.host_requests.specs.Next.{at_sent, at_tick}
 use Rattle.host_requests.specs.Frames.{frame_of, request_frame, request_of}
@@ -43,13 +44,14 @@ use Rattle.host_model.specs.declared.out.HostOut.{HostOut}
 use Rattle.host_model.specs.declared.out.HostOut.TheVariants.{Note, Write}
 use Rattle.proof_walk.specs.Outside.{IsHostNote}
 use Rattle.proof_walk.proofs.HostNotes.{NoteOuts, all_outs_note}
-use Rattle.proof_alone.specs.Steps.{AreTold, IsOfOthers, IsOfUnit}
+use Rattle.proof_alone.specs.Steps.{AreFrames, AreTold, IsOfOthers, IsOfUnit}
 use Rattle.proof_waking.specs.Judged.{TieFrames, frames_of}
 use Rattle.proof_waking.proofs.Apart.{acknowledged_frames}
 use Rattle.proof_waking.proofs.Parts.{IsNote}
-use Rattle.proof_requests.specs.Standing.{Standing, first_standing, standing_of, with_answer, with_copy}
-use Rattle.proof_requests.specs.Asking.{AreFrames, AsksNothing, AsksSo, Doing, IsPaused, TieAsked, TieLine, TieUnderWay, WasAsked, doing_after, doing_from, doing_of, frames_among, to_come}
+use Rattle.proof_requests.specs.Standing.{Prior, brought_before, brought_of, prior_of, Standing, first_standing, standing_of, with_answer, with_copy}
+use Rattle.proof_requests.specs.Asking.{Leaving, AsksNothing, AsksSo, Doing, IsPaused, TieAsked, TieLine, TieUnderWay, WasAsked, doing_after, doing_from, doing_of, frames_among, to_come}
 use Rattle.proof_requests.specs.Saying.{frame_next}
+use Rattle.proof_requests.proofs.Ending.{over_so}
 use Rattle.proof_requests.proofs.Moving.{acknowledgement_moves, answer_moves, denial_moves, doing_ticked, frame_comes, frame_moves, line_tick_moves, request_tick_moves, submitted_moves}
 use Rattle.proof_requests.proofs.OnLine.{IsAnswer, coming, copies_now, paused_unsent, standing_ticked}
 use Rattle.proof_requests.proofs.Events.{fails_does, frame_does, request_kept, sent_does, ticks_does}
@@ -74,7 +76,7 @@ others_quiet (entry.Dropped side) others = absurd others
 others_quiet (entry.Overrun side) others = absurd others
 others_quiet e others = tt
 
-marks_quiet : (marks : List Entry) → AllByRecursion IsOfUnit marks → AllByRecursion IsQuiet marks
+pub marks_quiet : (marks : List Entry) → AllByRecursion IsOfUnit marks → AllByRecursion IsQuiet marks
 marks_quiet marks all = all-weaker IsOfUnit IsQuiet mark_quiet marks all
 
 -- where nothing is written what is told is quiet
@@ -140,7 +142,7 @@ acknowledged_then h (Paused f copies ticks) is behind are =
 acknowledged_asks : (s : Standing) (now count : ℕ) (rest : List LineUnit) (d : Doing) (turn : Turn) → d.turn ≡ turn → AsksSo s now now count (Ack ∷ rest) d
     → AsksSo s now now count rest (if is_busy turn then doing_after (record d { turn = Idle }) at_sent else record d { turn = Idle })
 acknowledged_asks s now count rest d Idle is asks =
-    record { line = subst (TieLine s now count (Ack ∷ rest)) is asks.line; under_way = subst (λ (t : Turn). TieUnderWay s now now count t d.id d.owes d.under_way) is asks.under_way }
+    record { line = subst (TieLine s now count (Ack ∷ rest)) is asks.line; under_way = subst (λ (t : Turn). TieUnderWay s now now count t d.id d.leaving d.under_way) is asks.under_way }
 acknowledged_asks s now count rest d (Copied f copies ticks) is asks = acknowledgement_moves s now count rest d (subst IsBusy (sym is) tt) asks
 acknowledged_asks s now count rest d (Paused f copies ticks) is asks = acknowledgement_moves s now count rest d (subst IsBusy (sym is) tt) asks
 
@@ -353,40 +355,55 @@ is_fresh past now came d f free tie = ap not (by tie)
     by (inr (was, asks)) = over (line_of_idle (standing_of (asked past)) (acknowledged past) asks.line)
 
 -- a request has begun
-abbrev Begun : Purpose → ℕ → ℕ → ℕ → List LineUnit → Request → Type 0
-Begun purpose id now count came request =
-    AsksSo (first_standing (unit_text (Framed (request_frame request))) now) now now count came
-    (record { turn = Copied (request_frame request) 1 0; under_way = Some (record { purpose = purpose; progress = Submitted }); owes = false; id = id })
+abbrev Begun : Purpose → ℕ → ℕ → ℕ → Prior → List LineUnit → Request → Type 0
+Begun purpose id now count prior came request =
+    AsksSo (first_standing (unit_text (Framed (request_frame request))) now prior) now now count came
+    (record { turn = Copied (request_frame request) 1 0; under_way = Some (record { purpose = purpose; progress = Submitted }); leaving = record { owes = false; first = brought_before prior }; id = id })
 
 -- what it is then
-abbrev pub submitted_doing : Purpose → ℕ → Doing
-submitted_doing purpose last = record {
+abbrev pub submitted_doing : Purpose → ℕ → Option ℕ → Doing
+submitted_doing purpose last first = record {
   turn = Copied (frame_of purpose (next_id last)) 1 0;
   under_way = Some (record { purpose = purpose; progress = Submitted });
-  owes = false;
+  leaving = record { owes = false; first = first };
   id = id_after last purpose;
 }
 
-pub submits_tie : (past told : List Entry) (now last : ℕ) (came : List LineUnit) (d : Doing) (purpose : Purpose) → AreFrames came → is_busy d.turn ≡ false
+-- what the request before it brought is kept
+none_brought : (ending : List Judging) → brought_of [] ending ≡ None
+none_brought [] = refl
+none_brought (one ∷ more) = refl
+
+kept_of : (past : List Entry) (now : ℕ) (came : List LineUnit) (d : Doing) → d.under_way ≡ None → TieAsked past now now came d → d.leaving.first ≡ brought_before (prior_of past)
+kept_of past now came d none (inl nothing) =
+    ap (λ (l : Leaving). l.first) nothing.paid ∙ sym (none_brought (ending (asked past))) ∙ sym (ap (λ (l : List ℕ). brought_of (request_in l) (ending (asked past))) nothing.unasked)
+kept_of past now came d none (inr (was, asks)) = by d.under_way none asks.under_way
+  where
+    by : (o : Option UnderWay) → o ≡ None → TieUnderWay (standing_of (asked past)) now now (acknowledged past) d.turn d.id d.leaving o → d.leaving.first ≡ brought_before (prior_of past)
+    by None is ended = (over_so (standing_of (asked past)) now (acknowledged past) d.leaving ended).brought
+    by (Some u) is under_way = absurd (let bad = is in cc)
+
+pub submits_tie : (past told : List Entry) (now last : ℕ) (came : List LineUnit) (d : Doing) (purpose : Purpose) → AreFrames came → is_busy d.turn ≡ false → d.under_way ≡ None
     → request_in (unit_text (Framed (frame_of purpose (next_id last)))) ≡ request_of purpose (next_id last) ∷ [] → ((e : Entry) (more : List Entry) → told ≡ e ∷ more → clock past ≡ now)
-    → AreTold (Write (Framed (frame_of purpose (next_id last))) ∷ []) told → TieAsked past now now came d → TieAsked (past ++ told) now now came (submitted_doing purpose last)
-submits_tie past told now last came d purpose frames free read time is tie =
+    → AreTold (Write (Framed (frame_of purpose (next_id last))) ∷ []) told → TieAsked past now now came d → TieAsked (past ++ told) now now came (submitted_doing purpose last d.leaving.first)
+submits_tie past told now last came d purpose frames free none read time is tie =
     let f : FrameParts = frame_of purpose (next_id last) in
     let unit : List ℕ = unit_text (Framed f) in
     let wrote = written_told f [] told tt is in
     let e : Entry = entry.Written Host unit in
-    let after_it : Doing = submitted_doing purpose last in
+    let after_it : Doing = submitted_doing purpose last (brought_before (prior_of past)) in
     let at : clock (past ++ e ∷ []) ≡ now = clock_same past (e ∷ []) (tt, tt) ∙ time e wrote.rest wrote.are in
-    let asks : AsksSo (first_standing unit now) now now (acknowledged past) came after_it =
-    subst (Begun purpose (id_after last purpose) now (acknowledged past) came) (sym (request_kept purpose last))
-    (submitted_moves purpose (id_after last purpose) now (acknowledged past) came frames
+    let asks : AsksSo (first_standing unit now (prior_of past)) now now (acknowledged past) came after_it =
+    subst (Begun purpose (id_after last purpose) now (acknowledged past) (prior_of past) came) (sym (request_kept purpose last))
+    (submitted_moves purpose (id_after last purpose) now (acknowledged past) (prior_of past) came frames
     (subst (λ (q : Request). request_in (unit_text (Framed (request_frame q))) ≡ q ∷ []) (request_kept purpose last) read)) in
     let first : TieAsked (past ++ e ∷ []) now now came after_it =
     tie_new past unit now now came after_it (data_acknowledges_none unit refl) refl (is_fresh past now came d f free tie)
-    (subst (λ (n : ℕ). AsksSo (first_standing unit n) now now (acknowledged past) came after_it) (sym at) asks) in
-    subst (λ (l : List Entry). TieAsked (past ++ l) now now came after_it) (sym wrote.are)
+    (subst (λ (n : ℕ). AsksSo (first_standing unit n (prior_of past)) now now (acknowledged past) came after_it) (sym at) asks) in
+    subst (λ (o : Option ℕ). TieAsked (past ++ told) now now came (submitted_doing purpose last o)) (sym (kept_of past now came d none tie))
+    (subst (λ (l : List Entry). TieAsked (past ++ l) now now came after_it) (sym wrote.are)
     (subst (λ (l : List Entry). TieAsked l now now came after_it) (append_assoc past (e ∷ []) wrote.rest)
-    (tie_quiet (past ++ e ∷ []) wrote.rest now now came after_it wrote.quiet first))
+    (tie_quiet (past ++ e ∷ []) wrote.rest now now came after_it wrote.quiet first)))
 
 -- ---- a unit of the chip comes
 

@@ -15,14 +15,15 @@ use Rattle.law_time.specs.Judged.{acknowledged, is_acknowledgement, is_data}
 use Rattle.law_time.specs.Requests.{Answer, Judging, asked, up_to_first}
 use Rattle.law_time.specs.Ends.{has_ended, owes_abort as law_owes_abort, is_abort_frame, is_before_failing, is_sending, waits_before_failing}
 use Rattle.host_requests.specs.Frames.{frame_of, request_of}
-use Rattle.host_requests.specs.Next.{owes_abort}
+use Rattle.host_requests.specs.Next.{capability_at, owes_abort}
 use Rattle.host_requests.specs.declared.next.Next.{Next}
 use Rattle.host_requests.specs.declared.next.Next.TheVariants.{Ends, GoesOn}
 use Rattle.host_requests.specs.declared.under_way.Progress.{Progress}
 use Rattle.host_requests.specs.declared.under_way.Progress.TheVariants.{Submitted, Sent, Answered}
 use Rattle.host_requests.specs.declared.under_way.UnderWay.{UnderWay}
 use Rattle.host_model.specs.State.{HostState}
-use Rattle.proof_requests.specs.Standing.{Standing, counted, failing_in, first_ending, responses_in, sent_in, standing_of, wait_in}
+use Rattle.proof_alone.specs.Steps.{AreFrames}
+use Rattle.proof_requests.specs.Standing.{Standing, brought_before, brought_by, counted, failing_in, first_ending, responses_in, sent_in, standing_of, wait_in}
 
 -- ---- what came and was not judged
 
@@ -39,14 +40,6 @@ abbrev pub frames_among : List LineUnit → ℕ
 frames_among [] = 0
 frames_among (Framed f ∷ came) = 1 + frames_among came
 frames_among (unit ∷ came) = frames_among came
-
--- nothing but frames: no answer
-abbrev pub IsFramed : LineUnit → Type 0
-IsFramed (Framed f) = Unit {0}
-IsFramed unit = ⊥
-
-abbrev pub AreFrames : List LineUnit → Type 0
-AreFrames came = AllByRecursion IsFramed came
 
 -- ---- the line
 
@@ -123,14 +116,23 @@ pub record IsUnderWay (s : Standing) (now : ℕ) (turn : Turn) (id : ℕ) (u : U
 
 -- ---- its end
 
+-- what an end leaves: whether an abort is owed, and the capability byte that it brought
+pub record Leaving : Type 0 where
+  pub owes : Bool
+  pub first : Option ℕ
+
+abbrev pub nothing_left : Leaving
+nothing_left = record { owes = false; first = None }
+
 -- its wait for a callback ended at this tick
 abbrev pub is_owed : Standing → ℕ → Bool
 is_owed s tick = list_any is_sending (request_in s.frame) && list_any (λ one. one.tick + 65 == tick) (responses_in s)
 
 -- a frame that was judged ended it, before a wait or the line did
-pub record EndedByFrame (s : Standing) (now count : ℕ) (owes : Bool) : Type 0 where
-  pub paid : owes ≡ false
+pub record EndedByFrame (s : Standing) (now count : ℕ) (leaving : Leaving) : Type 0 where
+  pub paid : leaving.owes ≡ false
   pub one : Judging
+  pub brings : leaving.first ≡ brought_by (request_in s.frame) one.unit
   pub first : first_ending s ≡ one ∷ []
   pub by_now : one.tick ≤ now
   pub judged : one.place ≤ count
@@ -138,51 +140,58 @@ pub record EndedByFrame (s : Standing) (now count : ℕ) (owes : Bool) : Type 0 
   pub stands : list_all (is_before_failing one) (failing_in s) ≡ true
 
 -- its wait ended, before the line gave it up, and no frame had ended it; of a SendData that was answered an abort is owed
-pub record EndedInSilence (s : Standing) (now : ℕ) (owes : Bool) : Type 0 where
+pub record EndedInSilence (s : Standing) (now : ℕ) (leaving : Leaving) : Type 0 where
   pub tick : ℕ
-  pub owed : owes ≡ is_owed s tick
+  pub owed : leaving.owes ≡ is_owed s tick
+  pub nothing : leaving.first ≡ None
   pub wait : wait_in s ≡ tick ∷ []
   pub by_now : tick ≤ now
   pub late : list_all (λ one. nat_le tick one.tick) (first_ending s) ≡ true
   pub stands : list_all (waits_before_failing tick) (failing_in s) ≡ true
 
 -- the line gave it up, before a frame or a wait ended it
-pub record EndedByLine (s : Standing) (now count : ℕ) (owes : Bool) : Type 0 where
-  pub paid : owes ≡ false
+pub record EndedByLine (s : Standing) (now count : ℕ) (leaving : Leaving) : Type 0 where
+  pub paid : leaving.owes ≡ false
+  pub nothing : leaving.first ≡ None
   pub given_up : WasGivenUp s now count
   pub no_frame : list_any (λ one. list_all (is_before_failing one) (failing_in s)) (first_ending s) ≡ false
   pub no_wait : list_any (λ wait. list_all (waits_before_failing wait) (failing_in s)) (wait_in s) ≡ false
 
 -- an abort ends where it is acknowledged
-pub record EndedAsAbort (s : Standing) (now : ℕ) (owes : Bool) : Type 0 where
-  pub paid : owes ≡ false
+pub record EndedAsAbort (s : Standing) (now : ℕ) (leaving : Leaving) : Type 0 where
+  pub paid : leaving.owes ≡ false
+  pub nothing : leaving.first ≡ None
   pub abort : is_abort_frame s.frame ≡ true
   pub sent : WasSent s now
 
-abbrev pub HasEnded : Standing → ℕ → ℕ → Bool → Type 0
-HasEnded s now count owes = EndedByFrame s now count owes ⊎ (EndedInSilence s now owes ⊎ (EndedByLine s now count owes ⊎ EndedAsAbort s now owes))
+abbrev pub HasEnded : Standing → ℕ → ℕ → Leaving → Type 0
+HasEnded s now count leaving = EndedByFrame s now count leaving ⊎ (EndedInSilence s now leaving ⊎ (EndedByLine s now count leaving ⊎ EndedAsAbort s now leaving))
+
+-- while one is under way no abort is owed, and what the one before it brought is kept
+abbrev pub IsKept : Standing → Leaving → Type 0
+IsKept s leaving = (leaving.owes ≡ false) × (leaving.first ≡ brought_before s.prior)
 
 -- one that has ended has by the time that the line has counted to
-abbrev pub TieUnderWay : Standing → ℕ → ℕ → ℕ → Turn → ℕ → Bool → Option UnderWay → Type 0
-TieUnderWay s line_now now count turn id owes None = HasEnded s line_now count owes
-TieUnderWay s line_now now count turn id owes (Some u) = IsUnderWay s now turn id u × (owes ≡ false)
+abbrev pub TieUnderWay : Standing → ℕ → ℕ → ℕ → Turn → ℕ → Leaving → Option UnderWay → Type 0
+TieUnderWay s line_now now count turn id leaving None = HasEnded s line_now count leaving
+TieUnderWay s line_now now count turn id leaving (Some u) = IsUnderWay s now turn id u × IsKept s leaving
 
 -- ---- a host
 
--- what of it is tied: its side of the line, the request under way, whether an abort is owed, and the callback id given last
+-- what of it is tied: its side of the line, the request under way, what the last end left, and the callback id given last
 pub record Doing : Type 0 where
   pub turn : Turn
   pub under_way : Option UnderWay
-  pub owes : Bool
+  pub leaving : Leaving
   pub id : ℕ
 
 abbrev pub doing_of : HostState → Doing
-doing_of h = record { turn = h.side.turn; under_way = h.requests.under_way; owes = h.requests.owes; id = h.requests.last_id }
+doing_of h = record { turn = h.side.turn; under_way = h.requests.under_way; leaving = record { owes = h.requests.owes; first = h.requests.first }; id = h.requests.last_id }
 
 -- and after the request under way did so, where there is one
 abbrev pub doing_next : Doing → UnderWay → Next → Doing
 doing_next d u (GoesOn progress) = record d { under_way = Some (record { purpose = u.purpose; progress = progress }) }
-doing_next d u (Ends how) = record d { under_way = None; owes = owes_abort u how }
+doing_next d u (Ends how) = record d { under_way = None; leaving = record { owes = owes_abort u how; first = capability_at how } }
 
 abbrev pub doing_from : Doing → (UnderWay → Next) → Option UnderWay → Doing
 doing_from d next None = record d { under_way = None }
@@ -196,7 +205,7 @@ pub record AsksNothing (past : List Entry) (d : Doing) : Type 0 where
   pub unasked : (asked past).frame ≡ []
   pub idle : d.turn ≡ Idle
   pub none : d.under_way ≡ None
-  pub paid : d.owes ≡ false
+  pub paid : d.leaving ≡ nothing_left
 
 -- a request was written, and what stands up to its first copy, with what follows that, is all
 pub record WasAsked (past : List Entry) : Type 0 where
@@ -206,7 +215,7 @@ pub record WasAsked (past : List Entry) : Type 0 where
 -- the line has counted to one time, and the request to another; so many frames were judged
 pub record AsksSo (s : Standing) (line_now now count : ℕ) (came : List LineUnit) (d : Doing) : Type 0 where
   pub line : TieLine s line_now count came d.turn
-  pub under_way : TieUnderWay s line_now now count d.turn d.id d.owes d.under_way
+  pub under_way : TieUnderWay s line_now now count d.turn d.id d.leaving d.under_way
 
 abbrev pub TieAsked : List Entry → ℕ → ℕ → List LineUnit → Doing → Type 0
 TieAsked past line_now now came d = AsksNothing past d ⊎ (WasAsked past × AsksSo (standing_of (asked past)) line_now now (acknowledged past) came d)
@@ -216,4 +225,4 @@ TieAsked past line_now now came d = AsksNothing past d ⊎ (WasAsked past × Ask
 -- where the last request has ended by its transcript is where none is under way, once no answer is to come; and where none is, an abort is owed where the host owes it
 pub record TellsOfHost (past : List Entry) (now : ℕ) (came : List LineUnit) (d : Doing) : Type 0 where
   pub ended : WasAsked past → AreFrames came → has_ended (asked past) now ≡ is_none d.under_way
-  pub owed : WasAsked past → d.under_way ≡ None → law_owes_abort (asked past) now ≡ d.owes
+  pub owed : WasAsked past → d.under_way ≡ None → law_owes_abort (asked past) now ≡ d.leaving.owes

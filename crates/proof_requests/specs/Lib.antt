@@ -3,3 +3,4 @@ pub mod Asking
 pub mod Effects
 pub mod Saying
 pub mod Walking
+pub mod Questions

@@ -9,15 +9,16 @@ use Rattle.chip_functions.specs.declared.fault.BodyFault.{BodyFault}
 use Rattle.chip_functions.specs.declared.notice.Notice.{Notice}
 use Rattle.chip_functions.specs.declared.notice.Notice.TheVariants.{ApplicationUpdate, SendData as CalledBack}
 use Rattle.chip_functions.specs.declared.response.Response.{Response}
+use Rattle.law_transcript.specs.Units.{request_in}
 use Rattle.law_time.specs.Requests.{Judging, is_response_to}
 use Rattle.law_time.specs.Ends.{is_abort_frame}
-use Rattle.host_requests.specs.Next.{at_callback, at_response, at_update, is_answered, is_sent, is_silent}
+use Rattle.host_requests.specs.Next.{at_callback, at_response, at_update, capability_at, is_answered, is_sent, is_silent}
 use Rattle.host_requests.specs.declared.end.How.{How}
 use Rattle.host_requests.specs.declared.next.Next.{Next}
 use Rattle.host_requests.specs.declared.next.Next.TheVariants.{Ends, GoesOn}
 use Rattle.host_requests.specs.declared.under_way.Progress.TheVariants.{Answered}
 use Rattle.host_requests.specs.declared.under_way.UnderWay.{UnderWay}
-use Rattle.proof_requests.specs.Standing.{Standing, ends_now}
+use Rattle.proof_requests.specs.Standing.{Standing, brought_by, ends_now}
 
 -- by what is read of it; the callback id given last, and the capability that the first request of an interview brought
 abbrev pub response_next : Result Response BodyFault → UnderWay → Next
@@ -42,4 +43,4 @@ pub data FrameSays (s : Standing) (one : Judging) (u : UnderWay) (next : Next) :
   Again : next ≡ GoesOn u.progress → is_answered u.progress ≡ true → is_response_to s.frame one.unit ≡ true → ends_now s one ≡ false → FrameSays s one u next
   Takes : next ≡ GoesOn (Answered (is_sent u.progress) 65) → is_answered u.progress ≡ false → is_abort_frame s.frame ≡ false → is_response_to s.frame one.unit ≡ true
       → ends_now s one ≡ false → FrameSays s one u next
-  Finishes : (how : How) → next ≡ Ends how → is_silent how ≡ false → ends_now s one ≡ true → FrameSays s one u next
+  Finishes : (how : How) → next ≡ Ends how → is_silent how ≡ false → ends_now s one ≡ true → capability_at how ≡ brought_by (request_in s.frame) one.unit → FrameSays s one u next

@@ -1,16 +1,23 @@
 -- How the last request of the host stands, by what of the transcript the rules of its end look at (this project's own rule): its frame, its copies, the answers that came after the
--- last one, and the frames of the chip that were judged since. The words of `law_time` over this are those over the transcript.
-use Rattle.std.specs.Prelude.{◌≡◌, ℕ, ◌+◌, ◌==◌, ◌&&◌, ◌||◌, not, nat_le, nat_lt, Bool, true, false, if◌then◌else◌, List, [], ◌∷◌, ◌++◌, map, filter, take}
+-- last one, and the frames of the chip that were judged since; and how the one before it ended. The words of `law_time` over this are those over the transcript.
+use Rattle.std.specs.Prelude.{◌≡◌, ℕ, ◌+◌, ◌==◌, ◌&&◌, ◌||◌, not, nat_le, nat_lt, Bool, true, false, if◌then◌else◌, List, [], ◌∷◌, ◌++◌, map, filter, take, slice_index, Option, Some, None}
 use Rattle.std.specs.List.{flat_map, list_any, list_all}
 use Rattle.serial_frame.specs.declared.unit.TheConstants.{NAK}
 use Rattle.zw_words.specs.declared.side.Side.TheVariants.{Host, Chip}
 use Rattle.zw_text.specs.declared.entry.Entry.{Entry}
 use Rattle.zw_text.specs.declared.entry.Entry.TheVariants as entry
-use Rattle.law_transcript.specs.Units.{request_in}
+use Rattle.chip_functions.specs.declared.request.Request.{Request}
+use Rattle.chip_functions.specs.declared.request.Request.TheVariants.{GetNodeProtocolInfo}
+use Rattle.law_transcript.specs.Units.{body_in, request_in}
 use Rattle.law_time.specs.Moments.{clock}
 use Rattle.law_time.specs.Judged.{is_acknowledgement, is_data}
-use Rattle.law_time.specs.Requests.{Answer, Asked, Failing, Judging, answers_from, are_none, copies, failing, failing_by, is_answer, is_response_to, judged_since, last_copy, responses, sent_at}
+use Rattle.law_time.specs.Requests.{Answer, Asked, Failing, Judging, answers_from, asked, are_none, copies, failing, failing_by, is_answer, is_response_to, judged_since, last_copy, responses, sent_at}
 use Rattle.law_time.specs.Ends.{ending, ending_among, ends_by, giving_up, has_ended, is_abort_frame, is_before_failing, is_sending, owes_abort, silence, wait_by, waits_before_failing}
+
+-- the request before it: its frame, and the frame of the chip that ended it
+pub record Prior : Type 0 where
+  pub frame : List ℕ
+  pub ending : List Judging
 
 pub record Standing : Type 0 where
   pub frame : List ℕ
@@ -18,9 +25,13 @@ pub record Standing : Type 0 where
   pub last : ℕ
   pub answers : List Answer
   pub judged : List Judging
+  pub prior : Prior
 
 abbrev pub answers_since : Asked → List Answer
 answers_since asked = answers_from (last_copy asked).past (last_copy asked).following
+
+abbrev pub prior_of : List Entry → Prior
+prior_of past = record { frame = (asked past).frame; ending = ending (asked past) }
 
 abbrev pub standing_of : Asked → Standing
 standing_of asked = record {
@@ -29,6 +40,7 @@ standing_of asked = record {
   last = clock (last_copy asked).past;
   answers = answers_since asked;
   judged = judged_since asked;
+  prior = prior_of asked.before;
 }
 
 -- ---- the words of the rules
@@ -90,6 +102,19 @@ pub record AreWords (asked : Asked) (now : ℕ) : Type 0 where
   pub ended : has_ended asked now ≡ has_ended_in (standing_of asked) now
   pub owed : owes_abort asked now ≡ owes_abort_in (standing_of asked) now
 
+-- what the end of a request by a frame brings: the capability byte of a GetNodeProtocolInfo
+abbrev pub brought_by : List Request → List ℕ → Option ℕ
+brought_by (GetNodeProtocolInfo n ∷ more) unit = Some (slice_index (body_in unit) 0)
+brought_by requests unit = None
+
+-- and what that of the request before brought
+abbrev pub brought_of : List Request → List Judging → Option ℕ
+brought_of requests [] = None
+brought_of requests (one ∷ more) = brought_by requests one.unit
+
+abbrev pub brought_before : Prior → Option ℕ
+brought_before prior = brought_of (request_in prior.frame) prior.ending
+
 -- ---- one thing more
 
 -- a copy is written, at this time
@@ -108,8 +133,8 @@ abbrev pub ends_now : Standing → Judging → Bool
 ends_now s one = list_any (ends_by (are_none (responses_in s) && is_response_to s.frame one.unit) one.unit) (request_in s.frame)
 
 -- at its first copy
-abbrev pub first_standing : List ℕ → ℕ → Standing
-first_standing frame now = record { frame = frame; copies = 1; last = now; answers = []; judged = [] }
+abbrev pub first_standing : List ℕ → ℕ → Prior → Standing
+first_standing frame now prior = record { frame = frame; copies = 1; last = now; answers = []; judged = []; prior = prior }
 
 -- ---- entries
 

@@ -1,39 +1,54 @@
--- What is known of the request of a host alone at each phase (this project's own rule), and on what ground: the time, what it has judged, and that answers are judged as they come,
--- that what is submitted is read as it, and that a host that starts again asks for nothing.
-use Rattle.std.specs.Prelude.{◌≡◌, ◌⊎◌, ℕ, ◌+◌, Bool, false, List, [], ◌∷◌, ◌++◌}
+-- What is known of the request of a host alone at each phase (this project's own rule), and on what ground: its tables, the time, what it has judged, that answers are judged as they
+-- come, and that what waits to be asked can be read.
+use Rattle.std.specs.Prelude.{Some, ◌≡◌, ◌⊎◌, ◌≤◌, ℕ, ◌+◌, false, List, [], ◌∷◌, ◌++◌}
 use Rattle.std.specs.List.{AllByRecursion}
 use Rattle.serial_frame.specs.Items.{unit_text}
+use Rattle.serial_frame.specs.declared.unit.Unit.{Unit as LineUnit}
 use Rattle.serial_frame.specs.declared.unit.Unit.TheVariants.{Framed}
-use Rattle.zw_words.specs.declared.side.Side.TheVariants.{Chip}
+use Rattle.chip_functions.specs.Field.{IsNode}
+use Rattle.chip_functions.specs.Request.{IsRequest}
 use Rattle.zw_text.specs.declared.line.Line.{Line}
 use Rattle.zw_text.specs.declared.entry.Entry.{Entry}
 use Rattle.zw_text.specs.declared.entry.Entry.TheVariants as entry
-use Rattle.zw_text.specs.Transcript.{folded, line_of}
-use Rattle.law_transcript.specs.Lists.{EachAfter}
+use Rattle.zw_text.specs.Transcript.{line_of}
 use Rattle.law_transcript.specs.Units.{request_in}
-use Rattle.law_time.specs.Moments.{clock}
-use Rattle.law_time.specs.Requests.{is_answer}
-use Rattle.host_requests.specs.Events.RequestsEvent.{Ticks as request_ticks}
-use Rattle.host_requests.specs.Frames.{frame_of, request_of}
+use Rattle.law_time.specs.Requests.{asked}
+use Rattle.host_requests.specs.Events.{RequestsEvent}
+use Rattle.host_requests.specs.Events.RequestsEvent.{IsSent, Fails, Responds, CallsBack, Updates, Ticks}
+use Rattle.host_requests.specs.Frames.{frame_of, request_of, task_request}
 use Rattle.host_requests.specs.State.{next_id}
+use Rattle.host_requests.specs.declared.task.Task.{Task}
+use Rattle.host_requests.specs.declared.under_way.UnderWay.{UnderWay}
 use Rattle.host_requests.specs.declared.task.Purpose.{Purpose}
 use Rattle.host_requests.specs.declared.task.Purpose.TheVariants.{Attempt, Abort}
 use Rattle.host_node.specs.declared.attempt.Moment.TheVariants.{BeforeItsTick}
-use Rattle.host_model.specs.State.{HostState, first_host}
-use Rattle.host_model.specs.Events.{HostEvent, Node_ticks, Requests_do, Submits_abort, Submits_front, Starts, Gives_text, Gives_segment}
+use Rattle.host_model.specs.State.{HostState}
+use Rattle.host_model.specs.Events.{HostEvent, Queues, Queues_interview, Offers, Gives, Resends, Queues_no_more, Node_ticks, Requests_do, Submits_abort, Submits_front, Starts, Gives_text, Gives_segment}
 use Rattle.host_model.specs.After.{task_purpose}
-use Rattle.host_model.specs.Did.{MayAll, after_all}
-use Rattle.host_model.specs.Pumping.{IsNext}
+use Rattle.host_model.specs.Did.{after_all}
 use Rattle.host_model.specs.Ticking.{first_ticks}
-use Rattle.world_model.specs.Events.{OpensFrom}
 use Rattle.proof_alone.specs.State.{HostMachine}
-use Rattle.proof_alone.specs.Steps.{Step, entries, happens}
-use Rattle.proof_alone.specs.Phases.{Phase, Asked, Risen, Ticking, Open, Behind, Submitting, May, Turns}
+use Rattle.proof_alone.specs.Steps.{AreFrames}
+use Rattle.proof_alone.specs.Phases.{Phase, Asked, Risen, Ticking, Open, Behind, Sleeping}
 use Rattle.proof_alone.specs.Runs.{Knowledge, both_know}
+use Rattle.proof_alone.specs.Tables.{KnowsTables}
+use Rattle.proof_alone.specs.Time.{KnowsClock}
+use Rattle.proof_alone.specs.Listening.{KnowsListening}
 use Rattle.proof_waking.specs.Judged.{KnowsJudged}
-use Rattle.proof_requests.specs.Asking.{AreFrames, TieAsked, doing_of}
+use Rattle.proof_requests.specs.Standing.{brought_before, prior_of}
+use Rattle.proof_requests.specs.Asking.{Doing, TieAsked, doing_of}
 
 -- ---- the ground
+
+-- what the link and the chip tell the requests, and a tick
+abbrev pub IsOfChip : RequestsEvent → Type 0
+IsOfChip IsSent = Unit {0}
+IsOfChip Fails = Unit {0}
+IsOfChip (Responds response) = Unit {0}
+IsOfChip (CallsBack id status) = Unit {0}
+IsOfChip (Updates update) = Unit {0}
+IsOfChip Ticks = Unit {0}
+IsOfChip event = ⊥
 
 -- what is submitted is read as the request that it is
 abbrev pub ReadsAs : HostState → Purpose → Type 0
@@ -48,29 +63,44 @@ IsRead h (Gives_text n payload) = ReadsAs h (Attempt n false payload)
 IsRead h (Gives_segment n more payload) = ReadsAs h (Attempt n more payload)
 IsRead h event = Unit {0}
 
--- answers are judged before the host goes on; a host that starts again asks for nothing
-abbrev pub KnowsWell : Knowledge
-KnowsWell Open past m = Unit {0}
-KnowsWell (Behind left) past m = Unit {0}
-KnowsWell (Asked line) past m = AreFrames m.came × ((state : HostState) → OpensFrom m.keys m.records state → doing_of state ≡ doing_of (first_host m.keys))
-KnowsWell Submitting past m = AreFrames m.came × ((event : HostEvent) → IsNext m.state event → MayAll m.state (event ∷ []) → IsRead m.state event)
-KnowsWell here past m = AreFrames m.came
+-- answers are judged before the host goes on
+abbrev pub CameAt : Phase → List LineUnit → Type 0
+CameAt Open came = Unit {0}
+CameAt (Behind left) came = Unit {0}
+CameAt Sleeping came = Unit {0}
+CameAt here came = AreFrames came
 
--- the clock of the transcript is the host's wherever no number is to be entered
-abbrev pub KnowsTime : Knowledge
-KnowsTime here past m = m.awaits ≡ false → clock past ≡ m.clock
+abbrev pub KnowsCame : Knowledge
+KnowsCame here past m = CameAt here m.came
+
+-- a task can be read as its request, with each callback id
+abbrev pub CanBeRead : Task → Type 0
+CanBeRead task = (id : ℕ) → 1 ≤ id → id ≤ 255 → IsRequest (task_request task id)
+
+-- what an event adds to those that wait can be
+abbrev pub AddsWell : HostEvent → Type 0
+AddsWell (Queues task) = CanBeRead task
+AddsWell (Queues_interview n) = IsNode n
+AddsWell (Offers n) = IsNode n
+AddsWell (Gives n drawn) = IsNode n
+AddsWell (Resends n payload) = IsNode n
+AddsWell (Queues_no_more n) = IsNode n
+AddsWell (Requests_do event moment) = IsOfChip event
+AddsWell event = Unit {0}
+
+-- so those that wait, and what is to come behind an item adds
+abbrev pub AddAt : Phase → Type 0
+AddAt (Behind left) = AllByRecursion AddsWell left
+AddAt here = Unit {0}
+
+abbrev pub KnowsQueue : Knowledge
+KnowsQueue here past m = AllByRecursion CanBeRead m.state.requests.queue × AddAt here
+
+abbrev pub KnowsHost : Knowledge
+KnowsHost = both_know (both_know KnowsTables KnowsClock) KnowsJudged
 
 abbrev pub Ground : Knowledge
-Ground = both_know KnowsTime (both_know KnowsJudged KnowsWell)
-
--- what of the chip is changed on its way is a frame
-abbrev pub answer_step : Bool → Entry → Bool
-answer_step last (entry.Written Chip unit) = is_answer unit
-answer_step last e = false
-
-abbrev pub ChangesFrames : List Entry → Entry → Type 0
-ChangesFrames past (entry.Garbled Chip unit) = folded answer_step false past ≡ false
-ChangesFrames past e = Unit {0}
+Ground = both_know (both_know KnowsHost KnowsCame) KnowsQueue
 
 -- ---- what is known
 
@@ -96,7 +126,7 @@ IsTied past m = TieAsked past m.clock m.clock m.came (doing_of m.state)
 abbrev pub KnowsTick : List HostEvent → List Entry → HostMachine → Type 0
 KnowsTick left past m =
     ((nodes : List HostEvent) × (left ≡ first_ticks ++ nodes) × AllByRecursion IsNodeTick nodes × BeforeTick past m)
-    ⊎ (((nodes : List HostEvent) × (left ≡ Requests_do request_ticks BeforeItsTick ∷ nodes) × AllByRecursion IsNodeTick nodes × HalfTick past m)
+    ⊎ (((nodes : List HostEvent) × (left ≡ Requests_do Ticks BeforeItsTick ∷ nodes) × AllByRecursion IsNodeTick nodes × HalfTick past m)
     ⊎ (AllByRecursion IsNodeTick left × IsTied past m))
 
 -- the words of a line stand last, and the host asks what it did before them
@@ -115,10 +145,16 @@ KnowsAsked (Ticking left) past m = KnowsTick left past m
 KnowsAsked (Behind left) past m = TieAsked past m.clock m.clock m.came (doing_of (after_all m.state left))
 KnowsAsked here past m = IsTied past m
 
--- ---- what is owed
+-- ---- what the request before the last one brought
 
--- as `WalkOver`, with what the ground knows after the step too
-pub record WalkBoth (First : List Entry → Entry → Type 0) (Know : Knowledge) : Type 0 where
-  pub step : (here next : Phase) (past : List Entry) (m : HostMachine) (one : Step) → May here m one next → Ground here past m → Ground next (past ++ entries m one) (happens m one)
-      → EachAfter First past (entries m one) → Know here past m → Know next (past ++ entries m one) (happens m one)
-  pub turn : (here next : Phase) (past : List Entry) (m : HostMachine) → Turns here m next → Ground here past m → Ground next past m → Know here past m → Know next past m
+-- while one is under way the host keeps it
+abbrev pub KeepsBrought : List Entry → Doing → Type 0
+KeepsBrought past d = (u : UnderWay) → d.under_way ≡ Some u → d.leaving.first ≡ brought_before (prior_of (asked past).before)
+
+-- also behind an item, as long as that does not end it
+abbrev pub KnowsBrought : Knowledge
+KnowsBrought (Behind left) past m = KeepsBrought past (doing_of m.state)
+KnowsBrought here past m = Unit {0}
+
+abbrev pub KnowsInterviews : Knowledge
+KnowsInterviews = both_know (both_know (both_know Ground KnowsAsked) KnowsBrought) KnowsListening

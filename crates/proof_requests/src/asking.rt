@@ -1,21 +1,80 @@
 //! What a host alone asks, by its transcript.
 
-ghost use Rattle.std.specs.Prelude.{◌≡◌, List, [], ℕ};
+ghost use Rattle.std.specs.Prelude.{Some, List, [], ℕ};
+ghost use Rattle.s0_crypto.specs.declared.key_pair.Keys.{Keys};
 ghost use Rattle.serial_frame.specs.declared.unit.Unit.{Unit as LineUnit};
+ghost use Rattle.device_sim.specs.State.{State};
 ghost use Rattle.zw_text.specs.declared.entry.Entry.{Entry};
-ghost use Rattle.host_model.specs.State.{first_host};
-ghost use Rattle.proof_alone.specs.State.{HostMachine};
-ghost use Rattle.proof_alone.specs.Phases.{Resting};
-ghost use Rattle.proof_alone.specs.Runs.{Walk, both_know};
+ghost use Rattle.law_host.specs.Heard.{heard_by_host};
+ghost use Rattle.world_model.specs.State.{first_machine};
+ghost use Rattle.world_lines.specs.Spoken.{Spoken, transcript_of};
+ghost use Rattle.world_lines.specs.Done.{AreDone};
+ghost use Rattle.law_time.specs.Moments.{Allows};
+ghost use Rattle.law_time.specs.Waking.{may_wake};
+ghost use Rattle.law_time.specs.Questions.{AnswersQuestions};
+ghost use Rattle.proof_alone.specs.State.{HostMachine, first_alone};
+ghost use Rattle.proof_alone.specs.Phases.{Phase, Resting};
+ghost use Rattle.proof_alone.specs.Runs.{Run, Told, Walk, both_know};
 ghost use Rattle.proof_requests.specs.Asking.{Doing, TellsOfHost, TieAsked, doing_of};
-ghost use Rattle.proof_requests.specs.Walking.{ChangesFrames, Ground, KnowsAsked};
+ghost use Rattle.proof_alone.specs.Listening.{ListensAsTold};
+ghost use Rattle.proof_requests.specs.Walking.{Ground, KnowsAsked, KnowsInterviews};
 
-/// Over what is known of its time, of what it judged and of what it submits, and where what of the chip is changed on its way is a frame, the request of a host
-/// alone is as its transcript tells, at each step and wherever a part begins.
+use host_keep::texts_give_one_thing;
+use host_model::attempts_have_what_they_give;
+use host_node::a_restart_needs_the_records_alone;
+use proof_alone::{
+    hosts_keep_their_tables, hosts_tell_time, lines_are_a_hosts, what_is_heard_is_a_hosts,
+};
+use proof_waking::hosts_judge_as_told;
+
+/// In any run of a host alone, also where it starts again, over a keeper that tells its records and has none at first: the request of the host is as its
+/// transcript tells, at each step and wherever a part begins.
 /// So where the last request has ended by its transcript none is under way, and an abort is owed where the host owes it.
 pub fn hosts_ask_as_told()
-    ensures walk { Walk ChangesFrames Ground → Walk ChangesFrames (both_know Ground KnowsAsked) }
-    ensures first { (m : HostMachine) → doing_of m.state ≡ doing_of (first_host m.keys) → KnowsAsked Resting [] m }
+    ensures walk { Walk (Allows may_wake) (both_know Ground KnowsAsked) }
+    ensures first { (keys : Keys) → both_know Ground KnowsAsked Resting [] (first_alone keys (Some [])) }
+    ensures run { (keys : Keys) (here : Phase) (told : List Entry) (m : HostMachine) → Run (first_alone keys (Some [])) here told m →
+        both_know Ground KnowsAsked here told m }
     ensures told { (past : List Entry) (now : ℕ) (came : List LineUnit) (d : Doing) → TieAsked past now now came d →
         TellsOfHost past now came d }
-{}
+    ensures rests { (keys : Keys) (told : List Entry) (m : HostMachine) → Run (first_alone keys (Some [])) Resting told m →
+        TellsOfHost told m.clock m.came (doing_of m.state) }
+{
+    attempts_have_what_they_give();
+    hosts_keep_their_tables();
+    hosts_tell_time();
+    hosts_judge_as_told();
+}
+
+/// So each node listens by the transcript (`listens` of `law_time`) as it does in the host, at each step, also where that starts again: an interview says it by
+/// the frame that ended the request before the last one, and of that the host kept the byte.
+pub fn hosts_listen_as_told()
+    ensures walk { Walk (Allows may_wake) KnowsInterviews }
+    ensures first { (keys : Keys) → KnowsInterviews Resting [] (first_alone keys (Some [])) }
+    ensures run { (keys : Keys) (here : Phase) (told : List Entry) (m : HostMachine) → Run (first_alone keys (Some [])) here told m →
+        ListensAsTold told m.state }
+{
+    texts_give_one_thing();
+    a_restart_needs_the_records_alone();
+    hosts_ask_as_told();
+}
+
+/// So the answers to questions stand where the first response to the last request was judged, directly after it, and wherever it was.
+pub fn hosts_answer_questions()
+    ensures { (keys : Keys) (told : List Entry) → Told (first_alone keys (Some [])) told → AnswersQuestions told }
+{
+    hosts_ask_as_told();
+}
+
+/// So it is over any lines from the first on, the last of which an allocation failure may have cut short, over a keeper that tells its records and has none at
+/// first; and of what a host heard of them.
+pub fn lines_answer_questions()
+    ensures lines { (keys : Keys) (devices : List State) (lines : List Spoken) → AreDone (first_machine keys (Some []) devices) lines →
+        AnswersQuestions (transcript_of (first_machine keys (Some []) devices) lines) }
+    ensures heard { (keys : Keys) (devices : List State) (lines : List Spoken) → AreDone (first_machine keys (Some []) devices) lines →
+        AnswersQuestions (heard_by_host (transcript_of (first_machine keys (Some []) devices) lines)) }
+{
+    lines_are_a_hosts();
+    what_is_heard_is_a_hosts();
+    hosts_answer_questions();
+}

@@ -1,18 +1,26 @@
-//! The requests of a host, by its transcript: how the last one stands, what each entry makes of it, and that it is what the host holds.
+//! The requests of a host, by its transcript: how the last one stands, what each entry makes of it, and that it is what the host holds; and which nodes listen.
 //!
 //! A host has one request at a time, and `law_time` says by its transcript how the last one ends. What those rules look at is little: its frame, its copies,
 //! the answers of the chip after the last one, and the frames of the chip that were judged since (`requests_stand_by_entries`). The side of the line and the
-//! request under way of a host alone (`proof_alone`) are tied to that at each phase, over what is known of its time and of what it judged, and two things more:
-//! that answers are judged as they come, and that what is submitted is read as the request that it is (`hosts_ask_as_told`).
+//! request under way of a host alone (`proof_alone`) are tied to that at each phase (`hosts_ask_as_told`). The ground is what is known of its tables, its time
+//! and what it judged, that answers are judged as they come, and that what waits to be asked can be read as the request that it is.
+//! By what the request before the last one brought, each node listens by the transcript as in the host (`hosts_listen_as_told`); and questions are
+//! answered where the first response to them is judged (`hosts_answer_questions`).
 //! The definitions are in `specs/`: `Standing` (what the rules look at, and their words over that), `Effects` and `Saying` (what an answer and a frame of the
-//! chip make of it), `Asking` (the tie) and `Walking` (the tie at each phase, and its ground). `proofs/Growing` has the last request after more entries,
+//! chip make of it), `Asking` (the tie), `Walking` (the tie at each phase, and its ground) and
+//! `Questions` (which answers are owed). `proofs/Growing` has the last request after more entries,
 //! `proofs/Standing` how it stands then; `Line`, `Judging`, `Ended` and `UnderWay` go on with the line, with what was judged, with its end and with its wait;
 //! `Saying` has frames of the chip as text and as what the host makes of them; `OnLine` and `Moving` what happens to a host, `Doing` and `Events` its events,
-//! `Telling` the entries, `Walking` and `Stepping` the walk, and `Ending` what follows.
+//! `Telling` the entries, `Walking` and `Stepping` the walk, and `Ending` what follows. Of its ground `Came` has the units that came,
+//! `Spelled` requests as they are read, `Queued` and `Queueing` those that wait, and `Grounds` all of it. `Brought` has what an interview is told,
+//! and `Listening` what it says. `Answered` has what a response that is judged answers, `Questions` entries that are no answer, and `Answering` the walk over
+//! them.
 #![tactic(auto)]
 
 mod asking;
 mod entries;
 
-pub use asking::hosts_ask_as_told;
+pub use asking::{
+    hosts_answer_questions, hosts_ask_as_told, hosts_listen_as_told, lines_answer_questions,
+};
 pub use entries::requests_stand_by_entries;

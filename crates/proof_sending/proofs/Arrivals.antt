@@ -33,25 +33,25 @@ last_is way (first ∷ (next ∷ us)) u = ap (λ (l : List Unit_on). first ∷ l
 abbrev texts_of : Unit_on → List (List ℕ)
 texts_of u = arrived_of u.bytes u.way
 
-abbrev arrive : List Unit_on → List (List ℕ)
+abbrev pub arrive : List Unit_on → List (List ℕ)
 arrive us = flat_map texts_of us
 
-with_last : (us : List Unit_on) (text : List ℕ) (way : Way) → arrive (us ++ record { bytes = text; way = way } ∷ []) ≡ arrive us ++ arrived_of text way
+pub with_last : (us : List Unit_on) (text : List ℕ) (way : Way) → arrive (us ++ record { bytes = text; way = way } ∷ []) ≡ arrive us ++ arrived_of text way
 with_last us text way = flat_map-append texts_of us (record { bytes = text; way = way } ∷ []) ∙ ap (λ (l : List (List ℕ)). arrive us ++ l) (append-nil (arrived_of text way))
 
-became : (us : List Unit_on) (text : List ℕ) (old way : Way) → arrive (last_with way (us ++ record { bytes = text; way = old } ∷ [])) ≡ arrive us ++ arrived_of text way
+pub became : (us : List Unit_on) (text : List ℕ) (old way : Way) → arrive (last_with way (us ++ record { bytes = text; way = old } ∷ [])) ≡ arrive us ++ arrived_of text way
 became us text old way = ap arrive (last_is way us (record { bytes = text; way = old })) ∙ with_last us text way
 
 -- ---- a unit of the chip
 
-abbrev Became : List Unit_on → List ℕ → List Entry → Type 0
+abbrev pub Became : List Unit_on → List ℕ → List Entry → Type 0
 Became us text marks = arrive (folded (unit_step by_chip) (us ++ record { bytes = text; way = Whole } ∷ []) marks) ≡ arrive us ++ arriving_of by_chip text marks
 
-whole_became : (us : List Unit_on) (text : List ℕ) (room : Bool) → Became us text (if room then [] else entry.Overrun by_chip ∷ [])
+pub whole_became : (us : List Unit_on) (text : List ℕ) (room : Bool) → Became us text (if room then [] else entry.Overrun by_chip ∷ [])
 whole_became us text true = with_last us text Whole
 whole_became us text false = became us text Whole Missed
 
-other_became : (us : List Unit_on) (text other : List ℕ) (room : Bool) → Became us text (entry.Garbled by_chip other ∷ (if room then [] else entry.Overrun by_chip ∷ []))
+pub other_became : (us : List Unit_on) (text other : List ℕ) (room : Bool) → Became us text (entry.Garbled by_chip other ∷ (if room then [] else entry.Overrun by_chip ∷ []))
 other_became us text other true = became us text Whole (other_than other)
 other_became us text other false =
     ap (λ (l : List Unit_on). arrive (last_with Missed l)) (last_is (other_than other) us (record { bytes = text; way = Whole })) ∙ became us text (other_than other) Missed

@@ -28,7 +28,7 @@ use Rattle.proof_host.specs.Entries.{entries_at}
 use Rattle.proof_host.specs.Facts.{Facts}
 use Rattle.proof_host.proofs.Views.{sessions-begun_other}
 use Rattle.proof_messages.specs.Hosts.{IsAside, LeavesNonces, LeavesSealing}
-use Rattle.proof_line.proofs.RoutineNotes.{entries_are}
+use Rattle.proof_spoken.proofs.RoutineNotes.{entries_are}
 use Rattle.proof_sending.specs.Reasons.{HasTexts}
 use Rattle.proof_messages.proofs.LockSessions.{some_same as same_some}
 

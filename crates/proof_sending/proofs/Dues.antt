@@ -1,5 +1,4 @@
 -- What is due by the tables of a host is due by the transcript that it keeps to.
-use Rattle.law_transcript.specs.Nodes.{always}
 use Rattle.std.proofs.Common.{◌≡◌, ◌⊎◌, ◌≤◌, ℕ, inl, inr, List, [], ◌∷◌, length, refl, sym, ap, subst, ◌∙◌}
 use Rattle.std.specs.Prelude.{Option, Some, None}
 use Rattle.std.specs.List.{AllByRecursion}
@@ -36,17 +35,17 @@ use Rattle.proof_sending.specs.Reasons.{Reason, Asked_for, Gave_nonce, Wants_non
 use Rattle.proof_sending.proofs.SentUnits.{purpose_sends}
 use Rattle.proof_sending.specs.Due.{sends, IsOfCommandsBy, IsOfSessionBy, IsDueBy, IsShown, AreCarried, WritesWhatIsDue}
 
-module _ (Holds : Reason → Type 0) (listing : ℕ → List ℕ) (key : List ℕ) (past : List Entry) (h : HostState) (begun : AreBegun past h.nodes) (carried : AreCarried listing past h.commands) where
+module _ (Holds : Reason → Type 0) (listing : List Entry → ℕ → List ℕ) (key : List ℕ) (past : List Entry) (h : HostState) (begun : AreBegun past h.nodes) (carried : AreCarried listing past h.commands) where
   abbrev Due : Carried → Type 0
   Due one = IsDueBy Holds listing key past one
 
   -- by the form and the message that the transcript gives
   as_carried : (node session number : ℕ) (taken : Taken) (payload : List ℕ) (shown : Option Order) (carriage : Carriage) → shown ≡ Some taken.order
-      → carriage ≡ carriage_of (classes_for (always listing) past node number) taken.order
+      → carriage ≡ carriage_of (classes_for listing past node number) taken.order
       → IsCarriedBy Holds (keys_of key) node session (form_of carriage.outer) (message_of carriage taken.order session) payload
-      → IsCarriedBy Holds (keys_of key) node session (form_by (classes_for (always listing) past node number) shown) (message_by (classes_for (always listing) past node number) session shown) payload
+      → IsCarriedBy Holds (keys_of key) node session (form_by (classes_for listing past node number) shown) (message_by (classes_for listing past node number) session shown) payload
   as_carried node session number taken payload shown carriage shown_is carriage_is is =
-      let classes : List ℕ = classes_for (always listing) past node number in
+      let classes : List ℕ = classes_for listing past node number in
       subst (λ (o : Option Order). IsCarriedBy Holds (keys_of key) node session (form_by classes o) (message_by classes session o) payload) (sym shown_is)
       (subst (λ (c : Carriage). IsCarriedBy Holds (keys_of key) node session (form_of c.outer) (message_of c taken.order session) payload) carriage_is is)
 
@@ -89,7 +88,7 @@ module _ (Holds : Reason → Type 0) (listing : ℕ → List ℕ) (key : List �
 
 -- ---- where the transcript shows what was said
 
-module _ (Holds : Reason → Type 0) (listing : ℕ → List ℕ) (key : List ℕ) (past : List Entry) (shows : (reason : Reason) → Holds reason → IsShown listing key past reason) where
+module _ (Holds : Reason → Type 0) (listing : List Entry → ℕ → List ℕ) (key : List ℕ) (past : List Entry) (shows : (reason : Reason) → Holds reason → IsShown listing key past reason) where
   law_carried : (form : Form) (node session : ℕ) (message payload : List ℕ) → IsCarriedBy Holds (keys_of key) node session form message payload
       → IsCarriedAs form key past node session message payload
   law_carried Whole node session message payload is = is
@@ -103,19 +102,19 @@ module _ (Holds : Reason → Type 0) (listing : ℕ → List ℕ) (key : List �
     text = is.text;
   }
 
-  law_session : (one : Carried) (session : ℕ) → IsOfSessionBy Holds listing key past one session → IsOfSession (always listing) key past one session
+  law_session : (one : Carried) (session : ℕ) → IsOfSessionBy Holds listing key past one session → IsOfSession listing key past one session
   law_session one session is = by (command_of_session (sessions one.node past) session) refl is
     where
       by : (found : Option ℕ) → command_of_session (sessions one.node past) session ≡ found → IsOfCommandsBy Holds listing key past one session (listed found)
-          → IsOfSession (always listing) key past one session
+          → IsOfSession listing key past one session
       by None at none = absurd none
       by (Some number) at here =
-          let law : IsOfCommand (always listing) key past one session number
-          = law_carried (form_by (classes_for (always listing) past one.node number) (order_of number (accepted one.node past))) one.node session
-          (message_for (always listing) past one.node session number) one.payload here in
+          let law : IsOfCommand listing key past one session number
+          = law_carried (form_by (classes_for listing past one.node number) (order_of number (accepted one.node past))) one.node session
+          (message_for listing past one.node session number) one.payload here in
           rw at law
 
-  law_due : (one : Carried) → IsDueBy Holds listing key past one → IsDue (always listing) key past one
+  law_due : (one : Carried) → IsDueBy Holds listing key past one → IsDue listing key past one
   law_due one (inl session) = inl (law_session one (length (sessions one.node past)) session)
   law_due one (inr (inl get)) = inr (inl get)
   law_due one (inr (inr (inl report))) = inr (inr (inl (record { nonce = report.nonce; eight = report.eight; asked = shows (Wants_nonce one.node) report.asked; text = report.text })))
@@ -123,9 +122,9 @@ module _ (Holds : Reason → Type 0) (listing : ℕ → List ℕ) (key : List �
   law_due one (inr (inr (inr (inr asked)))) = inr (inr (inr (inr (shows (Asked_for one.node one.payload) asked))))
 
   module _ (from : (last : ℕ) → 1 ≤ next_id last) (to : (last : ℕ) → next_id last ≤ 255) (h : HostState) (begun : AreBegun past h.nodes) (carried : AreCarried listing past h.commands) where
-    pub unit_is_due : (unit : LineUnit) → IsDueUnit Holds (keys_of key) h unit → AllByRecursion (IsDue (always listing) key past) (sending_in (unit_text unit))
+    pub unit_is_due : (unit : LineUnit) → IsDueUnit Holds (keys_of key) h unit → AllByRecursion (IsDue listing key past) (sending_in (unit_text unit))
     unit_is_due unit due =
-        all-weaker (IsDueBy Holds listing key past) (IsDue (always listing) key past) law_due (sending_in (unit_text unit)) (unit_due Holds listing key past h begun carried from to unit due)
+        all-weaker (IsDueBy Holds listing key past) (IsDue listing key past) law_due (sending_in (unit_text unit)) (unit_due Holds listing key past h begun carried from to unit due)
 
     pub puts_due : (puts : List HostOut) → WritesDue Holds (keys_of key) h puts → WritesWhatIsDue listing key past puts
     puts_due [] due = tt

@@ -31,10 +31,10 @@ use Rattle.world_model.specs.Did.{happens_all, entries_all}
 use Rattle.world_model.specs.Lines.{IsEffect, Asks}
 use Rattle.world_model.proofs.Along.{IsAskedBy, IsOfEffect, anywhere, effect_along}
 use Rattle.proof_host.specs.Facts.{Facts}
-use Rattle.proof_line.specs.Said.{AreSaid}
-use Rattle.proof_line.proofs.Orders.{IsNoOrder}
-use Rattle.proof_line.proofs.Plain.{IsPlain}
-use Rattle.proof_line.proofs.SaidOrders.{IsSo, order_so}
+use Rattle.proof_spoken.specs.Said.{AreSaid}
+use Rattle.proof_spoken.proofs.Orders.{IsNoOrder}
+use Rattle.proof_spoken.proofs.Plain.{IsPlain}
+use Rattle.proof_spoken.proofs.SaidOrders.{IsSo, order_so}
 use Rattle.proof_walk.specs.ByLine.{begun}
 use Rattle.proof_sending.specs.Reasons.{Reason, HasReason, IsDueTask, IsReasoned}
 use Rattle.proof_sending.specs.Due.{IsShown}
@@ -76,7 +76,7 @@ rest_reason Holds keys h Queues_probe rests = tt
 rest_reason Holds keys h event rests = absurd rests
 
 -- a host that starts from its records has nothing to send
-opens_reasoned : (Holds : Reason → Type 0) (keys : Keys) (kept : Option (List (List ℕ))) (state : HostState) → IsSome kept → OpensFrom keys kept state → IsReasoned Holds keys state
+pub opens_reasoned : (Holds : Reason → Type 0) (keys : Keys) (kept : Option (List (List ℕ))) (state : HostState) → IsSome kept → OpensFrom keys kept state → IsReasoned Holds keys state
 opens_reasoned Holds keys None state some opens = absurd (let bad : false ≡ true = some in cc)
 opens_reasoned Holds keys (Some texts) state some (records, are, legal, is) =
     subst (λ (h : HostState). IsReasoned Holds keys h) (sym is) (opened_is Holds keys records (in_range records texts are))
@@ -136,11 +136,11 @@ nil_cons a more e = cc
 
 module _ (listing : ℕ → List ℕ) (key : List ℕ) (laws : WalkLaws) where
   -- the reasons that stood before the words of a line still do
-  later_than : (before : List Entry) (words : List ℕ) (told past : List Entry) (h : HostState) → past ≡ before ++ entry.Said words ∷ told → BringsMore before past → IsReasoned (IsShown listing key before) (keys_of key) h
-      → IsReasoned (IsShown listing key past) (keys_of key) h
+  later_than : (before : List Entry) (words : List ℕ) (told past : List Entry) (h : HostState) → past ≡ before ++ entry.Said words ∷ told → BringsMore before past → IsReasoned (IsShown (always listing) key before) (keys_of key) h
+      → IsReasoned (IsShown (always listing) key past) (keys_of key) h
   later_than before words told past h is more reasoned =
-      subst (λ (l : List Entry). IsReasoned (IsShown listing key l) (keys_of key) h) (sym is)
-      (reasoned_more listing key before (entry.Said words ∷ told) h refl (subst (λ (l : List Entry). BringsMore before l) is more) reasoned)
+      subst (λ (l : List Entry). IsReasoned (IsShown (always listing) key l) (keys_of key) h) (sym is)
+      (reasoned_more (always listing) key before (entry.Said words ∷ told) h refl (subst (λ (l : List Entry). BringsMore before l) is more) reasoned)
 
   -- its words tell nothing of what arrived
   said_brings : (line : Line) (past : List Entry) (m : Machine) (saying : Saying listing key line past m) → BringsMore saying.before past
@@ -185,7 +185,7 @@ module _ (listing : ℕ → List ℕ) (key : List ℕ) (laws : WalkLaws) where
   send_asked past m node word (n, saying, is) =
       subst (λ (k : Machine). IsAskedFor (always listing) past (record { node = node; payload = send_text (classes_of (known_of (node_of k.host.state node))) word })) (sym is)
       (subst (λ (l : List Entry). IsAskedFor (always listing) l (record { node = node; payload = send_text (classes_of (known_of (node_of n.host.state node))) word })) (sym saying.is)
-      (send_asks listing saying.before saying.words n.host.state node word saying.knew saying.read))
+      (send_asks (always listing) saying.before saying.words n.host.state node word saying.knew saying.read))
 
   get_asked : (past : List Entry) (m : Machine) (node end : ℕ) → Opened listing key (lines.Get node end) past m
       → IsAskedFor (always listing) past (record { node = node; payload = get_text (classes_of (known_of (node_of m.host.state node))) end })
@@ -193,7 +193,7 @@ module _ (listing : ℕ → List ℕ) (key : List ℕ) (laws : WalkLaws) where
   get_asked past m node end (n, saying, is) =
       subst (λ (k : Machine). IsAskedFor (always listing) past (record { node = node; payload = get_text (classes_of (known_of (node_of k.host.state node))) end })) (sym is)
       (subst (λ (l : List Entry). IsAskedFor (always listing) l (record { node = node; payload = get_text (classes_of (known_of (node_of n.host.state node))) end })) (sym saying.is)
-      (get_asks listing saying.before saying.words n.host.state node end saying.knew saying.read))
+      (get_asks (always listing) saying.before saying.words n.host.state node end saying.knew saying.read))
 
   asks_left : (refused : Option Refused) (line : Line) (node : ℕ) (payload : List ℕ) (past : List Entry) (m : Machine) (events : List Event) → Opened listing key line past m
       → IsAskedFor (always listing) past (record { node = node; payload = payload }) → Asks refused line (Queues (Plain node payload)) events → Left listing key events past m
@@ -216,7 +216,7 @@ module _ (listing : ℕ → List ℕ) (key : List ℕ) (laws : WalkLaws) where
 
   -- ---- an event that needs no reason
 
-  rest_first : (past : List Entry) (h : HostState) (event : HostEvent) → RestsHost event → FirstDue listing key past (outs h event)
+  rest_first : (past : List Entry) (h : HostState) (event : HostEvent) → RestsHost event → FirstDue (always listing) key past (outs h event)
   rest_first past h (Cancels command) rests = tt
   rest_first past h (Joins node) rests = tt
   rest_first past h (Queues task) rests = tt
@@ -226,27 +226,27 @@ module _ (listing : ℕ → List ℕ) (key : List ℕ) (laws : WalkLaws) where
 
   rest_entries : (past : List Entry) (m : Machine) (event : Event) → IsRest event → May m event → EachAfter (MayRequest (always listing) key) past (entries m event)
   unfolding entries May
-  rest_entries past m (Outside_does event) rests may = none_stand listing key past (entries_outside m.outside event) (outside_not m.outside event may.0 may.1)
+  rest_entries past m (Outside_does event) rests may = none_stand (always listing) key past (entries_outside m.outside event) (outside_not m.outside event may.0 may.1)
   rest_entries past m (Host_does event) rests may = host_stands listing key laws past m event (rest_first (past ++ _) m.host.state event rests)
   rest_entries past m (Host_takes count rest items events) rests may = absurd rests
   rest_entries past m Decoder_ticks rests may = absurd rests
-  rest_entries past m (Refuses line refusal) rests may = none_stand listing key past (entered m (entry.Refused refusal)) (entry_not listing key m.outside (entry.Refused refusal) tt)
+  rest_entries past m (Refuses line refusal) rests may = none_stand (always listing) key past (entered m (entry.Refused refusal)) (entry_not (always listing) key m.outside (entry.Refused refusal) tt)
   rest_entries past m (Shows_values node) rests may =
-      none_stand listing key past (entered m (shown_values m.host.state node)) (entry_not listing key m.outside (shown_values m.host.state node) tt)
+      none_stand (always listing) key past (entered m (shown_values m.host.state node)) (entry_not (always listing) key m.outside (shown_values m.host.state node) tt)
   rest_entries past m (Restarts state) rests may = tt
 
   rest_reasoned : (before past : List Entry) (m : Machine) (event : Event) → IsRest event → May m event → IsWell listing m event → Grounded listing past m → m.keys ≡ keys_of key
-      → IsReasoned (IsShown listing key before) (keys_of key) m.host.state → IsReasoned (IsShown listing key before) (keys_of key) (happens m event).host.state
+      → IsReasoned (IsShown (always listing) key before) (keys_of key) m.host.state → IsReasoned (IsShown (always listing) key before) (keys_of key) (happens m event).host.state
   unfolding happens May
   rest_reasoned before past m (Outside_does event) rests may well ground keys is = is
   rest_reasoned before past m (Host_does event) rests may well ground keys is =
-      event_is laws.hosts (IsShown listing key before) (keys_of key) past m.host.state event ground.facts may.0 (rest_reason (IsShown listing key before) (keys_of key) m.host.state event rests) is
+      event_is laws.hosts (IsShown (always listing) key before) (keys_of key) past m.host.state event ground.facts may.0 (rest_reason (IsShown (always listing) key before) (keys_of key) m.host.state event rests) is
   rest_reasoned before past m (Host_takes count rest items events) rests may well ground keys is = absurd rests
   rest_reasoned before past m Decoder_ticks rests may well ground keys is = absurd rests
   rest_reasoned before past m (Refuses line refusal) rests may well ground keys is = is
   rest_reasoned before past m (Shows_values node) rests may well ground keys is = is
   rest_reasoned before past m (Restarts state) rests may well ground keys is =
-      opens_reasoned (IsShown listing key before) (keys_of key) m.records state well.0.1 (subst (λ (k : Keys). OpensFrom k m.records state) keys may)
+      opens_reasoned (IsShown (always listing) key before) (keys_of key) m.records state well.0.1 (subst (λ (k : Keys). OpensFrom k m.records state) keys may)
 
   -- of the effect, this event and what is left after it
   abbrev Leaves : List Entry → Machine → Event → List Event → Type 0
@@ -295,9 +295,9 @@ module _ (listing : ℕ → List ℕ) (key : List ℕ) (laws : WalkLaws) where
           arrives = event_arrives past (begun n) accepts may saying.ground.arrives;
         }
 
-    order_reasoned : May (begun n) accepts → IsReasoned (IsShown listing key saying.before) (keys_of key) (happens (begun n) accepts).host.state
+    order_reasoned : May (begun n) accepts → IsReasoned (IsShown (always listing) key saying.before) (keys_of key) (happens (begun n) accepts).host.state
     unfolding happens May
-    order_reasoned may = event_is laws.hosts (IsShown listing key saying.before) (keys_of key) past n.host.state (Accepts order carriage) saying.ground.facts may.0 tt saying.reasoned
+    order_reasoned may = event_is laws.hosts (IsShown (always listing) key saying.before) (keys_of key) past n.host.state (Accepts order carriage) saying.ground.facts may.0 tt saying.reasoned
 
     order_goes : May (begun n) accepts → IsWell listing (begun n) accepts → Stands listing key laws past (begun n) accepts
     order_goes may well = (
@@ -335,8 +335,8 @@ module _ (listing : ℕ → List ℕ) (key : List ℕ) (laws : WalkLaws) where
     record {
       ground = ground_goes listing laws past m (Host_does (Queues (Plain node payload))) tt may well.0.0 well.1 sound.ground;
       keys = sound.keys;
-      reasoned = reasoned_more listing key past [] (happens m (Host_does (Queues (Plain node payload)))).host.state refl (brings_none past)
-          (event_is laws.hosts (IsShown listing key past) (keys_of key) past m.host.state (Queues (Plain node payload)) sound.ground.facts may.0 asked sound.reasoned);
+      reasoned = reasoned_more (always listing) key past [] (happens m (Host_does (Queues (Plain node payload)))).host.state refl (brings_none past)
+          (event_is laws.hosts (IsShown (always listing) key past) (keys_of key) past m.host.state (Queues (Plain node payload)) sound.ground.facts may.0 asked sound.reasoned);
     },
   )
 

@@ -24,9 +24,9 @@ use Rattle.proof_host.specs.Facts.{Facts}
 use Rattle.proof_host.specs.Laws.{HostLaws, numbers_for}
 use Rattle.proof_host.specs.Tables.{taken_at}
 use Rattle.proof_host.proofs.Lists.{each-append}
-use Rattle.proof_line.specs.Said.{AreSaid, KnowsListing, MayAnswer, Tells}
-use Rattle.proof_line.proofs.Plain.{IsPlain}
-use Rattle.proof_line.proofs.SaidOrders.{AsidesKeep, FactsGoOn, plain_so}
+use Rattle.proof_spoken.specs.Said.{AreSaid, KnowsListing, MayAnswer, Tells}
+use Rattle.proof_spoken.proofs.Plain.{IsPlain}
+use Rattle.proof_spoken.proofs.SaidOrders.{AsidesKeep, FactsGoOn, plain_so}
 use Rattle.proof_line.specs.Restarts.{StartsWell}
 use Rattle.proof_sending.specs.Due.{AreCarried}
 use Rattle.proof_sending.specs.Knowing.{Grounded}
@@ -34,26 +34,36 @@ use Rattle.proof_sending.proofs.Arrivals.{IsNoUnit}
 use Rattle.proof_sending.proofs.Growing.{event_arrives, one_arrives}
 use Rattle.proof_sending.proofs.Reasoned.{Laws}
 
+-- the laws of hosts follow from what keeps to a transcript
+abbrev pub LawsFollow : Type 0
+LawsFollow = (past : List Entry) (h : HostState) → Facts past h → HostLaws past
+
+-- an order that was said is carried so
+abbrev pub CarriesAsSaid : Type 0
+CarriesAsSaid =
+    (listing : List Entry → ℕ → List ℕ) (past : List Entry) (h : HostState) (node number : ℕ) (taken : Taken) → Facts past h → AreSaid listing h.commands past
+    → Has (numbers_for node past) number → taken_at h.commands number ≡ Some taken
+    → (order_of number (accepted node past) ≡ Some taken.order) × (taken.carriage ≡ carriage_of (classes_for listing past node number) taken.order)
+
 -- what is proved of hosts and of the machine
 pub record WalkLaws : Type 0 where
   pub hosts : Laws
   pub go_on : FactsGoOn
   pub aside : AsidesKeep
-  pub stand : (past : List Entry) (h : HostState) → Facts past h → HostLaws past
+  pub stand : LawsFollow
   pub knows : (listing : ℕ → List ℕ) (past : List Entry) (m : Machine) (event : Event) → May m event → Tells listing m event → KnowsListing (always listing) past m.host.state
       → KnowsListing (always listing) (past ++ entries m event) (happens m event).host.state
-  pub carried : (listing : ℕ → List ℕ) (past : List Entry) (h : HostState) (node number : ℕ) (taken : Taken) → Facts past h → AreSaid (always listing) h.commands past
-      → Has (numbers_for node past) number → taken_at h.commands number ≡ Some taken
-      → (order_of number (accepted node past) ≡ Some taken.order) × (taken.carriage ≡ carriage_of (classes_for (always listing) past node number) taken.order)
+  pub carried : CarriesAsSaid
   pub from : (last : ℕ) → 1 ≤ next_id last
   pub to : (last : ℕ) → next_id last ≤ 255
 
 -- what is carried by sessions is as it was said
-pub carried_so : WalkLaws → (listing : ℕ → List ℕ) (past : List Entry) (h : HostState) → Facts past h → AreSaid (always listing) h.commands past → AreCarried listing past h.commands
-carried_so laws listing past h facts said node zero number taken at found = absurd (let bad : ◌≡◌ {A = Option ℕ} None (Some number) = at in cc)
-carried_so laws listing past h facts said node (suc k) number taken at found =
-    laws.carried listing past h node number taken facts said
-    (all-get (Has (numbers_for node past)) (sessions node past) k number ((laws.stand past h facts).accepted node) at) found
+pub carried_so : LawsFollow → CarriesAsSaid → (listing : List Entry → ℕ → List ℕ) (past : List Entry) (h : HostState) → Facts past h → AreSaid listing h.commands past
+    → AreCarried listing past h.commands
+carried_so stand carried listing past h facts said node zero number taken at found = absurd (let bad : ◌≡◌ {A = Option ℕ} None (Some number) = at in cc)
+carried_so stand carried listing past h facts said node (suc k) number taken at found =
+    carried listing past h node number taken facts said
+    (all-get (Has (numbers_for node past)) (sessions node past) k number ((stand past h facts).accepted node) at) found
 
 module _ (listing : ℕ → List ℕ) (laws : WalkLaws) where
   -- ---- an entry that changes nothing of it

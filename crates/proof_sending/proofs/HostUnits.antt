@@ -1,5 +1,4 @@
 -- What the host enters at an event may stand: its first unit asks for what is due, and the others for nothing.
-use Rattle.law_transcript.specs.Nodes.{always}
 use Rattle.std.proofs.Common.{ℕ, List, [], ◌∷◌, ◌++◌, sym, subst, append-nil}
 use Rattle.std.specs.Prelude.{Option, Some, None}
 use Rattle.std.specs.List.{AllByRecursion}
@@ -44,7 +43,7 @@ use Rattle.proof_walk.proofs.Machines.{UnitsAre, answers_keep, outs_keep}
 use Rattle.proof_device.proofs.Entered.{IsMark, told_by_marks}
 use Rattle.proof_sending.proofs.OutsideUnits.{AreNotWritten, IsNotWritten, note_not, number_not}
 
-abbrev NoUnit : LineUnit → Type 0
+abbrev pub NoUnit : LineUnit → Type 0
 NoUnit unit = ⊥
 
 -- no data frame
@@ -97,12 +96,12 @@ mark_not : (e : Entry) → IsMark e → IsNotWritten e
 mark_not (entry.Written side unit) mark = absurd mark
 mark_not e mark = tt
 
-module _ (listing : ℕ → List ℕ) (key : List ℕ) where
+module _ (listing : List Entry → ℕ → List ℕ) (key : List ℕ) where
   abbrev Asks : List Entry → Entry → Type 0
-  Asks past e = MayRequest (always listing) key past e
+  Asks past e = MayRequest listing key past e
 
   abbrev DueAt : List Entry → LineUnit → Type 0
-  DueAt past unit = AllByRecursion (IsDue (always listing) key past) (sending_in (unit_text unit))
+  DueAt past unit = AllByRecursion (IsDue listing key past) (sending_in (unit_text unit))
 
   may_stand : (past : List Entry) (e : Entry) → IsNotWritten e → Asks past e
   may_stand past (entry.Written by_host unit) none = absurd none

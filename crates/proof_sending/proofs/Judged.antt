@@ -45,11 +45,10 @@ use Rattle.host_model.specs.Events.{HostEvent, Hears, Requests_do, Unreads, Is_u
 use Rattle.host_node.specs.declared.attempt.Moment.TheVariants.{BetweenTicks}
 use Rattle.host_model.specs.Taking.{IsKeptOr, is_secure, named_by, FinalEvents, ReportEvents, NonceGetEvents, NonceReportEvents, resent, value_event, value_events, told_if, ends_from, IsTaken, AreTaken, IsOpened, SealedEvents, PayloadEvents, InterviewEvents, ResponseEvents, NoticeEvents, FrameEvents, IsFollowed, AreJudged}
 use Rattle.proof_host.specs.Entries.{entries_at}
-use Rattle.proof_host.specs.Facts.{Facts}
 use Rattle.proof_messages.proofs.LockSessions.{some_same}
 use Rattle.proof_line.proofs.Always.{one, none, either}
-use Rattle.proof_sending.specs.Reasons.{Reason, HasEight, HasReason, IsEight, IsReasoned}
-use Rattle.proof_sending.specs.Heard.{AreHeardOf, HaveReasons, IsHeardOf, ItemTells, PayloadTells, WritesNoFrame}
+use Rattle.proof_sending.specs.Reasons.{Reason, HasEight, HasReason, IsEight}
+use Rattle.proof_sending.specs.Heard.{AreHeardOf, GiveReasons, HaveReasons, IsGrounded, IsHeardOf, ItemTells, PayloadTells, WritesNoFrame}
 use Rattle.proof_sending.proofs.BroughtNodes.{brought_from}
 use Rattle.proof_sending.proofs.HeardNonces.{IsEightTold, heard_eight}
 use Rattle.proof_sending.proofs.Waiting.{live_eight}
@@ -78,39 +77,33 @@ own_eight n keys own other nonce another text x y eight =
     let long : length x.plain ≡ length y.plain = ap length plain in
     omega (arith, one, two, long, eight)
 
--- events one after another may happen, and so may both parts
-may_parts : (h : HostState) (a b : List HostEvent) → MayAll h (a ++ b) → MayAll h a × MayAll (after_all h a) b
-may_parts h [] b may = (tt, may)
-may_parts h (event ∷ a) b may = let more = may_parts (after h event) a b may.1 in ((may.0, more.0, may.2), more.1)
-
 module _ (laws : Laws) (Holds : Reason → Type 0) (keys : Keys) where
-  -- the host keeps to a transcript, and all that it has to send is due
   abbrev Stands : HostState → Type 0
-  Stands h = ((past : List Entry) × Facts past h) × IsReasoned Holds keys h
+  Stands h = IsGrounded Holds keys h
 
   next : (h : HostState) (event : HostEvent) → May h event → HasReason Holds keys h event → Stands h → Stands (after h event)
   next h event may reason stands =
       let past : List Entry = stands.0.0 in
       ((past ++ entries_at h event, laws.event_keeps past h event stands.0.1 may), event_is laws Holds keys past h event stands.0.1 may reason stands.1)
 
-  have-append : (h : HostState) (a b : List HostEvent) → HaveReasons Holds keys h a → HaveReasons Holds keys (after_all h a) b → HaveReasons Holds keys h (a ++ b)
-  have-append h [] b first later = later
-  have-append h (event ∷ a) b first later = (first.0, have-append (after h event) a b first.1 later)
-
   pub stands_all : (h : HostState) (events : List HostEvent) → MayAll h events → HaveReasons Holds keys h events → Stands h → Stands (after_all h events)
   stands_all h [] may reasons stands = stands
   stands_all h (event ∷ events) may reasons stands =
       stands_all (after h event) events may.1 reasons.1 (next h event may.0 reasons.0.0 stands)
 
-  -- these events have their reasons
   abbrev Goes : HostState → List HostEvent → Type 0
-  Goes h events = Stands h → MayAll h events → HaveReasons Holds keys h events
+  Goes h events = GiveReasons Holds keys h events
+
+  -- so all have, where they come one after another
+  pub reasons_of : (h : HostState) (events : List HostEvent) → Goes h events → Stands h → MayAll h events → HaveReasons Holds keys h events
+  reasons_of h [] goes stands may = tt
+  reasons_of h (event ∷ events) goes stands may =
+      let got = goes stands may.0 in
+      (got.0, reasons_of (after h event) events got.1 (next h event may.0 got.0.0 stands) may.1)
 
   goes_both : (h : HostState) (a b : List HostEvent) → Goes h a → Goes (after_all h a) b → Goes h (a ++ b)
-  goes_both h a b first later stands may =
-      let parts = may_parts h a b may in
-      let reasons = first stands parts.0 in
-      have-append h a b reasons (later (stands_all h a parts.0 reasons stands) parts.1)
+  goes_both h [] b first later = later
+  goes_both h (event ∷ a) b first later = λ stands may. let got = first stands may in (got.0, goes_both (after h event) a b got.1 later)
 
   goes_same : (h : HostState) (events are : List HostEvent) → events ≡ are → Goes h are → Goes h events
   goes_same h events are is goes = subst (λ (l : List HostEvent). Goes h l) (sym is) goes
@@ -123,13 +116,12 @@ module _ (laws : Laws) (Holds : Reason → Type 0) (keys : Keys) where
   AllFree events = AllByRecursion Free events
 
   goes_free : (h : HostState) (events : List HostEvent) → AllFree events → Goes h events
-  goes_free h [] free stands may = tt
-  goes_free h (event ∷ events) free stands may =
-      ((free.0.0 h, free.0.1), goes_free (after h event) events free.1 (next h event may.0 (free.0.0 h) stands) may.1)
+  goes_free h [] free = tt
+  goes_free h (event ∷ events) free = λ stands may. ((free.0.0 h, free.0.1), goes_free (after h event) events free.1)
 
   -- one that has its own
   goes_one : (h : HostState) (event : HostEvent) → (May h event → HasReason Holds keys h event) → WritesNoFrame event → Goes h (event ∷ [])
-  goes_one h event reason none stands may = ((reason may.0, none), tt)
+  goes_one h event reason none = λ stands may. ((reason may, none), tt)
 
   goes_either : (h : HostState) (kept unkept : HostEvent) (events : List HostEvent) → (May h kept → HasReason Holds keys h kept) → WritesNoFrame kept → Free unkept → IsKeptOr kept unkept events → Goes h events
   goes_either h kept unkept events reason none free (inl are) = goes_same h events (kept ∷ []) are (goes_one h kept reason none)
@@ -216,11 +208,11 @@ module _ (laws : Laws) (Holds : Reason → Type 0) (keys : Keys) where
         → IsOpened h n nonce payload events → Goes h events
     opened h nonce payload events named tells (inl are) = goes_free h events (one Free (Is_unkept n) events (λ h. tt, tt) are)
     opened h nonce payload events named tells (inr (inl vain)) = goes_free h events (one Free (Spends_unread n payload) events (λ h. tt, tt) vain.1)
-    opened h nonce payload events named tells (inr (inr (messages, rest, to, are, taken_so))) = λ stands may.
+    opened h nonce payload events named tells (inr (inr (messages, rest, to, are, taken_so))) =
+        goes_same h events (Spends n ∷ rest) are (λ stands may.
         let heard : AreHeardOf Holds n messages
         = tells.sealed nonce to.plain messages (named_eight payload (live_of h.nonces n) nonce named (all_at HasEight h.nonces n unused stands.1.waiting.eight tt)) (subst (λ (k : Keys). Seals k (nonce_in payload) nonce (ends_from n) to.plain payload) stands.1.waiting.same to.seals) to.tells in
-        goes_same h events (Spends n ∷ rest) are
-        (goes_both h (Spends n ∷ []) rest (goes_free h (Spends n ∷ []) ((λ g. tt, tt), tt)) (all_taken (after h (Spends n)) payload true messages rest (said_all n to.plain messages to.tells heard) taken_so)) stands may
+        ((tt, tt), all_taken (after h (Spends n)) payload true messages rest (said_all n to.plain messages to.tells heard) taken_so))
 
     sealed_goes : (h : HostState) (payload : List ℕ) (nonce : Option (List ℕ)) (events : List HostEvent) → named_by payload (live_of h.nonces n) ≡ nonce → PayloadTells Holds keys n payload → SealedEvents h n payload nonce events → Goes h events
     sealed_goes h payload None events named tells is = goes_free h events (one Free (Unreads n payload) events (λ h. tt, tt) is)
@@ -262,7 +254,7 @@ module _ (laws : Laws) (Holds : Reason → Type 0) (keys : Keys) where
   frame_goes h kind.Response function body events tells is = goes_free h events (response_free _ events is)
   frame_goes h kind.Request function body events tells is = notice_goes h (notice_of function body) (notice_of function body) events refl (brought_from function body) (tells refl) is
 
-  followed_goes : (h : HostState) (turn : Turn) (item : Item) (events : List HostEvent) → ItemTells Holds keys item → IsFollowed h turn item events → Goes h events
+  pub followed_goes : (h : HostState) (turn : Turn) (item : Item) (events : List HostEvent) → ItemTells Holds keys item → IsFollowed h turn item events → Goes h events
   followed_goes h turn (Good Ack) events tells is = goes_free h events (told_free _ _ events (λ g. tt) is)
   followed_goes h turn (Good Nak) events tells is = goes_free h events (told_free _ _ events (λ g. tt) is)
   followed_goes h turn (Good Can) events tells is = goes_free h events (told_free _ _ events (λ g. tt) is)

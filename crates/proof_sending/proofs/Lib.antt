@@ -1,19 +1,19 @@
 mod Waiting
 mod Books
 mod Parts
-mod Reasoned
+pub mod Reasoned
 mod SentUnits
-mod Dues
-mod AskedLines
+pub mod Dues
+pub mod AskedLines
 mod HeardNonces
 mod BroughtNodes
-mod Judged
-mod OutsideUnits
-mod HostUnits
-mod Arrivals
+pub mod Judged
+pub mod OutsideUnits
+pub mod HostUnits
+pub mod Arrivals
 mod Growing
-mod Telling
-mod Grounds
-mod Steps
-mod Effects
+pub mod Telling
+pub mod Grounds
+pub mod Steps
+pub mod Effects
 mod Walking

@@ -38,8 +38,7 @@ use Rattle.world_model.specs.State.{Machine, host_does, host_entries}
 use Rattle.world_model.specs.Events.{Event, Outside_does, Host_does, Host_takes, Decoder_ticks, Refuses, Shows_values, Restarts, fed, happens, entries, notes, May}
 use Rattle.proof_device.proofs.Entered.{IsMark}
 use Rattle.proof_host.proofs.Lists.{each-append}
-use Rattle.proof_line.proofs.Orders.{IsNoOrder}
-use Rattle.proof_line.proofs.Plain.{IsPlain}
+use Rattle.proof_spoken.proofs.Plain.{IsPlain, own_plain}
 use Rattle.proof_walk.specs.Outside.{IsHostNote, IsOfAir}
 use Rattle.proof_walk.specs.ByLine.{IsCommon}
 use Rattle.proof_walk.proofs.Alone.{KindsAre, common_are}
@@ -54,7 +53,7 @@ use Rattle.proof_sending.proofs.Dues.{unit_is_due}
 use Rattle.proof_sending.proofs.Grounds.{WalkLaws, carried_so, ground_goes, ground_ticked}
 use Rattle.proof_sending.proofs.Growing.{event_brings, ticked_brings}
 use Rattle.proof_sending.proofs.HostUnits.{FirstDue, IsShort, answers_stand, event_stands, none_stand, short_stand}
-use Rattle.proof_sending.proofs.Judged.{judged_goes, stands_all}
+use Rattle.proof_sending.proofs.Judged.{judged_goes, reasons_of, stands_all}
 use Rattle.proof_sending.proofs.OutsideUnits.{outside_not}
 use Rattle.proof_sending.proofs.Reasoned.{event_is, more_is, units_due}
 
@@ -104,10 +103,6 @@ mine_common (Host_does event) own = own_silent event own
 mine_common (Host_takes count rest items events) mine = tt
 mine_common Decoder_ticks mine = tt
 mine_common event mine = absurd mine
-
-own_plain : (event : HostEvent) → IsOwn event → IsNoOrder event
-own_plain (Accepts order carriage) own = absurd own
-own_plain event own = tt
 
 mine_plain : (event : Event) → IsMine event → IsPlain event
 mine_plain (Host_does event) own = own_plain event own
@@ -167,7 +162,7 @@ event_short h event none = tt
 
 -- ---- reasons
 
-module _ (listing : ℕ → List ℕ) (key : List ℕ) where
+module _ (listing : List Entry → ℕ → List ℕ) (key : List ℕ) where
   told_more : (past later : List Entry) (node : ℕ) (message : Told) → BringsMore past later → IsToldBy key past node message → IsToldBy key later node message
   told_more past later node message more (inl told) =
       let tells : List ℕ → List Told = λ bytes. messages_of (heard_at bytes) in
@@ -186,7 +181,7 @@ module _ (listing : ℕ → List ℕ) (key : List ℕ) where
         tells = is.tells;
       })
 
-  holds_more : (past told : List Entry) → begins_refused told ≡ false → BringsMore past (past ++ told) → (reason : Reason) → IsShown listing key past reason
+  pub holds_more : (past told : List Entry) → begins_refused told ≡ false → BringsMore past (past ++ told) → (reason : Reason) → IsShown listing key past reason
       → IsShown listing key (past ++ told) reason
   holds_more past told none more (Asked_for node payload) asked = asked_stays listing [] past told (record { node = node; payload = payload }) none asked
   holds_more past told none more (Wants_nonce node) is = told_more past (past ++ told) node NonceGet more is
@@ -196,7 +191,7 @@ module _ (listing : ℕ → List ℕ) (key : List ℕ) where
       → IsReasoned (IsShown listing key (past ++ told)) (keys_of key) h
   reasoned_more past told h none more is = more_is (IsShown listing key past) (IsShown listing key (past ++ told)) (holds_more past told none more) (keys_of key) h is
 
-  own_reason : (past : List Entry) (h : HostState) (event : HostEvent) → IsOwn event → HasReason (IsShown listing key past) (keys_of key) h event
+  pub own_reason : (past : List Entry) (h : HostState) (event : HostEvent) → IsOwn event → HasReason (IsShown listing key past) (keys_of key) h event
   own_reason past h (Queues task) own = absurd own
   own_reason past h (Requests_do event moment) own = subst (λ (e : RequestsEvent). PushesNothing e) (sym own) tt
   own_reason past h (Offers n) own = absurd own
@@ -220,58 +215,59 @@ module _ (listing : ℕ → List ℕ) (key : List ℕ) (laws : WalkLaws) where
   abbrev pub Stands : List Entry → Machine → Event → Type 0
   Stands past m event = EachAfter (MayRequest (always listing) key) past (entries m event) × IsSound listing key (past ++ entries m event) (happens m event)
 
-  first_of : (past : List Entry) (m : Machine) → Grounded listing past m → (puts : List HostOut) → WritesDue (IsShown listing key past) (keys_of key) m.host.state puts → FirstDue listing key past puts
+  first_of : (past : List Entry) (m : Machine) → Grounded listing past m → (puts : List HostOut) → WritesDue (IsShown (always listing) key past) (keys_of key) m.host.state puts → FirstDue (always listing) key past puts
   first_of past m ground [] due = tt
   first_of past m ground (Write unit ∷ puts) due =
-      unit_is_due (IsShown listing key past) listing key past (λ reason is. is) laws.from laws.to m.host.state ground.facts.begun
-      (carried_so laws listing past m.host.state ground.facts ground.said) unit due.0
+      unit_is_due (IsShown (always listing) key past) (always listing) key past (λ reason is. is) laws.from laws.to m.host.state ground.facts.begun
+      (carried_so laws.stand laws.carried (always listing) past m.host.state ground.facts ground.said) unit due.0
   first_of past m ground (Note note ∷ puts) due = tt
 
   pub first_due : (past : List Entry) (m : Machine) (event : HostEvent) → Grounded listing past m → MayHost m.host.state event
-      → ((told : List Entry) → HasReason (IsShown listing key told) (keys_of key) m.host.state event) → IsReasoned (IsShown listing key past) (keys_of key) m.host.state
-      → FirstDue listing key (past ++ ticked_entry m.outside.outer) (outs m.host.state event)
+      → ((told : List Entry) → HasReason (IsShown (always listing) key told) (keys_of key) m.host.state event) → IsReasoned (IsShown (always listing) key past) (keys_of key) m.host.state
+      → FirstDue (always listing) key (past ++ ticked_entry m.outside.outer) (outs m.host.state event)
   first_due past m event ground may reason is =
       let told : List Entry = ticked_entry m.outside.outer in
       first_of (past ++ told) m (ground_ticked listing laws past m m.outside.outer ground) (outs m.host.state event)
-      (units_due laws.hosts (IsShown listing key (past ++ told)) (keys_of key) m.host.state event ground.facts.host may (reason (past ++ told))
-      (reasoned_more listing key past told m.host.state (ticked_none m.outside.outer) (ticked_brings past m.outside.outer) is))
+      (units_due laws.hosts (IsShown (always listing) key (past ++ told)) (keys_of key) m.host.state event ground.facts.host may (reason (past ++ told))
+      (reasoned_more (always listing) key past told m.host.state (ticked_none m.outside.outer) (ticked_brings past m.outside.outer) is))
 
-  pub host_stands : (past : List Entry) (m : Machine) (event : HostEvent) → FirstDue listing key (past ++ ticked_entry m.outside.outer) (outs m.host.state event)
+  pub host_stands : (past : List Entry) (m : Machine) (event : HostEvent) → FirstDue (always listing) key (past ++ ticked_entry m.outside.outer) (outs m.host.state event)
       → EachAfter (MayRequest (always listing) key) past (entries m (Host_does event))
   unfolding entries
   host_stands past m event due =
       let done : Machine = host_does m (event ∷ []) in
       each-append (MayRequest (always listing) key) past (host_entries m (event ∷ [])) (entries_all_outside done.outside (notes (answers m.host.state event)))
-      (event_stands listing key past m.outside m.host.state event due)
-      (answers_stand listing key (past ++ host_entries m (event ∷ [])) done.outside m.host.state event)
+      (event_stands (always listing) key past m.outside m.host.state event due)
+      (answers_stand (always listing) key (past ++ host_entries m (event ∷ [])) done.outside m.host.state event)
 
   sound_after : (past : List Entry) (m : Machine) (event : Event) → IsMine event → May m event → IsWell listing m event → IsSound listing key past m
-      → IsReasoned (IsShown listing key past) (keys_of key) (happens m event).host.state → IsSound listing key (past ++ entries m event) (happens m event)
+      → IsReasoned (IsShown (always listing) key past) (keys_of key) (happens m event).host.state → IsSound listing key (past ++ entries m event) (happens m event)
   sound_after past m event mine may well is reasoned = record {
     ground = ground_goes listing laws past m event (mine_plain event mine) may well.0.0 well.1 is.ground;
     keys = keys_stay m event ∙ is.keys;
-    reasoned = reasoned_more listing key past (entries m event) (happens m event).host.state (mine_none m event mine may) (event_brings past m event may is.ground.arrives) reasoned;
+    reasoned = reasoned_more (always listing) key past (entries m event) (happens m event).host.state (mine_none m event mine may) (event_brings past m event may is.ground.arrives) reasoned;
   }
 
-  pub mine_step : (past : List Entry) (m : Machine) (event : Event) → IsMine event → May m event → IsWell listing m event → HearsTold listing key past event → IsSound listing key past m → Stands past m event
+  pub mine_step : (past : List Entry) (m : Machine) (event : Event) → IsMine event → May m event → IsWell listing m event → HearsTold (always listing) key past event → IsSound listing key past m → Stands past m event
   unfolding happens entries May
   mine_step past m (Outside_does event) mine may well hears is = (
-    none_stand listing key past (entries_outside m.outside event) (outside_not m.outside event may.0 may.1),
+    none_stand (always listing) key past (entries_outside m.outside event) (outside_not m.outside event may.0 may.1),
     sound_after past m (Outside_does event) mine may well is is.reasoned,
   )
   mine_step past m (Host_does event) own may well hears is =
       let h : HostState = m.host.state in (
-        host_stands past m event (first_due past m event is.ground may.0 (λ told. own_reason listing key told h event own) is.reasoned),
+        host_stands past m event (first_due past m event is.ground may.0 (λ told. own_reason (always listing) key told h event own) is.reasoned),
         sound_after past m (Host_does event) own may well is
-            (event_is laws.hosts (IsShown listing key past) (keys_of key) past h event is.ground.facts may.0 (own_reason listing key past h event own) is.reasoned),
+            (event_is laws.hosts (IsShown (always listing) key past) (keys_of key) past h event is.ground.facts may.0 (own_reason (always listing) key past h event own) is.reasoned),
       )
   mine_step past m (Host_takes count rest items events) mine may well hears is =
       let h : HostState = m.host.state in
-      let reasons : HaveReasons (IsShown listing key past) (keys_of key) h events
-      = judged_goes laws.hosts (IsShown listing key past) (keys_of key) h items events hears may.judged ((past, is.ground.facts), is.reasoned) may.may in (
-        short_stand listing key past (fed m count rest).outside h events (events_short listing key past h events reasons),
+      let reasons : HaveReasons (IsShown (always listing) key past) (keys_of key) h events
+      = reasons_of laws.hosts (IsShown (always listing) key past) (keys_of key) h events
+      (judged_goes laws.hosts (IsShown (always listing) key past) (keys_of key) h items events hears may.judged) ((past, is.ground.facts), is.reasoned) may.may in (
+        short_stand (always listing) key past (fed m count rest).outside h events (events_short (always listing) key past h events reasons),
         sound_after past m (Host_takes count rest items events) tt may well is
-            (stands_all laws.hosts (IsShown listing key past) (keys_of key) h events may.may reasons ((past, is.ground.facts), is.reasoned)).1,
+            (stands_all laws.hosts (IsShown (always listing) key past) (keys_of key) h events may.may reasons ((past, is.ground.facts), is.reasoned)).1,
       )
   mine_step past m Decoder_ticks mine may well hears is = (tt, sound_after past m Decoder_ticks tt may well is is.reasoned)
   mine_step past m event mine may well hears is = absurd mine

@@ -94,7 +94,7 @@ own_payload : (node : ℕ) (payload : List ℕ) → Has (from_node node (record 
 own_payload node payload = subst (λ (b : Bool). Has (if b then payload ∷ [] else []) payload) (sym (eq-eqb node node refl)) (inl refl)
 
 -- so the payload is among those of its node
-frame_brought : (past : List Entry) (f : FrameParts) (text : List ℕ) → Has (arrived by_chip past) text → text ≡ unit_text (Framed f) → f.kind ≡ of_request
+pub frame_brought : (past : List Entry) (f : FrameParts) (text : List ℕ) → Has (arrived by_chip past) text → text ≡ unit_text (Framed f) → f.kind ≡ of_request
     → (status source : ℕ) (payload : List ℕ) → notice_of f.func f.body ≡ Ok (ApplicationCommandHandler status source payload) → Has (payloads_from source past) payload
 frame_brought past f text has is request status source payload read =
     let one : Carried = record { node = source; payload = payload } in
@@ -113,7 +113,7 @@ nonce_eight keys nonce ends plain payload seals =
     let long : 12 ≤ length payload = omega (arith, size) in
     simp (length-take, length-drop) (omega (arith, long))
 
-module _ (listing : ℕ → List ℕ) (key : List ℕ) (past : List Entry) where
+module _ (listing : List Entry → ℕ → List ℕ) (key : List ℕ) (past : List Entry) where
   abbrev Holds : Reason → Type 0
   Holds = IsShown listing key past
 
@@ -125,7 +125,7 @@ module _ (listing : ℕ → List ℕ) (key : List ℕ) (past : List Entry) where
   has_in : (heard : Heard) (messages : List Told) (message : Told) → heard ≡ Messages messages → Has messages message → Has (messages_of heard) message
   has_in heard messages message is has = subst (λ (h : Heard). Has (messages_of h) message) (sym is) has
 
-  payload_tells : (node : ℕ) (payload : List ℕ) → Has (payloads_from node past) payload → PayloadTells Holds (keys_of key) node payload
+  pub payload_tells : (node : ℕ) (payload : List ℕ) → Has (payloads_from node past) payload → PayloadTells Holds (keys_of key) node payload
   payload_tells node payload brought = record {
     plainly = λ messages heard. all_of (IsHeardOf Holds node) messages (λ message has. told_of node message
         (inl (has_shown (λ (bytes : List ℕ). messages_of (heard_at bytes)) (payloads_from node past) payload message brought (has_in (heard_at payload) messages message heard has))));

@@ -14,7 +14,7 @@ use Rattle.outside_model.specs.Events.{Begins_line}
 use Rattle.world_model.specs.State.{Machine}
 use Rattle.world_model.specs.Events.{Event, Outside_does, Host_takes, entries, happens, May}
 use Rattle.world_model.specs.Did.{AllAlong}
-use Rattle.proof_line.specs.Said.{AllTell}
+use Rattle.proof_spoken.specs.Said.{AllTell}
 use Rattle.proof_walk.specs.ByLine.{begun}
 use Rattle.proof_walk.specs.Phases.{Phase, Between, Said_line, Begun, Doing, To_tick, Ticked, Arriving, Giving, Ticking_devices, Ticking_chip, Ticking_decoder, Ticking_host, Sleeping, Submitting, Moving, Moved, Turns, Goes, passes_after}
 use Rattle.proof_walk.specs.Walk.{WalkWhere}
@@ -70,7 +70,7 @@ module _ (listing : ℕ → List ℕ) (key : List ℕ) (laws : WalkLaws) where
       )
 
   -- an event that is no line's own
-  mine : (next to : Phase) (event is : Event) (past : List Entry) (m : Machine) → event ≡ is → next ≡ to → IsMine is → May m event → IsWell listing m event → HearsTold listing key past is → IsSound listing key past m
+  mine : (next to : Phase) (event is : Event) (past : List Entry) (m : Machine) → event ≡ is → next ≡ to → IsMine is → May m event → IsWell listing m event → HearsTold (always listing) key past is → IsSound listing key past m
       → ((later : List Entry) (n : Machine) → IsSound listing key later n → Know to later n) → Keeps next past m event
   mine next to event is past m event_is next_is of_none may well hears sound there =
       let got = mine_step listing key laws past m is of_none (subst (May m) event_is may) (subst (IsWell listing m) event_is well) hears sound in
@@ -104,7 +104,7 @@ module _ (listing : ℕ → List ℕ) (key : List ℕ) (laws : WalkLaws) where
   event_keeps (Moved has_moved passes ticks) next past m event (rest, items, done, event_is, next_is) may well rooms known =
       let count : ℕ = length m.outside.outer.to_host.bytes in
       mine next (Sleeping passes ticks) event (Host_takes count rest items done) past m event_is next_is tt may well
-      (items_tell listing key past m count rest items done (subst (May m) event_is may) rooms.0.0 known.ground.arrives) known (λ p n k. k)
+      (items_tell (always listing) key past m count rest items done (subst (May m) event_is may) rooms.0.0 known.ground.arrives) known (λ p n k. k)
   event_keeps here next past m event goes may well rooms known = absurd goes
 
   -- a part begins

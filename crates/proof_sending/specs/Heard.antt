@@ -16,9 +16,12 @@ use Rattle.host_heard.specs.declared.told.Told.{Told}
 use Rattle.host_heard.specs.declared.told.Told.TheVariants.{NonceGet, NonceReport}
 use Rattle.host_model.specs.State.{HostState}
 use Rattle.host_model.specs.After.{after}
+use Rattle.host_model.specs.May.{May}
 use Rattle.host_model.specs.Events.{HostEvent, Line_ticks, Submits_abort, Submits_front, Starts, Gives_text, Gives_segment}
 use Rattle.host_model.specs.Taking.{ends_from}
-use Rattle.proof_sending.specs.Reasons.{Reason, Gave_nonce, Wants_nonce, HasReason}
+use Rattle.zw_text.specs.declared.entry.Entry.{Entry}
+use Rattle.proof_host.specs.Facts.{Facts}
+use Rattle.proof_sending.specs.Reasons.{Reason, Gave_nonce, Wants_nonce, HasReason, IsReasoned}
 
 -- a message of a node that asks for a nonce, or gives one, is a reason
 abbrev pub IsHeardOf : (Reason → Type 0) → ℕ → Told → Type 0
@@ -56,3 +59,13 @@ WritesNoFrame event = Unit {0}
 abbrev pub HaveReasons : (Reason → Type 0) → Keys → HostState → List HostEvent → Type 0
 HaveReasons Holds keys h [] = Unit {0}
 HaveReasons Holds keys h (event ∷ events) = (HasReason Holds keys h event × WritesNoFrame event) × HaveReasons Holds keys (after h event) events
+
+-- the host keeps to some transcript, and all that it has to send is due
+abbrev pub IsGrounded : (Reason → Type 0) → Keys → HostState → Type 0
+IsGrounded Holds keys h = ((past : List Entry) × Facts past h) × IsReasoned Holds keys h
+
+-- each of these events has its reason where it comes
+abbrev pub GiveReasons : (Reason → Type 0) → Keys → HostState → List HostEvent → Type 0
+GiveReasons Holds keys h [] = Unit {0}
+GiveReasons Holds keys h (event ∷ events) =
+    IsGrounded Holds keys h → May h event → (HasReason Holds keys h event × WritesNoFrame event) × GiveReasons Holds keys (after h event) events

@@ -19,7 +19,7 @@ use Rattle.host_model.proofs.Own.{IsOwn}
 use Rattle.world_model.specs.State.{Machine}
 use Rattle.world_model.specs.Events.{Event, Outside_does, Host_does, Host_takes, Decoder_ticks}
 use Rattle.proof_host.specs.Facts.{Facts}
-use Rattle.proof_line.specs.Said.{AreSaid, KnowsListing, Tells}
+use Rattle.proof_spoken.specs.Said.{AreSaid, KnowsListing, Tells}
 use Rattle.proof_walk.specs.ByLine.{IsOfTick, begun}
 use Rattle.proof_walk.specs.Phases.{Phase, Said_line, Begun, Doing, Ticking_host}
 use Rattle.proof_line.specs.Restarts.{KeepsWell, StartsWell}
@@ -77,7 +77,7 @@ pub record Grounded (listing : ℕ → List ℕ) (past : List Entry) (m : Machin
 pub record IsSound (listing : ℕ → List ℕ) (key : List ℕ) (past : List Entry) (m : Machine) : Type 0 where
   pub ground : Grounded listing past m
   pub keys : m.keys ≡ keys_of key
-  pub reasoned : IsReasoned (IsShown listing key past) (keys_of key) m.host.state
+  pub reasoned : IsReasoned (IsShown (always listing) key past) (keys_of key) m.host.state
 
 -- the words of a line are the last entry: it is due by what stands before them
 pub record Saying (listing : ℕ → List ℕ) (key : List ℕ) (line : Line) (past : List Entry) (m : Machine) : Type 0 where
@@ -88,7 +88,7 @@ pub record Saying (listing : ℕ → List ℕ) (key : List ℕ) (line : Line) (p
   pub knew : KnowsListing (always listing) before m.host.state
   pub ground : Grounded listing past m
   pub keys : m.keys ≡ keys_of key
-  pub reasoned : IsReasoned (IsShown listing key before) (keys_of key) m.host.state
+  pub reasoned : IsReasoned (IsShown (always listing) key before) (keys_of key) m.host.state
 
 -- the line has begun
 abbrev pub Opened : (ℕ → List ℕ) → List ℕ → Line → List Entry → Machine → Type 0
@@ -105,7 +105,7 @@ pub record Resting (listing : ℕ → List ℕ) (key : List ℕ) (left : List Ev
   pub ground : Grounded listing past m
   pub keys : m.keys ≡ keys_of key
   pub grows : BringsMore before past
-  pub reasoned : IsReasoned (IsShown listing key before) (keys_of key) m.host.state
+  pub reasoned : IsReasoned (IsShown (always listing) key before) (keys_of key) m.host.state
   pub rests : AllByRecursion IsRest left
 
 -- it is that an order is accepted

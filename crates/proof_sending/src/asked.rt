@@ -1,6 +1,5 @@
 //! What lines ask for without a session.
 
-ghost use Rattle.law_transcript.specs.Nodes.{always};
 ghost use Rattle.std.specs.Prelude.{◌≡◌, ℕ, false, List, [], ◌∷◌, ◌++◌};
 ghost use Rattle.zw_base.specs.declared.order.Word.{Word};
 ghost use Rattle.zw_text.specs.declared.line.Line.TheVariants.{Get, Send};
@@ -14,19 +13,20 @@ ghost use Rattle.host_model.specs.May.{known_of};
 ghost use Rattle.law_transcript.specs.Payloads.{IsAskedFor};
 ghost use Rattle.law_transcript.specs.Restarts.{begins_refused};
 ghost use Rattle.law_transcript.specs.Units.{Carried};
-ghost use Rattle.proof_line.specs.Said.{KnowsListing};
+ghost use Rattle.proof_spoken.specs.Said.{KnowsListing};
 
 /// What lines have asked for stays asked for, whatever stands next, but for a refusal of the last of them; and directly after the words of a line that
 /// asks for a Set or a Get the text has been asked for that the host makes of it, where that knows of the node what the transcript shows.
 pub fn lines_ask_for_what_is_queued()
-    ensures stays { (listing : ℕ → List ℕ) (past told : List Entry) (one : Carried) → begins_refused told ≡ false →
-        IsAskedFor (always listing) past one → IsAskedFor (always listing) (past ++ told) one }
-    ensures send { (listing : ℕ → List ℕ) (past : List Entry) (words : List ℕ) (h : HostState) (node : ℕ) (word : Word) → KnowsListing (always listing) past h →
+    ensures stays { (listing : List Entry → ℕ → List ℕ) (past told : List Entry) (one : Carried) → begins_refused told ≡ false →
+        IsAskedFor listing past one → IsAskedFor listing (past ++ told) one }
+    ensures send { (listing : List Entry → ℕ → List ℕ) (past : List Entry) (words : List ℕ) (h : HostState) (node : ℕ) (word : Word) →
+        KnowsListing listing past h →
         line_of (Said words) ≡ Send node word ∷ [] →
-        IsAskedFor (always listing) (past ++ Said words ∷ [])
+        IsAskedFor listing (past ++ Said words ∷ [])
         (record { node = node; payload = send_text (classes_of (known_of (node_of h node))) word }) }
-    ensures get { (listing : ℕ → List ℕ) (past : List Entry) (words : List ℕ) (h : HostState) (node end : ℕ) → KnowsListing (always listing) past h →
+    ensures get { (listing : List Entry → ℕ → List ℕ) (past : List Entry) (words : List ℕ) (h : HostState) (node end : ℕ) → KnowsListing listing past h →
         line_of (Said words) ≡ Get node end ∷ [] →
-        IsAskedFor (always listing) (past ++ Said words ∷ [])
+        IsAskedFor listing (past ++ Said words ∷ [])
         (record { node = node; payload = get_text (classes_of (known_of (node_of h node))) end }) }
 {}

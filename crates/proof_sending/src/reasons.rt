@@ -31,8 +31,8 @@ ghost use Rattle.proof_sending.specs.Reasons.{Reason, HasReason, IsReasoned, Wri
 
 use host_requests::callback_ids;
 use proof_host::events_keep_facts;
-use proof_line::spoken::tables_keep_orders;
 use proof_messages::hosts_leave_nonces;
+use proof_spoken::tables_keep_orders;
 
 /// Of a host that has heard of these reasons, all that it has to send is due: its frame on the line, which may be written again, the tasks that wait, and
 /// the texts that wait to be sealed or to be given. So it is at first and after a restart, and so it stays, whatever happens to a host that keeps to some
@@ -71,7 +71,7 @@ pub fn what_is_judged_gives_reasons()
 /// So each payload that it asks to be sent is due by the transcript, as the law of payloads has it: where the host keeps to the transcript (the sessions that
 /// began are those of its table, and the orders that these carry are as they were asked for), and where the transcript shows the reasons.
 pub fn hosts_ask_what_is_due()
-    ensures { (heard : List Reason) (listing : ℕ → List ℕ) (key : List ℕ) (past : List Entry) (h : HostState) (event : HostEvent) →
+    ensures { (heard : List Reason) (listing : List Entry → ℕ → List ℕ) (key : List ℕ) (past : List Entry) (h : HostState) (event : HostEvent) →
         ((reason : Reason) → Has heard reason → IsShown listing key past reason) → AreBegun past h.nodes → AreCarried listing past h.commands →
         HostFacts h → May h event → HasReason (Has heard) (keys_of key) h event → IsReasoned (Has heard) (keys_of key) h →
         WritesWhatIsDue listing key past (outs h event) }

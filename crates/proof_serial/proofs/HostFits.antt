@@ -53,7 +53,8 @@ use Rattle.host_model.specs.Events.{HostEvent, Accepts, Cancels, Joins, Queues, 
 use Rattle.proof_serial.specs.Chip.{IsFrame, HasFrame}
 use Rattle.proof_serial.specs.Line.{host_units}
 use Rattle.proof_serial.specs.Host.{FitsTask, FitsIn, HasShortText, HasShortNonce, HostFits, FitsRequest, FitsEvent}
-use Rattle.proof_serial.proofs.Frames.{heard_has, ticked_has, copy_is, DueIs}
+use Rattle.proof_serial.proofs.ChipFrames.{IsIf}
+use Rattle.proof_serial.proofs.Frames.{heard_has, ticked_has, copy_is}
 use Rattle.proof_serial.proofs.Texts.{BringsShort, event_short}
 
 -- ---- lists
@@ -313,7 +314,7 @@ module _ (starts : StartsShort) (segments : SegmentsShort) where
   answer_units (Refused (BadKind x)) = (tt, tt)
   answer_units (Refused Aborted) = tt
 
-  copy_units : (copy : Option FrameParts) (entries : List Entry) → DueIs copy → AllByRecursion IsUnit (host_units (copy_out copy ++ noted entries))
+  copy_units : (copy : Option FrameParts) (entries : List Entry) → IsIf IsFrame copy → AllByRecursion IsUnit (host_units (copy_out copy ++ noted entries))
   copy_units None entries is = none_noted entries
   copy_units (Some f) entries is = (is, none_noted entries)
 

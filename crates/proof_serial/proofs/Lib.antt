@@ -1,8 +1,10 @@
 pub mod EndedItems
 pub mod ChangedUnits
 pub mod Ways
+pub mod ChipFrames
 pub mod Frames
 pub mod ChipWays
+pub mod ChipMoves
 pub mod Outer
 pub mod Events
 pub mod Schedules

@@ -35,7 +35,9 @@ use Rattle.proof_serial.specs.Chip.{HasFrames}
 use Rattle.proof_serial.specs.Line.{Carried, ChipDid, Change, Grows, Becomes, outer_up, outer_down, outer_rest, LineAfter, OuterAtRest, host_units}
 use Rattle.proof_serial.proofs.Ways.{carries_all, carries_left, carries_none}
 use Rattle.proof_serial.proofs.Frames.{events_have, events_fit}
-use Rattle.proof_serial.proofs.ChipWays.{ChipMoves, IsStill, still_does, still_moves, moves_both, moves_from, still_here, does_each, does_both, does_one, gives_moves, steps_moves, repeats_moves, at_moves, hand_moves, joins_moves, discovers_moves, collides_moves, written_all-append}
+use Rattle.proof_serial.proofs.ChipWays.{IsStill, still_does, does_each, does_both, does_one, written_all-append}
+use Rattle.device_sim.specs.State.{State}
+use Rattle.proof_serial.proofs.ChipMoves.{Moves, Rule, still_moves, moves_both, moves_from, moves_here, gives_moves, steps_moves, repeats_moves, at_moves, hand_moves, joins_moves, discovers_moves, collides_moves}
 
 -- ---- entries
 
@@ -98,16 +100,23 @@ routed_all w (Note e ∷ outs) = noted_one w (begun_in e) e (host_units outs) ou
 pub still_frames : (m n : Machine) (events : List ChipEvent) → ChipDid events m n → HasFrames m.outside.outer.chip.state.port → HasFrames n.outside.outer.chip.state.port
 still_frames m n events did has = subst (λ (s : ChipState). HasFrames s.port) (sym did.state) (events_have m.outside.outer.chip.state events has did.may)
 
+-- nothing is asked of them
+abbrev Any : ChipEvent → Type 0
+Any event = Unit {0}
+
+any : Rule Any (λ (devices : List State). Unit {0})
+any = record { free = λ event is. tt; informed = λ air devices node route premise. tt }
+
 -- the chip did some events, and nothing was taken or lost
 moved : (m : Machine) (event : OuterEvent) (up down : List Item) → Carried m up down → HasFrames m.outside.outer.chip.state.port
     → outer_up event ≡ Grows [] → ((units : List LineUnit) → outer_down event units ≡ Grows units) → outer_rest m.outside.outer.chip.decoder event ≡ m.outside.outer.chip.decoder
-    → ChipMoves m.outside.outer (outcome m.outside event).outer → LineAfter m (Outside_does event) up down
+    → Moves Any m.outside.outer (outcome m.outside event).outer → LineAfter m (Outside_does event) up down
 unfolding happens
 moved m event up down carried has up_grows down_grows rests moves =
     let o = m.outside.outer in
     let n = (outcome m.outside event).outer in
     let e = (happens_outside m.outside event).outer in
-    let all = moves_both o n e moves (still_moves n e (entered_still n (outcome m.outside event).entries)) in
+    let all = moves_both any o n e moves (still_moves any n e (entered_still n (outcome m.outside event).entries)) in
     let units = chip_units (outs_all o.chip.state all.events) in
     let did : ChipDid all.events m (happens m (Outside_does event)) = record { may = all.does.may; state = all.does.state } in
     let following = carries_all m.host.decoder o.to_host units down carried.to_host (events_fit o.chip.state all.events has all.does.may) in
@@ -258,22 +267,22 @@ changes_marked m Chip garble = record { host = refl; chip = refl; to_host = refl
 pub tick_still : (r : Rest) → r ≡ no_rest → after_tick r ≡ r
 tick_still r e = ap after_tick e ∙ sym e
 
-ticks_moves : (w : Outside) → w.outer.chip.decoder ≡ no_rest → ChipMoves w.outer (outcome w Chip_ticks).outer
+ticks_moves : (w : Outside) → w.outer.chip.decoder ≡ no_rest → Moves Any w.outer (outcome w Chip_ticks).outer
 unfolding outcome
 ticks_moves w rests =
     let o = w.outer in
     let ticked : OuterState = record o { chip = record { decoder = after_tick o.chip.decoder; state = o.chip.state } } in
-    moves_from o ticked (outcome w Chip_ticks).outer
+    moves_from any o ticked (outcome w Chip_ticks).outer
     (record { chip = ap (λ (r : Rest). record { decoder = r; state = o.chip.state }) (tick_still o.chip.decoder rests); to_host = refl; to_chip = refl })
-    (record { events = Ticked ∷ []; does = does_one ticked Ticked tt })
+    (record { events = Ticked ∷ []; does = does_one ticked Ticked tt; asks = (tt, tt) })
 
 -- ---- events
 
 pub wrong : {X : Type 0} → false ≡ true → X
 wrong bad = absurd cc
 
-still : (w : Outside) (n : OuterState) → n.chip ≡ w.outer.chip → n.to_host ≡ w.outer.to_host → n.to_chip ≡ w.outer.to_chip → ChipMoves w.outer n
-still w n chip to_host to_chip = still_here w.outer n chip to_host to_chip
+still : (w : Outside) (n : OuterState) → n.chip ≡ w.outer.chip → n.to_host ≡ w.outer.to_host → n.to_chip ≡ w.outer.to_chip → Moves Any w.outer n
+still w n chip to_host to_chip = moves_here any w.outer n chip to_host to_chip
 
 pub outer_after : (m : Machine) (event : OuterEvent) (up down : List Item) → Carried m up down → HasFrames m.outside.outer.chip.state.port
     → is_own event ≡ true → MayOutside m.outside event → OuterAtRest m event → LineAfter m (Outside_does event) up down
@@ -285,25 +294,25 @@ outer_after m (host_takes count) up down carried has own may rests = wrong own
 outer_after m (Host_notes entry) up down carried has own may rests = wrong own
 outer_after m (Host_begins node sessions) up down carried has own may rests = wrong own
 outer_after m (Chip_takes count rest ways) up down carried has own may rests = takes m count rest ways up down carried has may
-outer_after m (Arrives drawn route) up down carried has own may rests = moved m (Arrives drawn route) up down carried has refl (λ units. refl) refl (steps_moves m.outside (mesh.Arrives drawn route))
-outer_after m (Gives route) up down carried has own may rests = moved m (Gives route) up down carried has refl (λ units. refl) refl (gives_moves m.outside.outer m.outside.devices m.outside.outer.due route)
+outer_after m (Arrives drawn route) up down carried has own may rests = moved m (Arrives drawn route) up down carried has refl (λ units. refl) refl (steps_moves any m.outside (mesh.Arrives drawn route))
+outer_after m (Gives route) up down carried has own may rests = moved m (Gives route) up down carried has refl (λ units. refl) refl (gives_moves any m.outside.outer m.outside.devices m.outside.outer.due route tt)
 outer_after m (Device_ticks place drawn route) up down carried has own may rests =
-    moved m (Device_ticks place drawn route) up down carried has refl (λ units. refl) refl (at_moves m.outside.outer (slice_get m.outside.devices place) (Ticks drawn) route)
+    moved m (Device_ticks place drawn route) up down carried has refl (λ units. refl) refl (at_moves any m.outside.outer (slice_get m.outside.devices place) (Ticks drawn) route)
 outer_after m Chip_ticks up down carried has own may rests = moved m Chip_ticks up down carried has refl (λ units. refl) refl (ticks_moves m.outside rests)
-outer_after m (Repeats number drawn route) up down carried has own may rests = moved m (Repeats number drawn route) up down carried has refl (λ units. refl) refl (repeats_moves m.outside (refusal_of m.outside.outer.air.frames number) (mesh.Repeats number drawn route))
+outer_after m (Repeats number drawn route) up down carried has own may rests = moved m (Repeats number drawn route) up down carried has refl (λ units. refl) refl (repeats_moves any m.outside (refusal_of m.outside.outer.air.frames number) (mesh.Repeats number drawn route))
 outer_after m (Wakes_device node route) up down carried has own may rests =
-    moved m (Wakes_device node route) up down carried has refl (λ units. refl) refl (hand_moves m.outside.outer m.outside.devices (place_of node m.outside.devices) Wakes route)
+    moved m (Wakes_device node route) up down carried has refl (λ units. refl) refl (hand_moves any m.outside.outer m.outside.devices (place_of node m.outside.devices) Wakes route)
 outer_after m (Sets_device node value route) up down carried has own may rests =
-    moved m (Sets_device node value route) up down carried has refl (λ units. refl) refl (hand_moves m.outside.outer m.outside.devices (place_of node m.outside.devices) (Sets value) route)
+    moved m (Sets_device node value route) up down carried has refl (λ units. refl) refl (hand_moves any m.outside.outer m.outside.devices (place_of node m.outside.devices) (Sets value) route)
 outer_after m (Shows node) up down carried has own may rests = moved m (Shows node) up down carried has refl (λ units. refl) refl (still m.outside _ refl refl refl)
-outer_after m (Joins node) up down carried has own may rests = moved m (Joins node) up down carried has refl (λ units. refl) refl (joins_moves m.outside.outer node (listens_at (device_at m.outside.devices (place_of node m.outside.devices))))
-outer_after m Discovers up down carried has own may rests = moved m Discovers up down carried has refl (λ units. refl) refl (discovers_moves m.outside.outer)
+outer_after m (Joins node) up down carried has own may rests = moved m (Joins node) up down carried has refl (λ units. refl) refl (joins_moves any m.outside.outer node (listens_at (device_at m.outside.devices (place_of node m.outside.devices))))
+outer_after m Discovers up down carried has own may rests = moved m Discovers up down carried has refl (λ units. refl) refl (discovers_moves any m.outside.outer)
 outer_after m (Links a b live) up down carried has own may rests = moved m (Links a b live) up down carried has refl (λ units. refl) refl (still m.outside _ refl refl refl)
 outer_after m (Loses count) up down carried has own may rests = moved m (Loses count) up down carried has refl (λ units. refl) refl (still m.outside _ refl refl refl)
 outer_after m (Loses_acks count) up down carried has own may rests = moved m (Loses_acks count) up down carried has refl (λ units. refl) refl (still m.outside _ refl refl refl)
 outer_after m (Marks_loss side) up down carried has own may rests = marked m (Marks_loss side) up down carried has refl (λ units. refl) refl (loses_marked m side)
 outer_after m (Marks_change side garble) up down carried has own may rests = marked m (Marks_change side garble) up down carried has refl (λ units. refl) refl (changes_marked m side garble)
 outer_after m (Clears_pipe side) up down carried has own may rests = clears m side up down carried has rests
-outer_after m Collides_next up down carried has own may rests = moved m Collides_next up down carried has refl (λ units. refl) refl (collides_moves m.outside.outer)
+outer_after m Collides_next up down carried has own may rests = moved m Collides_next up down carried has refl (λ units. refl) refl (collides_moves any m.outside.outer)
 outer_after m (Stalls ticks) up down carried has own may rests = moved m (Stalls ticks) up down carried has refl (λ units. refl) refl (still m.outside _ refl refl refl)
 outer_after m (Cuts size) up down carried has own may rests = moved m (Cuts size) up down carried has refl (λ units. refl) refl (still m.outside _ refl refl refl)

@@ -70,7 +70,8 @@ use Rattle.proof_world.proofs.Heard.{IsOfPayload, payload_of}
 use Rattle.proof_spoken.specs.Interviews.{HearsList, HearLists}
 use Rattle.proof_spoken.proofs.NoticeLists.{NoticeTells, UpdateTells}
 use Rattle.proof_spoken.proofs.Frames.{UnitTells, IsTelling, FrameTells, PortTells, EventTells, events_port, events_out}
-use Rattle.proof_spoken.proofs.ListsAtChip.{Informs, Lists, here, still_informs, gives_informs, steps_inform, repeats_inform, at_informs, hand_informs, joins_inform, discovers_inform, collides_inform}
+use Rattle.proof_serial.proofs.ChipMoves.{at_moves, collides_moves, discovers_moves, gives_moves, hand_moves, joins_moves, moves_here, repeats_moves, steps_moves, still_moves}
+use Rattle.proof_spoken.proofs.ListsAtChip.{Informs, Lists, listed}
 
 -- what each node lists
 module _ (listing : ℕ → List ℕ) where
@@ -140,8 +141,8 @@ module _ (listing : ℕ → List ℕ) where
         items = down.items ++ items_all o.to_host units;
         carried = subst (λ (w : WayState). Carries rest w (down.items ++ items_all o.to_host units)) (sym informs.does.to_host)
             (carries_all rest o.to_host units down.items down.carried (events_fit s events down.frames informs.does.may));
-        tell = all-append ItemTells down.items (items_all o.to_host units) down.tell (items_tell o.to_host units (events_out listing s events down.port informs.tell));
-        port = subst (λ (t : ChipState). PortTells listing t.port) (sym informs.does.state) (events_port listing s events down.port informs.tell);
+        tell = all-append ItemTells down.items (items_all o.to_host units) down.tell (items_tell o.to_host units (events_out listing s events down.port informs.asks));
+        port = subst (λ (t : ChipState). PortTells listing t.port) (sym informs.does.state) (events_port listing s events down.port informs.asks);
         frames = subst (λ (t : ChipState). HasFrames t.port) (sym informs.does.state) (events_have s events down.frames informs.does.may);
       }
 
@@ -165,7 +166,7 @@ module _ (listing : ℕ → List ℕ) where
   entered_down : (rest : Rest) (w : Outside) (event : OuterEvent) → Down rest (outcome w event).outer → Down rest (happens_outside w event).outer
   entered_down rest w event down =
       informed_down rest (outcome w event).outer (happens_outside w event).outer
-      (still_informs listing (outcome w event).outer (happens_outside w event).outer (entered_still (outcome w event).outer (outcome w event).entries)) down
+      (still_moves (listed listing) (outcome w event).outer (happens_outside w event).outer (entered_still (outcome w event).outer (outcome w event).entries)) down
 
   moved_down : (rest : Rest) (w : Outside) (event : OuterEvent) → Informs listing w.outer (outcome w event).outer → Down rest w.outer → Down rest (happens_outside w event).outer
   moved_down rest w event informs down = entered_down rest w event (informed_down rest w.outer (outcome w event).outer informs down)
@@ -178,7 +179,7 @@ module _ (listing : ℕ → List ℕ) where
       let o = w.outer in
       let taken : OuterState = record o { to_chip = way.after o.to_chip (Takes count); chip = record { decoder = left; state = o.chip.state } } in
       entered_down rest w (Chip_takes count left ways)
-      (informed_down rest taken (outcome w (Chip_takes count left ways)).outer (record { events = judged_all ways; does = does_each taken (judged_all ways) may.judges; tell = judged_tell ways })
+      (informed_down rest taken (outcome w (Chip_takes count left ways)).outer (record { events = judged_all ways; does = does_each taken (judged_all ways) may.judges; asks = judged_tell ways })
       (record { items = down.items; carried = down.carried; tell = down.tell; port = down.port; frames = down.frames }))
 
   ticks_down : (rest : Rest) (w : Outside) → Down rest w.outer → Down rest (happens_outside w Chip_ticks).outer
@@ -187,7 +188,7 @@ module _ (listing : ℕ → List ℕ) where
       let o = w.outer in
       let ticked : OuterState = record o { chip = record { decoder = after_tick o.chip.decoder; state = o.chip.state } } in
       entered_down rest w Chip_ticks
-      (informed_down rest ticked (outcome w Chip_ticks).outer (record { events = Ticked ∷ []; does = does_one ticked Ticked tt; tell = (tt, tt) })
+      (informed_down rest ticked (outcome w Chip_ticks).outer (record { events = Ticked ∷ []; does = does_one ticked Ticked tt; asks = (tt, tt) })
       (record { items = down.items; carried = down.carried; tell = down.tell; port = down.port; frames = down.frames }))
 
   -- what is lost on its way, and marks
@@ -225,37 +226,37 @@ module _ (listing : ℕ → List ℕ) where
   outer_down : (m : Machine) (event : OuterEvent) → Lists listing m.outside.devices → is_own event ≡ true → MayOutside m.outside event → OuterAtRest m event → Down m.host.decoder m.outside.outer
       → Down m.host.decoder (happens_outside m.outside event).outer
   unfolding outcome
-  outer_down m Begins_line lists own may rests down = moved_down m.host.decoder m.outside Begins_line (here listing m.outside.outer _ refl refl refl) down
-  outer_down m Begins_tick lists own may rests down = moved_down m.host.decoder m.outside Begins_tick (here listing m.outside.outer _ refl refl refl) down
+  outer_down m Begins_line lists own may rests down = moved_down m.host.decoder m.outside Begins_line (moves_here (listed listing) m.outside.outer _ refl refl refl) down
+  outer_down m Begins_tick lists own may rests down = moved_down m.host.decoder m.outside Begins_tick (moves_here (listed listing) m.outside.outer _ refl refl refl) down
   outer_down m (Host_writes unit) lists own may rests down = wrong own
   outer_down m (host_takes count) lists own may rests down = wrong own
   outer_down m (Host_notes entry) lists own may rests down = wrong own
   outer_down m (Host_begins node sessions) lists own may rests down = wrong own
   outer_down m (Chip_takes count rest ways) lists own may rests down = takes_down m.host.decoder m.outside count rest ways may down
-  outer_down m (Arrives drawn route) lists own may rests down = moved_down m.host.decoder m.outside (Arrives drawn route) (steps_inform listing m.outside (mesh.Arrives drawn route)) down
-  outer_down m (Gives route) lists own may rests down = moved_down m.host.decoder m.outside (Gives route) (gives_informs listing m.outside.outer m.outside.devices m.outside.outer.due route lists) down
+  outer_down m (Arrives drawn route) lists own may rests down = moved_down m.host.decoder m.outside (Arrives drawn route) (steps_moves (listed listing) m.outside (mesh.Arrives drawn route)) down
+  outer_down m (Gives route) lists own may rests down = moved_down m.host.decoder m.outside (Gives route) (gives_moves (listed listing) m.outside.outer m.outside.devices m.outside.outer.due route lists) down
   outer_down m (Device_ticks place drawn route) lists own may rests down =
-      moved_down m.host.decoder m.outside (Device_ticks place drawn route) (at_informs listing m.outside.outer (slice_get m.outside.devices place) (Ticks drawn) route) down
+      moved_down m.host.decoder m.outside (Device_ticks place drawn route) (at_moves (listed listing) m.outside.outer (slice_get m.outside.devices place) (Ticks drawn) route) down
   outer_down m Chip_ticks lists own may rests down = ticks_down m.host.decoder m.outside down
   outer_down m (Repeats number drawn route) lists own may rests down =
-      moved_down m.host.decoder m.outside (Repeats number drawn route) (repeats_inform listing m.outside (refusal_of m.outside.outer.air.frames number) (mesh.Repeats number drawn route)) down
+      moved_down m.host.decoder m.outside (Repeats number drawn route) (repeats_moves (listed listing) m.outside (refusal_of m.outside.outer.air.frames number) (mesh.Repeats number drawn route)) down
   outer_down m (Wakes_device node route) lists own may rests down =
-      moved_down m.host.decoder m.outside (Wakes_device node route) (hand_informs listing m.outside.outer m.outside.devices (place_of node m.outside.devices) Wakes route) down
+      moved_down m.host.decoder m.outside (Wakes_device node route) (hand_moves (listed listing) m.outside.outer m.outside.devices (place_of node m.outside.devices) Wakes route) down
   outer_down m (Sets_device node value route) lists own may rests down =
-      moved_down m.host.decoder m.outside (Sets_device node value route) (hand_informs listing m.outside.outer m.outside.devices (place_of node m.outside.devices) (Sets value) route) down
-  outer_down m (Shows node) lists own may rests down = moved_down m.host.decoder m.outside (Shows node) (here listing m.outside.outer _ refl refl refl) down
+      moved_down m.host.decoder m.outside (Sets_device node value route) (hand_moves (listed listing) m.outside.outer m.outside.devices (place_of node m.outside.devices) (Sets value) route) down
+  outer_down m (Shows node) lists own may rests down = moved_down m.host.decoder m.outside (Shows node) (moves_here (listed listing) m.outside.outer _ refl refl refl) down
   outer_down m (Joins node) lists own may rests down =
-      moved_down m.host.decoder m.outside (Joins node) (joins_inform listing m.outside.outer node (listens_at (device_at m.outside.devices (place_of node m.outside.devices)))) down
-  outer_down m Discovers lists own may rests down = moved_down m.host.decoder m.outside Discovers (discovers_inform listing m.outside.outer) down
-  outer_down m (Links a b live) lists own may rests down = moved_down m.host.decoder m.outside (Links a b live) (here listing m.outside.outer _ refl refl refl) down
-  outer_down m (Loses count) lists own may rests down = moved_down m.host.decoder m.outside (Loses count) (here listing m.outside.outer _ refl refl refl) down
-  outer_down m (Loses_acks count) lists own may rests down = moved_down m.host.decoder m.outside (Loses_acks count) (here listing m.outside.outer _ refl refl refl) down
+      moved_down m.host.decoder m.outside (Joins node) (joins_moves (listed listing) m.outside.outer node (listens_at (device_at m.outside.devices (place_of node m.outside.devices)))) down
+  outer_down m Discovers lists own may rests down = moved_down m.host.decoder m.outside Discovers (discovers_moves (listed listing) m.outside.outer) down
+  outer_down m (Links a b live) lists own may rests down = moved_down m.host.decoder m.outside (Links a b live) (moves_here (listed listing) m.outside.outer _ refl refl refl) down
+  outer_down m (Loses count) lists own may rests down = moved_down m.host.decoder m.outside (Loses count) (moves_here (listed listing) m.outside.outer _ refl refl refl) down
+  outer_down m (Loses_acks count) lists own may rests down = moved_down m.host.decoder m.outside (Loses_acks count) (moves_here (listed listing) m.outside.outer _ refl refl refl) down
   outer_down m (Marks_loss side) lists own may rests down = loses_down m.host.decoder m.outside side down
   outer_down m (Marks_change side garble) lists own may rests down = changes_down m.host.decoder m.outside side garble down
   outer_down m (Clears_pipe side) lists own may rests down = clears_down m.host.decoder m.outside side (cleared_rest m side rests) down
-  outer_down m Collides_next lists own may rests down = moved_down m.host.decoder m.outside Collides_next (collides_inform listing m.outside.outer) down
-  outer_down m (Stalls ticks) lists own may rests down = moved_down m.host.decoder m.outside (Stalls ticks) (here listing m.outside.outer _ refl refl refl) down
-  outer_down m (Cuts size) lists own may rests down = moved_down m.host.decoder m.outside (Cuts size) (here listing m.outside.outer _ refl refl refl) down
+  outer_down m Collides_next lists own may rests down = moved_down m.host.decoder m.outside Collides_next (collides_moves (listed listing) m.outside.outer) down
+  outer_down m (Stalls ticks) lists own may rests down = moved_down m.host.decoder m.outside (Stalls ticks) (moves_here (listed listing) m.outside.outer _ refl refl refl) down
+  outer_down m (Cuts size) lists own may rests down = moved_down m.host.decoder m.outside (Cuts size) (moves_here (listed listing) m.outside.outer _ refl refl refl) down
 
   -- ---- what interviews hear
 

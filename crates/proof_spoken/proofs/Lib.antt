@@ -1,3 +1,4 @@
+pub mod Keeping
 pub mod Orders
 mod KeptCommands
 pub mod Plain
@@ -13,7 +14,8 @@ pub mod ListsAtChip
 pub mod HeardLists
 pub mod NodeLists
 pub mod KnownLists
-pub mod SpokenLines
+pub mod ToldLines
+pub use Rattle.proof_world.proofs.SpokenLines
 pub use Rattle.proof_world.proofs.Always
 pub use Rattle.proof_world.proofs.Aside
 pub use Rattle.proof_world.proofs.Devices

@@ -51,7 +51,7 @@ plain_are events these e all = subst ArePlain (sym e) all
 
 -- ---- parts of lines
 
-own_plain : (event : HostEvent) → IsOwn event → IsNoOrder event
+pub own_plain : (event : HostEvent) → IsOwn event → IsNoOrder event
 own_plain (Accepts order carriage) own = absurd own
 own_plain event own = tt
 

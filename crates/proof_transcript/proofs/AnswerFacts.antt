@@ -1,5 +1,5 @@
 -- What decides the answer to a line is as the transcript before it shows, after lines that were all run whole.
-use Rattle.std.proofs.Common.{◌≡◌, ℕ, ◌==◌, ◌&&◌, ◌||◌, Bool, true, false, if◌then◌else◌, inl, inr, List, [], ◌∷◌, ◌++◌, length, refl, sym, ap, subst, ◌∙◌}
+use Rattle.std.proofs.Common.{◌≡◌, ℕ, ◌==◌, ◌&&◌, Bool, true, false, if◌then◌else◌, inl, inr, List, [], ◌∷◌, ◌++◌, length, refl, sym, ap, subst, ◌∙◌}
 use Rattle.std.specs.Prelude.{Contains, IsSome, Option, Some, None, filter, unwrap_or}
 use Rattle.std.specs.List.{list_any}
 use Rattle.std.specs.Set.{distinct_count}
@@ -43,42 +43,15 @@ use Rattle.proof_air.specs.Hearing.{RefusesAlike}
 use Rattle.proof_transcript.specs.Answering.{AnswerTies, HostTies, may_be_taken_back}
 use Rattle.proof_transcript.specs.Told.{IsTold}
 use Rattle.proof_transcript.proofs.KeptProperties.{same_count}
-use Rattle.proof_transcript.proofs.Nodes.{device_is}
+use Rattle.proof_transcript.proofs.Nodes.{device_is, filter_has, has_any, any_has}
 use Rattle.proof_transcript.proofs.StoredPlaces.{KeepsNoMore}
 use Rattle.proof_transcript.proofs.StoredValues.{number_among}
 use Rattle.proof_once.proofs.BegunCommands.{accepted_here as node_here}
 
 -- ---- lists of numbers
 
-pub has_any : (l : List ℕ) (number : ℕ) → Has l number → list_any (λ one. one == number) l ≡ true
-has_any [] number has = absurd has
-has_any (first ∷ l) number (inl same) = ap (λ (b : Bool). b || list_any (λ one. one == number) l) (eq-eqb first number same)
-has_any (first ∷ l) number (inr has) = or_true (first == number) _ (has_any l number has)
-  where
-    or_true : (a b : Bool) → b ≡ true → (a || b) ≡ true
-    or_true true b is = refl
-    or_true false b is = is
-
-pub any_has : (l : List ℕ) (number : ℕ) → list_any (λ one. one == number) l ≡ true → Has l number
-any_has [] number is = absurd (let none : false ≡ true = is in cc)
-any_has (first ∷ l) number is = by (first == number) refl is (any_has l number)
-  where
-    by : (b : Bool) → (first == number) ≡ b → (b || list_any (λ one. one == number) l) ≡ true → (list_any (λ one. one == number) l ≡ true → Has l number) → Has (first ∷ l) number
-    by true same is later = inl (eqb-true first number same)
-    by false other is later = inr (later is)
-
 has_among : (l : List ℕ) (number : ℕ) → Has l number → is_among l number ≡ true
 has_among l number has = has_any l number has
-
-pub has_filter : (test : ℕ → Bool) (l : List ℕ) (number : ℕ) → Has l number → test number ≡ true → Has (filter test l) number
-has_filter test [] number has is = absurd has
-has_filter test (first ∷ l) number has is = by (test first) refl has (λ later. has_filter test l number later is)
-  where
-    by : (b : Bool) → test first ≡ b → Has (first ∷ l) number → (Has l number → Has (filter test l) number) → Has (if b then first ∷ filter test l else filter test l) number
-    by true same (inl here) rest = inl here
-    by true same (inr later) rest = inr (rest later)
-    by false other (inl here) rest = absurd (let differ : false ≡ true = sym other ∙ (ap test here ∙ is) in cc)
-    by false other (inr later) rest = rest later
 
 -- ---- commands that were accepted
 
@@ -163,7 +136,7 @@ module _ (listing : List Entry → ℕ → List ℕ) (past : List Entry) (h : Ho
       by (Some command) (inl is) = ap (λ (n : ℕ). n ∷ []) is
       by (Some command) (inr has) = absurd has
 
-  count_is : (node : ℕ) (more : List Property) → count_with h.store node more ≡ distinct_count same_property (more ++ properties_kept listing past node)
+  pub count_is : (node : ℕ) (more : List Property) → count_with h.store node more ≡ distinct_count same_property (more ++ properties_kept listing past node)
   count_is node more =
       same_count listing past h facts by_table heard no_more
       (λ number n is. number_among past n number (subst (λ (l : List ℕ). Has l n) (sym is) (inl refl)))
@@ -200,7 +173,7 @@ module _ (listing : List Entry → ℕ → List ℕ) (past : List Entry) (h : Ho
       by (Some one) is n has (inr found) = absurd found
       by (Some one) is n has (inl same_node) =
           let here : Has (node_of h n).waiting command =
-          subst (λ (l : List ℕ). Has l command) (sym (tables.waiting n)) (has_filter (λ number. is_waiting (outcome number past)) (numbers_for n past) command (number_among past n command has) waits) in
+          subst (λ (l : List ℕ). Has l command) (sym (tables.waiting n)) (filter_has (λ number. is_waiting (outcome number past)) (numbers_for n past) command (number_among past n command has) waits) in
           let for_it : node_for h command ≡ n = ap node_with is ∙ same_node in (
             subst (λ (o : Option Command). IsSome o) (sym is) some,
             subst (λ (k : ℕ). Contains (node_of h k).waiting command) (sym for_it) (from_among (node_of h n).waiting command (has_among (node_of h n).waiting command here)),

@@ -33,7 +33,7 @@ use Rattle.proof_host.specs.Laws.{accepted_for, numbers_for}
 use Rattle.proof_host.specs.Tables.{nodes_by, taken_at, taken_by}
 use Rattle.proof_once.specs.ByTable.{IsTable}
 use Rattle.proof_once.specs.Tied.{settings_taken}
-use Rattle.proof_transcript.proofs.StoredPlaces.{IsSet, KeepsNoMore}
+use Rattle.proof_transcript.proofs.StoredPlaces.{IsSet, KeepsNoMore, or_later, either_of, append_among}
 use Rattle.supervision.proofs.OnceLemmas.{All-slice_get as at_place}
 use Rattle.proof_transcript.proofs.EndedRecords.{or_here as or_sooner}
 
@@ -137,31 +137,20 @@ value_there before (s ∷ l) p = by (same_property s.property p) (same_property 
 
 -- ---- both sides of the tie
 
-pub among_append : (a b : List Property) (p : Property) → is_among (a ++ b) p ≡ (is_among a p || is_among b p)
-among_append a b p = list_any-append (same_property p) a b
-
-pub or_then : (a b : Bool) → b ≡ true → (a || b) ≡ true
-or_then true b is = refl
-or_then false b is = is
-
-pub one_or : (a b : Bool) → (a || b) ≡ true → (a ≡ true) ⊎ (b ≡ true)
-one_or true b is = inl refl
-one_or false b is = inr is
-
 -- what is among the properties of one of these numbers is among those of all
 among_each : (of : ℕ → List Property) (numbers : List ℕ) (number : ℕ) (p : Property) → Has numbers number → is_among (of number) p ≡ true → is_among (flat_map of numbers) p ≡ true
 among_each of [] number p has among = absurd has
 among_each of (first ∷ numbers) number p (inl same) among =
-    among_append (of first) (flat_map of numbers) p ∙ or_sooner (is_among (of first) p) _ (ap (λ (n : ℕ). is_among (of n) p) same ∙ among)
+    append_among (of first) (flat_map of numbers) p ∙ or_sooner (is_among (of first) p) _ (ap (λ (n : ℕ). is_among (of n) p) same ∙ among)
 among_each of (first ∷ numbers) number p (inr has) among =
-    among_append (of first) (flat_map of numbers) p ∙ or_then (is_among (of first) p) _ (among_each of numbers number p has among)
+    append_among (of first) (flat_map of numbers) p ∙ or_later (is_among (of first) p) _ (among_each of numbers number p has among)
 
 -- and the other way round
 among_one : (of : ℕ → List Property) (P : ℕ → Type 0) (numbers : List ℕ) (p : Property) → AllByRecursion P numbers → is_among (flat_map of numbers) p ≡ true
     → (number : ℕ) × P number × (is_among (of number) p ≡ true)
 among_one of P [] p all among = absurd (let none : false ≡ true = among in cc)
 among_one of P (first ∷ numbers) p all among =
-    by (one_or (is_among (of first) p) (is_among (flat_map of numbers) p) (sym (among_append (of first) (flat_map of numbers) p) ∙ among)) (among_one of P numbers p all.1)
+    by (either_of (is_among (of first) p) (is_among (flat_map of numbers) p) (sym (append_among (of first) (flat_map of numbers) p) ∙ among)) (among_one of P numbers p all.1)
   where
     by : (is_among (of first) p ≡ true) ⊎ (is_among (flat_map of numbers) p ≡ true) → (is_among (flat_map of numbers) p ≡ true → (number : ℕ) × P number × (is_among (of number) p ≡ true))
         → (number : ℕ) × P number × (is_among (of number) p ≡ true)
@@ -171,7 +160,7 @@ among_one of P (first ∷ numbers) p all among =
 -- one of these is it
 all_among : (P : Property → Type 0) (l : List Property) (p : Property) → All P l → is_among l p ≡ true → P p
 all_among P [] p all among = absurd (let none : false ≡ true = among in cc)
-all_among P (first ∷ l) p all among = by (one_or (same_property p first) (is_among l p) among) (all_among P l p (All-tail P first l all))
+all_among P (first ∷ l) p all among = by (either_of (same_property p first) (is_among l p) among) (all_among P l p (All-tail P first l all))
   where
     by : (same_property p first ≡ true) ⊎ (is_among l p ≡ true) → (is_among l p ≡ true → P p) → P p
     by (inl same) rest = subst P (sym (one_property p first same)) (All-head P first l all)
@@ -233,7 +222,7 @@ module _ (listing : List Entry → ℕ → List ℕ) (past : List Entry) (h : Ho
     told = properties_of (reported node (since_restart past))
 
     kept_is : (p : Property) → is_among (properties_kept listing past node) p ≡ (is_among ordered p || is_among told p)
-    kept_is p = among_append ordered told p
+    kept_is p = append_among ordered told p
 
     -- a place is of what the transcript shows
     shown : (p : Property) → IsReserved h.store node p → is_among (properties_kept listing past node) p ≡ true
@@ -250,7 +239,7 @@ module _ (listing : List Entry → ℕ → List ℕ) (past : List Entry) (h : Ho
 
         by : IsSet h.commands node p ⊎ IsTrue (is_some (stored_of h.store node p).heard) → (is_among ordered p || is_among told p) ≡ true
         by (inl set) = or_sooner (is_among ordered p) (is_among told p) (from_set set)
-        by (inr is) = or_then (is_among ordered p) (is_among told p)
+        by (inr is) = or_later (is_among ordered p) (is_among told p)
             (sym (value_there None (reported node (since_restart past)) p) ∙ (ap (λ (o : Option ℕ). is_some o) (sym (heard node p)) ∙ is))
 
     abbrev So : ℕ → Type 0
@@ -258,7 +247,7 @@ module _ (listing : List Entry → ℕ → List ℕ) (past : List Entry) (h : Ho
 
     -- and what it shows has a place
     stored : (p : Property) → is_among (properties_kept listing past node) p ≡ true → IsReserved h.store node p
-    stored p among = by (one_or (is_among ordered p) (is_among told p) (sym (kept_is p) ∙ among))
+    stored p among = by (either_of (is_among ordered p) (is_among told p) (sym (kept_is p) ∙ among))
       where
         from_order : is_among ordered p ≡ true → IsReserved h.store node p
         from_order is =

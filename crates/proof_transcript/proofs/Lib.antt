@@ -58,3 +58,4 @@ pub use Rattle.proof_spoken.proofs.RoutineNotes
 pub use Rattle.proof_spoken.proofs.SpokenLines
 pub use Rattle.proof_spoken.proofs.Aside
 pub use Rattle.proof_spoken.proofs.Notes
+pub use Rattle.proof_spoken.proofs.FactsKept

@@ -55,7 +55,7 @@ range_has a (suc n) x from to = elim (cases_eq a x) [
   | inr other ↦ inr (range_has (a + 1) n x (omega (arith, from, other)) (omega (arith, to)))
 ]
 
-filter_has : (p : ℕ → Bool) (l : List ℕ) (x : ℕ) → Has l x → p x ≡ true → Has (filter p l) x
+pub filter_has : (p : ℕ → Bool) (l : List ℕ) (x : ℕ) → Has l x → p x ≡ true → Has (filter p l) x
 filter_has p [] x has yes_is = has
 filter_has p (y ∷ l) x (inl is) yes_is = by (p y) (ap p is ∙ yes_is)
   where
@@ -79,7 +79,7 @@ has_filter p (y ∷ l) x has = by (p y) refl (has_filter p l x) has
 
 -- ---- a list that has a number
 
-any_has : (l : List ℕ) (x : ℕ) → list_any (λ one. one == x) l ≡ true → Has l x
+pub any_has : (l : List ℕ) (x : ℕ) → list_any (λ one. one == x) l ≡ true → Has l x
 any_has [] x is = absurd cc
 any_has (y ∷ l) x is = by (y == x) refl (any_has l x) is
   where
@@ -87,7 +87,7 @@ any_has (y ∷ l) x is = by (y == x) refl (any_has l x) is
     by true same more is = inl (eqb-true y x same)
     by false same more is = inr (more is)
 
-has_any : (l : List ℕ) (x : ℕ) → Has l x → list_any (λ one. one == x) l ≡ true
+pub has_any : (l : List ℕ) (x : ℕ) → Has l x → list_any (λ one. one == x) l ≡ true
 has_any [] x has = absurd has
 has_any (y ∷ l) x (inl is) = ap (λ (b : Bool). b || list_any (λ one. one == x) l) (eq-eqb y x is)
 has_any (y ∷ l) x (inr has) = by (y == x) (has_any l x has)

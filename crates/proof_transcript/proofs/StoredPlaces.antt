@@ -4,6 +4,7 @@ use Rattle.std.specs.Prelude.{IsTrue}
 use Rattle.std.specs.List.{flat_map}
 use Rattle.std.specs.FinMap as finmap
 use Rattle.std.proofs.lemmas.Bool.{eqb-true, eq-eqb}
+use Rattle.std.proofs.lemmas.List.Folds.{list_any-append}
 use Rattle.zw_base.specs.PropertyOrder.{same_property}
 use Rattle.zw_base.specs.declared.order.Order.{Order}
 use Rattle.zw_base.specs.declared.property.Property.{Property}
@@ -62,11 +63,11 @@ KeepsNoMore h = (n : ℕ) (p : Property) → IsReserved h.store n p → IsSet h.
 
 -- ---- lists
 
-or_later : (a b : Bool) → b ≡ true → (a || b) ≡ true
+pub or_later : (a b : Bool) → b ≡ true → (a || b) ≡ true
 or_later true b is = refl
 or_later false b is = is
 
-either_of : (a b : Bool) → (a || b) ≡ true → (a ≡ true) ⊎ (b ≡ true)
+pub either_of : (a b : Bool) → (a || b) ≡ true → (a ≡ true) ⊎ (b ≡ true)
 either_of true b is = inl refl
 either_of false b is = inr is
 
@@ -76,13 +77,8 @@ of_session P l zero command all is = absurd (let none : None ≡ Some command = 
 of_session P l (suc k) command all is = at_place P l k command all is
 
 -- the properties of one of some orders
-append_among : (a b : List Property) (p : Property) → is_among (a ++ b) p ≡ (is_among a p || is_among b p)
-append_among [] b p = refl
-append_among (q ∷ a) b p = ap (λ (t : Bool). same_property p q || t) (append_among a b p) ∙ sym (or_assoc (same_property p q) (is_among a p) (is_among b p))
-  where
-    or_assoc : (x y z : Bool) → ((x || y) || z) ≡ (x || (y || z))
-    or_assoc true y z = refl
-    or_assoc false y z = refl
+pub append_among : (a b : List Property) (p : Property) → is_among (a ++ b) p ≡ (is_among a p || is_among b p)
+append_among a b p = list_any-append (same_property p) a b
 
 -- the node's own settings
 pub own_properties : (n : ℕ) (taken : Taken) → taken.order.node ≡ n → properties_for n taken ≡ properties_of (settings taken.carriage.actuator taken.order)

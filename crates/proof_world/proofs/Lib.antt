@@ -12,5 +12,6 @@ pub mod Tasks
 pub mod Hosts
 pub mod FirstHosts
 pub mod Runs
+pub mod SpokenLines
 pub use Rattle.proof_device.proofs.DevicePlaces
 pub use Rattle.proof_device.proofs.HostOuts

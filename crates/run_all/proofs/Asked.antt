@@ -26,7 +26,7 @@ use Rattle.port_run.specs.declared.ending.Served.{Served}
 use Rattle.port_run.specs.declared.ending.Served.TheVariants as served
 use Rattle.run_audit.specs.Audited.{HasAudited}
 use Rattle.run_words.specs.declared.asked.Asked.TheVariants.{Host}
-use Rattle.proof_commands.specs.Around.{Around, shelf_in}
+use Rattle.run_all.specs.Around.{Around, shelf_in}
 use Rattle.run_all.specs.Commands.{Refuses, Runs, Does, HasGoodInputFor, ComesToItsEnd}
 use Rattle.host_keep.specs.Keeping.{Shelf}
 

@@ -1,5 +1,5 @@
 -- What each command of the program does (this project's own rule).
-use Rattle.std.specs.Prelude.{◌≡◌, ◌≤◌, ◌⊎◌, ℕ, List, drop, Option, Result, Ok, Err}
+use Rattle.std.specs.Prelude.{◌≡◌, ◌≤◌, ◌⊎◌, ℕ, Bool, List, drop, Option, Result, Ok, Err}
 use Rattle.zw_base.specs.Faults.{Rose}
 use Rattle.zw_text.specs.Line.{line_at, replay_at}
 use Rattle.run_lines.specs.Complete.{HasGoodInput, IsDone}
@@ -19,9 +19,9 @@ use Rattle.run_include.specs.Run.{IncludeRan}
 use Rattle.run_replay.specs.Replay.{ReplayRan}
 use Rattle.port_run.specs.Ending.{desk, HostRan, HasGoodPort, IsServed}
 use Rattle.run_audit.specs.Audited.{HasAudited, IsInOrder}
-use Rattle.proof_commands.specs.Around.{Around, shelf_in}
-use Rattle.proof_commands.specs.Sim.{RunsSim}
-use Rattle.proof_commands.specs.Generate.{RunsGenerate}
+use Rattle.run_sim.specs.Sim.{SimRan}
+use Rattle.run_generate.specs.Generate.{GenerateRan}
+use Rattle.run_all.specs.Around.{Around, shelf_in}
 
 -- devices and keeper are as before
 pub record LeavesDevices (old new : Around) : Type 0 where
@@ -35,6 +35,17 @@ pub record LeavesDevices (old new : Around) : Type 0 where
 pub record Refuses (why ended : Status) (old new : Around) : Type 0 where
   pub is : ended ≡ why
   pub unchanged : new ≡ old
+
+-- `sim` ran so, with what it was given and what it leaves
+abbrev pub RunsSim : Status → Bool → List ℕ → Around → Around → Type 0
+RunsSim ended quiet key old new =
+    SimRan ended quiet key old.left new.left old.devices new.devices (shelf_in old) (shelf_in new) old.kept new.kept old.keeper_reads new.keeper_reads
+    old.written new.written
+
+-- `generate` ran so, with what it was given and what it leaves
+abbrev pub RunsGenerate : Status → ℕ → List ℕ → Around → Around → Type 0
+RunsGenerate ended hundreds key old new =
+    GenerateRan ended hundreds key old.devices new.devices (shelf_in old) (shelf_in new) old.written new.written
 
 -- what was asked by these words is done, as the status says
 unfoldable pub Does : Asked → List (List ℕ) → List ℕ → Status → Around → Around → Type 0

@@ -1,3 +1,3 @@
-pub mod Mesh
 pub mod Words
+pub mod Around
 pub mod Commands

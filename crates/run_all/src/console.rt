@@ -1,15 +1,13 @@
-//! The top call: a command, from its words to its status.
+//! A command, from its words to its status.
 
 ghost use Rattle.std.specs.Prelude.{◌≡◌, ◌^◌, ◌<◌, drop, length, map};
 ghost use Rattle.run_words.specs.Parsing.{texts_of};
-ghost use Rattle.proof_commands.specs.Around.{around};
-ghost use Rattle.proof_commands.specs.All.{KeepsLaws};
+ghost use Rattle.run_all.specs.Around.{around};
 ghost use Rattle.run_all.specs.Commands.{Runs, RunsWords};
 
 use device_sim::Device;
 use host_keep::Keeper;
 use port_run::run_host;
-use proof_commands::commands_keep_laws;
 use run_audit::run_audit;
 use run_generate::run_generate;
 use run_include::run_include;
@@ -23,7 +21,7 @@ use zw_base::{Draw, Sink, Source};
 
 /// Runs the command that the words name. `devices` are those of the mesh, `key` is the network key that they have, and `keeper` holds
 /// the records of the host.
-pub fn run<S: Source, K: Sink, D: Draw, P: Keeper>(
+pub fn run_command<S: Source, K: Sink, D: Draw, P: Keeper>(
     alloc: Global,
     words: &[String],
     source: &mut S,
@@ -36,20 +34,12 @@ pub fn run<S: Source, K: Sink, D: Draw, P: Keeper>(
     requires { length devices.old.items < 2 ^ 64 }
 
     // The words ask for a command exactly as its command line takes them, it is run, and the status says how that ended.
-    ensures ran { RunsWords (texts_of words.now) key result
-        (around (S.left source.old) (S.faults source.old) (K.written sink.old) (K.faults sink.old)
-        (map (λ d. state d) devices.old.items) (P.number keeper.old) (P.shelf keeper.old) (P.reads keeper.old))
-        (around (S.left source.new) (S.faults source.new) (K.written sink.new) (K.faults sink.new)
-        (map (λ d. state d) devices.new.items) (P.number keeper.new) (P.shelf keeper.new) (P.reads keeper.new)) }
-
-    // Where that was `sim`, `replay`, `include` or `host`, the run has a story, and each story that it has keeps the laws of that command.
-    ensures laws { KeepsLaws result (texts_of words.now) key
+    ensures { RunsWords (texts_of words.now) key result
         (around (S.left source.old) (S.faults source.old) (K.written sink.old) (K.faults sink.old)
         (map (λ d. state d) devices.old.items) (P.number keeper.old) (P.shelf keeper.old) (P.reads keeper.old))
         (around (S.left source.new) (S.faults source.new) (K.written sink.new) (K.faults sink.new)
         (map (λ d. state d) devices.new.items) (P.number keeper.new) (P.shelf keeper.new) (P.reads keeper.new)) }
 {
-    commands_keep_laws();
     match read_words(alloc, words) {
         Ok(asked) => run_asked(
             alloc, asked, words, source, sink, devices, key, draw, keeper,

@@ -9,6 +9,9 @@ use zw_base::{Bytes, List, NoMemory};
 use zw_print::print_line;
 use zw_text::Entry;
 
+/// The room for the text of an entry, which is enough for nearly all.
+const MOST_TEXTS: usize = 128;
+
 /// Adds the line of each entry, as a piece of its own. A quiet transcript leaves the loud ones out.
 pub fn add_entries(
     alloc: Global,
@@ -19,7 +22,7 @@ pub fn add_entries(
     ensures ok { OnOk result (out.new.items ≡ out.old.items ++ pieces_of quiet entries.now) }
     ensures prefix { OnErr result ((rest : Items (Items ℕ)) × (out.old.items ++ pieces_of quiet entries.now ≡ out.new.items ++ rest)) }
 {
-    let mut scratch = String::new(alloc);
+    let mut scratch = String::with_capacity(alloc, MOST_TEXTS)?;
     for entry in entries {
         add_entry(alloc, quiet, entry, &mut scratch, out)?;
     }

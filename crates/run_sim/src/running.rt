@@ -3,13 +3,14 @@
 //! This is the loop of `run_lines` once more, with its words, and with the world in the machine's place: a machine there says what it does in ghost
 //! members of an `impl`, and these cannot speak of the states of boxed devices.
 
-ghost use Rattle.std.specs.Prelude.{◌≡◌, ◌<◌, ◌≤◌, ◌^◌, [], None, length, map, OnOk, IfErr, IsErrOf};
+ghost use Rattle.std.specs.Prelude.{◌≡◌, ◌<◌, ◌≤◌, ◌^◌, ◌⊎◌, [], None, length, map, OnOk, IfErr, IsErrOf};
 ghost use Rattle.std.specs.Io.KnownBytes.{Appends};
 ghost use Rattle.zw_base.specs.Faults.{Rose};
 ghost use Rattle.zw_text.specs.Line.{line_at};
 ghost use Rattle.run_lines.specs.Run.{LinesRan};
 ghost use Rattle.run_lines.specs.Text.{TextRan, TextFails};
 ghost use Rattle.run_lines.specs.Lines.{fault_by};
+ghost use Rattle.run_lines.specs.Writing.{text_of};
 ghost use Rattle.run_sim.specs.Sim.{point_of, SimRuns, SimStops};
 
 use crate::simulation::Simulation;
@@ -93,6 +94,8 @@ fn run_text<K: Sink, D: Draw, P: Keeper>(
     ensures kept { length devices.new.items ≡ length devices.old.items }
     ensures never_falls { K.faults sink.old ≤ K.faults sink.new }
     ensures failed { IsErrOf result TextFault.Write → Rose (K.faults sink.old) (K.faults sink.new) }
+    ensures told { IsErrOf result TextFault.NoMemory → Rose (K.faults sink.old) (K.faults sink.new)
+        ⊎ Appends (K.written sink.old) (K.written sink.new) (text_of pieces.new.items) }
 {
     match simulation.run_line(devices, draw, keeper, text, pieces) {
         Ok(()) => match write_pieces(sink, pieces.as_slice()) {

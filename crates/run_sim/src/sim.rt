@@ -49,6 +49,7 @@ pub fn run_sim<S: Source, K: Sink, D: Draw, P: Keeper>(
         alloc,
         quiet,
         world,
+        entries: List::new(alloc),
     };
     run_to_status(source, sink, &mut simulation, devices, draw, keeper)
 }

@@ -13,16 +13,18 @@ use run_lines::{add_entries, said_entry};
 use std::alloc::Global;
 use zw_base::{Bytes, Draw, List, NoMemory};
 use zw_range::entries_in_range;
-use zw_text::{Line, read_line};
+use zw_text::{Entry, Line, read_line};
 use zw_words::ReadLineFault;
 use zw_world::World;
 
-/// The world, whether units and frames are left out of what is written, and the memory for it.
+/// The world, whether units and frames are left out of what is written, and the memory for it. The list for the entries of a
+/// line keeps its room.
 #[derive(Drop)]
 pub(crate) struct Simulation {
     pub alloc: Global,
     pub quiet: bool,
     pub world: World,
+    pub entries: List<Entry>,
 }
 
 impl Simulation {
@@ -86,10 +88,12 @@ impl Simulation {
         ensures quiet { self.new.quiet ≡ self.old.quiet }
         ensures kept { length devices.new.items ≡ length devices.old.items }
     {
-        let mut entries = List::new(self.alloc);
-        entries.push(said_entry(self.alloc, text)?)?;
-        let stepped = self.world.step(line, devices, draw, keeper, &mut entries);
-        let told = entries.as_slice();
+        self.entries.clear();
+        self.entries.push(said_entry(self.alloc, text)?)?;
+        let stepped = self
+            .world
+            .step(line, devices, draw, keeper, &mut self.entries);
+        let told = self.entries.as_slice();
         entries_in_range(told);
         let added = add_entries(self.alloc, self.quiet, told, out);
         stepped?;

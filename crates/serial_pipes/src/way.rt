@@ -80,10 +80,8 @@ impl Way {
     {
         out.reserve(MOST_TOLD)?;
         let text = encode(self.alloc, unit)?;
-        let shown = Bytes::from_slice(self.alloc, text.as_slice())?;
-        let written = Entry::Written { side, unit: shown };
         let mark = self.marks.mark_for(unit);
-        self.pass(side, mark, &text, written, out)
+        self.pass(side, mark, text, out)
     }
 
     /// A text that was written goes on by its mark.
@@ -91,36 +89,46 @@ impl Way {
         &mut self,
         side: Side,
         mark: Mark,
-        text: &Bytes,
-        written: Entry,
+        text: Bytes,
         out: &mut List<Entry>,
     ) -> Result<(), NoMemory>
-        requires some { 1 ≤ length text.now }
+        requires some { 1 ≤ length text }
         requires room { 3 ≤ out.old.room }
-        ensures way { OnOk result (self.new ≡ passing self.old mark text.now) }
-        ensures told { OnOk result (out.new.items ≡ out.old.items ++ written ∷ told_by side self.old.bytes mark text.now) }
+        ensures way { OnOk result (self.new ≡ passing self.old mark text) }
+        ensures told { OnOk result (out.new.items ≡ out.old.items ++ Entry.Written side text ∷ told_by side self.old.bytes mark text) }
         ensures err { OnErr result (self.new ≡ self.old) }
         ensures no_entries { OnErr result (out.new.items ≡ out.old.items) }
     {
         match mark {
             Mark::Lost => {
-                out.put(written);
+                out.put(Entry::Written { side, unit: text });
                 out.put(Entry::Dropped { side });
             }
-            Mark::Free => {
-                out.put(written);
-                self.put(side, text.as_slice(), out);
-            }
+            Mark::Free => self.put_written(side, text, out),
             Mark::Changed(garble) => {
-                let text = changed(self.alloc, text, garble)?;
-                let shown = Bytes::from_slice(self.alloc, text.as_slice())?;
-                out.put(written);
+                let changed = changed(self.alloc, &text, garble)?;
+                let shown = Bytes::from_slice(self.alloc, changed.as_slice())?;
+                out.put(Entry::Written { side, unit: text });
                 out.put(Entry::Garbled { side, unit: shown });
-                self.put(side, text.as_slice(), out);
+                self.put(side, changed.as_slice(), out);
             }
         }
         self.marks.use_up(mark);
         Ok(())
+    }
+
+    /// A text that was written goes into the pipe, where it has room.
+    fn put_written(&mut self, side: Side, text: Bytes, out: &mut List<Entry>)
+        requires { 2 ≤ out.old.room }
+        ensures way { self.new ≡ record self.old { bytes = joined self.old.bytes text } }
+        ensures told { out.new.items ≡ out.old.items ++ Entry.Written side text ∷ overrun side self.old.bytes text }
+    {
+        let fits = self.pipe.fits(text.as_slice());
+        self.pipe.put(text.as_slice());
+        out.put(Entry::Written { side, unit: text });
+        if !fits {
+            out.put(Entry::Overrun { side });
+        }
     }
 
     /// A text goes into the pipe, where it has room.

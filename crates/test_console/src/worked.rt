@@ -3,7 +3,7 @@
 use crate::rows::check_row;
 use device_sim::{Device, make_switch};
 use host_keep::{Keeper, PlainKeeper};
-use run_all::{ChaChaDraw, run};
+use run_all::{ChaChaDraw, run_command};
 use run_lines::Status;
 use std::alloc::Global;
 use std::io;
@@ -56,7 +56,7 @@ fn lines_of(alloc: Global, count: usize) -> Result<Bytes, NoMemory> {
     Ok(text)
 }
 
-/// The call of `run`, whose contract is large, stands alone: what comes after it does not carry it along.
+/// The call of `run_command`, whose contract is large, stands alone: what comes after it does not carry it along.
 fn run_words<S: Source, K: Sink, P: Keeper>(
     alloc: Global,
     words: &[String],
@@ -66,7 +66,7 @@ fn run_words<S: Source, K: Sink, P: Keeper>(
     draw: &mut ChaChaDraw,
     keeper: &mut P,
 ) -> Status {
-    run(alloc, words, source, sink, devices, KEY, draw, keeper)
+    run_command(alloc, words, source, sink, devices, KEY, draw, keeper)
 }
 
 /// The words, with a bar between each two.

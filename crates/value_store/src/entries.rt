@@ -35,6 +35,40 @@ fn place_of(entries: &[(Key, Stored)], key: &Key) -> Result<usize, usize>
     entries.binary_search_by(|entry| compare(&entry.0, key))
 }
 
+// Whether the entry at a place has the key.
+fn is_at(entries: &[(Key, Stored)], key: &Key, at: usize) -> bool
+    ensures { IsTrue result → IsPlaceOf entries.now key.now at }
+{
+    if at >= entries.len() {
+        return false;
+    }
+    match compare(&entries[at].0, key) {
+        Ordering::Equal => true,
+        Ordering::Less | Ordering::Greater => false,
+    }
+}
+
+// Whether the key is kept. The entry at a place is looked at first.
+fn is_kept(entries: &[(Key, Stored)], key: &Key, near: usize) -> bool
+    requires { IsInOrder entries.now }
+    ensures { result ≡ is_some (find key_cmp key.now entries.now) }
+{
+    is_at(entries, key, near) || stored_at(entries, key).is_some()
+}
+
+// Where the first of these properties of the node is, or would go. The others mostly follow it, one after another.
+fn begin_of(entries: &[(Key, Stored)], node: NodeId, properties: &[Property]) -> usize
+    requires { IsInOrder entries.now }
+{
+    match properties.first() {
+        Some(property) => match place_of(entries, &(node, *property)) {
+            Ok(at) => at,
+            Err(at) => at,
+        },
+        None => 0,
+    }
+}
+
 /// What is kept at the key, where something is.
 pub(crate) fn stored_at(entries: &[(Key, Stored)], key: &Key) -> Option<Stored>
     requires { IsInOrder entries.now }
@@ -57,8 +91,9 @@ pub(crate) fn write(entries: &mut Vec<(Key, Stored)>, key: &Key, stored: Stored)
     }
 }
 
-/// Keeps the key, with no value where it was not kept. There is room for one entry more.
-pub(crate) fn keep(entries: &mut Vec<(Key, Stored)>, key: Key)
+/// Keeps the key, with no value where it was not kept. There is room for one entry more. The entry at a place is looked at
+/// first.
+pub(crate) fn keep(entries: &mut Vec<(Key, Stored)>, key: Key, near: usize)
     requires order { IsInOrder entries.old.items }
     requires room { vec_len entries.old < vec_capacity entries.old }
     ensures items { entries.new.items ≡ keeping entries.old.items key }
@@ -66,6 +101,9 @@ pub(crate) fn keep(entries: &mut Vec<(Key, Stored)>, key: Key)
     ensures len { vec_len entries.new ≤ vec_len entries.old + 1 }
     ensures capacity { vec_capacity entries.new ≡ vec_capacity entries.old }
 {
+    if is_at(entries, &key, near) {
+        return;
+    }
     if let Err(at) = place_of(entries, &key) {
         insert_reserved(entries, at, (key, Stored::none()));
     }
@@ -88,8 +126,10 @@ pub(crate) fn keep_all(entries: &mut Vec<(Key, Stored)>, node: NodeId, propertie
     requires room { vec_len entries.old + length properties.now ≤ vec_capacity entries.old }
     ensures { entries.new.items ≡ keeping_all entries.old.items node properties.now }
 {
+    let mut near = begin_of(entries, node, properties);
     for property in properties {
-        keep(entries, (node, *property));
+        keep(entries, (node, *property), near);
+        near = near.saturating_add(1);
     }
 }
 
@@ -119,8 +159,11 @@ pub(crate) fn count_missing(
 {
     let mut missing = 0;
     let mut rest = properties;
+    let mut near = begin_of(entries, node, properties);
     while let Some((property, later)) = rest.split_first() {
-        if is_missing(entries, node, property, later) {
+        let here = near;
+        near = near.saturating_add(1);
+        if is_missing(entries, node, property, later, here) {
             missing += 1;
         }
         rest = later;
@@ -128,17 +171,18 @@ pub(crate) fn count_missing(
     missing
 }
 
-// Whether the property is neither one of these nor kept.
+// Whether the property is neither one of these nor kept. The entry at a place is looked at first.
 fn is_missing(
     entries: &[(Key, Stored)],
     node: NodeId,
     property: &Property,
     others: &[Property],
+    near: usize,
 ) -> bool
     requires { IsInOrder entries.now }
     ensures { result ≡ not (is_member same_property (others.now ++ properties_among entries.now node) property.now) }
 {
-    stored_at(entries, &(node, *property)).is_none() && !is_one_of(property, others)
+    !is_kept(entries, &(node, *property), near) && !is_one_of(property, others)
 }
 
 // Whether the property is one of these.
@@ -165,8 +209,11 @@ pub(crate) fn missing_of(
 {
     let mut missing = List::new(alloc);
     let mut rest = properties;
+    let mut near = begin_of(entries, node, properties);
     while let Some((property, later)) = rest.split_first() {
-        if is_missing(entries, node, property, later) {
+        let here = near;
+        near = near.saturating_add(1);
+        if is_missing(entries, node, property, later, here) {
             missing.push(*property)?;
         }
         rest = later;

@@ -26,6 +26,12 @@ goes_into es o o' start told before all goes none put ds =
       entries = put ∙ ap (λ (l : List Entry). before ++ l) (went.entries ∙ ap (λ (l : List Entry). l ++ entries_all (outside o ds) es) none);
     }
 
+-- nothing that was put out goes nowhere
+pub goes_nowhere : (outs : List HostOut) (o : OuterState) (all : List Entry) → outs ≡ [] → Goes (routed outs) o o all all
+goes_nowhere outs o all none =
+    subst (λ (l : List HostOut). Goes (routed l) o o all all) (sym none)
+    (λ ds. record { may = tt; state = refl; entries = sym (append-nil all) })
+
 noted_is : (begun : Option (ℕ × ℕ)) (entry : Entry) → begins_by begun ++ Host_notes entry ∷ [] ≡ noted_by begun entry
 noted_is None entry = refl
 noted_is (Some begun) entry = refl

@@ -22,6 +22,9 @@ pub(crate) fn route(
     ensures ok { OnOk result (Goes (routed outs.items) outer.old outer.new out.old.items out.new.items) }
     ensures err { OnErr result (out.new.items ≡ out.old.items) }
 {
+    if outs.is_empty() {
+        return Ok(());
+    }
     let mut told = List::new(alloc);
     route_all(outs, outer, &mut told)?;
     out.reserve(told.len())?;

@@ -17,9 +17,11 @@ use crate::routing::route;
 use host_keep::Keeper;
 use host_model::HostOut;
 use outside_calls::Outside;
-use serial_pipes::CAPACITY;
 use zw_base::{Draw, List, NoMemory};
 use zw_text::Entry;
+
+/// The most bytes that the host takes at once.
+const PIECE: usize = 256;
 
 impl Sides {
     /// Bytes move to the chip, and then to the host. The answer is whether any did.
@@ -129,7 +131,7 @@ impl Sides {
         ensures never_fewer { P.number keeper.old ≤ P.number keeper.new }
         ensures reads { P.reads keeper.new ≡ P.reads keeper.old }
     {
-        let mut buffer = [0; CAPACITY];
+        let mut buffer = [0; PIECE];
         let piece = take_into(&mut self.outer, &mut buffer);
         self.host.feed(piece, draw, outs, keeper)
     }
@@ -142,8 +144,17 @@ fn either(chip: bool, host: bool) -> bool
     chip || host
 }
 
+/// How many bytes the host takes at once: as many as move at a time, and no more than a piece.
+fn most_at_once(outer: &Outside) -> usize
+    ensures some { 1 ≤ result }
+    ensures to_max { result ≤ PIECE }
+{
+    let most = outer.piece();
+    if most > PIECE { PIECE } else { most }
+}
+
 /// Moves the next piece that is on its way to the host into a buffer, and answers with it.
-fn take_into<'a>(outer: &mut Outside, buffer: &'a mut [u8; CAPACITY]) -> &'a [u8]
+fn take_into<'a>(outer: &mut Outside, buffer: &'a mut [u8; PIECE]) -> &'a [u8]
     requires some { 0 < length outer.old.to_host.bytes }
     requires moves { is_stalled outer.old ≡ false }
     ensures some { 1 ≤ length result.now }
@@ -151,7 +162,7 @@ fn take_into<'a>(outer: &mut Outside, buffer: &'a mut [u8; CAPACITY]) -> &'a [u8
     ensures read { result.now ≡ take (length result.now) outer.old.to_host.bytes }
     ensures goes { Goes (Host_takes (length result.now) ∷ []) outer.old outer.new [] [] }
 {
-    let most = outer.piece();
+    let most = most_at_once(outer);
     let count = outer.take_host(&mut buffer[..most]);
     &buffer[..count]
 }

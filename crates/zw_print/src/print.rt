@@ -123,7 +123,7 @@ fn write_entry(alloc: Global, entry: &Entry, text: &mut String) -> Result<(), Al
         Entry::Interviewed { node } => print_count(text, "interviewed", number(*node)),
         Entry::InterviewFailed { node } => print_named(text, "interview", number(*node), "failed"),
         Entry::Done { node, done } => print_named(text, "done", number(*node), done_name(*done)),
-        Entry::Neighbours { node, list } => print_neighbours(alloc, text, *node, list.as_slice()),
+        Entry::Neighbours { node, list } => print_neighbours(text, *node, list.as_slice()),
         Entry::Failed { node, failed } => {
             print_named(text, "failed", number(*node), failed_name(*failed))
         }
@@ -135,12 +135,7 @@ fn write_entry(alloc: Global, entry: &Entry, text: &mut String) -> Result<(), Al
         Entry::Unkept { node } => print_count(text, "unkept", number(*node)),
         Entry::Time { tick } => print_count(text, "t", *tick),
         Entry::TableEnd { ticks } => print_count(text, "end", *ticks),
-        Entry::TableNode { node, sessions } => print_sessions(
-            alloc,
-            text,
-            *node,
-            sessions.as_slice(),
-        ),
+        Entry::TableNode { node, sessions } => { print_sessions(text, *node, sessions.as_slice()) }
         Entry::TableValue {
             node,
             property,

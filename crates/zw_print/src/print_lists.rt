@@ -1,6 +1,6 @@
 //! Entries with a list of numbers.
 
-ghost use Rattle.std.specs.Prelude.{◌≡◌, ◌∷◌, [], ◌++◌, IfOk, OnOk, codes, decimal, string_bytes};
+ghost use Rattle.std.specs.Prelude.{◌≡◌, ◌∷◌, [], ◌++◌, OnOk, codes, decimal, string_bytes};
 ghost use Rattle.std.specs.List.{join_with_byte};
 ghost use Rattle.hex.specs.Hex.{encode_upper};
 ghost use Rattle.zw_text.specs.Entry.{ends_word, number_words};
@@ -42,30 +42,23 @@ fn write_air(
 {
     let sender = sender.number();
     let receiver = receiver.number();
-    let repeaters = show_nodes(alloc, repeaters)?;
     let payload = hex::encode_upper(alloc, payload)?;
-    write!(
-        text,
-        "air {frame} {sender}>{receiver} via {repeaters} {payload}"
-    )
+    write!(text, "air {frame} {sender}>{receiver} via ")?;
+    write_nodes(text, repeaters)?;
+    text.push_str(" ")?;
+    text.push_str(payload.as_str())
 }
 
 /// `neighbours N LIST`
-pub fn print_neighbours(
-    alloc: Global,
-    text: &mut String,
-    node: NodeId,
-    list: &[NodeId],
-) -> Result<(), AllocError>
+pub fn print_neighbours(text: &mut String, node: NodeId, list: &[NodeId]) -> Result<(), AllocError>
     ensures { OnOk result (string_bytes text.new ≡ string_bytes text.old ++
         join_with_byte 32 (codes "neighbours" ∷ decimal node ∷ number_words list.now [])) }
 {
-    write_list(alloc, text, "neighbours", node, list)?;
+    write_list(text, "neighbours", node, list)?;
     Ok(())
 }
 
 fn write_list(
-    alloc: Global,
     text: &mut String,
     word: &str,
     node: NodeId,
@@ -74,68 +67,58 @@ fn write_list(
     ensures { OnOk result (string_bytes text.new ≡ string_bytes text.old ++ (word.now ++ (codes " " ++ (decimal node ++ (codes " " ++ list_text list.now))))) }
 {
     let node = node.number();
-    let list = show_nodes(alloc, list)?;
-    write!(text, "{word} {node} {list}")
+    text.push_str(word)?;
+    write!(text, " {node} ")?;
+    write_nodes(text, list)
 }
 
 /// `node N sessions LIST`
-pub fn print_sessions(
-    alloc: Global,
-    text: &mut String,
-    node: NodeId,
-    sessions: &[u32],
-) -> Result<(), AllocError>
+pub fn print_sessions(text: &mut String, node: NodeId, sessions: &[u32]) -> Result<(), AllocError>
     ensures { OnOk result (string_bytes text.new ≡ string_bytes text.old ++
         join_with_byte 32 (codes "node" ∷ decimal node ∷ codes "sessions" ∷ number_words sessions.now [])) }
 {
-    write_sessions(alloc, text, node, sessions)?;
+    write_sessions(text, node, sessions)?;
     Ok(())
 }
 
-fn write_sessions(
-    alloc: Global,
-    text: &mut String,
-    node: NodeId,
-    sessions: &[u32],
-) -> Result<(), AllocError>
+fn write_sessions(text: &mut String, node: NodeId, sessions: &[u32]) -> Result<(), AllocError>
     ensures { OnOk result (string_bytes text.new ≡ string_bytes text.old ++ (codes "node " ++ (decimal node ++ (codes " sessions " ++ list_text sessions.now)))) }
 {
     let node = node.number();
-    let sessions = show_numbers(alloc, sessions)?;
-    write!(text, "node {node} sessions {sessions}")
+    write!(text, "node {node} sessions ")?;
+    write_numbers(text, sessions)
 }
 
-fn show_numbers(alloc: Global, numbers: &[u32]) -> Result<String, AllocError>
-    ensures { IfOk result (λ text. string_bytes text ≡ list_text numbers.now) }
+fn write_numbers(text: &mut String, numbers: &[u32]) -> Result<(), AllocError>
+    ensures { OnOk result (string_bytes text.new ≡ string_bytes text.old ++ list_text numbers.now) }
 {
     let [first, rest @ ..] = numbers else {
-        return String::from_str(alloc, "-");
+        return text.push_str("-");
     };
     let first = *first;
-    let mut text = format!(in alloc; "{first}")?;
+    write!(text, "{first}")?;
     for number in rest {
-        push_number(alloc, &mut text, *number)?;
+        write_after_space(text, *number)?;
     }
-    Ok(text)
+    Ok(())
 }
 
-fn show_nodes(alloc: Global, nodes: &[NodeId]) -> Result<String, AllocError>
-    ensures { IfOk result (λ text. string_bytes text ≡ list_text nodes.now) }
+fn write_nodes(text: &mut String, nodes: &[NodeId]) -> Result<(), AllocError>
+    ensures { OnOk result (string_bytes text.new ≡ string_bytes text.old ++ list_text nodes.now) }
 {
     let [first, rest @ ..] = nodes else {
-        return String::from_str(alloc, "-");
+        return text.push_str("-");
     };
     let first = first.number();
-    let mut text = format!(in alloc; "{first}")?;
+    write!(text, "{first}")?;
     for node in rest {
-        push_number(alloc, &mut text, u32::from(node.number()))?;
+        write_after_space(text, u32::from(node.number()))?;
     }
-    Ok(text)
+    Ok(())
 }
 
-fn push_number(alloc: Global, text: &mut String, number: u32) -> Result<(), AllocError>
+fn write_after_space(text: &mut String, number: u32) -> Result<(), AllocError>
     ensures { OnOk result (string_bytes text.new ≡ string_bytes text.old ++ 32 ∷ decimal number) }
 {
-    let more = format!(in alloc; " {number}")?;
-    text.push_str(more.as_str())
+    write!(text, " {number}")
 }

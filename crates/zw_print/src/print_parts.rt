@@ -32,29 +32,45 @@ pub fn print_word(text: &mut String, word: &str) -> Result<(), AllocError>
 pub fn print_count(text: &mut String, word: &str, n: u64) -> Result<(), AllocError>
     ensures { OnOk result (string_bytes text.new ≡ string_bytes text.old ++ join_with_byte 32 (word.now ∷ decimal n ∷ [])) }
 {
-    write!(text, "{word} {n}")
+    text.push_str(word)?;
+    push_count(text, n)
+}
+
+/// A space and a number.
+fn push_count(text: &mut String, n: u64) -> Result<(), AllocError>
+    ensures { OnOk result (string_bytes text.new ≡ string_bytes text.old ++ 32 ∷ decimal n) }
+{
+    text.push_str(" ")?;
+    write!(text, "{n}")
 }
 
 /// A word and two numbers.
 pub fn print_pair(text: &mut String, word: &str, first: u64, second: u64) -> Result<(), AllocError>
     ensures { OnOk result (string_bytes text.new ≡ string_bytes text.old ++ join_with_byte 32 (word.now ∷ decimal first ∷ decimal second ∷ [])) }
 {
-    write!(text, "{word} {first} {second}")
+    text.push_str(word)?;
+    push_count(text, first)?;
+    push_count(text, second)
 }
 
 /// A word, a number and a name.
 pub fn print_named(text: &mut String, word: &str, n: u64, name: &str) -> Result<(), AllocError>
     ensures { OnOk result (string_bytes text.new ≡ string_bytes text.old ++ join_with_byte 32 (word.now ∷ decimal n ∷ name.now ∷ [])) }
 {
-    write!(text, "{word} {n} {name}")
+    text.push_str(word)?;
+    push_count(text, n)?;
+    text.push_str(" ")?;
+    text.push_str(name)
 }
 
 /// `accepted I node N`
 pub fn print_accepted(text: &mut String, command: u32, node: NodeId) -> Result<(), AllocError>
     ensures { OnOk result (string_bytes text.new ≡ string_bytes text.old ++ join_with_byte 32 (codes "accepted" ∷ decimal command ∷ codes "node" ∷ decimal node ∷ [])) }
 {
-    let node = node.number();
-    write!(text, "accepted {command} node {node}")
+    text.push_str("accepted")?;
+    push_count(text, u64::from(command))?;
+    text.push_str(" node")?;
+    push_count(text, u64::from(node.number()))
 }
 
 /// `begin N S I`
@@ -74,8 +90,9 @@ pub fn print_begin(
 pub fn print_side(text: &mut String, word: &str, side: Side) -> Result<(), AllocError>
     ensures { OnOk result (string_bytes text.new ≡ string_bytes text.old ++ join_with_byte 32 (word.now ∷ side_word side ∷ [])) }
 {
-    let side = side_name(side);
-    write!(text, "{word} {side}")
+    text.push_str(word)?;
+    text.push_str(" ")?;
+    text.push_str(side_name(side))
 }
 
 /// `h HEX` or `c HEX`
@@ -87,9 +104,10 @@ pub fn print_written(
 ) -> Result<(), AllocError>
     ensures { OnOk result (string_bytes text.new ≡ string_bytes text.old ++ join_with_byte 32 (side_word side ∷ encode_upper unit.now ∷ [])) }
 {
-    let side = side_name(side);
     let unit = hex::encode_upper(alloc, unit)?;
-    write!(text, "{side} {unit}")
+    text.push_str(side_name(side))?;
+    text.push_str(" ")?;
+    text.push_str(unit.as_str())
 }
 
 /// `garbled S HEX`
@@ -137,12 +155,11 @@ pub fn print_setting_of(
 ) -> Result<(), AllocError>
     ensures { OnOk result (string_bytes text.new ≡ string_bytes text.old ++ join_with_byte 32 (word.now ∷ decimal node ∷ property_word setting.property ∷ decimal setting.value ∷ [])) }
 {
-    let node = node.number();
-    let value = setting.value;
-    write!(text, "{word} {node} ")?;
+    text.push_str(word)?;
+    push_count(text, u64::from(node.number()))?;
+    text.push_str(" ")?;
     write_property(text, setting.property)?;
-    write!(text, " {value}")?;
-    Ok(())
+    push_count(text, u64::from(setting.value))
 }
 
 /// A word, a node and a property.
@@ -170,14 +187,13 @@ pub fn print_made(
     ensures { OnOk result (string_bytes text.new ≡ string_bytes text.old ++
         join_with_byte 32 (codes "dev" ∷ decimal node ∷ by_word by ∷ property_word setting.property ∷ decimal setting.value ∷ [])) }
 {
-    let node = node.number();
-    let value = setting.value;
-    write!(text, "dev {node} ")?;
+    text.push_str("dev")?;
+    push_count(text, u64::from(node.number()))?;
+    text.push_str(" ")?;
     write_by(text, by)?;
     text.push_str(" ")?;
     write_property(text, setting.property)?;
-    write!(text, " {value}")?;
-    Ok(())
+    push_count(text, u64::from(setting.value))
 }
 
 /// `value N P confirmed X heard X`
@@ -324,9 +340,9 @@ fn write_property(text: &mut String, property: Property) -> Result<(), AllocErro
     ensures { OnOk result (string_bytes text.new ≡ string_bytes text.old ++ property_word property) }
 {
     let end = property.end.number();
-    write!(text, "{end}/")?;
-    write_name(text, property.name)?;
-    Ok(())
+    write!(text, "{end}")?;
+    text.push_str("/")?;
+    write_name(text, property.name)
 }
 
 fn write_name(text: &mut String, name: Name) -> Result<(), AllocError>
@@ -338,7 +354,10 @@ fn write_name(text: &mut String, name: Name) -> Result<(), AllocError>
         Name::Lock => text.push_str("lock"),
         Name::Mode => text.push_str("mode"),
         Name::Setpoint(kind) => write!(text, "setpoint:{kind}"),
-        Name::Config(parameter) => write!(text, "config:{parameter}"),
+        Name::Config(parameter) => {
+            text.push_str("config:")?;
+            write!(text, "{parameter}")
+        }
         Name::Member(group, member) => {
             let member = member.number();
             write!(text, "member:{group}:{member}")

@@ -3,7 +3,7 @@
 ghost use Rattle.std.specs.Prelude.{◌≡◌, IfOk, Ok};
 ghost use Rattle.device_kinds.specs.declared.kind.Kind.TheVariants as kinds;
 ghost use Rattle.device_sim.specs.State.{fresh};
-ghost use Rattle.run_all.specs.Mesh.{device_at};
+ghost use Rattle.proof_commands.specs.Mesh.{device_at};
 ghost use Rattle.zwave_console.specs.Devices.{state_made};
 
 use device_sim::{

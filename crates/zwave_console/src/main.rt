@@ -1,4 +1,4 @@
-//! The program: makes the devices, the key, the input, the output and the keeper of records, and hands them to `run` of `run_all`.
+//! The program: makes the devices, the key, the input, the output and the keeper of records, and hands them to `run` of `proof_commands`.
 #![tactic(auto)]
 
 mod devices;
@@ -13,7 +13,8 @@ use crate::gathering::{Gathered, GatheringSink, MOST_WAITING, WritingSource, wri
 use crate::opening::{is_host, make_records, records_name, say_faults};
 use crate::records::Records;
 use device_sim::Device;
-use run_all::{ChaChaDraw, run};
+use proof_commands::run;
+use run_all::ChaChaDraw;
 use run_lines::Status;
 use run_words::USAGE;
 use std::alloc::Global;

@@ -20,6 +20,8 @@ returns c = λ key old new. record {
     records = c.stories_leave_records.ensures key old new;
     sends = c.stories_send_what_is_due.ensures key old new;
     wakes = c.stories_wake_as_told.ensures key old new;
+    questions = c.stories_answer_questions.ensures key old new;
+    heard = c.stories_are_heard.ensures key old new;
   };
   of_devices = record {
     once = c.stories_take_once.ensures.once key old new;

@@ -23,7 +23,7 @@ use Rattle.world_lines.specs.Spoken.{after_all}
 use Rattle.world_lines.specs.Done.{AreDone, events_of as events_said}
 use Rattle.proof_audit.proofs.PlainTying.{was_there}
 use Rattle.proof_audit.specs.Headline.{IsAskable, SucceedsAfterChangeOf, IsPlainOrLock, IsSupervisedNode}
-use Rattle.proof_commands.specs.Around.{Around}
+use Rattle.run_all.specs.Around.{Around}
 use Rattle.proof_commands.specs.Laws.{Ran, IsFairRun, IsStory, events_of, first, transcript}
 use Rattle.proof_commands.specs.Generate.{plain_lines}
 use Rattle.proof_commands.proofs.Further.{devices_are, further, further_read, further_told, host_is, reads_as, told}

@@ -19,7 +19,7 @@ use Rattle.world_model.specs.State.{first_machine}
 use Rattle.world_lines.specs.Spoken.{transcript_of}
 use Rattle.proof_audit.specs.Transcript.{RepeatsNone}
 use Rattle.host_core.specs.Network.{keys_of}
-use Rattle.proof_commands.specs.Around.{Around}
+use Rattle.run_all.specs.Around.{Around}
 use Rattle.proof_commands.specs.Laws.{Ran, AreSchedules, RepeatsNothing, KeepsRecords, first, transcript}
 use Rattle.proof_commands.proofs.AsSaid.{as_run, of_any, of_new, of_telling}
 use Rattle.proof_commands.proofs.Speaking.{all_said, same_transcript}

@@ -9,7 +9,7 @@ use Rattle.world_model.specs.Did.{MayAll, entries_all, happens_all}
 use Rattle.proof_host.specs.Entries.{IsAside}
 use Rattle.proof_host.specs.Facts.{Facts}
 use Rattle.proof_world.specs.Restarts.{AllStartWell}
-use Rattle.proof_commands.specs.Around.{Around}
+use Rattle.run_all.specs.Around.{Around}
 use Rattle.proof_commands.specs.Laws.{IsStory, KeepsRecords, Ran, events_of, first, last, transcript}
 use Rattle.proof_commands.proofs.SimKeeping.{story_keeps}
 use Rattle.proof_audit.proofs.BegunChanges.{may-front as may_prefix}

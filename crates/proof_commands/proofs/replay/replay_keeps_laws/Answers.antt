@@ -27,7 +27,7 @@ returns c = λ status key left left' shelf shelf' sink sink'. record {
       })
       ran.told.end (lines_in replay_at ran.told.texts) ran.point ran.told.transcript (all_read replay_at ran.told.texts) ran.told.ran;
   heard = λ ran.
-      is_kept (λ lines point T. HearsLines lines (lone_of (first_replay key) shelf.records) T) (point_of (first_replay key) shelf)
+      is_kept (λ lines point T. HearsLines (keys_of key) lines (lone_of (first_replay key) shelf.records) point.lone T) (point_of (first_replay key) shelf)
       (λ lines new T read all.
       c.texts_that_ran_are_heard.ensures key shelf lines new T all (all-weaker (IsReadBy replay_at) IsReadSo c.replayed_lines_are_read_as_said.ensures lines read))
       ran.told.end (lines_in replay_at ran.told.texts) ran.point ran.told.transcript (all_read replay_at ran.told.texts) ran.told.ran;

@@ -11,52 +11,29 @@ use Rattle.law_transcript.specs.Lists.{EachAfter}
 use Rattle.law_time.specs.Moments.{Allows}
 use Rattle.law_time.specs.Waking.{may_wake}
 use Rattle.law_host.specs.Heard.{listing_heard}
-use Rattle.host_keep.specs.Kept.{first_kept}
-use Rattle.host_model.specs.State.{first_host}
 use Rattle.proof_transcript.specs.Answering.{IsAnswered}
 use Rattle.proof_transcript.proofs.AnswerFacts.{host_ties}
-use Rattle.proof_transcript.proofs.PlacesKept.{HostsKeep}
-use Rattle.proof_transcript.proofs.StoredPlaces.{alone_keeps}
 use Rattle.proof_alone.specs.State.{HostMachine, first_alone}
 use Rattle.proof_alone.specs.Phases.{Phase}
 use Rattle.proof_alone.specs.Runs.{Run, Walk, both_know}
 use Rattle.proof_alone.proofs.Running.{over, run_keeps}
-use Rattle.proof_known.specs.Known.{IsAnswerAlone, IsForHost, IsSettled, KnowsAll, KnowsAnswered, KnowsNodes, KnowsOrders, KnowsPlaces, KnowsSaid, KnowsTold}
-use Rattle.proof_known.proofs.Answering.{Decides, answers_walk, places_walk}
-use Rattle.proof_known.proofs.Events.{beyond}
+use Rattle.proof_known.specs.Known.{IsAnswerAlone, IsForHost, IsSettled, KnowsAnswered, KnowsWhole}
+use Rattle.proof_known.proofs.Answering.{Decides, answers_walk}
 use Rattle.proof_known.proofs.ForHost.{heard_is_for_host}
-use Rattle.proof_known.proofs.Telling.{first_told, told_walk}
 use Rattle.proof_known.proofs.answers.hosts_answer_lines.Goals as goal
 
-module _ (c : goal.After-texts_give_one_thing) where
-  keep : HostsKeep
-  keep = record {
-    facts = c.facts_are_kept.ensures.each;
-    orders = c.tables_keep_orders.ensures.host;
-    opened_alone = c.a_restart_keeps_what_is_held.ensures.opened;
-    opened_facts = c.a_restart_keeps_what_is_held.ensures.opened_facts;
-  }
-
+module _ (c : goal.After-laws_follow) where
   decides : Decides
   decides = λ past m tie knows said told places.
       host_ties listing_heard past m.state tie.facts (c.laws_follow.ensures.tables past m.state tie.facts) told.joined told.heard knows
       (λ node. c.tables_are_what_was_said.ensures listing_heard past m.state node tie.facts said) places
 
-  walk : Walk IsAnswerAlone (both_know (both_know KnowsAll KnowsPlaces) KnowsAnswered)
-  walk =
-      over (both_know KnowsAll KnowsPlaces) (Allows may_wake) IsAnswerAlone KnowsAnswered
-      (over KnowsAll (Allows may_wake) (Allows may_wake) KnowsPlaces
-      (over KnowsOrders (Allows may_wake) (Allows may_wake) KnowsTold c.hosts_keep_what_is_said.ensures.walk
-      (beyond KnowsNodes KnowsSaid (Allows may_wake) (Allows may_wake) KnowsTold
-      (told_walk c.a_restart_needs_the_records_alone.ensures.others c.texts_give_one_thing.ensures.one c.a_restart_keeps_what_is_held.ensures.opened c.restarts_go_on.ensures.each)))
-      (places_walk keep))
-      (answers_walk decides)
+  walk : Walk IsAnswerAlone (both_know KnowsWhole KnowsAnswered)
+  walk = over KnowsWhole (Allows may_wake) IsAnswerAlone KnowsAnswered c.hosts_know_what_was_told.ensures.walk (answers_walk decides)
 
   keeps : (keys : Keys) {here : Phase} {told : List Entry} {m : HostMachine} → Run (first_alone keys (Some [])) here told m
-      → EachAfter IsAnswerAlone [] told × both_know (both_know KnowsAll KnowsPlaces) KnowsAnswered here told m
-  keeps keys run =
-      run_keeps IsAnswerAlone (both_know (both_know KnowsAll KnowsPlaces) KnowsAnswered) walk [] run
-      ((((c.hosts_know_what_nodes_list.ensures.first keys, tt), first_told keys), alone_keeps (first_host keys) first_kept (c.a_host_begins_with_what_is_kept.ensures keys)), tt)
+      → EachAfter IsAnswerAlone [] told × both_know KnowsWhole KnowsAnswered here told m
+  keeps keys run = run_keeps IsAnswerAlone (both_know KnowsWhole KnowsAnswered) walk [] run (c.hosts_know_what_was_told.ensures.first keys, tt)
 
 -- where none is a refusal of a line for others, each is an answer exactly where it must be
 all_answer : (past told : List Entry) → EachAfter IsAnswerAlone past told → EachAfter IsForHost past told → EachAfter (MayAnswer listing_heard (refusals_by_host listing_heard)) past told

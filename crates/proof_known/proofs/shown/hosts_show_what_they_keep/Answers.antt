@@ -17,28 +17,25 @@ use Rattle.proof_alone.specs.State.{HostMachine, first_alone}
 use Rattle.proof_alone.specs.Phases.{Phase}
 use Rattle.proof_alone.specs.Runs.{Run, Walk, both_know}
 use Rattle.proof_alone.proofs.Running.{over, run_keeps}
-use Rattle.proof_known.specs.Known.{KnowsAll, KnowsAsked, KnowsNodes, KnowsOrders, KnowsSaid, KnowsTold}
+use Rattle.proof_known.specs.Known.{KnowsAll, KnowsAsked, KnowsPlaces, KnowsWhole}
 use Rattle.proof_known.proofs.Events.{beyond}
 use Rattle.proof_known.proofs.Showing.{rests_show, shown_walk}
-use Rattle.proof_known.proofs.Telling.{first_told, told_walk}
 use Rattle.proof_known.proofs.shown.hosts_show_what_they_keep.Goals as goal
 
-module _ (c : goal.After-texts_give_one_thing) where
-  walk : Walk (ShowsValues listing_heard) (both_know KnowsAll KnowsAsked)
+module _ (c : goal.After-tables_are_what_was_said) where
+  walk : Walk (ShowsValues listing_heard) (both_know KnowsWhole KnowsAsked)
   walk =
-      over KnowsAll (Allows may_wake) (ShowsValues listing_heard) KnowsAsked
-      (over KnowsOrders (Allows may_wake) (Allows may_wake) KnowsTold c.hosts_keep_what_is_said.ensures.walk
-      (beyond KnowsNodes KnowsSaid (Allows may_wake) (Allows may_wake) KnowsTold
-      (told_walk c.a_restart_needs_the_records_alone.ensures.others c.texts_give_one_thing.ensures.one c.a_restart_keeps_what_is_held.ensures.opened c.restarts_go_on.ensures.each)))
+      over KnowsWhole (Allows may_wake) (ShowsValues listing_heard) KnowsAsked c.hosts_know_what_was_told.ensures.walk
+      (beyond KnowsAll KnowsPlaces (Allows may_wake) (ShowsValues listing_heard) KnowsAsked
       (shown_walk (λ past m node kept tie words.
       subst (λ (l : List Line). IsShown listing_heard past l (shown_values m.state node)) (sym words)
       (sym (shown_kept listing_heard past m.state (c.laws_follow.ensures.laws past m.state kept.0.facts) (c.laws_follow.ensures.stores past m.state kept.0.facts)
-      (λ n. c.tables_are_what_was_said.ensures listing_heard past m.state n kept.0.facts kept.1) tie.heard node))))
+      (λ n. c.tables_are_what_was_said.ensures listing_heard past m.state n kept.0.facts kept.1) tie.heard node)))))
 
   keeps : (keys : Keys) {here : Phase} {told : List Entry} {m : HostMachine} → Run (first_alone keys (Some [])) here told m
-      → EachAfter (ShowsValues listing_heard) [] told × both_know KnowsAll KnowsAsked here told m
+      → EachAfter (ShowsValues listing_heard) [] told × both_know KnowsWhole KnowsAsked here told m
   keeps keys run =
-      run_keeps (ShowsValues listing_heard) (both_know KnowsAll KnowsAsked) walk [] run (((c.hosts_know_what_nodes_list.ensures.first keys, tt), first_told keys), tt)
+      run_keeps (ShowsValues listing_heard) (both_know KnowsWhole KnowsAsked) walk [] run (c.hosts_know_what_was_told.ensures.first keys, tt)
 
 pub returns-clause-told : goal.returns-clause-told
 returns-clause-told c = λ keys told run. (keeps c keys run.2).0

@@ -4,7 +4,7 @@ use Rattle.std.specs.Prelude.{Some, false, true}
 use Rattle.world_lines.specs.Spoken.{after_all, transcript_of}
 use Rattle.world_lines.specs.Done.{events_of}
 use Rattle.world_model.specs.State.{first_machine}
-use Rattle.proof_spoken.proofs.SpokenLines.{all_lines, all_may, lines_of}
+use Rattle.proof_world.proofs.SpokenLines.{all_lines, all_may, lines_of}
 use Rattle.proof_walk.proofs.Where.{where_lead, where_whole}
 use Rattle.proof_line.specs.Linked.{IsOrderly}
 use Rattle.proof_line.proofs.LinkEnds.{cut_clears, whole_clears}

@@ -12,7 +12,7 @@ use Rattle.world_lines.specs.Whole.{AreWhole}
 use Rattle.world_model.specs.State.{Machine, first_machine}
 use Rattle.world_model.specs.Did.{AllAlong}
 use Rattle.proof_serial.specs.Line.{WritesWell}
-use Rattle.proof_spoken.proofs.SpokenLines.{all_lines, all_may, lines_of}
+use Rattle.proof_world.proofs.SpokenLines.{all_lines, all_may, lines_of}
 use Rattle.proof_walk.specs.Phases.{Between}
 use Rattle.proof_walk.specs.Walk.{WalkWhere}
 use Rattle.proof_walk.proofs.Where.{where_stand, where_whole}

@@ -1,14 +1,39 @@
 -- Each law is proved of every run of a host alone.
-use Rattle.std.proofs.Common.{[]}
+use Rattle.std.proofs.Common.{◌≡◌, Bool, true, false, List, [], refl, subst, ℕ, ◌∙◌}
 use Rattle.std.specs.Prelude.{Some}
+use Rattle.s0_crypto.specs.declared.key_pair.Keys.{Keys}
+use Rattle.zw_text.specs.declared.entry.Entry.{Entry}
+use Rattle.proof_alone.specs.State.{HostMachine, first_alone}
+use Rattle.proof_alone.specs.Phases.{Phase, Resting}
+use Rattle.proof_alone.specs.Runs.{Run, Told, ToldWhole}
+use Rattle.proof_known.specs.Noted.{NotesAtOnce, NotesInTurn}
+use Rattle.device_kinds.specs.Sealing.{keys_of as device_keys}
+use Rattle.host_core.specs.Network.{keys_of}
 use Rattle.proof_replay.proofs.replay.hosts_keep_laws.Goals as goal
 
+-- host and device have the same keys of a network key
+same_keys : (key : List ℕ) → keys_of key ≡ device_keys key
+unfolding device_keys
+same_keys key = refl
+
+-- a law of runs, and of those that end at rest
+by_whole : (Law : Bool → List Entry → Type 0) (start : HostMachine) → ((heard : List Entry) → ToldWhole start heard → Law true heard) → ((heard : List Entry) → Told start heard → Law false heard)
+    → (whole : Bool) (here : Phase) (heard : List Entry) (m : HostMachine) → Run start here heard m → (whole ≡ true → here ≡ Resting) → Law whole heard
+by_whole Law start full part true here heard m run rests = full heard (m, subst (λ (p : Phase). Run start p heard m) (rests refl) run)
+by_whole Law start full part false here heard m run rests = part heard (here, m, run)
+
 pub returns : goal.returns
-returns c = λ keys heard told. record {
-  orders = c.hosts_keep_their_tables.ensures.laws keys heard told;
-  cancels = (c.hosts_answer_what_is_asked.ensures.told keys heard told).0;
-  carries = (c.hosts_answer_what_is_asked.ensures.told keys heard told).1;
-  follows = (c.hosts_keep_their_tables.ensures.tables keys told.0 heard told.1 told.2).1.following;
-  wakes = c.hosts_wake_as_told.ensures keys (Some []) heard told;
-  ticks = c.hosts_tell_time.ensures.counts keys (Some []) heard told;
+returns c = λ keys whole here heard m run rests fine. record {
+  orders = c.hosts_keep_their_tables.ensures.laws keys heard (here, m, run);
+  said = c.hosts_do_as_is_said.ensures keys whole here heard m run rests fine;
+  notes = c.hosts_note_what_was_told.ensures keys heard (here, m, run);
+  at_once =
+      by_whole (λ (b : Bool) (l : List Entry). NotesAtOnce b l) (first_alone keys (Some [])) (c.hosts_note_at_once.ensures.whole keys) (c.hosts_note_at_once.ensures.told keys) whole here heard m run rests;
+  in_turn =
+      by_whole (λ (b : Bool) (l : List Entry). NotesInTurn b l) (first_alone keys (Some [])) (c.hosts_note_values_in_turn.ensures.whole keys (Some []))
+      (c.hosts_note_values_in_turn.ensures.told keys (Some [])) whole here heard m run rests;
+  wakes = c.hosts_wake_as_told.ensures keys (Some []) heard (here, m, run);
+  questions = c.hosts_answer_questions.ensures keys heard (here, m, run);
+  ticks = c.hosts_tell_time.ensures.counts keys (Some []) heard (here, m, run);
+  sends = λ key same. c.hosts_send_what_is_due.ensures.told key heard (subst (λ (k : Keys). Told (first_alone k (Some [])) heard) (same ∙ same_keys key) (here, m, run));
 }

@@ -1,14 +1,40 @@
 -- One line after another, from the host at its beginning.
-use Rattle.std.proofs.Common.{[], false}
+use Rattle.std.proofs.Common.{◌≡◌, ℕ, List, [], ◌++◌, false, refl, ap, ◌∙◌, append_assoc}
+use Rattle.std.specs.Prelude.{Option, Some, None}
 use Rattle.host_core.specs.Network.{keys_of}
+use Rattle.host_keep.specs.Keeping.{OptAdds}
+use Rattle.host_model.proofs.EventLists.{none_added}
+use Rattle.world_model.specs.State.{with_texts}
 use Rattle.run_replay.specs.Machine.{first_replay, lone_of}
 use Rattle.proof_alone.specs.State.{first_alone, host_machine}
 use Rattle.proof_alone.specs.Runs.Run.{Begins}
+use Rattle.proof_known.proofs.ForHost.{said_for_host}
+use Rattle.proof_replay.specs.Heard.{heard_of, lone_after}
 use Rattle.proof_replay.proofs.Replaying.{all_go}
+use Rattle.proof_replay.proofs.Words.{replayed_said}
 use Rattle.proof_replay.proofs.replay.replays_are_a_hosts.Goals as goal
 
+-- what the run holds was added to what the keeper had
+abbrev Added : Option (List (List ℕ)) → Option (List (List ℕ)) → Option (List (List ℕ)) → Type 0
+Added before records held = (texts : List (List ℕ)) × (held ≡ Some texts) × OptAdds before records texts
+
+more_added : (before records : Option (List (List ℕ))) (texts more : List (List ℕ)) → OptAdds before records texts → OptAdds before (with_texts records more) (texts ++ more)
+more_added None records texts more adds = ap (λ (o : Option (List (List ℕ))). with_texts o more) adds
+more_added (Some kept) records texts more adds =
+    ap (λ (o : Option (List (List ℕ))). with_texts o more) adds ∙ ap (λ (l : List (List ℕ)). Some l) (append_assoc kept texts more)
+
 pub returns : goal.returns
-returns c = λ key records held lines are.
-    let got =
-    all_go (first_alone (keys_of key) held) (keys_of key) (λ r h. Unit {0}) (λ r h texts beside. tt) [] (lone_of (first_replay key) records) lines are (false, (held, tt, Begins)) in
-    (host_machine (keys_of key) got.1.1.0 got.0.host.state [] got.0.clock 0 got.1.0, got.1.1.2)
+returns c = λ key records lines are.
+    let m = lone_of (first_replay key) records in
+    let (awaits, (held, (texts, tells, adds), run)) =
+    all_go (first_alone (keys_of key) (Some [])) (keys_of key) (Added records)
+    (λ r h more (some, same, adds). (some ++ more, ap (λ (o : Option (List (List ℕ))). with_texts o more) same, more_added records r some more adds)) [] m lines are
+    (false, (Some [], ([], refl, none_added records), Begins)) in
+    record {
+      last = host_machine (keys_of key) held (lone_after m lines).host.state [] (lone_after m lines).clock 0 awaits;
+      added = texts;
+      run = run;
+      for_host = said_for_host (heard_of m lines) (replayed_said m lines are);
+      tells = tells;
+      adds = adds;
+    }

@@ -40,7 +40,7 @@ returns c = λ key devices lines are.
       aside = c.asides_keep_facts.ensures;
       stand = c.laws_follow.ensures.laws;
       knows = c.interviews_give_what_is_known.ensures.each;
-      carried = λ listing. c.orders_are_carried_as_said.ensures (always listing);
+      carried = c.orders_are_carried_as_said.ensures;
       from = c.callback_ids.ensures.from_one;
       to = c.callback_ids.ensures.to_max;
     }) c.rooms_go_on.ensures.walk) [] m lines are (all_well listing m events starts.0 keeps.0 tells writes) (
@@ -48,6 +48,6 @@ returns c = λ key devices lines are.
       record {
         ground = record { facts = facts; knows = c.interviews_give_what_is_known.ensures.first listing keys; said = tt; arrives = refl };
         keys = refl;
-        reasoned = first_is (IsShown listing key []) keys;
+        reasoned = first_is (IsShown (always listing) key []) keys;
       },
     )

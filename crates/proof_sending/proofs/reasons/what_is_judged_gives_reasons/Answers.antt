@@ -1,11 +1,12 @@
 -- Event by event, each of which leaves what the next one needs.
 use Rattle.law_transcript.specs.Lists.{Has}
-use Rattle.proof_sending.proofs.Judged.{judged_goes, stands_all}
+use Rattle.proof_sending.proofs.Judged.{judged_goes, reasons_of, stands_all}
+use Rattle.proof_sending.proofs.Reasoned.{Laws}
 use Rattle.proof_sending.proofs.reasons.what_is_judged_gives_reasons.Goals as goal
 
 pub returns-clause-judged : goal.returns-clause-judged
 returns-clause-judged c = λ heard keys past h items events tells judged facts may is.
-    judged_goes (record {
+    let laws : Laws = record {
       event_keeps = c.events_keep_facts.ensures.each;
       orders_stay = c.tables_keep_orders.ensures.host;
       texts_left = record {
@@ -14,7 +15,8 @@ returns-clause-judged c = λ heard keys past h items events tells judged facts m
         seals = c.hosts_leave_nonces.ensures.seals;
         sends = c.hosts_leave_nonces.ensures.sends;
       };
-    }) (Has heard) keys h items events tells judged ((past, facts), is) may
+    } in
+    reasons_of laws (Has heard) keys h events (judged_goes laws (Has heard) keys h items events tells judged) ((past, facts), is) may
 
 pub returns-clause-all : goal.returns-clause-all
 returns-clause-all c = λ heard keys past h events facts may reasons is.

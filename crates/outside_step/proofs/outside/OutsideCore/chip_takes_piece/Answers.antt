@@ -12,4 +12,4 @@ returns c =
     rw (← c.self.view_is) (piece_read c.put_outputs.result (the_view c.self.inside) _ _ _ _ _ _ _ _ _
     (subst (λ (o : OuterState). is_stalled o ≡ false) (sym c.self.view_is) c.requires.moves)
     (subst (λ (o : OuterState). 0 < length o.to_chip.bytes) (sym c.self.view_is) c.requires.some)
-    c.new-outputs.ensures c.piece-most.ensures.some c.take_into-piece.ensures.read c.take_into-piece.ensures.way c.in_ok-feed.ensures.ok c.put_outputs.ensures)
+    c.new-outputs.ensures c.most_at_once-most.ensures.some c.take_into-piece.ensures.read c.take_into-piece.ensures.way c.in_ok-feed.ensures.ok c.put_outputs.ensures)

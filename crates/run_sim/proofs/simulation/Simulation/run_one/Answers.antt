@@ -19,7 +19,7 @@ returns-in_err-stepped-clause-err g c =
     (point_of c.args.self.now.world (map (λ d. (goal.Device-dyn g (d.vtable, d.value)).state d.value) c.args.devices.now.items) (g.P.Keeper.shelf c.args.keeper.now) (g.P.Keeper.number c.args.keeper.now) (g.P.Keeper.reads c.args.keeper.now))
     (point_of c.step-stepped.new.self (map (λ d. (goal.Device-dyn g (d.vtable, d.value)).state d.value) c.step-stepped.new.devices.items) (g.P.Keeper.shelf c.step-stepped.new.keeper) (g.P.Keeper.number c.step-stepped.new.keeper) (g.P.Keeper.reads c.step-stepped.new.keeper))
     c.push.new.self.items c.step-stepped.new.out.items c.as_slice-told.result.now c.args.out.now.items c.add_entries-added.new.out.items
-    (begun_by c.args.text.now c.args.line.now c.new-entries.ensures c.in_ok-push.ensures.ok c.in_ok-said_entry.ensures) c.as_slice-told.ensures c.requires.empty c.in_err-stepped.ensures.err c.step-stepped.ensures.goes_on
+    (begun_by c.args.text.now c.args.line.now c.clear.ensures.items c.in_ok-push.ensures.ok c.in_ok-said_entry.ensures) c.as_slice-told.ensures c.requires.empty c.in_err-stepped.ensures.err c.step-stepped.ensures.goes_on
     (prefix_any c.add_entries-added.result c.args.out.now.items (pieces_of c.args.self.now.quiet c.as_slice-told.result.now) c.add_entries-added.new.out.items
     c.add_entries-added.ensures.ok c.add_entries-added.ensures.prefix))
 
@@ -29,7 +29,7 @@ returns-clause-ok g c =
     (point_of c.args.self.now.world (map (λ d. (goal.Device-dyn g (d.vtable, d.value)).state d.value) c.args.devices.now.items) (g.P.Keeper.shelf c.args.keeper.now) (g.P.Keeper.number c.args.keeper.now) (g.P.Keeper.reads c.args.keeper.now))
     (point_of c.step-stepped.new.self (map (λ d. (goal.Device-dyn g (d.vtable, d.value)).state d.value) c.step-stepped.new.devices.items) (g.P.Keeper.shelf c.step-stepped.new.keeper) (g.P.Keeper.number c.step-stepped.new.keeper) (g.P.Keeper.reads c.step-stepped.new.keeper))
     c.push.new.self.items c.step-stepped.new.out.items c.as_slice-told.result.now c.args.out.now.items c.add_entries-added.new.out.items
-    (begun_by c.args.text.now c.args.line.now c.new-entries.ensures c.in_ok-push.ensures.ok c.in_ok-said_entry.ensures) c.as_slice-told.ensures c.requires.empty c.entries_in_range.ensures c.in_ok-stepped.ensures.ok c.step-stepped.ensures.goes_on c.in_ok-stepped.ensures.keeps is)
+    (begun_by c.args.text.now c.args.line.now c.clear.ensures.items c.in_ok-push.ensures.ok c.in_ok-said_entry.ensures) c.as_slice-told.ensures c.requires.empty c.entries_in_range.ensures c.in_ok-stepped.ensures.ok c.step-stepped.ensures.goes_on c.in_ok-stepped.ensures.keeps is)
     c.add_entries-added.ensures.ok
 
 pub returns-clause-err : goal.returns-clause-err
@@ -38,5 +38,5 @@ returns-clause-err g c =
     (point_of c.args.self.now.world (map (λ d. (goal.Device-dyn g (d.vtable, d.value)).state d.value) c.args.devices.now.items) (g.P.Keeper.shelf c.args.keeper.now) (g.P.Keeper.number c.args.keeper.now) (g.P.Keeper.reads c.args.keeper.now))
     (point_of c.step-stepped.new.self (map (λ d. (goal.Device-dyn g (d.vtable, d.value)).state d.value) c.step-stepped.new.devices.items) (g.P.Keeper.shelf c.step-stepped.new.keeper) (g.P.Keeper.number c.step-stepped.new.keeper) (g.P.Keeper.reads c.step-stepped.new.keeper))
     c.push.new.self.items c.step-stepped.new.out.items c.as_slice-told.result.now c.args.out.now.items c.add_entries-added.new.out.items
-    (begun_by c.args.text.now c.args.line.now c.new-entries.ensures c.in_ok-push.ensures.ok c.in_ok-said_entry.ensures) c.as_slice-told.ensures c.requires.empty c.in_ok-stepped.ensures.ok c.step-stepped.ensures.goes_on prefix)
+    (begun_by c.args.text.now c.args.line.now c.clear.ensures.items c.in_ok-push.ensures.ok c.in_ok-said_entry.ensures) c.as_slice-told.ensures c.requires.empty c.in_ok-stepped.ensures.ok c.step-stepped.ensures.goes_on prefix)
     c.add_entries-added.ensures.prefix

@@ -1,0 +1,216 @@
+-- What items of the chip do to the request under way.
+use Rattle.std.proofs.Common.{◌≡◌, ℕ, ◌==◌, ◌&&◌, ◌||◌, not, Bool, true, false, if◌then◌else◌, List, [], refl, sym, ap, ◌∙◌, subst, append-nil, arith}
+use Rattle.std.proofs.lemmas.Bool.{eq-eqb}
+use Rattle.std.specs.Prelude.{Option, Some, None, Result, Ok, Err}
+use Rattle.std.specs.List.{AllByRecursion}
+use Rattle.serial_frame.specs.declared.item.Item.TheVariants.{Good}
+use Rattle.serial_frame.specs.declared.unit.Unit.TheVariants.{Ack}
+use Rattle.serial_link.specs.State.{Side}
+use Rattle.serial_link.specs.declared.turn.Turn.{Turn}
+use Rattle.chip_functions.specs.Notice.{notice_of, notice_at, notice_function, notice_body, handler, handler_at, update as update_text, update_at}
+use Rattle.chip_functions.specs.Place.{Reading, ◌>>=◌, start_of}
+use Rattle.chip_functions.specs.Field.{read_as}
+use Rattle.chip_functions.specs.Response.{response_of, response_function, response_body}
+use Rattle.chip_functions.specs.declared.fault.BodyFault.{BodyFault}
+use Rattle.chip_functions.specs.declared.function.TheConstants.{SEND_DATA, SEND_DATA_ABORT, REQUEST_NODE_INFO, APPLICATION_COMMAND_HANDLER}
+use Rattle.chip_functions.specs.declared.notice.Notice.{Notice}
+use Rattle.chip_functions.specs.declared.notice.Notice.TheVariants.{ApplicationCommandHandler, ApplicationUpdate, SendData}
+use Rattle.chip_functions.specs.declared.notice.Update.{Update}
+use Rattle.chip_functions.specs.declared.notice.Update.TheVariants.{Received, RequestFailed}
+use Rattle.chip_functions.specs.declared.notice.TransmitStatus.{TransmitStatus}
+use Rattle.chip_functions.specs.declared.response.Response.{Response}
+use Rattle.chip_functions.specs.declared.response.Response.TheVariants.{SendData as SendDataAnswer}
+use Rattle.chip_functions.proofs.NoticeLaws.{notice_only}
+use Rattle.chip_functions.proofs.ResponseLaws.{response_only}
+use Rattle.chip_sim.specs.Answers.{notice_frame}
+use Rattle.host_heard.specs.Telling.{heard_at}
+use Rattle.host_requests.specs.Frames.{function_of}
+use Rattle.host_requests.specs.State.{RequestsState}
+use Rattle.host_requests.specs.Next.{at_sent, at_response, at_callback, at_update, ends_at_update, purpose_ends_at_update, next_from, acknowledged, sent_from, is_answered, is_sent, judged, response_ticks, notice_ticks}
+use Rattle.host_requests.specs.Events.{RequestsEvent, end_at, interviewed_from, interviewed_by, after as after_request}
+use Rattle.host_requests.specs.Events.RequestsEvent.{IsSent, Responds, CallsBack, Updates}
+use Rattle.host_requests.specs.declared.end.How.TheVariants.{AtCallback, AtUpdate}
+use Rattle.host_requests.specs.declared.next.Next.{Next}
+use Rattle.host_requests.specs.declared.next.Next.TheVariants as next
+use Rattle.host_requests.specs.declared.task.Purpose.{Purpose}
+use Rattle.host_requests.specs.declared.task.Task.{Task}
+use Rattle.host_requests.specs.declared.task.Task.TheVariants.{Plain, Offer, Segment, NoMore, First, Second, Members, Neighbours, IsFailed, Version, MemoryId, Capabilities}
+use Rattle.host_requests.specs.declared.task.Purpose.TheVariants.{Housekeeping, Attempt, Abort}
+use Rattle.host_requests.specs.declared.under_way.Progress.{Progress}
+use Rattle.host_requests.specs.declared.under_way.Progress.TheVariants.{Submitted, Sent, Answered}
+use Rattle.host_requests.specs.declared.under_way.UnderWay.{UnderWay}
+use Rattle.host_node.specs.declared.attempt.Moment.TheVariants.{BetweenTicks}
+use Rattle.host_model.specs.State.{HostState}
+use Rattle.host_model.specs.Events.{HostEvent}
+use Rattle.host_model.specs.After.{requests_do, is_busy}
+use Rattle.host_model.specs.Did.{after_all}
+use Rattle.host_model.specs.Taking.{FrameEvents, NoticeEvents, InterviewEvents, ResponseEvents, IsFollowed, told_if, told_requests}
+use Rattle.proof_waking.proofs.Followed.{FollowersAre, payload_all}
+use Rattle.proof_calm.specs.Calls.{answer_taken, IsSending, GoesOn}
+use Rattle.proof_calm.proofs.Following.{end_if_kept, IsApart, all_apart}
+
+-- ---- the requests hear of something
+
+told_way : (h : HostState) (event : RequestsEvent) (events : List HostEvent) → events ≡ told_requests event → (after_all h events).requests.under_way ≡ (after_request h.requests event).under_way
+told_way h event events are =
+    ap (λ (l : List HostEvent). (after_all h l).requests.under_way) are
+    ∙ ap (λ (k : Side × Option UnderWay × Bool × ℕ). k.1) (end_if_kept (requests_do h event) (end_at h.requests event) BetweenTicks)
+
+-- a request goes on where what comes next goes on
+goes_on : (s : RequestsState) (step : UnderWay → Next) (u : UnderWay) (progress : Progress) → s.under_way ≡ Some u → step u ≡ next.GoesOn progress
+    → (next_from s step s.under_way).under_way ≡ Some (record { purpose = u.purpose; progress = progress })
+goes_on s step u progress is on =
+    ap (λ (o : Option UnderWay). (next_from s step o).under_way) is ∙ ap (λ (n : Next). (next_from s (λ _. n) (Some u)).under_way) on
+
+-- ---- an acknowledgement
+
+not_same : SEND_DATA_ABORT ≡ SEND_DATA → ⊥
+not_same is = omega (arith, is)
+
+acknowledged_on : (purpose : Purpose) → function_of purpose ≡ SEND_DATA → acknowledged purpose ≡ next.GoesOn (Sent response_ticks)
+acknowledged_on (Housekeeping task) sends = refl
+acknowledged_on (Attempt n more payload) sends = refl
+acknowledged_on Abort sends = absurd (not_same sends)
+
+on_by : (progress : Progress) (purpose : Purpose) → function_of purpose ≡ SEND_DATA → (later : Progress) × (sent_from purpose progress ≡ next.GoesOn later)
+on_by Submitted purpose sends = (Sent response_ticks, acknowledged_on purpose sends)
+on_by (Sent left) purpose sends = (Sent left, refl)
+on_by (Answered sent left) purpose sends = (Answered true left, refl)
+
+pub ack_goes_on : (h : HostState) (u : UnderWay) (turn : Turn) (events : List HostEvent) → IsSending u h → IsFollowed h turn (Good Ack) events → GoesOn u (after_all h events)
+ack_goes_on h u turn events sending followed = by (is_busy turn) followed
+  where
+    by : (busy : Bool) → events ≡ told_if busy IsSent → GoesOn u (after_all h events)
+    by true are =
+        let on = on_by u.progress u.purpose sending.sends in
+        record { progress = on.0; under_way = told_way h IsSent events are ∙ goes_on h.requests at_sent u on.0 sending.under_way on.1 }
+    by false are = record { progress = u.progress; under_way = ap (λ (l : List HostEvent). (after_all h l).requests.under_way) are ∙ sending.under_way }
+
+-- ---- the answer that it was taken
+
+answers_on : (u : UnderWay) → function_of u.purpose ≡ SEND_DATA → (later : Progress) × (at_response (SendDataAnswer 1) u ≡ next.GoesOn later)
+answers_on u sends = by (is_answered u.progress) (function_of u.purpose) sends
+  where
+    by : (b : Bool) (function : ℕ) → function ≡ SEND_DATA → (later : Progress) × ((if b || not (SEND_DATA == function) then next.GoesOn u.progress else judged (SendDataAnswer 1) u) ≡ next.GoesOn later)
+    by true function is = (u.progress, refl)
+    by false function is = (Answered (is_sent u.progress) notice_ticks, ap (λ (f : ℕ). if not (SEND_DATA == f) then next.GoesOn u.progress else judged (SendDataAnswer 1) u) is)
+
+pub answer_goes_on : (h : HostState) (u : UnderWay) (events : List HostEvent) → IsSending u h → FrameEvents h answer_taken.kind answer_taken.func answer_taken.body events → GoesOn u (after_all h events)
+answer_goes_on h u events sending is =
+    let read : response_of (response_function (SendDataAnswer 1)) (response_body (SendDataAnswer 1)) ≡ Ok (SendDataAnswer 1) =
+    response_only (response_function (SendDataAnswer 1)) (response_body (SendDataAnswer 1)) (SendDataAnswer 1) (record { row = tt; function = refl; tail = []; text = sym (append-nil (response_body (SendDataAnswer 1))) }) in
+    let are : events ≡ told_requests (Responds (SendDataAnswer 1)) = subst (λ (r : Result Response BodyFault). ResponseEvents r events) read is in
+    let on = answers_on u sending.sends in
+    record { progress = on.0; under_way = told_way h (Responds (SendDataAnswer 1)) events are ∙ goes_on h.requests (at_response (SendDataAnswer 1)) u on.0 sending.under_way on.1 }
+
+-- ---- the call of its callback id
+
+calls_are : (h : HostState) (id : ℕ) (status : TransmitStatus) (events : List HostEvent)
+    → FrameEvents h (notice_frame (SendData id status)).kind (notice_frame (SendData id status)).func (notice_frame (SendData id status)).body events → events ≡ told_requests (CallsBack id status)
+calls_are h id status events is =
+    subst (λ (r : Result Notice BodyFault). NoticeEvents h r events)
+    (notice_only (notice_function (SendData id status)) (notice_body (SendData id status)) (SendData id status) (record { row = tt; function = refl; tail = []; text = sym (append-nil (notice_body (SendData id status))) })) is
+
+both : (a b : Bool) → a ≡ true → b ≡ true → (a && b) ≡ true
+both a b one two = rw one two
+
+pub call_ends : (h : HostState) (u : UnderWay) (status : TransmitStatus) (events : List HostEvent) → IsSending u h
+    → FrameEvents h (notice_frame (SendData h.requests.last_id status)).kind (notice_frame (SendData h.requests.last_id status)).func (notice_frame (SendData h.requests.last_id status)).body events
+    → (after_all h events).requests.under_way ≡ None
+call_ends h u status events sending is =
+    let id : ℕ = h.requests.last_id in
+    let ours : ((function_of u.purpose == SEND_DATA) && (id == id)) ≡ true = both (function_of u.purpose == SEND_DATA) (id == id) (eq-eqb (function_of u.purpose) SEND_DATA sending.sends) (eq-eqb id id refl) in
+    told_way h (CallsBack id status) events (calls_are h id status events is)
+    ∙ ap (λ (o : Option UnderWay). (next_from h.requests (at_callback id id status) o).under_way) sending.under_way ∙ by ((function_of u.purpose == SEND_DATA) && (id == id)) ours
+  where
+    by : (b : Bool) → b ≡ true → (next_from h.requests (λ _. if b then next.Ends (AtCallback status) else next.GoesOn u.progress) (Some u)).under_way ≡ None
+    by true is = refl
+    by false is = absurd cc
+
+-- ---- what a node sends
+
+apart_followers : (n : ℕ) → FollowersAre IsApart n
+apart_followers n = record {
+  unread = λ payload. tt;
+  unkept = tt;
+  old = λ id. tt;
+  works = λ id. tt;
+  finishes = λ session id command status wake. tt;
+  offers = tt;
+  gives = λ drawn. tt;
+  spends = tt;
+  in_vain = λ payload. tt;
+  takes = λ seen text. tt;
+  resends = λ payload. tt;
+  hears = λ setting. tt;
+  no_room = λ property. tt;
+}
+
+-- it is read as such, or not at all
+read_apart : {A : Type 0} (h : HostState) (make : A → Notice) (events : List HostEvent) → ((x : A) → NoticeEvents h (Ok (make x)) events → AllByRecursion IsApart events) → (r : Reading A)
+    → NoticeEvents h (read_as make r >>= λ x. Ok x.0) events → AllByRecursion IsApart events
+read_apart h make events apart (Ok x) is = apart x.0 is
+read_apart h make events apart (Err fault) is = subst (AllByRecursion IsApart) (sym is) tt
+
+handler_apart : (h : HostState) (body : List ℕ) (events : List HostEvent) → NoticeEvents h (notice_of APPLICATION_COMMAND_HANDLER body) events → AllByRecursion IsApart events
+unfolding notice_of notice_at handler_at
+handler_apart h body events is =
+    read_apart h (λ (x : ℕ × (ℕ × List ℕ)). ApplicationCommandHandler x.0 x.1.0 x.1.1) events
+    (λ x taken. payload_all IsApart x.1.0 (apart_followers x.1.0) h x.1.1 (heard_at x.1.1) events (λ _. tt) taken) (handler.read (start_of body)) is
+
+pub handler_leaves : (h : HostState) (n : ℕ) (payload : List ℕ) (events : List HostEvent)
+    → FrameEvents h (notice_frame (ApplicationCommandHandler 0 n payload)).kind (notice_frame (ApplicationCommandHandler 0 n payload)).func (notice_frame (ApplicationCommandHandler 0 n payload)).body events
+    → (after_all h events).requests.under_way ≡ h.requests.under_way
+handler_leaves h n payload events is =
+    ap (λ (k : Side × Option UnderWay × Bool × ℕ). k.1) (all_apart h events (handler_apart h (notice_body (ApplicationCommandHandler 0 n payload)) events is))
+
+-- ---- an ApplicationUpdate
+
+not_asked : REQUEST_NODE_INFO ≡ SEND_DATA → ⊥
+not_asked is = omega (arith, is)
+
+task_stays : (update : Update) (task : Task) → function_of (Housekeeping task) ≡ SEND_DATA → purpose_ends_at_update update (Housekeeping task) ≡ false
+task_stays update (Plain n payload) sends = refl
+task_stays update (Offer n nonce) sends = refl
+task_stays update (Segment n payload) sends = refl
+task_stays update (NoMore n) sends = refl
+task_stays update (First n) sends = refl
+task_stays update (Second n) sends = absurd (not_asked sends)
+task_stays update Members sends = refl
+task_stays update (Neighbours n) sends = refl
+task_stays update (IsFailed n) sends = refl
+task_stays update Version sends = refl
+task_stays update MemoryId sends = refl
+task_stays update Capabilities sends = refl
+
+stays : (update : Update) (purpose : Purpose) → function_of purpose ≡ SEND_DATA → purpose_ends_at_update update purpose ≡ false
+stays update (Housekeeping task) sends = task_stays update task sends
+stays update (Attempt n more payload) sends = refl
+stays update Abort sends = refl
+
+-- no interview ends with it
+none_ends : (update : Update) (first : Option ℕ) (u : UnderWay) → ends_at_update update u ≡ false → interviewed_from first update (Some u) ≡ None
+none_ends (Received n b g s classes) first u not = ap (λ (b : Bool). if b then first else None) not
+none_ends RequestFailed first u not = refl
+
+told_of_none : (update : Update) (events : List HostEvent) → InterviewEvents update None events → events ≡ told_requests (Updates update)
+told_of_none (Received n b g s classes) events is = is
+told_of_none RequestFailed events is = is
+
+update_leaves : (h : HostState) (u : UnderWay) (update : Update) (events : List HostEvent) → IsSending u h → InterviewEvents update (interviewed_by h.requests update) events → GoesOn u (after_all h events)
+update_leaves h u update events sending is =
+    let not : ends_at_update update u ≡ false = stays update u.purpose sending.sends in
+    let none : interviewed_by h.requests update ≡ None = ap (λ (o : Option UnderWay). interviewed_from h.requests.first update o) sending.under_way ∙ none_ends update h.requests.first u not in
+    let are = told_of_none update events (subst (λ (o : Option ℕ). InterviewEvents update o events) none is) in
+    let on : at_update h.requests.first update u ≡ next.GoesOn u.progress = ap (λ (b : Bool). if b then next.Ends (AtUpdate update h.requests.first) else next.GoesOn u.progress) not in
+    record { progress = u.progress; under_way = told_way h (Updates update) events are ∙ goes_on h.requests (at_update h.requests.first update) u u.progress sending.under_way on }
+
+read_leaves : (h : HostState) (u : UnderWay) (events : List HostEvent) → IsSending u h → (r : Reading Update) → NoticeEvents h (read_as (λ x. ApplicationUpdate x) r >>= λ x. Ok x.0) events
+    → GoesOn u (after_all h events)
+read_leaves h u events sending (Ok x) is = update_leaves h u x.0 events sending is
+read_leaves h u events sending (Err fault) is = record { progress = u.progress; under_way = ap (λ (l : List HostEvent). (after_all h l).requests.under_way) is ∙ sending.under_way }
+
+pub updates_leave : (h : HostState) (u : UnderWay) (told : Update) (events : List HostEvent) → IsSending u h
+    → FrameEvents h (notice_frame (ApplicationUpdate told)).kind (notice_frame (ApplicationUpdate told)).func (notice_frame (ApplicationUpdate told)).body events → GoesOn u (after_all h events)
+unfolding notice_of notice_at update_at
+updates_leave h u told events sending is = read_leaves h u events sending (update_text.read (start_of (notice_body (ApplicationUpdate told)))) is

@@ -1,0 +1,11 @@
+-- The lines of a story were said, and questions are answered in lines that were said.
+use Rattle.host_core.specs.Network.{keys_of}
+use Rattle.law_time.specs.Questions.{AnswersQuestions}
+use Rattle.proof_commands.proofs.AsSaid.{of_new}
+use Rattle.proof_commands.proofs.Speaking.{all_said}
+use Rattle.proof_commands.proofs.laws.stories_answer_questions.Goals as goal
+
+pub returns : goal.returns
+returns c = λ key old new story unentered is tells.
+    of_new c.lines_are_read_as_said.ensures key old new story unentered is tells AnswersQuestions
+    (λ done runs. c.lines_answer_questions.ensures.lines (keys_of key) old.devices (all_said story) done)

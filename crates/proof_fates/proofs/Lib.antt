@@ -1,9 +1,0 @@
-mod Shown
-mod Stamped
-mod Again
-mod Repeating
-mod Following
-mod Numbered
-mod Arriving
-mod Meeting
-mod Grounds

@@ -1,0 +1,171 @@
+-- What the host notes of messages was told (Supervision and Security 0 Command Classes, and the reports of the Application Command Classes; that what is sealed may tell anything is
+-- this project's own rule): each such note stands where a payload of its node was judged that tells it.
+use Rattle.std.specs.Prelude.{◌+◌, drop, ◌≡◌, ◌||◌, if◌then◌else◌, [], not, nat_le, ◌∷◌, ℕ, ◌%◌, ◌==◌, ◌&&◌, bytes_eq, Bool, true, false, List, length}
+use Rattle.std.specs.List.{flat_map, list_all, list_any}
+use Rattle.zw_base.specs.PropertyOrder.{same_property}
+use Rattle.zw_base.specs.declared.property.Property.{Property}
+use Rattle.zw_base.specs.declared.property.Setting.{Setting}
+use Rattle.class_info.specs.declared.report_status.ReportStatus.{ReportStatus}
+use Rattle.class_info.specs.declared.report_status.ReportStatus.TheVariants as statuses
+use Rattle.host_heard.specs.Telling.{heard_at}
+use Rattle.host_heard.specs.declared.payload.Heard.{Heard}
+use Rattle.host_heard.specs.declared.payload.Heard.TheVariants.{Messages, Sealed, Unread as unread_text}
+use Rattle.host_heard.specs.declared.told.Told.{Told}
+use Rattle.host_heard.specs.declared.told.Told.TheVariants as told
+use Rattle.zw_text.specs.declared.entry.Ended.{Ended}
+use Rattle.zw_text.specs.declared.entry.Ended.TheVariants as endings
+use Rattle.zw_text.specs.declared.entry.Entry.{Entry}
+use Rattle.zw_text.specs.declared.entry.Entry.TheVariants.{Said, Written, Out, Report, Unstored, Old, Unread, Awake}
+use Rattle.zw_words.specs.declared.side.Side.TheVariants.{Host}
+use Rattle.zw_text.specs.Transcript.{folded, sessions}
+use Rattle.law_transcript.specs.Units.{Carried}
+use Rattle.law_time.specs.Requests.{are_none}
+use Rattle.law_time.specs.Judged.{brought_here, is_directly_after, is_mark, is_no_note, may_be_told, may_tell, payloads_here}
+use Rattle.law_time.specs.Moments.{Keeps}
+use Rattle.law_time.specs.Sessions.{is_last_command}
+use Rattle.law_host.specs.Following.{same_note, same_setting}
+use Rattle.law_host.specs.Heard.{listing_heard}
+use Rattle.law_transcript.specs.Answers.{properties_kept}
+use Rattle.law_transcript.specs.Nodes.{host_list}
+use Rattle.host_orders.specs.Classes.{lists}
+use Rattle.std.specs.Set.{distinct_count}
+
+-- ---- messages
+
+-- a report of a session with this id
+abbrev pub tells_report : ℕ → Told → Bool
+tells_report id (told.Report number status wake_request) = number == id
+tells_report id message = false
+
+-- by which a command ends so
+abbrev pub ends_so : Ended → ReportStatus → Bool
+ends_so endings.Success statuses.Success = true
+ends_so endings.Fail statuses.Fail = true
+ends_so endings.NoSupport statuses.NoSupport = true
+ends_so ended status = false
+
+abbrev pub tells_end : ℕ → Ended → Told → Bool
+tells_end id ended (told.Report number status wake_request) = (number == id) && ends_so ended status
+tells_end id ended message = false
+
+-- a value, and one of a property
+abbrev pub tells_value : Setting → Told → Bool
+tells_value setting (told.Values settings) = list_any (λ one. same_setting setting one) settings
+tells_value setting message = false
+
+abbrev pub tells_property : Property → Told → Bool
+tells_property property (told.Values settings) = list_any (λ one. same_property property one.property) settings
+tells_property property message = false
+
+-- ---- notes
+
+-- what a node that lists Security 0 reports openly counts for nothing
+abbrev pub may_count : List Entry → ℕ → (Told → Bool) → Heard → Bool
+may_count past node such (Messages messages) = not (lists (host_list listing_heard past node) 0x98) && list_any such messages
+may_count past node such heard = may_tell such heard
+
+-- there is room for a property of a node: with it there are at most 512
+abbrev pub has_room : List Entry → ℕ → Property → Bool
+has_room past node property = nat_le (distinct_count same_property (property ∷ properties_kept listing_heard past node)) 512
+
+-- the command is that of the last session of the node, which a report with its id ends so
+abbrev pub is_ended_by : List Entry → ℕ → Ended → Carried → Bool
+is_ended_by past command ended carried =
+    is_last_command carried.node past command && may_count past carried.node (tells_end (length (sessions carried.node past) % 64) ended) (heard_at carried.payload)
+
+abbrev pub may_end : List Entry → ℕ → Ended → Bool
+may_end past command ended = list_any (is_ended_by past command ended) (brought_here past)
+
+-- a final outcome, a value, an old report and a payload that cannot be read stand where they were told
+abbrev pub may_note : List Entry → Entry → Bool
+may_note past (Out command endings.Success) = may_end past command endings.Success
+may_note past (Out command endings.Fail) = may_end past command endings.Fail
+may_note past (Out command endings.NoSupport) = may_end past command endings.NoSupport
+may_note past (Report node setting) = may_be_told (tells_value setting) node past && has_room past node setting.property
+may_note past (Unstored node property) = may_be_told (tells_property property) node past && not (has_room past node property)
+may_note past (Old node id) = list_any (λ payload. may_count past node (tells_report id) (heard_at payload)) (payloads_here node past)
+may_note past (Unread node payload) = list_any (λ text. bytes_eq text payload) (payloads_here node past)
+may_note past entry = true
+
+abbrev pub NotesWhatWasTold : List Entry → Type 0
+NotesWhatWasTold transcript = Keeps may_note transcript
+
+-- ---- notes that stand at once
+
+abbrev pub value_note : List Entry → ℕ → Setting → Entry
+value_note past node setting = if has_room past node setting.property then Report node setting else Unstored node setting.property
+
+-- what a message has noted that comes first: of a value, and of a node that is awake
+abbrev pub told_first : List Entry → ℕ → Told → List Entry
+told_first past node (told.Values (setting ∷ more)) = value_note past node setting ∷ []
+told_first past node told.Notification = Awake node ∷ []
+told_first past node message = []
+
+-- and what a payload has that cannot be read
+abbrev pub first_notes : List Entry → Carried → Heard → List Entry
+first_notes past carried unread_text = Unread carried.node carried.payload ∷ []
+first_notes past carried (Messages (message ∷ more)) = told_first past carried.node message
+first_notes past carried heard = []
+
+abbrev pub is_first : List Entry → Entry → Bool
+is_first [] entry = true
+is_first (note ∷ notes) entry = same_note note entry
+
+-- directly after a payload was judged stands what it has first, where that is known
+abbrev pub may_follow : List Entry → Entry → Bool
+may_follow past entry =
+    is_mark entry
+    || not (is_directly_after past && list_any (λ carried. not (is_first (first_notes past carried (heard_at carried.payload)) entry)) (brought_here past))
+
+pub record NotesAtOnce (whole : Bool) (transcript : List Entry) : Type 0 where
+  pub between : Keeps may_follow transcript
+  pub in_the_end : whole ≡ true → may_follow transcript (Said []) ≡ true
+
+-- ---- values in turn
+
+-- how many values were noted since the last unit of the host
+abbrev pub values_step : ℕ → Entry → ℕ
+values_step count (Written Host unit) = 0
+values_step count (Report node setting) = count + 1
+values_step count (Unstored node property) = count + 1
+values_step count entry = count
+
+-- the values that a payload tells openly, in order, and those that are still to be noted
+abbrev pub values_in : Told → List Setting
+values_in (told.Values settings) = settings
+values_in message = []
+
+abbrev pub values_told : Heard → List Setting
+values_told (Messages messages) = flat_map values_in messages
+values_told heard = []
+
+abbrev pub values_left : List Entry → Carried → List Setting
+values_left past carried = drop (folded values_step 0 past) (values_told (heard_at carried.payload))
+
+-- a note of a value is of the next one; what is sealed may tell any
+abbrev pub is_next : List Setting → Entry → Bool
+is_next (setting ∷ settings) (Report node told) = same_setting setting told
+is_next (setting ∷ settings) (Unstored node property) = same_property setting.property property
+is_next settings entry = false
+
+abbrev pub is_sealed : Heard → Bool
+is_sealed Sealed = true
+is_sealed heard = false
+
+abbrev pub is_in_turn : List Entry → Entry → Carried → Bool
+is_in_turn past entry carried = is_sealed (heard_at carried.payload) || is_next (values_left past carried) entry
+
+-- the host goes on with what it judged: a note, or what became of its acknowledgement
+abbrev pub goes_on : Entry → Bool
+goes_on (Written Host unit) = false
+goes_on entry = not (is_no_note entry)
+
+-- each value that a payload tells openly is noted, in order, before anything else is done
+abbrev pub may_turn : List Entry → Entry → Bool
+may_turn past (Report node setting) = list_all (is_in_turn past (Report node setting)) (brought_here past)
+may_turn past (Unstored node property) = list_all (is_in_turn past (Unstored node property)) (brought_here past)
+may_turn past entry = goes_on entry || list_all (λ carried. are_none (values_left past carried)) (brought_here past)
+
+pub record NotesInTurn (whole : Bool) (transcript : List Entry) : Type 0 where
+  pub between : Keeps may_turn transcript
+  pub in_the_end : whole ≡ true → may_turn transcript (Said []) ≡ true

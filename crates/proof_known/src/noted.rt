@@ -1,0 +1,106 @@
+//! What a host alone notes of messages.
+
+ghost use Rattle.std.specs.Prelude.{true, false, Option, Some, List, [], ◌++◌, ℕ};
+ghost use Rattle.s0_crypto.specs.declared.key_pair.Keys.{Keys};
+ghost use Rattle.zw_text.specs.declared.entry.Entry.{Entry};
+ghost use Rattle.proof_alone.specs.State.{first_alone};
+ghost use Rattle.proof_alone.specs.Runs.{Told, ToldWhole};
+ghost use Rattle.law_host.specs.Worked.{
+  begun,
+  ended_by_other,
+  ended_by_work,
+  ended_of_another,
+  ended_otherwise,
+  failure_told,
+  other_told,
+  unread_left_out,
+  unread_payload,
+  unsupported_told,
+  value_again,
+  value_heard,
+  value_left_out,
+  value_otherwise,
+  value_twice,
+};
+ghost use Rattle.proof_known.specs.Noted.{NotesAtOnce, NotesInTurn, NotesWhatWasTold};
+ghost use Rattle.proof_known.specs.WorkedNotes.{ended_unreported, lock_believed, lock_unread};
+
+use crate::known::hosts_know_what_was_told;
+use host_node::a_restart_needs_the_records_alone;
+use proof_host::laws_follow;
+use proof_spoken::tables_are_what_was_said;
+use proof_waking::hosts_judge_as_told;
+
+/// In any run of a host alone, over a keeper that tells its records and has none at first: a command ends only where a payload of its node was judged that
+/// tells a report with the id of the node's last session, which is that of the command, and how it ended, sealed where the node lists Security 0; so it is
+/// of old reports. A value is noted only of a payload that tells it, and stored where there is room, and that a payload cannot be read only of that one. What
+/// is sealed may tell anything.
+pub fn hosts_note_what_was_told()
+    ensures { (keys : Keys) (told : List Entry) → Told (first_alone keys (Some [])) told → NotesWhatWasTold told }
+{
+    hosts_know_what_was_told();
+    hosts_judge_as_told();
+    tables_are_what_was_said();
+    laws_follow();
+    a_restart_needs_the_records_alone();
+}
+
+/// Directly after the acknowledgement of a payload stands what it has noted first, where that is sure: that it cannot be read; its first value, or that there
+/// is no room for it; or that its node is awake.
+pub fn hosts_note_at_once()
+    ensures told { (keys : Keys) (told : List Entry) → Told (first_alone keys (Some [])) told → NotesAtOnce false told }
+    ensures whole { (keys : Keys) (told : List Entry) → ToldWhole (first_alone keys (Some [])) told → NotesAtOnce true told }
+{
+    hosts_know_what_was_told();
+    tables_are_what_was_said();
+    laws_follow();
+}
+
+/// And each value that a payload tells openly is noted, in order and once, before anything else is done, over whatever keeper: as heard, or that there is no
+/// room for it.
+pub fn hosts_note_values_in_turn()
+    ensures told { (keys : Keys) (records : Option (List (List ℕ))) (told : List Entry) → Told (first_alone keys records) told → NotesInTurn false told }
+    ensures whole { (keys : Keys) (records : Option (List (List ℕ))) (told : List Entry) → ToldWhole (first_alone keys records) told →
+        NotesInTurn true told }
+{
+    hosts_judge_as_told();
+}
+
+/// Each ending by its report, an old one, a value and what cannot be read keep the law, and so does a lock whose report comes openly and is not read.
+pub fn worked_telling()
+    ensures failure { NotesWhatWasTold (begun ++ failure_told) }
+    ensures unsupported { NotesWhatWasTold (begun ++ unsupported_told) }
+    ensures old { NotesWhatWasTold (begun ++ other_told) }
+    ensures value { NotesWhatWasTold value_heard }
+    ensures unread { NotesWhatWasTold unread_payload }
+    ensures openly { NotesWhatWasTold lock_unread }
+{}
+
+/// It is broken where a command ends without a report, by the report of another session, by one that the node is at work, otherwise than told, or as another
+/// command; where a lock is believed that reports openly; and where a value is noted again that is not told.
+pub fn rejected_telling()
+    ensures unreported { NotesWhatWasTold (begun ++ ended_unreported) → ⊥ }
+    ensures by_other { NotesWhatWasTold (begun ++ ended_by_other) → ⊥ }
+    ensures by_work { NotesWhatWasTold (begun ++ ended_by_work) → ⊥ }
+    ensures otherwise { NotesWhatWasTold (begun ++ ended_otherwise) → ⊥ }
+    ensures another { NotesWhatWasTold (begun ++ ended_of_another) → ⊥ }
+    ensures believed { NotesWhatWasTold lock_believed → ⊥ }
+    ensures again { NotesWhatWasTold value_again → ⊥ }
+{}
+
+/// A value that is told and one that cannot be read stand at once; left out at the end, or entered as another, the law is broken.
+pub fn worked_at_once()
+    ensures value { NotesAtOnce true value_heard }
+    ensures unread { NotesAtOnce true unread_payload }
+    ensures left_out { NotesAtOnce true value_left_out → ⊥ }
+    ensures unread_left_out { NotesAtOnce true unread_left_out → ⊥ }
+    ensures otherwise { NotesAtOnce true value_otherwise → ⊥ }
+{}
+
+/// A value that is told and noted once keeps the law of values in turn; left out, noted twice, or as another, it is broken.
+pub fn worked_in_turn()
+    ensures value { NotesInTurn true value_heard }
+    ensures left_out { NotesInTurn true value_left_out → ⊥ }
+    ensures twice { NotesInTurn true value_twice → ⊥ }
+    ensures otherwise { NotesInTurn true value_otherwise → ⊥ }
+{}

@@ -1,0 +1,38 @@
+-- What a host heard of lines is told by a run of a host alone, which leads to the same machine.
+use Rattle.std.proofs.Common.{◌≡◌, ℕ, Bool, true, false, List, [], refl, subst}
+use Rattle.std.specs.Prelude.{Option, Some}
+use Rattle.s0_crypto.specs.declared.key_pair.Keys.{Keys}
+use Rattle.device_sim.specs.State.{State}
+use Rattle.law_host.specs.Heard.{heard_by_host}
+use Rattle.world_model.specs.State.{first_machine}
+use Rattle.world_lines.specs.Spoken.{Spoken, after_all, transcript_of}
+use Rattle.world_lines.specs.Done.{AreDone}
+use Rattle.world_lines.specs.Whole.{AreWhole}
+use Rattle.proof_alone.specs.State.{first_alone}
+use Rattle.proof_alone.specs.Phases.{Resting}
+use Rattle.proof_replay.specs.Laws.{HostsKeepLaws}
+use Rattle.proof_replay.proofs.Starting.{kept_as_told}
+use Rattle.proof_replay.proofs.Words.{never}
+use Rattle.proof_replay.proofs.sim.lines_that_ran_are_heard.Goals as goal
+
+by_whole : goal.After-hosts_keep_laws → (keys : Keys) (devices : List State) (lines : List Spoken) (whole : Bool) → AreDone (first_machine keys (Some []) devices) lines
+    → (whole ≡ true → AreWhole (first_machine keys (Some []) devices) lines)
+    → HostsKeepLaws keys whole (heard_by_host (transcript_of (first_machine keys (Some []) devices) lines)) (after_all (first_machine keys (Some []) devices) lines).records
+by_whole c keys devices lines true are all =
+    let start = first_alone keys (Some []) in
+    let past = transcript_of (first_machine keys (Some []) devices) lines in
+    let fine = c.hosts_answer_lines.ensures.heard keys past (c.lines_are_a_hosts.ensures.told keys devices lines are) in
+    let (m, run, same) = c.lines_are_a_hosts.ensures.keeper keys devices lines are (all refl) in
+    subst (λ (r : Option (List (List ℕ))). HostsKeepLaws keys true (heard_by_host past) r) same
+    (c.hosts_keep_laws.ensures keys true Resting (heard_by_host past) m (c.what_is_heard_is_a_hosts.ensures.run start Resting past m run) (λ is. refl) fine)
+by_whole c keys devices lines false are all =
+    let start = first_alone keys (Some []) in
+    let m = first_machine keys (Some []) devices in
+    let past = transcript_of m lines in
+    let told = c.lines_are_a_hosts.ensures.told keys devices lines are in
+    let (here, last, run) = c.what_is_heard_is_a_hosts.ensures.told start past told in
+    kept_as_told keys false (heard_by_host past) (after_all m lines).records last.records (λ is. absurd (never is))
+    (c.hosts_keep_laws.ensures keys false here (heard_by_host past) last run (λ is. absurd (never is)) (c.hosts_answer_lines.ensures.heard keys past told))
+
+pub returns : goal.returns
+returns c = by_whole c

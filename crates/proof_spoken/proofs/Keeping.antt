@@ -1,0 +1,226 @@
+-- What a change of one node, of the outcome of a command and of confirmed values keeps, that each event of a host keeps, unless it accepts an order, joins a node,
+-- interviews one or hears a value.
+use Rattle.std.proofs.Common.{◌≡◌, ℕ, ◌<◌, Bool, true, false, if◌then◌else◌, List, length, Option, Some, None, inl, inr, refl, sym, ap, ◌∙◌}
+use Rattle.std.proofs.lemmas.Bool.{cases_eq, cases_lt}
+use Rattle.std.proofs.lemmas.List.{get_or-set_same, get_or-set_other, set_past}
+use Rattle.zw_base.specs.declared.property.Setting.{Setting}
+use Rattle.zw_text.specs.declared.entry.Outcome.{Outcome}
+use Rattle.zw_text.specs.declared.entry.Outcome.TheVariants.{Begun, Cancelled, Unanswered as never_answered}
+use Rattle.supervision.specs.Host.{told_of}
+use Rattle.supervision.specs.declared.host_node.Told.{Told}
+use Rattle.supervision.specs.declared.host_node.Told.TheVariants.{Final, Working, Old}
+use Rattle.s0_session.specs.Nonces.{live_of}
+use Rattle.serial_link.specs.State.{tick_side}
+use Rattle.host_requests.specs.declared.end.End.{End}
+use Rattle.host_requests.specs.declared.end.How.{How}
+use Rattle.host_requests.specs.declared.task.Purpose.{Purpose}
+use Rattle.host_requests.specs.declared.task.Purpose.TheVariants.{Housekeeping, Attempt, Abort}
+use Rattle.host_requests.specs.declared.task.Task.{Task}
+use Rattle.host_requests.specs.declared.task.Task.TheVariants.{NoMore, Offer, Segment}
+use Rattle.host_requests.specs.Events.{RequestsEvent, end_at}
+use Rattle.host_requests.specs.Events.RequestsEvent.{Fails as request_fails, Pushes as request_pushes}
+use Rattle.host_node.specs.declared.attempt.Moment.{Moment}
+use Rattle.host_node.specs.declared.attempt.Moment.TheVariants.{BeforeItsTick}
+use Rattle.host_node.specs.declared.attempt.AttemptEnd.{AttemptEnd}
+use Rattle.host_node.specs.declared.attempt.AttemptEnd.TheVariants.{NoneRan, Again, Unanswered}
+use Rattle.host_node.specs.State.{NodeState, is_running, unknown}
+use Rattle.host_node.specs.Steps.{after_told, as_recorded, attempt_end, tick_end, wait_ticks, with_wait}
+use Rattle.host_node.specs.Events.{NodeEvent, after as after_node}
+use Rattle.host_node.specs.Events.NodeEvent.{Begins as node_begins, Blocks as node_blocks, Cancels as node_cancels, Drops_no_more as node_drops_no_more, Ends_attempt as node_ends_attempt, Ends_no_more as node_ends_no_more, Gives_segment as node_gives_segment, Gives_text as node_gives_text, Holds as node_holds, Interviews as node_interviews, Joins as node_joins, Notifies as node_notifies, Puts as node_puts, Queues_no_more as node_queues_no_more, Reports as node_reports, Restarts as node_restarts, Restores_seen as node_restores_seen, Starts as node_starts, Succeeds as node_succeeds, Takes_back as node_takes_back, Takes_nonce as node_takes_nonce, Ticks as node_ticks}
+use Rattle.host_node.specs.Facts.{is_recorded}
+use Rattle.host_node.specs.TableState.{node_of as node_among, with_node as with_node_among}
+use Rattle.host_keep.specs.Status.{status_byte}
+use Rattle.host_keep.specs.declared.final_status.FinalStatus.{FinalStatus}
+use Rattle.host_model.specs.State.{HostState, command_at, node_of, with_outcome}
+use Rattle.host_model.specs.Sessions.{open_command, settings_with}
+use Rattle.host_model.specs.Ends.{PartEnd, Good, Passed_over, Bad, part_end, after_part, after_task, after_end, after_end_if, attempt_ended}
+use Rattle.host_model.specs.After.{after, requests_do, is_full, is_held, holding, finishing, confirming, giving, offering, gives_up, line_ticked, failing_if, node_does, node_for, outcome_of, queues_if_room}
+use Rattle.host_model.specs.Events.{HostEvent, Accepts, Cancels, Joins, Requests_do, Interviews, Works, Finishes, Offers, Gives, Takes_nonce, Notifies, Resends, Hears_value, Line_ticks, Node_ticks, Queues_no_more, Drops_no_more, Starts, Gives_text, Gives_segment, Begins, Begin_unkept}
+
+-- ---- a part of each node
+
+module _ {A : Type 0} (part : NodeState → A) where
+  abbrev pub part_of : List NodeState → ℕ → A
+  part_of nodes m = part (node_among nodes m)
+
+  pub part_set : (nodes : List NodeState) (n : ℕ) (state : NodeState) → part state ≡ part_of nodes n → (m : ℕ) → part_of (with_node_among nodes n state) m ≡ part_of nodes m
+  part_set nodes n state e m = elim (cases_eq m n) [
+    | inl same ↦ elim (cases_lt n (length nodes)) [
+      | inl within ↦ ap (λ (k : ℕ). part_of (with_node_among nodes n state) k) same
+          ∙ ap part (get_or-set_same nodes n state (unknown 0) within)
+          ∙ e ∙ ap (λ (k : ℕ). part_of nodes k) (sym same)
+      | inr past ↦ ap (λ (l : List NodeState). part_of l m) (set_past nodes n state past)
+    ]
+    | inr other ↦ ap part (get_or-set_other nodes n m state (unknown 0) other)
+  ]
+
+  -- the node that is changed, where it has a place, and the others
+  pub part_here : (nodes : List NodeState) (n : ℕ) (state : NodeState) → n < length nodes → part_of (with_node_among nodes n state) n ≡ part state
+  part_here nodes n state within = ap part (get_or-set_same nodes n state (unknown 0) within)
+
+  pub part_there : (nodes : List NodeState) (n : ℕ) (state : NodeState) (m : ℕ) → (m ≡ n → ⊥) → part_of (with_node_among nodes n state) m ≡ part_of nodes m
+  part_there nodes n state m other = ap part (get_or-set_other nodes n m state (unknown 0) other)
+
+-- ---- events of a node
+
+-- it is one of a host that goes on, and neither joins nor interviews the node
+abbrev pub IsOfNode : NodeEvent → Type 0
+IsOfNode node_joins = ⊥
+IsOfNode (node_interviews listens classes) = ⊥
+IsOfNode node_restarts = ⊥
+IsOfNode event = Unit {0}
+
+-- what is not recorded of a node leaves what is
+abbrev pub LeavesRecords : Type 0
+LeavesRecords = (n : NodeState) (event : NodeEvent) → is_recorded n event ≡ false → as_recorded (after_node n event) ≡ as_recorded n
+
+-- it is joined, and lists classes, as before
+pub record IsSameNode (old new : NodeState) : Type 0 where
+  pub joined : new.joined ≡ old.joined
+  pub classes : new.classes ≡ old.classes
+
+sign_same : (b : Bool) (n : NodeState) → IsSameNode n (if b then with_wait n wait_ticks else n)
+sign_same true n = record { joined = refl; classes = refl }
+sign_same false n = record { joined = refl; classes = refl }
+
+told_same : (n : NodeState) (status : ℕ) (told : Told) → IsSameNode n (after_told n status told)
+told_same n status (Final session) = record { joined = refl; classes = refl }
+told_same n status Working = sign_same (is_running n.series) n
+told_same n status Old = record { joined = refl; classes = refl }
+
+module _ (law : LeavesRecords) where
+  by_law : (n : NodeState) (event : NodeEvent) → is_recorded n event ≡ false → IsSameNode n (after_node n event)
+  by_law n event none = record { joined = ap (λ (s : NodeState). s.joined) (law n event none); classes = ap (λ (s : NodeState). s.classes) (law n event none) }
+
+  pub node_same : (n : NodeState) (event : NodeEvent) → IsOfNode event → IsSameNode n (after_node n event)
+  node_same n node_joins of = absurd of
+  node_same n (node_interviews listens classes) of = absurd of
+  node_same n node_restarts of = absurd of
+  node_same n (node_puts command) of = record { joined = refl; classes = refl }
+  node_same n node_takes_back of = record { joined = refl; classes = refl }
+  node_same n (node_cancels command) of = record { joined = refl; classes = refl }
+  node_same n node_begins of = record { joined = refl; classes = refl }
+  node_same n (node_takes_nonce seen text) of = record { joined = refl; classes = refl }
+  node_same n (node_restores_seen seen) of = record { joined = refl; classes = refl }
+  node_same n (node_reports id status) of = told_same n status (told_of n.book id status)
+  node_same n event of = by_law n event refl
+
+-- ---- events of a host
+
+-- what stays so where nothing of it changes, from one change to the next, and at each of the three
+pub record Keeping (Keeps : HostState → HostState → Type 0) : Type 0 where
+  pub still : (old new : HostState) → new.nodes ≡ old.nodes → new.commands ≡ old.commands → new.store ≡ old.store → Keeps old new
+  pub both : (a b c : HostState) → Keeps a b → Keeps b c → Keeps a c
+  pub node : (h : HostState) (n : ℕ) (event : NodeEvent) → IsOfNode event → Keeps h (node_does h n event)
+  pub outcome : (h : HostState) (command : ℕ) (how : Outcome) → Keeps h (record h { commands = with_outcome h.commands command how })
+  pub confirms : (h : HostState) (n : ℕ) (settings : List Setting) → Keeps h (record h { store = confirming h.store n settings })
+
+-- it is none of the four
+abbrev pub IsCommon : HostEvent → Type 0
+IsCommon (Accepts order carriage) = ⊥
+IsCommon (Joins n) = ⊥
+IsCommon (Interviews n listens classes update) = ⊥
+IsCommon (Hears_value n setting) = ⊥
+IsCommon event = Unit {0}
+
+module _ (Keeps : HostState → HostState → Type 0) (rules : Keeping Keeps) where
+  same : (h : HostState) → Keeps h h
+  same h = rules.still h h refl refl refl
+
+  -- something happens to a node, and to what is kept nothing else
+  does : (h new : HostState) (n : ℕ) (event : NodeEvent) → IsOfNode event → new.nodes ≡ (node_does h n event).nodes → new.commands ≡ h.commands → new.store ≡ h.store → Keeps h new
+  does h new n event of nodes commands store =
+      rules.both h (node_does h n event) new (rules.node h n event of) (rules.still (node_does h n event) new nodes commands store)
+
+  attempt_kept : (h : HostState) (end : AttemptEnd) (command : Option ℕ) → Keeps h (attempt_ended h end command)
+  attempt_kept h NoneRan command = same h
+  attempt_kept h Again command = same h
+  attempt_kept h (Unanswered fell) None = same h
+  attempt_kept h (Unanswered fell) (Some command) = rules.outcome h command never_answered
+
+  part_kept : (h : HostState) (n : ℕ) (end : PartEnd) (moment : Moment) → Keeps h (after_part h n end moment)
+  part_kept h n Good moment = rules.node h n node_succeeds tt
+  part_kept h n Passed_over moment = same h
+  part_kept h n Bad moment =
+      let ended : HostState = node_does h n (node_ends_attempt moment) in
+      rules.both h ended (after_part h n Bad moment) (rules.node h n (node_ends_attempt moment) tt) (attempt_kept ended (attempt_end (node_of h n)) (open_command (node_of h n)))
+
+  task_kept : (h : HostState) (task : Task) → Keeps h (after_task h task)
+  task_kept h (NoMore n) = rules.node h n node_ends_no_more tt
+  task_kept h _ = same h
+
+  end_kept : (h : HostState) (purpose : Purpose) (how : How) (moment : Moment) → Keeps h (after_end h (record { purpose = purpose; how = how }) moment)
+  end_kept h (Attempt n more payload) how moment = part_kept h n (part_end more how) moment
+  end_kept h (Housekeeping task) how moment = task_kept h task
+  end_kept h Abort how moment = same h
+
+  end_if_kept : (h : HostState) (end : Option End) (moment : Moment) → Keeps h (after_end_if h end moment)
+  end_if_kept h None moment = same h
+  end_if_kept h (Some end) moment = end_kept h end.purpose end.how moment
+
+  request_kept : (h : HostState) (event : RequestsEvent) (moment : Moment) → Keeps h (after_end_if (requests_do h event) (end_at h.requests event) moment)
+  request_kept h event moment =
+      rules.both h (requests_do h event) (after_end_if (requests_do h event) (end_at h.requests event) moment) (rules.still h (requests_do h event) refl refl refl)
+      (end_if_kept (requests_do h event) (end_at h.requests event) moment)
+
+  failing_kept : (gives : Bool) (h : HostState) → Keeps h (failing_if gives h)
+  failing_kept true h = request_kept h request_fails BeforeItsTick
+  failing_kept false h = same h
+
+  task_queued : (h : HostState) (task : Task) → Keeps h (queues_if_room h task)
+  task_queued h task = by (is_full h)
+    where
+      by : (full : Bool) → Keeps h (if full then h else requests_do h (request_pushes task))
+      by true = same h
+      by false = rules.still h (requests_do h (request_pushes task)) refl refl refl
+
+  offering_kept : (h : HostState) (n : ℕ) (live : Option (List ℕ)) → Keeps h (offering h n live)
+  offering_kept h n None = same h
+  offering_kept h n (Some nonce) = task_queued h (Offer n nonce)
+
+  holding_kept : (h : HostState) (n : ℕ) (held : Bool) → Keeps h (holding h n held)
+  holding_kept h n true = rules.node h n node_holds tt
+  holding_kept h n false = same h
+
+  finishing_kept : (h : HostState) (n id command : ℕ) (status : FinalStatus) → Keeps h (finishing h n id command status)
+  finishing_kept h n id command status =
+      let told : HostState = node_does h n (node_reports id (status_byte status)) in
+      let ended : HostState = record told { commands = with_outcome h.commands command (outcome_of status) } in
+      rules.both h told (finishing h n id command status) (rules.node h n (node_reports id (status_byte status)) tt)
+      (rules.both told ended (finishing h n id command status) (rules.outcome told command (outcome_of status)) (rules.confirms ended n (settings_with status (command_at h.commands command))))
+
+  pub each_kept : (h : HostState) (event : HostEvent) → IsCommon event → Keeps h (after h event)
+  each_kept h (Accepts order carriage) common = absurd common
+  each_kept h (Joins n) common = absurd common
+  each_kept h (Interviews n listens classes update) common = absurd common
+  each_kept h (Hears_value n setting) common = absurd common
+  each_kept h (Cancels command) common =
+      let n = node_for h command in
+      rules.both h (node_does h n (node_cancels command)) (after h (Cancels command)) (rules.node h n (node_cancels command) tt)
+      (rules.outcome (node_does h n (node_cancels command)) command Cancelled)
+  each_kept h (Begins n session command) common =
+      rules.both h (node_does h n node_begins) (after h (Begins n session command)) (rules.node h n node_begins tt) (rules.outcome (node_does h n node_begins) command Begun)
+  each_kept h (Requests_do event moment) common = request_kept h event moment
+  each_kept h (Works n id) common = rules.node h n (node_reports id 1) tt
+  each_kept h (Finishes n session id command status wake_request) common =
+      let done = finishing h n id command status in
+      rules.both h done (after h (Finishes n session id command status wake_request)) (finishing_kept h n id command status) (holding_kept done n (is_held h n wake_request))
+  each_kept h (Offers n) common = offering_kept h n (live_of h.nonces n)
+  each_kept h (Gives n drawn) common =
+      let given = giving h n drawn in
+      rules.both h given (after h (Gives n drawn)) (rules.still h given refl refl refl) (offering_kept given n (live_of given.nonces n))
+  each_kept h (Takes_nonce n seen text) common = rules.node h n (node_takes_nonce seen text) tt
+  each_kept h (Notifies n) common = rules.node h n node_notifies tt
+  each_kept h (Resends n payload) common = task_queued h (Segment n payload)
+  each_kept h Line_ticks common =
+      rules.both h (line_ticked h) (after h Line_ticks) (rules.still h (line_ticked h) refl refl refl) (failing_kept (gives_up h.side.turn (tick_side h.side).turn) (line_ticked h))
+  each_kept h (Node_ticks n) common =
+      let ticked = node_does h n node_ticks in
+      rules.both h ticked (after h (Node_ticks n)) (rules.node h n node_ticks tt) (attempt_kept ticked (tick_end (node_of h n)) (open_command (node_of h n)))
+  each_kept h (Queues_no_more n) common = does h (after h (Queues_no_more n)) n node_queues_no_more tt refl refl refl
+  each_kept h (Drops_no_more n) common = rules.node h n node_drops_no_more tt
+  each_kept h (Starts n plan more payload) common = does h (after h (Starts n plan more payload)) n (node_starts plan) tt refl refl refl
+  each_kept h (Gives_text n payload) common = does h (after h (Gives_text n payload)) n node_gives_text tt refl refl refl
+  each_kept h (Gives_segment n more payload) common = does h (after h (Gives_segment n more payload)) n node_gives_segment tt refl refl refl
+  each_kept h (Begin_unkept n) common = rules.node h n node_blocks tt
+  each_kept h event common = rules.still h (after h event) refl refl refl
