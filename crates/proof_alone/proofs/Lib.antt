@@ -14,6 +14,6 @@ pub mod Apart
 pub mod Timing
 pub mod InOrder
 pub mod Tabling
-mod Answering
+pub mod Answering
 pub mod Carrying
 pub mod Listening

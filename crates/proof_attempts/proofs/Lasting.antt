@@ -1,6 +1,8 @@
 -- A tie that pays what it owes goes on along each run of a host alone.
 use Rattle.std.proofs.Common.{◌≡◌, ℕ, ◌+◌, true, false, inl, inr, List, [], ◌∷◌, ◌++◌, refl, sym, ap, ◌∙◌, subst, append-nil, append_assoc}
 use Rattle.std.specs.List.{AllByRecursion}
+use Rattle.std.specs.Prelude.{Some}
+use Rattle.s0_crypto.specs.declared.key_pair.Keys.{Keys}
 use Rattle.std.proofs.lemmas.Bool.{both_ways}
 use Rattle.zw_words.specs.declared.side.Side.TheVariants.{Chip}
 use Rattle.zw_text.specs.declared.line.Line.{Line}
@@ -8,16 +10,19 @@ use Rattle.zw_text.specs.declared.line.Line.TheVariants as lines
 use Rattle.zw_text.specs.declared.entry.Refusal.{Refusal}
 use Rattle.zw_text.specs.declared.entry.Entry.{Entry}
 use Rattle.zw_text.specs.declared.entry.Entry.TheVariants as entry
+use Rattle.law_transcript.specs.Lists.{EachAfter}
 use Rattle.law_transcript.specs.Restarts.{is_restart}
 use Rattle.host_model.specs.State.{HostState}
 use Rattle.host_model.specs.Events.{HostEvent}
 use Rattle.world_model.specs.Events.{shown_values}
-use Rattle.proof_alone.specs.State.{HostMachine}
+use Rattle.proof_alone.specs.State.{HostMachine, first_alone}
 use Rattle.proof_alone.specs.Steps.{DidNotCome, IsOfOthers, Step, Tells, Comes, Misses, Says, Says_nothing, Asks, Refuses, Shows, Restarts, Begins_tick, Numbers, Judges, Does, entries, happens}
 use Rattle.proof_alone.specs.Phases.{Phase, Resting, Asked, Risen, Ticking, Open, Behind, Sleeping, Submitting, GoesBy, IsBetween, May, Turns}
-use Rattle.proof_alone.specs.Runs.{Knowledge, Walk, both_know}
+use Rattle.proof_alone.specs.Runs.{Knowledge, Run, Walk, WalkOver, both_know}
+use Rattle.proof_alone.specs.Runs.Run.{Begins, Turned, Stepped}
+use Rattle.proof_alone.proofs.Running.{run_keeps}
 use Rattle.proof_waking.proofs.Judging.{asked_on, nothing_on}
-use Rattle.proof_attempts.specs.Since.{BeforeWords, IsElse, IsLoose, KnowsSince, Lasts, TieOf, WalkBoth}
+use Rattle.proof_attempts.specs.Since.{AlongRuns, BeforeWords, IsElse, IsLoose, KnowsSince, Lasts, TieOf, WalkBoth}
 
 -- ---- entries
 
@@ -182,10 +187,33 @@ over_both Law Ground Know ground walk = record {
   turn = λ here next past m turns known. (ground.turn here next past m turns known.0, walk.turn here next past m turns known.0 known.1);
 }
 
--- and on a ground that tells more
-pub on_more : (Big Ground Know : Knowledge) → ((here : Phase) (past : List Entry) (m : HostMachine) → Big here past m → Ground here past m) → WalkBoth Ground Know → WalkBoth Big Know
-on_more Big Ground Know tells walk = record {
-  step = λ here next past m one may ground later known.
-      walk.step here next past m one may (tells here past m ground) (tells next (past ++ entries m one) (happens m one) later) known;
-  turn = λ here next past m turns ground known. walk.turn here next past m turns (tells here past m ground) known;
-}
+-- ---- along runs
+
+module _ (keys : Keys) (Ground Know : Knowledge) (grounds : AlongRuns keys Ground) where
+  -- what lasts on a ground that holds along them
+  pub along : WalkBoth Ground Know → Know Resting [] (first_alone keys (Some [])) → AlongRuns keys Know
+  along walk first here told m run = by run
+    where
+      by : {here : Phase} {told : List Entry} {m : HostMachine} → Run (first_alone keys (Some [])) here told m → Know here told m
+      by Begins = first
+      by {here = next} {told = told} {m = m} (Turned {here = here} turns run) = walk.turn here next told m turns (grounds here told m run) (by run)
+      by {here = next} {m = later} (Stepped {here = here} {told = told} {m = m} one may all_is later_is run) =
+          subst (λ (l : List Entry). Know next l later) (sym all_is)
+          (subst (λ (k : HostMachine). Know next (told ++ entries m one) k) (sym later_is)
+          (walk.step here next told m one may (grounds here told m run) (grounds next (told ++ entries m one) (happens m one) (Stepped one may refl refl run)) (by run)))
+
+  each_any : (past told : List Entry) → EachAfter (λ past e. Unit {0}) past told
+  each_any past [] = tt
+  each_any past (e ∷ told) = (tt, each_any (past ++ e ∷ []) told)
+
+  -- and a law over it
+  pub law_along : (Law : List Entry → Entry → Type 0) → WalkOver Ground (λ past e. Unit {0}) Law Know → Know Resting [] (first_alone keys (Some [])) → (here : Phase) (told : List Entry) (m : HostMachine)
+      → Run (first_alone keys (Some [])) here told m → EachAfter Law [] told
+  law_along Law walk first here told m run = (run_keeps Law (both_know (λ here past m. Run (first_alone keys (Some [])) here past m) Know) reached [] run (Begins, first)).0
+    where
+      reached : Walk Law (both_know (λ here past m. Run (first_alone keys (Some [])) here past m) Know)
+      reached = record {
+        step = λ here next past m one may known.
+            let got = walk.step here next past m one may (grounds here past m known.0) (each_any past (entries m one)) known.1 in (got.0, (Stepped one may refl refl known.0, got.1));
+        turn = λ here next past m turns known. (Turned turns known.0, walk.turn here next past m turns (grounds here past m known.0) known.1);
+      }

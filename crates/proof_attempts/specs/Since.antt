@@ -1,9 +1,10 @@
 -- What is known of a host alone since it started (this project's own rule): the words of a `restart` are taken back where it is refused, so while a line is asked it is known of what stood
 -- before its words. And how far each node has come in a tick.
-use Rattle.std.specs.Prelude.{◌≡◌, ℕ, ◌+◌, ◌-◌, ◌≤◌, ◌==◌, ◌||◌, Bool, true, false, if◌then◌else◌, List, [], ◌∷◌, ◌++◌, map}
+use Rattle.std.specs.Prelude.{◌≡◌, ℕ, ◌+◌, ◌-◌, ◌≤◌, ◌==◌, ◌||◌, Bool, true, false, if◌then◌else◌, List, [], ◌∷◌, ◌++◌, map, Some}
 use Rattle.std.specs.List.{AllByRecursion}
 use Rattle.serial_frame.specs.declared.item.Item.{Item}
 use Rattle.serial_frame.specs.declared.unit.Unit.{Unit as LineUnit}
+use Rattle.s0_crypto.specs.declared.key_pair.Keys.{Keys}
 use Rattle.zw_words.specs.declared.side.Side.TheVariants.{Chip}
 use Rattle.zw_text.specs.declared.line.Line.{Line}
 use Rattle.zw_text.specs.declared.line.Line.TheVariants as lines
@@ -21,10 +22,10 @@ use Rattle.host_model.specs.Events.{HostEvent, Accepts, Begins, Hears, Line_tick
 use Rattle.host_model.specs.After.{after}
 use Rattle.host_model.specs.Outs.{answers}
 use Rattle.world_model.specs.Events.{OpensFrom}
-use Rattle.proof_alone.specs.State.{HostMachine, done}
+use Rattle.proof_alone.specs.State.{HostMachine, done, first_alone}
 use Rattle.proof_alone.specs.Steps.{Does, IsAskedBy, Says, Step, entries, happens}
 use Rattle.proof_alone.specs.Phases.{Phase, Resting, Asked, Risen, Ticking, Open, Behind, IsJudgedNow, IsNumbered, May, Turns}
-use Rattle.proof_alone.specs.Runs.{Knowledge, both_know}
+use Rattle.proof_alone.specs.Runs.{Knowledge, Run, both_know}
 use Rattle.proof_alone.specs.Tables.{KnowsTables}
 use Rattle.proof_alone.specs.Time.{KnowsClock}
 
@@ -132,6 +133,10 @@ pub record WalkBoth (Ground Know : Knowledge) : Type 0 where
   pub step : (here next : Phase) (past : List Entry) (m : HostMachine) (one : Step) → May here m one next → Ground here past m → Ground next (past ++ entries m one) (happens m one) → Know here past m
       → Know next (past ++ entries m one) (happens m one)
   pub turn : (here next : Phase) (past : List Entry) (m : HostMachine) → Turns here m next → Ground here past m → Know here past m → Know next past m
+
+-- so it is at each step of a host that starts with these keys, over a keeper that tells its records and has none at first
+abbrev pub AlongRuns : Keys → Knowledge → Type 0
+AlongRuns keys Know = (here : Phase) (told : List Entry) (m : HostMachine) → Run (first_alone keys (Some [])) here told m → Know here told m
 
 -- What a tie owes to go on along each run, on a ground: with entries that are loose and the number of a tick, with words that do not start the host again or are refused; with what a line asks,
 -- and where the host starts again; with an item, an event, and each tick and part that begins.

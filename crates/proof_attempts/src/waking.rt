@@ -5,18 +5,18 @@ ghost use Rattle.s0_crypto.specs.declared.key_pair.Keys.{Keys};
 ghost use Rattle.zw_text.specs.declared.entry.Entry.{Entry};
 ghost use Rattle.law_time.specs.Holds.{held_until};
 ghost use Rattle.law_time.specs.Waking.{counts_awake};
-ghost use Rattle.host_model.specs.State.{first_host, node_of};
+ghost use Rattle.host_model.specs.State.{node_of};
 ghost use Rattle.proof_host.specs.Laws.{MayStand};
 ghost use Rattle.proof_alone.specs.State.{HostMachine, first_alone};
-ghost use Rattle.proof_alone.specs.Phases.{Phase, Resting};
+ghost use Rattle.proof_attempts.specs.Waking.{KnowsListening};
+ghost use Rattle.proof_alone.specs.Phases.{Resting};
 ghost use Rattle.proof_alone.specs.Runs.{Run, Walk, both_know};
 ghost use Rattle.proof_alone.specs.Tables.{KnowsTables};
-ghost use Rattle.proof_walk.specs.Time.{MayCount};
-ghost use Rattle.proof_attempts.specs.Since.{KnowsSince};
-ghost use Rattle.proof_attempts.specs.Waking.{CountsAwake, HeldAsTold, KnowsHearing, KnowsListening, KnowsWork};
+ghost use Rattle.proof_attempts.specs.Since.{AlongRuns, KnowsSince};
+ghost use Rattle.proof_attempts.specs.Waking.{CountsAwake, HeldAsTold};
 
-use crate::work::hosts_work_in_order;
-use proof_alone::{hosts_keep_their_tables, hosts_tell_time};
+use crate::work::hosts_know_their_work;
+use proof_alone::hosts_keep_their_tables;
 use proof_work::work_in_order_means;
 
 /// In any run of a host alone, also where it starts again, over a keeper that tells its records and has none at first: at each step, and wherever a part
@@ -30,18 +30,13 @@ pub fn hosts_count_awake()
     hosts_keep_their_tables();
 }
 
-/// In such a run each node is held for as many ticks as its transcript tells, where each node listens by it as it does in the host; in a tick, by how far
-/// it has come itself.
+/// In such a run each node is held for as many ticks as its transcript tells, where along such runs each node listens by it as it does in the host; in a tick,
+/// by how far it has come itself.
 pub fn hosts_hold_as_told()
-    ensures work { Walk MayCount KnowsWork }
-    ensures begins { (keys : Keys) → KnowsWork Resting [] (first_alone keys (Some [])) }
-    ensures walk { Walk MayCount KnowsHearing → Walk MayCount (both_know KnowsHearing (KnowsSince HeldAsTold)) }
-    ensures first { (keys : Keys) → HeldAsTold Resting [] (first_host keys) 0 }
-    ensures rests { Walk MayCount KnowsHearing → (keys : Keys) (told : List Entry) (m : HostMachine) → KnowsListening Resting [] (first_alone keys (Some [])) →
-        Run (first_alone keys (Some [])) Resting told m → (n : ℕ) → 1 ≤ n → n ≤ 232 → (node_of m.state n).hold ≡ held_until n told - m.clock }
+    ensures along { (keys : Keys) → AlongRuns keys KnowsListening → AlongRuns keys (KnowsSince HeldAsTold) }
+    ensures rests { (keys : Keys) → AlongRuns keys KnowsListening → (told : List Entry) (m : HostMachine) → Run (first_alone keys (Some [])) Resting told m →
+        (n : ℕ) → 1 ≤ n → n ≤ 232 → (node_of m.state n).hold ≡ held_until n told - m.clock }
 {
-    hosts_keep_their_tables();
-    hosts_tell_time();
-    hosts_work_in_order();
+    hosts_know_their_work();
     work_in_order_means();
 }

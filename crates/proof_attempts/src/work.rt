@@ -3,21 +3,19 @@
 ghost use Rattle.std.specs.Prelude.{Some, List, [], ℕ};
 ghost use Rattle.s0_crypto.specs.declared.key_pair.Keys.{Keys};
 ghost use Rattle.zw_text.specs.declared.entry.Entry.{Entry};
-ghost use Rattle.host_model.specs.State.{first_host};
 ghost use Rattle.proof_host.specs.Laws.{MayStand};
-ghost use Rattle.proof_walk.specs.Time.{MayCount};
 ghost use Rattle.proof_alone.specs.State.{HostMachine, first_alone};
 ghost use Rattle.proof_alone.specs.Phases.{Phase, Resting};
 ghost use Rattle.proof_alone.specs.Runs.{Run, Walk, both_know};
 ghost use Rattle.proof_alone.specs.Tables.{KnowsTables};
 ghost use Rattle.proof_work.specs.Rests.{IsTended};
 ghost use Rattle.proof_work.specs.Work.{HostWork};
-ghost use Rattle.proof_attempts.specs.Since.{KnowsSince};
+ghost use Rattle.proof_attempts.specs.Since.{AlongRuns, KnowsSince};
 ghost use Rattle.proof_attempts.specs.Waiting.{WaitInOrder};
 ghost use Rattle.proof_attempts.specs.Waking.{KnowsWork};
 ghost use Rattle.proof_attempts.specs.Working.{WorksInOrder};
 
-use proof_alone::hosts_keep_their_tables;
+use proof_alone::{hosts_keep_their_tables, hosts_tell_time};
 use proof_work::{
     hosts_are_tended, hosts_do_these, hosts_keep_their_work, turns_of_a_pump_leave_nothing,
 };
@@ -38,8 +36,18 @@ pub fn hosts_work_in_order()
     hosts_are_tended();
 }
 
-/// In such a run, while a node is told that there is no more for it, it waits for no other series of attempts, or no command waits for it.
+/// So along each such run its tables, its clock and its work are known, and which events of a tick or of an item are to come.
+pub fn hosts_know_their_work()
+    ensures { (keys : Keys) → AlongRuns keys KnowsWork }
+{
+    hosts_keep_their_tables();
+    hosts_tell_time();
+    hosts_work_in_order();
+}
+
+/// There, while a node is told that there is no more for it, it waits for no other series of attempts, or no command waits for it.
 pub fn hosts_tell_those_that_wait_for_nothing()
-    ensures walk { Walk MayCount KnowsWork → Walk MayCount (both_know KnowsWork (KnowsSince WaitInOrder)) }
-    ensures first { (keys : Keys) → WaitInOrder Resting [] (first_host keys) 0 }
-{}
+    ensures { (keys : Keys) → AlongRuns keys (KnowsSince WaitInOrder) }
+{
+    hosts_know_their_work();
+}

@@ -1,31 +1,47 @@
--- The tie lasts over what each node is told and waits for, and is so at first.
+-- The tie lasts over what each node is told and waits for, and is so at first; and each acceptance counts for its node.
 use Rattle.std.proofs.Common.{[], refl}
-use Rattle.proof_walk.specs.Time.{MayCount}
+use Rattle.std.specs.Prelude.{Some}
+use Rattle.s0_crypto.specs.declared.key_pair.Keys.{Keys}
+use Rattle.zw_text.specs.Transcript.{not_accepting}
+use Rattle.proof_host.specs.Laws.{MayStand}
+use Rattle.proof_host.proofs.Lists.{each-weaker}
+use Rattle.proof_alone.specs.Answering.{AsOrdered, MayAnswer}
+use Rattle.proof_alone.specs.Phases.{Resting}
 use Rattle.proof_alone.specs.Runs.{Walk, both_know}
+use Rattle.proof_alone.specs.State.{first_alone}
 use Rattle.proof_alone.specs.Tables.{KnowsTables}
-use Rattle.proof_alone.proofs.Running.{run_keeps}
-use Rattle.proof_attempts.specs.Series.{KnowsKept, KnowsSeries, RunsAsTold}
-use Rattle.proof_attempts.specs.Since.{KnowsSince}
-use Rattle.proof_attempts.specs.Waiting.{WaitInOrder}
-use Rattle.proof_attempts.specs.Waking.{CountsAwake, KnowsWork}
-use Rattle.proof_attempts.proofs.Counting.{awake_lasts, first_awake}
-use Rattle.proof_attempts.proofs.Doings.{first_well, well_last}
-use Rattle.proof_attempts.proofs.Lasting.{on_more, over_both, since_walk}
+use Rattle.proof_alone.specs.Words.{KnowsWords}
+use Rattle.proof_alone.proofs.Answering.{answers_walk}
+use Rattle.proof_alone.proofs.Carrying.{numbers_from}
+use Rattle.proof_alone.proofs.Running.{over, run_keeps}
+use Rattle.proof_attempts.specs.Series.{KnowsNumbers, KnowsSeries, RunsAsTold}
+use Rattle.proof_attempts.specs.Since.{AlongRuns, KnowsSince}
+use Rattle.proof_attempts.specs.Waking.{CountsAwake}
+use Rattle.proof_attempts.proofs.Lasting.{along, since_walk}
 use Rattle.proof_attempts.proofs.SeriesSteps.{first_runs}
 use Rattle.proof_attempts.proofs.SeriesTie.{runs_last}
 use Rattle.proof_attempts.proofs.series.hosts_run_series_as_told.Goals as goal
 
-ground_walk : Walk MayCount KnowsKept → Walk MayCount KnowsSeries
-ground_walk kept =
-    over_both MayCount (both_know KnowsKept (KnowsSince CountsAwake)) (KnowsSince WaitInOrder)
-    (over_both MayCount KnowsKept (KnowsSince CountsAwake) kept
-    (on_more KnowsKept KnowsTables (KnowsSince CountsAwake) (λ here past m known. known.0.0.0.0.0) (since_walk CountsAwake KnowsTables awake_lasts)))
-    (on_more (both_know KnowsKept (KnowsSince CountsAwake)) KnowsWork (KnowsSince WaitInOrder) (λ here past m known. known.0.0.0) (since_walk WaitInOrder KnowsWork well_last))
+-- each order is accepted directly after its words
+numbers_along : (keys : Keys) → Walk MayStand KnowsTables → KnowsTables Resting [] (first_alone keys (Some [])) → AlongRuns keys KnowsNumbers
+numbers_along keys tables first here told m run n =
+    let each = (run_keeps MayAnswer (both_know KnowsTables KnowsWords) (over KnowsTables MayStand MayAnswer KnowsWords tables answers_walk) [] run (first, tt)).0 in
+    numbers_from n not_accepting [] told refl (each-weaker MayAnswer AsOrdered (λ past e may. may.order) [] told each)
 
-pub returns-clause-walk : goal.returns-clause-walk
-returns-clause-walk c = λ kept. over_both MayCount KnowsSeries (KnowsSince RunsAsTold) (ground_walk kept) (since_walk RunsAsTold KnowsSeries runs_last)
+pub returns-clause-along : goal.returns-clause-along
+returns-clause-along c = λ keys hears.
+    along keys KnowsSeries (KnowsSince RunsAsTold)
+    (λ here told m run. (
+      (
+        (
+          (c.hosts_know_their_work.ensures keys here told m run, hears here told m run),
+          numbers_along keys c.hosts_keep_their_tables.ensures.walk (c.hosts_keep_their_tables.ensures.first keys) here told m run,
+        ),
+        (run_keeps MayStand (both_know KnowsTables (KnowsSince CountsAwake)) c.hosts_count_awake.ensures.walk [] run (c.hosts_count_awake.ensures.first keys)).1.1,
+      ),
+      c.hosts_tell_those_that_wait_for_nothing.ensures keys here told m run,
+    ))
+    (since_walk RunsAsTold KnowsSeries runs_last) (first_runs keys)
 
 pub returns-clause-rests : goal.returns-clause-rests
-returns-clause-rests c = λ kept keys told m hears run n from to.
-    ((run_keeps MayCount (both_know KnowsSeries (KnowsSince RunsAsTold)) (returns-clause-walk c kept) [] run
-    (((((c.hosts_hold_as_told.ensures.begins keys, hears), λ k. refl), first_awake keys), first_well keys), first_runs keys)).1.1 n from to).runs
+returns-clause-rests c = λ keys hears told m run n from to. (returns-clause-along c keys hears Resting told m run n from to).runs

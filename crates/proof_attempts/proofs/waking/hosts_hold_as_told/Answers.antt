@@ -1,60 +1,15 @@
--- The tie lasts over the tables, the clock, what is left of a tick, the work of the host and which nodes listen, and is so at first.
-use Rattle.std.proofs.Common.{◌≡◌, true, false, inl, [], refl, arith}
-use Rattle.std.specs.Prelude.{Some}
-use Rattle.s0_crypto.specs.declared.key_pair.Keys.{Keys}
-use Rattle.proof_host.specs.Laws.{MayStand}
-use Rattle.proof_walk.specs.Time.{MayCount}
-use Rattle.proof_alone.specs.Runs.{Walk, both_know}
-use Rattle.proof_alone.specs.State.{first_alone}
-use Rattle.proof_alone.specs.Tables.{KnowsTables}
-use Rattle.proof_alone.specs.Time.{KnowsClock, TieClock}
-use Rattle.proof_alone.proofs.Running.{over, run_keeps}
-use Rattle.proof_attempts.specs.Since.{InTick, KnowsSince, KnowsTicks}
-use Rattle.proof_attempts.specs.Waking.{HeldAsTold, KnowsHearing, KnowsWork}
-use Rattle.proof_attempts.specs.Working.{WorksInOrder}
+-- The tie lasts over the work of the host and which nodes listen, and is so at first.
+use Rattle.proof_alone.specs.Phases.{Resting}
+use Rattle.proof_attempts.specs.Since.{KnowsSince}
+use Rattle.proof_attempts.specs.Waking.{HeldAsTold, KnowsHearing}
 use Rattle.proof_attempts.proofs.Holding.{first_held, held_lasts}
-use Rattle.proof_attempts.proofs.Lasting.{over_both, since_walk}
-use Rattle.proof_attempts.proofs.Ticking.{ticks_last}
+use Rattle.proof_attempts.proofs.Lasting.{along, since_walk}
 use Rattle.proof_attempts.proofs.waking.hosts_hold_as_told.Goals as goal
 
-ticks_walk : Walk MayStand KnowsTables → Walk MayCount KnowsClock → Walk MayCount KnowsTicks
-ticks_walk tables time =
-    let both : Walk MayCount (both_know KnowsTables KnowsClock) =
-    over KnowsTables MayStand MayCount KnowsClock tables (record {
-      step = λ here next past m one may ground stand known. time.step here next past m one may known;
-      turn = λ here next past m turns ground known. time.turn here next past m turns known;
-    }) in
-    over_both MayCount (both_know KnowsTables KnowsClock) (KnowsSince InTick) both (since_walk InTick (both_know KnowsTables KnowsClock) (ticks_last (both_know KnowsTables KnowsClock)))
-
-work_walk : Walk MayCount KnowsTicks → Walk MayStand (both_know KnowsTables (KnowsSince WorksInOrder)) → Walk MayCount KnowsWork
-work_walk ticks work =
-    over KnowsTicks MayCount MayCount (KnowsSince WorksInOrder) ticks (record {
-      step = λ here next past m one may ground stand known. (stand, (work.step here next past m one may (ground.0.0, known)).1.1);
-      turn = λ here next past m turns ground known. (work.turn here next past m turns (ground.0.0, known)).1;
-    })
-
-pub returns-clause-work : goal.returns-clause-work
-returns-clause-work c = work_walk (ticks_walk c.hosts_keep_their_tables.ensures.walk c.hosts_tell_time.ensures.walk) c.hosts_work_in_order.ensures.walk
-
-first_clock : (keys : Keys) → TieClock [] (first_alone keys (Some []))
-first_clock keys = record {
-  asked = refl;
-  all = refl;
-  begun = omega arith;
-  shown = omega arith;
-  later = λ is. absurd (let bad : false ≡ true = is in cc);
-  now = λ is. inl refl;
-}
-
-pub returns-clause-begins : goal.returns-clause-begins
-returns-clause-begins c = λ keys. (((c.hosts_keep_their_tables.ensures.first keys, first_clock keys), tt), (c.hosts_work_in_order.ensures.first keys).1)
-
-pub returns-clause-walk : goal.returns-clause-walk
-returns-clause-walk c = λ ground. over_both MayCount KnowsHearing (KnowsSince HeldAsTold) ground (since_walk HeldAsTold KnowsHearing (held_lasts c.work_in_order_means.ensures.told))
-
-pub returns-clause-first : goal.returns-clause-first
-returns-clause-first c = first_held
+pub returns-clause-along : goal.returns-clause-along
+returns-clause-along c = λ keys hears.
+    along keys KnowsHearing (KnowsSince HeldAsTold) (λ here told m run. (c.hosts_know_their_work.ensures keys here told m run, hears here told m run))
+    (since_walk HeldAsTold KnowsHearing (held_lasts c.work_in_order_means.ensures.told)) (first_held keys)
 
 pub returns-clause-rests : goal.returns-clause-rests
-returns-clause-rests c = λ ground keys told m hears run n from to.
-    (run_keeps MayCount (both_know KnowsHearing (KnowsSince HeldAsTold)) (returns-clause-walk c ground) [] run ((returns-clause-begins c keys, hears), first_held keys)).1.1 n from to
+returns-clause-rests c = λ keys hears told m run n from to. returns-clause-along c keys hears Resting told m run n from to
