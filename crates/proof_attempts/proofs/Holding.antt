@@ -38,8 +38,8 @@ use Rattle.proof_alone.proofs.Apart.{AreOfLine, told_are}
 use Rattle.proof_alone.proofs.InOrder.{asked_puts, is_asked}
 use Rattle.proof_waking.proofs.Apart.{IsWordless}
 use Rattle.proof_attempts.specs.Since.{InTick, IsBetweenTicks, IsLoose, IsOfItem, Lasts, TicksAt, is_to_tick, node_clock}
-use Rattle.proof_attempts.specs.Waking.{KnowsListening}
-use Rattle.proof_attempts.specs.Waking.{HeldAsTold, KnowsHearing, KnowsListening, KnowsWork, TellsAwake, Waking, one_less, releases_of, waking_before, waking_in, waking_step}
+use Rattle.proof_alone.specs.Listening.{KnowsListening}
+use Rattle.proof_attempts.specs.Waking.{HeldAsTold, KnowsHearing, KnowsWork, TellsAwake, Waking, one_less, releases_of, waking_before, waking_in, waking_step}
 use Rattle.proof_attempts.proofs.Ahead.{ahead_from, ahead_joined}
 use Rattle.proof_attempts.proofs.Counting.{answers_quiet, answers_wordless, each_starts, first_waking, loose_quiet, loose_wordless, told_notes, told_wordless}
 use Rattle.proof_attempts.proofs.Lasting.{by_else, rest_of}

@@ -7,13 +7,13 @@ use Rattle.zw_text.specs.declared.entry.Entry.TheVariants as entry
 use Rattle.host_node.specs.State.{NodeState}
 use Rattle.host_node.specs.TableState.{node_of as node_among}
 use Rattle.law_time.specs.Holds.{held_until}
-use Rattle.law_time.specs.Interviews.{listens}
 use Rattle.law_time.specs.Judged.{last_of}
 use Rattle.law_time.specs.Waking.{counts_awake}
 use Rattle.host_model.specs.State.{HostState, node_of}
 use Rattle.host_model.specs.Events.{HostEvent, Node_ticks}
 use Rattle.host_model.specs.Facts.{HostFacts}
 use Rattle.proof_work.specs.Work.{times_told}
+use Rattle.proof_alone.specs.Listening.{KnowsListening}
 use Rattle.proof_alone.specs.Runs.{Knowledge, both_know}
 use Rattle.proof_attempts.specs.Since.{KnowsSince, KnowsTicks, TieOf, node_clock}
 use Rattle.proof_attempts.specs.Working.{WorksInOrder}
@@ -89,10 +89,6 @@ HeldAsTold here past h clock = (n : ℕ) → 1 ≤ n → n ≤ 232 → (node_of 
 -- the tables, the clock, how far each node has come in a tick, and that the work is in order
 abbrev pub KnowsWork : Knowledge
 KnowsWork = both_know KnowsTicks (KnowsSince WorksInOrder)
-
--- each node listens by the transcript as it does in the host
-abbrev pub KnowsListening : Knowledge
-KnowsListening here past m = (n : ℕ) → n ≤ 232 → listens n past ≡ (node_of m.state n).listens
 
 abbrev pub KnowsHearing : Knowledge
 KnowsHearing = both_know KnowsWork KnowsListening

@@ -4,7 +4,7 @@ ghost use Rattle.std.specs.Prelude.{Some, List, []};
 ghost use Rattle.s0_crypto.specs.declared.key_pair.Keys.{Keys};
 ghost use Rattle.zw_text.specs.declared.entry.Entry.{Entry};
 ghost use Rattle.law_time.specs.Holds.{HoldsAsAsked};
-ghost use Rattle.proof_attempts.specs.Waking.{KnowsListening};
+ghost use Rattle.proof_alone.specs.Listening.{KnowsListening};
 ghost use Rattle.proof_alone.specs.State.{first_alone};
 ghost use Rattle.proof_alone.specs.Runs.{Told};
 ghost use Rattle.proof_attempts.specs.Since.{AlongRuns};

@@ -41,7 +41,7 @@ ghost use Rattle.host_model.specs.State.{HostState, first_host, node_of};
 ghost use Rattle.s0_crypto.specs.declared.key_pair.Keys.{Keys};
 ghost use Rattle.proof_alone.specs.State.{HostMachine, first_alone};
 ghost use Rattle.proof_alone.specs.Phases.{Phase, Resting, Risen, Turns};
-ghost use Rattle.proof_attempts.specs.Waking.{KnowsListening};
+ghost use Rattle.proof_alone.specs.Listening.{KnowsListening};
 ghost use Rattle.proof_alone.specs.Runs.{Run};
 ghost use Rattle.proof_attempts.specs.Since.{AlongRuns, IsElse, KnowsSince};
 ghost use Rattle.proof_host.specs.Facts.{Facts};

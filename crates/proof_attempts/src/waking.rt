@@ -8,7 +8,7 @@ ghost use Rattle.law_time.specs.Waking.{counts_awake};
 ghost use Rattle.host_model.specs.State.{node_of};
 ghost use Rattle.proof_host.specs.Laws.{MayStand};
 ghost use Rattle.proof_alone.specs.State.{HostMachine, first_alone};
-ghost use Rattle.proof_attempts.specs.Waking.{KnowsListening};
+ghost use Rattle.proof_alone.specs.Listening.{KnowsListening};
 ghost use Rattle.proof_alone.specs.Phases.{Resting};
 ghost use Rattle.proof_alone.specs.Runs.{Run, Walk, both_know};
 ghost use Rattle.proof_alone.specs.Tables.{KnowsTables};

@@ -8,6 +8,7 @@ use Rattle.host_keep.specs.Keeping.{OptAdds}
 use Rattle.law_transcript.specs.Lists.{EachAfter}
 use Rattle.law_transcript.specs.Payloads.{SendsWhatIsDue}
 use Rattle.law_host.specs.Heard.{listing_heard}
+use Rattle.law_time.specs.Holds.{HoldsAsAsked}
 use Rattle.law_time.specs.Questions.{AnswersQuestions}
 use Rattle.law_time.specs.Waking.{WakesAsTold}
 use Rattle.run_lines.specs.Lines.{TextLine}
@@ -26,6 +27,7 @@ use Rattle.proof_replay.specs.Heard.{AreReplayed, AreSaid, Replayed, heard_of, t
 -- A command ends, and values, old reports and what cannot be read are noted, only where a payload of the node was judged that tells it.
 -- What cannot be read, a value and that a node is awake are noted at once, where a payload has them first; and all values that are told openly, in order.
 -- A node is taken to be awake where it tells so, and wherever it does.
+-- It is held awake where the report that ends its session may ask so, and wherever it does.
 -- The answers to questions stand where the first response to the last request was judged, and wherever it was.
 -- The number of a tick is above those before it, and lines have asked for so many ticks.
 -- Each payload that it asks its chip to send is a message of the last session of its node, by what the node listed, a nonce or a question for one, lets the node sleep, or was
@@ -37,6 +39,7 @@ pub record HostsKeepLaws (keys : Keys) (whole : Bool) (heard : List Entry) (reco
   pub at_once : NotesAtOnce whole heard
   pub in_turn : NotesInTurn whole heard
   pub wakes : WakesAsTold heard
+  pub holds : HoldsAsAsked heard
   pub questions : AnswersQuestions heard
   pub ticks : EachAfter MayCount [] heard
   pub sends : (key : List ℕ) → keys ≡ keys_of key → SendsWhatIsDue listing_heard key heard

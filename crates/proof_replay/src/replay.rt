@@ -19,11 +19,12 @@ ghost use Rattle.proof_replay.specs.Laws.{HearsLines, HostsKeepLaws, IsHeardAlon
 
 use proof_alone::{hosts_keep_their_tables, hosts_tell_time};
 use proof_asking::hosts_send_what_is_due;
+use proof_attempts::hosts_hold_as_asked;
 use proof_known::waking::hosts_wake_as_told;
 use proof_known::{
     hosts_do_as_is_said, hosts_note_at_once, hosts_note_values_in_turn, hosts_note_what_was_told,
 };
-use proof_requests::hosts_answer_questions;
+use proof_requests::{hosts_answer_questions, hosts_listen_as_told};
 
 /// Of any lines that are run whole, over any bytes and any keeper, what the host of `replay` heard is told by a run of a host alone that began without
 /// records and ends at rest. No line reads the records, so those of that run are added to what the keeper had.
@@ -45,6 +46,8 @@ pub fn hosts_keep_laws()
     hosts_note_values_in_turn();
     hosts_tell_time();
     hosts_wake_as_told();
+    hosts_listen_as_told();
+    hosts_hold_as_asked();
     hosts_send_what_is_due();
     hosts_answer_questions();
 }
