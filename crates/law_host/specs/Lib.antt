@@ -11,3 +11,6 @@ pub mod HostLegal
 pub mod Starting
 pub mod Legal
 pub mod Worked
+pub use Rattle.law_time.specs as law_time
+pub use Rattle.law_transcript.specs as law_transcript
+pub use Rattle.law_wire.specs as law_wire

@@ -6,7 +6,7 @@ use Rattle.device_kinds.specs.Judging.{judged_message, judged_members, member_co
 use Rattle.device_kinds.specs.Kind.{nodes_from}
 use Rattle.chip_functions.specs.Mask.{nodes_of}
 use Rattle.chip_functions.specs.Response.{init_data_at, capabilities_at, version_at, memory_id_at, protocol_info_at, response_at, response_of}
-use Rattle.law_transcript.proofs.Computing.{computing as shown}
+use Rattle.law_wire.proofs.law_transcript_Computing.{computing as shown}
 
 -- what an answer unfolds to compute what a transcript shows, with responses and devices
 unfoldable pub computing : ⊤

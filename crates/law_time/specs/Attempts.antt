@@ -15,9 +15,9 @@ use Rattle.zw_words.specs.declared.side.Side.TheVariants.{Host}
 use Rattle.zw_text.specs.declared.entry.Entry.{Entry}
 use Rattle.zw_text.specs.declared.entry.Entry.TheVariants.{Said, Written, Begin, Out}
 use Rattle.zw_text.specs.Transcript.{sessions}
-use Rattle.law_transcript.specs.Lists.{last_or}
-use Rattle.law_transcript.specs.Nodes.{controller}
-use Rattle.law_transcript.specs.Units.{is_frame, notice_in, sending_in}
+use Rattle.law_wire.specs.law_transcript.Lists.{last_or}
+use Rattle.law_wire.specs.law_transcript.Nodes.{controller}
+use Rattle.law_wire.specs.law_transcript.Units.{is_frame, notice_in, sending_in}
 use Rattle.law_time.specs.Heeds.{Heeds, taken_here}
 use Rattle.law_time.specs.Moments.{clock}
 use Rattle.law_time.specs.Judged.{is_acknowledgement}

@@ -4,7 +4,7 @@ use Rattle.std.specs.Prelude.{◌≡◌, ℕ, ◌+◌, ◌-◌, ◌==◌, ◌&&�
 use Rattle.std.specs.List.{flat_map, list_any, list_all}
 use Rattle.serial_frame.specs.declared.unit.TheConstants.{CAN}
 use Rattle.chip_functions.specs.declared.function.TheConstants.{SEND_DATA}
-use Rattle.device_stack.specs.State.{State}
+use Rattle.law_wire.specs.device_stack.State.{State}
 use Rattle.zw_words.specs.declared.side.Side.TheVariants.{Host, Chip}
 use Rattle.zw_text.specs.declared.line.Line.{Line}
 use Rattle.zw_text.specs.declared.line.Line.TheVariants as lines
@@ -12,13 +12,13 @@ use Rattle.zw_text.specs.declared.entry.Ended.TheVariants.{Unanswered}
 use Rattle.zw_text.specs.declared.entry.Entry.{Entry}
 use Rattle.zw_text.specs.declared.entry.Entry.TheVariants.{Said, Written, Dropped, Garbled, Heard, Out, ChipFull}
 use Rattle.zw_text.specs.Transcript.{AirFrame, sessions, joined, shown, folded, line_of, lines_run, frames, where_same}
-use Rattle.law_transcript.specs.Commands.{waiting}
-use Rattle.law_transcript.specs.Fates.{marks_left, first_fates}
-use Rattle.law_transcript.specs.Lists.{shown_after}
-use Rattle.law_transcript.specs.Nodes.{controller, known_classes}
-use Rattle.law_transcript.specs.Repeats.{frame_of}
-use Rattle.law_transcript.specs.Restarts.{repeats, ticks_asked}
-use Rattle.law_transcript.specs.Units.{is_frame, function_in, body_in}
+use Rattle.law_wire.specs.law_transcript.Commands.{waiting}
+use Rattle.law_wire.specs.law_transcript.Fates.{marks_left, first_fates}
+use Rattle.law_wire.specs.law_transcript.Lists.{shown_after}
+use Rattle.law_wire.specs.law_transcript.Nodes.{controller, known_classes}
+use Rattle.law_wire.specs.law_transcript.Repeats.{frame_of}
+use Rattle.law_wire.specs.law_transcript.Restarts.{repeats, ticks_asked}
+use Rattle.law_wire.specs.law_transcript.Units.{is_frame, function_in, body_in}
 use Rattle.law_wire.specs.Links.{lasts}
 use Rattle.law_time.specs.Moments.{clock}
 use Rattle.law_time.specs.Judged.{acknowledged, frames_come, is_data, acknowledgements_come, last_of}

@@ -13,11 +13,11 @@ use Rattle.zw_words.specs.declared.side.Side.TheVariants.{Host}
 use Rattle.zw_text.specs.declared.entry.Entry.{Entry}
 use Rattle.zw_text.specs.declared.entry.Entry.TheVariants.{Begin, Written, Unkept}
 use Rattle.zw_text.specs.Transcript.{joined, where_same, written}
-use Rattle.law_transcript.specs.Commands.{waiting}
-use Rattle.law_transcript.specs.Lists.{shown_after, last_or}
-use Rattle.law_transcript.specs.Payloads.{nonce_get}
-use Rattle.law_transcript.specs.Restarts.{since_restart}
-use Rattle.law_transcript.specs.Units.{Carried, request_in, sending_in}
+use Rattle.law_wire.specs.law_transcript.Commands.{waiting}
+use Rattle.law_wire.specs.law_transcript.Lists.{shown_after, last_or}
+use Rattle.law_wire.specs.law_transcript.Payloads.{nonce_get}
+use Rattle.law_wire.specs.law_transcript.Restarts.{since_restart}
+use Rattle.law_wire.specs.law_transcript.Units.{Carried, request_in, sending_in}
 use Rattle.law_time.specs.Heeds.{Heeds}
 use Rattle.law_time.specs.Moments.{Keeps, clock}
 use Rattle.law_time.specs.Judged.{is_following, last_of}

@@ -11,7 +11,7 @@ use Rattle.chip_functions.specs.Notice.{status_code}
 use Rattle.zw_text.specs.declared.entry.Done.{Done as HowDone}
 use Rattle.zw_text.specs.declared.entry.Done.TheVariants as done
 use Rattle.zw_text.specs.declared.entry.Entry.{Entry}
-use Rattle.law_transcript.specs.Units.{body_in, request_in, notice_in}
+use Rattle.law_wire.specs.law_transcript.Units.{body_in, request_in, notice_in}
 use Rattle.law_time.specs.Moments.{clock}
 use Rattle.law_time.specs.Judged.{acknowledged, is_following, judged_here, notices_here}
 use Rattle.law_time.specs.Requests.{Asked, Failing, Judging, asked, are_none, failing, is_response_to, judged_since, request_last, responses, sent_at}

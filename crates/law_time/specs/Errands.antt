@@ -3,8 +3,8 @@ use Rattle.std.specs.Prelude.{ℕ, ◌==◌, ◌&&◌, ◌||◌, not, bytes_eq, 
 use Rattle.std.specs.List.{flat_map, list_any}
 use Rattle.zw_text.specs.declared.entry.Entry.{Entry}
 use Rattle.zw_text.specs.declared.entry.Entry.TheVariants.{Done}
-use Rattle.law_transcript.specs.Payloads.{asked_for}
-use Rattle.law_transcript.specs.Units.{Carried, sending_in}
+use Rattle.law_wire.specs.law_transcript.Payloads.{asked_for}
+use Rattle.law_wire.specs.law_transcript.Units.{Carried, sending_in}
 use Rattle.law_time.specs.Moments.{Keeps}
 use Rattle.law_time.specs.Judged.{is_directly_after, is_mark}
 use Rattle.law_time.specs.Requests.{asked}

@@ -3,15 +3,15 @@
 use Rattle.std.specs.Prelude.{ℕ, ◌==◌, ◌&&◌, not, Bool, true, false, if◌then◌else◌, List, [], ◌∷◌, filter}
 use Rattle.std.specs.List.{flat_map}
 use Rattle.class_info.specs.declared.report_status.ReportStatus.TheVariants.{Working}
-use Rattle.device_stack.specs.State.{State}
+use Rattle.law_wire.specs.device_stack.State.{State}
 use Rattle.host_heard.specs.Telling.{heard_at}
 use Rattle.host_heard.specs.declared.told.Told.{Told}
 use Rattle.host_heard.specs.declared.told.Told.TheVariants.{Report, NonceGet, NonceReport}
 use Rattle.zw_text.specs.declared.entry.Entry.{Entry}
 use Rattle.zw_text.specs.declared.entry.Entry.TheVariants.{Unkept}
-use Rattle.law_transcript.specs.Nodes.{always, listing_of}
-use Rattle.law_transcript.specs.Payloads.{messages_of}
-use Rattle.law_transcript.specs.Units.{Carried}
+use Rattle.law_wire.specs.law_transcript.Nodes.{always, listing_of}
+use Rattle.law_wire.specs.law_transcript.Payloads.{messages_of}
+use Rattle.law_wire.specs.law_transcript.Units.{Carried}
 use Rattle.law_time.specs.Judged.{brought_here, is_mark}
 
 -- what the nodes list by the entries so far; and the messages of a payload by which it goes, up to the acknowledgement and by what stands after it

@@ -10,9 +10,9 @@ use Rattle.chip_functions.specs.declared.notice.Update.TheVariants.{Received, Re
 use Rattle.zw_text.specs.declared.entry.Entry.{Entry}
 use Rattle.zw_text.specs.declared.entry.Entry.TheVariants.{Interviewed, InterviewFailed, Unkept}
 use Rattle.zw_text.specs.Transcript.{where_same}
-use Rattle.law_transcript.specs.Lists.{shown_after, last_or}
-use Rattle.law_transcript.specs.Nodes.{first_node}
-use Rattle.law_transcript.specs.Units.{body_in, request_in}
+use Rattle.law_wire.specs.law_transcript.Lists.{shown_after, last_or}
+use Rattle.law_wire.specs.law_transcript.Nodes.{first_node}
+use Rattle.law_wire.specs.law_transcript.Units.{body_in, request_in}
 use Rattle.law_time.specs.Moments.{Keeps}
 use Rattle.law_time.specs.Judged.{is_directly_after, is_mark, notices_here}
 use Rattle.law_time.specs.Requests.{asked_before, request_last, are_none}

@@ -16,8 +16,8 @@ use Rattle.zw_text.specs.declared.entry.Entry.{Entry}
 use Rattle.zw_text.specs.declared.entry.Entry.TheVariants.{Said, Accepted, Refused, Begin, Written, Dropped, Garbled, Overrun, Air, Heard as OnAir, Lost, Unheard, Dev, Forget, ChipFull, Cleared, Time}
 use Rattle.zw_text.specs.Transcript.{Way, units, written, folded}
 use Rattle.zw_text.specs.Transcript.Way.{Whole}
-use Rattle.law_transcript.specs.Restarts.{since_restart}
-use Rattle.law_transcript.specs.Units.{Carried, is_frame, function_in, body_in, read_well, notice_in, bringing_in, from_node}
+use Rattle.law_wire.specs.law_transcript.Restarts.{since_restart}
+use Rattle.law_wire.specs.law_transcript.Units.{Carried, is_frame, function_in, body_in, read_well, notice_in, bringing_in, from_node}
 
 -- whether a unit is a data frame, or the acknowledgement of one
 abbrev pub is_data : List ℕ → Bool

@@ -1,8 +1,8 @@
 -- Whether a host is prompt (this project's own rule): it does what it is asked for as soon as it can, each thing in its turn.
 use Rattle.std.specs.Prelude.{Bool, List, []}
 use Rattle.zw_text.specs.declared.entry.Entry.{Entry}
-use Rattle.law_transcript.specs.Lists.{EachAfter}
-use Rattle.law_transcript.specs.Payloads.{FollowsBegin}
+use Rattle.law_wire.specs.law_transcript.Lists.{EachAfter}
+use Rattle.law_wire.specs.law_transcript.Payloads.{FollowsBegin}
 use Rattle.law_wire.specs.Serial.{ended}
 use Rattle.law_time.specs.Heeds.{Heeds}
 use Rattle.law_time.specs.Moments.{KeepsAfter}

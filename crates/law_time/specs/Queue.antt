@@ -7,11 +7,11 @@ use Rattle.zw_text.specs.declared.entry.Refusal.TheVariants as refusals
 use Rattle.zw_text.specs.declared.entry.Entry.{Entry}
 use Rattle.zw_text.specs.declared.entry.Entry.TheVariants.{Said, Refused, Begin, Written, Dropped, Garbled, Overrun, QueueFull, Awake, Asleep, Unkept, Time}
 use Rattle.zw_text.specs.Transcript.{folded, shown, joined, line_last, line_of}
-use Rattle.law_transcript.specs.Answers.{before_last}
-use Rattle.law_transcript.specs.Commands.{waiting}
-use Rattle.law_transcript.specs.Nodes.{known_classes}
-use Rattle.law_transcript.specs.Restarts.{begins_refused}
-use Rattle.law_transcript.specs.Units.{Carried, request_in}
+use Rattle.law_wire.specs.law_transcript.Answers.{before_last}
+use Rattle.law_wire.specs.law_transcript.Commands.{waiting}
+use Rattle.law_wire.specs.law_transcript.Nodes.{known_classes}
+use Rattle.law_wire.specs.law_transcript.Restarts.{begins_refused}
+use Rattle.law_wire.specs.law_transcript.Units.{Carried, request_in}
 use Rattle.law_time.specs.Heeds.{Heeds}
 use Rattle.law_time.specs.Moments.{Keeps, clock, later_of, now_at}
 use Rattle.law_time.specs.Judged.{is_data, is_acknowledgement, is_mark, is_no_note, is_of_air, is_of_chip, brought_here}

@@ -7,9 +7,9 @@ use Rattle.zw_words.specs.declared.side.Side.TheVariants.{Host, Chip}
 use Rattle.zw_text.specs.declared.entry.Entry.{Entry}
 use Rattle.zw_text.specs.declared.entry.Entry.TheVariants.{Said, Written, Dropped, Overrun}
 use Rattle.zw_text.specs.Transcript.{line_of, written}
-use Rattle.law_transcript.specs.Lists.{shown_after}
-use Rattle.law_transcript.specs.Restarts.{is_restart, begins_refused}
-use Rattle.law_transcript.specs.Units.{function_in, request_in}
+use Rattle.law_wire.specs.law_transcript.Lists.{shown_after}
+use Rattle.law_wire.specs.law_transcript.Restarts.{is_restart, begins_refused}
+use Rattle.law_wire.specs.law_transcript.Units.{function_in, request_in}
 use Rattle.law_time.specs.Moments.{clock}
 use Rattle.law_time.specs.Judged.{is_data, is_acknowledgement, last_of, acknowledged, frames_come, judged, response_in}
 

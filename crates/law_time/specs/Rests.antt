@@ -7,7 +7,7 @@ use Rattle.zw_text.specs.declared.line.Line.TheVariants as lines
 use Rattle.zw_text.specs.declared.entry.Entry.{Entry}
 use Rattle.zw_text.specs.declared.entry.Entry.TheVariants.{Said, Interviewed, InterviewFailed, Unkept, Time}
 use Rattle.zw_text.specs.Transcript.{joined, shown, lines_done, requests_done, where_same}
-use Rattle.law_transcript.specs.Restarts.{since_restart}
+use Rattle.law_wire.specs.law_transcript.Restarts.{since_restart}
 use Rattle.law_time.specs.Heeds.{Heeds}
 use Rattle.law_time.specs.Moments.{KeepsAfter, now_at}
 use Rattle.law_time.specs.Requests.{asked, are_none}

@@ -12,8 +12,8 @@ use Rattle.zw_text.specs.declared.entry.Entry.TheVariants.{Said, Accepted, Begin
 use Rattle.zw_text.specs.declared.entry.Outcome.{Outcome}
 use Rattle.zw_text.specs.declared.entry.Outcome.TheVariants as outcomes
 use Rattle.zw_text.specs.Transcript.{accepted, sessions, outcome}
-use Rattle.law_transcript.specs.Commands.{order_of, classes_for, message_for, waiting}
-use Rattle.law_transcript.specs.Payloads.{form_by}
+use Rattle.law_wire.specs.law_transcript.Commands.{order_of, classes_for, message_for, waiting}
+use Rattle.law_wire.specs.law_transcript.Payloads.{form_by}
 use Rattle.law_time.specs.Moments.{clock, now_at}
 use Rattle.law_time.specs.Judged.{last_of}
 use Rattle.law_time.specs.Requests.{are_none, starts_anew}

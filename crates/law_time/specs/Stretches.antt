@@ -3,7 +3,7 @@
 use Rattle.std.specs.Prelude.{◌≡◌, ℕ, ◌+◌, ◌*◌, ◌==◌, ◌&&◌, ◌||◌, not, bytes_eq, nat_le, Bool, true, false, if◌then◌else◌, List, [], ◌∷◌, ◌++◌, length, filter, Option, Some, None}
 use Rattle.std.specs.List.{flat_map, list_any, list_all, AllByRecursion}
 use Rattle.device_kinds.specs.Kind.{listens as kind_listens}
-use Rattle.device_stack.specs.State.{State}
+use Rattle.law_wire.specs.device_stack.State.{State}
 use Rattle.zw_text.specs.declared.line.Line.{Line}
 use Rattle.zw_text.specs.declared.line.Line.TheVariants as lines
 use Rattle.zw_text.specs.declared.entry.Outcome.{Outcome}
@@ -12,9 +12,9 @@ use Rattle.zw_text.specs.declared.entry.Entry.{Entry}
 use Rattle.zw_text.specs.declared.entry.Entry.TheVariants.{Accepted, Refused, Unkept}
 use Rattle.zw_text.specs.declared.entry.Refusal.TheVariants.{KeeperFault}
 use Rattle.zw_text.specs.Transcript.{outcome, joined, shown, lines_run}
-use Rattle.law_transcript.specs.Commands.{waiting, classes_for}
-use Rattle.law_transcript.specs.Nodes.{always, device_of, listing_of, is_joined, known_classes}
-use Rattle.law_transcript.specs.Restarts.{ticks_asked}
+use Rattle.law_wire.specs.law_transcript.Commands.{waiting, classes_for}
+use Rattle.law_wire.specs.law_transcript.Nodes.{always, device_of, listing_of, is_joined, known_classes}
+use Rattle.law_wire.specs.law_transcript.Restarts.{ticks_asked}
 use Rattle.law_wire.specs.Reach.{CanBeReached}
 use Rattle.law_time.specs.Requests.{are_none}
 use Rattle.law_time.specs.Interviews.{listens}

@@ -5,9 +5,9 @@ use Rattle.zw_text.specs.declared.entry.Ended.TheVariants.{Unanswered}
 use Rattle.zw_text.specs.declared.entry.Entry.{Entry}
 use Rattle.zw_text.specs.declared.entry.Entry.TheVariants.{Said, Out, Time}
 use Rattle.zw_text.specs.Transcript.{joined, lines_run, shown}
-use Rattle.law_transcript.specs.Restarts.{ticks_asked}
-use Rattle.law_transcript.specs.Stores.{node_at}
-use Rattle.law_transcript.specs.Units.{sending_in}
+use Rattle.law_wire.specs.law_transcript.Restarts.{ticks_asked}
+use Rattle.law_wire.specs.law_transcript.Stores.{node_at}
+use Rattle.law_wire.specs.law_transcript.Units.{sending_in}
 use Rattle.law_time.specs.Heeds.{Heeds}
 use Rattle.law_time.specs.Moments.{KeepsAfter, clock, now_at}
 use Rattle.law_time.specs.Judged.{is_directly_after, is_mark}

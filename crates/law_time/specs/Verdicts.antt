@@ -8,15 +8,15 @@ use Rattle.device_kinds.specs.declared.verdict.Verdict.{Verdict}
 use Rattle.device_kinds.specs.declared.verdict.Verdict.TheVariants as verdicts
 use Rattle.device_kinds.specs.Effects.{end_of}
 use Rattle.device_kinds.specs.Judging.{judged_message}
-use Rattle.device_stack.specs.State.{State, value_of, last_level_of}
+use Rattle.law_wire.specs.device_stack.State.{State, value_of, last_level_of}
 use Rattle.device_kinds.specs.Values.{value_by, level_by}
 use Rattle.zw_text.specs.declared.entry.Entry.{Entry}
 use Rattle.zw_text.specs.declared.entry.Entry.TheVariants.{Begin}
 use Rattle.zw_text.specs.declared.entry.Outcome.{Outcome}
 use Rattle.zw_text.specs.declared.entry.Outcome.TheVariants as outcomes
 use Rattle.zw_text.specs.Transcript.{made, outcome, sessions}
-use Rattle.law_transcript.specs.Commands.{message_for}
-use Rattle.law_transcript.specs.Nodes.{always, device_of, listing_of}
+use Rattle.law_wire.specs.law_transcript.Commands.{message_for}
+use Rattle.law_wire.specs.law_transcript.Nodes.{always, device_of, listing_of}
 
 -- what stands in a stretch before the session of a command begins
 abbrev pub before_session : ℕ → List Entry → List Entry

@@ -11,11 +11,11 @@ use Rattle.zw_text.specs.declared.entry.Ended.TheVariants.{Unanswered}
 use Rattle.zw_text.specs.declared.entry.Entry.{Entry}
 use Rattle.zw_text.specs.declared.entry.Entry.TheVariants.{Said, Written, Out, Awake, Asleep, Time}
 use Rattle.zw_text.specs.Transcript.{sessions, shown, wakings}
-use Rattle.law_transcript.specs.Lists.{last_or}
-use Rattle.law_transcript.specs.Payloads.{no_more_information}
-use Rattle.law_transcript.specs.Restarts.{since_restart}
-use Rattle.law_transcript.specs.Stores.{node_at}
-use Rattle.law_transcript.specs.Units.{Carried, sending_in}
+use Rattle.law_wire.specs.law_transcript.Lists.{last_or}
+use Rattle.law_wire.specs.law_transcript.Payloads.{no_more_information}
+use Rattle.law_wire.specs.law_transcript.Restarts.{since_restart}
+use Rattle.law_wire.specs.law_transcript.Stores.{node_at}
+use Rattle.law_wire.specs.law_transcript.Units.{Carried, sending_in}
 use Rattle.law_time.specs.Moments.{Keeps, now_at}
 use Rattle.law_time.specs.Judged.{last_of, is_directly_after, is_mark, brought_here, may_be_told}
 use Rattle.law_time.specs.Requests.{asked, is_new}

@@ -14,9 +14,9 @@ use Rattle.host_orders.specs.declared.carriage.Form.TheVariants.{Cut}
 use Rattle.zw_text.specs.declared.line.Line.{Line}
 use Rattle.zw_text.specs.declared.line.Line.TheVariants as lines
 use Rattle.zw_text.specs.declared.entry.Entry.{Entry}
-use Rattle.law_transcript.specs.Nodes.{host_list}
-use Rattle.law_transcript.specs.Payloads.{no_more_information}
-use Rattle.law_transcript.specs.Units.{Carried}
+use Rattle.law_wire.specs.law_transcript.Nodes.{host_list}
+use Rattle.law_wire.specs.law_transcript.Payloads.{no_more_information}
+use Rattle.law_wire.specs.law_transcript.Units.{Carried}
 use Rattle.law_time.specs.Heeds.{Heeds}
 use Rattle.law_time.specs.Sessions.{Session, is_open, last_command, session_of, segment_at}
 

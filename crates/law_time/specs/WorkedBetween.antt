@@ -9,7 +9,7 @@ use Rattle.zw_text.specs.declared.entry.Done.TheVariants as done
 use Rattle.zw_text.specs.declared.entry.Refusal.TheVariants as refusals
 use Rattle.zw_text.specs.declared.entry.Entry.{Entry}
 use Rattle.zw_text.specs.declared.entry.Entry.TheVariants.{Said, Accepted, Refused, Begin, Written, Garbled, Air, Heard, Dev, Out, Store, Report, Awake, Asleep, Interviewed, Done, Failed, Held, Time, Unkept}
-use Rattle.law_transcript.specs.Worked.{bytes}
+use Rattle.law_wire.specs.law_transcript.Worked.{bytes}
 
 -- `link 1 5`, `join 5`, `interview 5`, `wake 5`, `garble h 3 1`, `tick 1`, `stall 200`, `local 2 1`, `tick 200`, `failed 2`: No More Information is given up in
 -- a tick in which the chip has written a frame before, and is not sent again

@@ -7,7 +7,7 @@ use Rattle.host_orders.specs.Settings.{setting}
 use Rattle.zw_text.specs.declared.entry.Ended.TheVariants as endings
 use Rattle.zw_text.specs.declared.entry.Entry.{Entry}
 use Rattle.zw_text.specs.declared.entry.Entry.TheVariants.{Said, Accepted, Begin, Dropped, Garbled, Air, Heard, Lost, Dev, Out, Awake, Failed, ChipFull, Time, Unkept}
-use Rattle.law_transcript.specs.Worked.{bytes}
+use Rattle.law_wire.specs.law_transcript.Worked.{bytes}
 use Rattle.law_time.specs.WorkedTurns.{given_up_sleeper, given_up}
 use Rattle.law_time.specs.WorkedUnits.{by_chip, by_host, chip_acknowledges, failed_asked, host_acknowledges, abort_sent, notified}
 use Rattle.law_time.specs.WrongStretches.{accepted_as_switch}

@@ -1,11 +1,11 @@
 -- Worked transcripts of which request is next where none waits, made by hand in the form in which the program prints them.
 use Rattle.std.specs.Prelude.{List, [], ◌∷◌, ◌++◌, codes, take}
 use Rattle.device_kinds.specs.declared.kind.Kind.TheVariants as kinds
-use Rattle.device_stack.specs.State.{State, fresh}
+use Rattle.law_wire.specs.device_stack.State.{State, fresh}
 use Rattle.zw_text.specs.declared.entry.Done.TheVariants as done
 use Rattle.zw_text.specs.declared.entry.Entry.{Entry}
 use Rattle.zw_text.specs.declared.entry.Entry.TheVariants.{Said, Accepted, Begin, Awake, Interviewed, Done, Unkept, Time}
-use Rattle.law_transcript.specs.Worked.{long_message}
+use Rattle.law_wire.specs.law_transcript.Worked.{long_message}
 use Rattle.law_time.specs.WorkedAttempts.{second_attempt, third_attempt, unkept_order, working}
 use Rattle.law_time.specs.WorkedEnds.{set_under_way}
 use Rattle.law_time.specs.WorkedTurns.{first_sent, given_up, given_up_plug}

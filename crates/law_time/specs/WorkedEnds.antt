@@ -4,7 +4,7 @@ use Rattle.zw_words.specs.declared.side.Side.TheVariants.{Host, Chip}
 use Rattle.zw_text.specs.declared.entry.Done.TheVariants as done
 use Rattle.zw_text.specs.declared.entry.Entry.{Entry}
 use Rattle.zw_text.specs.declared.entry.Entry.TheVariants.{Said, Dropped, Garbled, Overrun, Awake, Asleep, Interviewed, InterviewFailed, Done, Failed, Unkept, Time}
-use Rattle.law_transcript.specs.Worked.{bytes}
+use Rattle.law_wire.specs.law_transcript.Worked.{bytes}
 use Rattle.law_time.specs.WorkedUnits.{abort_sent, asking_refused, asking_taken, by_chip, chip_acknowledges, chip_denies, delivered, failed, failed_asked, host_acknowledges, information_asked, information_come, no_information, no_more_sent, notified, protocol_asked, protocol_known, refused, set_sent, taken, by_host}
 use Rattle.law_time.specs.WorkedWaits.{unrouted_errand, refused_errand}
 

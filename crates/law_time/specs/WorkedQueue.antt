@@ -8,7 +8,7 @@ use Rattle.zw_text.specs.declared.entry.Ended.TheVariants as endings
 use Rattle.zw_text.specs.declared.entry.Done.TheVariants as done
 use Rattle.zw_text.specs.declared.entry.Entry.{Entry}
 use Rattle.zw_text.specs.declared.entry.Entry.TheVariants.{Accepted, Air, Awake, Begin, Dev, Done, Dropped, Heard, Interviewed, Lost, Out, QueueFull, Said, Time, Written}
-use Rattle.law_transcript.specs.Worked.{bytes, sealed_exchange}
+use Rattle.law_wire.specs.law_transcript.Worked.{bytes, sealed_exchange}
 use Rattle.law_time.specs.WorkedWaits.{before_waking}
 
 -- a first segment is lost, and asked for again, which is no attempt; then the two of the second and of the third attempt are lost

@@ -8,9 +8,9 @@ use Rattle.host_orders.specs.Settings.{setting}
 use Rattle.zw_text.specs.declared.entry.Ended.TheVariants as endings
 use Rattle.zw_text.specs.declared.entry.Entry.{Entry}
 use Rattle.zw_text.specs.declared.entry.Entry.TheVariants.{Accepted, Air, Begin, Dev, Heard, Interviewed, Out, Said, Store, Time, Written}
-use Rattle.law_transcript.specs.Worked.{bytes}
+use Rattle.law_wire.specs.law_transcript.Worked.{bytes}
 use Rattle.device_kinds.specs.declared.kind.Kind.TheVariants as kinds
-use Rattle.device_stack.specs.State.{State, fresh}
+use Rattle.law_wire.specs.device_stack.State.{State, fresh}
 
 -- `link 1 6`, `join 6`, `interview 6`, `tick 2`
 abbrev pub before_failing : List Entry

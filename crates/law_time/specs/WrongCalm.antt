@@ -4,7 +4,7 @@ use Rattle.zw_words.specs.declared.side.Side.TheVariants.{Chip}
 use Rattle.zw_text.specs.declared.entry.Ended.TheVariants as endings
 use Rattle.zw_text.specs.declared.entry.Entry.{Entry}
 use Rattle.zw_text.specs.declared.entry.Entry.TheVariants.{Said, Accepted, Air, Heard, Out, Interviewed, Time, Garbled}
-use Rattle.law_transcript.specs.Worked.{bytes}
+use Rattle.law_wire.specs.law_transcript.Worked.{bytes}
 use Rattle.law_time.specs.WorkedCalm.{dimmed, five_members, no_end_point, sixth_asked, first_answered, has_failed}
 use Rattle.law_time.specs.WorkedUnits.{by_chip, by_host, chip_acknowledges, host_acknowledges, failed_asked}
 

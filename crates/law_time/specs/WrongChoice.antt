@@ -5,7 +5,7 @@ use Rattle.zw_text.specs.declared.entry.Ended.TheVariants as endings
 use Rattle.zw_text.specs.declared.entry.Entry.{Entry}
 use Rattle.zw_text.specs.declared.entry.Entry.TheVariants.{Said, Accepted, Begin, Dropped, Out, Awake, Interviewed, Done, Unkept, Time}
 use Rattle.zw_words.specs.declared.side.Side.TheVariants.{Host}
-use Rattle.law_transcript.specs.Worked.{long_message, sealed_exchange}
+use Rattle.law_wire.specs.law_transcript.Worked.{long_message, sealed_exchange}
 use Rattle.law_time.specs.WorkedAttempts.{second_attempt, third_attempt, third_failed, third_lost, unkept_order, working}
 use Rattle.law_time.specs.WorkedChoice.{begun, both_wait, first_over, first_sent_next, first_served, first_taken, get_sent, lock_asked, lock_begun, nonce_come, restarted_beside, sealed_for_second, sealed_once, sealed_sent, second_failed, second_nonce_come, second_served, segment_after_failed, segment_after_lost, segment_begun, set_before, silent_set, sleeper_begun}
 use Rattle.law_time.specs.WorkedEnds.{set_under_way}

@@ -8,7 +8,7 @@ use Rattle.law_time.specs.WorkedEnds.{asleep_given_up, asleep_refused, four_copi
 use Rattle.law_time.specs.WorkedUnits.{asking_refused, by_chip, by_host, chip_acknowledges, chip_denies, delivered, failed_asked, host_acknowledges, information_asked, information_come, no_information, not_acknowledged, notified, refused, taken}
 use Rattle.law_time.specs.WorkedWaits.{unrouted_errand}
 use Rattle.law_time.specs.WrongEntries.{informed_alone}
-use Rattle.law_transcript.specs.Worked.{bytes}
+use Rattle.law_wire.specs.law_transcript.Worked.{bytes}
 
 -- ---- Sets
 

@@ -7,7 +7,7 @@ use Rattle.zw_text.specs.declared.entry.Done.TheVariants as done
 use Rattle.zw_text.specs.declared.entry.Refusal.TheVariants as refusals
 use Rattle.zw_text.specs.declared.entry.Entry.{Entry}
 use Rattle.zw_text.specs.declared.entry.Entry.TheVariants.{Said, Accepted, Refused, Written, Air, Heard, Out, Awake, Asleep, Held, Interviewed, InterviewFailed, Done, Neighbours, Failed, QueueFull, Time}
-use Rattle.law_transcript.specs.Worked.{bytes, lossy_exchange, plain_exchange, sleeping_node}
+use Rattle.law_wire.specs.law_transcript.Worked.{bytes, lossy_exchange, plain_exchange, sleeping_node}
 use Rattle.law_time.specs.WorkedLate.{late_answer}
 use Rattle.law_time.specs.WorkedQueue.{dropped_no_more}
 use Rattle.law_time.specs.WorkedStretches.{with_other}

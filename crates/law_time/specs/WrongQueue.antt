@@ -5,7 +5,7 @@ use Rattle.zw_text.specs.declared.entry.Ended.TheVariants as endings
 use Rattle.zw_text.specs.declared.entry.Refusal.TheVariants as refusals
 use Rattle.zw_text.specs.declared.entry.Entry.{Entry}
 use Rattle.zw_text.specs.declared.entry.Entry.TheVariants.{Out, Refused, Said, Time, Written}
-use Rattle.law_transcript.specs.Worked.{bytes, sealed_exchange}
+use Rattle.law_wire.specs.law_transcript.Worked.{bytes, sealed_exchange}
 use Rattle.law_time.specs.WorkedQueue.{dropped_no_more, dropped_nonce, failed_attempts, resent_segments, silent_attempt}
 use Rattle.law_time.specs.WorkedWaits.{full_queue, waited_attempts}
 

@@ -3,10 +3,10 @@
 use Rattle.std.specs.Prelude.{ℕ, zero, suc, List, [], ◌∷◌, codes}
 use Rattle.zw_words.specs.declared.side.Side.TheVariants.{Host, Chip}
 use Rattle.device_kinds.specs.declared.kind.Kind.TheVariants as kinds
-use Rattle.device_stack.specs.State.{State, fresh}
+use Rattle.law_wire.specs.device_stack.State.{State, fresh}
 use Rattle.zw_text.specs.declared.entry.Entry.{Entry}
 use Rattle.zw_text.specs.declared.entry.Entry.TheVariants.{Said, Accepted, Written, Interviewed}
-use Rattle.law_transcript.specs.Worked.{bytes}
+use Rattle.law_wire.specs.law_transcript.Worked.{bytes}
 
 -- ---- many nodes that sleep
 

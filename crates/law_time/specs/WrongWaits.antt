@@ -7,7 +7,7 @@ use Rattle.host_orders.specs.Settings.{setting}
 use Rattle.zw_text.specs.declared.entry.Ended.TheVariants as endings
 use Rattle.zw_text.specs.declared.entry.Entry.{Entry}
 use Rattle.zw_text.specs.declared.entry.Entry.TheVariants.{Said, Accepted, Begin, Written, Dropped, Air, Heard, Lost, Dev, Out, Store, Awake, Asleep, Interviewed, Held, Time}
-use Rattle.law_transcript.specs.Worked.{bytes}
+use Rattle.law_wire.specs.law_transcript.Worked.{bytes}
 use Rattle.law_time.specs.WorkedUnits.{notified}
 
 -- a node counts as awake though it has not told so

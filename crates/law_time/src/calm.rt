@@ -1,7 +1,7 @@
 //! What calm moments and answers in time are, by worked transcripts, and by others with one thing wrong.
 
 ghost use Rattle.std.specs.Prelude.{◌≡◌, true, false, [], ◌∷◌, drop, take, codes};
-ghost use Rattle.device_stack.specs.State.{fresh};
+ghost use Rattle.law_wire.specs.device_stack.State.{fresh};
 ghost use Rattle.device_kinds.specs.declared.kind.Kind.TheVariants as kinds;
 ghost use Rattle.std.specs.List.{list_all};
 ghost use Rattle.law_time.specs.Calm.{IsCalm, IsStill, air_is_empty, chip_is_idle, is_not_stuck, owes_no_call};
@@ -20,8 +20,8 @@ ghost use Rattle.law_time.specs.WorkedStretches.{
 ghost use Rattle.law_time.specs.WorkedWaits.{before_two, before_waking, calm_exchange, stretch_of_sleeper, stretch_of_two, stuck_node, the_other_switch};
 ghost use Rattle.law_time.specs.WrongStretches.{accepted_as_switch, sensors_from, sensors_join, sensors_work, woken_before_order, woken_twice};
 ghost use Rattle.law_time.specs.WrongWaits.{asleep_not_yet, left_in_time, reported_next, stretch_unwoken, unheard_acknowledgement};
-ghost use Rattle.law_transcript.specs.Nodes.{always, listing_of};
-ghost use Rattle.law_transcript.specs.Worked.{plain_exchange, sealed_exchange, sleeping_node, the_lock, the_sensor, the_switch, long_message, the_plug};
+ghost use Rattle.law_wire.specs.law_transcript.Nodes.{always, listing_of};
+ghost use Rattle.law_wire.specs.law_transcript.Worked.{plain_exchange, sealed_exchange, sleeping_node, the_lock, the_sensor, the_switch, long_message, the_plug};
 ghost use Rattle.zw_text.specs.Transcript.{joined};
 ghost use Rattle.zw_text.specs.declared.entry.Entry.TheVariants.{Interviewed, Said};
 ghost use Rattle.law_time.specs.WorkedCalm.{

@@ -73,7 +73,7 @@ ghost use Rattle.law_time.specs.WrongChoice.{
   sent_with_options,
   set_repeated,
 };
-ghost use Rattle.law_transcript.specs.Worked.{
+ghost use Rattle.law_wire.specs.law_transcript.Worked.{
   long_message,
   lossy_exchange,
   plain_exchange,

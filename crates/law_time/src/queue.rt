@@ -20,7 +20,7 @@ ghost use Rattle.law_time.specs.WrongQueue.{
 ghost use Rattle.law_time.specs.WrongRequests.{sent_out_of_turn, sent_unasked};
 ghost use Rattle.law_time.specs.WrongWaits.{told_while_waiting};
 ghost use Rattle.zw_text.specs.declared.entry.Ended.TheVariants as endings;
-ghost use Rattle.law_transcript.specs.Worked.{
+ghost use Rattle.law_wire.specs.law_transcript.Worked.{
   cancelled_order,
   long_message,
   lossy_exchange,

@@ -34,8 +34,8 @@ ghost use Rattle.law_time.specs.WrongRequests.{
   silent_early,
   silent_too_soon,
 };
-ghost use Rattle.law_transcript.specs.Nodes.{always, listing_of};
-ghost use Rattle.law_transcript.specs.Worked.{
+ghost use Rattle.law_wire.specs.law_transcript.Nodes.{always, listing_of};
+ghost use Rattle.law_wire.specs.law_transcript.Worked.{
   cancelled_order,
   long_message,
   lossy_exchange,
@@ -49,7 +49,7 @@ ghost use Rattle.law_transcript.specs.Worked.{
   the_sensor,
   the_switch,
 };
-ghost use Rattle.law_transcript.specs.WorkedCases.{the_dimmer};
+ghost use Rattle.law_wire.specs.law_transcript.WorkedCases.{the_dimmer};
 ghost use Rattle.law_time.specs.WorkedEnds.{
   acknowledged_after_stray,
   acknowledged_last,

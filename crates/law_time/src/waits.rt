@@ -51,9 +51,9 @@ ghost use Rattle.law_time.specs.WrongWaits.{
   left_unsent,
   left_waiting,
 };
-ghost use Rattle.law_transcript.specs.Commands.{waiting};
-ghost use Rattle.law_transcript.specs.Lists.{last_or};
-ghost use Rattle.law_transcript.specs.Worked.{
+ghost use Rattle.law_wire.specs.law_transcript.Commands.{waiting};
+ghost use Rattle.law_wire.specs.law_transcript.Lists.{last_or};
+ghost use Rattle.law_wire.specs.law_transcript.Worked.{
   cancelled_order,
   long_message,
   lossy_exchange,

@@ -15,7 +15,7 @@ ghost use Rattle.law_time.specs.WrongWaits.{
   sleep_passed_over,
   waking_passed_over,
 };
-ghost use Rattle.law_transcript.specs.Worked.{
+ghost use Rattle.law_wire.specs.law_transcript.Worked.{
   cancelled_order,
   long_message,
   lossy_exchange,

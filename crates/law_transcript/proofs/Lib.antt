@@ -7,3 +7,4 @@ mod Dues
 mod Ciphering
 pub mod Sealing
 mod Headlines
+pub use Rattle.device_sim.proofs.LawLemmas

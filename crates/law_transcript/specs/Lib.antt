@@ -25,3 +25,6 @@ pub mod WorkedWrongLines
 pub mod WorkedDevices
 pub mod WorkedRepeats
 pub mod WorkedCases
+pub use Rattle.device_kinds.specs as device_kinds
+pub use Rattle.device_sim.specs as device_sim
+pub use Rattle.device_stack.specs as device_stack

@@ -3,14 +3,14 @@ use Rattle.std.proofs.Common.{◌≡◌, ◌⊎◌, ℕ, suc, ◌+◌, Bool, tru
 use Rattle.std.specs.Prelude.{◌≤◌, ◌==◌, if◌then◌else◌}
 use Rattle.std.specs.List.{AllByRecursion}
 use Rattle.std.proofs.lemmas.List.{length-append}
-use Rattle.device_kinds.specs.declared.change.Change.{Change}
-use Rattle.device_kinds.specs.declared.verdict.Verdict.{Verdict}
-use Rattle.device_kinds.specs.declared.verdict.Verdict.TheVariants.{NoSupport, Fails, Makes, Works}
-use Rattle.device_sim.specs.State.{State}
-use Rattle.device_sim.specs.Event.{DeviceEvent, device_after}
-use Rattle.device_sim.specs.Event.DeviceEvent.{Hears, Ticks, Wakes, Sets}
-use Rattle.device_sim.specs.Laws.{IsHeard, IsMade}
-use Rattle.device_sim.proofs.LawLemmas.{heard_as}
+use Rattle.law_transcript.specs.device_kinds.declared.change.Change.{Change}
+use Rattle.law_transcript.specs.device_kinds.declared.verdict.Verdict.{Verdict}
+use Rattle.law_transcript.specs.device_kinds.declared.verdict.Verdict.TheVariants.{NoSupport, Fails, Makes, Works}
+use Rattle.law_transcript.specs.device_sim.State.{State}
+use Rattle.law_transcript.specs.device_sim.Event.{DeviceEvent, device_after}
+use Rattle.law_transcript.specs.device_sim.Event.DeviceEvent.{Hears, Ticks, Wakes, Sets}
+use Rattle.law_transcript.specs.device_sim.Laws.{IsHeard, IsMade}
+use Rattle.law_transcript.proofs.LawLemmas.{heard_as}
 use Rattle.zw_text.specs.declared.line.Line.{Line}
 use Rattle.zw_text.specs.declared.entry.Entry.{Entry}
 use Rattle.zw_text.specs.declared.entry.Entry.TheVariants.{Said, Heard}

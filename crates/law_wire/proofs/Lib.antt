@@ -21,3 +21,6 @@ mod Replies
 mod Serving
 mod Silence
 pub mod Walks
+pub use Rattle.law_transcript.proofs.Computing as law_transcript_Computing
+pub use Rattle.law_transcript.proofs.Deciding
+pub use Rattle.law_transcript.proofs.Having

@@ -18,23 +18,23 @@ use Rattle.encap.specs.declared.plan.Plan.{Plan}
 use Rattle.encap.specs.declared.plan.Supervised.{Supervised}
 use Rattle.s0_session.specs.Nonces.{after_spend, nonce_spent}
 use Rattle.s0_session.specs.Sending.{taken_from}
-use Rattle.device_kinds.specs.declared.kind.Kind.{Kind}
-use Rattle.device_kinds.specs.declared.kind.Kind.TheVariants.{Lock}
-use Rattle.device_kinds.specs.declared.effect.Effect.{Effect}
-use Rattle.device_kinds.specs.declared.effect.Effect.TheVariants.{Ignores, Sleeps, Tells, Sets, Repeats, Takes}
-use Rattle.device_kinds.specs.declared.verdict.Verdict.{Verdict}
-use Rattle.device_kinds.specs.declared.verdict.Verdict.TheVariants.{NoSupport, Fails, Makes, Works}
-use Rattle.device_kinds.specs.Kind.{listens, lists, has_end}
-use Rattle.device_stack.specs.State.{State, silent, value_of, last_level_of}
-use Rattle.device_kinds.specs.Judging.{judged_set}
-use Rattle.device_kinds.specs.Telling.{told}
-use Rattle.device_kinds.specs.Sealing.{keys_of, unsealed_at}
-use Rattle.device_kinds.specs.Effects.{end_of, set_plainly, effect_untold, telling, effect_alone, effect_in_session, effect_by}
-use Rattle.device_stack.specs.Effects.{effect_of, takes, after_effect}
-use Rattle.device_stack.specs.Hearing.{Answered, answers, nonce_named, sent_sealed, hears_inside, hears_plain, hears_for, hears_sealed, seals_for, hears_nonces, hears_securely, hears_by, active, hears}
-use Rattle.device_stack.specs.Ticking.{aged, works_out, ticked, woken, set_by_hand}
-use Rattle.device_sim.specs.Event.{DeviceEvent, outcome_of, device_after}
-use Rattle.device_sim.specs.Event.DeviceEvent.{Hears, Ticks, Wakes, Sets as SetByHand}
+use Rattle.law_transcript.specs.device_kinds.declared.kind.Kind.{Kind}
+use Rattle.law_transcript.specs.device_kinds.declared.kind.Kind.TheVariants.{Lock}
+use Rattle.law_transcript.specs.device_kinds.declared.effect.Effect.{Effect}
+use Rattle.law_transcript.specs.device_kinds.declared.effect.Effect.TheVariants.{Ignores, Sleeps, Tells, Sets, Repeats, Takes}
+use Rattle.law_transcript.specs.device_kinds.declared.verdict.Verdict.{Verdict}
+use Rattle.law_transcript.specs.device_kinds.declared.verdict.Verdict.TheVariants.{NoSupport, Fails, Makes, Works}
+use Rattle.law_transcript.specs.device_kinds.Kind.{listens, lists, has_end}
+use Rattle.law_transcript.specs.device_stack.State.{State, silent, value_of, last_level_of}
+use Rattle.law_transcript.specs.device_kinds.Judging.{judged_set}
+use Rattle.law_transcript.specs.device_kinds.Telling.{told}
+use Rattle.law_transcript.specs.device_kinds.Sealing.{keys_of, unsealed_at}
+use Rattle.law_transcript.specs.device_kinds.Effects.{end_of, set_plainly, effect_untold, telling, effect_alone, effect_in_session, effect_by}
+use Rattle.law_transcript.specs.device_stack.Effects.{effect_of, takes, after_effect}
+use Rattle.law_transcript.specs.device_stack.Hearing.{Answered, answers, nonce_named, sent_sealed, hears_inside, hears_plain, hears_for, hears_sealed, seals_for, hears_nonces, hears_securely, hears_by, active, hears}
+use Rattle.law_transcript.specs.device_stack.Ticking.{aged, works_out, ticked, woken, set_by_hand}
+use Rattle.law_transcript.specs.device_sim.Event.{DeviceEvent, outcome_of, device_after}
+use Rattle.law_transcript.specs.device_sim.Event.DeviceEvent.{Hears, Ticks, Wakes, Sets as SetByHand}
 use Rattle.zw_text.specs.declared.entry.Entry.{Entry}
 use Rattle.zw_text.specs.declared.entry.Entry.TheVariants.{Heard as HeardFrame}
 use Rattle.zw_text.specs.Transcript.{AirFrame}

@@ -4,7 +4,7 @@ use Rattle.std.specs.Prelude.{◌≡◌, ◌≤◌, ◌<◌, ℕ, suc, ◌+◌, 
 use Rattle.serial_link.specs.State.{Side as LinkSide}
 use Rattle.serial_link.specs.Rules.{Step, SideObeys}
 use Rattle.serial_link.specs.declared.turn.Turn.TheVariants.{Idle}
-use Rattle.device_sim.specs.State.{State}
+use Rattle.law_transcript.specs.device_sim.State.{State}
 use Rattle.zw_words.specs.declared.side.Side.TheVariants.{Chip}
 use Rattle.zw_text.specs.declared.entry.Entry.{Entry}
 use Rattle.zw_text.specs.declared.entry.Entry.TheVariants.{Said, Written, Heard, Lost, Unheard, ChipFull, Time}

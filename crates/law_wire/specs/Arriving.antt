@@ -3,9 +3,9 @@
 use Rattle.std.specs.Prelude.{◌≡◌, ℕ, zero, suc, ◌-◌, ◌==◌, ◌&&◌, ◌||◌, not, nat_lt, Bool, true, false, if◌then◌else◌, List, [], ◌∷◌, map, filter, length, take, drop, Option, Some, None, ⊤}
 use Rattle.std.specs.List.{list_any, flat_map}
 use Rattle.route_table.specs.Network.{Link}
-use Rattle.device_sim.specs.State.{State}
-use Rattle.device_sim.specs.Event.{DeviceEvent, device_after}
-use Rattle.device_sim.specs.Event.DeviceEvent.{Hears, Ticks, Wakes, Sets}
+use Rattle.law_transcript.specs.device_sim.State.{State}
+use Rattle.law_transcript.specs.device_sim.Event.{DeviceEvent, device_after}
+use Rattle.law_transcript.specs.device_sim.Event.DeviceEvent.{Hears, Ticks, Wakes, Sets}
 use Rattle.zw_text.specs.declared.line.Line.{Line}
 use Rattle.zw_text.specs.declared.line.Line.TheVariants as lines
 use Rattle.zw_text.specs.declared.entry.Entry.{Entry}

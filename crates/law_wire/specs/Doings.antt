@@ -1,8 +1,8 @@
 -- Where what devices do stands (this project's own model of devices): directly after what came to a device stand the changes and the frames that
 -- it makes of that, and in a tick those of its own tick; a node without a device does nothing.
 use Rattle.std.specs.Prelude.{◌≡◌, ◌⊎◌, ℕ, suc, ◌==◌, is_some, true, if◌then◌else◌, List, [], ◌∷◌, ⊤}
-use Rattle.device_sim.specs.State.{State}
-use Rattle.device_sim.specs.Event.{DeviceEvent}
+use Rattle.law_transcript.specs.device_sim.State.{State}
+use Rattle.law_transcript.specs.device_sim.Event.{DeviceEvent}
 use Rattle.zw_text.specs.declared.entry.Entry.{Entry}
 use Rattle.zw_text.specs.declared.entry.Entry.TheVariants.{Said, Time, Air, Dev}
 use Rattle.zw_text.specs.Transcript.{lines_run}

@@ -17,7 +17,7 @@ use Rattle.chip_functions.specs.declared.response.Response.TheVariants as answer
 use Rattle.chip_functions.specs.declared.notice.Notice.{Notice}
 use Rattle.chip_functions.specs.declared.notice.Notice.TheVariants as notices
 use Rattle.chip_functions.specs.declared.notice.Update.TheVariants.{Received, RequestFailed}
-use Rattle.device_sim.specs.State.{State}
+use Rattle.law_transcript.specs.device_sim.State.{State}
 use Rattle.zw_text.specs.declared.entry.Entry.{Entry}
 use Rattle.zw_text.specs.declared.entry.Entry.TheVariants.{Said, Heard}
 use Rattle.zw_text.specs.Transcript.{AirFrame}

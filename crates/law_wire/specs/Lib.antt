@@ -28,3 +28,5 @@ pub mod WorkedHalted
 pub mod WorkedDoings
 pub mod WorkedRecords
 pub mod WorkedWrong
+pub use Rattle.law_transcript.specs.device_stack as device_stack
+pub use Rattle.law_transcript.specs as law_transcript

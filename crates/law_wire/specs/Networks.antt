@@ -4,8 +4,8 @@ use Rattle.std.specs.Prelude.{ℕ, ◌==◌, ◌&&◌, ◌||◌, not, Bool, true
 use Rattle.std.specs.List.{list_any}
 use Rattle.std.specs.FinSet as set
 use Rattle.route_table.specs.Network.{Network, Link, link_of}
-use Rattle.device_sim.specs.Kind.{listens}
-use Rattle.device_sim.specs.State.{State}
+use Rattle.law_transcript.specs.device_sim.Kind.{listens}
+use Rattle.law_transcript.specs.device_sim.State.{State}
 use Rattle.zw_text.specs.declared.line.Line.{Line}
 use Rattle.zw_text.specs.declared.line.Line.TheVariants as lines
 use Rattle.zw_text.specs.declared.entry.Entry.{Entry}

@@ -2,7 +2,7 @@
 -- whose links are all live in the air, and back over a way of the air.
 use Rattle.std.specs.Prelude.{ℕ, List}
 use Rattle.route_table.specs.Walk.{Hops, Walk}
-use Rattle.device_sim.specs.State.{State}
+use Rattle.law_transcript.specs.device_sim.State.{State}
 use Rattle.zw_text.specs.declared.entry.Entry.{Entry}
 use Rattle.law_transcript.specs.Nodes.{controller}
 use Rattle.law_wire.specs.Networks.{air_network, chip_network}

@@ -3,7 +3,7 @@
 use Rattle.std.specs.Prelude.{◌≡◌, ◌⊎◌, ℕ, ◌==◌, Bool, true, false, List, [], reverse, ⊤}
 use Rattle.route_table.specs.Network.{Network}
 use Rattle.route_table.specs.Walk.{Walk, ComesFirst}
-use Rattle.device_sim.specs.State.{State}
+use Rattle.law_transcript.specs.device_sim.State.{State}
 use Rattle.zw_text.specs.declared.entry.Entry.{Entry}
 use Rattle.zw_text.specs.declared.entry.Entry.TheVariants.{Air}
 use Rattle.law_transcript.specs.Lists.{EachAfter}

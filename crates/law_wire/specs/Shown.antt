@@ -1,8 +1,8 @@
 -- What a run shows of its devices (this project's own rule): directly after a line `show` stand the values that the device of its node has then, and
 -- nowhere else; and no line of the table at the end stands in a run.
 use Rattle.std.specs.Prelude.{◌≡◌, List, [], ◌∷◌, ◌++◌, map, drop, option_map, ⊤}
-use Rattle.device_kinds.specs.declared.change.Change.{Change}
-use Rattle.device_sim.specs.State.{State}
+use Rattle.law_transcript.specs.device_kinds.declared.change.Change.{Change}
+use Rattle.law_transcript.specs.device_sim.State.{State}
 use Rattle.zw_text.specs.declared.line.Line.{Line}
 use Rattle.zw_text.specs.declared.line.Line.TheVariants as lines
 use Rattle.zw_text.specs.declared.entry.Entry.{Entry}

@@ -5,8 +5,8 @@ use Rattle.zw_base.specs.declared.property.Name.TheVariants as names
 use Rattle.zw_base.specs.declared.property.By.TheVariants.{Session, Local}
 use Rattle.zw_words.specs.declared.side.Side.TheVariants.{Host, Chip}
 use Rattle.host_orders.specs.Settings.{setting}
-use Rattle.device_kinds.specs.declared.kind.Kind.TheVariants as kinds
-use Rattle.device_stack.specs.State.{State, fresh}
+use Rattle.law_transcript.specs.device_kinds.declared.kind.Kind.TheVariants as kinds
+use Rattle.law_transcript.specs.device_stack.State.{State, fresh}
 use Rattle.zw_text.specs.declared.entry.Ended.TheVariants as endings
 use Rattle.zw_text.specs.declared.entry.Done.TheVariants as ends
 use Rattle.zw_text.specs.declared.entry.Entry.{Entry}

@@ -1,7 +1,7 @@
 -- Short pasts of the air, by hand: what stands before a frame, a fate, a hearing or a forgotten hop that may stand there or may not.
 use Rattle.std.specs.Prelude.{ℕ, List, [], ◌∷◌, ◌++◌, codes, take}
-use Rattle.device_kinds.specs.declared.kind.Kind.TheVariants as kinds
-use Rattle.device_stack.specs.State.{State, fresh}
+use Rattle.law_transcript.specs.device_kinds.declared.kind.Kind.TheVariants as kinds
+use Rattle.law_transcript.specs.device_stack.State.{State, fresh}
 use Rattle.zw_text.specs.declared.entry.Entry.{Entry}
 use Rattle.zw_text.specs.declared.entry.Entry.TheVariants.{Said, Air, Heard, Lost, Unheard, Time}
 use Rattle.law_transcript.specs.Worked.{bytes, plain_exchange, the_sensor}

@@ -4,8 +4,8 @@ use Rattle.std.specs.Prelude.{false, List, [], ◌∷◌, codes, take}
 use Rattle.zw_base.specs.declared.property.Name.TheVariants as names
 use Rattle.zw_base.specs.declared.property.By.TheVariants.{Local}
 use Rattle.host_orders.specs.Settings.{setting}
-use Rattle.device_sim.specs.State.{State}
-use Rattle.device_sim.specs.Event.{DeviceEvent}
+use Rattle.law_transcript.specs.device_sim.State.{State}
+use Rattle.law_transcript.specs.device_sim.Event.{DeviceEvent}
 use Rattle.zw_text.specs.declared.entry.Entry.{Entry}
 use Rattle.zw_text.specs.declared.entry.Entry.TheVariants.{Said, Air, Dev}
 use Rattle.law_transcript.specs.Worked.{bytes, plain_exchange, the_sensor}

@@ -1,7 +1,7 @@
 //! What the law of devices says of runs that an allocation failure ended.
 
 ghost use Rattle.std.specs.Prelude.{[], ◌∷◌};
-ghost use Rattle.device_sim.specs.Event.DeviceEvent.{Sets};
+ghost use Rattle.law_transcript.specs.device_sim.Event.DeviceEvent.{Sets};
 ghost use Rattle.law_transcript.specs.Devices.{after_events};
 ghost use Rattle.law_transcript.specs.Worked.{the_sensor, the_switch};
 ghost use Rattle.law_wire.specs.Halted.{RanAsFar};

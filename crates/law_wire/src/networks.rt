@@ -1,8 +1,8 @@
 //! What the networks of the air and of the chip's table are after some lines.
 
 ghost use Rattle.std.specs.Prelude.{◌≡◌, ◌∷◌, [], codes, true, false};
-ghost use Rattle.device_stack.specs.State.{fresh};
-ghost use Rattle.device_kinds.specs.declared.kind.Kind.TheVariants.{Sensor};
+ghost use Rattle.law_transcript.specs.device_stack.State.{fresh};
+ghost use Rattle.law_transcript.specs.device_kinds.declared.kind.Kind.TheVariants.{Sensor};
 ghost use Rattle.route_table.specs.Network.{link_of};
 ghost use Rattle.law_wire.specs.Networks.{air_links, are_linked, chip_links, repeaters};
 ghost use Rattle.law_wire.specs.Worked.{not_learned, the_switches};

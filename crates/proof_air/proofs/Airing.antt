@@ -24,12 +24,12 @@ use Rattle.mesh_sim.specs.Steps.{answered, answers, answered_if, answers_if, cha
 use Rattle.zw_text.specs.declared.entry.Entry.{Entry}
 use Rattle.zw_text.specs.declared.entry.Entry.TheVariants as entry
 use Rattle.zw_text.specs.Transcript.{folded}
-use Rattle.law_transcript.specs.Nodes.{controller}
-use Rattle.outside_model.specs.State.{OuterState, Outside, outside}
-use Rattle.outside_model.specs.Air.{sent_entries}
-use Rattle.outside_model.specs.Events.{begins}
+use Rattle.law_wire.specs.law_transcript.Nodes.{controller}
+use Rattle.proof_walk.specs.outside_model.State.{OuterState, Outside, outside}
+use Rattle.proof_walk.specs.outside_model.Air.{sent_entries}
+use Rattle.proof_walk.specs.outside_model.Events.{begins}
 use Rattle.proof_walk.specs.Outside.{Pending, nothing, Moves, session_begins, HasNoWords}
-use Rattle.proof_device.proofs.Entering.{flat_are}
+use Rattle.proof_walk.proofs.Entering.{flat_are}
 use Rattle.proof_air.specs.Logs.{departure_of, mark_step, log_of, plain, plain_mark, plain_log, sent_marks, pending_marks, IsApart, Tie}
 use Rattle.proof_air.specs.Hearing.{MayHear, Knows}
 use Rattle.proof_air.proofs.Logs.{log_grows, plain-append, plain-begins, plain_begun}

@@ -29,22 +29,22 @@ use Rattle.zw_text.specs.declared.entry.Entry.{Entry}
 use Rattle.zw_text.specs.declared.entry.Entry.TheVariants as entry
 use Rattle.zw_text.specs.Transcript.{heard, heard_at}
 use Rattle.zw_text.proofs.Views.{shown-append}
-use Rattle.law_transcript.specs.Lists.{EachAfter, Has}
-use Rattle.law_transcript.specs.Carrying.{MayBring}
-use Rattle.law_transcript.proofs.Having.{has_right}
-use Rattle.outside_model.specs.State.{OuterState, Outside, outside, silent as silently, each}
-use Rattle.outside_model.specs.Chip.{chip_does, chip_ticks}
-use Rattle.outside_model.specs.Results.{frame_ends, device_at}
-use Rattle.outside_model.specs.Air.{deals, change_entries, change_at}
-use Rattle.outside_model.specs.Devices.{acts}
-use Rattle.outside_model.specs.Nodes.{joins, listens_at, links_of, pairs_of, is_known, discovers, all_pairs}
-use Rattle.outside_model.specs.Events.{OuterEvent, Host_notes, Joins, Discovers, Links, Loses, Loses_acks, Collides_next, outcome, mesh_of}
+use Rattle.law_wire.specs.law_transcript.Lists.{EachAfter, Has}
+use Rattle.law_wire.specs.law_transcript.Carrying.{MayBring}
+use Rattle.law_wire.proofs.Having.{has_right}
+use Rattle.proof_walk.specs.outside_model.State.{OuterState, Outside, outside, silent as silently, each}
+use Rattle.proof_walk.specs.outside_model.Chip.{chip_does, chip_ticks}
+use Rattle.proof_walk.specs.outside_model.Results.{frame_ends, device_at}
+use Rattle.proof_walk.specs.outside_model.Air.{deals, change_entries, change_at}
+use Rattle.proof_walk.specs.outside_model.Devices.{acts}
+use Rattle.proof_walk.specs.outside_model.Nodes.{joins, listens_at, links_of, pairs_of, is_known, discovers, all_pairs}
+use Rattle.proof_walk.specs.outside_model.Events.{OuterEvent, Host_notes, Joins, Discovers, Links, Loses, Loses_acks, Collides_next, outcome, mesh_of}
 use Rattle.proof_walk.specs.Outside.{Pending, Judging, Dealing, nothing, Moves, Outer, IsSimple, IsHearing, IsOfAir, session_begins}
 use Rattle.proof_walk.proofs.Linking.{acts_of_air}
-use Rattle.proof_device.proofs.ChangesOutside.{fate_home}
-use Rattle.proof_device.proofs.Entered.{IsChange, change_entered}
-use Rattle.proof_device.proofs.Entering.{outs_again_are, outs_at_are, pipes_leave}
-use Rattle.proof_device.proofs.Results.{gives_go}
+use Rattle.proof_walk.proofs.ChangesOutside.{fate_home}
+use Rattle.proof_walk.proofs.Entered.{IsChange, change_entered}
+use Rattle.proof_walk.proofs.Entering.{outs_again_are, outs_at_are, pipes_leave}
+use Rattle.proof_walk.proofs.Results.{gives_go}
 use Rattle.proof_air.specs.Logs.{Tie}
 use Rattle.proof_air.specs.Hearing.{JoinsNode}
 use Rattle.proof_air.specs.Carrying.{Brings, PortHas, Come, Holds, KnowsBeside}

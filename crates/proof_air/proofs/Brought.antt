@@ -22,8 +22,8 @@ use Rattle.chip_sim.specs.Answers.{notice_frame}
 use Rattle.chip_sim.specs.Requests.{callback_frame}
 use Rattle.chip_sim.specs.declared.out.Sending.{Sending}
 use Rattle.zw_text.specs.declared.entry.Entry.{Entry}
-use Rattle.law_transcript.specs.Units.{Carried, read_well, bringing_of, bringing_in}
-use Rattle.law_transcript.specs.Carrying.{ArePicked, heard_home, WereHeard}
+use Rattle.law_wire.specs.law_transcript.Units.{Carried, read_well, bringing_of, bringing_in}
+use Rattle.law_wire.specs.law_transcript.Carrying.{ArePicked, heard_home, WereHeard}
 use Rattle.proof_walk.proofs.Bodies.{body_is}
 use Rattle.proof_air.specs.Carrying.{Brings}
 use Rattle.proof_air.proofs.Judging.{both_true}

@@ -15,11 +15,11 @@ use Rattle.air_frames.proofs.Logs.{goes_in-append, begins_in-append, begins_in-b
 use Rattle.zw_text.specs.declared.entry.Entry.{Entry}
 use Rattle.zw_text.specs.declared.entry.Entry.TheVariants as entry
 use Rattle.zw_text.specs.Transcript.{AirFrame, folded, frame_at, frames, sessions, session_number_at, session_numbers}
-use Rattle.law_transcript.specs.Lists.{EachAfter, listed}
-use Rattle.law_transcript.specs.Nodes.{controller}
-use Rattle.law_transcript.specs.Fates.{MayAir}
-use Rattle.law_transcript.specs.Sessions.{MayBegin}
-use Rattle.law_transcript.specs.Repeats.{frame_of, up_to_frame, nonces_shown, news_after as news_in, new_nonces}
+use Rattle.law_wire.specs.law_transcript.Lists.{EachAfter, listed}
+use Rattle.law_wire.specs.law_transcript.Nodes.{controller}
+use Rattle.law_wire.specs.law_transcript.Fates.{MayAir}
+use Rattle.law_wire.specs.law_transcript.Sessions.{MayBegin}
+use Rattle.law_wire.specs.law_transcript.Repeats.{frame_of, up_to_frame, nonces_shown, news_after as news_in, new_nonces}
 use Rattle.mesh_sim.specs.Air.{no_route}
 use Rattle.proof_air.specs.Logs.{departure_of, mark_step, log_of}
 use Rattle.proof_air.proofs.Logs.{log_grows}

@@ -28,24 +28,24 @@ use Rattle.mesh_sim.specs.Steps.{AirStep, acknowledged, answers_if, arrival_outs
 use Rattle.mesh_sim.specs.Steps as mesh
 use Rattle.zw_text.specs.declared.entry.Entry.{Entry}
 use Rattle.zw_text.specs.declared.entry.Entry.TheVariants as entry
-use Rattle.law_transcript.specs.Nodes.{controller, device_of}
+use Rattle.law_wire.specs.law_transcript.Nodes.{controller, device_of}
 use Rattle.law_wire.specs.Doings.{AreDevices, doers_of}
-use Rattle.proof_host.proofs.Lists.{each-anywhere}
-use Rattle.outside_model.specs.State.{OuterState, Outside, outside}
-use Rattle.outside_model.specs.Chip.{chip_does, chip_ticks, shown_via}
-use Rattle.outside_model.specs.Results.{device_at, gives}
-use Rattle.outside_model.specs.Air.{deals, sent_entries, change_at, change_entries}
-use Rattle.outside_model.specs.Devices.{acts, changes_entries, new_changes}
-use Rattle.outside_model.specs.Events.{OuterEvent, Host_notes, mesh_of, outcome, ticked_entry}
-use Rattle.world_model.specs.State.{Machine}
-use Rattle.proof_device.proofs.ChangesOutside.{fate_listens, listener_is, place_set}
-use Rattle.proof_device.proofs.KeptKinds.{event_same}
+use Rattle.proof_walk.proofs.Lists.{each-anywhere}
+use Rattle.proof_walk.specs.outside_model.State.{OuterState, Outside, outside}
+use Rattle.proof_walk.specs.outside_model.Chip.{chip_does, chip_ticks, shown_via}
+use Rattle.proof_walk.specs.outside_model.Results.{device_at, gives}
+use Rattle.proof_walk.specs.outside_model.Air.{deals, sent_entries, change_at, change_entries}
+use Rattle.proof_walk.specs.outside_model.Devices.{acts, changes_entries, new_changes}
+use Rattle.proof_walk.specs.outside_model.Events.{OuterEvent, Host_notes, mesh_of, outcome, ticked_entry}
+use Rattle.proof_walk.specs.world_model.State.{Machine}
+use Rattle.proof_walk.proofs.ChangesOutside.{fate_listens, listener_is, place_set}
+use Rattle.proof_walk.proofs.KeptKinds.{event_same}
 use Rattle.proof_walk.specs.Outside.{Pending, Judging, nothing, Moves, Outer, IsHearing, IsNote, IsSimple, session_begins}
 use Rattle.proof_walk.specs.Walk.{Walk}
 use Rattle.proof_walk.proofs.Alone.{Any, covers_any, simple_acts}
 use Rattle.proof_walk.proofs.Machines.{machine_keeps}
 use Rattle.proof_air.specs.Doing.{AreOfDevices, HasDevice, IsOfDevice, KnownDoers, KnowsDoers, MayDo, TieDoers}
-use Rattle.proof_device.proofs.Entering.{answers_if_are, hearing, hearing_are, Acts, Enters, IsOfChip, IsOfEnd, does_of_chip, due_of_chip, ends_of_end, number_are, outcome_enters, payload_of_chip, flat_all, flat_are}
+use Rattle.proof_walk.proofs.Entering.{answers_if_are, hearing, hearing_are, Acts, Enters, IsOfChip, IsOfEnd, does_of_chip, due_of_chip, ends_of_end, number_are, outcome_enters, payload_of_chip, flat_all, flat_are}
 
 -- ---- devices of nodes
 

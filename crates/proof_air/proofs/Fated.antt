@@ -25,14 +25,14 @@ use Rattle.mesh_sim.specs.Steps.{MayArriveIf, MayHappen, acknowledged, air_heari
 use Rattle.mesh_sim.specs.Steps as mesh
 use Rattle.zw_text.specs.declared.entry.Entry.{Entry}
 use Rattle.zw_text.specs.declared.entry.Entry.TheVariants as entry
-use Rattle.law_transcript.specs.Fates.{first_fate, first_fates}
-use Rattle.law_transcript.specs.Lists.{shown_after}
-use Rattle.law_transcript.specs.Restarts.{repeats as answers_repeat}
-use Rattle.outside_model.specs.State.{OuterState, Outside, Outcome, and_then, each, tells}
-use Rattle.outside_model.specs.Air.{deals}
-use Rattle.outside_model.specs.Events.{Arrives, Repeats, May as MayOutside, entries as entries_outside, happens as happens_outside, has_entered, mesh_of, outcome, repeats, stamp, steps, ticked_entry}
-use Rattle.proof_device.proofs.ChangesOutside.{fate_listens}
-use Rattle.proof_device.proofs.Entering.{hearing, hearing_are, number_are, stamp_are}
+use Rattle.law_wire.specs.law_transcript.Fates.{first_fate, first_fates}
+use Rattle.law_wire.specs.law_transcript.Lists.{shown_after}
+use Rattle.law_wire.specs.law_transcript.Restarts.{repeats as answers_repeat}
+use Rattle.proof_walk.specs.outside_model.State.{OuterState, Outside, Outcome, and_then, each, tells}
+use Rattle.proof_walk.specs.outside_model.Air.{deals}
+use Rattle.proof_walk.specs.outside_model.Events.{Arrives, Repeats, May as MayOutside, entries as entries_outside, happens as happens_outside, has_entered, mesh_of, outcome, repeats, stamp, steps, ticked_entry}
+use Rattle.proof_walk.proofs.ChangesOutside.{fate_listens}
+use Rattle.proof_walk.proofs.Entering.{hearing, hearing_are, number_are, stamp_are}
 use Rattle.proof_walk.proofs.Times.{IsSameTime, outcome_time, same_number}
 use Rattle.proof_walk.proofs.Shown.{shown_both}
 use Rattle.proof_air.proofs.Fateless.{IsFateless, AreFateless, Rests, TellNoFate, TellsNoFate, all_deals_rest, answered_if_landed, entered_landed, landed_in}

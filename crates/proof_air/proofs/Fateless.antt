@@ -26,16 +26,16 @@ use Rattle.mesh_sim.specs.Routes.{backwards}
 use Rattle.mesh_sim.specs.Steps.{answered, answered_if}
 use Rattle.zw_text.specs.declared.entry.Entry.{Entry}
 use Rattle.zw_text.specs.declared.entry.Entry.TheVariants as entry
-use Rattle.outside_model.specs.State.{OuterState, Outside, Outcome, each, and_then, with_chip}
-use Rattle.outside_model.specs.Chip.{put_out, chip_does}
-use Rattle.outside_model.specs.Results.{device_at}
-use Rattle.outside_model.specs.Air.{change_at, change_entries, deals}
-use Rattle.outside_model.specs.Devices.{acts_at, acts_by_hand}
-use Rattle.outside_model.specs.Events.{OuterEvent, Begins_line, Begins_tick, Host_begins, Chip_takes, Arrives, Gives, Device_ticks, Chip_ticks, Repeats, Wakes_device, Sets_device, Marks_loss, Marks_change, Clears_pipe, begins, outcome, happens as happens_outside, entries as entries_outside, has_entered}
-use Rattle.world_model.specs.State.{Machine}
-use Rattle.world_model.specs.Events.{Event, Outside_does, happens, entries, May}
-use Rattle.proof_device.proofs.Entering.{Enters, HearsFrame, HearsNone, IsOfChip, IsOwn, change_own, chip_enters, does_of_chip, hears_none, own_enters}
-use Rattle.proof_device.proofs.Results.{Gives as GivesSo, ends_go, gives_go, to_chip_goes}
+use Rattle.proof_walk.specs.outside_model.State.{OuterState, Outside, Outcome, each, and_then, with_chip}
+use Rattle.proof_walk.specs.outside_model.Chip.{put_out, chip_does}
+use Rattle.proof_walk.specs.outside_model.Results.{device_at}
+use Rattle.proof_walk.specs.outside_model.Air.{change_at, change_entries, deals}
+use Rattle.proof_walk.specs.outside_model.Devices.{acts_at, acts_by_hand}
+use Rattle.proof_walk.specs.outside_model.Events.{OuterEvent, Begins_line, Begins_tick, Host_begins, Chip_takes, Arrives, Gives, Device_ticks, Chip_ticks, Repeats, Wakes_device, Sets_device, Marks_loss, Marks_change, Clears_pipe, begins, outcome, happens as happens_outside, entries as entries_outside, has_entered}
+use Rattle.proof_walk.specs.world_model.State.{Machine}
+use Rattle.proof_walk.specs.world_model.Events.{Event, Outside_does, happens, entries, May}
+use Rattle.proof_walk.proofs.Entering.{Enters, HearsFrame, HearsNone, IsOfChip, IsOwn, change_own, chip_enters, does_of_chip, hears_none, own_enters}
+use Rattle.proof_walk.proofs.Results.{Gives as GivesSo, ends_go, gives_go, to_chip_goes}
 use Rattle.proof_walk.specs.Outside.{CoversOuter, IsNote}
 use Rattle.proof_walk.proofs.Alone.{noted_are}
 use Rattle.proof_walk.proofs.Machines.{covers_answer, machine_goes_on}

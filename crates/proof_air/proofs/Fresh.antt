@@ -13,11 +13,11 @@ use Rattle.air_frames.proofs.Logs.{begins_in-append, news_after-append, through-
 use Rattle.zw_text.specs.declared.entry.Entry.{Entry}
 use Rattle.zw_text.specs.declared.entry.Entry.TheVariants as entry
 use Rattle.zw_text.specs.Transcript.{AirFrame, frames, session_numbers}
-use Rattle.law_transcript.specs.Lists.{EachAfter, listed}
-use Rattle.law_transcript.specs.Nodes.{controller}
-use Rattle.law_transcript.specs.Fates.{MayAir}
-use Rattle.law_transcript.specs.Sessions.{MayBegin}
-use Rattle.law_transcript.specs.Repeats.{node_of, frame_of, up_to_frame, later_sessions, new_nonces, later_nonces, too_old, refused_repeat, repeat_entry, refusal_to_repeat}
+use Rattle.law_wire.specs.law_transcript.Lists.{EachAfter, listed}
+use Rattle.law_wire.specs.law_transcript.Nodes.{controller}
+use Rattle.law_wire.specs.law_transcript.Fates.{MayAir}
+use Rattle.law_wire.specs.law_transcript.Sessions.{MayBegin}
+use Rattle.law_wire.specs.law_transcript.Repeats.{node_of, frame_of, up_to_frame, later_sessions, new_nonces, later_nonces, too_old, refused_repeat, repeat_entry, refusal_to_repeat}
 use Rattle.proof_air.specs.Logs.{log_of, IsApart}
 use Rattle.proof_air.specs.Hearing.{IsFresh, MayHear, MayRepeat}
 use Rattle.proof_air.proofs.Counting.{departure, HasEnd, frames_sent, frame_sent, at_its_place, frame_is_aired, log_up_to, up_to_prefix, each-left, sessions_begun, nonces_new}

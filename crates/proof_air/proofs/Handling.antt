@@ -4,13 +4,13 @@ use Rattle.zw_text.specs.declared.line.Line.{Line}
 use Rattle.zw_text.specs.declared.entry.Entry.{Entry}
 use Rattle.zw_text.specs.declared.entry.Entry.TheVariants as entry
 use Rattle.zw_text.specs.Transcript.{line_of}
-use Rattle.law_transcript.specs.Lists.{EachAfter}
-use Rattle.law_transcript.specs.Carrying.{MayBring}
-use Rattle.host_model.specs.Events.{Joins as joins_host}
-use Rattle.outside_model.specs.State.{OuterState, first_outer}
-use Rattle.outside_model.specs.Events.{Repeats, ticked_entry}
-use Rattle.world_model.specs.State.{Machine}
-use Rattle.world_model.specs.Events.{Event, Outside_does, Host_does, happens, entries, May}
+use Rattle.law_wire.specs.law_transcript.Lists.{EachAfter}
+use Rattle.law_wire.specs.law_transcript.Carrying.{MayBring}
+use Rattle.proof_walk.specs.host_model.Events.{Joins as joins_host}
+use Rattle.proof_walk.specs.outside_model.State.{OuterState, first_outer}
+use Rattle.proof_walk.specs.outside_model.Events.{Repeats, ticked_entry}
+use Rattle.proof_walk.specs.world_model.State.{Machine}
+use Rattle.proof_walk.specs.world_model.Events.{Event, Outside_does, Host_does, happens, entries, May}
 use Rattle.proof_walk.specs.Outside.{nothing, CoversOuter}
 use Rattle.proof_walk.specs.Phases.{Phase, Between, Said_line, Begun, Doing, To_tick, Arriving, Giving, Ticking_devices, Ticking_chip, Ticking_decoder, Ticking_host, Sleeping, Submitting, Moving, Moved, Goes}
 use Rattle.proof_walk.specs.Walk.{WalkOver}

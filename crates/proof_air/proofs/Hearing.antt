@@ -18,15 +18,15 @@ use Rattle.zw_text.specs.declared.entry.Refusal.{Refusal as LineRefusal}
 use Rattle.zw_text.specs.declared.entry.Refusal.TheVariants as refusal
 use Rattle.zw_text.specs.Transcript.{line_of, line_last}
 use Rattle.zw_text.proofs.Views.{folded-append}
-use Rattle.law_transcript.specs.Lists.{EachAfter}
-use Rattle.law_transcript.specs.Nodes.{controller}
+use Rattle.law_wire.specs.law_transcript.Lists.{EachAfter}
+use Rattle.law_wire.specs.law_transcript.Nodes.{controller}
 use Rattle.zw_base.proofs.Each.{all-append}
-use Rattle.host_model.specs.Events.{Joins as joins_host}
-use Rattle.outside_model.specs.State.{OuterState, Outside, outside}
-use Rattle.outside_model.specs.Events.{OuterEvent, Begins_line, Joins, Repeats, outcome, devices_after, refusal_entries, repeats, devices_repeated, ticked_entry, stamp, has_entered, is_own}
-use Rattle.world_model.specs.State.{Machine}
-use Rattle.world_model.specs.Events.{Event, Outside_does, Host_does, happens, entries, May}
-use Rattle.world_model.specs.Lines.{IsEffect}
+use Rattle.proof_walk.specs.host_model.Events.{Joins as joins_host}
+use Rattle.proof_walk.specs.outside_model.State.{OuterState, Outside, outside}
+use Rattle.proof_walk.specs.outside_model.Events.{OuterEvent, Begins_line, Joins, Repeats, outcome, devices_after, refusal_entries, repeats, devices_repeated, ticked_entry, stamp, has_entered, is_own}
+use Rattle.proof_walk.specs.world_model.State.{Machine}
+use Rattle.proof_walk.specs.world_model.Events.{Event, Outside_does, Host_does, happens, entries, May}
+use Rattle.proof_walk.specs.world_model.Lines.{IsEffect}
 use Rattle.proof_walk.specs.Outside.{nothing, Known, CoversOuter}
 use Rattle.proof_walk.specs.Phases.{Between}
 use Rattle.proof_walk.specs.Walk.{Walk}

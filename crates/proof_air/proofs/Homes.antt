@@ -23,13 +23,13 @@ use Rattle.mesh_sim.specs.declared.event.AirEvent.TheVariants as air_event
 use Rattle.zw_text.specs.declared.entry.Entry.{Entry}
 use Rattle.zw_text.specs.Transcript.{AirFrame, frames, frame_at, heard, heard_at}
 use Rattle.zw_text.proofs.Views.{shown-append}
-use Rattle.law_transcript.specs.Lists.{Has}
-use Rattle.law_transcript.specs.Nodes.{controller}
-use Rattle.law_transcript.specs.Repeats.{frame_of}
-use Rattle.law_transcript.specs.Units.{Carried, bringing_in}
-use Rattle.law_transcript.specs.Carrying.{ArePicked, homeward, heard_home, WereHeard}
-use Rattle.law_transcript.proofs.Having.{has_left, has_right, has_either, has_shown, shown_has}
-use Rattle.outside_model.specs.State.{Outside}
+use Rattle.law_wire.specs.law_transcript.Lists.{Has}
+use Rattle.law_wire.specs.law_transcript.Nodes.{controller}
+use Rattle.law_wire.specs.law_transcript.Repeats.{frame_of}
+use Rattle.law_wire.specs.law_transcript.Units.{Carried, bringing_in}
+use Rattle.law_wire.specs.law_transcript.Carrying.{ArePicked, homeward, heard_home, WereHeard}
+use Rattle.law_wire.proofs.Having.{has_left, has_right, has_either, has_shown, shown_has}
+use Rattle.proof_walk.specs.outside_model.State.{Outside}
 use Rattle.proof_walk.specs.Outside.{nothing}
 use Rattle.proof_air.specs.Logs.{log_of, plain, plain_log, Tie}
 use Rattle.proof_air.specs.Carrying.{Brings, TurnHas, PortHas, IsHome, Come}

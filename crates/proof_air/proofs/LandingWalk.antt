@@ -10,17 +10,17 @@ use Rattle.zw_text.specs.declared.entry.Entry.{Entry}
 use Rattle.zw_text.specs.declared.entry.Entry.TheVariants as entry
 use Rattle.zw_text.specs.Transcript.{folded, frames, line_after, line_last, line_of, lines_run}
 use Rattle.zw_text.proofs.Views.{folded-append}
-use Rattle.law_transcript.specs.Fates.{first_fates}
-use Rattle.law_transcript.specs.Lists.{EachAfter}
-use Rattle.law_transcript.specs.Restarts.{is_repeat, repeats, ticks_asked}
+use Rattle.law_wire.specs.law_transcript.Fates.{first_fates}
+use Rattle.law_wire.specs.law_transcript.Lists.{EachAfter}
+use Rattle.law_wire.specs.law_transcript.Restarts.{is_repeat, repeats, ticks_asked}
 use Rattle.law_wire.specs.Arriving.{HaveLanded, MayLand, sent_before}
-use Rattle.proof_host.proofs.Lists.{each-anywhere}
-use Rattle.host_model.specs.Ticking.{tick_events}
-use Rattle.outside_model.specs.State.{OuterState, Outside}
-use Rattle.outside_model.specs.Events.{OuterEvent, Begins_line, Begins_tick, Arrives, Repeats, outcome, devices_after, ticked_entry, is_own}
-use Rattle.world_model.specs.State.{Machine}
-use Rattle.world_model.specs.Events.{Event, Outside_does, happens, entries, May}
-use Rattle.world_model.specs.Lines.{IsEffect}
+use Rattle.proof_walk.proofs.Lists.{each-anywhere}
+use Rattle.proof_walk.specs.host_model.Ticking.{tick_events}
+use Rattle.proof_walk.specs.outside_model.State.{OuterState, Outside}
+use Rattle.proof_walk.specs.outside_model.Events.{OuterEvent, Begins_line, Begins_tick, Arrives, Repeats, outcome, devices_after, ticked_entry, is_own}
+use Rattle.proof_walk.specs.world_model.State.{Machine}
+use Rattle.proof_walk.specs.world_model.Events.{Event, Outside_does, happens, entries, May}
+use Rattle.proof_walk.specs.world_model.Lines.{IsEffect}
 use Rattle.proof_walk.specs.Outside.{Link, Moves, CoversOuter, nothing}
 use Rattle.proof_walk.specs.Phases.{Phase, Between, Said_line, Begun, Doing, To_tick, Ticked, Arriving, Giving, Ticking_devices, Ticking_chip, Ticking_decoder, Ticking_host, Sleeping, Submitting, Moving, Moved, Turns, Goes, passes_after}
 use Rattle.proof_walk.specs.ByLine.{CoversLine}

@@ -18,3 +18,28 @@ pub mod Fateless
 pub mod Fated
 pub mod LandingWalk
 mod Doing
+pub use Rattle.proof_walk.proofs.ByLine
+pub use Rattle.proof_walk.proofs.Alone
+pub use Rattle.proof_walk.proofs.Joining
+pub use Rattle.proof_walk.proofs.Lines
+pub use Rattle.proof_walk.proofs.Linking
+pub use Rattle.proof_walk.proofs.Machines
+pub use Rattle.proof_walk.proofs.Untimed
+pub use Rattle.proof_walk.proofs.Times
+pub use Rattle.proof_walk.proofs.Stepping
+pub use Rattle.proof_walk.proofs.Clock
+pub use Rattle.proof_walk.proofs.Shown
+pub use Rattle.proof_walk.proofs.Over
+pub use Rattle.proof_walk.proofs.Moving
+pub use Rattle.proof_walk.proofs.Where
+pub use Rattle.proof_walk.proofs.Bodies
+pub use Rattle.proof_walk.proofs.Stamping
+pub use Rattle.proof_walk.proofs.HostNotes
+pub use Rattle.proof_walk.proofs.Lists
+pub use Rattle.proof_walk.proofs.Effects
+pub use Rattle.proof_walk.proofs.Confirmed
+pub use Rattle.proof_walk.proofs.Values
+pub use Rattle.proof_walk.proofs.Hosting
+pub use Rattle.proof_walk.proofs.world_model_EventLists as EventLists
+pub use Rattle.proof_walk.proofs.Pieces
+pub use Rattle.proof_walk.proofs.Along

@@ -19,7 +19,7 @@ use Rattle.serial_pipes.specs.Events.{told}
 use Rattle.zw_words.specs.declared.side.Side.TheVariants.{Chip as by_chip}
 use Rattle.zw_text.specs.declared.entry.Entry.{Entry}
 use Rattle.zw_text.specs.declared.entry.Entry.TheVariants as entry
-use Rattle.law_transcript.specs.Nodes.{controller}
+use Rattle.law_wire.specs.law_transcript.Nodes.{controller}
 use Rattle.chip_sim.specs.State.{ChipState, ChipParts}
 use Rattle.chip_sim.specs.Events.{ChipEvent, Judged, Ticked, Done, Heard as chip_hears, Informed, Forgets, Joined, after, outs, May as MayOfChip}
 use Rattle.chip_sim.specs.declared.out.ChipOut.{ChipOut}
@@ -35,16 +35,16 @@ use Rattle.mesh_sim.specs.declared.fate.Fate.TheVariants as fate
 use Rattle.mesh_sim.specs.Fates.{Mesh, fate_of, place_of, listener_of}
 use Rattle.mesh_sim.specs.Steps.{AirStep, landed, acknowledged, status_of, done_of, changed, answers_if, air_hearing, outs_hearing, heard_at, outs_at, arriving_as, arriving, arrival_outs_as, arrival_outs, heard_again, outs_again, repeating_by, repeating, repeat_outs_by, repeat_outs, mesh_after, mesh_outs}
 use Rattle.mesh_sim.specs.Steps as mesh
-use Rattle.outside_model.specs.State.{OuterState, Outside, outside, Outcome, silent as silently, each, with_chip}
-use Rattle.outside_model.specs.Chip.{put_out, chip_does, chip_ticks, shown_via}
-use Rattle.outside_model.specs.Results.{device_at}
-use Rattle.outside_model.specs.Air.{deals, sent_entries, change_entries, change_at}
-use Rattle.outside_model.specs.Devices.{acts, changes_entries, new_changes}
-use Rattle.outside_model.specs.Nodes.{joins, listens_at, links_of, all_pairs}
-use Rattle.outside_model.specs.Events.{OuterEvent, Host_notes, Joins, Discovers, Links, Loses, Loses_acks, Collides_next, mesh_of, outcome}
+use Rattle.proof_walk.specs.outside_model.State.{OuterState, Outside, outside, Outcome, silent as silently, each, with_chip}
+use Rattle.proof_walk.specs.outside_model.Chip.{put_out, chip_does, chip_ticks, shown_via}
+use Rattle.proof_walk.specs.outside_model.Results.{device_at}
+use Rattle.proof_walk.specs.outside_model.Air.{deals, sent_entries, change_entries, change_at}
+use Rattle.proof_walk.specs.outside_model.Devices.{acts, changes_entries, new_changes}
+use Rattle.proof_walk.specs.outside_model.Nodes.{joins, listens_at, links_of, all_pairs}
+use Rattle.proof_walk.specs.outside_model.Events.{OuterEvent, Host_notes, Joins, Discovers, Links, Loses, Loses_acks, Collides_next, mesh_of, outcome}
 use Rattle.proof_walk.specs.Outside.{Pending, Judging, Dealing, nothing, Outer, IsSimple, IsHearing, HasNoWords}
-use Rattle.proof_device.proofs.Results.{IsGiven, Gives, ends_go, gives_go, to_chip_goes}
-use Rattle.proof_device.proofs.Entering.{IsOfChip, IsOfPipes, does_of_chip, pipes_leave}
+use Rattle.proof_walk.proofs.Results.{IsGiven, Gives, ends_go, gives_go, to_chip_goes}
+use Rattle.proof_walk.proofs.Entering.{IsOfChip, IsOfPipes, does_of_chip, pipes_leave}
 use Rattle.proof_air.specs.Logs.{departure_of, log_of, plain, sent_marks, IsApart, Tie}
 use Rattle.proof_air.specs.Hearing.{MayHear, Knows, JoinsNode}
 use Rattle.proof_air.proofs.Logs.{log_grows, plain-append}

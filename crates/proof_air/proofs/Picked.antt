@@ -1,6 +1,6 @@
 -- Items that are picked of a list, in order.
 use Rattle.std.proofs.Common.{inl, inr, List, [], ◌∷◌, ◌++◌, refl, ◌∙◌}
-use Rattle.law_transcript.specs.Carrying.{ArePicked}
+use Rattle.law_wire.specs.law_transcript.Carrying.{ArePicked}
 
 pub picked_skip : {A : Type 0} (xs : List A) (y : A) (ys : List A) → ArePicked xs ys → ArePicked xs (y ∷ ys)
 picked_skip [] y ys are = tt

@@ -18,20 +18,20 @@ use Rattle.zw_words.specs.declared.side.Side.{Side}
 use Rattle.zw_words.specs.declared.side.Side.TheVariants.{Host as by_host, Chip as by_chip}
 use Rattle.zw_text.specs.declared.entry.Entry.{Entry}
 use Rattle.zw_text.specs.declared.entry.Entry.TheVariants as entry
-use Rattle.law_transcript.specs.Lists.{EachAfter}
-use Rattle.law_transcript.specs.Units.{bringing_in}
-use Rattle.law_transcript.specs.Carrying.{heard_home, WereHeard, MayBring}
-use Rattle.proof_host.proofs.Lists.{each-append, each-anywhere}
-use Rattle.outside_model.specs.declared.waits.Due.{Due}
-use Rattle.outside_model.specs.State.{OuterState, Outside, outside, Outcome, silent as silently, tells, each, and_then, with_chip}
-use Rattle.outside_model.specs.Chip.{put_out, chip_does}
-use Rattle.outside_model.specs.Results.{frame_ends, gives}
-use Rattle.outside_model.specs.Events.{OuterEvent, outcome}
+use Rattle.law_wire.specs.law_transcript.Lists.{EachAfter}
+use Rattle.law_wire.specs.law_transcript.Units.{bringing_in}
+use Rattle.law_wire.specs.law_transcript.Carrying.{heard_home, WereHeard, MayBring}
+use Rattle.proof_walk.proofs.Lists.{each-append, each-anywhere}
+use Rattle.proof_walk.specs.outside_model.declared.waits.Due.{Due}
+use Rattle.proof_walk.specs.outside_model.State.{OuterState, Outside, outside, Outcome, silent as silently, tells, each, and_then, with_chip}
+use Rattle.proof_walk.specs.outside_model.Chip.{put_out, chip_does}
+use Rattle.proof_walk.specs.outside_model.Results.{frame_ends, gives}
+use Rattle.proof_walk.specs.outside_model.Events.{OuterEvent, outcome}
 use Rattle.proof_walk.specs.Outside.{Pending, Judging, Dealing, IsNote, IsOfAir}
 use Rattle.proof_walk.proofs.Times.{puts_chip}
-use Rattle.proof_device.proofs.Entered.{IsMark, told_by_marks, IsChange}
-use Rattle.proof_device.proofs.Results.{IsResult, Calls, due_goes, end_goes}
-use Rattle.proof_device.proofs.Entering.{IsOfPipe, IsOfPipes, pipes_enter}
+use Rattle.proof_walk.proofs.Entered.{IsMark, told_by_marks, IsChange}
+use Rattle.proof_walk.proofs.Results.{IsResult, Calls, due_goes, end_goes}
+use Rattle.proof_walk.proofs.Entering.{IsOfPipe, IsOfPipes, pipes_enter}
 use Rattle.proof_air.specs.Carrying.{Brings, PortHas, PendingCome, Holds}
 use Rattle.proof_air.proofs.Homes.{brings_stays, port_stays, come_after}
 use Rattle.proof_air.proofs.Brought.{response_brings, callback_brings, update_brings}

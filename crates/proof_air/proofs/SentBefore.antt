@@ -7,8 +7,8 @@ use Rattle.zw_text.specs.declared.entry.Entry.{Entry}
 use Rattle.zw_text.specs.declared.entry.Entry.TheVariants as entry
 use Rattle.zw_text.specs.Transcript.{frame_at, frames, line_of, lines_run, tick_at, ticks, last_number, time_of}
 use Rattle.zw_text.proofs.Views.{shown-append}
-use Rattle.law_transcript.specs.Lists.{shown_after}
-use Rattle.law_transcript.specs.Restarts.{ticks_asked}
+use Rattle.law_wire.specs.law_transcript.Lists.{shown_after}
+use Rattle.law_wire.specs.law_transcript.Restarts.{ticks_asked}
 use Rattle.law_wire.specs.Asked.{clock_of, lines_before}
 use Rattle.law_wire.specs.Arriving.{sent_at, sent_before}
 use Rattle.proof_walk.proofs.Untimed.{AreUntimed, same_lines, same_time}

@@ -15,17 +15,17 @@ use Rattle.zw_text.specs.declared.line.Line.TheVariants.{Repeat}
 use Rattle.zw_text.specs.declared.entry.Entry.{Entry}
 use Rattle.zw_text.specs.declared.entry.Entry.TheVariants as entry
 use Rattle.zw_text.specs.Transcript.{folded, line_of, line_last}
-use Rattle.law_transcript.specs.Lists.{EachAfter}
-use Rattle.outside_model.specs.Air.{change_entries}
-use Rattle.outside_model.specs.Devices.{changes_entries}
-use Rattle.outside_model.specs.Events.{ticked_entry, OuterEvent, outcome}
-use Rattle.outside_model.specs.State.{OuterState, Outside}
-use Rattle.world_model.specs.State.{begun_in}
+use Rattle.law_wire.specs.law_transcript.Lists.{EachAfter}
+use Rattle.proof_walk.specs.outside_model.Air.{change_entries}
+use Rattle.proof_walk.specs.outside_model.Devices.{changes_entries}
+use Rattle.proof_walk.specs.outside_model.Events.{ticked_entry, OuterEvent, outcome}
+use Rattle.proof_walk.specs.outside_model.State.{OuterState, Outside}
+use Rattle.proof_walk.specs.world_model.State.{begun_in}
 use Rattle.proof_walk.specs.Outside.{IsNote, HasNoWords}
 use Rattle.proof_walk.proofs.ByLine.{last_is}
 use Rattle.proof_walk.proofs.Alone.{wordless_line}
-use Rattle.proof_device.proofs.Entered.{IsChange, change_entered, changes_entered}
-use Rattle.proof_device.proofs.Entering.{IsOfPipe, IsOfPipes, pipes_enter, told_of_pipe}
+use Rattle.proof_walk.proofs.Entered.{IsChange, change_entered, changes_entered}
+use Rattle.proof_walk.proofs.Entering.{IsOfPipe, IsOfPipes, pipes_enter, told_of_pipe}
 use Rattle.proof_air.specs.Logs.{mark_step, log_of}
 use Rattle.proof_air.specs.Hearing.{MayHear, FreshHere}
 use Rattle.proof_air.proofs.Logs.{log_grows}

@@ -11,11 +11,11 @@ use Rattle.mesh_sim.specs.declared.event.AirEvent.{AirEvent}
 use Rattle.mesh_sim.specs.declared.event.AirEvent.TheVariants as air_event
 use Rattle.zw_text.specs.declared.entry.Entry.{Entry}
 use Rattle.zw_text.specs.Transcript.{heard}
-use Rattle.law_transcript.specs.Lists.{Has}
-use Rattle.law_transcript.specs.Repeats.{frame_of}
-use Rattle.law_transcript.specs.Units.{bringing_in}
-use Rattle.law_transcript.specs.Carrying.{homeward, heard_home, WereHeard}
-use Rattle.outside_model.specs.State.{Outside}
+use Rattle.law_wire.specs.law_transcript.Lists.{Has}
+use Rattle.law_wire.specs.law_transcript.Repeats.{frame_of}
+use Rattle.law_wire.specs.law_transcript.Units.{bringing_in}
+use Rattle.law_wire.specs.law_transcript.Carrying.{homeward, heard_home, WereHeard}
+use Rattle.proof_walk.specs.outside_model.State.{Outside}
 use Rattle.proof_walk.specs.Outside.{Pending, Judging, Dealing, Knowing}
 use Rattle.proof_walk.specs.ByLine.{KnownOf}
 use Rattle.proof_walk.specs.Phases.{Phase}

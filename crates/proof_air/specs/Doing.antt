@@ -7,7 +7,7 @@ use Rattle.mesh_sim.specs.declared.event.AirEvent.{AirEvent}
 use Rattle.mesh_sim.specs.declared.event.AirEvent.TheVariants.{Sent, Changed}
 use Rattle.mesh_sim.specs.Fates.{place_of}
 use Rattle.zw_text.specs.declared.entry.Entry.{Entry}
-use Rattle.law_transcript.specs.Nodes.{device_of}
+use Rattle.law_wire.specs.law_transcript.Nodes.{device_of}
 use Rattle.law_wire.specs.Doings.{AreDevices, doers_of}
 use Rattle.proof_walk.specs.Outside.{Pending, Judging, Dealing, Known, Knowing}
 use Rattle.proof_walk.specs.ByLine.{KnownOf}

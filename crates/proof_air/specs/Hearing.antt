@@ -9,13 +9,13 @@ use Rattle.zw_text.specs.declared.line.Line.TheVariants.{Repeat}
 use Rattle.zw_text.specs.declared.entry.Entry.{Entry}
 use Rattle.zw_text.specs.declared.entry.Entry.TheVariants.{Heard}
 use Rattle.zw_text.specs.Transcript.{line_last}
-use Rattle.law_transcript.specs.Lists.{EachAfter}
-use Rattle.law_transcript.specs.Nodes.{controller}
-use Rattle.law_transcript.specs.Repeats.{frame_of, refusal_to_repeat, refused_repeat}
-use Rattle.host_model.specs.Events.{Joins as joins_host}
-use Rattle.outside_model.specs.Events.{OuterEvent, Joins, Repeats}
-use Rattle.world_model.specs.State.{Machine}
-use Rattle.world_model.specs.Events.{Event, Outside_does, Host_does}
+use Rattle.law_wire.specs.law_transcript.Lists.{EachAfter}
+use Rattle.law_wire.specs.law_transcript.Nodes.{controller}
+use Rattle.law_wire.specs.law_transcript.Repeats.{frame_of, refusal_to_repeat, refused_repeat}
+use Rattle.proof_walk.specs.host_model.Events.{Joins as joins_host}
+use Rattle.proof_walk.specs.outside_model.Events.{OuterEvent, Joins, Repeats}
+use Rattle.proof_walk.specs.world_model.State.{Machine}
+use Rattle.proof_walk.specs.world_model.Events.{Event, Outside_does, Host_does}
 use Rattle.proof_walk.specs.Outside.{Pending, nothing, Knowing, Known, CoversOuter}
 use Rattle.proof_walk.specs.Phases.{Phase}
 use Rattle.proof_walk.specs.ByLine.{KnownOf, by_line}

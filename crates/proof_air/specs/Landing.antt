@@ -7,13 +7,13 @@ use Rattle.zw_text.specs.declared.line.Line.{Line}
 use Rattle.zw_text.specs.declared.line.Line.TheVariants.{Repeat}
 use Rattle.zw_text.specs.declared.entry.Entry.{Entry}
 use Rattle.zw_text.specs.Transcript.{frames, line_last}
-use Rattle.law_transcript.specs.Fates.{first_fates}
-use Rattle.law_transcript.specs.Restarts.{repeats}
+use Rattle.law_wire.specs.law_transcript.Fates.{first_fates}
+use Rattle.law_wire.specs.law_transcript.Restarts.{repeats}
 use Rattle.law_wire.specs.Asked.{clock_of}
 use Rattle.law_wire.specs.Arriving.{MayLand, sent_before}
-use Rattle.outside_model.specs.Events.{OuterEvent, Begins_line, Begins_tick, Arrives, Repeats}
-use Rattle.world_model.specs.State.{Machine}
-use Rattle.world_model.specs.Events.{Event, Outside_does}
+use Rattle.proof_walk.specs.outside_model.Events.{OuterEvent, Begins_line, Begins_tick, Arrives, Repeats}
+use Rattle.proof_walk.specs.world_model.State.{Machine}
+use Rattle.proof_walk.specs.world_model.Events.{Event, Outside_does}
 use Rattle.proof_walk.specs.Outside.{Known, Knowing, CoversOuter}
 use Rattle.proof_walk.specs.Phases.{Phase, Said_line, Begun, Doing, Ticked, Arriving}
 

@@ -3,3 +3,7 @@ pub mod Hearing
 pub mod Carrying
 pub mod Landing
 pub mod Doing
+pub use Rattle.proof_walk.specs.proof_host as proof_host
+pub use Rattle.proof_walk.specs as proof_walk
+pub use Rattle.proof_walk.specs.world_lines as world_lines
+pub use Rattle.proof_walk.specs.world_model as world_model

@@ -10,8 +10,8 @@ use Rattle.mesh_sim.specs.Air.{no_route, is_joined}
 use Rattle.zw_text.specs.declared.entry.Entry.{Entry}
 use Rattle.zw_text.specs.declared.entry.Entry.TheVariants.{Air, Begin}
 use Rattle.zw_text.specs.Transcript.{folded}
-use Rattle.law_transcript.specs.Nodes.{controller}
-use Rattle.outside_model.specs.State.{Outside}
+use Rattle.law_wire.specs.law_transcript.Nodes.{controller}
+use Rattle.proof_walk.specs.outside_model.State.{Outside}
 use Rattle.proof_walk.specs.Outside.{Pending, Judging, Dealing}
 
 -- ---- what a transcript shows

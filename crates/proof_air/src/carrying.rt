@@ -3,10 +3,10 @@
 ghost use Rattle.std.specs.Prelude.{Option, List, [], ℕ};
 ghost use Rattle.s0_crypto.specs.declared.key_pair.Keys.{Keys};
 ghost use Rattle.device_sim.specs.State.{State};
-ghost use Rattle.law_transcript.specs.Carrying.{MayBring, BringsWhatWasHeard};
-ghost use Rattle.world_model.specs.State.{first_machine};
-ghost use Rattle.world_lines.specs.Spoken.{Spoken, transcript_of};
-ghost use Rattle.world_lines.specs.Done.{AreDone};
+ghost use Rattle.law_wire.specs.law_transcript.Carrying.{MayBring, BringsWhatWasHeard};
+ghost use Rattle.proof_walk.specs.world_model.State.{first_machine};
+ghost use Rattle.proof_walk.specs.world_lines.Spoken.{Spoken, transcript_of};
+ghost use Rattle.proof_walk.specs.world_lines.Done.{AreDone};
 ghost use Rattle.proof_walk.specs.Phases.{Between};
 ghost use Rattle.proof_walk.specs.Walk.{WalkOver};
 ghost use Rattle.proof_air.specs.Hearing.{KnowAir};

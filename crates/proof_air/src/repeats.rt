@@ -3,12 +3,12 @@
 ghost use Rattle.std.specs.Prelude.{Option, List, ℕ};
 ghost use Rattle.s0_crypto.specs.declared.key_pair.Keys.{Keys};
 ghost use Rattle.device_sim.specs.State.{State};
-ghost use Rattle.law_transcript.specs.Fates.{NumbersFrames};
-ghost use Rattle.law_transcript.specs.Sessions.{KeepsSessions};
-ghost use Rattle.world_model.specs.State.{first_machine};
-ghost use Rattle.world_lines.specs.Spoken.{Spoken, after_all, transcript_of};
-ghost use Rattle.world_lines.specs.Done.{AreDone};
-ghost use Rattle.world_lines.specs.Whole.{AreWhole};
+ghost use Rattle.law_wire.specs.law_transcript.Fates.{NumbersFrames};
+ghost use Rattle.law_wire.specs.law_transcript.Sessions.{KeepsSessions};
+ghost use Rattle.proof_walk.specs.world_model.State.{first_machine};
+ghost use Rattle.proof_walk.specs.world_lines.Spoken.{Spoken, after_all, transcript_of};
+ghost use Rattle.proof_walk.specs.world_lines.Done.{AreDone};
+ghost use Rattle.proof_walk.specs.world_lines.Whole.{AreWhole};
 ghost use Rattle.proof_air.specs.Hearing.{RefusesAlike, RepeatsFresh};
 
 use crate::history_goes_on;

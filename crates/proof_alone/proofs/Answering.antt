@@ -9,19 +9,19 @@ use Rattle.zw_text.specs.declared.entry.Entry.{Entry}
 use Rattle.zw_text.specs.declared.entry.Entry.TheVariants as entry
 use Rattle.zw_text.specs.declared.entry.Outcome.{Outcome}
 use Rattle.zw_text.specs.Transcript.{line_last, outcome}
-use Rattle.law_transcript.specs.Answers.{MayCancel}
+use Rattle.law_host.specs.law_transcript.Answers.{MayCancel}
 use Rattle.zw_base.specs.declared.order.Order.{Order}
 use Rattle.host_orders.specs.declared.carriage.Carriage.{Carriage}
-use Rattle.law_transcript.specs.Commands.{is_waiting}
-use Rattle.law_transcript.specs.Lists.{EachAfter}
-use Rattle.proof_host.specs.Laws.{MayStand}
-use Rattle.proof_host.proofs.Lists.{each-anywhere}
+use Rattle.law_host.specs.law_transcript.Commands.{is_waiting}
+use Rattle.law_host.specs.law_transcript.Lists.{EachAfter}
+use Rattle.proof_line.specs.proof_host.Laws.{MayStand}
+use Rattle.proof_line.proofs.Lists.{each-anywhere}
 use Rattle.host_model.specs.State.{HostState}
 use Rattle.host_requests.specs.declared.task.Task.{Task}
 use Rattle.host_model.specs.Asking.{carriage_for}
 use Rattle.host_model.specs.Events.{HostEvent, Accepts, Cancels, Joins, Queues, Queues_interview, Queues_probe, Hears}
 use Rattle.host_model.specs.Outs.{answers, outs}
-use Rattle.proof_walk.specs.Outside.{IsHostNote}
+use Rattle.proof_line.specs.proof_walk.Outside.{IsHostNote}
 use Rattle.proof_alone.specs.State.{HostMachine}
 use Rattle.proof_alone.specs.Steps.{IsAskedBy, IsOfOthers, Step, Tells, Comes, Misses, Says, Says_nothing, Asks, Refuses, Shows, Restarts, Begins_tick, Numbers, Judges, Does, entries}
 use Rattle.proof_alone.specs.Phases.{Phase, May}

@@ -9,9 +9,9 @@ use Rattle.zw_text.specs.declared.entry.Entry.{Entry}
 use Rattle.zw_text.specs.declared.entry.Entry.TheVariants as entry
 use Rattle.host_model.specs.declared.out.HostOut.{HostOut}
 use Rattle.host_model.specs.declared.out.HostOut.TheVariants.{Note, Write}
-use Rattle.proof_device.proofs.HostOuts.{OutsAre}
-use Rattle.proof_walk.specs.Outside.{IsHostNote}
-use Rattle.proof_walk.proofs.HostNotes.{NoteOuts}
+use Rattle.proof_line.proofs.HostOuts.{OutsAre}
+use Rattle.proof_line.specs.proof_walk.Outside.{IsHostNote}
+use Rattle.proof_line.proofs.HostNotes.{NoteOuts}
 use Rattle.proof_alone.specs.Steps.{AreTold, DidNotCome, IsOfUnit}
 
 -- units, and what becomes of them

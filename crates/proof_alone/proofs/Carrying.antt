@@ -8,11 +8,11 @@ use Rattle.zw_text.specs.declared.line.Line.TheVariants as lines
 use Rattle.zw_text.specs.declared.entry.Entry.{Entry}
 use Rattle.zw_text.specs.declared.entry.Entry.TheVariants as entry
 use Rattle.zw_text.specs.Transcript.{Accepting, Command, accepted_at, accepting, folded, line_last, not_accepting, numbered, sessions}
-use Rattle.law_transcript.specs.Commands.{numbers_of}
-use Rattle.law_transcript.specs.Lists.{EachAfter, Has}
-use Rattle.law_transcript.specs.Once.{CarriesOnce}
-use Rattle.proof_host.specs.Laws.{HostLaws, number_for, numbers_for}
-use Rattle.proof_walk.proofs.ByLine.{last_is}
+use Rattle.law_host.specs.law_transcript.Commands.{numbers_of}
+use Rattle.law_host.specs.law_transcript.Lists.{EachAfter, Has}
+use Rattle.law_host.specs.law_transcript.Once.{CarriesOnce}
+use Rattle.proof_line.specs.proof_host.Laws.{HostLaws, number_for, numbers_for}
+use Rattle.proof_line.proofs.ByLine.{last_is}
 use Rattle.proof_alone.specs.Answering.{AsOrdered}
 
 of_node : (command : ℕ) (order : Order) (b : Bool) → numbers_of (if b then numbered command ((if b then order ∷ [] else []) ++ []) else []) ≡ (if b then command ∷ [] else [])

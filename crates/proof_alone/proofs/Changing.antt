@@ -16,7 +16,7 @@ use Rattle.zw_text.specs.declared.entry.Entry.{Entry}
 use Rattle.zw_text.specs.declared.entry.Entry.TheVariants as entry
 use Rattle.zw_text.specs.Transcript.{folded, line_of, read_as, same_side}
 use Rattle.zw_text.proofs.TextLaws.{line_takes}
-use Rattle.law_wire.specs.Marks.{Changing, Marks, marks_by, marks_of, marks_step}
+use Rattle.law_host.specs.law_wire.Marks.{Changing, Marks, marks_by, marks_of, marks_step}
 use Rattle.proof_line.specs.Marks.{changing_of, marks_at}
 use Rattle.proof_alone.proofs.Coming.{AllChange}
 

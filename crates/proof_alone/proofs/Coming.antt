@@ -25,14 +25,14 @@ use Rattle.s0_crypto.specs.declared.key_pair.Keys.{Keys}
 use Rattle.zw_words.specs.declared.side.Side.TheVariants.{Chip}
 use Rattle.zw_text.specs.declared.entry.Entry.{Entry}
 use Rattle.zw_text.specs.declared.entry.Entry.TheVariants as entry
-use Rattle.law_time.specs.Requests.{is_answer}
+use Rattle.law_host.specs.law_time.Requests.{is_answer}
 use Rattle.host_model.specs.State.{HostState}
-use Rattle.outside_model.specs.State.{OuterState}
-use Rattle.outside_model.specs.Events.{has_entered, stamp, ticked_entry}
-use Rattle.proof_serial.specs.Units.{good_unit, good_units}
-use Rattle.proof_serial.specs.Way.{changed_item, found_sum, items_all, items_of, unit_item, wanted_sum}
-use Rattle.proof_walk.specs.Outside.{awaits_number}
-use Rattle.proof_walk.proofs.Times.{time_of}
+use Rattle.proof_line.specs.outside_model.State.{OuterState}
+use Rattle.proof_line.specs.outside_model.Events.{has_entered, stamp, ticked_entry}
+use Rattle.proof_line.specs.proof_serial.Units.{good_unit, good_units}
+use Rattle.proof_line.specs.proof_serial.Way.{changed_item, found_sum, items_all, items_of, unit_item, wanted_sum}
+use Rattle.proof_line.specs.proof_walk.Outside.{awaits_number}
+use Rattle.proof_line.proofs.Times.{time_of}
 use Rattle.proof_line.proofs.Tellings.{Tells}
 use Rattle.proof_alone.specs.State.{HostMachine, host_machine}
 use Rattle.proof_alone.specs.Steps.{AreFrames, ChangesFrame, DidNotCome, IsFramed, IsOfOthers, Comes, Misses, Numbers}

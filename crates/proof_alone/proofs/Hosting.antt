@@ -18,13 +18,13 @@ use Rattle.host_model.specs.Ticking.{tick_events}
 use Rattle.host_model.specs.declared.out.HostOut.{HostOut}
 use Rattle.host_model.proofs.EventLists.{after_all-append, outs_all-append, records_all-append, texts-append}
 use Rattle.host_keep.specs.declared.record.Record.{Record}
-use Rattle.outside_model.specs.State.{OuterState, Outside}
-use Rattle.outside_model.specs.Events.{OuterEvent, has_entered, stamp}
-use Rattle.outside_model.specs.Did.{happens_all, entries_all}
-use Rattle.outside_model.proofs.EventLists.{happens_all-append, entries_all-append}
-use Rattle.world_model.specs.State.{routed, routed_one, with_texts}
-use Rattle.proof_serial.specs.Units.{good_units}
-use Rattle.proof_walk.proofs.Times.{time_of}
+use Rattle.proof_line.specs.outside_model.State.{OuterState, Outside}
+use Rattle.proof_line.specs.outside_model.Events.{OuterEvent, has_entered, stamp}
+use Rattle.proof_line.specs.outside_model.Did.{happens_all, entries_all}
+use Rattle.proof_line.proofs.EventLists.{happens_all-append, entries_all-append}
+use Rattle.proof_line.specs.world_model.State.{routed, routed_one, with_texts}
+use Rattle.proof_line.specs.proof_serial.Units.{good_units}
+use Rattle.proof_line.proofs.Times.{time_of}
 use Rattle.proof_alone.specs.State.{HostMachine, host_machine}
 use Rattle.proof_alone.specs.Steps.{AreFrames, AreTold, Does, Judges, TakesItem}
 use Rattle.proof_alone.specs.Phases.{Phase, Resting, Risen, Ticking, Open, Behind, Sleeping, Submitting, GoesBy}

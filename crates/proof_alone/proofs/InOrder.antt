@@ -23,8 +23,8 @@ use Rattle.proof_line.specs.Lines.{AsksNothing}
 use Rattle.proof_line.proofs.Always.{AlwaysInOrder, IsInOrder}
 use Rattle.proof_line.proofs.Errands.{get_short, send_short}
 use Rattle.proof_line.proofs.Heard.{all_judged_in_order}
-use Rattle.proof_walk.specs.ByLine.{IsAsked}
-use Rattle.proof_walk.proofs.ByLine.{next_silent, no_more_silent}
+use Rattle.proof_line.specs.proof_walk.ByLine.{IsAsked}
+use Rattle.proof_line.proofs.ByLine.{next_silent, no_more_silent}
 use Rattle.proof_alone.specs.Steps.{IsAskedBy}
 use Rattle.proof_alone.specs.Phases.{Phase, Resting, Asked, Risen, Ticking, Open, Behind, Sleeping, Submitting, GoesBy}
 use Rattle.proof_alone.specs.Tables.{AreInOrder, to_come}

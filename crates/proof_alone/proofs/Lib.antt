@@ -17,3 +17,10 @@ pub mod Tabling
 pub mod Answering
 pub mod Carrying
 pub mod Listening
+pub use Rattle.proof_line.proofs.HostOuts
+pub use Rattle.proof_line.proofs.Bodies
+pub use Rattle.proof_line.proofs.Untimed
+pub use Rattle.proof_line.proofs.HostNotes
+pub use Rattle.proof_line.proofs.Parts
+pub use Rattle.proof_line.proofs.Calm
+pub use Rattle.proof_line.proofs.HostLinks

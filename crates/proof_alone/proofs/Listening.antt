@@ -12,11 +12,11 @@ use Rattle.s0_session.specs.Nonces.{live_of}
 use Rattle.chip_functions.specs.declared.notice.Update.{Update}
 use Rattle.zw_text.specs.declared.entry.Entry.{Entry}
 use Rattle.zw_text.specs.declared.entry.Entry.TheVariants as entry
-use Rattle.law_transcript.specs.Lists.{last_or, shown_after}
-use Rattle.law_transcript.specs.Nodes.{first_node}
-use Rattle.law_time.specs.Requests.{asked_before}
-use Rattle.law_time.specs.Ends.{ending}
-use Rattle.law_time.specs.Interviews.{listening_at, listens, says_listening}
+use Rattle.law_host.specs.law_transcript.Lists.{last_or, shown_after}
+use Rattle.law_host.specs.law_transcript.Nodes.{first_node}
+use Rattle.law_host.specs.law_time.Requests.{asked_before}
+use Rattle.law_host.specs.law_time.Ends.{ending}
+use Rattle.law_host.specs.law_time.Interviews.{listening_at, listens, says_listening}
 use Rattle.host_keep.specs.Kept.{Kept, kept_of, node_of as kept_of_node}
 use Rattle.host_keep.specs.Legal.{Give}
 use Rattle.host_keep.specs.Status.{status_byte}
@@ -32,9 +32,9 @@ use Rattle.host_model.specs.After.{after, finishing, giving, holding, is_full, i
 use Rattle.host_model.specs.Events.{HostEvent, Accepts, Cancels, Joins, Interviews, Finishes, Gives, Spends, Spends_unread, Takes_nonce, Begins}
 use Rattle.host_model.specs.Outs.{answers, outs}
 use Rattle.host_model.proofs.Own.{IsOwn}
-use Rattle.world_model.specs.State.{with_texts}
+use Rattle.proof_line.specs.world_model.State.{with_texts}
 use Rattle.proof_line.specs.Restarts.{AreHeld, IsHeld}
-use Rattle.proof_device.proofs.HostOuts.{OwnIs, SharedAre, outs_are}
+use Rattle.proof_line.proofs.HostOuts.{OwnIs, SharedAre, outs_are}
 use Rattle.proof_alone.specs.State.{HostMachine, done}
 use Rattle.proof_alone.specs.Steps.{AreTold, IsOfOthers}
 use Rattle.proof_alone.specs.Tables.{TieTables}

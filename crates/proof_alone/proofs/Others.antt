@@ -22,20 +22,20 @@ use Rattle.device_sim.specs.State.{State}
 use Rattle.device_sim.specs.Event.{DeviceEvent}
 use Rattle.mesh_sim.specs.Steps.{AirStep, MayHappen}
 use Rattle.mesh_sim.specs.Steps as mesh
-use Rattle.outside_model.specs.State.{OuterState, Outside, outside, each, with_chip}
-use Rattle.outside_model.specs.Chip.{chip_does, put_out}
-use Rattle.outside_model.specs.Devices.{acts_at}
-use Rattle.outside_model.specs.Events.{OuterEvent, Begins_line, Begins_tick, Host_writes, Host_takes, Host_notes, Chip_takes, Arrives, Gives, Device_ticks, Chip_ticks, Repeats, Shows, Joins, Discovers, Links, Loses, Loses_acks, Marks_loss, Marks_change, Clears_pipe, Collides_next, Stalls, Cuts, May, is_own, mesh_of, outcome, stamp, steps, ticked_entry, way_of}
-use Rattle.proof_device.proofs.Entered.{IsCleared, IsMark, all_cleared, told_by_marks}
-use Rattle.proof_host.proofs.Lists.{each-anywhere}
-use Rattle.proof_serial.specs.Chip.{HasFrames}
-use Rattle.proof_serial.specs.Way.{written_all}
+use Rattle.proof_line.specs.outside_model.State.{OuterState, Outside, outside, each, with_chip}
+use Rattle.proof_line.specs.outside_model.Chip.{chip_does, put_out}
+use Rattle.proof_line.specs.outside_model.Devices.{acts_at}
+use Rattle.proof_line.specs.outside_model.Events.{OuterEvent, Begins_line, Begins_tick, Host_writes, Host_takes, Host_notes, Chip_takes, Arrives, Gives, Device_ticks, Chip_ticks, Repeats, Shows, Joins, Discovers, Links, Loses, Loses_acks, Marks_loss, Marks_change, Clears_pipe, Collides_next, Stalls, Cuts, May, is_own, mesh_of, outcome, stamp, steps, ticked_entry, way_of}
+use Rattle.proof_line.proofs.Entered.{IsCleared, IsMark, all_cleared, told_by_marks}
+use Rattle.proof_line.proofs.Lists.{each-anywhere}
+use Rattle.proof_line.specs.proof_serial.Chip.{HasFrames}
+use Rattle.proof_line.specs.proof_serial.Way.{written_all}
 use Rattle.proof_line.proofs.Aside.{AreOutside, IsOutside, own_outside}
-use Rattle.proof_walk.specs.Outside.{IsHearing, IsOfAir, IsSimple, Knowing, Link, Moves}
-use Rattle.proof_walk.proofs.Alone.{each_alone}
-use Rattle.proof_walk.proofs.Linking.{acts_of_air, of_link}
-use Rattle.proof_walk.proofs.Stamping.{Fits, outcome_comes, steps_come}
-use Rattle.proof_walk.proofs.Times.{IsWithin}
+use Rattle.proof_line.specs.proof_walk.Outside.{IsHearing, IsOfAir, IsSimple, Knowing, Link, Moves}
+use Rattle.proof_line.proofs.Alone.{each_alone}
+use Rattle.proof_line.proofs.Linking.{acts_of_air, of_link}
+use Rattle.proof_line.proofs.Stamping.{Fits, outcome_comes, steps_come}
+use Rattle.proof_line.proofs.Times.{IsWithin}
 use Rattle.proof_line.proofs.Holding.{TellsNothing}
 use Rattle.proof_line.proofs.Tellings.{IsBeside, Tells, answers_all, tells_weaker}
 use Rattle.proof_line.proofs.ChipTelling.{IsArriving, arriving_tells, line_tells, takes_tell, tick_tells}

@@ -12,20 +12,20 @@ use Rattle.chip_sim.specs.State.{ChipParts}
 use Rattle.host_model.specs.Events.{HostEvent}
 use Rattle.host_model.specs.Did.{MayAll, outs_all}
 use Rattle.host_model.specs.Outs.{answers}
-use Rattle.outside_model.specs.State.{OuterState, Outcome, Outside}
-use Rattle.outside_model.specs.Events.{OuterEvent, Begins_tick, devices_after, has_entered, outcome, stamp}
-use Rattle.outside_model.specs.Did.{entries_all, happens_all}
-use Rattle.world_model.specs.State.{Machine, host_does, host_entries}
-use Rattle.world_model.specs.Events.{Event, Host_does, Host_takes, Outside_does, May, entries, fed, happens, notes}
-use Rattle.proof_serial.specs.Chip.{HasFrames}
-use Rattle.proof_serial.specs.Line.{Carried, LineAfter}
-use Rattle.proof_serial.specs.Units.{good_units}
-use Rattle.proof_serial.specs.Way.{Carries, items_all, written_all}
-use Rattle.proof_serial.proofs.EndedItems.{feeds_all}
-use Rattle.proof_serial.proofs.Events.{event_after}
-use Rattle.proof_serial.proofs.Outer.{entered_still}
-use Rattle.proof_serial.proofs.Ways.{carries_all}
-use Rattle.proof_walk.proofs.Times.{IsWithin, outcome_time}
+use Rattle.proof_line.specs.outside_model.State.{OuterState, Outcome, Outside}
+use Rattle.proof_line.specs.outside_model.Events.{OuterEvent, Begins_tick, devices_after, has_entered, outcome, stamp}
+use Rattle.proof_line.specs.outside_model.Did.{entries_all, happens_all}
+use Rattle.proof_line.specs.world_model.State.{Machine, host_does, host_entries}
+use Rattle.proof_line.specs.world_model.Events.{Event, Host_does, Host_takes, Outside_does, May, entries, fed, happens, notes}
+use Rattle.proof_line.specs.proof_serial.Chip.{HasFrames}
+use Rattle.proof_line.specs.proof_serial.Line.{Carried, LineAfter}
+use Rattle.proof_line.specs.proof_serial.Units.{good_units}
+use Rattle.proof_line.specs.proof_serial.Way.{Carries, items_all, written_all}
+use Rattle.proof_line.proofs.EndedItems.{feeds_all}
+use Rattle.proof_line.proofs.Events.{event_after}
+use Rattle.proof_line.proofs.Outer.{entered_still}
+use Rattle.proof_line.proofs.Ways.{carries_all}
+use Rattle.proof_line.proofs.Times.{IsWithin, outcome_time}
 use Rattle.proof_line.proofs.Tellings.{Tells, tells_none}
 use Rattle.proof_alone.specs.State.{HostMachine, host_machine}
 use Rattle.proof_alone.specs.Steps as step

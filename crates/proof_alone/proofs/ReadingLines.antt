@@ -14,7 +14,7 @@ use Rattle.zw_text.specs.declared.entry.Refusal.{Refusal}
 use Rattle.zw_text.specs.declared.entry.Refusal.TheVariants as refusal
 use Rattle.zw_text.specs.declared.entry.Entry.{Entry}
 use Rattle.zw_text.specs.declared.entry.Entry.TheVariants as entry
-use Rattle.law_transcript.specs.Restarts.{ticks_of}
+use Rattle.law_host.specs.law_transcript.Restarts.{ticks_of}
 use Rattle.law_host.specs.Heard.{is_of_others}
 use Rattle.air_frames.specs.Ages.{refusal_of}
 use Rattle.air_frames.specs.declared.ages.Refusal.{Refusal as RepeatRefusal}
@@ -36,22 +36,22 @@ use Rattle.host_model.specs.Asking.{carriage_for, interview_refusal, places_refu
 use Rattle.host_model.specs.Did.{MayAll}
 use Rattle.host_model.specs.May.{known_of}
 use Rattle.host_model.specs.Outs.{answers}
-use Rattle.outside_model.specs.State.{OuterState, Outside, Outcome, tells}
-use Rattle.outside_model.specs.Devices.{acts_at, acts_by_hand, shown_entries}
-use Rattle.outside_model.specs.Events.{OuterEvent, Clears_pipe, Collides_next, Cuts, Discovers, Joins, Links, Loses, Loses_acks, Marks_change, Marks_loss, Repeats, Sets_device, Shows, Stalls, Wakes_device, MayRepeat, cleared_entries, devices_after, has_entered, outcome, repeats, stamp}
-use Rattle.outside_model.specs.Events.{May as MayOutside}
-use Rattle.outside_model.specs.Events as outer
-use Rattle.outside_model.specs.Results.{device_at}
-use Rattle.world_model.specs.State.{Machine}
-use Rattle.world_model.specs.Refusals.{IsRefused}
-use Rattle.world_model.specs.Events.{Event, Host_does, Outside_does, Refuses, Restarts, Shows_values, May, entries, happens, shown_values}
-use Rattle.world_model.specs.Lines.{Asks, IsDone, IsEffect, restart_events}
-use Rattle.proof_device.proofs.Entered.{IsCleared, all_cleared}
-use Rattle.proof_serial.specs.Line.{LineAfter}
-use Rattle.proof_serial.specs.Units.{good_units}
-use Rattle.proof_serial.proofs.Events.{event_after}
-use Rattle.proof_walk.specs.ByLine.{IsAsked}
-use Rattle.proof_walk.proofs.Times.{IsWithin, time_of}
+use Rattle.proof_line.specs.outside_model.State.{OuterState, Outside, Outcome, tells}
+use Rattle.proof_line.specs.outside_model.Devices.{acts_at, acts_by_hand, shown_entries}
+use Rattle.proof_line.specs.outside_model.Events.{OuterEvent, Clears_pipe, Collides_next, Cuts, Discovers, Joins, Links, Loses, Loses_acks, Marks_change, Marks_loss, Repeats, Sets_device, Shows, Stalls, Wakes_device, MayRepeat, cleared_entries, devices_after, has_entered, outcome, repeats, stamp}
+use Rattle.proof_line.specs.outside_model.Events.{May as MayOutside}
+use Rattle.proof_line.specs.outside_model.Events as outer
+use Rattle.proof_line.specs.outside_model.Results.{device_at}
+use Rattle.proof_line.specs.world_model.State.{Machine}
+use Rattle.proof_line.specs.world_model.Refusals.{IsRefused}
+use Rattle.proof_line.specs.world_model.Events.{Event, Host_does, Outside_does, Refuses, Restarts, Shows_values, May, entries, happens, shown_values}
+use Rattle.proof_line.specs.world_model.Lines.{Asks, IsDone, IsEffect, restart_events}
+use Rattle.proof_line.proofs.Entered.{IsCleared, all_cleared}
+use Rattle.proof_line.specs.proof_serial.Line.{LineAfter}
+use Rattle.proof_line.specs.proof_serial.Units.{good_units}
+use Rattle.proof_line.proofs.Events.{event_after}
+use Rattle.proof_line.specs.proof_walk.ByLine.{IsAsked}
+use Rattle.proof_line.proofs.Times.{IsWithin, time_of}
 use Rattle.proof_line.specs.Marks.{LeftMarks, Marked}
 use Rattle.proof_alone.specs.State.{HostMachine, host_machine, with_world}
 use Rattle.proof_alone.specs.Steps.{AreFrames, AsksNothing, IsOfOthers, IsAskedBy}

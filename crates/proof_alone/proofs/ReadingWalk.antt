@@ -15,31 +15,31 @@ use Rattle.zw_text.specs.declared.line.Line.TheVariants as lines
 use Rattle.zw_text.specs.declared.entry.Entry.{Entry}
 use Rattle.zw_text.specs.declared.entry.Entry.TheVariants.{Said}
 use Rattle.zw_text.specs.Transcript.{line_of}
-use Rattle.law_transcript.specs.Lists.{EachAfter}
-use Rattle.law_transcript.specs.Restarts.{ticks_of}
+use Rattle.law_host.specs.law_transcript.Lists.{EachAfter}
+use Rattle.law_host.specs.law_transcript.Restarts.{ticks_of}
 use Rattle.host_model.specs.Pumping.{no_more_event}
 use Rattle.host_model.specs.Ticking.{tick_events}
 use Rattle.host_model.proofs.Silence.{tick_silent}
-use Rattle.outside_model.specs.Events.{OuterEvent, Arrives, Begins_line, Begins_tick, Chip_takes, Chip_ticks, Device_ticks, Gives, devices_after, has_entered, is_own, outcome}
-use Rattle.outside_model.specs.Events.{May as MayOutside}
+use Rattle.proof_line.specs.outside_model.Events.{OuterEvent, Arrives, Begins_line, Begins_tick, Chip_takes, Chip_ticks, Device_ticks, Gives, devices_after, has_entered, is_own, outcome}
+use Rattle.proof_line.specs.outside_model.Events.{May as MayOutside}
 use Rattle.s0_crypto.specs.declared.key_pair.Keys.{Keys}
 use Rattle.device_sim.specs.State.{State}
-use Rattle.outside_model.specs.State.{OuterState, Outcome, Outside, first_outer, is_stalled, with_chip}
-use Rattle.outside_model.specs.Chip.{chip_does, put_out}
-use Rattle.world_model.specs.State.{Machine, first_machine}
-use Rattle.world_model.specs.Did.{AllAlong}
-use Rattle.world_model.specs.Events.{Event, Decoder_ticks, Host_does, Host_takes, Outside_does, May, entries, happens}
-use Rattle.proof_serial.specs.Line.{AllAtRest, AllWriteWell, LineAfter}
-use Rattle.proof_serial.specs.Units.{good_units}
-use Rattle.proof_serial.proofs.EndedItems.{feeds_all}
-use Rattle.proof_serial.proofs.Events.{event_after}
-use Rattle.proof_serial.proofs.First.{first_carried, first_frames}
-use Rattle.proof_walk.specs.ByLine.{begun}
-use Rattle.proof_walk.specs.Phases.{Phase, Between, Said_line, Begun, Doing, To_tick, Ticked, Arriving, Giving, Ticking_devices, Ticking_chip, Ticking_decoder, Ticking_host, Sleeping, Submitting, Moving, Moved, Goes, IsStill, Turns, passes_after}
-use Rattle.proof_walk.specs.Walk.{Walk, WalkWhere}
-use Rattle.proof_walk.proofs.ByLine.{next_silent, no_more_silent}
-use Rattle.proof_walk.proofs.Stepping.{Steps, event_then}
-use Rattle.proof_walk.proofs.Times.{IsWithin, each_keeps}
+use Rattle.proof_line.specs.outside_model.State.{OuterState, Outcome, Outside, first_outer, is_stalled, with_chip}
+use Rattle.proof_line.specs.outside_model.Chip.{chip_does, put_out}
+use Rattle.proof_line.specs.world_model.State.{Machine, first_machine}
+use Rattle.proof_line.specs.world_model.Did.{AllAlong}
+use Rattle.proof_line.specs.world_model.Events.{Event, Decoder_ticks, Host_does, Host_takes, Outside_does, May, entries, happens}
+use Rattle.proof_line.specs.proof_serial.Line.{AllAtRest, AllWriteWell, LineAfter}
+use Rattle.proof_line.specs.proof_serial.Units.{good_units}
+use Rattle.proof_line.proofs.EndedItems.{feeds_all}
+use Rattle.proof_line.proofs.Events.{event_after}
+use Rattle.proof_line.proofs.First.{first_carried, first_frames}
+use Rattle.proof_line.specs.proof_walk.ByLine.{begun}
+use Rattle.proof_line.specs.proof_walk.Phases.{Phase, Between, Said_line, Begun, Doing, To_tick, Ticked, Arriving, Giving, Ticking_devices, Ticking_chip, Ticking_decoder, Ticking_host, Sleeping, Submitting, Moving, Moved, Goes, IsStill, Turns, passes_after}
+use Rattle.proof_line.specs.proof_walk.Walk.{Walk, WalkWhere}
+use Rattle.proof_line.proofs.ByLine.{next_silent, no_more_silent}
+use Rattle.proof_line.proofs.Stepping.{Steps, event_then}
+use Rattle.proof_line.proofs.Times.{IsWithin, each_keeps}
 use Rattle.proof_line.specs.Marks.{KnowMarks, Marked, MayMark}
 use Rattle.proof_line.proofs.ChipTelling.{IsArriving}
 use Rattle.proof_alone.specs.State.{HostMachine, first_alone}

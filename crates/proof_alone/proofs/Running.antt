@@ -1,8 +1,8 @@
 -- What a walk makes of a run; and one walk on the ground of another.
 use Rattle.std.proofs.Common.{List, ◌++◌, sym, subst, append-nil, append_assoc}
 use Rattle.zw_text.specs.declared.entry.Entry.{Entry}
-use Rattle.law_transcript.specs.Lists.{EachAfter}
-use Rattle.proof_host.proofs.Lists.{each-append}
+use Rattle.law_host.specs.law_transcript.Lists.{EachAfter}
+use Rattle.proof_line.proofs.Lists.{each-append}
 use Rattle.proof_alone.specs.State.{HostMachine}
 use Rattle.proof_alone.specs.Steps.{happens, entries}
 use Rattle.proof_alone.specs.Phases.{Phase, Resting}

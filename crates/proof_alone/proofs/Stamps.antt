@@ -12,11 +12,11 @@ use Rattle.zw_text.specs.declared.entry.Entry.{Entry}
 use Rattle.zw_text.specs.declared.entry.Entry.TheVariants as entry
 use Rattle.host_model.specs.declared.out.HostOut.{HostOut}
 use Rattle.host_model.specs.declared.out.HostOut.TheVariants.{Write, Note}
-use Rattle.outside_model.specs.State.{OuterState, Outside}
-use Rattle.outside_model.specs.Events.{OuterEvent, Host_writes, Host_notes, Host_begins, stamp, has_entered, ticked_entry, happens, outcome, devices_after}
-use Rattle.outside_model.specs.Did.{happens_all, entries_all}
-use Rattle.world_model.specs.State.{begun_in, noted_by, routed}
-use Rattle.proof_walk.proofs.Times.{time_of}
+use Rattle.proof_line.specs.outside_model.State.{OuterState, Outside}
+use Rattle.proof_line.specs.outside_model.Events.{OuterEvent, Host_writes, Host_notes, Host_begins, stamp, has_entered, ticked_entry, happens, outcome, devices_after}
+use Rattle.proof_line.specs.outside_model.Did.{happens_all, entries_all}
+use Rattle.proof_line.specs.world_model.State.{begun_in, noted_by, routed}
+use Rattle.proof_line.proofs.Times.{time_of}
 use Rattle.proof_alone.specs.Steps.{AreTold, IsOfUnit}
 
 -- ---- the number of a tick

@@ -8,7 +8,7 @@ use Rattle.s0_crypto.specs.declared.key_pair.Keys.{Keys}
 use Rattle.zw_words.specs.declared.side.Side.TheVariants.{Host, Chip}
 use Rattle.zw_text.specs.declared.entry.Entry.{Entry}
 use Rattle.zw_text.specs.declared.entry.Entry.TheVariants as entry
-use Rattle.law_transcript.specs.Lists.{EachAfter}
+use Rattle.law_host.specs.law_transcript.Lists.{EachAfter}
 use Rattle.host_model.specs.State.{HostState, first_host}
 use Rattle.host_model.specs.Events.{HostEvent, Hears}
 use Rattle.host_model.specs.After.{after}
@@ -18,12 +18,12 @@ use Rattle.host_model.specs.May.{May as MayHost}
 use Rattle.host_model.specs.Outs.{answers, outs}
 use Rattle.host_model.specs.declared.out.HostOut.{HostOut}
 use Rattle.host_model.specs.declared.out.HostOut.TheVariants.{Note, Write}
-use Rattle.world_model.specs.State.{Machine, with_texts}
-use Rattle.world_model.specs.Events as world
-use Rattle.world_model.specs.Events.{Event, Host_does, OpensFrom}
-use Rattle.proof_host.specs.Entries.{IsAside, entries_at, notes_of}
-use Rattle.proof_host.specs.Facts.{Facts, StartsAs}
-use Rattle.proof_host.specs.Laws.{MayStand}
+use Rattle.proof_line.specs.world_model.State.{Machine, with_texts}
+use Rattle.proof_line.specs.world_model.Events as world
+use Rattle.proof_line.specs.world_model.Events.{Event, Host_does, OpensFrom}
+use Rattle.proof_line.specs.proof_host.Entries.{IsAside, entries_at, notes_of}
+use Rattle.proof_line.specs.proof_host.Facts.{Facts, StartsAs}
+use Rattle.proof_line.specs.proof_host.Laws.{MayStand}
 use Rattle.proof_line.specs.Asking.{HostAsks}
 use Rattle.proof_line.specs.Restarts.{IsHeld, KeepsWell, StartsWell}
 use Rattle.proof_line.proofs.Always.{IsInOrder}
@@ -32,7 +32,7 @@ use Rattle.proof_line.proofs.FactsKept.{asides_keep}
 use Rattle.proof_line.proofs.FirstHosts.{first_asks, opened_asks}
 use Rattle.proof_line.proofs.Hosts.{event_asks, of_joined}
 use Rattle.proof_line.proofs.Notes.{Puts, Trailing, puts_at}
-use Rattle.proof_walk.specs.ByLine.{IsAsked}
+use Rattle.proof_line.specs.proof_walk.ByLine.{IsAsked}
 use Rattle.proof_alone.specs.State.{HostMachine, done, first_alone, with_world}
 use Rattle.proof_alone.specs.Steps.{AreTold, IsOfOthers, Step, Tells, Comes, Misses, Says, Says_nothing, Asks, Refuses, Shows, Restarts, Begins_tick, Numbers, Judges, Does, entries, happens}
 use Rattle.proof_alone.specs.Phases.{Phase, Resting, Asked, Risen, Ticking, Open, Behind, Sleeping, Submitting, May, Turns}

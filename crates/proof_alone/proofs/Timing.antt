@@ -7,17 +7,17 @@ use Rattle.zw_text.specs.declared.entry.Entry.{Entry}
 use Rattle.zw_text.specs.declared.entry.Entry.TheVariants as entry
 use Rattle.zw_text.specs.Transcript.{folded, last_number, line_of, lines_run, tick_at, ticks, time_of}
 use Rattle.zw_text.proofs.Views.{folded-append, shown-append}
-use Rattle.law_transcript.specs.Lists.{EachAfter}
-use Rattle.law_transcript.specs.Restarts.{ticks_asked, ticks_of}
-use Rattle.law_time.specs.Moments.{Passing, clock, passing_step}
-use Rattle.proof_host.proofs.Lists.{each-anywhere}
+use Rattle.law_host.specs.law_transcript.Lists.{EachAfter}
+use Rattle.law_host.specs.law_transcript.Restarts.{ticks_asked, ticks_of}
+use Rattle.law_host.specs.law_time.Moments.{Passing, clock, passing_step}
+use Rattle.proof_line.proofs.Lists.{each-anywhere}
 use Rattle.host_model.specs.State.{HostState}
 use Rattle.host_model.specs.Events.{HostEvent, Accepts, Cancels, Hears}
 use Rattle.host_model.specs.Outs.{answers, outs}
-use Rattle.proof_walk.specs.Outside.{IsHostNote}
-use Rattle.proof_walk.specs.Time.{MayCount}
-use Rattle.proof_walk.proofs.Clock.{asked-append, last_of_more}
-use Rattle.proof_walk.proofs.Untimed.{AreUntimed, IsUntimed, same_lines, same_time}
+use Rattle.proof_line.specs.proof_walk.Outside.{IsHostNote}
+use Rattle.proof_line.specs.proof_walk.Time.{MayCount}
+use Rattle.proof_line.proofs.Clock.{asked-append, last_of_more}
+use Rattle.proof_line.proofs.Untimed.{AreUntimed, IsUntimed, same_lines, same_time}
 use Rattle.proof_alone.specs.State.{HostMachine}
 use Rattle.proof_alone.specs.Steps.{AreTold, IsOfOthers, Step, Tells, Comes, Misses, Says, Says_nothing, Asks, Refuses, Shows, Restarts, Begins_tick, Numbers, Judges, Does, entries, happens}
 use Rattle.proof_alone.specs.Phases.{Phase, May}

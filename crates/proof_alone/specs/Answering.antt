@@ -5,7 +5,7 @@ use Rattle.zw_text.specs.declared.line.Line.TheVariants as lines
 use Rattle.zw_text.specs.declared.entry.Entry.{Entry}
 use Rattle.zw_text.specs.declared.entry.Entry.TheVariants.{Accepted}
 use Rattle.zw_text.specs.Transcript.{line_last}
-use Rattle.law_transcript.specs.Answers.{MayCancel}
+use Rattle.law_host.specs.law_transcript.Answers.{MayCancel}
 
 abbrev pub AsOrdered : List Entry → Entry → Type 0
 AsOrdered past (Accepted command node) = (order : Order) × (line_last past ≡ lines.Command order ∷ []) × (order.node ≡ node)

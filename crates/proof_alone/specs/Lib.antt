@@ -8,3 +8,11 @@ pub mod Tables
 pub mod Words
 pub mod Answering
 pub mod Listening
+pub use Rattle.law_host.specs as law_host
+pub use Rattle.law_host.specs.law_time as law_time
+pub use Rattle.law_host.specs.law_transcript as law_transcript
+pub use Rattle.proof_line.specs.proof_device as proof_device
+pub use Rattle.proof_line.specs.proof_traffic as proof_traffic
+pub use Rattle.proof_line.specs.proof_walk as proof_walk
+pub use Rattle.proof_line.specs.world_lines as world_lines
+pub use Rattle.proof_line.specs.world_model as world_model

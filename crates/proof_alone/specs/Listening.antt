@@ -1,7 +1,7 @@
 -- Which nodes listen, in a host and by its transcript (this project's own rule): at each phase those that do by the interviews that were entered, and the first node before one.
 use Rattle.std.specs.Prelude.{◌≡◌, ◌≤◌, ℕ, List}
 use Rattle.zw_text.specs.declared.entry.Entry.{Entry}
-use Rattle.law_time.specs.Interviews.{listens}
+use Rattle.law_host.specs.law_time.Interviews.{listens}
 use Rattle.host_model.specs.State.{HostState, node_of}
 use Rattle.proof_alone.specs.Runs.{Knowledge}
 

@@ -17,8 +17,8 @@ use Rattle.host_model.specs.Outs.{answers, outs}
 use Rattle.host_model.specs.Pumping.{no_more_event, IsNext, IsPumped}
 use Rattle.host_model.specs.Taking.{IsFollowed}
 use Rattle.host_model.specs.Ticking.{tick_events}
-use Rattle.world_model.specs.Events.{OpensFrom}
-use Rattle.world_model.specs.Refusals.{IsRefused}
+use Rattle.proof_line.specs.world_model.Events.{OpensFrom}
+use Rattle.proof_line.specs.world_model.Refusals.{IsRefused}
 use Rattle.proof_alone.specs.State.{HostMachine, with_world}
 use Rattle.proof_alone.specs.Steps.{AreTold, AsksNothing, DidNotCome, IsOfOthers, IsAskedBy, Step, Tells, Comes, Misses, Says, Says_nothing, Asks, Refuses, Shows, Restarts, Begins_tick, Numbers, Judges, Does, TakesItem, AreFrames, ChangesFrame, IsFramed}
 

@@ -10,24 +10,24 @@ use Rattle.zw_text.specs.declared.line.Line.{Line}
 use Rattle.zw_text.specs.declared.line.Line.TheVariants as lines
 use Rattle.zw_text.specs.declared.entry.Refusal.{Refusal}
 use Rattle.zw_text.specs.declared.entry.Entry.{Entry}
-use Rattle.law_transcript.specs.Restarts.{ticks_of}
+use Rattle.law_host.specs.law_transcript.Restarts.{ticks_of}
 use Rattle.law_host.specs.Heard.{is_of_others}
 use Rattle.host_requests.specs.declared.task.Task.TheVariants.{Members}
 use Rattle.host_model.specs.State.{HostState}
 use Rattle.host_model.specs.Events.{HostEvent, Queues}
 use Rattle.host_model.specs.Asking.{places_refusal}
 use Rattle.host_model.proofs.Silence.{Silent}
-use Rattle.outside_model.specs.State.{is_stalled}
-use Rattle.outside_model.specs.Events.{OuterEvent, Clears_pipe, Collides_next, Cuts, Discovers, Joins, Links, Loses, Loses_acks, Marks_change, Marks_loss, Repeats, Sets_device, Shows, Stalls, Wakes_device}
-use Rattle.world_model.specs.State.{Machine}
-use Rattle.world_model.specs.Events.{Event, Host_does, Outside_does, Refuses, Shows_values}
-use Rattle.world_model.specs.Lines.{Asks, restart_events}
-use Rattle.proof_serial.specs.Chip.{HasFrames}
-use Rattle.proof_serial.specs.Line.{Carried, IsAtRest, WritesWell}
-use Rattle.proof_serial.specs.Units.{good_units}
-use Rattle.proof_walk.specs.ByLine.{KnownOf, begun}
-use Rattle.proof_walk.specs.Outside.{awaits_number}
-use Rattle.proof_walk.specs.Phases as sim
+use Rattle.proof_line.specs.outside_model.State.{is_stalled}
+use Rattle.proof_line.specs.outside_model.Events.{OuterEvent, Clears_pipe, Collides_next, Cuts, Discovers, Joins, Links, Loses, Loses_acks, Marks_change, Marks_loss, Repeats, Sets_device, Shows, Stalls, Wakes_device}
+use Rattle.proof_line.specs.world_model.State.{Machine}
+use Rattle.proof_line.specs.world_model.Events.{Event, Host_does, Outside_does, Refuses, Shows_values}
+use Rattle.proof_line.specs.world_model.Lines.{Asks, restart_events}
+use Rattle.proof_line.specs.proof_serial.Chip.{HasFrames}
+use Rattle.proof_line.specs.proof_serial.Line.{Carried, IsAtRest, WritesWell}
+use Rattle.proof_line.specs.proof_serial.Units.{good_units}
+use Rattle.proof_line.specs.proof_walk.ByLine.{KnownOf, begun}
+use Rattle.proof_line.specs.proof_walk.Outside.{awaits_number}
+use Rattle.proof_line.specs.proof_walk.Phases as sim
 use Rattle.proof_line.specs.Marks.{KnowMarks}
 use Rattle.proof_alone.specs.State.{HostMachine, host_machine}
 use Rattle.proof_alone.specs.Steps.{AreFrames, AsksNothing, IsAskedBy}

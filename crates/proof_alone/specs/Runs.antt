@@ -1,7 +1,7 @@
 -- Runs of a host alone, and what a law owes to hold of all of them (this project's own rule).
 use Rattle.std.specs.Prelude.{◌≡◌, List, [], ◌++◌}
 use Rattle.zw_text.specs.declared.entry.Entry.{Entry}
-use Rattle.law_transcript.specs.Lists.{EachAfter}
+use Rattle.law_host.specs.law_transcript.Lists.{EachAfter}
 use Rattle.proof_alone.specs.State.{HostMachine}
 use Rattle.proof_alone.specs.Steps.{Step, happens, entries}
 use Rattle.proof_alone.specs.Phases.{Phase, Resting, May, Turns}

@@ -7,8 +7,8 @@ use Rattle.host_model.specs.State.{HostState, first_host}
 use Rattle.host_model.specs.Events.{HostEvent}
 use Rattle.host_model.specs.After.{after}
 use Rattle.host_model.specs.Did.{records_all, texts_of}
-use Rattle.outside_model.specs.State.{first_outer}
-use Rattle.world_model.specs.State.{Machine, machine, with_texts}
+use Rattle.proof_line.specs.outside_model.State.{first_outer}
+use Rattle.proof_line.specs.world_model.State.{Machine, machine, with_texts}
 
 -- The records are what its keeper holds, where it tells that. Units of the chip came whole, and were not judged; so many ticks have begun, and of those that lines have
 -- asked for so many are to come; the number of the running one is still to be entered, or is not.

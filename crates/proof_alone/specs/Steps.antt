@@ -12,8 +12,8 @@ use Rattle.zw_text.specs.declared.line.Line.TheVariants as lines
 use Rattle.zw_text.specs.declared.entry.Refusal.{Refusal}
 use Rattle.zw_text.specs.declared.entry.Entry.{Entry}
 use Rattle.zw_text.specs.declared.entry.Entry.TheVariants as entry
-use Rattle.law_transcript.specs.Restarts.{ticks_of}
-use Rattle.law_time.specs.Requests.{is_answer}
+use Rattle.law_host.specs.law_transcript.Restarts.{ticks_of}
+use Rattle.law_host.specs.law_time.Requests.{is_answer}
 use Rattle.host_orders.specs.Errands.{send_refusal, send_text, get_refusal, get_text}
 use Rattle.host_orders.specs.Refusals.{classes_of}
 use Rattle.host_requests.specs.declared.task.Task.TheVariants as task
@@ -24,7 +24,7 @@ use Rattle.host_model.specs.Asking.{carriage_for, places_refusal, interview_refu
 use Rattle.host_model.specs.Outs.{answers}
 use Rattle.host_model.specs.declared.out.HostOut.{HostOut}
 use Rattle.host_model.specs.declared.out.HostOut.TheVariants.{Write, Note}
-use Rattle.world_model.specs.Events.{shown_values}
+use Rattle.proof_line.specs.world_model.Events.{shown_values}
 use Rattle.proof_alone.specs.State.{HostMachine, done}
 
 -- ---- entries

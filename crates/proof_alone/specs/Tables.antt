@@ -6,7 +6,7 @@ use Rattle.zw_text.specs.declared.entry.Entry.{Entry}
 use Rattle.host_model.specs.State.{HostState}
 use Rattle.host_model.specs.Events.{HostEvent}
 use Rattle.host_model.proofs.Silence.{Silent}
-use Rattle.proof_host.specs.Facts.{Facts}
+use Rattle.proof_line.specs.proof_host.Facts.{Facts}
 use Rattle.proof_line.specs.Asking.{HostAsks}
 use Rattle.proof_line.specs.Restarts.{IsHeld}
 use Rattle.proof_line.proofs.Always.{AlwaysInOrder}

@@ -3,8 +3,8 @@
 use Rattle.std.specs.Prelude.{◌≡◌, ◌⊎◌, ◌≤◌, ◌<◌, ◌+◌, true, false, List}
 use Rattle.zw_text.specs.declared.entry.Entry.{Entry}
 use Rattle.zw_text.specs.Transcript.{folded, lines_run, time_of}
-use Rattle.law_transcript.specs.Restarts.{ticks_asked}
-use Rattle.law_time.specs.Moments.{Passing, passing_step}
+use Rattle.law_host.specs.law_transcript.Restarts.{ticks_asked}
+use Rattle.law_host.specs.law_time.Moments.{Passing, passing_step}
 use Rattle.proof_alone.specs.State.{HostMachine}
 use Rattle.proof_alone.specs.Runs.{Knowledge}
 

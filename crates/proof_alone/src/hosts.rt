@@ -5,17 +5,17 @@ ghost use Rattle.s0_crypto.specs.declared.key_pair.Keys.{Keys};
 ghost use Rattle.device_sim.specs.State.{State};
 ghost use Rattle.zw_text.specs.declared.entry.Entry.{Entry};
 ghost use Rattle.law_host.specs.Heard.{heard_by_host};
-ghost use Rattle.world_model.specs.State.{first_machine};
-ghost use Rattle.world_lines.specs.Spoken.{Spoken, after_all, transcript_of};
-ghost use Rattle.world_lines.specs.Done.{AreDone};
-ghost use Rattle.world_lines.specs.Whole.{AreWhole};
+ghost use Rattle.proof_line.specs.world_model.State.{first_machine};
+ghost use Rattle.proof_line.specs.world_lines.Spoken.{Spoken, after_all, transcript_of};
+ghost use Rattle.proof_line.specs.world_lines.Done.{AreDone};
+ghost use Rattle.proof_line.specs.world_lines.Whole.{AreWhole};
 ghost use Rattle.proof_alone.specs.State.{HostMachine, first_alone};
 ghost use Rattle.proof_alone.specs.Phases.{Phase, Resting};
 ghost use Rattle.proof_alone.specs.Runs.{Run, Told, ToldWhole};
 
 use proof_line::marks_go_on;
+use proof_line::serial::{hosts_write_well, units_are_judged_whole};
 use proof_line::world::lines_keep_and_ask_well;
-use proof_serial::{hosts_write_well, units_are_judged_whole};
 
 /// Over any lines from the first on, the last of which an allocation failure may have cut short, over a keeper that tells its records and has none at first,
 /// the transcript is that of a run of a host alone; where all were run whole, of one that ends at rest, with

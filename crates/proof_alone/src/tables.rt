@@ -4,22 +4,22 @@ ghost use Rattle.std.specs.Prelude.{Some, List, [], ℕ};
 ghost use Rattle.s0_crypto.specs.declared.key_pair.Keys.{Keys};
 ghost use Rattle.device_sim.specs.State.{State};
 ghost use Rattle.zw_text.specs.declared.entry.Entry.{Entry};
-ghost use Rattle.law_transcript.specs.Answers.{CancelsWhenAsked};
-ghost use Rattle.law_transcript.specs.Once.{CarriesOnce};
+ghost use Rattle.law_host.specs.law_transcript.Answers.{CancelsWhenAsked};
+ghost use Rattle.law_host.specs.law_transcript.Once.{CarriesOnce};
 ghost use Rattle.law_host.specs.Heard.{heard_by_host};
-ghost use Rattle.world_model.specs.State.{first_machine};
-ghost use Rattle.world_lines.specs.Spoken.{Spoken, transcript_of};
-ghost use Rattle.world_lines.specs.Done.{AreDone};
-ghost use Rattle.proof_host.specs.Facts.{AreShown};
-ghost use Rattle.proof_host.specs.Laws.{HostLaws, MayStand};
-ghost use Rattle.proof_host.specs.Stores.{StoresLaw};
+ghost use Rattle.proof_line.specs.world_model.State.{first_machine};
+ghost use Rattle.proof_line.specs.world_lines.Spoken.{Spoken, transcript_of};
+ghost use Rattle.proof_line.specs.world_lines.Done.{AreDone};
+ghost use Rattle.proof_line.specs.proof_host.Facts.{AreShown};
+ghost use Rattle.proof_line.specs.proof_host.Laws.{HostLaws, MayStand};
+ghost use Rattle.proof_line.specs.proof_host.Stores.{StoresLaw};
 ghost use Rattle.proof_alone.specs.State.{HostMachine, first_alone};
 ghost use Rattle.proof_alone.specs.Phases.{Phase, Resting};
 ghost use Rattle.proof_alone.specs.Runs.{Run, Told, Walk};
 ghost use Rattle.proof_alone.specs.Tables.{KnowsTables};
 
 use crate::hosts::{lines_are_a_hosts, what_is_heard_is_a_hosts};
-use proof_host::{
+use proof_line::host::{
     asides_keep_facts, events_keep_facts, first_facts_hold, laws_follow, restarts_keep_facts,
 };
 use proof_line::world::restarts_go_on;

@@ -3,9 +3,9 @@
 ghost use Rattle.std.specs.Prelude.{◌≡◌, false, Option, List, [], ℕ};
 ghost use Rattle.s0_crypto.specs.declared.key_pair.Keys.{Keys};
 ghost use Rattle.zw_text.specs.declared.entry.Entry.{Entry};
-ghost use Rattle.law_transcript.specs.Lists.{EachAfter};
-ghost use Rattle.law_time.specs.Moments.{clock};
-ghost use Rattle.proof_walk.specs.Time.{MayCount};
+ghost use Rattle.law_host.specs.law_transcript.Lists.{EachAfter};
+ghost use Rattle.law_host.specs.law_time.Moments.{clock};
+ghost use Rattle.proof_line.specs.proof_walk.Time.{MayCount};
 ghost use Rattle.proof_alone.specs.State.{HostMachine, first_alone};
 ghost use Rattle.proof_alone.specs.Phases.{Phase};
 ghost use Rattle.proof_alone.specs.Runs.{Run, Told, Walk};

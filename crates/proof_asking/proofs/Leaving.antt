@@ -15,7 +15,7 @@ use Rattle.law_transcript.specs.Units.{arrived}
 use Rattle.law_transcript.proofs.Having.{has_left, has_right}
 use Rattle.proof_sending.specs.Arriving.{ArrivesMore}
 use Rattle.proof_sending.proofs.Arrivals.{Became, arrive, became, other_became, whole_became, with_last}
-use Rattle.proof_alone.specs.Steps.{DidNotCome}
+use Rattle.proof_known.specs.proof_alone.Steps.{DidNotCome}
 use Rattle.proof_asking.specs.Asking.{HaveCome}
 
 -- of no unit of the chip

@@ -1,3 +1,5 @@
 mod Leaving
 mod Telling
 mod Walking
+pub use Rattle.proof_known.proofs.ForHost
+pub use Rattle.proof_known.proofs.Events

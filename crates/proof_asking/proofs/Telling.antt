@@ -9,18 +9,18 @@ use Rattle.zw_text.specs.declared.entry.Entry.TheVariants as entry
 use Rattle.law_transcript.specs.Lists.{EachAfter}
 use Rattle.law_transcript.specs.Payloads.{MayRequest}
 use Rattle.law_transcript.specs.Restarts.{begins_refused}
-use Rattle.law_host.specs.Heard.{listing_heard}
+use Rattle.proof_known.specs.law_host.Heard.{listing_heard}
 use Rattle.host_model.specs.State.{HostState}
 use Rattle.host_model.specs.Events.{HostEvent, Accepts, Cancels}
 use Rattle.host_model.specs.Outs.{answers}
 use Rattle.host_model.specs.declared.out.HostOut.{HostOut}
 use Rattle.host_model.specs.declared.out.HostOut.TheVariants.{Write, Note}
-use Rattle.proof_walk.specs.Outside.{IsHostNote}
-use Rattle.proof_walk.proofs.HostNotes.{NoteOuts, is_note}
-use Rattle.proof_walk.proofs.Machines.{UnitsAre}
+use Rattle.proof_sending.specs.proof_walk.Outside.{IsHostNote}
+use Rattle.proof_sending.proofs.HostNotes.{NoteOuts, is_note}
+use Rattle.proof_sending.proofs.Machines.{UnitsAre}
 use Rattle.proof_sending.proofs.HostUnits.{FirstAlone, FirstDue, NoUnit, none_stand}
 use Rattle.proof_sending.proofs.OutsideUnits.{AreNotWritten, IsNotWritten, note_not}
-use Rattle.proof_alone.specs.Steps.{AreTold, DidNotCome, IsOfOthers, IsOfUnit}
+use Rattle.proof_known.specs.proof_alone.Steps.{AreTold, DidNotCome, IsOfOthers, IsOfUnit}
 use Rattle.proof_asking.proofs.Leaving.{LeavesChip}
 
 -- ---- of no unit of the chip

@@ -16,7 +16,7 @@ use Rattle.zw_text.specs.declared.entry.Entry.TheVariants as entry
 use Rattle.law_transcript.specs.Lists.{EachAfter}
 use Rattle.law_transcript.specs.Payloads.{IsAskedFor}
 use Rattle.law_transcript.specs.Restarts.{begins_refused}
-use Rattle.law_host.specs.Heard.{listing_heard}
+use Rattle.proof_known.specs.law_host.Heard.{listing_heard}
 use Rattle.law_time.specs.Moments.{Allows}
 use Rattle.law_time.specs.Waking.{may_wake}
 use Rattle.host_orders.specs.Errands.{get_text, send_text}
@@ -34,7 +34,7 @@ use Rattle.host_model.proofs.Own.{IsOwn, sleepers_own, submitted_own}
 use Rattle.host_model.proofs.Submitted.{next_is, no_more_is}
 use Rattle.world_model.specs.Events.{OpensFrom}
 use Rattle.proof_host.specs.Facts.{Facts}
-use Rattle.proof_spoken.specs.Said.{AreSaid}
+use Rattle.proof_sending.specs.proof_spoken.Said.{AreSaid}
 use Rattle.proof_sending.specs.Arriving.{ArrivesMore, BringsMore}
 use Rattle.proof_sending.specs.Heard.{ItemTells}
 use Rattle.proof_sending.specs.Reasons.{Reason, HasReason, IsReasoned, WritesDue}
@@ -48,11 +48,11 @@ use Rattle.proof_sending.proofs.Judged.{followed_goes}
 use Rattle.proof_sending.proofs.Reasoned.{Laws, event_is, units_due}
 use Rattle.proof_sending.proofs.Steps.{holds_more, own_reason, reasoned_more}
 use Rattle.proof_sending.proofs.Telling.{frame_brought, payload_tells}
-use Rattle.proof_alone.specs.State.{HostMachine}
-use Rattle.proof_alone.specs.Steps.{AreTold, IsAskedBy, Step, TakesItem, Tells, Comes, Misses, Says, Says_nothing, Asks, Refuses, Shows, Restarts, Begins_tick, Numbers, Judges, Does, entries, happens}
-use Rattle.proof_alone.specs.Phases.{Phase, IsBetween, IsJudgedNow, Resting, Asked, Risen, Ticking, Open, Behind, Sleeping, Submitting, May, Turns}
-use Rattle.proof_alone.specs.Runs.{WalkOver}
-use Rattle.proof_waking.specs.Judged.{KnowsJudged}
+use Rattle.proof_known.specs.proof_alone.State.{HostMachine}
+use Rattle.proof_known.specs.proof_alone.Steps.{AreTold, IsAskedBy, Step, TakesItem, Tells, Comes, Misses, Says, Says_nothing, Asks, Refuses, Shows, Restarts, Begins_tick, Numbers, Judges, Does, entries, happens}
+use Rattle.proof_known.specs.proof_alone.Phases.{Phase, IsBetween, IsJudgedNow, Resting, Asked, Risen, Ticking, Open, Behind, Sleeping, Submitting, May, Turns}
+use Rattle.proof_known.specs.proof_alone.Runs.{WalkOver}
+use Rattle.proof_known.specs.proof_waking.Judged.{KnowsJudged}
 use Rattle.proof_known.specs.Known.{KnowsOrders}
 use Rattle.proof_known.proofs.Events.{event_notes}
 use Rattle.proof_asking.specs.Asking.{DueBefore, DueBehind, HaveCome, IsHeardOf, KnowsDue, TieDue}

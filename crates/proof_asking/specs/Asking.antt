@@ -14,16 +14,16 @@ use Rattle.zw_text.specs.Transcript.{line_of}
 use Rattle.law_transcript.specs.Lists.{Has}
 use Rattle.law_transcript.specs.Restarts.{begins_refused}
 use Rattle.law_transcript.specs.Units.{arrived}
-use Rattle.law_host.specs.Heard.{listing_heard}
+use Rattle.proof_known.specs.law_host.Heard.{listing_heard}
 use Rattle.host_model.specs.State.{HostState}
 use Rattle.host_model.specs.Events.{HostEvent}
-use Rattle.proof_spoken.specs.Said.{KnowsListing}
+use Rattle.proof_sending.specs.proof_spoken.Said.{KnowsListing}
 use Rattle.proof_sending.specs.Arriving.{BringsMore}
 use Rattle.proof_sending.specs.Due.{IsShown}
 use Rattle.proof_sending.specs.Heard.{GiveReasons}
 use Rattle.proof_sending.specs.Reasons.{Reason, IsReasoned}
-use Rattle.proof_alone.specs.Phases.{Asked, Behind}
-use Rattle.proof_alone.specs.Runs.{Knowledge}
+use Rattle.proof_known.specs.proof_alone.Phases.{Asked, Behind}
+use Rattle.proof_known.specs.proof_alone.Runs.{Knowledge}
 
 -- what a host heard is a reason
 abbrev pub IsHeardOf : List ℕ → List Entry → Reason → Type 0

@@ -1,1 +1,3 @@
 pub mod Asking
+pub use Rattle.proof_known.specs as proof_known
+pub use Rattle.proof_sending.specs as proof_sending

@@ -9,4 +9,6 @@
 
 mod sends;
 
+pub use proof_known as known;
+pub use proof_sending as sending;
 pub use sends::hosts_send_what_is_due;

@@ -5,19 +5,19 @@ ghost use Rattle.device_kinds.specs.Sealing.{keys_of};
 ghost use Rattle.device_sim.specs.State.{State};
 ghost use Rattle.zw_text.specs.declared.entry.Entry.{Entry};
 ghost use Rattle.law_transcript.specs.Payloads.{SendsWhatIsDue};
-ghost use Rattle.law_host.specs.Heard.{heard_by_host, listing_heard};
+ghost use Rattle.proof_known.specs.law_host.Heard.{heard_by_host, listing_heard};
 ghost use Rattle.world_model.specs.State.{first_machine};
 ghost use Rattle.world_lines.specs.Spoken.{Spoken, transcript_of};
 ghost use Rattle.world_lines.specs.Done.{AreDone};
-ghost use Rattle.proof_alone.specs.State.{first_alone};
-ghost use Rattle.proof_alone.specs.Runs.{Told};
+ghost use Rattle.proof_known.specs.proof_alone.State.{first_alone};
+ghost use Rattle.proof_known.specs.proof_alone.Runs.{Told};
 
 use host_requests::callback_ids;
-use proof_alone::{lines_are_a_hosts, what_is_heard_is_a_hosts};
 use proof_host::{events_keep_facts, laws_follow};
+use proof_known::alone::{lines_are_a_hosts, what_is_heard_is_a_hosts};
 use proof_known::{hosts_keep_what_is_said, hosts_know_what_nodes_list};
 use proof_messages::hosts_leave_nonces;
-use proof_spoken::{orders_are_carried_as_said, tables_keep_orders};
+use proof_sending::spoken::{orders_are_carried_as_said, tables_keep_orders};
 
 /// Whatever bytes came to a host alone, over a keeper that tells its records and has none at first, also where it starts again: each payload that it asks
 /// its chip to send is the message of the last session of its node, by the classes that the node had listed when the command was accepted (plain, a segment

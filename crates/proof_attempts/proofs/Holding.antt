@@ -26,19 +26,19 @@ use Rattle.host_model.specs.declared.out.HostOut.{HostOut}
 use Rattle.host_model.proofs.Submitted.{SleepersAre, SubmittedAre, next_is, no_more_is}
 use Rattle.proof_host.specs.Facts.{Facts}
 use Rattle.proof_work.specs.Work.{HostWork, MayBeTold, times_told}
-use Rattle.proof_walk.specs.ByLine.{IsAsked}
-use Rattle.proof_walk.specs.Outside.{IsHostNote}
-use Rattle.proof_walk.proofs.HostNotes.{NoteOuts, all_outs_note}
-use Rattle.proof_walk.proofs.Untimed.{AreUntimed, IsUntimed, same_time}
-use Rattle.proof_alone.specs.State.{HostMachine}
-use Rattle.proof_alone.specs.Steps.{AreTold, IsAskedBy}
-use Rattle.proof_alone.specs.Phases.{Phase, Resting, Asked, Risen, Ticking, Open, Behind, Sleeping, Submitting, GoesBy, IsNumbered, Turns}
-use Rattle.proof_alone.specs.Time.{TieClock, passing}
-use Rattle.proof_alone.proofs.Apart.{AreOfLine, told_are}
-use Rattle.proof_alone.proofs.InOrder.{asked_puts, is_asked}
+use Rattle.proof_work.specs.proof_walk.ByLine.{IsAsked}
+use Rattle.proof_work.specs.proof_walk.Outside.{IsHostNote}
+use Rattle.proof_work.proofs.HostNotes.{NoteOuts, all_outs_note}
+use Rattle.proof_work.proofs.Untimed.{AreUntimed, IsUntimed, same_time}
+use Rattle.proof_waking.specs.proof_alone.State.{HostMachine}
+use Rattle.proof_waking.specs.proof_alone.Steps.{AreTold, IsAskedBy}
+use Rattle.proof_waking.specs.proof_alone.Phases.{Phase, Resting, Asked, Risen, Ticking, Open, Behind, Sleeping, Submitting, GoesBy, IsNumbered, Turns}
+use Rattle.proof_waking.specs.proof_alone.Time.{TieClock, passing}
+use Rattle.proof_waking.proofs.proof_alone_Apart.{AreOfLine, told_are}
+use Rattle.proof_waking.proofs.InOrder.{asked_puts, is_asked}
 use Rattle.proof_waking.proofs.Apart.{IsWordless}
 use Rattle.proof_attempts.specs.Since.{InTick, IsBetweenTicks, IsLoose, IsOfItem, Lasts, TicksAt, is_to_tick, node_clock}
-use Rattle.proof_alone.specs.Listening.{KnowsListening}
+use Rattle.proof_waking.specs.proof_alone.Listening.{KnowsListening}
 use Rattle.proof_attempts.specs.Waking.{HeldAsTold, KnowsHearing, KnowsWork, TellsAwake, Waking, one_less, releases_of, waking_before, waking_in, waking_step}
 use Rattle.proof_attempts.proofs.Ahead.{ahead_from, ahead_joined}
 use Rattle.proof_attempts.proofs.Counting.{answers_quiet, answers_wordless, each_starts, first_waking, loose_quiet, loose_wordless, told_notes, told_wordless}

@@ -15,3 +15,5 @@ mod Doings
 mod SeriesTold
 mod SeriesGoes
 mod SeriesTie
+pub use Rattle.proof_work.proofs.Times
+pub use Rattle.proof_work.proofs.HostNotes

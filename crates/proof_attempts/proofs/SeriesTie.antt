@@ -33,7 +33,7 @@ use Rattle.host_model.specs.May.{May}
 use Rattle.host_model.specs.Outs.{answers, outs}
 use Rattle.host_model.specs.Ticking.{ticking_nodes}
 use Rattle.host_model.proofs.Submitted.{SleepersAre, SubmittedAre, next_is, no_more_is}
-use Rattle.proof_device.proofs.HostOuts.{SharedAre, outs_are}
+use Rattle.proof_work.proofs.HostOuts.{SharedAre, outs_are}
 use Rattle.proof_host.specs.Entries.{notes_of}
 use Rattle.proof_host.specs.Facts.{Facts}
 use Rattle.proof_host.specs.Laws.{IsUnderWay}
@@ -44,13 +44,13 @@ use Rattle.host_model.specs.Sessions.{open_command}
 use Rattle.world_model.specs.Events.{OpensFrom}
 use Rattle.proof_waking.proofs.Apart.{IsWordless}
 use Rattle.proof_work.specs.Work.{HostWork, times_due, told_at, told_in}
-use Rattle.proof_walk.specs.ByLine.{IsAsked}
-use Rattle.proof_alone.specs.State.{HostMachine, done}
-use Rattle.proof_alone.specs.Steps.{AreTold, Says, happens}
-use Rattle.proof_alone.specs.Phases.{Phase, Resting, Asked, Ticking, Open, Behind, Sleeping, Submitting, GoesBy, IsNumbered}
-use Rattle.proof_alone.specs.Time.{TieClock}
-use Rattle.proof_alone.proofs.Apart.{AreOfLine}
-use Rattle.proof_alone.proofs.InOrder.{is_asked}
+use Rattle.proof_work.specs.proof_walk.ByLine.{IsAsked}
+use Rattle.proof_waking.specs.proof_alone.State.{HostMachine, done}
+use Rattle.proof_waking.specs.proof_alone.Steps.{AreTold, Says, happens}
+use Rattle.proof_waking.specs.proof_alone.Phases.{Phase, Resting, Asked, Ticking, Open, Behind, Sleeping, Submitting, GoesBy, IsNumbered}
+use Rattle.proof_waking.specs.proof_alone.Time.{TieClock}
+use Rattle.proof_waking.proofs.proof_alone_Apart.{AreOfLine}
+use Rattle.proof_waking.proofs.InOrder.{is_asked}
 use Rattle.proof_attempts.specs.Series.{IsSeries, KnowsSeries, NodeAsTold, RunsAsTold, again_ticked, looked_at, series_so_far}
 use Rattle.proof_attempts.specs.Since.{IsElse, IsLoose, IsOfItem, Lasts, is_to_tick}
 use Rattle.proof_attempts.specs.Waiting.{WaitInOrder}

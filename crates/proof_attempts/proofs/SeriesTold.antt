@@ -16,9 +16,9 @@ use Rattle.law_time.specs.Sessions.{Series as SeriesTold, is_last_command, serie
 use Rattle.host_model.specs.declared.out.HostOut.{HostOut}
 use Rattle.host_model.specs.declared.out.HostOut.TheVariants.{Note, Write}
 use Rattle.proof_host.specs.Entries.{notes_of}
-use Rattle.proof_walk.proofs.Untimed.{AreUntimed, IsUntimed, same_time}
-use Rattle.proof_alone.specs.Steps.{AreTold, IsOfUnit}
-use Rattle.proof_alone.specs.Time.{passing}
+use Rattle.proof_work.proofs.Untimed.{AreUntimed, IsUntimed, same_time}
+use Rattle.proof_waking.specs.proof_alone.Steps.{AreTold, IsOfUnit}
+use Rattle.proof_waking.specs.proof_alone.Time.{passing}
 use Rattle.proof_waking.proofs.Apart.{IsWordless}
 use Rattle.proof_attempts.specs.Series.{series_so_far}
 use Rattle.proof_attempts.specs.Since.{IsLoose}

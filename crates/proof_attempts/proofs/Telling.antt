@@ -43,10 +43,10 @@ use Rattle.host_model.specs.Outs.{answer_to, copy_out, dropped_if, failing_entri
 use Rattle.host_model.specs.Events.{HostEvent, Accepts, Hears, Requests_do, Interviews, Interview_unkept, Unreads, Is_unkept, Reports_old, Finishes, Offers, Gives, Spends_unread, Notifies, Resends, Hears_value, Has_no_room, Line_ticks, Node_ticks, Drops_no_more, Submits_abort, Submits_front, Starts, Gives_text, Gives_segment, Begins, Begin_unkept}
 use Rattle.host_model.specs.declared.out.HostOut.{HostOut}
 use Rattle.host_model.specs.declared.out.HostOut.TheVariants.{Note, Write}
-use Rattle.proof_device.proofs.HostOuts.{OutsAre, OwnIs, SharedAre, outs_are}
-use Rattle.proof_walk.proofs.Shown.{shown_one}
-use Rattle.proof_alone.specs.Steps.{AreTold}
-use Rattle.proof_alone.proofs.Apart.{AreOfLine, marks_are}
+use Rattle.proof_work.proofs.HostOuts.{OutsAre, OwnIs, SharedAre, outs_are}
+use Rattle.proof_work.proofs.Shown.{shown_one}
+use Rattle.proof_waking.specs.proof_alone.Steps.{AreTold}
+use Rattle.proof_waking.proofs.proof_alone_Apart.{AreOfLine, marks_are}
 
 -- ---- entries
 

@@ -4,3 +4,4 @@ pub mod Working
 pub mod Series
 pub mod Kept
 pub mod Waiting
+pub use Rattle.proof_work.specs.proof_walk as proof_walk

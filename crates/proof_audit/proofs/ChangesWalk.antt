@@ -21,8 +21,8 @@ use Rattle.proof_device.proofs.Entering.{Acts, number_are}
 use Rattle.proof_device.proofs.Others.{IsOther, Others, chip_other, event_other}
 use Rattle.proof_device.proofs.ShownChanges.{Adds, event_tells, new_are}
 use Rattle.zw_text.specs.Transcript.{made}
-use Rattle.proof_walk.specs.Outside.{CoversOuter, IsNote}
-use Rattle.proof_walk.proofs.Alone.{noted_are}
+use Rattle.proof_transcript.specs.proof_walk.Outside.{CoversOuter, IsNote}
+use Rattle.proof_transcript.proofs.Alone.{noted_are}
 use Rattle.proof_audit.specs.Books.{ArePieces}
 use Rattle.proof_audit.proofs.CutLines.{IsMoving}
 use Rattle.proof_audit.proofs.WholeChanges.{at-pieces, each-pieces, hand-pieces, loose, pieces-on, pieces-then, tells-grow}

@@ -29,7 +29,7 @@ use Rattle.audit_books.specs.SessionRule.{EachKeeps}
 use Rattle.audit_books.proofs.Views.{folded-more, shown-more}
 use Rattle.audit_rules.specs.AirRule.{asks_for, breaks_air, breaks_fate, has_landed, is_fresh, is_sent, landed, landed_at, may_hear}
 use Rattle.audit_rules.specs.Ticks.{runs_ticks, ticks_following}
-use Rattle.proof_walk.proofs.Shown.{shown_one}
+use Rattle.proof_transcript.proofs.proof_walk_Shown.{shown_one}
 use Rattle.proof_audit.specs.Frames.{ShowLines, ShowsLine}
 use Rattle.proof_audit.specs.Legible.{AreLegible, IsLegible}
 use Rattle.proof_audit.specs.Tables.{IsOfTable}

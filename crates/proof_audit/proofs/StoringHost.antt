@@ -23,7 +23,7 @@ use Rattle.proof_host.specs.Entries.{IsAside, entries_at}
 use Rattle.proof_host.specs.Facts.{Facts}
 use Rattle.proof_host.specs.Stores.{stores_at, stores_by}
 use Rattle.proof_host.specs.Tables.{taken_at, taken_by}
-use Rattle.proof_once.specs.Tied.{KeepsOrders}
+use Rattle.proof_transcript.specs.proof_once.Tied.{KeepsOrders}
 use Rattle.proof_transcript.proofs.RoutineNotes.{IsRoutine, event_routine}
 use Rattle.proof_audit.specs.Tables.{IsToStore}
 use Rattle.proof_host.proofs.Effects.{notes_noted as notes-noted}

@@ -22,7 +22,7 @@ use Rattle.proof_transcript.proofs.Aside.{Asides, own_aside, stamp_aside}
 use Rattle.proof_transcript.proofs.Notes.{Trailing, event_following}
 use Rattle.proof_transcript.proofs.FactsKept.{asides_keep, one_after}
 use Rattle.proof_transcript.specs.Restarts.{AllStartWell, StartsWell}
-use Rattle.proof_once.specs.Tied.{KeepsOrders}
+use Rattle.proof_transcript.specs.proof_once.Tied.{KeepsOrders}
 use Rattle.proof_transcript.specs.Spoken.{AreSpoken, IsSpoken}
 use Rattle.world_lines.specs.Spoken.{Spoken, after as after_line, after_all, entries_of, transcript_of}
 use Rattle.proof_audit.proofs.StoringHost.{HostKeepsOrders, IsStored, event-goes-on, stored-asides, stored-on, stored-then}

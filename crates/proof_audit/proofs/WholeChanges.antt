@@ -25,7 +25,7 @@ use Rattle.proof_device.proofs.KeptKinds.{event_same}
 use Rattle.proof_device.proofs.Others.{IsOther, Others, ends_other, sends_other, to_chip_other}
 use Rattle.proof_audit.specs.Books.{ArePieces, IsChangeOf, IsNoChange, IsPiece, Piece, piece_entries}
 use Rattle.proof_audit.specs.Books.Piece.{Loose, Whole}
-use Rattle.proof_once.proofs.CommandsOfSessions.{stands_has as at-has}
+use Rattle.proof_transcript.proofs.CommandsOfSessions.{stands_has as at-has}
 
 -- ---- pieces
 

@@ -32,7 +32,7 @@ use Rattle.world_model.specs.Events.{Outside_does, happens, May}
 use Rattle.proof_serial.specs.Chip.{IsFrame, HasFrame, HasFrames}
 use Rattle.proof_serial.proofs.Frames.{events_have}
 use Rattle.proof_serial.proofs.ChipWays.{does_each}
-use Rattle.proof_walk.proofs.Times.{does_chip}
+use Rattle.proof_work.proofs.Times.{does_chip}
 use Rattle.proof_calm.specs.Marks.{HasNoMarks, IsUnmarked}
 use Rattle.proof_calm.proofs.Unmarked.{does_none}
 use Rattle.proof_calm.proofs.Room.{unit_short}

@@ -34,7 +34,7 @@ use Rattle.host_model.specs.Outs.{outs, request_entries, ended_of, stored_entrie
 use Rattle.host_model.specs.Did.{after_all, outs_all}
 use Rattle.host_model.specs.Taking.{FrameEvents}
 use Rattle.proof_serial.specs.Line.{host_unit, host_units}
-use Rattle.proof_traffic.proofs.HostLinks.{no_units}
+use Rattle.proof_waking.proofs.HostLinks.{no_units}
 use Rattle.proof_waking.proofs.Followed.{MayFollow, frame_all}
 
 -- an event that is neither an item, a tick of the line, nor a request that is submitted

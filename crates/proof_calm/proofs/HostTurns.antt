@@ -33,8 +33,8 @@ use Rattle.proof_serial.specs.Way.{written_all}
 use Rattle.proof_serial.specs.Chip.{HasFrames}
 use Rattle.proof_serial.specs.Line.{host_unit, host_units}
 use Rattle.proof_serial.proofs.Outer.{routed_all}
-use Rattle.proof_traffic.proofs.Parts.{Airs}
-use Rattle.proof_traffic.proofs.Calm.{Calm, takes_calm}
+use Rattle.proof_waking.proofs.proof_traffic_Parts.{Airs}
+use Rattle.proof_waking.proofs.Calm.{Calm, takes_calm}
 use Rattle.proof_calm.specs.Marks.{no_marks}
 use Rattle.proof_calm.specs.Passes.{texts, IsPlain, answers, turn_after, OnLine, SameChip}
 use Rattle.proof_calm.proofs.Unmarked.{written_unmarked}

@@ -39,9 +39,9 @@ use Rattle.outside_model.specs.Events.{OuterEvent, Begins_line, Begins_tick, Hos
 use Rattle.world_model.specs.State.{Machine}
 use Rattle.world_model.specs.Events.{Event, happens, May}
 use Rattle.proof_device.proofs.Results.{IsSameChip, IsGiven, Gives as ResultsGo, ends_go, gives_go, to_chip_goes}
-use Rattle.proof_walk.specs.Outside.{Knowing, Comes, Outer, IsSimple, IsDone, IsHearing, CoversOuter, session_begins}
-use Rattle.proof_walk.proofs.Machines.{machine_keeps}
-use Rattle.proof_walk.proofs.Times.{each_keeps}
+use Rattle.proof_work.specs.proof_walk.Outside.{Knowing, Comes, Outer, IsSimple, IsDone, IsHearing, CoversOuter, session_begins}
+use Rattle.proof_work.proofs.proof_walk_Machines.{machine_keeps}
+use Rattle.proof_work.proofs.Times.{each_keeps}
 use Rattle.proof_work.specs.Phases.{AsksNothing}
 use Rattle.proof_calm.specs.Marks.{IsQuietEvent}
 use Rattle.proof_calm.specs.Networks.{Members, members, HasMembers}

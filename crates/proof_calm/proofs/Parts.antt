@@ -22,7 +22,7 @@ use Rattle.world_model.specs.State.{Machine}
 use Rattle.world_model.specs.Events.{Host_does, Host_takes, happens, May}
 use Rattle.proof_serial.specs.Chip.{IsFrame, HasFrame, HasFrames}
 use Rattle.proof_serial.specs.Line.{WritesWell}
-use Rattle.proof_traffic.proofs.Parts.{Airs}
+use Rattle.proof_waking.proofs.proof_traffic_Parts.{Airs}
 use Rattle.proof_calm.specs.Passes.{chip_taken, ChipMayTake, texts, IsPlain, OnLine, TakesEach, answers, turn_after}
 use Rattle.proof_calm.specs.Settling.{Line, Free, Asks, Heard, Heard_asks, Sent, Sent_asks, Leaves, Nothing, An_ack, HasMoved, IsLive, Moves, for_request, for_made, passes_of, is_sending}
 use Rattle.proof_calm.specs.Resting.{Stands}

@@ -12,9 +12,9 @@ use Rattle.law_time.specs.Stretches.{is_quiet_line}
 use Rattle.outside_model.specs.Events.{OuterEvent, May as MayOutside, Begins_line, Begins_tick, Arrives, Gives, Device_ticks, Chip_ticks, Chip_takes}
 use Rattle.world_model.specs.State.{Machine}
 use Rattle.world_model.specs.Events.{Event, Outside_does, happens, entries, May}
-use Rattle.proof_walk.specs.Outside.{CoversOuter}
-use Rattle.proof_walk.specs.ByLine.{CoversLine, IsOfTick, ByLine}
-use Rattle.proof_walk.proofs.ByLine.{effect_covered, common_covered}
+use Rattle.proof_work.specs.proof_walk.Outside.{CoversOuter}
+use Rattle.proof_work.specs.proof_walk.ByLine.{CoversLine, IsOfTick, ByLine}
+use Rattle.proof_work.proofs.ByLine.{effect_covered, common_covered}
 use Rattle.proof_work.specs.Phases.{AsksNothing}
 use Rattle.proof_calm.specs.Marks.{IsQuietEvent}
 use Rattle.proof_calm.specs.Quiet.{AreQuiet, InQuiet, AtQuiet, DoingQuiet}

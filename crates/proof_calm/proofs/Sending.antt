@@ -14,14 +14,14 @@ use Rattle.world_model.specs.Prefixes.{LinePart}
 use Rattle.world_lines.specs.Spoken.{Spoken, after, after_all}
 use Rattle.world_lines.specs.Done.{AreDone, events_of}
 use Rattle.world_lines.specs.Whole.{AreWhole}
-use Rattle.proof_walk.proofs.Where.{along_parts}
+use Rattle.proof_work.proofs.Where.{along_parts}
 use Rattle.proof_serial.specs.Host.{AllAskWell}
 use Rattle.proof_serial.specs.Line.{WritesWell, AllWriteWell}
-use Rattle.proof_traffic.specs.Requests.{Traffic}
-use Rattle.proof_traffic.specs.Facts.{one_if, flying_in}
-use Rattle.proof_traffic.specs.OutsideTraffic.{flags, no_routes_due, without_frame}
-use Rattle.proof_traffic.specs.OnAir.{hosts_on_air}
-use Rattle.proof_traffic.specs.Course.{Follows, Goes}
+use Rattle.proof_waking.specs.proof_traffic.Requests.{Traffic}
+use Rattle.proof_waking.specs.proof_traffic.Facts.{one_if, flying_in}
+use Rattle.proof_waking.specs.proof_traffic.OutsideTraffic.{flags, no_routes_due, without_frame}
+use Rattle.proof_waking.specs.proof_traffic.OnAir.{hosts_on_air}
+use Rattle.proof_waking.specs.proof_traffic.Course.{Follows, Goes}
 use Rattle.proof_calm.specs.Settling.{IsServed}
 use Rattle.proof_calm.specs.Resting.{LineRests}
 use Rattle.proof_calm.specs.Sending.{SendsNothing, SendsOne, SendsFew, IsFollowed}

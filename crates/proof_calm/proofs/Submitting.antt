@@ -28,8 +28,8 @@ use Rattle.proof_serial.specs.Way.{written_all}
 use Rattle.proof_serial.specs.Chip.{HasFrames}
 use Rattle.proof_serial.specs.Line.{host_units, WritesWell}
 use Rattle.proof_serial.proofs.Outer.{Written, routed_all, notes_all, written_both}
-use Rattle.proof_traffic.proofs.Parts.{Airs}
-use Rattle.proof_traffic.proofs.Calm.{does_calm}
+use Rattle.proof_waking.proofs.proof_traffic_Parts.{Airs}
+use Rattle.proof_waking.proofs.Calm.{does_calm}
 use Rattle.proof_calm.specs.Passes.{texts, OnLine, SameChip}
 use Rattle.proof_calm.proofs.Room.{written_bytes}
 use Rattle.proof_calm.proofs.Unmarked.{event_unmarked}

@@ -36,8 +36,8 @@ use Rattle.world_model.specs.Lines.{IsEffect as IsLineEffect}
 use Rattle.proof_serial.specs.Chip.{IsFrame, HasFrame}
 use Rattle.proof_serial.specs.Line.{host_units}
 use Rattle.proof_serial.proofs.Outer.{tick_still}
-use Rattle.proof_traffic.proofs.Parts.{Airs}
-use Rattle.proof_walk.specs.Outside.{CoversOuter}
+use Rattle.proof_waking.proofs.proof_traffic_Parts.{Airs}
+use Rattle.proof_work.specs.proof_walk.Outside.{CoversOuter}
 use Rattle.proof_calm.specs.Marks.{IsUnmarked, IsQuietEvent}
 use Rattle.proof_calm.specs.Passes.{AtChip, AtHost, OnLine}
 use Rattle.proof_calm.specs.Resting.{LineRests, HasFor, Nothing, First, IsGiven, IsOfTick, IsEffect, Stands}

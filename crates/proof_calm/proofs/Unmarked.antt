@@ -47,8 +47,8 @@ use Rattle.outside_model.specs.Devices.{acts}
 use Rattle.outside_model.specs.Events.{OuterEvent, Begins_line, Begins_tick, Host_writes, Host_takes, Host_notes, Host_begins, Chip_takes, Arrives, Gives, Device_ticks, Chip_ticks, Repeats, Wakes_device, Sets_device, Shows, Joins, Discovers, Links, Loses, Loses_acks, Marks_loss, Marks_change, Clears_pipe, Collides_next, Stalls, Cuts, outcome, mesh_of, begins, is_own}
 use Rattle.world_model.specs.State.{Machine}
 use Rattle.world_model.specs.Events.{Event, happens, May}
-use Rattle.proof_walk.specs.Outside.{Knowing, Comes, Outer, IsSimple, IsDone, IsHearing, CoversOuter, session_begins}
-use Rattle.proof_walk.proofs.Machines.{machine_keeps}
+use Rattle.proof_work.specs.proof_walk.Outside.{Knowing, Comes, Outer, IsSimple, IsDone, IsHearing, CoversOuter, session_begins}
+use Rattle.proof_work.proofs.proof_walk_Machines.{machine_keeps}
 use Rattle.proof_calm.proofs.Collisions.{event_left, frame_left}
 use Rattle.law_transcript.proofs.Deciding.{not_true as not_own}
 use Rattle.proof_work.specs.Phases.{AsksNothing}

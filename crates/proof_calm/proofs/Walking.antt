@@ -18,9 +18,9 @@ use Rattle.outside_model.specs.State.{is_stalled}
 use Rattle.outside_model.specs.Events.{Begins_line, Begins_tick, Arrives, Gives, Device_ticks, Chip_ticks, Chip_takes}
 use Rattle.world_model.specs.State.{Machine}
 use Rattle.world_model.specs.Events.{Event, Outside_does, Host_does, Host_takes, Decoder_ticks, happens, entries, May}
-use Rattle.proof_walk.specs.Phases.{Phase, Between, Said_line, Begun, Doing, To_tick, Ticked, Arriving, Giving, Ticking_devices, Ticking_chip, Ticking_decoder, Ticking_host, Sleeping, Submitting, Moving, Moved, Turns, Goes, IsStill, after_pump, passes_after}
-use Rattle.proof_walk.specs.Walk.{WalkWhere}
-use Rattle.proof_traffic.proofs.Parts.{Airs}
+use Rattle.proof_work.specs.proof_walk.Phases.{Phase, Between, Said_line, Begun, Doing, To_tick, Ticked, Arriving, Giving, Ticking_devices, Ticking_chip, Ticking_decoder, Ticking_host, Sleeping, Submitting, Moving, Moved, Turns, Goes, IsStill, after_pump, passes_after}
+use Rattle.proof_work.specs.proof_walk.Walk.{WalkWhere}
+use Rattle.proof_waking.proofs.proof_traffic_Parts.{Airs}
 use Rattle.proof_work.specs.Phases.{AsksNothing}
 use Rattle.proof_work.specs.Rests.{NoneWants}
 use Rattle.proof_calm.specs.Settling.{Line as TheLine, Free, Asks, Heard, Heard_asks, Sent, Sent_asks, IsLive, IsDone, HasMoved, passes_of, is_sending, IsServed}

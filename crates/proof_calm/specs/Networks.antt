@@ -4,8 +4,8 @@ use Rattle.route_table.specs.Network.{Network}
 use Rattle.outside_model.specs.State.{OuterState}
 use Rattle.world_model.specs.State.{Machine}
 use Rattle.zw_text.specs.declared.entry.Entry.{Entry}
-use Rattle.proof_walk.specs.Phases.{Phase}
-use Rattle.proof_walk.specs.ByLine.{by_line}
+use Rattle.proof_work.specs.proof_walk.Phases.{Phase}
+use Rattle.proof_work.specs.proof_walk.ByLine.{by_line}
 use Rattle.proof_calm.specs.Quiet.{InQuiet, AtQuiet, DoingQuiet}
 
 -- which nodes are joined, to the chip and in the air, which of them listen to the chip, and the links and repeaters of the air

@@ -25,7 +25,7 @@ use Rattle.outside_model.specs.Events.{Chip_takes}
 use Rattle.world_model.specs.State.{Machine}
 use Rattle.world_model.specs.Events.{Outside_does, Host_takes, happens, May}
 use Rattle.proof_serial.specs.Chip.{IsFrame, HasFrames}
-use Rattle.proof_traffic.specs.OnAir.{on_air}
+use Rattle.proof_waking.specs.proof_traffic.OnAir.{on_air}
 use Rattle.proof_calm.specs.Marks.{IsUnmarked}
 
 -- the bytes of units, one after another

@@ -7,9 +7,9 @@ use Rattle.zw_text.specs.Transcript.{lines_run}
 use Rattle.law_time.specs.Stretches.{is_quiet_line}
 use Rattle.world_model.specs.State.{Machine}
 use Rattle.world_model.specs.Events.{Event}
-use Rattle.proof_walk.specs.Phases.{Phase}
-use Rattle.proof_walk.specs.Outside.{CoversOuter}
-use Rattle.proof_walk.specs.ByLine.{KnownOf, by_line}
+use Rattle.proof_work.specs.proof_walk.Phases.{Phase}
+use Rattle.proof_work.specs.proof_walk.Outside.{CoversOuter}
+use Rattle.proof_work.specs.proof_walk.ByLine.{KnownOf, by_line}
 use Rattle.proof_calm.specs.Marks.{IsQuietEvent, IsUnmarked}
 
 -- no other line was said

@@ -13,7 +13,7 @@ use Rattle.outside_model.specs.State.{OuterState}
 use Rattle.outside_model.specs.Events.{OuterEvent, Wakes_device, Shows, Cuts}
 use Rattle.world_model.specs.State.{Machine}
 use Rattle.world_model.specs.Events.{Event, Outside_does, Host_does, Refuses, Shows_values}
-use Rattle.proof_walk.specs.Phases.{Phase, Between, Said_line, Begun, Doing, To_tick, Ticked, Arriving, Giving, Ticking_devices, Ticking_chip, Ticking_decoder, Ticking_host, Sleeping, Submitting, Moving, Moved}
+use Rattle.proof_work.specs.proof_walk.Phases.{Phase, Between, Said_line, Begun, Doing, To_tick, Ticked, Arriving, Giving, Ticking_devices, Ticking_chip, Ticking_decoder, Ticking_host, Sleeping, Submitting, Moving, Moved}
 use Rattle.proof_work.specs.Rests.{NoneWants}
 use Rattle.proof_calm.specs.Marks.{IsUnmarked}
 use Rattle.proof_calm.specs.Passes.{AtChip, AtHost, OnLine}

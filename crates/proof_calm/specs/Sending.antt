@@ -6,11 +6,11 @@ use Rattle.air_frames.specs.History.{Mark}
 use Rattle.outside_model.specs.declared.waits.Call.{Call}
 use Rattle.outside_model.specs.State.{OuterState}
 use Rattle.world_model.specs.State.{Machine}
-use Rattle.proof_traffic.specs.Requests.{Traffic}
-use Rattle.proof_traffic.specs.Facts.{one_if}
-use Rattle.proof_traffic.specs.OutsideTraffic.{of_frame, no_routes_due, one_unless}
-use Rattle.proof_traffic.specs.OnAir.{hosts_on_air}
-use Rattle.proof_traffic.specs.Course.{Follows}
+use Rattle.proof_waking.specs.proof_traffic.Requests.{Traffic}
+use Rattle.proof_waking.specs.proof_traffic.Facts.{one_if}
+use Rattle.proof_waking.specs.proof_traffic.OutsideTraffic.{of_frame, no_routes_due, one_unless}
+use Rattle.proof_waking.specs.proof_traffic.OnAir.{hosts_on_air}
+use Rattle.proof_waking.specs.proof_traffic.Course.{Follows}
 
 -- no call is to come, no frame of the host is on the air, and no result without a route is due
 pub record SendsNothing (o : OuterState) : Type 0 where

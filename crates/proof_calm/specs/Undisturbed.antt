@@ -13,7 +13,7 @@ use Rattle.host_model.specs.State.{HostState, node_of}
 use Rattle.outside_model.specs.declared.waits.Call.TheVariants.{OfFrame}
 use Rattle.outside_model.specs.State.{OuterState}
 use Rattle.world_model.specs.State.{Machine}
-use Rattle.proof_traffic.specs.OnAir.{on_air, hosts_on_air}
+use Rattle.proof_waking.specs.proof_traffic.OnAir.{on_air, hosts_on_air}
 use Rattle.proof_calm.specs.Resting.{LineRests}
 use Rattle.proof_calm.specs.Sending.{SendsNothing}
 

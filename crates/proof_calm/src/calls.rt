@@ -11,16 +11,16 @@ ghost use Rattle.world_lines.specs.Spoken.{Spoken, after_all, transcript_of};
 ghost use Rattle.world_lines.specs.Done.{AreDone, events_of};
 ghost use Rattle.world_lines.specs.Whole.{AreWhole};
 ghost use Rattle.proof_serial.specs.Host.{AllAskWell};
-ghost use Rattle.proof_traffic.specs.Requests.{Traffic};
-ghost use Rattle.proof_traffic.specs.OutsideTraffic.{AreNodes};
-ghost use Rattle.proof_traffic.specs.Course.{Follows};
+ghost use Rattle.proof_waking.specs.proof_traffic.Requests.{Traffic};
+ghost use Rattle.proof_waking.specs.proof_traffic.OutsideTraffic.{AreNodes};
+ghost use Rattle.proof_waking.specs.proof_traffic.Course.{Follows};
 ghost use Rattle.proof_calm.specs.Quiet.{AreQuiet};
 ghost use Rattle.proof_calm.specs.Resting.{LineRests};
 ghost use Rattle.proof_calm.specs.Sending.{IsFollowed, SendsFew};
 ghost use Rattle.proof_calm.specs.Settling.{IsServed};
 
 use crate::the_line_rests;
-use proof_traffic::lines_make_requests;
+use proof_waking::traffic::lines_make_requests;
 
 /// Where the serial line rests and a course of the host's requests is where the machine is, the chip sends nothing, and then no call is to come and no frame
 /// of the host is on the air; or it sends one payload, whose one call is to come, for the host's only frame there. So it is after quiet lines, from any machine

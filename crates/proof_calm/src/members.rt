@@ -5,7 +5,7 @@ ghost use Rattle.world_model.specs.State.{Machine};
 ghost use Rattle.world_lines.specs.Spoken.{Spoken, after_all, transcript_of};
 ghost use Rattle.world_lines.specs.Done.{AreDone};
 ghost use Rattle.world_lines.specs.Whole.{AreWhole};
-ghost use Rattle.proof_walk.specs.Walk.{Walk};
+ghost use Rattle.proof_work.specs.proof_walk.Walk.{Walk};
 ghost use Rattle.proof_work.specs.Phases.{AsksNothing};
 ghost use Rattle.proof_calm.specs.Networks.{KnowMembers, Members, members};
 ghost use Rattle.proof_calm.specs.Quiet.{AreQuiet};

@@ -8,13 +8,13 @@ ghost use Rattle.world_model.specs.State.{Machine, first_machine};
 ghost use Rattle.world_lines.specs.Spoken.{Spoken, after_all, transcript_of};
 ghost use Rattle.world_lines.specs.Done.{AreDone, events_of};
 ghost use Rattle.world_lines.specs.Whole.{AreWhole};
-ghost use Rattle.proof_walk.specs.Walk.{WalkWhere};
+ghost use Rattle.proof_work.specs.proof_walk.Walk.{WalkWhere};
 ghost use Rattle.proof_work.specs.Phases.{AsksNothing};
 ghost use Rattle.proof_calm.specs.Quiet.{AreQuiet};
 ghost use Rattle.proof_calm.specs.Resting.{KnowLine, LineRests};
 ghost use Rattle.proof_calm.specs.Settling.{IsServed};
 
-use proof_traffic::frames_fly_in_order;
+use proof_waking::traffic::frames_fly_in_order;
 use proof_work::turns_of_a_pump_leave_nothing;
 
 /// At first the serial line rests: nothing is marked to be lost, no byte is on its way, and neither side has a frame of its own on the line or in a queue.

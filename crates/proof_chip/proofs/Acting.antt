@@ -32,7 +32,7 @@ use Rattle.outside_model.specs.Air.{deals, sent_entries}
 use Rattle.outside_model.specs.Devices.{acts, changes_entries, new_changes}
 use Rattle.outside_model.specs.Events.{mesh_of, steps}
 use Rattle.proof_device.proofs.Entered.{IsChange, changes_entered}
-use Rattle.proof_walk.specs.Outside.{Comes, IsHearing}
+use Rattle.proof_air.specs.proof_walk.Outside.{Comes, IsHearing}
 use Rattle.proof_air.specs.Carrying.{IsHome}
 use Rattle.proof_air.proofs.Judging.{both_true}
 use Rattle.proof_line.proofs.ChipAccounts.{all_account, all_results, heard_account, steps_account, steps_by}

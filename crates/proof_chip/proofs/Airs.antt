@@ -18,11 +18,11 @@ use Rattle.outside_model.specs.State.{OuterState, first_outer}
 use Rattle.outside_model.specs.Events.{OuterEvent, Begins_tick, Chip_takes, Arrives, Gives, outcome, May as MayOutside}
 use Rattle.world_model.specs.State.{Machine, first_machine}
 use Rattle.world_model.specs.Events.{Event, Outside_does, May, entries, happens}
-use Rattle.proof_walk.specs.ByLine.{CoversLine}
-use Rattle.proof_walk.specs.Outside.{CoversOuter}
-use Rattle.proof_walk.specs.Phases.{Phase, Between, Said_line, Begun, Doing, To_tick, Ticked, Arriving, Giving, Ticking_devices, Ticking_chip, Ticking_decoder, Ticking_host, Sleeping, Submitting, Moving, Moved, Goes, Turns}
-use Rattle.proof_walk.proofs.ByLine.{effect_covered}
-use Rattle.proof_walk.proofs.Times.{IsWithin, outcome_time}
+use Rattle.proof_air.specs.proof_walk.ByLine.{CoversLine}
+use Rattle.proof_air.specs.proof_walk.Outside.{CoversOuter}
+use Rattle.proof_air.specs.proof_walk.Phases.{Phase, Between, Said_line, Begun, Doing, To_tick, Ticked, Arriving, Giving, Ticking_devices, Ticking_chip, Ticking_decoder, Ticking_host, Sleeping, Submitting, Moving, Moved, Goes, Turns}
+use Rattle.proof_air.proofs.ByLine.{effect_covered}
+use Rattle.proof_air.proofs.Times.{IsWithin, outcome_time}
 use Rattle.proof_chip.specs.Sending.{AirSo, AreBefore, AreNow, AreSending, GroundAir, IsMild, KnowAir}
 use Rattle.proof_line.proofs.ChipAccounts.{event_steps, outer_steps}
 use Rattle.proof_chip.proofs.Ending.{serves_none}

@@ -18,21 +18,21 @@ use Rattle.outside_model.specs.State.{OuterState, Outside}
 use Rattle.outside_model.specs.Events.{Begins_line, Begins_tick, Chip_takes, Arrives, Gives, happens as happens_outside}
 use Rattle.world_model.specs.State.{Machine}
 use Rattle.world_model.specs.Events.{Event, Outside_does, happens, entries, May}
-use Rattle.proof_traffic.specs.Flights.{Fly}
-use Rattle.proof_traffic.specs.Facts.{flying_in, one_if}
-use Rattle.proof_traffic.specs.OnAir.{hosts_on_air, on_air}
-use Rattle.proof_traffic.specs.OutsideTraffic.{flags, no_routes_due, of_frame, outward, without_frame}
-use Rattle.proof_traffic.proofs.ArrivedFrames.{Homes, arrives_home}
-use Rattle.proof_traffic.proofs.Arrivals.{NoNexting, outward-append}
-use Rattle.proof_traffic.proofs.ChipNotices.{Given, given_first}
-use Rattle.proof_traffic.proofs.Flights.{flights_are}
-use Rattle.proof_traffic.proofs.Parts.{Laws}
-use Rattle.proof_walk.specs.Outside.{CoversOuter, nothing}
-use Rattle.proof_walk.specs.ByLine.{CoversLine}
-use Rattle.proof_walk.specs.Phases.{Phase, Between, Said_line, Begun, Doing, To_tick, Ticked, Arriving, Giving, Ticking_devices, Ticking_chip, Ticking_decoder, Ticking_host, Sleeping, Submitting, Moving, Moved, Goes, Turns}
-use Rattle.proof_walk.specs.Walk.{WalkOver}
-use Rattle.proof_walk.proofs.ByLine.{effect_covered}
-use Rattle.proof_walk.proofs.Stepping.{Steps, event_then}
+use Rattle.proof_line.specs.proof_traffic.Flights.{Fly}
+use Rattle.proof_line.specs.proof_traffic.Facts.{flying_in, one_if}
+use Rattle.proof_line.specs.proof_traffic.OnAir.{hosts_on_air, on_air}
+use Rattle.proof_line.specs.proof_traffic.OutsideTraffic.{flags, no_routes_due, of_frame, outward, without_frame}
+use Rattle.proof_line.proofs.ArrivedFrames.{Homes, arrives_home}
+use Rattle.proof_line.proofs.Arrivals.{NoNexting, outward-append}
+use Rattle.proof_line.proofs.ChipNotices.{Given, given_first}
+use Rattle.proof_line.proofs.Flights.{flights_are}
+use Rattle.proof_line.proofs.Parts.{Laws}
+use Rattle.proof_air.specs.proof_walk.Outside.{CoversOuter, nothing}
+use Rattle.proof_air.specs.proof_walk.ByLine.{CoversLine}
+use Rattle.proof_air.specs.proof_walk.Phases.{Phase, Between, Said_line, Begun, Doing, To_tick, Ticked, Arriving, Giving, Ticking_devices, Ticking_chip, Ticking_decoder, Ticking_host, Sleeping, Submitting, Moving, Moved, Goes, Turns}
+use Rattle.proof_air.specs.proof_walk.Walk.{WalkOver}
+use Rattle.proof_air.proofs.ByLine.{effect_covered}
+use Rattle.proof_air.proofs.Stepping.{Steps, event_then}
 use Rattle.proof_air.specs.Hearing.{KnowAir}
 use Rattle.proof_air.specs.Logs.{Tie}
 use Rattle.proof_air.proofs.Handling.{tie_here}

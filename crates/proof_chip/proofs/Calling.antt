@@ -43,19 +43,19 @@ use Rattle.outside_model.specs.Nodes.{all_pairs, is_known, links_of, listens_at}
 use Rattle.outside_model.specs.Events.{OuterEvent, Host_begins, Chip_takes, Arrives, Gives, Device_ticks, Chip_ticks, Repeats, Wakes_device, Sets_device, Joins, Discovers, Marks_loss, Marks_change, Clears_pipe, has_entered, outcome, repeats, steps, happens as happens_outside, May as MayOutside}
 use Rattle.world_model.specs.State.{Machine}
 use Rattle.world_model.specs.Events.{Event, Outside_does, Host_does, Host_takes, Decoder_ticks, Refuses, Shows_values, Restarts, happens, shown_values}
-use Rattle.proof_traffic.specs.Flights.{Fly, flown_in}
-use Rattle.proof_traffic.specs.Requests.{Word, Traffic, Step, Takes, Stops, Calls, called}
-use Rattle.proof_traffic.specs.Requests as course
-use Rattle.proof_traffic.specs.Facts.{flying_in, one_if}
-use Rattle.proof_traffic.specs.OnAir.{hosts_on_air, on_air}
-use Rattle.proof_traffic.specs.OutsideTraffic.{Await, Follows, Goes, flags, no_routes_due, of_frame, outward, without_frame, words_all}
-use Rattle.proof_traffic.proofs.Arrivals.{AreTold, Homes, NoNexting, answered_homes, answers_if_told, arrives_go, changed_told, none_home, outward-append, told-append, told_then}
-use Rattle.proof_traffic.proofs.Calm.{Calm, calm_entered, does_calm, enters_calm, takes_calm}
-use Rattle.proof_traffic.proofs.FactsKept.{one_is}
-use Rattle.proof_traffic.proofs.Flights.{flights_are}
-use Rattle.proof_traffic.proofs.Mild.{AreMild, SameChip, Untouched, each_mild, mild-append, queued_mild, served_mild, written_mild}
-use Rattle.proof_traffic.proofs.Parts.{Laws}
-use Rattle.proof_walk.specs.Outside.{CoversOuter, nothing}
+use Rattle.proof_line.specs.proof_traffic.Flights.{Fly, flown_in}
+use Rattle.proof_line.specs.proof_traffic.Requests.{Word, Traffic, Step, Takes, Stops, Calls, called}
+use Rattle.proof_line.specs.proof_traffic.Requests as course
+use Rattle.proof_line.specs.proof_traffic.Facts.{flying_in, one_if}
+use Rattle.proof_line.specs.proof_traffic.OnAir.{hosts_on_air, on_air}
+use Rattle.proof_line.specs.proof_traffic.OutsideTraffic.{Await, Follows, Goes, flags, no_routes_due, of_frame, outward, without_frame, words_all}
+use Rattle.proof_line.proofs.Arrivals.{AreTold, Homes, NoNexting, answered_homes, answers_if_told, arrives_go, changed_told, none_home, outward-append, told-append, told_then}
+use Rattle.proof_line.proofs.Calm.{Calm, calm_entered, does_calm, enters_calm, takes_calm}
+use Rattle.proof_line.proofs.proof_traffic_FactsKept.{one_is}
+use Rattle.proof_line.proofs.Flights.{flights_are}
+use Rattle.proof_line.proofs.Mild.{AreMild, SameChip, Untouched, each_mild, mild-append, queued_mild, served_mild, written_mild}
+use Rattle.proof_line.proofs.Parts.{Laws}
+use Rattle.proof_air.specs.proof_walk.Outside.{CoversOuter, nothing}
 use Rattle.proof_air.specs.Logs.{Tie}
 use Rattle.proof_chip.specs.Calling.{LeavesCalls, Waits}
 use Rattle.proof_chip.proofs.Walking.{IsLinked, all_linked, pairs_linked}

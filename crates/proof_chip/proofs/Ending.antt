@@ -14,10 +14,10 @@ use Rattle.world_model.specs.State.{Machine, first_machine}
 use Rattle.world_model.specs.Did.{entries_all}
 use Rattle.world_lines.specs.Spoken.{Spoken, after, after_all, entries_of, transcript_of}
 use Rattle.world_lines.specs.Done.{AreDone}
-use Rattle.proof_walk.specs.Phases.{Phase, Between}
-use Rattle.proof_walk.specs.Walk.{Walk}
-use Rattle.proof_walk.proofs.Joining.{along}
-use Rattle.proof_walk.proofs.Lines.{line_part, whole_line}
+use Rattle.proof_air.specs.proof_walk.Phases.{Phase, Between}
+use Rattle.proof_air.specs.proof_walk.Walk.{Walk}
+use Rattle.proof_air.proofs.Joining.{along}
+use Rattle.proof_air.proofs.Lines.{line_part, whole_line}
 use Rattle.proof_chip.specs.Serving.{Serves, as_given}
 use Rattle.proof_chip.specs.Knowing.{KnownService}
 use Rattle.proof_chip.proofs.Walking.{any_each}

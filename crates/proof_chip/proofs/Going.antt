@@ -39,9 +39,9 @@ use Rattle.outside_model.specs.Events.{OuterEvent, Host_writes, Host_takes, Host
 use Rattle.proof_device.proofs.Entered.{IsChange, IsCleared, IsMark, IsShown, all_cleared, all_shown, change_entered, told_by_marks}
 use Rattle.proof_device.proofs.Results.{Gives, IsGiven, IsResult, ends_go, gives_go, to_chip_goes}
 use Rattle.proof_host.proofs.Lists.{each-append}
-use Rattle.proof_walk.specs.Outside.{Comes, IsNote, IsOfAir, IsSimple, Moves}
-use Rattle.proof_walk.proofs.Moving.{moves_both}
-use Rattle.proof_walk.proofs.Times.{does_chip}
+use Rattle.proof_air.specs.proof_walk.Outside.{Comes, IsNote, IsOfAir, IsSimple, Moves}
+use Rattle.proof_air.proofs.Moving.{moves_both}
+use Rattle.proof_air.proofs.Times.{does_chip}
 use Rattle.proof_chip.specs.Serving.{Serves}
 use Rattle.proof_chip.specs.Knowing.{AnyEntry}
 use Rattle.proof_chip.specs.Bringing.{BringSome}

@@ -13,7 +13,7 @@ use Rattle.law_wire.specs.Routes.{GoesHome, HasNoRoute}
 use Rattle.outside_model.specs.Devices.{State}
 use Rattle.outside_model.specs.Events.{ticked_entry}
 use Rattle.world_model.specs.State.{Machine}
-use Rattle.proof_walk.specs.Outside.{awaits_number}
+use Rattle.proof_air.specs.proof_walk.Outside.{awaits_number}
 use Rattle.proof_air.specs.Landing.{Landed}
 use Rattle.proof_air.proofs.SentBefore.{number_clock}
 use Rattle.proof_routes.specs.Networks.{Tie}

@@ -24,7 +24,7 @@ use Rattle.outside_model.specs.State.{Outside}
 use Rattle.outside_model.specs.Events.{mesh_of}
 use Rattle.proof_device.proofs.ChangesOutside.{fate_home}
 use Rattle.proof_device.proofs.Entering.{outs_again_are, outs_at_are}
-use Rattle.proof_walk.specs.Outside.{IsHearing, nothing}
+use Rattle.proof_air.specs.proof_walk.Outside.{IsHearing, nothing}
 use Rattle.proof_air.specs.Carrying.{IsHome}
 use Rattle.proof_air.specs.Logs.{Tie}
 use Rattle.proof_air.proofs.Homes.{again_home, come_after, next_home}

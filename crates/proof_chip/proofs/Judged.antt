@@ -40,7 +40,7 @@ use Rattle.outside_model.specs.State.{OuterState, each}
 use Rattle.outside_model.specs.Chip.{put_out}
 use Rattle.proof_host.proofs.Lists.{each-append}
 use Rattle.proof_routes.proofs.Books.{same_joined}
-use Rattle.proof_walk.proofs.Untimed.{IsUntimed, same_lines, same_time}
+use Rattle.proof_air.proofs.Untimed.{IsUntimed, same_lines, same_time}
 use Rattle.proof_chip.specs.Serving.{GoesOn, Serves}
 use Rattle.proof_chip.specs.Sending.{AreSending, TieAir, TieItems}
 use Rattle.proof_chip.proofs.Airing.{IsNoAck, last_answered, same_last, taken_by}

@@ -28,7 +28,7 @@ use Rattle.outside_model.specs.Devices.{State}
 use Rattle.outside_model.specs.State.{OuterState, Outcome, Outside, outside, each, with_chip}
 use Rattle.outside_model.specs.Chip.{MayTake, chip_does, chip_takes, put_out}
 use Rattle.outside_model.specs.Events.{Chip_takes, entries, happens, has_entered, outcome, stamp, ticked_entry}
-use Rattle.proof_walk.proofs.Times.{each_keeps, does_chip, does_time, time_of}
+use Rattle.proof_air.proofs.Times.{each_keeps, does_chip, does_time, time_of}
 use Rattle.proof_chip.specs.Serving.{Serves}
 use Rattle.proof_chip.specs.Sending.{Agrees, AirSo, AreNow, AreSending, ItemsSo, TieItems, TieWays}
 use Rattle.proof_chip.proofs.Bringing.{brings_event, posts_none, some_more}

@@ -28,8 +28,8 @@ use Rattle.outside_model.specs.Events.{OuterEvent, Begins_line, Begins_tick, Hos
 use Rattle.outside_model.specs.Did.{happens_all as happens_all_outside, entries_all as entries_all_outside}
 use Rattle.world_model.specs.State.{Machine, begun_in, host_does, routed}
 use Rattle.world_model.specs.Events.{Event, Outside_does, Host_does, Host_takes, Decoder_ticks, Refuses, Shows_values, Restarts, May, entries, happens, notes}
-use Rattle.proof_walk.specs.Outside.{Comes, IsHearing, IsNote, IsSimple, Moves, nothing}
-use Rattle.proof_walk.proofs.Machines.{UnitsAre, answers_keep, any_told, outs_keep}
+use Rattle.proof_air.specs.proof_walk.Outside.{Comes, IsHearing, IsNote, IsSimple, Moves, nothing}
+use Rattle.proof_air.proofs.Machines.{UnitsAre, answers_keep, any_told, outs_keep}
 use Rattle.proof_air.specs.Logs.{Tie}
 use Rattle.proof_chip.specs.Knowing.{AnyEntry}
 use Rattle.proof_chip.specs.Sending.{AirSo, KnowsAir}

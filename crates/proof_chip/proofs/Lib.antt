@@ -34,3 +34,6 @@ mod Grounds
 mod Served
 mod Calling
 mod CallWalk
+pub use Rattle.proof_line.proofs.HeldRecords
+pub use Rattle.proof_line.proofs.FactsKept
+pub use Rattle.proof_line.proofs.Notes

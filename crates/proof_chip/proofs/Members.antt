@@ -39,10 +39,10 @@ use Rattle.outside_model.specs.Air.{deals}
 use Rattle.outside_model.specs.Events.{OuterEvent, Host_writes, Host_takes, Host_notes, Shows, Joins, Discovers, Links, Loses, Loses_acks, Marks_loss, Marks_change, Clears_pipe, Collides_next, Stalls, Cuts, begins, mesh_of, outcome, ticked_entry}
 use Rattle.world_model.specs.State.{first_machine}
 use Rattle.proof_device.proofs.Results.{Gives, IsGiven, ends_go, gives_go, to_chip_goes}
-use Rattle.proof_walk.specs.Outside.{IsHearing, IsSimple, Outer}
-use Rattle.proof_walk.specs.Walk.{Walk}
-use Rattle.proof_walk.proofs.Machines.{machine_keeps}
-use Rattle.proof_walk.proofs.Times.{does_chip, each_keeps}
+use Rattle.proof_air.specs.proof_walk.Outside.{IsHearing, IsSimple, Outer}
+use Rattle.proof_air.specs.proof_walk.Walk.{Walk}
+use Rattle.proof_air.proofs.Machines.{machine_keeps}
+use Rattle.proof_air.proofs.Times.{does_chip, each_keeps}
 use Rattle.proof_chip.specs.Knowing.{AnyEntry, KnownNodes, KnowsNodes, SameNodes}
 use Rattle.proof_chip.proofs.Judged.{judged_nodes}
 use Rattle.proof_chip.proofs.Walking.{Any, IsLinked, all_linked, any_each, covers_any, pairs_linked}

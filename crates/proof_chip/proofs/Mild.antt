@@ -36,9 +36,9 @@ use Rattle.outside_model.specs.Events.{OuterEvent, Begins_line, Begins_tick, Hos
 use Rattle.outside_model.specs.Did.{happens_all as happens_all_outside, entries_all as entries_all_outside}
 use Rattle.world_model.specs.State.{Machine, begun_in, host_does, routed}
 use Rattle.world_model.specs.Events.{Event, Outside_does, Host_does, Host_takes, Decoder_ticks, Refuses, Shows_values, Restarts, happens, notes}
-use Rattle.proof_walk.specs.Outside.{CoversOuter, IsNote}
-use Rattle.proof_walk.proofs.Machines.{answers_keep, any_told, outs_keep}
-use Rattle.proof_walk.proofs.Times.{does_chip, outcome_time}
+use Rattle.proof_air.specs.proof_walk.Outside.{CoversOuter, IsNote}
+use Rattle.proof_air.proofs.Machines.{answers_keep, any_told, outs_keep}
+use Rattle.proof_air.proofs.Times.{does_chip, outcome_time}
 use Rattle.proof_chip.specs.Sending.{IsMild}
 use Rattle.proof_chip.proofs.Acting.{repeats_are}
 use Rattle.proof_chip.proofs.Keeping.{any_units}

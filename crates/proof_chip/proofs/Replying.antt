@@ -32,7 +32,7 @@ use Rattle.law_wire.specs.Given.{Frame, Given, callback_of, function_mask, given
 use Rattle.outside_model.specs.Devices.{State}
 use Rattle.proof_chip.specs.Serving.{as_given}
 use Rattle.proof_chip.specs.Sending.{AreSending, TieJoined}
-use Rattle.proof_walk.proofs.Untimed.{IsUntimed, same_lines, same_time}
+use Rattle.proof_air.proofs.Untimed.{IsUntimed, same_lines, same_time}
 use Rattle.proof_chip.proofs.Airing.{answer, requests_are}
 use Rattle.proof_chip.proofs.Picking.{shown_both}
 

@@ -22,9 +22,9 @@ use Rattle.world_model.specs.State.{Machine}
 use Rattle.world_model.specs.Events.{entries}
 use Rattle.proof_host.proofs.Lists.{each-append}
 use Rattle.proof_serial.specs.Line.{host_units}
-use Rattle.proof_traffic.specs.Links.{KeepsItsLink, host_link_steps}
-use Rattle.proof_walk.specs.Phases.{Phase, Between, Giving}
-use Rattle.proof_walk.specs.Walk.{Walk, WalkWhere}
+use Rattle.proof_line.specs.proof_traffic.Links.{KeepsItsLink, host_link_steps}
+use Rattle.proof_air.specs.proof_walk.Phases.{Phase, Between, Giving}
+use Rattle.proof_air.specs.proof_walk.Walk.{Walk, WalkWhere}
 use Rattle.proof_air.proofs.Handling.{tie_here}
 use Rattle.proof_routes.specs.Networks.{Tie}
 use Rattle.proof_routes.specs.Knowing.{KnowNetworks}

@@ -29,11 +29,11 @@ use Rattle.outside_model.specs.Events.{OuterEvent, Host_writes, Host_takes, Host
 use Rattle.world_model.specs.State.{Machine}
 use Rattle.world_model.specs.Events.{Event, Outside_does}
 use Rattle.proof_device.proofs.Entered.{IsCleared, IsShown, all_cleared, all_shown, told_by_marks}
-use Rattle.proof_walk.specs.Outside.{Comes, CoversOuter, IsNote, IsOfAir, IsSimple, Link, Moves}
-use Rattle.proof_walk.specs.Walk.{Walk}
-use Rattle.proof_walk.proofs.Linking.{of_link}
-use Rattle.proof_walk.proofs.Machines.{machine_keeps}
-use Rattle.proof_walk.proofs.Times.{does_chip}
+use Rattle.proof_air.specs.proof_walk.Outside.{Comes, CoversOuter, IsNote, IsOfAir, IsSimple, Link, Moves}
+use Rattle.proof_air.specs.proof_walk.Walk.{Walk}
+use Rattle.proof_air.proofs.Linking.{of_link}
+use Rattle.proof_air.proofs.Machines.{machine_keeps}
+use Rattle.proof_air.proofs.Times.{does_chip}
 use Rattle.proof_chip.specs.Serving.{Serves}
 use Rattle.proof_chip.specs.Knowing.{AnyEntry, KnownService, KnowsService, ServesSo}
 use Rattle.proof_chip.proofs.Growing.{serves_aside, serves_event}

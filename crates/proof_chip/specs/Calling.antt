@@ -8,11 +8,11 @@ use Rattle.zw_text.specs.declared.entry.Entry.{Entry}
 use Rattle.outside_model.specs.State.{OuterState}
 use Rattle.outside_model.specs.Events.{OuterEvent, Arrives, Chip_takes, Gives, Host_begins}
 use Rattle.world_model.specs.State.{Machine}
-use Rattle.proof_traffic.specs.Facts.{one_if}
-use Rattle.proof_traffic.specs.OnAir.{hosts_on_air, on_air}
-use Rattle.proof_traffic.specs.OutsideTraffic.{Await, outward}
-use Rattle.proof_walk.specs.Outside.{CoversOuter}
-use Rattle.proof_walk.specs.Phases.{Phase, Doing, Arriving, Giving}
+use Rattle.proof_line.specs.proof_traffic.Facts.{one_if}
+use Rattle.proof_line.specs.proof_traffic.OnAir.{hosts_on_air, on_air}
+use Rattle.proof_line.specs.proof_traffic.OutsideTraffic.{Await, outward}
+use Rattle.proof_air.specs.proof_walk.Outside.{CoversOuter}
+use Rattle.proof_air.specs.proof_walk.Phases.{Phase, Doing, Arriving, Giving}
 
 pub record Waits (o : OuterState) : Type 0 where
   pub each : length o.calls ≡ o.chip.state.aborted + one_if (is_some o.chip.state.sending)

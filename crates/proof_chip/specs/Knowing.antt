@@ -5,8 +5,8 @@ use Rattle.serial_link.specs.Rules.{Step}
 use Rattle.chip_sim.specs.Waiting.{PortState}
 use Rattle.zw_text.specs.declared.entry.Entry.{Entry}
 use Rattle.outside_model.specs.State.{OuterState}
-use Rattle.proof_walk.specs.Outside.{Knowing, Known}
-use Rattle.proof_walk.specs.ByLine.{KnownOf}
+use Rattle.proof_air.specs.proof_walk.Outside.{Knowing, Known}
+use Rattle.proof_air.specs.proof_walk.ByLine.{KnownOf}
 use Rattle.proof_chip.specs.Serving.{Serves}
 
 -- it did some steps, and was given some frames

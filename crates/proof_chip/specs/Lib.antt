@@ -5,3 +5,4 @@ pub mod Knowing
 pub mod Sending
 pub mod Calling
 pub mod Served
+pub use Rattle.proof_line.specs.proof_world as proof_world

@@ -22,8 +22,8 @@ use Rattle.outside_model.specs.Devices.{State}
 use Rattle.outside_model.specs.State.{OuterState}
 use Rattle.outside_model.specs.Events.{OuterEvent, Begins_tick, Chip_takes, Arrives, Gives, ticked_entry}
 use Rattle.world_model.specs.State.{Machine}
-use Rattle.proof_walk.specs.Phases.{Phase, Doing, Ticked, Arriving, Giving, Moving}
-use Rattle.proof_walk.specs.Outside.{CoversOuter, Knowing, nothing}
+use Rattle.proof_air.specs.proof_walk.Phases.{Phase, Doing, Ticked, Arriving, Giving, Moving}
+use Rattle.proof_air.specs.proof_walk.Outside.{CoversOuter, Knowing, nothing}
 use Rattle.proof_air.specs.Logs.{Tie}
 use Rattle.proof_chip.specs.Serving.{GoesOn, Serves}
 use Rattle.proof_chip.specs.Bringing.{Brings}

@@ -9,9 +9,9 @@ use Rattle.law_wire.specs.Serial.{ended}
 use Rattle.law_wire.specs.Taking.{AirsWhatIsTaken}
 use Rattle.outside_model.specs.Devices.{State}
 use Rattle.world_model.specs.State.{Machine}
-use Rattle.proof_walk.specs.Phases.{Phase}
-use Rattle.proof_walk.specs.Time.{KnowTime}
-use Rattle.proof_walk.specs.Walk.{both_know}
+use Rattle.proof_air.specs.proof_walk.Phases.{Phase}
+use Rattle.proof_air.specs.proof_walk.Time.{KnowTime}
+use Rattle.proof_air.specs.proof_walk.Walk.{both_know}
 use Rattle.proof_air.specs.Hearing.{KnowAir as KnowHistory}
 use Rattle.proof_air.specs.Landing.{KnowLanding}
 use Rattle.proof_routes.specs.Knowing.{KnowNetworks}

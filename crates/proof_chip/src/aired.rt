@@ -10,12 +10,12 @@ ghost use Rattle.world_lines.specs.Whole.{AreWhole};
 ghost use Rattle.proof_chip.specs.Served.{AirsByLink};
 
 use crate::{calls_go_on, nodes_go_on};
+use proof_air::walk::time_goes_on;
 use proof_air::{history_goes_on, landings_go_on};
+use proof_line::traffic::hosts_obey_the_line;
 use proof_line::world::lines_keep_and_ask_well;
 use proof_routes::networks_go_on;
 use proof_serial::hosts_write_well;
-use proof_traffic::hosts_obey_the_line;
-use proof_walk::time_goes_on;
 
 /// Over any lines from the first on, the last of which an allocation failure may have cut short, over a keeper that tells its records and has none at first,
 /// the chip's link keeps the rules of the serial line in time, and by what that link did the controller puts on the air just the frames of the SendData that

@@ -5,13 +5,13 @@ ghost use Rattle.s0_crypto.specs.declared.key_pair.Keys.{Keys};
 ghost use Rattle.outside_model.specs.Devices.{State};
 ghost use Rattle.zw_text.specs.declared.entry.Entry.{Entry};
 ghost use Rattle.world_model.specs.State.{Machine, first_machine};
-ghost use Rattle.proof_walk.specs.Phases.{Between, Giving};
-ghost use Rattle.proof_walk.specs.Walk.{WalkOver};
+ghost use Rattle.proof_air.specs.proof_walk.Phases.{Between, Giving};
+ghost use Rattle.proof_air.specs.proof_walk.Walk.{WalkOver};
 ghost use Rattle.proof_air.specs.Hearing.{KnowAir};
 ghost use Rattle.proof_chip.specs.Knowing.{AnyEntry};
 ghost use Rattle.proof_chip.specs.Calling.{KnowCalls};
 
-use proof_traffic::{
+use proof_line::traffic::{
     frames_fly_in_order, hosts_make_requests, outsides_make_requests, requests_keep_facts,
 };
 

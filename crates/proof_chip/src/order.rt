@@ -7,7 +7,7 @@ ghost use Rattle.zw_text.specs.declared.entry.Entry.{Entry};
 ghost use Rattle.world_model.specs.State.{Machine, first_machine};
 ghost use Rattle.world_lines.specs.Spoken.{Spoken, after_all, transcript_of};
 ghost use Rattle.world_lines.specs.Done.{AreDone};
-ghost use Rattle.proof_walk.specs.Walk.{Walk};
+ghost use Rattle.proof_air.specs.proof_walk.Walk.{Walk};
 ghost use Rattle.proof_chip.specs.Knowing.{AnyEntry, KnownNodes, KnownService, ServesSo};
 
 /// At each phase of a line the chip's link has done steps that obey the rules of the serial line and wrote just the units that the transcript has of the chip;

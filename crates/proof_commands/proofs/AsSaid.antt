@@ -1,7 +1,7 @@
 -- A law of lines that were said is one of a story: over the keeper that a command was given, over one that tells its records where a line is `restart`, and
 -- over one that had none then.
 use Rattle.std.proofs.Common.{◌≡◌, ℕ, Bool, true, false, List, [], Option, Some, refl, sym, ap, subst, ◌∙◌}
-use Rattle.host_core.specs.Network.{keys_of}
+use Rattle.run_all.specs.host_core.Network.{keys_of}
 use Rattle.zw_text.specs.declared.entry.Entry.{Entry}
 use Rattle.world_model.specs.State.{Machine, first_machine}
 use Rattle.world_model.specs.Events.{Event}

@@ -24,14 +24,14 @@ use Rattle.world_model.specs.Did.{Scene, Stops, happens_all, entries_all, MayAll
 use Rattle.world_model.specs.Lines.{IsLine}
 use Rattle.world_model.specs.Prefixes.{LinePart, LinePrefix}
 use Rattle.world_model.specs.Table.{table_entries}
-use Rattle.run_sim.specs.World.{first_world, scene}
+use Rattle.run_all.specs.run_sim.World.{first_world, scene}
 use Rattle.run_lines.specs.Lines.{TextLine}
 use Rattle.run_lines.specs.Pieces.{said_text}
 use Rattle.run_lines.specs.declared.running.LinesEnd.TheVariants.{NoMemory}
 use Rattle.run_lines.specs.declared.status.Status.{Status}
 use Rattle.run_lines.specs.declared.status.Status.TheVariants as status
-use Rattle.run_generate.specs.Generate.{AllDone, IsCutShort, SomeDone, SumsUp, command_lines, first_lines, generated_lines, is_accepted, is_success, joining_lines, loss_lines, node_at, summary_text, word_at}
-use Rattle.run_sim.specs.Sim.{Point, at, said}
+use Rattle.run_all.specs.run_generate.Generate.{AllDone, IsCutShort, SomeDone, SumsUp, command_lines, first_lines, generated_lines, is_accepted, is_success, joining_lines, loss_lines, node_at, summary_text, word_at}
+use Rattle.run_all.specs.run_sim.Sim.{Point, at, said}
 use Rattle.world_lines.specs.Done.{IsRead}
 use Rattle.run_all.specs.Around.{Around, shelf_in}
 use Rattle.run_all.specs.Commands.{RunsGenerate}

@@ -6,8 +6,8 @@ use Rattle.zw_text.specs.declared.entry.Entry.{Entry}
 use Rattle.run_lines.specs.declared.status.Status.{Status}
 use Rattle.host_keep.specs.Keeping.{OptAdds}
 use Rattle.host_keep.specs.declared.record.Record.{Record}
-use Rattle.host_core.specs.Network.{keys_of}
-use Rattle.host_core.specs.Opening.{Opens}
+use Rattle.run_all.specs.host_core.Network.{keys_of}
+use Rattle.run_all.specs.host_core.Opening.{Opens}
 use Rattle.host_model.specs.State.{HostState, HostParts}
 use Rattle.host_model.specs.Events.{HostEvent}
 use Rattle.host_model.specs.Did.{MayAll, after_all, records_all, texts_of}
@@ -16,10 +16,10 @@ use Rattle.host_model.specs.Opening.{opened}
 use Rattle.proof_host.specs.Entries.{entries_all}
 use Rattle.proof_host.specs.Facts.{Facts}
 use Rattle.host_model.specs.Recording.{AllOfJoined}
-use Rattle.port_run.specs.declared.ending.Served.{Served}
-use Rattle.port_run.specs.declared.ending.Served.TheVariants.{Ok, Undone, BadLine, Opening, ReadFault, WriteFault, InputTooLong, NoMemory}
-use Rattle.port_run.specs.Schedule.{is_quiet}
-use Rattle.port_run.specs.Ending.{Desk, Started}
+use Rattle.run_all.specs.port_run.declared.ending.Served.{Served}
+use Rattle.run_all.specs.port_run.declared.ending.Served.TheVariants.{Ok, Undone, BadLine, Opening, ReadFault, WriteFault, InputTooLong, NoMemory}
+use Rattle.run_all.specs.port_run.Schedule.{is_quiet}
+use Rattle.run_all.specs.port_run.Ending.{Desk, Started}
 use Rattle.proof_commands.specs.Lives.{AreLivesOf, GoesOn, entries_of, records_of}
 use Rattle.proof_commands.specs.Port.{Story, Does, IsStory, Tells, first, last, transcript}
 use Rattle.proof_commands.proofs.Living.{leaves_life}

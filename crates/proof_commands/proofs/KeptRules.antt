@@ -5,7 +5,7 @@ use Rattle.zw_text.specs.Transcript.{lines_run}
 use Rattle.zw_text.specs.declared.entry.Entry.{Entry}
 use Rattle.s0_crypto.specs.declared.key_pair.Keys.{Keys}
 use Rattle.device_sim.specs.State.{State}
-use Rattle.host_core.specs.Network.{keys_of}
+use Rattle.run_all.specs.host_core.Network.{keys_of}
 use Rattle.device_kinds.specs.Sealing.{keys_of as device_keys}
 use Rattle.law_transcript.specs.Answers.{AnswersLines}
 use Rattle.law_transcript.specs.Carrying.{CarriesUnits}
@@ -22,7 +22,7 @@ use Rattle.world_lines.specs.Whole.{AreWhole}
 use Rattle.law_wire.specs.Shown.{ShowsDevices}
 use Rattle.run_lines.specs.declared.status.Status.TheVariants.{Ok as all_well}
 use Rattle.proof_device.specs.Showing.{AreApart, IsShown}
-use Rattle.proof_world.specs.Devices.{GroupsSessions}
+use Rattle.proof_chip.specs.proof_world.Devices.{GroupsSessions}
 use Rattle.proof_device.proofs.ShownChanges.{stays_apart}
 use Rattle.proof_audit.specs.Books.{AreAsked, ArePieces, ChangesBegun, IsOfItsKind}
 use Rattle.proof_audit.specs.Frames.{ShowLines}

@@ -12,14 +12,14 @@ use Rattle.host_model.specs.State.{HostState, HostParts, first_host}
 use Rattle.host_model.specs.Events.{HostEvent}
 use Rattle.host_model.specs.Did.{MayAll, records_all, texts_of}
 use Rattle.host_model.proofs.EventLists.{all_in_range}
-use Rattle.host_core.specs.Opening.{Opens, AreTold}
+use Rattle.run_all.specs.host_core.Opening.{Opens, AreTold}
 use Rattle.host_model.specs.Holding.{Holds, HoldsAlone}
 use Rattle.host_model.specs.Opening.{opened}
 use Rattle.host_model.specs.Recording.{AllOfJoined}
 use Rattle.proof_host.specs.Facts.{Facts}
 use Rattle.proof_host.specs.Lives.{AreLives, with_records, entries_of_lives, last_of_lives}
 use Rattle.proof_host.proofs.HostsFromRecords.{nothing_kept, nothing_legal}
-use Rattle.proof_world.proofs.HeldRecords.{texts_of_range, texts_both}
+use Rattle.proof_chip.proofs.HeldRecords.{texts_of_range, texts_both}
 use Rattle.proof_commands.specs.Lives.{records_from, records_of, entries_of, AreLivesOf, HasRecords, GoesOn}
 
 -- ---- lives from records on

@@ -5,16 +5,16 @@ use Rattle.std.specs.List.{AllByRecursion}
 use Rattle.zw_text.specs.declared.entry.Entry.{Entry}
 use Rattle.s0_crypto.specs.declared.key_pair.Keys.{Keys}
 use Rattle.host_model.specs.declared.out.HostOut.{HostOut}
-use Rattle.port_run.specs.declared.asking.Answer.{Answer}
-use Rattle.port_run.specs.declared.ending.Served.{Served}
-use Rattle.port_run.specs.declared.ending.Served.TheVariants.{Ok, Undone, BadLine, Opening, ReadFault, WriteFault, InputTooLong, NoMemory}
-use Rattle.port_run.specs.declared.line.PortLine.{PortLine}
-use Rattle.port_run.specs.declared.stop.Stop.{Stop}
-use Rattle.port_run.specs.declared.stop.Stop.TheVariants as stop
-use Rattle.port_run.specs.Steps.{AllRan, Place, Step}
-use Rattle.port_run.specs.Schedule.{CutRun, RunSteps, is_quiet}
-use Rattle.port_run.specs.Serving.{Halts}
-use Rattle.port_run.specs.Ending.{Desk, Ended, RanAll, RanSome, Started, start_of}
+use Rattle.run_all.specs.port_run.declared.asking.Answer.{Answer}
+use Rattle.run_all.specs.port_run.declared.ending.Served.{Served}
+use Rattle.run_all.specs.port_run.declared.ending.Served.TheVariants.{Ok, Undone, BadLine, Opening, ReadFault, WriteFault, InputTooLong, NoMemory}
+use Rattle.run_all.specs.port_run.declared.line.PortLine.{PortLine}
+use Rattle.run_all.specs.port_run.declared.stop.Stop.{Stop}
+use Rattle.run_all.specs.port_run.declared.stop.Stop.TheVariants as stop
+use Rattle.run_all.specs.port_run.Steps.{AllRan, Place, Step}
+use Rattle.run_all.specs.port_run.Schedule.{CutRun, RunSteps, is_quiet}
+use Rattle.run_all.specs.port_run.Serving.{Halts}
+use Rattle.run_all.specs.port_run.Ending.{Desk, Ended, RanAll, RanSome, Started, start_of}
 use Rattle.proof_replay.specs.HostSteps.{HearsMore, IsRunSteps, IsServedLine}
 use Rattle.proof_commands.specs.Port.{HearsAll, HearsSo, HearsSome, reached}
 use Rattle.proof_commands.proofs.PortWords.{served_lines}

@@ -14,9 +14,9 @@ use Rattle.zw_text.specs.declared.line.Line.{Line}
 use Rattle.zw_text.specs.declared.word.LineWord.{LineWord}
 use Rattle.zw_text.proofs.LineTakes.{by_takes}
 use Rattle.run_lines.specs.Pieces.{said_text}
-use Rattle.port_run.specs.Lines.{AreRead, is_served, port_at, port_from, served_word, wanted, wanted_at}
-use Rattle.port_run.specs.declared.line.PortLine.{PortLine}
-use Rattle.port_run.specs.declared.line.PortLine.TheVariants.{Plain, Wait}
+use Rattle.run_all.specs.port_run.Lines.{AreRead, is_served, port_at, port_from, served_word, wanted, wanted_at}
+use Rattle.run_all.specs.port_run.declared.line.PortLine.{PortLine}
+use Rattle.run_all.specs.port_run.declared.line.PortLine.TheVariants.{Plain, Wait}
 use Rattle.proof_replay.specs.HostSteps.{IsServedLine}
 use Rattle.proof_commands.proofs.SaidWords.{read_again}
 

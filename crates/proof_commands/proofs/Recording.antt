@@ -12,9 +12,9 @@ use Rattle.world_model.specs.State.{with_texts}
 use Rattle.run_lines.specs.declared.running.LinesEnd.{LinesEnd}
 use Rattle.run_lines.specs.declared.running.LinesEnd.TheVariants.{All, Bad, ReadFailed, TooMuch, WriteFailed, NoMemory}
 use Rattle.run_lines.specs.Lines.{TextLine, AllRan, RanLines}
-use Rattle.run_replay.specs.Machine.{Lone, Event, Does_itself, Does_asked, Takes, Ticks, Refuses, Shows_values, MayAll, entries_all, happens, happens_all}
-use Rattle.run_replay.specs.Replay.{Point, LineRan, PartRan, said}
-use Rattle.run_replay.proofs.EventLists.{happens_all-append, may_all-append}
+use Rattle.run_all.specs.run_replay.Machine.{Lone, Event, Does_itself, Does_asked, Takes, Ticks, Refuses, Shows_values, MayAll, entries_all, happens, happens_all}
+use Rattle.run_all.specs.run_replay.Replay.{Point, LineRan, PartRan, said}
+use Rattle.run_all.proofs.EventLists.{happens_all-append, may_all-append}
 use Rattle.proof_commands.specs.Replay.{Ran, KeepsRecords, IsAllEntered, done_by_host, events_of, host_events, lines_of, transcript_from}
 
 -- ---- what events leave of the records

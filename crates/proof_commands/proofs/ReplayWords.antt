@@ -12,7 +12,7 @@ use Rattle.zw_text.proofs.TextLaws.{line_again, replay_takes}
 use Rattle.zw_words.specs.Words.{without_return}
 use Rattle.run_lines.specs.Lines.{TextLine}
 use Rattle.run_lines.specs.Pieces.{joined_in, said_text}
-use Rattle.run_replay.specs.Lines.{IsReplayed}
+use Rattle.run_all.specs.run_replay.Lines.{IsReplayed}
 use Rattle.proof_replay.specs.Heard.{IsReadSo, plain_of}
 use Rattle.proof_commands.proofs.Reading.{IsReadBy}
 use Rattle.proof_commands.proofs.SaidWords.{AreJoined, are_joined, read_again, words_read}

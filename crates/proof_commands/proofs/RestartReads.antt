@@ -11,13 +11,13 @@ use Rattle.world_model.specs.State.{Machine}
 use Rattle.world_model.specs.Events.{Event}
 use Rattle.world_model.specs.Did.{happens_all, entries_all, MayAll}
 use Rattle.world_model.specs.Lines.{IsLine}
-use Rattle.run_sim.specs.Keeping.{GoesOn, Keeps, KeepsOrRefuses, RefusesNext}
-use Rattle.run_sim.specs.World.{first_world}
+use Rattle.run_all.specs.run_sim.Keeping.{GoesOn, Keeps, KeepsOrRefuses, RefusesNext}
+use Rattle.run_all.specs.run_sim.World.{first_world}
 use Rattle.run_lines.specs.declared.running.LinesEnd.{LinesEnd}
 use Rattle.run_lines.specs.declared.running.LinesEnd.TheVariants.{All, Bad, ReadFailed, TooMuch, WriteFailed, NoMemory}
 use Rattle.run_lines.specs.declared.status.Status.{Status}
 use Rattle.run_lines.specs.Lines.{TextLine, lines_in, AllRan, StopsIn, RanLines}
-use Rattle.run_sim.specs.Sim.{Point, point_of, LineRan, PartRan, said}
+use Rattle.run_all.specs.run_sim.Sim.{Point, point_of, LineRan, PartRan, said}
 use Rattle.law_transcript.specs.Restarts.{begins_refused}
 use Rattle.run_all.specs.Around.{Around, shelf_in}
 use Rattle.run_all.specs.Commands.{RunsSim}

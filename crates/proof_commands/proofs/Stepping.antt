@@ -6,19 +6,19 @@ use Rattle.host_model.specs.State.{HostParts}
 use Rattle.host_model.specs.Did.{Did}
 use Rattle.host_model.specs.declared.out.HostOut.{HostOut}
 use Rattle.host_model.proofs.EventLists.{did_both, did_nothing, none_added}
-use Rattle.host_core.specs.Network.{keys_of}
+use Rattle.run_all.specs.host_core.Network.{keys_of}
 use Rattle.run_lines.specs.declared.status.Status.{Status}
 use Rattle.s0_crypto.specs.declared.key_pair.Keys.{Keys}
-use Rattle.port_run.specs.declared.asking.Answer.{Answer}
-use Rattle.port_run.specs.declared.asking.Answer.TheVariants.{Taken, Command, Refused}
-use Rattle.port_run.specs.declared.stop.Stop.{Stop}
-use Rattle.port_run.specs.declared.stop.Stop.TheVariants as stop
-use Rattle.port_run.specs.declared.ending.Served.{Served}
-use Rattle.port_run.specs.declared.ending.Served.TheVariants.{Ok, Undone, BadLine, Opening, ReadFault, WriteFault, InputTooLong, NoMemory}
-use Rattle.port_run.specs.Steps.{Place, Step, Asks, Takes, Rests, Ticks, Pumps, Asked, Ran, AllRan}
-use Rattle.port_run.specs.Schedule.{Telling, is_quiet}
-use Rattle.port_run.specs.Serving.{Halts}
-use Rattle.port_run.specs.Ending.{Desk, start_of, RanAll, RanSome, Ended, HostRan, IsUntouched, status_of}
+use Rattle.run_all.specs.port_run.declared.asking.Answer.{Answer}
+use Rattle.run_all.specs.port_run.declared.asking.Answer.TheVariants.{Taken, Command, Refused}
+use Rattle.run_all.specs.port_run.declared.stop.Stop.{Stop}
+use Rattle.run_all.specs.port_run.declared.stop.Stop.TheVariants as stop
+use Rattle.run_all.specs.port_run.declared.ending.Served.{Served}
+use Rattle.run_all.specs.port_run.declared.ending.Served.TheVariants.{Ok, Undone, BadLine, Opening, ReadFault, WriteFault, InputTooLong, NoMemory}
+use Rattle.run_all.specs.port_run.Steps.{Place, Step, Asks, Takes, Rests, Ticks, Pumps, Asked, Ran, AllRan}
+use Rattle.run_all.specs.port_run.Schedule.{Telling, is_quiet}
+use Rattle.run_all.specs.port_run.Serving.{Halts}
+use Rattle.run_all.specs.port_run.Ending.{Desk, start_of, RanAll, RanSome, Ended, HostRan, IsUntouched, status_of}
 use Rattle.proof_commands.specs.Port.{Story, ToldAll, ToldSome, Tells, StillOr, outs_by}
 
 -- what happened from one place to another

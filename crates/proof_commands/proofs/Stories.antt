@@ -13,12 +13,12 @@ use Rattle.world_model.specs.Did.{happens_all, entries_all, MayAll, last_of, IsO
 use Rattle.world_model.specs.Lines.{IsLine}
 use Rattle.world_model.specs.Prefixes.{LinePart, IsLineBefore}
 use Rattle.world_model.proofs.EventLists.{happens_all-append, may_all-append}
-use Rattle.run_sim.specs.World.{first_world}
+use Rattle.run_all.specs.run_sim.World.{first_world}
 use Rattle.run_lines.specs.declared.running.LinesEnd.{LinesEnd}
 use Rattle.run_lines.specs.declared.running.LinesEnd.TheVariants.{All, Bad, ReadFailed, TooMuch, WriteFailed, NoMemory}
 use Rattle.run_lines.specs.declared.status.Status.{Status}
 use Rattle.run_lines.specs.Lines.{TextLine, lines_in, AllRan, StopsIn, RanLines}
-use Rattle.run_sim.specs.Sim.{Point, point_of, at, LineRan, PartRan, said}
+use Rattle.run_all.specs.run_sim.Sim.{Point, point_of, at, LineRan, PartRan, said}
 use Rattle.run_all.specs.Around.{Around, shelf_in}
 use Rattle.run_all.specs.Commands.{RunsSim}
 use Rattle.proof_commands.specs.Laws.{Ran, events_of, lines_of, transcript_from, AreSchedules, AreBegun, with_last, IsUnentered}

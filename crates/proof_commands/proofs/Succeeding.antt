@@ -7,8 +7,8 @@ use Rattle.zw_text.specs.declared.entry.Entry.{Entry}
 use Rattle.zw_text.specs.declared.entry.Outcome.{Outcome}
 use Rattle.zw_text.specs.declared.entry.Outcome.TheVariants.{Waiting, Begun, Success, Fail, NoSupport, Unanswered, Cancelled}
 use Rattle.run_lines.specs.declared.status.Status.{Status}
-use Rattle.host_core.specs.Network.{keys_of}
-use Rattle.host_core.specs.Orders.{outcome_at}
+use Rattle.run_all.specs.host_core.Network.{keys_of}
+use Rattle.run_all.specs.host_core.Orders.{outcome_at}
 use Rattle.host_model.specs.State.{HostState, HostParts, Command as TheCommand, command_at}
 use Rattle.host_model.specs.Events.{HostEvent}
 use Rattle.host_model.specs.Did.{after_all}
@@ -16,11 +16,11 @@ use Rattle.host_keep.specs.declared.record.Record.{Record}
 use Rattle.host_model.specs.Opening.{opened}
 use Rattle.proof_host.specs.Facts.{AreShown}
 use Rattle.proof_host.specs.Tables.{outcome_by, recorded}
-use Rattle.port_run.specs.declared.asking.Answer.{Answer}
-use Rattle.port_run.specs.declared.asking.Answer.TheVariants.{Taken, Command, Refused}
-use Rattle.port_run.specs.declared.ending.Served.TheVariants.{Ok}
-use Rattle.port_run.specs.Schedule.{is_quiet}
-use Rattle.port_run.specs.Ending.{Desk, is_done, is_success, status_of}
+use Rattle.run_all.specs.port_run.declared.asking.Answer.{Answer}
+use Rattle.run_all.specs.port_run.declared.asking.Answer.TheVariants.{Taken, Command, Refused}
+use Rattle.run_all.specs.port_run.declared.ending.Served.TheVariants.{Ok}
+use Rattle.run_all.specs.port_run.Schedule.{is_quiet}
+use Rattle.run_all.specs.port_run.Ending.{Desk, is_done, is_success, status_of}
 use Rattle.proof_commands.specs.Lives.{GoesOn}
 use Rattle.proof_commands.specs.Port.{Story, ToldAll, ShowsTables, IsBorneOut, first, last, transcript}
 

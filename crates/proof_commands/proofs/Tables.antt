@@ -5,7 +5,7 @@ use Rattle.std.specs.List.{AllByRecursion}
 use Rattle.zw_base.proofs.Each.{all-append}
 use Rattle.s0_crypto.specs.declared.key_pair.Keys.{Keys}
 use Rattle.device_sim.specs.State.{State}
-use Rattle.host_core.specs.Network.{keys_of}
+use Rattle.run_all.specs.host_core.Network.{keys_of}
 use Rattle.zw_text.specs.Entry.{transcript_text}
 use Rattle.zw_text.specs.Fits.{EntryFits}
 use Rattle.zw_text.specs.Transcript.{lines_run}
@@ -26,8 +26,8 @@ use Rattle.run_lines.specs.declared.running.LinesEnd.TheVariants.{All, Bad, Read
 use Rattle.run_lines.specs.declared.status.Status.TheVariants.{Ok}
 use Rattle.run_lines.proofs.Shown.{pieces_text}
 use Rattle.run_lines.specs.Lines.{AllRan, RanLines, TextLine, lines_in}
-use Rattle.run_sim.specs.Sim.{IsTable, LineRan, PartRan, Point, point_of, shown_text}
-use Rattle.run_sim.specs.World.{first_world}
+use Rattle.run_all.specs.run_sim.Sim.{IsTable, LineRan, PartRan, Point, point_of, shown_text}
+use Rattle.run_all.specs.run_sim.World.{first_world}
 use Rattle.world_lines.specs.Spoken.{Spoken, after_all, transcript_of}
 use Rattle.world_lines.specs.Done.{AreDone}
 use Rattle.world_lines.specs.Whole.{AreWhole}

@@ -1,7 +1,7 @@
 -- A story over a keeper that tells its records and had none at first. Where no line is `restart`, every story goes over such a keeper as it went.
 use Rattle.std.proofs.Common.{◌≡◌, ℕ, Bool, true, false, List, [], ◌∷◌, Option, Some, refl, sym, ap, subst}
 use Rattle.std.specs.List.{list_any}
-use Rattle.host_core.specs.Network.{keys_of}
+use Rattle.run_all.specs.host_core.Network.{keys_of}
 use Rattle.host_model.specs.State.{first_host}
 use Rattle.s0_crypto.specs.declared.key_pair.Keys.{Keys}
 use Rattle.zw_text.specs.declared.entry.Entry.{Entry}
@@ -12,7 +12,7 @@ use Rattle.world_model.specs.Did.{happens_all, MayAll}
 use Rattle.run_lines.specs.Lines.{TextLine}
 use Rattle.law_transcript.specs.Restarts.{is_restart}
 use Rattle.proof_host.specs.Facts.{Facts}
-use Rattle.proof_world.specs.Restarts.{AllKeepWell, AllStartWell, BeginsEmpty, IsHeld}
+use Rattle.proof_chip.specs.proof_world.Restarts.{AllKeepWell, AllStartWell, BeginsEmpty, IsHeld}
 use Rattle.run_all.specs.Around.{Around}
 use Rattle.proof_commands.specs.Laws.{Ran, AreBegun, AreSchedules, IsStory, KeepsRecords, TellsAtRestarts, events_of, first, has_restart, last, lines_of, transcript, transcript_from}
 use Rattle.proof_audit.proofs.BegunChanges.{may-front as may_prefix}

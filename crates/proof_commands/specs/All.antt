@@ -1,7 +1,7 @@
 -- What a run of the program keeps true, whichever command its words ask for (this project's own rule).
 use Rattle.std.specs.Prelude.{ℕ, List, drop}
 use Rattle.run_lines.specs.declared.status.Status.{Status}
-use Rattle.port_run.specs.Ending.{desk}
+use Rattle.run_all.specs.port_run.Ending.{desk}
 use Rattle.run_all.specs.Around.{Around, shelf_in}
 use Rattle.proof_commands.specs.Laws.{StoriesKeepLaws}
 use Rattle.proof_commands.specs.Sim.{SimKeepsLaws}

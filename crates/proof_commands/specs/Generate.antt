@@ -9,7 +9,7 @@ use Rattle.run_lines.specs.Lines.{TextLine}
 use Rattle.run_lines.specs.Writing.{AppendsPrefix}
 use Rattle.run_lines.specs.declared.status.Status.{Status}
 use Rattle.run_lines.specs.declared.status.Status.TheVariants.{Ok, WriteFault, NoMemory}
-use Rattle.run_generate.specs.Generate.{generated_lines, summary_text}
+use Rattle.run_all.specs.run_generate.Generate.{generated_lines, summary_text}
 use Rattle.law_transcript.specs.Nodes.{listing_of, always}
 use Rattle.law_transcript.specs.Restarts.{ticks_asked}
 use Rattle.law_transcript.specs.Table.{table_of}

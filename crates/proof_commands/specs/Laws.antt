@@ -6,7 +6,7 @@ use Rattle.zw_text.specs.Line.{line_at}
 use Rattle.zw_text.specs.declared.line.Line.{Line}
 use Rattle.zw_text.specs.declared.entry.Entry.{Entry}
 use Rattle.zw_text.specs.declared.entry.Entry.TheVariants.{Said}
-use Rattle.host_core.specs.Network.{keys_of}
+use Rattle.run_all.specs.host_core.Network.{keys_of}
 use Rattle.world_model.specs.State.{Machine, first_machine}
 use Rattle.world_model.specs.Events.{Event}
 use Rattle.outside_model.specs.Events.{OuterEvent}
@@ -47,10 +47,10 @@ use Rattle.law_host.specs.Heard.{heard_by_host}
 use Rattle.law_host.specs.HostLegal.{ShowsValues}
 use Rattle.proof_chip.specs.Served.{AirsByLink}
 use Rattle.proof_replay.specs.Laws.{HostsKeepLaws}
-use Rattle.proof_sending.specs.Line.{ClearsAtRestarts, ClearsNowhereElse, OverrunsOnlyWhenFull}
+use Rattle.proof_replay.specs.proof_sending.Line.{ClearsAtRestarts, ClearsNowhereElse, OverrunsOnlyWhenFull}
 use Rattle.proof_audit.specs.Transcript.{IsNoRepeat, HasRecords}
-use Rattle.proof_world.specs.Devices.{GroupsSessions}
-use Rattle.proof_world.specs.Restarts.{AllKeepWell, BeginsEmpty}
+use Rattle.proof_chip.specs.proof_world.Devices.{GroupsSessions}
+use Rattle.proof_chip.specs.proof_world.Restarts.{AllKeepWell, BeginsEmpty}
 use Rattle.proof_audit.specs.Headline.{SucceedsAfterChangeOf, IsSupervisedNode}
 use Rattle.run_all.specs.Around.{Around}
 

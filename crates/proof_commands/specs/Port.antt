@@ -8,7 +8,7 @@ use Rattle.zw_text.specs.declared.entry.Outcome.TheVariants.{Success}
 use Rattle.host_keep.specs.Keeping.{OptAdds, Shelf}
 use Rattle.host_keep.specs.declared.record.Record.{Record}
 use Rattle.s0_crypto.specs.declared.key_pair.Keys.{Keys}
-use Rattle.host_core.specs.Network.{keys_of}
+use Rattle.run_all.specs.host_core.Network.{keys_of}
 use Rattle.host_model.specs.State.{HostState, HostParts}
 use Rattle.host_model.specs.Events.{HostEvent}
 use Rattle.host_model.specs.Did.{Did, after_all, records_all, texts_of}
@@ -19,16 +19,16 @@ use Rattle.proof_host.specs.Entries.{entries_all}
 use Rattle.proof_host.specs.Facts.{AreShown}
 use Rattle.proof_host.specs.Laws.{HostLaws}
 use Rattle.proof_host.specs.Stores.{StoresLaw}
-use Rattle.port_run.specs.declared.asking.Answer.{Answer}
-use Rattle.port_run.specs.declared.asking.Answer.TheVariants.{Taken, Command, Refused}
-use Rattle.port_run.specs.declared.stop.Stop.{Stop}
-use Rattle.port_run.specs.declared.stop.Stop.TheVariants as stop
-use Rattle.port_run.specs.declared.ending.Served.{Served}
-use Rattle.port_run.specs.declared.ending.Served.TheVariants.{Ok, Undone, BadLine, Opening, ReadFault, WriteFault, InputTooLong, NoMemory}
-use Rattle.port_run.specs.Steps.{Place, Step}
-use Rattle.port_run.specs.Schedule.{Telling, is_quiet}
-use Rattle.port_run.specs.Serving.{Halts}
-use Rattle.port_run.specs.Ending.{Desk, Started, start_of, RanAll, RanSome, Ended, HostRan, IsUntouched, status_of}
+use Rattle.run_all.specs.port_run.declared.asking.Answer.{Answer}
+use Rattle.run_all.specs.port_run.declared.asking.Answer.TheVariants.{Taken, Command, Refused}
+use Rattle.run_all.specs.port_run.declared.stop.Stop.{Stop}
+use Rattle.run_all.specs.port_run.declared.stop.Stop.TheVariants as stop
+use Rattle.run_all.specs.port_run.declared.ending.Served.{Served}
+use Rattle.run_all.specs.port_run.declared.ending.Served.TheVariants.{Ok, Undone, BadLine, Opening, ReadFault, WriteFault, InputTooLong, NoMemory}
+use Rattle.run_all.specs.port_run.Steps.{Place, Step}
+use Rattle.run_all.specs.port_run.Schedule.{Telling, is_quiet}
+use Rattle.run_all.specs.port_run.Serving.{Halts}
+use Rattle.run_all.specs.port_run.Ending.{Desk, Started, start_of, RanAll, RanSome, Ended, HostRan, IsUntouched, status_of}
 use Rattle.host_model.specs.Recording.{AllOfJoined}
 use Rattle.proof_replay.specs.HostSteps.{HaveHeard, HearsMore, Holds}
 use Rattle.proof_commands.specs.Lives.{GoesOn, entries_of}

@@ -15,9 +15,9 @@ use Rattle.run_lines.specs.Lines.{TextLine, StopsIn, lines_in}
 use Rattle.proof_host.specs.Facts.{AreShown}
 use Rattle.proof_host.specs.Laws.{HostLaws}
 use Rattle.proof_host.specs.Stores.{StoresLaw}
-use Rattle.run_replay.specs.Machine.{Lone, Event, Does_itself, Does_asked, Takes, Ticks, Refuses, Shows_values, MayAll, entries_all, first_replay, happens_all, lone_of}
-use Rattle.run_replay.specs.Replay.{Point, point_of, LineRan, PartRan, ReplayRan, said}
-use Rattle.host_core.specs.Network.{keys_of}
+use Rattle.run_all.specs.run_replay.Machine.{Lone, Event, Does_itself, Does_asked, Takes, Ticks, Refuses, Shows_values, MayAll, entries_all, first_replay, happens_all, lone_of}
+use Rattle.run_all.specs.run_replay.Replay.{Point, point_of, LineRan, PartRan, ReplayRan, said}
+use Rattle.run_all.specs.host_core.Network.{keys_of}
 use Rattle.proof_replay.specs.Laws.{HearsLines}
 
 -- A transcript keeps the laws of orders, sessions and outcomes, shows the tables of this host, and its confirmed values are those of the last

@@ -14,7 +14,7 @@ use Rattle.run_lines.specs.declared.running.LinesEnd.TheVariants.{NoMemory}
 use Rattle.run_lines.specs.declared.status.Status.{Status}
 use Rattle.run_lines.specs.declared.status.Status.TheVariants.{Ok}
 use Rattle.run_lines.specs.Lines.{TextLine, lines_in}
-use Rattle.run_sim.specs.Sim.{shown_text}
+use Rattle.run_all.specs.run_sim.Sim.{shown_text}
 use Rattle.law_transcript.specs.Nodes.{first_node, listing_of, always}
 use Rattle.law_transcript.specs.Restarts.{ticks_asked}
 use Rattle.law_transcript.specs.Table.{table_of}

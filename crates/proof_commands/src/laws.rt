@@ -64,6 +64,9 @@ use proof_audit::transcript::{
     values_are_stored_as_asked,
 };
 use proof_chip::chips_air_what_is_taken;
+use proof_chip::world::{
+    lines_keep_and_ask_well, restarts_go_on, runs_take_once, the_machine_keeps_facts,
+};
 use proof_devices::air::{
     lines_are_done_by_devices, lines_bring_what_was_heard, lines_land_in_time,
 };
@@ -74,16 +77,13 @@ use proof_devices::{devices_did, lines_meet_what_is_due, lines_repeat_what_is_as
 use proof_host::{asides_keep_facts, laws_follow};
 use proof_replay::known::waking::lines_wake_as_told;
 use proof_replay::lines_that_ran_are_heard;
-use proof_requests::lines_answer_questions;
-use proof_sending::line::{
+use proof_replay::requests::lines_answer_questions;
+use proof_replay::sending::line::{
     lines_clear_at_restarts, lines_clear_nowhere_else, lines_clear_the_line,
     lines_collide_when_asked, lines_keep_links, lines_mark_units, lines_overrun_only_when_full,
     lines_overrun_when_full, ticks_are_told,
 };
-use proof_sending::lines_send_what_is_due;
-use proof_world::{
-    lines_keep_and_ask_well, restarts_go_on, runs_take_once, the_machine_keeps_facts,
-};
+use proof_replay::sending::lines_send_what_is_due;
 
 /// Every story from what a command was given to what it leaves keeps the laws.
 pub fn every_story_keeps_laws()

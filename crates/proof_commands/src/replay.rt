@@ -7,7 +7,7 @@ ghost use Rattle.zw_text.specs.declared.line.ReplayLine.{ReplayLine};
 ghost use Rattle.run_lines.specs.Lines.{TextLine, AllRan};
 ghost use Rattle.host_keep.specs.Keeping.{Shelf};
 ghost use Rattle.proof_host.specs.Facts.{Facts};
-ghost use Rattle.run_replay.specs.Replay.{Point, LineRan};
+ghost use Rattle.run_all.specs.run_replay.Replay.{Point, LineRan};
 ghost use Rattle.proof_commands.specs.Replay.{ReplayKeepsLaws};
 
 use crate::replayed_lines_are_read_as_said;

@@ -28,8 +28,8 @@ use Rattle.mesh_sim.specs.Routes.{backwards}
 use Rattle.mesh_sim.specs.Air.{AirState, is_joined, departing}
 use Rattle.mesh_sim.specs.Fates.{Mesh, place_of, is_awake, awake_at, listener_of, fate_by, fate_of, dead_hop_of}
 use Rattle.mesh_sim.specs.Steps.{Arrives, Repeats, landed, acknowledged, status_of, done_of, changed, answers, answers_if, outs_hearing, heard_at, outs_at, arriving_as, arrival_outs_as, heard_again, outs_again, repeating_by, repeating, repeat_outs_by, repeat_outs, mesh_after, mesh_outs, MayHappen}
-use Rattle.proof_device.specs.GoingOn.{IsSame}
-use Rattle.proof_device.proofs.ChangesOutside.{place_is, listener_is, fate_listens}
+use Rattle.proof_traffic.specs.proof_device.GoingOn.{IsSame}
+use Rattle.proof_traffic.proofs.ChangesOutside.{place_is, listener_is, fate_listens}
 use Rattle.proof_course_plain.specs.Ways.{Goes}
 use Rattle.proof_course_plain.specs.Meaning.{Asked, HostMeans, NodeMeans}
 use Rattle.proof_course_plain.specs.Air.{BearsBy, OnAir, Lands, WasThere}

@@ -32,8 +32,8 @@ use Rattle.outside_model.specs.Chip.{put_out, chip_does}
 use Rattle.outside_model.specs.Results.{owes_call, call_back, no_route, no_routes, leading, forgets, frame_ends, gives, without_no_route, profile_for, device_at}
 use Rattle.outside_model.specs.Air.{to_chip, deals}
 use Rattle.outside_model.specs.Nodes.{discovers, links_of, all_pairs, is_known}
-use Rattle.proof_serial.specs.Chip.{ChipDoes}
-use Rattle.proof_serial.proofs.ChipWays.{does_both, does_one, IsStill, still_does, owes, quiet_one as quiet_does, fits_for, short_payload, SetsTable, sets_map, all_pairs_set}
+use Rattle.proof_world.specs.proof_serial.Chip.{ChipDoes}
+use Rattle.proof_world.proofs.ChipWays.{does_both, does_one, IsStill, still_does, owes, quiet_one as quiet_does, fits_for, short_payload, SetsTable, sets_map, all_pairs_set}
 use Rattle.proof_course_plain.specs.Ways.{Beside, Thinned}
 use Rattle.proof_course_plain.specs.Mesh.{labels, brought, BringsAs}
 use Rattle.proof_course_plain.specs.Chip.{GivesAs}

@@ -42,7 +42,7 @@ use Rattle.chip_sim.specs.declared.out.Sending.{Sending}
 use Rattle.chip_sim.specs.declared.out.ChipOut.{ChipOut}
 use Rattle.chip_sim.specs.declared.out.ChipOut.TheVariants as chip_out
 use Rattle.serial_link.specs.State.{copy_due}
-use Rattle.proof_serial.proofs.ChipWays.{units-append}
+use Rattle.proof_world.proofs.ChipWays.{units-append}
 use Rattle.proof_course_plain.specs.Mesh.{labels, BringsAs}
 use Rattle.proof_course_plain.specs.Ways.{Beside}
 use Rattle.proof_course_plain.specs.Lines.{TellsAs, Moves}

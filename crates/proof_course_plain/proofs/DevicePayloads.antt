@@ -51,9 +51,9 @@ use Rattle.transport_segments.specs.Taking.{is_segment, ends_its_datagram, taken
 use Rattle.transport_segments.specs.declared.assembler.Taken.{Taken as Assembled}
 use Rattle.transport_segments.specs.declared.assembler.Taken.TheVariants.{Kept, Need, Whole}
 use Rattle.device_stack.specs.Ticking.{aged, works_out, ticked, woken, by_hand, main_told, tells_by_hand, set_by_hand}
-use Rattle.proof_messages.specs.Reporting.{TellsOwn, TellsNone, TellsTrue, CanSay, asks_now}
-use Rattle.proof_messages.specs.Others.{IsNoGet}
-use Rattle.proof_messages.proofs.Bare.{never_begins}
+use Rattle.proof_once.specs.proof_messages.Reporting.{TellsOwn, TellsNone, TellsTrue, CanSay, asks_now}
+use Rattle.proof_once.specs.proof_messages.Others.{IsNoGet}
+use Rattle.proof_once.proofs.Bare.{never_begins}
 use Rattle.proof_course_plain.specs.Device.{Says}
 
 -- ---- bytes that are not sealed

@@ -26,19 +26,19 @@ use Rattle.device_stack.specs.Ticking.{ticked, woken, set_by_hand}
 use Rattle.device_stack.specs.State.{Outcome}
 use Rattle.device_sim.specs.State.{State, fresh}
 use Rattle.device_sim.specs.Event.{DeviceEvent, Hears, Ticks, Wakes, Sets, outcome_of, device_after, device_replies}
-use Rattle.proof_device.specs.GoingOn.{IsSame}
-use Rattle.proof_messages.specs.Ending.{HasEnded}
-use Rattle.proof_messages.proofs.DeviceEnds.{numbered_last, one_none, one_some}
-use Rattle.proof_messages.specs.Asking.{message_in, takes_openly, verdict_on, IsLeft, Follows}
-use Rattle.proof_messages.specs.Landing.{HasLanded, IsOf, LandsAs}
-use Rattle.proof_messages.specs.Others.{IsOther}
-use Rattle.proof_messages.specs.Reporting.{TellsOwn, TellsTrue, CanSay}
+use Rattle.proof_traffic.specs.proof_device.GoingOn.{IsSame}
+use Rattle.proof_once.specs.proof_messages.Ending.{HasEnded}
+use Rattle.proof_once.proofs.DeviceEnds.{numbered_last, one_none, one_some}
+use Rattle.proof_once.specs.proof_messages.Asking.{message_in, takes_openly, verdict_on, IsLeft, Follows}
+use Rattle.proof_once.specs.proof_messages.Landing.{HasLanded, IsOf, LandsAs}
+use Rattle.proof_once.specs.proof_messages.Others.{IsOther}
+use Rattle.proof_once.specs.proof_messages.Reporting.{TellsOwn, TellsTrue, CanSay}
 use Rattle.device_stack.specs.Hearing.{hears_in_segments}
-use Rattle.proof_messages.specs.Segments.{KeepsPart, IsWhole, KeepsSegment, MakesWhole}
+use Rattle.proof_once.specs.proof_messages.Segments.{KeepsPart, IsWhole, KeepsSegment, MakesWhole}
 use Rattle.proof_course_plain.specs.Meaning.{Asked, IsMessageOf, IsSegmentOf, IsMessage, HostMeans}
 use Rattle.proof_course_plain.specs.Making.{KeepsNext, Makes, NamesNext, Names}
 use Rattle.proof_course_plain.specs.Device.{AtDevice, finishes, Says, GoesAs, HearsAs}
-use Rattle.proof_messages.proofs.SessionMessages.{knows_supervision}
+use Rattle.proof_once.proofs.SessionMessages.{knows_supervision}
 use Rattle.proof_course_plain.proofs.Segments.{Laws as SegmentLaws, message_whole, part_of, IsNext, IsAnother, segment_heard}
 use Rattle.proof_course_plain.proofs.DevicePayloads.{IsBare, AllOwnTaken, in_segments_bare, none_own, openly_bare, AllTaken, get_taken, later, openly_same, never_own, all_said, all_taken, weaken_taken, ticks_bare, wakes_bare, wakes_same, sets_bare_all, sets_same}
 

@@ -20,7 +20,7 @@ use Rattle.transport_segments.specs.Segment.{with_check}
 use Rattle.transport_segments.specs.Parts.{slice_at}
 use Rattle.proof_course_plain.specs.Meaning.{Asked, IsMessageOf, IsSegmentOf, IsMessage, HostMeans, NodeMeans}
 use Rattle.proof_course_plain.specs.Air.{BearsBy, Bears, OnAir, Lands, WasThere}
-use Rattle.proof_messages.proofs.NonceNumbers.{numbered-more as numbered-append}
+use Rattle.proof_once.proofs.NonceNumbers.{numbered-more as numbered-append}
 
 -- ---- lists beside each other
 

@@ -17,7 +17,7 @@ use Rattle.world_model.specs.Prefixes.{IsLineBefore}
 use Rattle.host_model.proofs.Own.{IsOwn}
 use Rattle.world_model.proofs.Pieces.{Of, Law, Pieces, of_none, of_then, of_line_before}
 use Rattle.world_model.proofs.Along.{IsAskedBy, IsOfPart, IsOfEffect, along, pieces_along, effect_along, anywhere}
-use Rattle.proof_serial.specs.Line.{AreLines}
+use Rattle.proof_world.specs.proof_serial.Line.{AreLines}
 use Rattle.proof_course_plain.specs.World.{NamesEnd, PushesNone, IsOfLine, ComesOfLine}
 
 module _ (Near : Type 0) (Is : List ℕ → Type 0) (sends : (classes : List ℕ) (word : Word) → Is (send_text classes word)) (gets : (classes : List ℕ) (end : ℕ) → end ≤ 127 → Is (get_text classes end)) (node : ℕ) where

@@ -44,11 +44,11 @@ use Rattle.host_model.specs.After.{after as after_host, node_does, is_busy}
 use Rattle.host_model.specs.May.{May}
 use Rattle.host_model.specs.Facts.{HostFacts}
 use Rattle.host_model.specs.Events as host
-use Rattle.proof_serial.specs.Way.{Carries, items_all, written_all}
-use Rattle.proof_serial.specs.Line.{host_units}
-use Rattle.proof_serial.specs.Chip.{HasFrames}
-use Rattle.proof_serial.proofs.Ways.{carries_all}
-use Rattle.proof_serial.proofs.Outer.{Written, routed_all}
+use Rattle.proof_world.specs.proof_serial.Way.{Carries, items_all, written_all}
+use Rattle.proof_world.specs.proof_serial.Line.{host_units}
+use Rattle.proof_world.specs.proof_serial.Chip.{HasFrames}
+use Rattle.proof_world.proofs.Ways.{carries_all}
+use Rattle.proof_world.proofs.Outer.{Written, routed_all}
 use Rattle.proof_course_plain.specs.Ways.{Goes}
 use Rattle.proof_course_plain.specs.Meaning.{Asked, HostMeans}
 use Rattle.proof_course_plain.specs.Air.{OnAir}
@@ -68,7 +68,7 @@ use Rattle.proof_course_plain.specs.Told.{KeepsOutcomes}
 use Rattle.proof_course_plain.proofs.Told.{outcomes_stay, outcomes_begin}
 use Rattle.proof_course_plain.proofs.KeptHosts.{SameHost, same_host, same_then, other_same, outcome_orders}
 use Rattle.proof_course_plain.proofs.KeptSessions.{plain_course}
-use Rattle.proof_host.proofs.HostsFromRecords.{open_alike as open_same}
+use Rattle.proof_once.proofs.HostsFromRecords.{open_alike as open_same}
 
 -- ---- more orders
 

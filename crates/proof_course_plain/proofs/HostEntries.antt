@@ -9,7 +9,7 @@ use Rattle.host_model.specs.Events.{HostEvent, Accepts, Cancels, Interviews, Int
 use Rattle.host_model.specs.declared.out.HostOut.{HostOut}
 use Rattle.host_model.specs.declared.out.HostOut.TheVariants.{Write, Note}
 use Rattle.world_model.specs.State.{begun_in}
-use Rattle.proof_device.proofs.HostOuts.{OutIs, OwnIs, SharedAre, outs_are}
+use Rattle.proof_traffic.proofs.HostOuts.{OutIs, OwnIs, SharedAre, outs_are}
 use Rattle.proof_course_plain.specs.HostGoing.{IsNoBegin}
 use Rattle.proof_course_plain.proofs.HostActs.{BeginsNone}
 

@@ -46,8 +46,8 @@ use Rattle.zw_text.specs.declared.entry.Entry.TheVariants.{Out}
 use Rattle.host_model.specs.May.{May, IsStart, IsFree}
 use Rattle.host_model.specs.Facts.{HostFacts, FitsForm, IsCommandOf, IsSound}
 use Rattle.host_model.specs.Events.{HostEvent, Accepts, Cancels, Joins, Queues, Queues_interview, Queues_probe, Hears, Requests_do, Interviews, Interview_unkept, Unreads, Is_unkept, Reports_old, Works, Finishes, Offers, Gives, Spends, Spends_unread, Takes_nonce, Notifies, Resends, Hears_value, Has_no_room, Line_ticks, Node_ticks, Queues_no_more, Drops_no_more, Submits_abort, Submits_front, Starts, Gives_text, Gives_segment, Begins, Begin_unkept}
-use Rattle.proof_serial.specs.Line.{host_units}
-use Rattle.proof_messages.specs.Others.{IsOther}
+use Rattle.proof_world.specs.proof_serial.Line.{host_units}
+use Rattle.proof_once.specs.proof_messages.Others.{IsOther}
 use Rattle.proof_course_plain.specs.Meaning.{Asked, IsMessageOf, IsSegmentOf, IsMessage}
 use Rattle.proof_course_plain.specs.Lines.{Asks, Moves}
 use Rattle.proof_course_plain.specs.HostGoing.{IsAside}

@@ -21,7 +21,7 @@ use Rattle.host_requests.specs.Frames.{nonce_report, no_more_information, send, 
 use Rattle.host_requests.specs.declared.task.Task.{Task}
 use Rattle.host_requests.specs.declared.task.Task.TheVariants as task
 use Rattle.host_requests.specs.declared.task.Purpose.TheVariants.{Housekeeping, Attempt, Abort}
-use Rattle.proof_messages.specs.Others.{IsOther}
+use Rattle.proof_once.specs.proof_messages.Others.{IsOther}
 use Rattle.proof_course_plain.specs.Meaning.{Asked, HostMeans}
 use Rattle.proof_course_plain.specs.Lines.{Asks, asked_as}
 use Rattle.proof_course_plain.specs.Host.{IsOtherTask}

@@ -35,7 +35,7 @@ use Rattle.host_node.specs.Events.{after as after_node}
 use Rattle.host_node.specs.Events.NodeEvent.{Reports as node_reports}
 use Rattle.host_model.specs.State.{HostState, Command as TheCommand, node_of, with_node, with_outcome, command_at}
 use Rattle.host_model.specs.Facts.{IsCommandOf}
-use Rattle.proof_host.specs.Tables.{outcome_in}
+use Rattle.proof_once.specs.proof_host.Tables.{outcome_in}
 use Rattle.host_model.specs.Sessions.{settings_with}
 use Rattle.host_model.specs.declared.out.HostOut.{HostOut}
 use Rattle.host_model.specs.After.{after as after_host, finishing, is_held, outcome_of}
@@ -45,11 +45,11 @@ use Rattle.host_model.specs.May.{May}
 use Rattle.host_model.specs.Taking.{IsJudged, AreJudged}
 use Rattle.host_model.specs.Events.{HostEvent, Hears, Finishes, Begins}
 use Rattle.host_model.proofs.EventLists.{after_all-append, outs_all-append}
-use Rattle.proof_serial.specs.Way.{Carries}
-use Rattle.proof_serial.specs.Line.{host_units}
-use Rattle.proof_serial.specs.Chip.{HasFrames}
-use Rattle.proof_serial.proofs.Outer.{Written, routed_all}
-use Rattle.proof_messages.specs.Others.{IsOther}
+use Rattle.proof_world.specs.proof_serial.Way.{Carries}
+use Rattle.proof_world.specs.proof_serial.Line.{host_units}
+use Rattle.proof_world.specs.proof_serial.Chip.{HasFrames}
+use Rattle.proof_world.proofs.Outer.{Written, routed_all}
+use Rattle.proof_once.specs.proof_messages.Others.{IsOther}
 use Rattle.proof_course_plain.specs.Ways.{Thinned, Goes}
 use Rattle.proof_course_plain.specs.Meaning.{Asked}
 use Rattle.proof_course_plain.specs.Air.{OnAir}
@@ -70,8 +70,8 @@ use Rattle.proof_course_plain.proofs.HostEvents.{event_wrote, open_is, owned}
 use Rattle.proof_traffic.proofs.HostLinks.{no_units as noted_none}
 use Rattle.host_model.proofs.OpenSessions.{final_session}
 use Rattle.proof_once.proofs.TieSteps.{told_more}
-use Rattle.proof_host.proofs.Commands.{outcome_same}
-use Rattle.proof_host.proofs.Effects.{held_commands}
+use Rattle.proof_once.proofs.Commands.{outcome_same}
+use Rattle.proof_once.proofs.Effects.{held_commands}
 use Rattle.proof_course_plain.proofs.Told.{PastLaws, past_kept, outcomes_kept, outcomes_stay}
 use Rattle.proof_course_plain.proofs.HostEntries.{event_begins_none}
 use Rattle.proof_course_plain.proofs.HostJudgements.{AllAside, IsFinish, Bytes, item_told}

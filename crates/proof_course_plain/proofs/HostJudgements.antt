@@ -44,7 +44,7 @@ use Rattle.host_model.specs.After.{after, is_busy, gives_up}
 use Rattle.host_model.specs.Did.{after_all}
 use Rattle.host_model.specs.Taking.{IsKeptOr, is_secure, FinalEvents, ReportEvents, NonceGetEvents, NonceReportEvents, resent, value_event, value_events, IsTaken, AreTaken, named_by, IsOpened, SealedEvents, PayloadEvents, InterviewEvents, ResponseEvents, NoticeEvents, FrameEvents, told_if, IsFollowed}
 use Rattle.host_model.specs.Events.{HostEvent, Interview_unkept, Unreads, Is_unkept, Reports_old, Works, Finishes, Offers, Gives, Spends, Spends_unread, Takes_nonce, Notifies, Hears_value, Has_no_room}
-use Rattle.proof_messages.specs.Reporting.{IsNoReport, TellsNone}
+use Rattle.proof_once.specs.proof_messages.Reporting.{IsNoReport, TellsNone}
 use Rattle.proof_course_plain.specs.Meaning.{NodeMeans}
 use Rattle.proof_course_plain.specs.Mesh.{told_as}
 use Rattle.proof_course_plain.specs.Lines.{Tells, ItemIs}

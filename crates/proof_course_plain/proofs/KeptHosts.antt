@@ -38,7 +38,7 @@ use Rattle.host_model.specs.Sessions.{open_command}
 use Rattle.host_model.specs.Ends.{unanswered, attempt_ended, PartEnd, Good as well, Passed_over, Bad, part_end, after_part, after_task, after_end, after_end_if}
 use Rattle.host_model.specs.After.{node_does, requests_do, request_does, is_full, queues_if_room, holding, failing_if}
 use Rattle.proof_course_plain.specs.Host.{asked_of, PushesOther}
-use Rattle.proof_serial.proofs.HostFits.{next_queue}
+use Rattle.proof_world.proofs.HostFits.{next_queue}
 
 -- ---- what a course holds
 

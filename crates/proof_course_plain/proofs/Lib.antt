@@ -32,3 +32,11 @@ pub mod TrueLines
 pub use Rattle.proof_once.proofs.TieSteps
 pub use Rattle.proof_world.proofs.Always
 pub use Rattle.proof_world.proofs.Heard
+pub use Rattle.proof_traffic.proofs.ChangesOutside
+pub use Rattle.proof_once.proofs.Commands
+pub use Rattle.proof_once.proofs.Effects
+pub use Rattle.proof_once.proofs.HostsFromRecords
+pub use Rattle.proof_world.proofs.Ways
+pub use Rattle.proof_world.proofs.Outer as proof_serial_Outer
+pub use Rattle.proof_world.proofs.EndedItems
+pub use Rattle.proof_world.proofs.ChipWays

@@ -31,19 +31,19 @@ use Rattle.device_stack.specs.Ticking.{ticked, woken, set_by_hand}
 use Rattle.device_sim.specs.State.{State}
 use Rattle.device_sim.specs.Event.{DeviceEvent, Hears, Ticks, Wakes, Sets, outcome_of, device_after, device_replies}
 use Rattle.device_sim.specs.Laws.{IsMade, numbers}
-use Rattle.proof_messages.specs.Ending.{HasEnded, one_at_work}
-use Rattle.proof_messages.specs.Asking.{takes_openly, verdict_on, MakesOnly, IsAtWork, IsUntouched, IsLeft, Follows}
-use Rattle.proof_messages.specs.Others.{IsOther}
-use Rattle.proof_messages.specs.Segments.{KeepsSegment, MakesWhole}
+use Rattle.proof_once.specs.proof_messages.Ending.{HasEnded, one_at_work}
+use Rattle.proof_once.specs.proof_messages.Asking.{takes_openly, verdict_on, MakesOnly, IsAtWork, IsUntouched, IsLeft, Follows}
+use Rattle.proof_once.specs.proof_messages.Others.{IsOther}
+use Rattle.proof_once.specs.proof_messages.Segments.{KeepsSegment, MakesWhole}
 use Rattle.proof_course_plain.specs.Meaning.{Asked, IsMessageOf, IsSegmentOf, IsMessage, HostMeans}
 use Rattle.proof_course_plain.specs.Making.{IsAskedFor, MakesBy, MakesAsked, KeepsNext, Makes, AllMake, NamesNext, Names, HearsNone}
 use Rattle.proof_course_plain.specs.Device.{AtDevice}
 use Rattle.proof_course_plain.proofs.Flights.{message_stays}
-use Rattle.proof_messages.proofs.NonceNumbers.{numbered-more as numbered-append}
-use Rattle.proof_messages.proofs.SessionMessages.{knows_supervision}
+use Rattle.proof_once.proofs.NonceNumbers.{numbered-more as numbered-append}
+use Rattle.proof_once.proofs.SessionMessages.{knows_supervision}
 use Rattle.proof_course_plain.proofs.Segments.{Laws as SegmentLaws, IsNext, IsAnother, segment_heard}
 use Rattle.proof_course_plain.proofs.Devices.{at_rest}
-use Rattle.proof_device.proofs.ChangesOutside.{get_set}
+use Rattle.proof_traffic.proofs.ChangesOutside.{get_set}
 
 -- ---- more orders, more sessions
 

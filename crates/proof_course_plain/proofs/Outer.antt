@@ -46,7 +46,7 @@ use Rattle.air_frames.specs.Flown.{Flown}
 use Rattle.air_frames.specs.History.{Mark, Goes as goes_mark, begins_in, news_after}
 use Rattle.proof_traffic.specs.Flights.{Fly, flown_now}
 use Rattle.device_sim.specs.State.{State}
-use Rattle.proof_messages.specs.Ending.{HasEnded}
+use Rattle.proof_once.specs.proof_messages.Ending.{HasEnded}
 use Rattle.zw_text.specs.declared.entry.Entry.{Entry}
 use Rattle.mesh_sim.specs.Air.{AirState, departing}
 use Rattle.mesh_sim.specs.Fates.{Mesh}
@@ -57,12 +57,12 @@ use Rattle.proof_traffic.specs.OutsideTraffic.{one_outward, outward}
 use Rattle.proof_traffic.proofs.JudgedItems.{passed_item}
 use Rattle.proof_traffic.proofs.Mild.{each-append}
 use Rattle.proof_traffic.specs.OnAir.{IsFew, StaysFew, fed_chip}
-use Rattle.proof_serial.specs.Way.{Carries, items_all}
-use Rattle.proof_serial.specs.Chip.{HasFrames, ChipDoes}
-use Rattle.proof_serial.proofs.Ways.{carries_all, carries_left}
-use Rattle.proof_serial.proofs.Frames.{events_have, events_fit}
-use Rattle.proof_serial.proofs.ChipWays.{does_one, does_each}
-use Rattle.proof_messages.specs.Landing.{IsOf}
+use Rattle.proof_world.specs.proof_serial.Way.{Carries, items_all}
+use Rattle.proof_world.specs.proof_serial.Chip.{HasFrames, ChipDoes}
+use Rattle.proof_world.proofs.Ways.{carries_all, carries_left}
+use Rattle.proof_world.proofs.Frames.{events_have, events_fit}
+use Rattle.proof_world.proofs.ChipWays.{does_one, does_each}
+use Rattle.proof_once.specs.proof_messages.Landing.{IsOf}
 use Rattle.proof_course_plain.specs.Ways.{Beside, Thinned, Goes}
 use Rattle.proof_course_plain.specs.Meaning.{Asked, HostMeans, NodeMeans}
 use Rattle.proof_course_plain.specs.Air.{BearsBy, Bears, OnAir}

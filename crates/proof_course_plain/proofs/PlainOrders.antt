@@ -13,7 +13,7 @@ use Rattle.host_requests.specs.declared.task.Task.{Task}
 use Rattle.host_requests.specs.declared.task.Task.TheVariants as task
 use Rattle.host_requests.specs.Events.{RequestsEvent}
 use Rattle.host_requests.specs.Events.RequestsEvent.{Pushes}
-use Rattle.proof_messages.specs.Others.{IsOther}
+use Rattle.proof_once.specs.proof_messages.Others.{IsOther}
 use Rattle.proof_course_plain.specs.Host.{IsOtherTask, PushesOther, AsksPlainly}
 use Rattle.proof_course_plain.specs.HostGoing.{EndsNone}
 use Rattle.proof_course_plain.specs.World.{IsPlainly, EndsByHearing, OrderPlain, OrdersPlain, NamesEnd, IsAskedTask, PushesNone, IsOfLine, ComesOfLine}

@@ -21,10 +21,10 @@ use Rattle.device_sim.specs.Event.{DeviceEvent, Ticks, device_after, device_repl
 use Rattle.mesh_sim.specs.Air.{AirState, is_joined, no_route, departing}
 use Rattle.mesh_sim.specs.Steps.{answered, answered_if}
 use Rattle.mesh_sim.specs.Fates.{Mesh, place_of}
-use Rattle.proof_device.specs.GoingOn.{IsSame}
-use Rattle.proof_device.proofs.ChangesOutside.{place_is, place_set, get_set}
-use Rattle.proof_messages.specs.Ending.{HasEnded}
-use Rattle.proof_messages.specs.Landing.{IsOf}
+use Rattle.proof_traffic.specs.proof_device.GoingOn.{IsSame}
+use Rattle.proof_traffic.proofs.ChangesOutside.{place_is, place_set, get_set}
+use Rattle.proof_once.specs.proof_messages.Ending.{HasEnded}
+use Rattle.proof_once.specs.proof_messages.Landing.{IsOf}
 use Rattle.proof_course_plain.specs.Ways.{Beside, Goes}
 use Rattle.proof_course_plain.specs.Meaning.{Asked, NodeMeans}
 use Rattle.proof_course_plain.specs.Air.{BearsBy, Bears, OnAir}

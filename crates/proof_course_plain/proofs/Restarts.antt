@@ -33,12 +33,12 @@ use Rattle.host_model.specs.After.{node_does, node_for, accepting}
 use Rattle.host_model.specs.Restoring.{restored, ending, carriage_for}
 use Rattle.host_model.specs.Opening.{restored_all, restarting, opened}
 use Rattle.host_model.specs.Holding.{Holds, taken_as}
-use Rattle.proof_host.specs.Facts.{Facts, StartsAs}
-use Rattle.proof_host.specs.Tables.{recorded}
+use Rattle.proof_once.specs.proof_host.Facts.{Facts, StartsAs}
+use Rattle.proof_once.specs.proof_host.Tables.{recorded}
 use Rattle.world_model.specs.State.{Machine}
 use Rattle.world_model.specs.Events.{Restarts, OpensFrom, May, happens}
 use Rattle.outside_model.specs.Events.{mesh_of}
-use Rattle.proof_serial.specs.Way.{Carries, items_all}
+use Rattle.proof_world.specs.proof_serial.Way.{Carries, items_all}
 use Rattle.proof_world.specs.Restarts.{AreHeld, IsHeld}
 use Rattle.proof_course_plain.specs.Ways.{Goes, Thinned}
 use Rattle.proof_course_plain.specs.Meaning.{Asked}

@@ -13,14 +13,14 @@ use Rattle.serial_link.specs.declared.turn.Turn.TheVariants as turns
 use Rattle.zw_text.specs.declared.line.Line.{Line}
 use Rattle.device_sim.specs.State.{State}
 use Rattle.host_model.specs.State.{first_host}
-use Rattle.proof_host.specs.Facts.{Facts}
+use Rattle.proof_once.specs.proof_host.Facts.{Facts}
 use Rattle.outside_model.specs.State.{outside, first_outer}
 use Rattle.proof_traffic.specs.OutsideTraffic.{AreNodes}
 use Rattle.world_model.specs.State.{Machine, first_machine}
 use Rattle.world_model.specs.Events.{Event}
 use Rattle.world_model.specs.Did.{happens_all, MayAll}
-use Rattle.proof_serial.specs.Line.{AllWriteWell, AllAtRest, AreLines, Stays}
-use Rattle.proof_serial.specs.Host.{AllAskWell}
+use Rattle.proof_world.specs.proof_serial.Line.{AllWriteWell, AllAtRest, AreLines, Stays}
+use Rattle.proof_world.specs.proof_serial.Host.{AllAskWell}
 use Rattle.proof_world.specs.Restarts.{AllKeepWell, BeginsEmpty, IsHeld}
 use Rattle.proof_traffic.specs.OnAir.{AlwaysFew}
 use Rattle.proof_course_plain.specs.Meaning.{Asked}

@@ -23,12 +23,12 @@ use Rattle.device_kinds.specs.declared.kind.Kind.TheVariants.{Relay, Switch, Dim
 use Rattle.device_kinds.specs.Kind.{lists}
 use Rattle.device_sim.specs.State.{State}
 use Rattle.device_sim.specs.Event.{Hears, device_after, device_replies}
-use Rattle.proof_messages.specs.Asking.{takes_openly, IsLeft}
-use Rattle.proof_messages.specs.Landing.{IsOf}
-use Rattle.proof_messages.specs.Others.{IsNoGet}
-use Rattle.proof_messages.specs.Reporting.{TellsNone}
-use Rattle.proof_messages.specs.Segments.{KeepsSegment, MakesWhole}
-use Rattle.proof_messages.proofs.SessionMessages.{knows_supervision}
+use Rattle.proof_once.specs.proof_messages.Asking.{takes_openly, IsLeft}
+use Rattle.proof_once.specs.proof_messages.Landing.{IsOf}
+use Rattle.proof_once.specs.proof_messages.Others.{IsNoGet}
+use Rattle.proof_once.specs.proof_messages.Reporting.{TellsNone}
+use Rattle.proof_once.specs.proof_messages.Segments.{KeepsSegment, MakesWhole}
+use Rattle.proof_once.proofs.SessionMessages.{knows_supervision}
 use Rattle.proof_course_plain.specs.Meaning.{Asked, IsMessageOf, IsSegmentOf}
 use Rattle.proof_course_plain.specs.Making.{KeepsNext, NamesNext}
 

@@ -11,7 +11,7 @@ use Rattle.law_transcript.specs.Once.{carried_by}
 use Rattle.device_kinds.specs.declared.change.Change.{Change}
 use Rattle.host_orders.specs.Settings.{settings}
 use Rattle.host_model.specs.State.{Command}
-use Rattle.proof_host.specs.Tables.{taken_at}
+use Rattle.proof_once.specs.proof_host.Tables.{taken_at}
 use Rattle.proof_course_plain.specs.Meaning.{Asked}
 use Rattle.proof_course_plain.specs.Making.{IsAskedFor, MakesBy, MakesAsked}
 use Rattle.proof_course_plain.specs.Host.{asked_of}

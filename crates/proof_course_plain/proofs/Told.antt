@@ -8,10 +8,10 @@ use Rattle.host_model.specs.State.{Command, HostState}
 use Rattle.host_model.specs.Events.{HostEvent}
 use Rattle.host_model.specs.After.{after, outcome_of}
 use Rattle.host_model.specs.May.{May}
-use Rattle.proof_host.specs.Entries.{entries_at}
-use Rattle.proof_host.specs.Facts.{AreShown, Facts}
-use Rattle.proof_host.specs.Laws.{HostLaws, IsOver}
-use Rattle.proof_host.specs.Tables.{outcome_in, recorded}
+use Rattle.proof_once.specs.proof_host.Entries.{entries_at}
+use Rattle.proof_once.specs.proof_host.Facts.{AreShown, Facts}
+use Rattle.proof_once.specs.proof_host.Laws.{HostLaws, IsOver}
+use Rattle.proof_once.specs.proof_host.Tables.{outcome_in, recorded}
 use Rattle.proof_once.specs.Tied.{AreOutcomes}
 use Rattle.proof_once.proofs.TieSteps.{recorded_over, over_recorded, final_over}
 use Rattle.proof_course_plain.specs.Told.{KeepsOutcomes, HasPast}

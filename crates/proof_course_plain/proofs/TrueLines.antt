@@ -19,9 +19,9 @@ use Rattle.host_model.specs.Taking.{AreJudged}
 use Rattle.world_model.specs.State.{Machine, first_machine}
 use Rattle.world_model.specs.Events.{Event, Host_does, Host_takes, MayTake, May, happens}
 use Rattle.world_model.specs.Did.{MayAll}
-use Rattle.proof_serial.specs.Line.{host_units, WritesWell, AllWriteWell, IsAtRest, AllAtRest, AreLines, Stays}
-use Rattle.proof_serial.specs.Host.{AllAskWell}
-use Rattle.proof_serial.proofs.Ways.{carries_left}
+use Rattle.proof_world.specs.proof_serial.Line.{host_units, WritesWell, AllWriteWell, IsAtRest, AllAtRest, AreLines, Stays}
+use Rattle.proof_world.specs.proof_serial.Host.{AllAskWell}
+use Rattle.proof_world.proofs.Ways.{carries_left}
 use Rattle.host_model.specs.Facts.{HostFacts}
 use Rattle.proof_world.specs.Restarts.{AllKeepWell, BeginsEmpty, IsHeld, KeepsWell, StartsWell}
 use Rattle.proof_traffic.specs.OnAir.{EventStaysFew, AlwaysFew}

@@ -44,7 +44,7 @@ use Rattle.proof_course_plain.specs.Lines.{Tells}
 use Rattle.proof_course_plain.proofs.WayLabels.{first_label}
 use Rattle.proof_course_plain.proofs.HostItems.{Laws, well_prefix, told_same, course_goes, aside_goes, judge_item, facts_then}
 use Rattle.proof_course_plain.proofs.Taken.{changes_taken}
-use Rattle.proof_device.proofs.ChangesOutside.{place_is}
+use Rattle.proof_traffic.proofs.ChangesOutside.{place_is}
 
 -- ---- devices
 

@@ -15,7 +15,7 @@ use Rattle.serial_link.specs.declared.turn.Turn.TheVariants.{Idle, Copied, Pause
 use Rattle.serial_pipes.specs.State.{WayState, fits, garbled}
 use Rattle.serial_pipes.specs.Events.{after, Writes}
 use Rattle.serial_pipes.specs.declared.marks.Garble.{Garble}
-use Rattle.proof_serial.specs.Way.{wanted_sum, found_sum, changed_item, frame_item, unit_item, items_of, items_all, written_all}
+use Rattle.proof_world.specs.proof_serial.Way.{wanted_sum, found_sum, changed_item, frame_item, unit_item, items_of, items_all, written_all}
 use Rattle.proof_course_plain.specs.Ways.{Beside, Thinned}
 use Rattle.proof_course_plain.specs.Mesh.{labels}
 use Rattle.proof_course_plain.specs.Lines.{ItemIs, own_frames, OnWay, Later, Moves}

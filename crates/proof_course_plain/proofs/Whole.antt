@@ -32,12 +32,12 @@ use Rattle.host_model.specs.declared.out.HostOut.{HostOut}
 use Rattle.world_model.specs.State.{Machine, with_outside, routed}
 use Rattle.world_model.specs.Events.{Event, Outside_does, Host_does, Host_takes, Decoder_ticks, Refuses, Shows_values, Restarts, notes, shown_values, MayTake, May, happens}
 use Rattle.world_model.specs.Did.{happens_all, MayAll}
-use Rattle.proof_serial.specs.Way.{Carries}
-use Rattle.proof_serial.specs.Line.{host_unit, host_units, WritesWell, AllWriteWell, OuterAtRest, IsAtRest, AllAtRest}
-use Rattle.proof_serial.specs.Chip.{HasFrames}
-use Rattle.proof_serial.proofs.Outer.{Written}
-use Rattle.proof_serial.proofs.EndedItems.{LeftOf}
-use Rattle.proof_serial.proofs.Ways.{carries_left}
+use Rattle.proof_world.specs.proof_serial.Way.{Carries}
+use Rattle.proof_world.specs.proof_serial.Line.{host_unit, host_units, WritesWell, AllWriteWell, OuterAtRest, IsAtRest, AllAtRest}
+use Rattle.proof_world.specs.proof_serial.Chip.{HasFrames}
+use Rattle.proof_world.proofs.Outer.{Written}
+use Rattle.proof_world.proofs.EndedItems.{LeftOf}
+use Rattle.proof_world.proofs.Ways.{carries_left}
 use Rattle.proof_world.specs.Restarts.{StartsWell, KeepsWell, AllKeepWell, IsHeld}
 use Rattle.proof_traffic.specs.OnAir.{OuterStaysFew, EventStaysFew, AlwaysFew}
 use Rattle.proof_course_plain.specs.Meaning.{Asked}

@@ -6,10 +6,10 @@ use Rattle.proof_course.specs.Sessions.{Course, Cargo, Command, Of_host, Answer,
 use Rattle.transport_segments.specs.Kept.{Empty}
 use Rattle.device_sim.specs.State.{State}
 use Rattle.device_sim.specs.Event.{DeviceEvent, device_after, device_replies}
-use Rattle.proof_messages.specs.Ending.{HasEnded}
-use Rattle.proof_messages.specs.Asking.{takes_openly}
-use Rattle.proof_messages.specs.Landing.{IsOf}
-use Rattle.proof_messages.specs.Reporting.{CanSay}
+use Rattle.proof_once.specs.proof_messages.Ending.{HasEnded}
+use Rattle.proof_once.specs.proof_messages.Asking.{takes_openly}
+use Rattle.proof_once.specs.proof_messages.Landing.{IsOf}
+use Rattle.proof_once.specs.proof_messages.Reporting.{CanSay}
 use Rattle.proof_course_plain.specs.Meaning.{Reports, NodeMeans}
 
 -- the course has the sessions of a device that takes what is not sealed, the session of which it keeps segments, and the statuses to which it came

@@ -11,7 +11,7 @@ use Rattle.host_model.specs.State.{HostState, Command, node_of}
 use Rattle.host_model.specs.Events.{HostEvent, Accepts, Queues, Requests_do}
 use Rattle.host_requests.specs.Events.{RequestsEvent}
 use Rattle.host_requests.specs.Events.RequestsEvent.{Pushes}
-use Rattle.proof_messages.specs.Others.{IsOther}
+use Rattle.proof_once.specs.proof_messages.Others.{IsOther}
 use Rattle.proof_course_plain.specs.Meaning.{Asked, IsSegmentOf}
 
 -- the host keeps these commands of a node's sessions, and this outcome of the last; nothing of the running attempt is to be sealed, or waits sealed

@@ -13,9 +13,9 @@ use Rattle.host_model.specs.Outs.{outs}
 use Rattle.host_model.specs.Did.{MayAll}
 use Rattle.outside_model.specs.State.{Outside}
 use Rattle.outside_model.specs.Events.{mesh_of}
-use Rattle.proof_serial.specs.Way.{Carries}
-use Rattle.proof_serial.specs.Line.{host_units}
-use Rattle.proof_serial.specs.Chip.{HasFrames}
+use Rattle.proof_world.specs.proof_serial.Way.{Carries}
+use Rattle.proof_world.specs.proof_serial.Line.{host_units}
+use Rattle.proof_world.specs.proof_serial.Chip.{HasFrames}
 use Rattle.proof_course_plain.specs.Ways.{Goes}
 use Rattle.proof_course_plain.specs.Meaning.{Asked}
 use Rattle.proof_course_plain.specs.Mesh.{InMesh}

@@ -17,3 +17,6 @@ pub use Rattle.proof_traffic.specs.Flights
 pub use Rattle.proof_traffic.specs.OnAir
 pub use Rattle.proof_traffic.specs.OutsideTraffic
 pub use Rattle.proof_world.specs.Restarts
+pub use Rattle.proof_traffic.specs.proof_device as proof_device
+pub use Rattle.proof_once.specs.proof_host as proof_host
+pub use Rattle.proof_world.specs.proof_serial as proof_serial

@@ -15,7 +15,7 @@ use Rattle.chip_functions.specs.Notice.{notice_of}
 use Rattle.chip_functions.specs.declared.notice.Notice.TheVariants.{ApplicationCommandHandler}
 use Rattle.chip_functions.specs.declared.request.Request.TheVariants.{SendData}
 use Rattle.chip_sim.specs.Requests.{asked}
-use Rattle.proof_serial.specs.Way.{items_all}
+use Rattle.proof_world.specs.proof_serial.Way.{items_all}
 use Rattle.proof_course_plain.specs.Ways.{Beside, Thinned}
 use Rattle.proof_course_plain.specs.Meaning.{Asked, HostMeans}
 use Rattle.proof_course_plain.specs.Mesh.{labels, IsTold}

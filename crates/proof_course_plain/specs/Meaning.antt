@@ -14,8 +14,8 @@ use Rattle.host_heard.specs.Telling.{heard_at}
 use Rattle.host_heard.specs.declared.payload.Heard.TheVariants.{Messages}
 use Rattle.host_heard.specs.declared.told.Told.TheVariants.{Report}
 use Rattle.device_kinds.specs.Answers.{report_status}
-use Rattle.proof_messages.specs.Others.{IsOther}
-use Rattle.proof_messages.specs.Reporting.{TellsNone}
+use Rattle.proof_once.specs.proof_messages.Others.{IsOther}
+use Rattle.proof_once.specs.proof_messages.Reporting.{TellsNone}
 
 -- a command that was accepted: the order, and how it is carried
 pub record Asked : Type 0 where

@@ -9,8 +9,8 @@ use Rattle.serial_link.specs.declared.turn.Turn.{Turn}
 use Rattle.chip_sim.specs.Rules.{WaitsWell}
 use Rattle.outside_model.specs.State.{Outside}
 use Rattle.outside_model.specs.Events.{OuterEvent, Chip_ticks, Clears_pipe, mesh_of}
-use Rattle.proof_serial.specs.Way.{Carries}
-use Rattle.proof_serial.specs.Chip.{HasFrames}
+use Rattle.proof_world.specs.proof_serial.Way.{Carries}
+use Rattle.proof_world.specs.proof_serial.Chip.{HasFrames}
 use Rattle.proof_course_plain.specs.Ways.{Goes}
 use Rattle.proof_course_plain.specs.Meaning.{Asked}
 use Rattle.proof_course_plain.specs.Mesh.{InMesh}

@@ -4,8 +4,8 @@ use Rattle.zw_text.specs.declared.entry.Entry.{Entry}
 use Rattle.host_keep.specs.declared.final_status.FinalStatus.{FinalStatus}
 use Rattle.host_model.specs.State.{Command, HostState}
 use Rattle.host_model.specs.After.{outcome_of}
-use Rattle.proof_host.specs.Facts.{Facts}
-use Rattle.proof_host.specs.Tables.{outcome_in}
+use Rattle.proof_once.specs.proof_host.Facts.{Facts}
+use Rattle.proof_once.specs.proof_host.Tables.{outcome_in}
 
 -- a command that came to its end keeps that outcome
 abbrev pub KeepsOutcomes : List Command → List Command → Type 0

@@ -17,15 +17,15 @@ ghost use Rattle.host_model.specs.Did.{after_all, outs_all};
 ghost use Rattle.host_model.specs.May.{May};
 ghost use Rattle.host_model.specs.Taking.{AreJudged};
 ghost use Rattle.host_model.specs.Events.{HostEvent};
-ghost use Rattle.proof_serial.specs.Line.{host_units};
+ghost use Rattle.proof_world.specs.proof_serial.Line.{host_units};
 ghost use Rattle.proof_course_plain.specs.Meaning.{Asked};
 ghost use Rattle.proof_course_plain.specs.Host.{AsksPlainly};
 ghost use Rattle.proof_course_plain.specs.Told.{HasPast};
 ghost use Rattle.proof_course_plain.specs.HostGoing.{HostFollows, HostGoes, EndsNone, AllWell};
 
 use proof_course::courses_keep_facts;
-use proof_host::{events_keep_facts, laws_follow, what_is_over_stays};
-use proof_messages::{others_are_no_messages, reports_tell};
+use proof_once::host::{events_keep_facts, laws_follow, what_is_over_stays};
+use proof_once::messages::{others_are_no_messages, reports_tell};
 use proof_traffic::frames_fly_in_order;
 
 /// What the host does makes steps of the course of a node whose commands go unsealed: it begins a session; it writes the message of the

@@ -11,8 +11,8 @@ ghost use Rattle.device_sim.specs.State.{State};
 ghost use Rattle.world_model.specs.State.{Machine, first_machine};
 ghost use Rattle.world_model.specs.Events.{Event, May, happens};
 ghost use Rattle.world_model.specs.Did.{happens_all, MayAll};
-ghost use Rattle.proof_serial.specs.Line.{WritesWell, AllWriteWell, IsAtRest, AllAtRest, AreLines};
-ghost use Rattle.proof_serial.specs.Host.{AllAskWell};
+ghost use Rattle.proof_world.specs.proof_serial.Line.{WritesWell, AllWriteWell, IsAtRest, AllAtRest, AreLines};
+ghost use Rattle.proof_world.specs.proof_serial.Host.{AllAskWell};
 ghost use Rattle.proof_world.specs.Restarts.{KeepsWell, AllKeepWell, BeginsEmpty, IsHeld};
 ghost use Rattle.proof_traffic.specs.OnAir.{EventStaysFew, AlwaysFew};
 ghost use Rattle.proof_course_plain.specs.Meaning.{Asked};
@@ -23,13 +23,13 @@ use crate::host::hosts_follow_the_course;
 use crate::outside::outsides_follow_the_course;
 use host_keep::texts_give_one_thing;
 use proof_course::{courses_keep_facts, what_is_told_was_done};
-use proof_host::{
+use proof_once::host::{
     events_keep_facts, first_facts_hold, laws_follow, restarts_keep_facts, what_is_over_stays,
 };
-use proof_messages::others_are_no_messages;
-use proof_serial::{hosts_write_well, units_are_judged_whole};
+use proof_once::messages::others_are_no_messages;
 use proof_traffic::at_most_two_are_on_the_air;
 use proof_world::restarts_go_on;
+use proof_world::serial::{hosts_write_well, units_are_judged_whole};
 
 /// Every event of the whole machine makes steps of the course of a node, and so do events one after another. Where the host starts again, the keeper tells its
 /// records, and they are those of the host before.

@@ -32,8 +32,8 @@ use Rattle.mesh_sim.specs.Routes.{backwards}
 use Rattle.mesh_sim.specs.Air.{AirState, is_joined}
 use Rattle.mesh_sim.specs.Fates.{Mesh, place_of, listener_of, fate_of, dead_hop_of}
 use Rattle.mesh_sim.specs.Steps.{Arrives, Repeats, landed as air_landed, acknowledged, status_of, done_of, answered_if, outs_hearing, heard_at, outs_at, arriving_as, arrival_outs_as, heard_again, outs_again, repeating_by, repeating, repeat_outs_by, repeat_outs, mesh_after, mesh_outs, MayHappen}
-use Rattle.proof_device.specs.GoingOn.{IsSame}
-use Rattle.proof_device.proofs.ChangesOutside.{place_is, listener_is, fate_listens}
+use Rattle.proof_course_plain.specs.proof_device.GoingOn.{IsSame}
+use Rattle.proof_course_plain.proofs.ChangesOutside.{place_is, listener_is, fate_listens}
 use Rattle.proof_course_plain.specs.Meaning.{Asked}
 use Rattle.proof_course_plain.specs.Making.{Makes, Names, HearsNone}
 use Rattle.proof_course_plain.specs.Device.{IsIdle}

@@ -23,11 +23,11 @@ use Rattle.world_model.specs.State.{routed}
 use Rattle.host_model.specs.State.{HostState, node_of}
 use Rattle.host_model.specs.declared.out.HostOut.{HostOut}
 use Rattle.host_model.specs.After.{is_busy}
-use Rattle.proof_serial.specs.Way.{Carries, items_all, written_all}
-use Rattle.proof_serial.specs.Line.{host_units}
-use Rattle.proof_serial.specs.Chip.{HasFrames}
-use Rattle.proof_serial.proofs.Ways.{carries_all}
-use Rattle.proof_serial.proofs.Outer.{Written, routed_all}
+use Rattle.proof_course_plain.specs.proof_serial.Way.{Carries, items_all, written_all}
+use Rattle.proof_course_plain.specs.proof_serial.Line.{host_units}
+use Rattle.proof_course_plain.specs.proof_serial.Chip.{HasFrames}
+use Rattle.proof_course_plain.proofs.Ways.{carries_all}
+use Rattle.proof_course_plain.proofs.proof_serial_Outer.{Written, routed_all}
 use Rattle.proof_course_plain.specs.Tied.{AreOutcomes}
 use Rattle.proof_messages.specs.Numbers.{HasGiven}
 use Rattle.proof_messages.specs.Hosts.{LeavesNonces}

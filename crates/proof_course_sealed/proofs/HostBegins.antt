@@ -38,7 +38,7 @@ use Rattle.proof_course_plain.proofs.ThinnedWays.{goes_once}
 use Rattle.proof_course_plain.proofs.WayLabels.{thinned_same, move_same}
 use Rattle.proof_course_plain.proofs.KeptHosts.{SameHost, same_host, same_then, other_same, outcome_orders}
 use Rattle.proof_course_plain.proofs.HostActs.{AirLaws, set_here, waits_somewhere}
-use Rattle.proof_host.proofs.HostsFromRecords.{open_alike as open_same}
+use Rattle.proof_course_plain.proofs.HostsFromRecords.{open_alike as open_same}
 use Rattle.proof_course_plain.proofs.Told.{outcomes_stay, outcomes_begin}
 use Rattle.proof_course_sealed.specs.Labels.{Sent}
 use Rattle.proof_course_sealed.specs.Courses.{Courses, CoursesGo, with_up}

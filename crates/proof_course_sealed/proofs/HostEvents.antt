@@ -46,7 +46,7 @@ use Rattle.host_model.specs.Ends.{attempt_entries}
 use Rattle.host_model.specs.May.{May, IsStart}
 use Rattle.host_model.specs.Facts.{HostFacts, FitsForm, IsCommandOf, IsSound}
 use Rattle.host_model.specs.Events.{HostEvent, Accepts, Cancels, Joins, Queues, Queues_interview, Queues_probe, Hears, Requests_do, Interviews, Interview_unkept, Unreads, Is_unkept, Reports_old, Works, Finishes, Offers, Gives, Spends, Spends_unread, Takes_nonce, Notifies, Resends, Hears_value, Has_no_room, Line_ticks, Node_ticks, Queues_no_more, Drops_no_more, Submits_abort, Submits_front, Starts, Gives_text, Gives_segment, Begins, Begin_unkept}
-use Rattle.proof_serial.specs.Line.{host_units}
+use Rattle.proof_course_plain.specs.proof_serial.Line.{host_units}
 use Rattle.proof_messages.specs.Hosts.{IsOpenPlan, IsAside, LeavesNonces}
 use Rattle.proof_messages.proofs.LockSessions.{some_same}
 use Rattle.proof_course_plain.specs.Ways.{Beside}

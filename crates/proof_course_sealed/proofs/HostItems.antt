@@ -34,7 +34,7 @@ use Rattle.host_model.specs.Outs.{outs, ended_of, stored_entries, held_entries}
 use Rattle.host_model.specs.May.{May}
 use Rattle.host_model.specs.Taking.{IsFollowed, IsJudged, AreJudged}
 use Rattle.host_model.specs.Events.{HostEvent, Hears, Finishes, Offers, Gives, Spends, Takes_nonce}
-use Rattle.proof_host.specs.Tables.{outcome_in}
+use Rattle.proof_course_plain.specs.proof_host.Tables.{outcome_in}
 use Rattle.proof_course_plain.specs.Tied.{AreOutcomes}
 use Rattle.proof_course_plain.specs.Ways.{Thinned, Goes}
 use Rattle.proof_course_plain.specs.Lines.{OnWay}
@@ -51,8 +51,8 @@ use Rattle.proof_course_plain.proofs.HostItems.{routed_then, well_prefix, told_s
 use Rattle.proof_course_plain.proofs.HostJudgements.{Bytes}
 use Rattle.host_model.proofs.OpenSessions.{final_session}
 use Rattle.proof_course_plain.proofs.TieSteps.{told_more}
-use Rattle.proof_host.proofs.Commands.{outcome_same}
-use Rattle.proof_host.proofs.Effects.{held_commands}
+use Rattle.proof_course_plain.proofs.Commands.{outcome_same}
+use Rattle.proof_course_plain.proofs.Effects.{held_commands}
 use Rattle.proof_course_plain.proofs.Told.{PastLaws, past_kept, outcomes_kept, outcomes_stay}
 use Rattle.proof_course_sealed.specs.Labels.{Said, Late, Reports, Shows, picked, sealed_for, report_of, shown_by, answers_for}
 use Rattle.proof_course_sealed.specs.Courses.{Courses, NodeGoes, HostGoes as NoncesGo, CoursesGo, CoursesFacts}

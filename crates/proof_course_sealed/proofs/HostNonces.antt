@@ -38,10 +38,10 @@ use Rattle.host_model.specs.After.{after as after_host, is_full, requests_do, gi
 use Rattle.host_model.specs.Outs.{noted, dropped_if}
 use Rattle.host_model.specs.May.{May}
 use Rattle.host_model.specs.Events.{HostEvent, Spends, Takes_nonce}
-use Rattle.proof_serial.specs.Way.{Carries}
-use Rattle.proof_serial.specs.Line.{host_units}
-use Rattle.proof_serial.specs.Chip.{HasFrames}
-use Rattle.proof_serial.proofs.Outer.{Written, routed_all}
+use Rattle.proof_course_plain.specs.proof_serial.Way.{Carries}
+use Rattle.proof_course_plain.specs.proof_serial.Line.{host_units}
+use Rattle.proof_course_plain.specs.proof_serial.Chip.{HasFrames}
+use Rattle.proof_course_plain.proofs.proof_serial_Outer.{Written, routed_all}
 use Rattle.proof_course_plain.specs.Tied.{AreOutcomes}
 use Rattle.proof_messages.specs.Numbers.{IsNonce, HasGiven, with_given, brought_by}
 use Rattle.proof_messages.specs.Payloads.{IsSealed}

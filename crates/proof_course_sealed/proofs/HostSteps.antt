@@ -14,7 +14,7 @@ use Rattle.host_model.specs.Outs.{outs}
 use Rattle.host_model.specs.Did.{after_all, outs_all}
 use Rattle.host_model.specs.May.{May}
 use Rattle.host_model.specs.Events.{HostEvent, Starts, Begins}
-use Rattle.proof_serial.specs.Line.{host_units}
+use Rattle.proof_course_plain.specs.proof_serial.Line.{host_units}
 use Rattle.proof_course_plain.specs.Told.{HasPast}
 use Rattle.proof_course_plain.specs.HostGoing.{IsNoBegin, AllWell}
 use Rattle.proof_course_plain.proofs.ThinnedWays.{goes_nowhere as sessions_nowhere}

@@ -30,7 +30,7 @@ use Rattle.device_kinds.specs.Sealing.{keys_of, sealed_text}
 use Rattle.device_stack.specs.Ticking.{ticked, woken, set_by_hand}
 use Rattle.device_sim.specs.State.{State, host_node}
 use Rattle.device_sim.specs.Event.{DeviceEvent, Hears, Ticks, Wakes, Sets, outcome_of, device_after, device_replies}
-use Rattle.proof_device.specs.GoingOn.{IsSame}
+use Rattle.proof_course_plain.specs.proof_device.GoingOn.{IsSame}
 use Rattle.proof_messages.specs.Ending.{HasEnded}
 use Rattle.proof_messages.specs.Asking.{verdict_on, MakesOnly, IsLeft, Follows}
 use Rattle.proof_messages.specs.Landing.{LandsAs}
@@ -46,7 +46,7 @@ use Rattle.proof_course_sealed.specs.Courses.{Courses, HasSeen}
 use Rattle.proof_course_sealed.specs.Meaning.{Past}
 use Rattle.proof_course_sealed.specs.Lock.{IsUnsaid, AtLock}
 use Rattle.proof_course_sealed.specs.Device.{Gives, given_by, with_more}
-use Rattle.proof_serial.proofs.Outer.{wrong as not_true}
+use Rattle.proof_course_plain.proofs.proof_serial_Outer.{wrong as not_true}
 
 -- ---- the laws of devices, of messages and of each end's nonces
 

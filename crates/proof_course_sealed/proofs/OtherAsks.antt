@@ -11,7 +11,7 @@ use Rattle.host_requests.specs.Events.RequestsEvent.{Pushes}
 use Rattle.host_model.specs.Events.{HostEvent, Accepts, Queues, Requests_do, Finishes, Offers, Gives, Spends, Spends_unread, Takes_nonce, Resends}
 use Rattle.world_model.specs.State.{Machine}
 use Rattle.world_model.specs.Events.{Event, Host_does}
-use Rattle.proof_serial.specs.Line.{AreLines}
+use Rattle.proof_course_plain.specs.proof_serial.Line.{AreLines}
 use Rattle.proof_course_plain.specs.World.{NamesEnd, IsAskedTask, PushesNone, IsOfLine, ComesOfLine}
 use Rattle.proof_course_plain.proofs.HeardPayloads.{lines_end}
 use Rattle.proof_course_sealed.specs.Meaning.{IsNeither}

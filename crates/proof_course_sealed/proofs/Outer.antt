@@ -36,10 +36,10 @@ use Rattle.outside_model.specs.Chip.{chip_does, chip_takes, MayTake}
 use Rattle.outside_model.specs.Events.{has_entered}
 use Rattle.proof_course_plain.specs.OutsideTraffic.{one_outward, outward}
 use Rattle.proof_course_plain.specs.OnAir.{IsFew, StaysFew, fed_chip}
-use Rattle.proof_serial.specs.Way.{Carries}
-use Rattle.proof_serial.specs.Chip.{HasFrames, ChipDoes}
-use Rattle.proof_serial.proofs.Ways.{carries_left}
-use Rattle.proof_serial.proofs.ChipWays.{does_one, does_each}
+use Rattle.proof_course_plain.specs.proof_serial.Way.{Carries}
+use Rattle.proof_course_plain.specs.proof_serial.Chip.{HasFrames, ChipDoes}
+use Rattle.proof_course_plain.proofs.Ways.{carries_left}
+use Rattle.proof_course_plain.proofs.ChipWays.{does_one, does_each}
 use Rattle.proof_course_plain.specs.Ways.{Beside, Thinned}
 use Rattle.proof_course_plain.specs.Mesh.{labels}
 use Rattle.proof_course_plain.specs.Lines.{ItemIs, OnWay}

@@ -34,9 +34,9 @@ use Rattle.outside_model.specs.Devices.{acts_at, acts_by_hand, device_set, set_b
 use Rattle.outside_model.specs.State.{OuterState, Outside, outside, with_chip, each, first_outer}
 use Rattle.outside_model.specs.Events.{OuterEvent, Begins_line, Begins_tick, Host_writes, Host_takes as host_takes, Host_notes, Host_begins, Chip_takes, Arrives, Gives, Device_ticks, Chip_ticks, Repeats, Wakes_device, Sets_device, Shows, Joins, Discovers, Links, Loses, Loses_acks, Marks_loss, Marks_change, Clears_pipe, Collides_next, Stalls, Cuts, is_own, outcome, devices_after, happens, repeats, devices_repeated, mesh_of, May, MayRepeat, with_way, way_of}
 use Rattle.proof_course_plain.specs.OnAir.{OuterStaysFew}
-use Rattle.proof_serial.specs.Way.{Carries}
-use Rattle.proof_serial.proofs.Ways.{carries_none}
-use Rattle.proof_device.proofs.ChangesOutside.{place_is}
+use Rattle.proof_course_plain.specs.proof_serial.Way.{Carries}
+use Rattle.proof_course_plain.proofs.Ways.{carries_none}
+use Rattle.proof_course_plain.proofs.ChangesOutside.{place_is}
 use Rattle.proof_course_plain.specs.Ways.{Thinned}
 use Rattle.proof_course_plain.specs.Making.{Makes, AllMake, HearsNone}
 use Rattle.proof_course_plain.specs.Mesh.{labels, brought}

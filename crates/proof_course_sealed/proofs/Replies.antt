@@ -24,7 +24,7 @@ use Rattle.proof_course_plain.specs.Ways.{Goes}
 use Rattle.proof_course_plain.specs.Device.{IsIdle, finishes}
 use Rattle.proof_course_plain.proofs.MadeSettings.{get_other}
 use Rattle.proof_course_plain.proofs.Idle.{others_set}
-use Rattle.proof_device.proofs.ChangesOutside.{place_set, get_set}
+use Rattle.proof_course_plain.proofs.ChangesOutside.{place_set, get_set}
 use Rattle.proof_course_plain.proofs.Replies.{nodes_set}
 use Rattle.proof_course_plain.proofs.ThinnedWays.{goes_on as sessions_on, goes_once}
 use Rattle.proof_course_sealed.specs.Labels.{Held, Sealed, Offer, Reports, Shows, Up, Of_host, Down, Of_node, as_session, as_node, as_host}

@@ -15,12 +15,12 @@ use Rattle.host_requests.specs.declared.task.Task.{Task}
 use Rattle.host_model.specs.State.{HostState, node_of, first_host}
 use Rattle.host_model.specs.Restoring.{restored, ending}
 use Rattle.host_model.specs.Opening.{restored_all}
-use Rattle.proof_host.specs.Facts.{Facts, StartsAs}
-use Rattle.proof_host.specs.Tables.{recorded}
+use Rattle.proof_course_plain.specs.proof_host.Facts.{Facts, StartsAs}
+use Rattle.proof_course_plain.specs.proof_host.Tables.{recorded}
 use Rattle.world_model.specs.State.{Machine}
 use Rattle.world_model.specs.Events.{Restarts, OpensFrom, May, happens}
 use Rattle.outside_model.specs.Events.{mesh_of}
-use Rattle.proof_serial.specs.Way.{Carries, items_all}
+use Rattle.proof_course_plain.specs.proof_serial.Way.{Carries, items_all}
 use Rattle.proof_course_plain.specs.Restarts.{IsHeld}
 use Rattle.proof_course_plain.specs.Ways.{Beside, Thinned}
 use Rattle.proof_course_plain.specs.Lines.{Later, OnWay, own_frames}

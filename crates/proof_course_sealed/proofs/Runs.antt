@@ -17,14 +17,14 @@ use Rattle.host_node.specs.Events.NodeEvent.{Joins, Interviews}
 use Rattle.host_node.specs.TableState.{unknown_nodes, unknown_from}
 use Rattle.host_model.specs.State.{HostState, first_nodes, first_classes, first_host, node_of}
 use Rattle.host_model.specs.After.{node_does}
-use Rattle.proof_host.specs.Facts.{Facts}
+use Rattle.proof_course_plain.specs.proof_host.Facts.{Facts}
 use Rattle.outside_model.specs.State.{outside, first_outer}
 use Rattle.proof_course_plain.specs.OutsideTraffic.{AreNodes}
 use Rattle.world_model.specs.State.{Machine, first_machine}
 use Rattle.world_model.specs.Events.{Event}
 use Rattle.world_model.specs.Did.{happens_all, MayAll}
-use Rattle.proof_serial.specs.Line.{AllWriteWell, AllAtRest, AreLines, Stays}
-use Rattle.proof_serial.specs.Host.{AllAskWell}
+use Rattle.proof_course_plain.specs.proof_serial.Line.{AllWriteWell, AllAtRest, AreLines, Stays}
+use Rattle.proof_course_plain.specs.proof_serial.Host.{AllAskWell}
 use Rattle.proof_course_plain.specs.Restarts.{AllKeepWell, BeginsEmpty, IsHeld}
 use Rattle.proof_course_plain.specs.OnAir.{AlwaysFew}
 use Rattle.proof_course_plain.specs.Truly.{AreTrue}

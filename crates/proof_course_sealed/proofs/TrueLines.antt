@@ -14,8 +14,8 @@ use Rattle.host_model.specs.Taking.{AreJudged}
 use Rattle.world_model.specs.State.{Machine}
 use Rattle.world_model.specs.Events.{Event, Host_does, Host_takes, MayTake, May, happens}
 use Rattle.world_model.specs.Did.{MayAll}
-use Rattle.proof_serial.specs.Line.{host_units, WritesWell, AllWriteWell, AllAtRest}
-use Rattle.proof_serial.proofs.Ways.{carries_left}
+use Rattle.proof_course_plain.specs.proof_serial.Line.{host_units, WritesWell, AllWriteWell, AllAtRest}
+use Rattle.proof_course_plain.proofs.Ways.{carries_left}
 use Rattle.proof_course_plain.specs.Restarts.{AllKeepWell, IsHeld}
 use Rattle.proof_course_plain.specs.OnAir.{AlwaysFew}
 use Rattle.proof_course_plain.specs.Truly.{TellTruly, IsTrue, AreTrue}

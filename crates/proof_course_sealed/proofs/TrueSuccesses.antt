@@ -32,7 +32,7 @@ use Rattle.proof_course_plain.specs.Told.{HasPast}
 use Rattle.proof_course_plain.specs.HostGoing.{EndsNone, AllWell}
 use Rattle.proof_course_plain.proofs.HostItems.{well_prefix, told_same}
 use Rattle.proof_course_plain.proofs.Taken.{changes_taken}
-use Rattle.proof_device.proofs.ChangesOutside.{place_is}
+use Rattle.proof_course_plain.proofs.ChangesOutside.{place_is}
 use Rattle.world_model.proofs.Hosting.{routed_still}
 use Rattle.proof_course_plain.proofs.TrueSuccesses.{Judged, got_has, none_true, true-append, final_works}
 use Rattle.proof_course_sealed.specs.Labels.{Said, Late, Reports, Shows, picked, report_of}

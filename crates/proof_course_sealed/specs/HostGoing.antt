@@ -7,8 +7,8 @@ use Rattle.host_model.specs.State.{HostState}
 use Rattle.host_model.specs.Events.{HostEvent, Finishes, Offers, Gives, Spends, Spends_unread, Takes_nonce, Resends}
 use Rattle.outside_model.specs.State.{Outside}
 use Rattle.outside_model.specs.Events.{mesh_of}
-use Rattle.proof_serial.specs.Way.{Carries}
-use Rattle.proof_serial.specs.Chip.{HasFrames}
+use Rattle.proof_course_plain.specs.proof_serial.Way.{Carries}
+use Rattle.proof_course_plain.specs.proof_serial.Chip.{HasFrames}
 use Rattle.proof_course_plain.specs.Lines.{OnWay}
 use Rattle.proof_course_plain.specs.Tied.{AreOutcomes}
 use Rattle.proof_course_sealed.specs.Labels.{Sent, Late}

@@ -6,8 +6,8 @@ use Rattle.serial_link.specs.declared.turn.Turn.{Turn}
 use Rattle.chip_sim.specs.Rules.{WaitsWell}
 use Rattle.outside_model.specs.State.{Outside}
 use Rattle.outside_model.specs.Events.{mesh_of}
-use Rattle.proof_serial.specs.Way.{Carries}
-use Rattle.proof_serial.specs.Chip.{HasFrames}
+use Rattle.proof_course_plain.specs.proof_serial.Way.{Carries}
+use Rattle.proof_course_plain.specs.proof_serial.Chip.{HasFrames}
 use Rattle.proof_course_plain.specs.Lines.{OnWay}
 use Rattle.proof_course_sealed.specs.Labels.{Sent, Late}
 use Rattle.proof_course_sealed.specs.Courses.{Courses, CoursesGo, GoUp, GoDown, SameBooks}

@@ -15,7 +15,7 @@ ghost use Rattle.host_model.specs.Did.{after_all, outs_all};
 ghost use Rattle.host_model.specs.May.{May};
 ghost use Rattle.host_model.specs.Taking.{AreJudged};
 ghost use Rattle.host_model.specs.Events.{HostEvent};
-ghost use Rattle.proof_serial.specs.Line.{host_units};
+ghost use Rattle.proof_course_plain.specs.proof_serial.Line.{host_units};
 ghost use Rattle.proof_course_plain.specs.Truly.{TellTruly};
 ghost use Rattle.proof_course_plain.specs.Told.{HasPast};
 ghost use Rattle.proof_course_plain.specs.HostGoing.{AllWell};
@@ -30,8 +30,8 @@ use proof_course::{
     courses_keep_facts, first_bytes_name_one_of_the_host, first_bytes_name_one_of_the_node,
     ids_name_one_session, nonces_of_nodes_keep_facts, nonces_of_the_host_keep_facts,
 };
+use proof_course_plain::host_proofs::{events_keep_facts, laws_follow, what_is_over_stays};
 use proof_course_plain::traffic::frames_fly_in_order;
-use proof_host::{events_keep_facts, laws_follow, what_is_over_stays};
 use proof_messages::{
     accounts_give_as_the_courses_do, hosts_leave_nonces, hosts_open_what_was_sealed,
     hosts_seal_what_waits, messages_do_what_is_asked, others_are_no_messages,

@@ -9,8 +9,8 @@ ghost use Rattle.device_sim.specs.State.{State};
 ghost use Rattle.world_model.specs.State.{Machine, first_machine};
 ghost use Rattle.world_model.specs.Events.{Event, May, happens};
 ghost use Rattle.world_model.specs.Did.{happens_all, MayAll};
-ghost use Rattle.proof_serial.specs.Line.{WritesWell, AllWriteWell, IsAtRest, AllAtRest, AreLines};
-ghost use Rattle.proof_serial.specs.Host.{AllAskWell};
+ghost use Rattle.proof_course_plain.specs.proof_serial.Line.{WritesWell, AllWriteWell, IsAtRest, AllAtRest, AreLines};
+ghost use Rattle.proof_course_plain.specs.proof_serial.Host.{AllAskWell};
 ghost use Rattle.proof_course_plain.specs.Restarts.{KeepsWell, AllKeepWell, BeginsEmpty, IsHeld};
 ghost use Rattle.proof_course_plain.specs.OnAir.{EventStaysFew, AlwaysFew};
 ghost use Rattle.proof_course_plain.specs.Truly.{IsTrue, AreTrue};
@@ -29,16 +29,16 @@ use proof_course::{
     courses_keep_facts, nonces_of_nodes_keep_facts, nonces_of_the_host_keep_facts,
     what_is_told_was_done,
 };
-use proof_course_plain::lines_ask_plainly;
-use proof_course_plain::traffic::at_most_two_are_on_the_air;
-use proof_course_plain::worlds::restarts_go_on;
-use proof_host::{
+use proof_course_plain::host_proofs::{
     events_keep_facts, first_facts_hold, laws_follow, restarts_keep_facts, what_is_over_stays,
 };
+use proof_course_plain::lines_ask_plainly;
+use proof_course_plain::serial::{hosts_write_well, units_are_judged_whole};
+use proof_course_plain::traffic::at_most_two_are_on_the_air;
+use proof_course_plain::worlds::restarts_go_on;
 use proof_messages::{
     accounts_give_as_the_courses_do, others_are_no_messages, others_carry_no_nonce,
 };
-use proof_serial::{hosts_write_well, units_are_judged_whole};
 
 /// Every event of the whole machine makes steps of the courses of a lock, and so do events one after another; and each success that the
 /// host is told of it is true at the moment it is told. Where the host starts again, the keeper tells its records, and they are those of

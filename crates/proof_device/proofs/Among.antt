@@ -3,10 +3,10 @@ use Rattle.std.proofs.Common.{◌≡◌, ℕ, zero, suc, inl, inr, List, [], ◌
 use Rattle.std.specs.Prelude.{slice_set}
 use Rattle.std.specs.List.{AllByRecursion, flat_map}
 use Rattle.std.proofs.lemmas.Grind.{flat_map-append}
-use Rattle.device_kinds.specs.declared.change.Change.{Change}
+use Rattle.law_transcript.specs.device_kinds.declared.change.Change.{Change}
 use Rattle.device_sim.specs.State.{State}
 use Rattle.device_sim.specs.Event.{DeviceEvent, device_after}
-use Rattle.outside_model.specs.Devices.{new_changes}
+use Rattle.world_model.specs.outside_model.Devices.{new_changes}
 use Rattle.zw_text.specs.declared.entry.Entry.{Entry}
 use Rattle.zw_text.specs.Transcript.{Made, made}
 use Rattle.world_model.specs.State.{Machine}

@@ -11,7 +11,7 @@ use Rattle.zw_base.specs.declared.property.By.{By}
 use Rattle.zw_text.specs.declared.entry.Entry.TheVariants as entry
 use Rattle.zw_text.specs.Transcript.{Made, made, where_same}
 use Rattle.route_table.specs.declared.route.Route.{Route}
-use Rattle.device_kinds.specs.declared.change.Change.{Change}
+use Rattle.law_transcript.specs.device_kinds.declared.change.Change.{Change}
 use Rattle.device_sim.specs.State.{State}
 use Rattle.device_sim.specs.Event.{DeviceEvent, device_after, device_replies}
 use Rattle.air_frames.specs.declared.frame.Heading.{Heading}
@@ -23,10 +23,10 @@ use Rattle.mesh_sim.specs.Air.{AirState, is_joined, departing}
 use Rattle.mesh_sim.specs.Fates.{place_of, is_awake, awake_at, listener_of, fate_by}
 use Rattle.mesh_sim.specs.Routes.{backwards}
 use Rattle.mesh_sim.specs.Steps.{changed, answers as air_answers, answers_if, outs_hearing}
-use Rattle.outside_model.specs.State.{OuterState, each}
-use Rattle.outside_model.specs.Air.{change_entries, change_at, deals}
-use Rattle.outside_model.specs.Results.{device_at}
-use Rattle.outside_model.specs.Devices.{changes_entries, new_changes, sends, acts}
+use Rattle.world_model.specs.outside_model.State.{OuterState, each}
+use Rattle.world_model.specs.outside_model.Air.{change_entries, change_at, deals}
+use Rattle.world_model.specs.outside_model.Results.{device_at}
+use Rattle.world_model.specs.outside_model.Devices.{changes_entries, new_changes, sends, acts}
 use Rattle.law_transcript.specs.Devices.{made_by}
 use Rattle.proof_device.proofs.KeptKinds.{event_same}
 use Rattle.proof_device.proofs.Others.{to_chip_other, ends_other, sends_other, none_made, made_both}

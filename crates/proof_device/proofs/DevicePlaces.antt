@@ -5,12 +5,12 @@ use Rattle.device_sim.specs.State.{State}
 use Rattle.device_sim.specs.Event.{DeviceEvent, device_after}
 use Rattle.device_sim.specs.Laws.{IsInOrder}
 use Rattle.law_transcript.specs.Devices.{after_events}
-use Rattle.outside_model.specs.State.{Outside}
+use Rattle.world_model.specs.outside_model.State.{Outside}
 use Rattle.zw_text.specs.declared.entry.Entry.TheVariants.{Refused}
-use Rattle.host_model.specs.Did.{outs_all}
-use Rattle.host_model.specs.Outs.{answers}
-use Rattle.outside_model.specs.Events.{OuterEvent, Host_takes as host_takes, Host_notes, happens as happens_outside}
-use Rattle.outside_model.specs.Did.{happens_all as happens_all_outside}
+use Rattle.world_model.specs.host_model.Did.{outs_all}
+use Rattle.world_model.specs.host_model.Outs.{answers}
+use Rattle.world_model.specs.outside_model.Events.{OuterEvent, Host_takes as host_takes, Host_notes, happens as happens_outside}
+use Rattle.world_model.specs.outside_model.Did.{happens_all as happens_all_outside}
 use Rattle.world_model.specs.State.{Machine, routed}
 use Rattle.world_model.specs.Events.{Event, Outside_does, Host_does, Host_takes, Decoder_ticks, Refuses, Shows_values, Restarts, notes, shown_values, happens}
 use Rattle.world_model.specs.Did.{happens_all}

@@ -9,14 +9,14 @@ use Rattle.serial_pipes.specs.State.{fits, garbled}
 use Rattle.serial_pipes.specs.Events.{told_by}
 use Rattle.serial_pipes.specs.declared.marks.Mark.{Mark}
 use Rattle.serial_pipes.specs.declared.marks.Mark.TheVariants.{Free, Lost, Changed}
-use Rattle.device_kinds.specs.declared.change.Change.{Change}
+use Rattle.law_transcript.specs.device_kinds.declared.change.Change.{Change}
 use Rattle.device_sim.specs.State.{State}
 use Rattle.zw_words.specs.declared.side.Side.{Side}
 use Rattle.zw_text.specs.declared.entry.Entry.{Entry}
 use Rattle.zw_text.specs.declared.entry.Entry.TheVariants as entry
-use Rattle.outside_model.specs.Air.{change_entries}
-use Rattle.outside_model.specs.Devices.{changes_entries, shown_entries}
-use Rattle.outside_model.specs.Events.{cleared_entries}
+use Rattle.world_model.specs.outside_model.Air.{change_entries}
+use Rattle.world_model.specs.outside_model.Devices.{changes_entries, shown_entries}
+use Rattle.world_model.specs.outside_model.Events.{cleared_entries}
 
 -- ---- a unit
 

@@ -20,7 +20,7 @@ use Rattle.chip_sim.specs.Events.{ChipEvent, Heard as chip_hears, Ticked, after,
 use Rattle.chip_sim.specs.Did.{judged_all}
 use Rattle.chip_sim.specs.declared.out.ChipOut.{ChipOut}
 use Rattle.chip_sim.specs.declared.out.ChipOut.TheVariants.{Write, OnAir, NoRoute, AskInfo, Full}
-use Rattle.device_kinds.specs.declared.change.Change.{Change}
+use Rattle.law_transcript.specs.device_kinds.declared.change.Change.{Change}
 use Rattle.device_sim.specs.State.{State}
 use Rattle.device_sim.specs.Event.{DeviceEvent, Ticks, Wakes, Sets, device_after, device_replies}
 use Rattle.air_frames.specs.declared.ages.Refusal.{Refusal}
@@ -37,13 +37,13 @@ use Rattle.mesh_sim.specs.Steps as mesh
 use Rattle.zw_text.specs.declared.entry.Entry.{Entry}
 use Rattle.zw_text.specs.declared.entry.Entry.TheVariants as entry
 use Rattle.law_transcript.specs.Nodes.{controller}
-use Rattle.outside_model.specs.declared.waits.Due.{Due}
-use Rattle.outside_model.specs.State.{OuterState, Outside, Outcome, and_then, each, with_chip}
-use Rattle.outside_model.specs.Chip.{put_out, chip_does, chip_takes, chip_ticks}
-use Rattle.outside_model.specs.Results.{call_back, device_at, frame_ends, gives, leading, no_routes}
-use Rattle.outside_model.specs.Air.{change_at, change_entries, deals, sent_entries, to_chip}
-use Rattle.outside_model.specs.Devices.{acts, acts_at, acts_by_hand, changes_entries, new_changes, sends, shown_entries}
-use Rattle.outside_model.specs.Events.{OuterEvent, Host_writes, Host_takes, Host_notes, Chip_takes, Arrives, Gives, Device_ticks, Chip_ticks, Repeats, Wakes_device, Sets_device, Shows, Marks_loss, Marks_change, Clears_pipe, Stalls, Cuts, cleared_entries, is_own, mesh_of, outcome, repeats, stamp, steps, ticked_entry, way_of}
+use Rattle.world_model.specs.outside_model.declared.waits.Due.{Due}
+use Rattle.world_model.specs.outside_model.State.{OuterState, Outside, Outcome, and_then, each, with_chip}
+use Rattle.world_model.specs.outside_model.Chip.{put_out, chip_does, chip_takes, chip_ticks}
+use Rattle.world_model.specs.outside_model.Results.{call_back, device_at, frame_ends, gives, leading, no_routes}
+use Rattle.world_model.specs.outside_model.Air.{change_at, change_entries, deals, sent_entries, to_chip}
+use Rattle.world_model.specs.outside_model.Devices.{acts, acts_at, acts_by_hand, changes_entries, new_changes, sends, shown_entries}
+use Rattle.world_model.specs.outside_model.Events.{OuterEvent, Host_writes, Host_takes, Host_notes, Chip_takes, Arrives, Gives, Device_ticks, Chip_ticks, Repeats, Wakes_device, Sets_device, Shows, Marks_loss, Marks_change, Clears_pipe, Stalls, Cuts, cleared_entries, is_own, mesh_of, outcome, repeats, stamp, steps, ticked_entry, way_of}
 use Rattle.proof_device.proofs.Entered.{IsMark, told_by_marks, IsCleared, all_cleared, IsShown, all_shown}
 use Rattle.proof_device.proofs.Results.{Calls, calls_go, due_goes, end_goes, payload_goes}
 

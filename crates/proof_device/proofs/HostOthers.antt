@@ -5,16 +5,16 @@ use Rattle.serial_frame.specs.declared.unit.Unit.{Unit as LineUnit}
 use Rattle.serial_pipes.specs.Events.{told}
 use Rattle.zw_words.specs.declared.side.Side.TheVariants.{Host as by_host}
 use Rattle.zw_text.specs.declared.entry.Entry.{Entry}
-use Rattle.host_model.specs.State.{HostState}
-use Rattle.host_model.specs.Events.{HostEvent, Accepts}
-use Rattle.host_model.specs.Did.{outs_all}
-use Rattle.host_model.specs.declared.out.HostOut.{HostOut}
-use Rattle.host_model.specs.declared.out.HostOut.TheVariants.{Write, Note}
-use Rattle.host_model.specs.Outs.{answers}
-use Rattle.outside_model.specs.State.{Outside}
-use Rattle.outside_model.specs.Events.{Host_notes, Host_begins, Host_writes, happens, entries, outcome}
-use Rattle.outside_model.specs.Did.{happens_all, entries_all}
-use Rattle.outside_model.proofs.EventLists.{entries_all-append}
+use Rattle.world_model.specs.host_model.State.{HostState}
+use Rattle.world_model.specs.host_model.Events.{HostEvent, Accepts}
+use Rattle.world_model.specs.host_model.Did.{outs_all}
+use Rattle.world_model.specs.host_model.declared.out.HostOut.{HostOut}
+use Rattle.world_model.specs.host_model.declared.out.HostOut.TheVariants.{Write, Note}
+use Rattle.world_model.specs.host_model.Outs.{answers}
+use Rattle.world_model.specs.outside_model.State.{Outside}
+use Rattle.world_model.specs.outside_model.Events.{Host_notes, Host_begins, Host_writes, happens, entries, outcome}
+use Rattle.world_model.specs.outside_model.Did.{happens_all, entries_all}
+use Rattle.world_model.proofs.outside_model_EventLists.{entries_all-append}
 use Rattle.world_model.specs.State.{begun_in, noted_by, routed, routed_one}
 use Rattle.world_model.specs.Events.{notes}
 use Rattle.proof_device.proofs.Entering.{IsOfChip, stamp_are, told_of_chip}

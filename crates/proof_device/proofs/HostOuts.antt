@@ -14,27 +14,27 @@ use Rattle.serial_frame.specs.declared.item.Item.TheVariants.{Good, Refused}
 use Rattle.serial_frame.specs.declared.item.Refusal.TheVariants.{Stray, BadLength, BadSum, BadKind, Aborted}
 use Rattle.serial_frame.specs.declared.unit.Unit.TheVariants.{Ack, Nak, Can, Framed}
 use Rattle.serial_link.specs.State.{tick_side, copy_due}
-use Rattle.host_requests.specs.declared.end.End.{End}
-use Rattle.host_requests.specs.declared.end.How.{How}
-use Rattle.host_requests.specs.declared.end.How.TheVariants.{AtResponse}
-use Rattle.host_requests.specs.declared.task.Purpose.{Purpose}
-use Rattle.host_requests.specs.declared.task.Purpose.TheVariants.{Housekeeping, Attempt, Abort}
-use Rattle.host_requests.specs.declared.task.Task.{Task}
-use Rattle.host_requests.specs.declared.task.Task.TheVariants.{Plain, NoMore, Second, Neighbours, IsFailed}
-use Rattle.host_requests.specs.Events.{end_at}
-use Rattle.host_requests.specs.Events.RequestsEvent.{Fails as request_fails}
+use Rattle.world_model.specs.host_requests.declared.end.End.{End}
+use Rattle.world_model.specs.host_requests.declared.end.How.{How}
+use Rattle.world_model.specs.host_requests.declared.end.How.TheVariants.{AtResponse}
+use Rattle.world_model.specs.host_requests.declared.task.Purpose.{Purpose}
+use Rattle.world_model.specs.host_requests.declared.task.Purpose.TheVariants.{Housekeeping, Attempt, Abort}
+use Rattle.world_model.specs.host_requests.declared.task.Task.{Task}
+use Rattle.world_model.specs.host_requests.declared.task.Task.TheVariants.{Plain, NoMore, Second, Neighbours, IsFailed}
+use Rattle.world_model.specs.host_requests.Events.{end_at}
+use Rattle.world_model.specs.host_requests.Events.RequestsEvent.{Fails as request_fails}
 use Rattle.host_node.specs.Steps.{tick_end, attempt_end, falls_asleep}
 use Rattle.host_node.specs.declared.attempt.AttemptEnd.{AttemptEnd}
 use Rattle.host_node.specs.declared.attempt.AttemptEnd.TheVariants.{NoneRan, Again, Unanswered}
-use Rattle.host_model.specs.State.{HostState, node_of, command_at}
-use Rattle.host_model.specs.Sessions.{open_command, settings_with}
-use Rattle.host_model.specs.Ends.{PartEnd, Good as part_good, Passed_over, Bad, part_end, done_of, asleep_entry, out_entry, attempt_entries, part_entries, neighbours_entry, failed_entry, task_entries, end_entries, end_entries_if}
-use Rattle.host_model.specs.After.{after, requests_do, is_full, is_held, gives_up, line_ticked}
-use Rattle.host_model.specs.Outs.{answer_to, copy_out, noted, request_entries, failing_entries, dropped_if, stored_entries, held_entries, ended_of, outs, answers}
-use Rattle.host_model.specs.Events.{HostEvent, Accepts, Cancels, Hears, Requests_do, Interviews, Interview_unkept, Unreads, Is_unkept, Reports_old, Finishes, Offers, Gives, Spends_unread, Notifies, Resends, Hears_value, Has_no_room, Line_ticks, Node_ticks, Drops_no_more, Submits_abort, Submits_front, Starts, Gives_text, Gives_segment, Begins, Begin_unkept}
-use Rattle.host_model.specs.Did.{outs_all}
-use Rattle.host_model.specs.declared.out.HostOut.{HostOut}
-use Rattle.host_model.specs.declared.out.HostOut.TheVariants.{Write, Note}
+use Rattle.world_model.specs.host_model.State.{HostState, node_of, command_at}
+use Rattle.world_model.specs.host_model.Sessions.{open_command, settings_with}
+use Rattle.world_model.specs.host_model.Ends.{PartEnd, Good as part_good, Passed_over, Bad, part_end, done_of, asleep_entry, out_entry, attempt_entries, part_entries, neighbours_entry, failed_entry, task_entries, end_entries, end_entries_if}
+use Rattle.world_model.specs.host_model.After.{after, requests_do, is_full, is_held, gives_up, line_ticked}
+use Rattle.world_model.specs.host_model.Outs.{answer_to, copy_out, noted, request_entries, failing_entries, dropped_if, stored_entries, held_entries, ended_of, outs, answers}
+use Rattle.world_model.specs.host_model.Events.{HostEvent, Accepts, Cancels, Hears, Requests_do, Interviews, Interview_unkept, Unreads, Is_unkept, Reports_old, Finishes, Offers, Gives, Spends_unread, Notifies, Resends, Hears_value, Has_no_room, Line_ticks, Node_ticks, Drops_no_more, Submits_abort, Submits_front, Starts, Gives_text, Gives_segment, Begins, Begin_unkept}
+use Rattle.world_model.specs.host_model.Did.{outs_all}
+use Rattle.world_model.specs.host_model.declared.out.HostOut.{HostOut}
+use Rattle.world_model.specs.host_model.declared.out.HostOut.TheVariants.{Write, Note}
 
 -- its entry, where it is one, is so
 abbrev pub OutIs : (Entry → Type 0) → HostOut → Type 0

@@ -16,19 +16,19 @@ use Rattle.transport_segments.specs.Segment.{id_of}
 use Rattle.transport_segments.specs.Taking.{is_segment, ends_its_datagram, taken_at}
 use Rattle.transport_segments.specs.declared.assembler.Taken.{Taken as Segment}
 use Rattle.transport_segments.specs.declared.assembler.Taken.TheVariants.{Kept, Need, Whole}
-use Rattle.device_kinds.specs.declared.kind.Kind.{Kind}
-use Rattle.device_kinds.specs.declared.kind.Kind.TheVariants.{Relay, Switch, Dimmer, Lock, Sensor, Thermostat, Strip, Configurable}
-use Rattle.device_kinds.specs.declared.effect.Effect.{Effect}
-use Rattle.device_kinds.specs.declared.effect.Effect.TheVariants.{Ignores, Sleeps, Tells, Sets, Repeats, Takes}
-use Rattle.device_kinds.specs.declared.verdict.Verdict.{Verdict}
-use Rattle.device_kinds.specs.declared.verdict.Verdict.TheVariants.{NoSupport, Fails, Makes, Works}
-use Rattle.device_kinds.specs.Kind.{listens}
-use Rattle.device_stack.specs.State.{State, silent}
-use Rattle.device_kinds.specs.Sealing.{keys_of, unsealed_at}
-use Rattle.device_stack.specs.Effects.{effect_of, takes, after_effect}
-use Rattle.device_kinds.specs.Segments.{segment_session}
-use Rattle.device_stack.specs.Hearing.{Answered, answers, answers_opened, answers_bytes, hears_openly, nonce_named, sent_sealed, hears_inside, hears_plain, hears_for, hears_sealed, seals_for, hears_nonces, hears_securely, assembles, repeats_segment, hears_segment, hears_in_segments, hears_by, active, hears}
-use Rattle.device_stack.specs.Ticking.{aged, works_out, ticked, woken, set_by_hand}
+use Rattle.law_transcript.specs.device_kinds.declared.kind.Kind.{Kind}
+use Rattle.law_transcript.specs.device_kinds.declared.kind.Kind.TheVariants.{Relay, Switch, Dimmer, Lock, Sensor, Thermostat, Strip, Configurable}
+use Rattle.law_transcript.specs.device_kinds.declared.effect.Effect.{Effect}
+use Rattle.law_transcript.specs.device_kinds.declared.effect.Effect.TheVariants.{Ignores, Sleeps, Tells, Sets, Repeats, Takes}
+use Rattle.law_transcript.specs.device_kinds.declared.verdict.Verdict.{Verdict}
+use Rattle.law_transcript.specs.device_kinds.declared.verdict.Verdict.TheVariants.{NoSupport, Fails, Makes, Works}
+use Rattle.law_transcript.specs.device_kinds.Kind.{listens}
+use Rattle.law_transcript.specs.device_stack.State.{State, silent}
+use Rattle.law_transcript.specs.device_kinds.Sealing.{keys_of, unsealed_at}
+use Rattle.law_transcript.specs.device_stack.Effects.{effect_of, takes, after_effect}
+use Rattle.law_transcript.specs.device_kinds.Segments.{segment_session}
+use Rattle.law_transcript.specs.device_stack.Hearing.{Answered, answers, answers_opened, answers_bytes, hears_openly, nonce_named, sent_sealed, hears_inside, hears_plain, hears_for, hears_sealed, seals_for, hears_nonces, hears_securely, assembles, repeats_segment, hears_segment, hears_in_segments, hears_by, active, hears}
+use Rattle.law_transcript.specs.device_stack.Ticking.{aged, works_out, ticked, woken, set_by_hand}
 use Rattle.device_sim.specs.Event.{DeviceEvent, Hears, Ticks, Wakes, Sets as SetsByHand, outcome_of, device_after}
 use Rattle.proof_device.specs.GoingOn.{IsSame}
 

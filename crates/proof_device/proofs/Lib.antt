@@ -12,3 +12,8 @@ pub mod ChangesOutside
 pub mod Told
 pub mod ShownChanges
 mod Among
+pub use Rattle.world_model.proofs.EventLists
+pub use Rattle.world_model.proofs.outside_model_EventLists
+pub use Rattle.world_model.proofs.Pieces
+pub use Rattle.world_model.proofs.Along
+pub use Rattle.world_model.proofs.Hosting

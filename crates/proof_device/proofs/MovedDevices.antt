@@ -15,9 +15,9 @@ use Rattle.mesh_sim.specs.declared.fate.Fate.TheVariants.{Lost, Dead, Missed, At
 use Rattle.mesh_sim.specs.Fates.{Mesh, place_of, listener_of, fate_of}
 use Rattle.mesh_sim.specs.Steps.{heard_at, heard_again, landed, acknowledged, arriving_as, arriving, repeating_by, repeating, mesh_after}
 use Rattle.mesh_sim.specs.Steps as mesh
-use Rattle.outside_model.specs.State.{Outside}
-use Rattle.outside_model.specs.Devices.{device_set, set_by_hand}
-use Rattle.outside_model.specs.Events.{OuterEvent, Arrives, Device_ticks, Repeats, Wakes_device, Sets_device, mesh_of, devices_repeated, devices_after}
+use Rattle.world_model.specs.outside_model.State.{Outside}
+use Rattle.world_model.specs.outside_model.Devices.{device_set, set_by_hand}
+use Rattle.world_model.specs.outside_model.Events.{OuterEvent, Arrives, Device_ticks, Repeats, Wakes_device, Sets_device, mesh_of, devices_repeated, devices_after}
 use Rattle.proof_device.specs.GoingOn.{MovesOne}
 
 stays : (devices : List State) → MovesOne devices devices

@@ -13,11 +13,11 @@ use Rattle.mesh_sim.specs.Routes.{backwards}
 use Rattle.mesh_sim.specs.Steps.{answers_if}
 use Rattle.mesh_sim.specs.declared.event.AirEvent.{AirEvent}
 use Rattle.mesh_sim.specs.declared.event.AirEvent.TheVariants as air_event
-use Rattle.outside_model.specs.State.{OuterState, Outside}
-use Rattle.outside_model.specs.Results.{frame_ends}
-use Rattle.outside_model.specs.Air.{to_chip, sent_entries}
-use Rattle.outside_model.specs.Devices.{sends}
-use Rattle.outside_model.specs.Events.{OuterEvent, outcome, stamp, ticked_entry}
+use Rattle.world_model.specs.outside_model.State.{OuterState, Outside}
+use Rattle.world_model.specs.outside_model.Results.{frame_ends}
+use Rattle.world_model.specs.outside_model.Air.{to_chip, sent_entries}
+use Rattle.world_model.specs.outside_model.Devices.{sends}
+use Rattle.world_model.specs.outside_model.Events.{OuterEvent, outcome, stamp, ticked_entry}
 use Rattle.proof_device.proofs.Entering.{Acts, Enters, IsOfChip, IsOfEnd, NotesNone, chip_of_end, ends_of_end, flat_are, number_are, outcome_enters, payload_of_chip}
 
 -- an entry that is no `dev`

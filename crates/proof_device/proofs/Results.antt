@@ -11,12 +11,12 @@ use Rattle.chip_functions.specs.declared.notice.TransmitStatus.TheVariants.{Fail
 use Rattle.chip_sim.specs.Events.{ChipEvent, Done, Heard as chip_hears, Informed, Forgets, after}
 use Rattle.device_sim.specs.State.{State}
 use Rattle.zw_text.specs.declared.entry.Entry.TheVariants as entry
-use Rattle.outside_model.specs.declared.waits.Due.{Due}
-use Rattle.outside_model.specs.declared.waits.Due.TheVariants.{Info, NoRoute as no_route_due}
-use Rattle.outside_model.specs.State.{OuterState, Outcome, silent, tells, and_then, with_chip}
-use Rattle.outside_model.specs.Chip.{chip_does}
-use Rattle.outside_model.specs.Results.{owes_call, call_back, no_route, no_routes, leading, forgets, frame_ends, gives, without_no_route, profile_for}
-use Rattle.outside_model.specs.Air.{to_chip}
+use Rattle.world_model.specs.outside_model.declared.waits.Due.{Due}
+use Rattle.world_model.specs.outside_model.declared.waits.Due.TheVariants.{Info, NoRoute as no_route_due}
+use Rattle.world_model.specs.outside_model.State.{OuterState, Outcome, silent, tells, and_then, with_chip}
+use Rattle.world_model.specs.outside_model.Chip.{chip_does}
+use Rattle.world_model.specs.outside_model.Results.{owes_call, call_back, no_route, no_routes, leading, forgets, frame_ends, gives, without_no_route, profile_for}
+use Rattle.world_model.specs.outside_model.Air.{to_chip}
 
 -- only what the chip waits for is another
 pub record IsSameChip (old new : OuterState) : Type 0 where

@@ -12,16 +12,16 @@ use Rattle.zw_base.specs.declared.property.Setting.{Setting}
 use Rattle.zw_text.specs.declared.entry.Entry.{Entry}
 use Rattle.zw_text.specs.declared.entry.Entry.TheVariants.{Refused}
 use Rattle.zw_text.specs.Transcript.{Made, made, applied, by_session}
-use Rattle.device_kinds.specs.declared.change.Change.{Change}
+use Rattle.law_transcript.specs.device_kinds.declared.change.Change.{Change}
 use Rattle.device_sim.specs.State.{State}
 use Rattle.device_sim.specs.Event.{DeviceEvent, Hears, Ticks, Wakes, Sets, device_after}
 use Rattle.device_sim.specs.Laws.{IsHeard, IsTicked, IsChanged, IsMade}
-use Rattle.device_kinds.specs.declared.verdict.Verdict.{Verdict}
-use Rattle.device_kinds.specs.declared.verdict.Verdict.TheVariants.{NoSupport, Fails, Makes, Works}
-use Rattle.host_model.specs.Did.{outs_all}
-use Rattle.outside_model.specs.State.{Outside}
-use Rattle.outside_model.specs.Devices.{new_changes}
-use Rattle.outside_model.specs.Events.{Host_takes as host_takes, Host_notes, devices_after, happens as happens_outside, entries as entries_outside}
+use Rattle.law_transcript.specs.device_kinds.declared.verdict.Verdict.{Verdict}
+use Rattle.law_transcript.specs.device_kinds.declared.verdict.Verdict.TheVariants.{NoSupport, Fails, Makes, Works}
+use Rattle.world_model.specs.host_model.Did.{outs_all}
+use Rattle.world_model.specs.outside_model.State.{Outside}
+use Rattle.world_model.specs.outside_model.Devices.{new_changes}
+use Rattle.world_model.specs.outside_model.Events.{Host_takes as host_takes, Host_notes, devices_after, happens as happens_outside, entries as entries_outside}
 use Rattle.world_model.specs.State.{Machine, host_does, host_entries}
 use Rattle.world_model.specs.Events.{Event, Outside_does, Host_does, Host_takes, Decoder_ticks, Refuses, Shows_values, Restarts, answer_entries, fed, shown_values, happens, entries, May}
 use Rattle.world_model.proofs.Hosting.{routed_still, devices_host-all}

@@ -21,9 +21,9 @@ use Rattle.mesh_sim.specs.declared.event.AirEvent.TheVariants as air_event
 use Rattle.mesh_sim.specs.Fates.{Mesh, place_of, listener_of, fate_of, dead_hop_of}
 use Rattle.mesh_sim.specs.Steps.{AirStep, done_of, status_of, heard_at, outs_at, landed, acknowledged, arriving_as, arriving, arrival_outs_as, arrival_outs, heard_again, outs_again, repeating_by, repeating, repeat_outs_by, repeat_outs, mesh_after, mesh_outs}
 use Rattle.mesh_sim.specs.Steps as mesh
-use Rattle.outside_model.specs.State.{OuterState, Outside}
-use Rattle.outside_model.specs.Devices.{acts_at, device_set, acts_by_hand, set_by_hand}
-use Rattle.outside_model.specs.Events.{OuterEvent, Host_notes, Arrives, Device_ticks, Repeats, Wakes_device, Sets_device, is_own, mesh_of, steps, repeats, devices_repeated, outcome, devices_after, entries}
+use Rattle.world_model.specs.outside_model.State.{OuterState, Outside}
+use Rattle.world_model.specs.outside_model.Devices.{acts_at, device_set, acts_by_hand, set_by_hand}
+use Rattle.world_model.specs.outside_model.Events.{OuterEvent, Host_notes, Arrives, Device_ticks, Repeats, Wakes_device, Sets_device, is_own, mesh_of, steps, repeats, devices_repeated, outcome, devices_after, entries}
 use Rattle.proof_device.proofs.Others.{Others, none_made, made_stamped, outcome_other}
 use Rattle.proof_device.proofs.ChangesOutside.{TellsOne, tells_as, acts_told, of_event, each_made, hearing_told, Grows, listener_is, fate_listens}
 

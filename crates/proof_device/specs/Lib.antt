@@ -1,2 +1,6 @@
 pub mod GoingOn
 pub mod Showing
+pub use Rattle.device_sim.specs as device_sim
+pub use Rattle.mesh_sim.specs as mesh_sim
+pub use Rattle.world_model.specs.outside_model as outside_model
+pub use Rattle.world_model.specs as world_model

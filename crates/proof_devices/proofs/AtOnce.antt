@@ -17,7 +17,7 @@ use Rattle.outside_model.specs.Events.{stamp, ticked_entry}
 use Rattle.world_model.specs.State.{Machine}
 use Rattle.world_model.specs.Events.{Event, entries, May}
 use Rattle.proof_host.proofs.Lists.{each-append}
-use Rattle.proof_walk.specs.Outside.{nothing}
+use Rattle.proof_air.specs.proof_walk.Outside.{nothing}
 use Rattle.proof_device.specs.GoingOn.{GoOn}
 use Rattle.proof_device.proofs.DevicePlaces.{go_same}
 use Rattle.proof_air.specs.Logs.{Tie as TieAir}

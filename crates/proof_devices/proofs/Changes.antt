@@ -14,8 +14,8 @@ use Rattle.proof_device.specs.Showing.{AllShow, AreApart, Shows}
 use Rattle.proof_device.proofs.DevicePlaces.{go_none, go_then, go_same, machine_goes}
 use Rattle.proof_device.proofs.ShownChanges.{show_none, show_then}
 use Rattle.proof_device.proofs.ShownChanges.{stays_apart}
-use Rattle.proof_walk.specs.Phases.{Phase, Between, Said_line, Goes}
-use Rattle.proof_walk.specs.Walk.{Walk}
+use Rattle.proof_air.specs.proof_walk.Phases.{Phase, Between, Said_line, Goes}
+use Rattle.proof_air.specs.proof_walk.Walk.{Walk}
 use Rattle.proof_devices.specs.Living.{MayAny}
 use Rattle.proof_devices.proofs.Numbers.{each_any}
 

@@ -14,10 +14,10 @@ use Rattle.law_wire.specs.Asked.{clock_of, lines_before}
 use Rattle.outside_model.specs.State.{Outside}
 use Rattle.world_model.specs.State.{Machine}
 use Rattle.world_model.specs.Events.{Event, happens, entries, May}
-use Rattle.proof_walk.specs.Outside.{Moves, Link, CoversOuter, Known}
-use Rattle.proof_walk.proofs.Linking.{of_link}
-use Rattle.proof_walk.proofs.Machines.{machine_keeps}
-use Rattle.proof_walk.proofs.Untimed.{IsUntimed, AreUntimed, same_lines, untimed_law}
+use Rattle.proof_air.specs.proof_walk.Outside.{Moves, Link, CoversOuter, Known}
+use Rattle.proof_air.proofs.Linking.{of_link}
+use Rattle.proof_air.proofs.Machines.{machine_keeps}
+use Rattle.proof_air.proofs.Untimed.{IsUntimed, AreUntimed, same_lines, untimed_law}
 use Rattle.proof_air.proofs.SentBefore.{same_clock}
 use Rattle.proof_devices.specs.Living.{GoesWithin}
 use Rattle.proof_devices.proofs.Numbers.{hosts, number_is}

@@ -1,9 +1,9 @@
 -- What is known of the history of the air, of time and of the devices, as one walk, and what is known beside it.
 use Rattle.std.proofs.Common.{List}
 use Rattle.device_sim.specs.State.{State}
-use Rattle.proof_walk.specs.Time.{MayCount, KnowTime}
-use Rattle.proof_walk.specs.Walk.{Walk, WalkOver, both_know}
-use Rattle.proof_walk.proofs.Over.{over, beside}
+use Rattle.proof_air.specs.proof_walk.Time.{MayCount, KnowTime}
+use Rattle.proof_air.specs.proof_walk.Walk.{Walk, WalkOver, both_know}
+use Rattle.proof_air.proofs.Over.{over, beside}
 use Rattle.proof_air.specs.Hearing.{MayHear, KnowAir}
 use Rattle.proof_devices.specs.Living.{MayAny, KnowDevices}
 use Rattle.law_wire.specs.Routes.{MayGo}

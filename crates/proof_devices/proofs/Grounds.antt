@@ -8,8 +8,8 @@ use Rattle.zw_text.specs.declared.entry.Entry.TheVariants.{Said}
 use Rattle.zw_text.specs.Transcript.{line_last}
 use Rattle.world_model.specs.State.{Machine}
 use Rattle.world_model.specs.Events.{Event}
-use Rattle.proof_walk.specs.Phases.{Phase}
-use Rattle.proof_walk.proofs.ByLine.{last_is}
+use Rattle.proof_air.specs.proof_walk.Phases.{Phase}
+use Rattle.proof_air.proofs.ByLine.{last_is}
 use Rattle.proof_routes.specs.Knowing.{Else, IsPlain, Left, KnowNetworks}
 use Rattle.proof_devices.specs.Living.{Keeping, Simply, IsActing, ActsWith}
 use Rattle.proof_devices.proofs.Joined.{asleep_joins}

@@ -23,8 +23,8 @@ use Rattle.world_model.specs.Events.{Event, entries, May}
 use Rattle.world_model.specs.Did.{MayAll, entries_all}
 use Rattle.proof_device.specs.Showing.{AreApart}
 use Rattle.proof_device.proofs.DevicePlaces.{go_same}
-use Rattle.proof_walk.specs.Outside.{HasNoWords, nothing}
-use Rattle.proof_walk.specs.Phases.{Phase, Said_line, Begun, Doing, Ticked, Arriving, Giving, Ticking_devices}
+use Rattle.proof_air.specs.proof_walk.Outside.{HasNoWords, nothing}
+use Rattle.proof_air.specs.proof_walk.Phases.{Phase, Said_line, Begun, Doing, Ticked, Arriving, Giving, Ticking_devices}
 use Rattle.proof_air.specs.Logs.{Tie as TieAir}
 use Rattle.proof_devices.specs.Living.{Answers, InTick, Keeping, KnowLives, LivedWith, RestedWith, SayingWith, Tie, lived_in}
 use Rattle.proof_devices.proofs.Quiet.{AreQuiet, AreIdle, are_quiet, idle_quiet, number_idle, number_quiet, own_are_by, stamp_by}

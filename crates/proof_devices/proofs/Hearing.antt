@@ -38,7 +38,7 @@ use Rattle.law_transcript.specs.Restarts.{ticks_asked}
 use Rattle.outside_model.specs.State.{OuterState, Outside, each}
 use Rattle.outside_model.specs.Air.{deals, sent_entries}
 use Rattle.outside_model.specs.Events.{Arrives, Repeats, mesh_of, outcome, refusal_entries, repeats, devices_repeated, devices_after, entries, stamp, ticked_entry}
-use Rattle.proof_walk.specs.Outside.{nothing}
+use Rattle.proof_air.specs.proof_walk.Outside.{nothing}
 use Rattle.proof_device.proofs.ChangesOutside.{fate_home, fate_out, listener_is}
 use Rattle.proof_air.specs.Logs.{Tie as TieAir}
 use Rattle.proof_air.specs.Carrying.{IsHome}

@@ -15,8 +15,8 @@ use Rattle.law_transcript.specs.Restarts.{ticks_of, ticks_asked}
 use Rattle.law_transcript.specs.Devices.{ComingAt, coming_of, ticks_in, ticks_lived, comings, lived_by, brought_by, asked_by, brought_at, brought, brought_unjoined_at, lines_unjoined_at, events_unjoined}
 use Rattle.law_transcript.specs.Repeats.{frame_of}
 use Rattle.law_transcript.proofs.Comings.{came_after}
-use Rattle.proof_walk.proofs.Clock.{asked-append}
-use Rattle.proof_walk.proofs.Shown.{shown_both}
+use Rattle.proof_air.proofs.Clock.{asked-append}
+use Rattle.proof_air.proofs.Shown.{shown_both}
 use Rattle.proof_devices.proofs.Quiet.{IsQuiet, AreQuiet}
 use Rattle.proof_devices.proofs.Shown.{quiet_at}
 

@@ -16,11 +16,11 @@ use Rattle.world_lines.specs.Whole.{AreWhole}
 use Rattle.proof_device.specs.GoingOn.{AreSame, GoOn}
 use Rattle.proof_device.specs.Showing.{AreApart}
 use Rattle.proof_device.proofs.DevicePlaces.{go_none, go_same, go_then, run_goes}
-use Rattle.proof_walk.specs.Phases.{Phase, Between, Said_line}
-use Rattle.proof_walk.specs.Walk.{Walk}
-use Rattle.proof_walk.proofs.Alone.{all_wordless}
-use Rattle.proof_walk.proofs.Joining.{along}
-use Rattle.proof_walk.proofs.Lines.{line_part}
+use Rattle.proof_air.specs.proof_walk.Phases.{Phase, Between, Said_line}
+use Rattle.proof_air.specs.proof_walk.Walk.{Walk}
+use Rattle.proof_air.proofs.Alone.{all_wordless}
+use Rattle.proof_air.proofs.Joining.{along}
+use Rattle.proof_air.proofs.Lines.{line_part}
 use Rattle.proof_air.proofs.Handling.{tie_here}
 use Rattle.proof_devices.specs.LastLine.{with_last}
 use Rattle.proof_devices.specs.Living.{MayAny}

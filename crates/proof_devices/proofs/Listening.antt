@@ -12,8 +12,8 @@ use Rattle.outside_model.specs.State.{Outside}
 use Rattle.outside_model.specs.Events.{ticked_entry}
 use Rattle.world_model.specs.State.{Machine}
 use Rattle.world_model.specs.Events.{Event}
-use Rattle.proof_walk.specs.Phases.{Doing}
-use Rattle.proof_walk.specs.Time.{KnowTime}
+use Rattle.proof_air.specs.proof_walk.Phases.{Doing}
+use Rattle.proof_air.specs.proof_walk.Time.{KnowTime}
 use Rattle.zw_text.specs.declared.line.Line.TheVariants as lines
 use Rattle.zw_text.specs.Transcript.{lines_run, time_of}
 use Rattle.law_transcript.specs.Restarts.{ticks_asked}

@@ -13,11 +13,11 @@ use Rattle.outside_model.specs.State.{OuterState, Outside}
 use Rattle.outside_model.specs.Events.{OuterEvent, Begins_line, Begins_tick, ticked_entry, is_own}
 use Rattle.world_model.specs.State.{Machine}
 use Rattle.world_model.specs.Events.{Event, happens, entries, May}
-use Rattle.proof_walk.specs.Outside.{Moves, Link, CoversOuter, awaits_number}
-use Rattle.proof_walk.proofs.Linking.{of_link}
-use Rattle.proof_walk.proofs.Machines.{machine_keeps}
-use Rattle.proof_walk.proofs.Untimed.{AreUntimed, same_time, untimed_law}
-use Rattle.proof_walk.proofs.Clock.{last_of_more}
+use Rattle.proof_air.specs.proof_walk.Outside.{Moves, Link, CoversOuter, awaits_number}
+use Rattle.proof_air.proofs.Linking.{of_link}
+use Rattle.proof_air.proofs.Machines.{machine_keeps}
+use Rattle.proof_air.proofs.Untimed.{AreUntimed, same_time, untimed_law}
+use Rattle.proof_air.proofs.Clock.{last_of_more}
 use Rattle.proof_devices.specs.Living.{MayAny, Numbered, KnownNumber, GoesWithin}
 use Rattle.proof_air.proofs.LandingWalk.{still_apart, number_apart}
 

@@ -20,10 +20,10 @@ use Rattle.outside_model.specs.Devices.{acts}
 use Rattle.outside_model.specs.Events.{OuterEvent, Begins_line, Begins_tick, Arrives, Device_ticks, Gives, Repeats, Wakes_device, Sets_device, outcome, devices_after, happens as happens_outside, entries as entries_outside, has_entered, stamp, ticked_entry}
 use Rattle.world_model.specs.State.{Machine}
 use Rattle.world_model.specs.Events.{Event, happens, entries, May}
-use Rattle.proof_walk.specs.Outside.{CoversOuter, IsNote}
-use Rattle.proof_walk.proofs.Alone.{noted_are}
-use Rattle.proof_walk.proofs.Machines.{covers_answer, machine_goes_on}
-use Rattle.proof_walk.proofs.Times.{outcome_time, IsWithin}
+use Rattle.proof_air.specs.proof_walk.Outside.{CoversOuter, IsNote}
+use Rattle.proof_air.proofs.Alone.{noted_are}
+use Rattle.proof_air.proofs.Machines.{covers_answer, machine_goes_on}
+use Rattle.proof_air.proofs.Times.{outcome_time, IsWithin}
 use Rattle.proof_device.proofs.Entering.{Acts, AreOwn, Enters, HearsFrame, IsOfChip, IsOfEnd, IsOwn, acts_own, change_own, chip_enters, ends_of_end, number_are, payload_of_chip, stamp_are}
 use Rattle.proof_devices.specs.Living.{MovesNone}
 

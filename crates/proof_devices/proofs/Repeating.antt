@@ -23,12 +23,12 @@ use Rattle.outside_model.specs.Events.{OuterEvent, Begins_line, Repeats, MayRepe
 use Rattle.world_model.specs.State.{Machine}
 use Rattle.world_model.specs.Events.{Event, Outside_does, entries, May}
 use Rattle.world_model.specs.Lines.{IsEffect}
-use Rattle.proof_walk.proofs.Alone.{event_wordless, wordless_line}
-use Rattle.proof_walk.specs.Outside.{HasNoWords, nothing, CoversOuter}
-use Rattle.proof_walk.specs.Phases.{Phase, Between, Said_line, Begun, Doing, Turns, Goes}
-use Rattle.proof_walk.specs.Walk.{WalkOver}
-use Rattle.proof_walk.proofs.ByLine.{last_is}
-use Rattle.proof_walk.proofs.Stepping.{Steps, event_then}
+use Rattle.proof_air.proofs.Alone.{event_wordless, wordless_line}
+use Rattle.proof_air.specs.proof_walk.Outside.{HasNoWords, nothing, CoversOuter}
+use Rattle.proof_air.specs.proof_walk.Phases.{Phase, Between, Said_line, Begun, Doing, Turns, Goes}
+use Rattle.proof_air.specs.proof_walk.Walk.{WalkOver}
+use Rattle.proof_air.proofs.ByLine.{last_is}
+use Rattle.proof_air.proofs.Stepping.{Steps, event_then}
 use Rattle.proof_air.specs.Logs.{mark_step, log_of, IsApart, Tie}
 use Rattle.proof_air.proofs.Handling.{tie_here}
 use Rattle.proof_air.proofs.Hearing.{same_refusal}

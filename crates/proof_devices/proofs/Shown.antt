@@ -16,7 +16,7 @@ use Rattle.law_transcript.specs.Restarts.{ticks_asked}
 use Rattle.law_transcript.specs.Units.{Carried}
 use Rattle.law_transcript.specs.Carrying.{homeward}
 use Rattle.law_transcript.specs.Devices.{ComingAt, coming_of, ticks_in, ticks_lived, comings, after_events, lived_by, brought_by, asked_by, brought_at, brought}
-use Rattle.proof_walk.proofs.Shown.{shown_both}
+use Rattle.proof_air.proofs.Shown.{shown_both}
 use Rattle.proof_devices.specs.Living.{LivedWith, IsActing}
 use Rattle.proof_devices.proofs.Quiet.{IsQuiet, AreQuiet}
 

@@ -4,7 +4,7 @@ use Rattle.zw_text.specs.declared.entry.Entry.{Entry}
 use Rattle.zw_text.specs.declared.entry.Entry.TheVariants as entry
 use Rattle.outside_model.specs.State.{Outside}
 use Rattle.outside_model.specs.Events.{OuterEvent, outcome, stamp, ticked_entry, entries}
-use Rattle.proof_walk.proofs.Times.{IsWithin, outcome_time, same_number}
+use Rattle.proof_air.proofs.Times.{IsWithin, outcome_time, same_number}
 
 pub enters_first : (w : Outside) (event : OuterEvent) (first : Entry) (rest : List Entry) → IsWithin event → (outcome w event).entries ≡ first ∷ rest → entries w event ≡ ticked_entry w.outer ++ first ∷ rest
 enters_first w event first rest within is =

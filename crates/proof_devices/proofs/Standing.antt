@@ -22,12 +22,12 @@ use Rattle.world_model.specs.Events.{Event, Outside_does, happens, entries, May}
 use Rattle.world_model.specs.Lines.{IsEffect}
 use Rattle.proof_device.specs.Showing.{AllShow}
 use Rattle.proof_device.proofs.DevicePlaces.{go_same}
-use Rattle.proof_walk.specs.Outside.{CoversOuter}
-use Rattle.proof_walk.specs.Phases.{Phase, Between, Said_line, Begun, Doing, To_tick, Ticked, Arriving, Giving, Ticking_devices, Ticking_chip, Ticking_decoder, Ticking_host, Sleeping, Submitting, Moving, Moved, Turns, Goes}
-use Rattle.proof_walk.specs.ByLine.{CoversLine}
-use Rattle.proof_walk.specs.Walk.{Walk, WalkOver}
-use Rattle.proof_walk.proofs.ByLine.{effect_covered}
-use Rattle.proof_walk.proofs.Stepping.{Steps, event_then}
+use Rattle.proof_air.specs.proof_walk.Outside.{CoversOuter}
+use Rattle.proof_air.specs.proof_walk.Phases.{Phase, Between, Said_line, Begun, Doing, To_tick, Ticked, Arriving, Giving, Ticking_devices, Ticking_chip, Ticking_decoder, Ticking_host, Sleeping, Submitting, Moving, Moved, Turns, Goes}
+use Rattle.proof_air.specs.proof_walk.ByLine.{CoversLine}
+use Rattle.proof_air.specs.proof_walk.Walk.{Walk, WalkOver}
+use Rattle.proof_air.proofs.ByLine.{effect_covered}
+use Rattle.proof_air.proofs.Stepping.{Steps, event_then}
 use Rattle.proof_air.proofs.Handling.{tie_here}
 use Rattle.proof_air.proofs.SentBefore.{but_last}
 use Rattle.proof_devices.specs.Living.{Answers, Tie, RestedWith, lived_in, InTick, MayAny, GoesWithin, IsActing, ActsWith, KnowLives}

@@ -13,7 +13,7 @@ use Rattle.outside_model.specs.Devices.{acts, acts_at, acts_by_hand}
 use Rattle.outside_model.specs.Events.{Begins_line, Begins_tick, Arrives, Device_ticks, Repeats, Wakes_device, Sets_device, outcome, devices_after, stamp, ticked_entry}
 use Rattle.world_model.specs.State.{Machine}
 use Rattle.world_model.specs.Events.{Event, Outside_does, entries, May}
-use Rattle.proof_walk.specs.Outside.{nothing}
+use Rattle.proof_air.specs.proof_walk.Outside.{nothing}
 use Rattle.proof_air.specs.Logs.{Tie as TieAir}
 use Rattle.proof_device.proofs.Entering.{AreOwn, acts_own}
 use Rattle.proof_devices.proofs.Quiet.{AreIdle, stamp_idle, machine_still}

@@ -6,10 +6,10 @@ use Rattle.world_model.specs.State.{Machine}
 use Rattle.world_model.specs.Events.{Event, happens, entries, May}
 use Rattle.law_wire.specs.Routes.{MayGo}
 use Rattle.proof_device.specs.Showing.{AllShow, AreApart}
-use Rattle.proof_walk.specs.Phases.{Phase}
-use Rattle.proof_walk.specs.Time.{MayCount, KnowTime}
-use Rattle.proof_walk.specs.Walk.{Walk, both_know}
-use Rattle.proof_walk.proofs.Over.{over, beside}
+use Rattle.proof_air.specs.proof_walk.Phases.{Phase}
+use Rattle.proof_air.specs.proof_walk.Time.{MayCount, KnowTime}
+use Rattle.proof_air.specs.proof_walk.Walk.{Walk, both_know}
+use Rattle.proof_air.proofs.Over.{over, beside}
 use Rattle.proof_air.specs.Hearing.{MayHear, KnowAir}
 use Rattle.proof_routes.specs.Knowing.{KnowNetworks}
 use Rattle.proof_devices.specs.Living.{Keeping, MayAny, KnowLives}

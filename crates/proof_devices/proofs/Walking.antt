@@ -27,14 +27,14 @@ use Rattle.outside_model.specs.Events.{OuterEvent, Begins_line, Begins_tick, Arr
 use Rattle.world_model.specs.State.{Machine}
 use Rattle.world_model.specs.Events.{Event, Outside_does, happens, entries, May}
 use Rattle.world_model.specs.Lines.{IsEffect}
-use Rattle.proof_walk.specs.Outside.{CoversOuter, nothing}
-use Rattle.proof_walk.specs.Phases.{Phase, Between, Said_line, Begun, Doing, To_tick, Ticked, Arriving, Giving, Ticking_devices, Ticking_chip, Ticking_decoder, Ticking_host, Sleeping, Submitting, Moving, Moved, Turns, Goes}
-use Rattle.proof_walk.specs.ByLine.{CoversLine}
-use Rattle.proof_walk.specs.Time.{KnowTime}
-use Rattle.proof_walk.specs.Walk.{WalkOver, both_know}
-use Rattle.proof_walk.proofs.ByLine.{effect_covered}
-use Rattle.proof_walk.proofs.Stepping.{Steps, event_then}
-use Rattle.proof_walk.proofs.Times.{outcome_time, same_number}
+use Rattle.proof_air.specs.proof_walk.Outside.{CoversOuter, nothing}
+use Rattle.proof_air.specs.proof_walk.Phases.{Phase, Between, Said_line, Begun, Doing, To_tick, Ticked, Arriving, Giving, Ticking_devices, Ticking_chip, Ticking_decoder, Ticking_host, Sleeping, Submitting, Moving, Moved, Turns, Goes}
+use Rattle.proof_air.specs.proof_walk.ByLine.{CoversLine}
+use Rattle.proof_air.specs.proof_walk.Time.{KnowTime}
+use Rattle.proof_air.specs.proof_walk.Walk.{WalkOver, both_know}
+use Rattle.proof_air.proofs.ByLine.{effect_covered}
+use Rattle.proof_air.proofs.Stepping.{Steps, event_then}
+use Rattle.proof_air.proofs.Times.{outcome_time, same_number}
 use Rattle.proof_device.proofs.ChangesOutside.{place_is}
 use Rattle.proof_device.proofs.DevicePlaces.{go_none, go_same}
 use Rattle.proof_air.specs.Hearing.{KnowAir}

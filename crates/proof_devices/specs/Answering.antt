@@ -15,9 +15,9 @@ use Rattle.law_wire.specs.Arriving.{hears_again, is_awake}
 use Rattle.world_model.specs.State.{Machine}
 use Rattle.world_model.specs.Events.{Event}
 use Rattle.world_model.specs.Lines.{IsEffect}
-use Rattle.proof_walk.specs.Phases.{Phase, Said_line, Begun, Doing}
-use Rattle.proof_walk.specs.Time.{KnowTime}
-use Rattle.proof_walk.specs.Walk.{both_know}
+use Rattle.proof_air.specs.proof_walk.Phases.{Phase, Said_line, Begun, Doing}
+use Rattle.proof_air.specs.proof_walk.Time.{KnowTime}
+use Rattle.proof_air.specs.proof_walk.Walk.{both_know}
 use Rattle.proof_air.specs.Hearing.{KnowAir}
 use Rattle.proof_air.specs.Logs.{log_of, IsApart}
 use Rattle.proof_devices.specs.Living.{Acts, KnowDevices}

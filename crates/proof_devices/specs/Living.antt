@@ -21,8 +21,8 @@ use Rattle.world_model.specs.State.{Machine}
 use Rattle.world_model.specs.Events.{Event}
 use Rattle.world_model.specs.Lines.{IsEffect}
 use Rattle.proof_device.specs.GoingOn.{GoOn}
-use Rattle.proof_walk.specs.Outside.{Known, CoversOuter}
-use Rattle.proof_walk.specs.Phases.{Phase, Said_line, Begun, Doing, Ticked, Arriving, Giving, Ticking_devices}
+use Rattle.proof_air.specs.proof_walk.Outside.{Known, CoversOuter}
+use Rattle.proof_air.specs.proof_walk.Phases.{Phase, Said_line, Begun, Doing, Ticked, Arriving, Giving, Ticking_devices}
 
 -- ---- a device
 

@@ -10,8 +10,8 @@ use Rattle.law_transcript.specs.Restarts.{repeats}
 use Rattle.law_wire.specs.Arriving.{hops, hears_again, is_awake}
 use Rattle.law_wire.specs.Networks.{are_linked, air_links}
 use Rattle.world_model.specs.State.{Machine}
-use Rattle.proof_walk.specs.Phases.{Phase}
-use Rattle.proof_walk.specs.Walk.{both_know}
+use Rattle.proof_air.specs.proof_walk.Phases.{Phase}
+use Rattle.proof_air.specs.proof_walk.Walk.{both_know}
 use Rattle.proof_routes.specs.Forgetting.{Passage, passages, KnowPassages}
 use Rattle.proof_routes.specs.Knowing.{KnowNetworks}
 use Rattle.proof_devices.specs.Answering as answering

@@ -15,9 +15,9 @@ ghost use Rattle.zw_text.specs.declared.entry.Entry.{Entry};
 ghost use Rattle.zw_text.specs.declared.line.Line.TheVariants.{Repeat};
 ghost use Rattle.world_model.specs.State.{Machine, first_machine};
 ghost use Rattle.world_model.specs.Events.{Event};
-ghost use Rattle.proof_walk.specs.Phases.{Between, Doing, Arriving};
-ghost use Rattle.proof_walk.specs.Walk.{WalkOver, both_know};
-ghost use Rattle.proof_walk.specs.Time.{KnowTime};
+ghost use Rattle.proof_air.specs.proof_walk.Phases.{Between, Doing, Arriving};
+ghost use Rattle.proof_air.specs.proof_walk.Walk.{WalkOver, both_know};
+ghost use Rattle.proof_air.specs.proof_walk.Time.{KnowTime};
 ghost use Rattle.proof_air.specs.Hearing.{KnowAir};
 ghost use Rattle.world_lines.specs.Spoken.{Spoken, after_all, transcript_of};
 ghost use Rattle.world_lines.specs.Done.{AreDone};
@@ -27,9 +27,9 @@ ghost use Rattle.proof_devices.specs.LastLine.{with_last};
 ghost use Rattle.proof_devices.specs.Living.{MayAny, Acts, Lived, Rested, KnowDevices, AllLivedAsShown, IsNow};
 
 use proof_air::history_goes_on;
+use proof_air::walk::time_goes_on;
 use proof_device::changes_are_shown;
 use proof_routes::networks_go_on;
-use proof_walk::time_goes_on;
 
 /// At each phase of a line, where the history of the air and time are known, the first device of each node but the controller's has had just what the
 /// transcript shows to have come to it, in order, and has lived the ticks that have begun, but for the running one until its turn comes in that.

@@ -14,8 +14,8 @@ ghost use Rattle.world_lines.specs.Whole.{AreWhole};
 
 use crate::{devices_listen_as_shown, devices_live_on};
 use proof_air::history_goes_on;
+use proof_air::walk::time_goes_on;
 use proof_routes::{frames_go_on, networks_go_on};
-use proof_walk::time_goes_on;
 
 /// Over any lines from the first on, the last of which an allocation failure may have cut short, a frame is heard directly after a line that repeats it, where
 /// it is fresh and somebody is there to hear it; and where all lines were run whole, also in the end. Frames and sessions are numbered in order.

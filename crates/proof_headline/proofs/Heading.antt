@@ -2,11 +2,11 @@
 use Rattle.std.proofs.Common.{List, [], ◌∷◌}
 use Rattle.std.specs.List.{AllByRecursion}
 use Rattle.device_sim.specs.State.{State}
-use Rattle.proof_device.specs.GoingOn.{GoOn}
+use Rattle.proof_spoken.specs.proof_device.GoingOn.{GoOn}
 use Rattle.world_model.specs.State.{Machine}
 use Rattle.world_model.specs.Events.{Event}
 use Rattle.world_model.specs.Did.{happens_all}
-use Rattle.proof_once.specs.InSessions.{ChangesInSessions}
+use Rattle.proof_spoken.specs.proof_once.InSessions.{ChangesInSessions}
 use Rattle.world_lines.specs.Spoken.{Spoken, after, after_all}
 
 -- devices that have changed in sessions alone still have so

@@ -5,7 +5,7 @@ use Rattle.proof_course.specs.Sessions.{first_course}
 use Rattle.device_kinds.specs.declared.kind.Kind.{Kind}
 use Rattle.device_kinds.specs.declared.kind.Kind.TheVariants.{Relay, Switch, Dimmer, Lock, Sensor, Thermostat, Strip, Configurable}
 use Rattle.device_sim.specs.State.{State, fresh}
-use Rattle.proof_device.proofs.ChangesOutside.{place_is}
+use Rattle.proof_spoken.proofs.ChangesOutside.{place_is}
 use Rattle.mesh_sim.specs.Fates.{place_of}
 use Rattle.proof_messages.specs.Asking.{takes_openly}
 use Rattle.law_transcript.specs.Headline.{IsAsMade}

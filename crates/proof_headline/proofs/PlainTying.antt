@@ -6,8 +6,8 @@ use Rattle.proof_course.specs.Sessions.{Course}
 use Rattle.proof_course.specs.SessionFacts.{CourseFacts}
 use Rattle.device_sim.specs.State.{State}
 use Rattle.proof_messages.specs.Ending.{HasEnded}
-use Rattle.proof_device.specs.GoingOn.{AreSame, IsSame}
-use Rattle.proof_device.proofs.ChangesOutside.{place_is}
+use Rattle.proof_spoken.specs.proof_device.GoingOn.{AreSame, IsSame}
+use Rattle.proof_spoken.proofs.ChangesOutside.{place_is}
 use Rattle.mesh_sim.specs.Fates.{place_of}
 use Rattle.zw_text.specs.Line.{line_at}
 use Rattle.zw_text.specs.declared.line.Line.{Line}
@@ -17,8 +17,8 @@ use Rattle.world_model.specs.Events.{Event, happens}
 use Rattle.world_model.specs.Did.{happens_all}
 use Rattle.host_model.specs.State.{Command}
 use Rattle.host_node.specs.TableState.{node_of}
-use Rattle.proof_once.specs.Tied.{AreOutcomes, AreTied, IsTied, MakesWhatIsTaken}
-use Rattle.proof_once.specs.Truly.{AreTrue}
+use Rattle.proof_spoken.specs.proof_once.Tied.{AreOutcomes, AreTied, IsTied, MakesWhatIsTaken}
+use Rattle.proof_spoken.specs.proof_once.Truly.{AreTrue}
 use Rattle.world_lines.specs.Spoken.{Spoken, after}
 use Rattle.world_lines.specs.Done.{IsRead, events_of}
 use Rattle.proof_headline.specs.Truly.{LinesAreTrue}

@@ -3,7 +3,7 @@ use Rattle.std.proofs.Common.{ℕ, List, [], ◌∷◌, ◌++◌, flat_map, sym,
 use Rattle.std.specs.List.{AllByRecursion}
 use Rattle.device_kinds.specs.declared.change.Change.{Change}
 use Rattle.device_sim.specs.State.{State}
-use Rattle.proof_device.specs.Showing.{AreUnchanged, IsShownAmong}
+use Rattle.proof_spoken.specs.proof_device.Showing.{AreUnchanged, IsShownAmong}
 use Rattle.zw_text.specs.declared.entry.Entry.{Entry}
 use Rattle.zw_text.specs.declared.entry.Entry.TheVariants.{Said}
 use Rattle.law_transcript.specs.Devices.{made_by}
@@ -18,7 +18,7 @@ use Rattle.world_model.specs.Did.{happens_all, entries_all, MayAll}
 use Rattle.proof_spoken.specs.Restarts.{AllStartWell, StartsWell}
 use Rattle.world_lines.specs.Spoken.{Spoken, after, after_all, entries_of, transcript_of}
 use Rattle.proof_spoken.specs.Spoken.{IsSpoken, AreSpoken}
-use Rattle.proof_once.specs.Truly.{AreTrue, IsTrue}
+use Rattle.proof_spoken.specs.proof_once.Truly.{AreTrue, IsTrue}
 use Rattle.proof_headline.specs.Truly.{LinesAreTrue}
 use Rattle.proof_headline.proofs.Shown.{said_shown}
 use Rattle.proof_headline.proofs.Succeeding.{Frees}

@@ -7,7 +7,7 @@ use Rattle.zw_text.specs.declared.entry.Entry.TheVariants.{Said}
 use Rattle.zw_text.specs.Transcript.{Made, made, made_at}
 use Rattle.zw_text.proofs.Views.{shown-append}
 use Rattle.law_transcript.specs.Lists.{Has}
-use Rattle.proof_device.specs.Showing.{IsShownAmong}
+use Rattle.proof_spoken.specs.proof_device.Showing.{IsShownAmong}
 
 -- a line that is said shows nothing of them
 pub said_shown : (past : List Entry) (words : List ℕ) (devices : List State) → AllByRecursion (IsShownAmong past) devices → AllByRecursion (IsShownAmong (past ++ Said words ∷ [])) devices

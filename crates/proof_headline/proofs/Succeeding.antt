@@ -7,7 +7,7 @@ use Rattle.supervision.specs.declared.session.TheConstants.{SUCCESS}
 use Rattle.supervision.proofs.OnceLemmas.{All-slice_get}
 use Rattle.device_sim.specs.State.{State}
 use Rattle.proof_messages.specs.Ending.{HasEnded}
-use Rattle.proof_device.specs.Showing.{IsShownAmong}
+use Rattle.proof_spoken.specs.proof_device.Showing.{IsShownAmong}
 use Rattle.zw_text.specs.declared.entry.Ended.TheVariants as ended
 use Rattle.zw_text.specs.declared.entry.Entry.{Entry}
 use Rattle.zw_text.specs.declared.entry.Entry.TheVariants.{Out, Refused}
@@ -38,9 +38,9 @@ use Rattle.host_model.proofs.Silence.{Silent, judged_silent}
 use Rattle.proof_spoken.proofs.Aside.{Asides, own_aside, stamp_aside}
 use Rattle.proof_spoken.proofs.Notes.{Trailing, event_following}
 use Rattle.proof_spoken.proofs.FactsKept.{after_keeps, asides_keep, one_after}
-use Rattle.proof_once.specs.Tied.{MakesWhatIsTaken}
+use Rattle.proof_spoken.specs.proof_once.Tied.{MakesWhatIsTaken}
 use Rattle.law_transcript.proofs.Having.{all_has}
-use Rattle.proof_once.specs.Truly.{IsDoneBy, IsTrue, TellTruly, TellsTruly}
+use Rattle.proof_spoken.specs.proof_once.Truly.{IsDoneBy, IsTrue, TellTruly, TellsTruly}
 use Rattle.proof_headline.specs.Truly.{MayEndOf}
 use Rattle.proof_spoken.proofs.RoutineNotes.{AreRoutine, IsRoutine, after_routine, event_routine}
 

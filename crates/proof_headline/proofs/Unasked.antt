@@ -37,7 +37,7 @@ use Rattle.world_model.specs.Did.{happens_all, entries_all, MayAll}
 use Rattle.world_model.specs.Prefixes.{LinePart}
 use Rattle.host_model.proofs.Silence.{judged_silent}
 use Rattle.proof_spoken.specs.Restarts.{AllStartWell, StartsWell}
-use Rattle.proof_once.specs.Truly.{AreTrue, IsTrue, TellTruly, TellsTruly}
+use Rattle.proof_spoken.specs.proof_once.Truly.{AreTrue, IsTrue, TellTruly, TellsTruly}
 use Rattle.proof_spoken.specs.Said.{AllKnow, KnowsListing}
 use Rattle.world_lines.specs.Spoken.{Spoken, after as after_line, entries_of}
 use Rattle.proof_spoken.specs.Spoken.{IsSpoken, AreSpoken}

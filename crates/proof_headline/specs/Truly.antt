@@ -9,7 +9,7 @@ use Rattle.law_transcript.specs.Nodes.{device_of, first_node, is_supervised}
 use Rattle.law_transcript.specs.Once.{commands_shown}
 use Rattle.world_model.specs.State.{Machine}
 use Rattle.proof_host.specs.Laws.{accepted_for}
-use Rattle.proof_once.specs.Truly.{AreTrue}
+use Rattle.proof_spoken.specs.proof_once.Truly.{AreTrue}
 use Rattle.world_lines.specs.Spoken.{Spoken, after as after_line}
 
 -- each success that is told of the node in these lines is true

@@ -9,7 +9,7 @@ ghost use Rattle.law_transcript.specs.Headline.{IsAsMade};
 ghost use Rattle.world_model.specs.State.{first_machine};
 ghost use Rattle.world_model.specs.Events.{Event};
 ghost use Rattle.world_model.specs.Did.{MayAll};
-ghost use Rattle.proof_serial.specs.Line.{AreLines};
+ghost use Rattle.proof_spoken.specs.proof_serial.Line.{AreLines};
 ghost use Rattle.proof_headline.specs.Supervised.{IsPlainOrLock, IsSupervisedNode};
 
 use crate::lock_nodes::locks_as_made_begin_courses;

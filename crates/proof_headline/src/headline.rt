@@ -4,7 +4,7 @@ ghost use Rattle.std.specs.Prelude.{◌≡◌, ℕ, true, Option, Some, List, []
 ghost use Rattle.std.specs.List.{AllByRecursion};
 ghost use Rattle.s0_crypto.specs.declared.key_pair.Keys.{Keys};
 ghost use Rattle.device_sim.specs.State.{State};
-ghost use Rattle.proof_device.specs.Showing.{AreUnchanged, IsShownAmong};
+ghost use Rattle.proof_spoken.specs.proof_device.Showing.{AreUnchanged, IsShownAmong};
 ghost use Rattle.zw_text.specs.declared.entry.Entry.{Entry};
 ghost use Rattle.law_transcript.specs.Headline.{Headline, HeadlineOf};
 ghost use Rattle.law_transcript.specs.Nodes.{always, device_of, is_supervised, listing_of};
@@ -12,17 +12,17 @@ ghost use Rattle.law_transcript.specs.Once.{SucceedsAfterChange};
 ghost use Rattle.proof_host.specs.Facts.{Facts};
 ghost use Rattle.world_model.specs.State.{Machine, first_machine};
 ghost use Rattle.world_model.specs.Events.{Event, entries, May};
-ghost use Rattle.proof_once.specs.Tied.{AllTied, AreTied};
-ghost use Rattle.proof_once.specs.Truly.{IsTrue};
+ghost use Rattle.proof_spoken.specs.proof_once.Tied.{AllTied, AreTied};
+ghost use Rattle.proof_spoken.specs.proof_once.Truly.{IsTrue};
 ghost use Rattle.proof_spoken.specs.Said.{LinesTell};
 ghost use Rattle.world_lines.specs.Spoken.{Spoken, after_all, transcript_of};
 ghost use Rattle.proof_spoken.specs.Spoken.{AreSpoken};
 ghost use Rattle.world_lines.specs.Done.{AreDone};
 ghost use Rattle.proof_headline.specs.Truly.{IsAskable, LinesAreTrue, SucceedsAfterChangeOf};
 
-use proof_device::{changes_are_shown, devices_go_on};
 use proof_host::{asides_keep_facts, events_keep_facts};
-use proof_once::{devices_change_in_sessions, endings_are_shown, headlines_follow};
+use proof_spoken::device::{changes_are_shown, devices_go_on};
+use proof_spoken::once::{devices_change_in_sessions, endings_are_shown, headlines_follow};
 use proof_spoken::world::the_machine_keeps_facts;
 use proof_spoken::{
     answers_stand_after_their_lines, interviews_give_what_is_known, lines_tell_what_nodes_list,

@@ -9,7 +9,7 @@ ghost use Rattle.law_transcript.specs.Nodes.{device_of};
 ghost use Rattle.proof_headline.specs.Locks.{IsLockKind, IsLockNode};
 ghost use Rattle.s0_crypto.specs.declared.key_pair.Keys.{Keys};
 ghost use Rattle.world_model.specs.State.{first_machine};
-ghost use Rattle.proof_once.specs.Tied.{AreTied};
+ghost use Rattle.proof_spoken.specs.proof_once.Tied.{AreTied};
 ghost use Rattle.world_lines.specs.Spoken.{Spoken, after_all};
 ghost use Rattle.world_lines.specs.Done.{AreDone};
 ghost use Rattle.proof_headline.specs.Truly.{LinesAreTrue};
@@ -17,7 +17,7 @@ ghost use Rattle.proof_headline.specs.Truly.{LinesAreTrue};
 use proof_course_sealed::{
     idle_devices_stay_idle, lines_ask_plainly, lines_have_courses, locks_follow_the_courses,
 };
-use proof_once::courses_tie_their_ends;
+use proof_spoken::once::courses_tie_their_ends;
 use proof_spoken::world::lines_keep_and_ask_well;
 
 /// Of devices as their makers left them, the first of a node is at the beginning of the courses of it, with the keys of the network, where

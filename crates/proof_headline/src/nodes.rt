@@ -3,11 +3,11 @@
 ghost use Rattle.std.specs.Prelude.{◌≡◌, ℕ, true, Some, List, []};
 ghost use Rattle.s0_crypto.specs.declared.key_pair.Keys.{Keys};
 ghost use Rattle.device_sim.specs.State.{State};
-ghost use Rattle.proof_device.specs.Showing.{AreUnchanged};
+ghost use Rattle.proof_spoken.specs.proof_device.Showing.{AreUnchanged};
 ghost use Rattle.law_transcript.specs.Headline.{Headline, HeadlineOf};
 ghost use Rattle.law_transcript.specs.Nodes.{always, device_of, is_supervised, listing_of};
 ghost use Rattle.world_model.specs.State.{first_machine};
-ghost use Rattle.proof_once.specs.Tied.{AreTied};
+ghost use Rattle.proof_spoken.specs.proof_once.Tied.{AreTied};
 ghost use Rattle.world_lines.specs.Spoken.{Spoken, after_all, transcript_of};
 ghost use Rattle.world_lines.specs.Done.{AreDone, events_of};
 ghost use Rattle.proof_headline.specs.Truly.{IsAskable, LinesAreTrue, SucceedsAfterChangeOf};
@@ -16,7 +16,7 @@ ghost use Rattle.proof_headline.specs.Supervised.{IsPlainOrLock};
 use crate::lock_nodes::locks_are_tied;
 use crate::plain_nodes::plain_nodes_are_tied;
 use crate::{lines_have_the_headline, runs_report_after_the_change};
-use proof_device::{devices_go_on, devices_stay_the_same};
+use proof_spoken::device::{devices_go_on, devices_stay_the_same};
 use proof_spoken::lines_tell_what_nodes_list;
 
 /// Over any lines that were read, the last of which an allocation failure may have cut short, the device of a node that is plain or of a

@@ -4,7 +4,7 @@ ghost use Rattle.std.specs.Prelude.{◌≡◌, ℕ, ◌<◌, List, Some, []};
 ghost use Rattle.std.specs.List.{AllByRecursion};
 ghost use Rattle.proof_course.specs.Sessions.{first_course};
 ghost use Rattle.device_sim.specs.State.{State};
-ghost use Rattle.proof_device.specs.Showing.{AreUnchanged};
+ghost use Rattle.proof_spoken.specs.proof_device.Showing.{AreUnchanged};
 ghost use Rattle.law_transcript.specs.Headline.{IsAsMade};
 ghost use Rattle.law_transcript.specs.Nodes.{device_of};
 ghost use Rattle.proof_course_sealed.specs.Plain.{HasDevice, OrdersPlain};
@@ -14,8 +14,8 @@ ghost use Rattle.zw_text.specs.declared.line.Line.{Line};
 ghost use Rattle.world_model.specs.State.{first_machine};
 ghost use Rattle.world_model.specs.Events.{Event};
 ghost use Rattle.world_model.specs.Did.{MayAll};
-ghost use Rattle.proof_serial.specs.Line.{AreLines};
-ghost use Rattle.proof_once.specs.Tied.{AreTied};
+ghost use Rattle.proof_spoken.specs.proof_serial.Line.{AreLines};
+ghost use Rattle.proof_spoken.specs.proof_once.Tied.{AreTied};
 ghost use Rattle.world_lines.specs.Spoken.{Spoken, after_all};
 ghost use Rattle.world_lines.specs.Done.{AreDone, events_of};
 ghost use Rattle.proof_headline.specs.Truly.{LinesAreTrue};
@@ -25,7 +25,7 @@ use proof_course_sealed::{
     devices_follow_the_course, idle_devices_stay_idle, lines_ask_plainly, lines_have_a_course,
     lines_tell_the_truth,
 };
-use proof_once::courses_tie_their_ends;
+use proof_spoken::once::courses_tie_their_ends;
 use proof_spoken::world::lines_keep_and_ask_well;
 use proof_spoken::{interviews_give_what_is_known, interviews_tell_what_nodes_list};
 

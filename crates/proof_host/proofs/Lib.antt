@@ -16,3 +16,8 @@ mod FactsKept
 mod Restarts
 pub mod HostsFromRecords
 pub mod Over
+pub use Rattle.host_model.proofs.Silence
+pub use Rattle.host_model.proofs.Submitted
+pub use Rattle.law_transcript.proofs.Deciding
+pub use Rattle.host_model.proofs.Values as host_model_Values
+pub use Rattle.law_transcript.proofs.Having

@@ -5,3 +5,5 @@ pub mod Stores
 pub mod Facts
 pub mod Wrong
 pub mod Lives
+pub use Rattle.host_model.specs as host_model
+pub use Rattle.law_transcript.specs as law_transcript

@@ -19,7 +19,7 @@ use Rattle.law_transcript.specs.Lists.{EachAfter, listed}
 use Rattle.law_transcript.specs.Nodes.{is_joined}
 use Rattle.law_time.specs.Moments.{Allows}
 use Rattle.law_time.specs.Waking.{may_wake}
-use Rattle.law_host.specs.Heard.{is_of_others, listing_heard}
+use Rattle.proof_transcript.specs.law_host.Heard.{is_of_others, listing_heard}
 use Rattle.host_orders.specs.Errands.{get_refusal, send_refusal}
 use Rattle.host_orders.specs.Refusals.{Known}
 use Rattle.host_model.specs.State.{HostState, node_of}
@@ -29,18 +29,18 @@ use Rattle.host_model.specs.May.{May as MayHost, known_of as known_of_host}
 use Rattle.host_model.specs.Outs.{answers, outs}
 use Rattle.world_model.specs.Events.{OpensFrom, shown_values}
 use Rattle.world_model.specs.Refusals.{IsRefused}
-use Rattle.proof_walk.proofs.ByLine.{last_is}
-use Rattle.proof_spoken.specs.Said.{AreSaid, KnowsListing}
+use Rattle.proof_transcript.proofs.ByLine.{last_is}
+use Rattle.proof_transcript.specs.proof_spoken.Said.{AreSaid, KnowsListing}
 use Rattle.proof_transcript.specs.Answering.{AreFree, HostTies, IsAnswered, IsFree, may_be_taken_back}
 use Rattle.proof_transcript.proofs.Answering.{answered_stands, before_is, cancel_refused, due_of, few_fit, free_due, free_is_no_answer, free_rule, free_says_nothing, get_alike, interview_alike, interview_rule, is_due, join_entries, join_refused, no_refusal, not_due, note_free, order_answer, order_refused, places_alike, restart_refused, send_alike, two_full, unsaid_answered}
 use Rattle.proof_transcript.proofs.PlacesKept.{HostsKeep, starts_again}
 use Rattle.proof_transcript.proofs.StoredPlaces.{KeepsNoMore, event_keeps}
-use Rattle.proof_alone.specs.State.{HostMachine, with_world}
-use Rattle.proof_alone.specs.Steps.{AreTold, AsksNothing, IsAskedBy, IsOfOthers, Step, Tells, Comes, Misses, Says, Says_nothing, Asks, Refuses, Shows, Restarts, Begins_tick, Numbers, Judges, Does, entries, happens}
-use Rattle.proof_alone.specs.Phases.{Phase, Resting, Asked, Risen, Ticking, Open, Behind, Sleeping, Submitting, May, Turns}
-use Rattle.proof_alone.specs.Runs.{Knowledge, WalkOver, both_know}
-use Rattle.proof_alone.specs.Tables.{TieTables}
-use Rattle.proof_alone.proofs.Apart.{AreOfLine, missed_are, told_are}
+use Rattle.proof_waking.specs.proof_alone.State.{HostMachine, with_world}
+use Rattle.proof_waking.specs.proof_alone.Steps.{AreTold, AsksNothing, IsAskedBy, IsOfOthers, Step, Tells, Comes, Misses, Says, Says_nothing, Asks, Refuses, Shows, Restarts, Begins_tick, Numbers, Judges, Does, entries, happens}
+use Rattle.proof_waking.specs.proof_alone.Phases.{Phase, Resting, Asked, Risen, Ticking, Open, Behind, Sleeping, Submitting, May, Turns}
+use Rattle.proof_waking.specs.proof_alone.Runs.{Knowledge, WalkOver, both_know}
+use Rattle.proof_waking.specs.proof_alone.Tables.{TieTables}
+use Rattle.proof_waking.proofs.proof_alone_Apart.{AreOfLine, missed_are, told_are}
 use Rattle.proof_known.specs.Known.{AnswersBefore, IsAnswerAlone, IsSettled, KnowsAll, KnowsAnswered, KnowsPlaces, KnowsTold, TieTold}
 use Rattle.proof_known.proofs.Events.{event_notes}
 use Rattle.proof_known.proofs.Telling.{IsElse, between_else, by_else, numbered_else}

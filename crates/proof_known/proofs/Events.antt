@@ -16,15 +16,15 @@ use Rattle.host_model.specs.declared.out.HostOut.{HostOut}
 use Rattle.host_model.specs.declared.out.HostOut.TheVariants.{Note, Write}
 use Rattle.host_model.proofs.Own.{IsOwn, sleepers_own, submitted_own}
 use Rattle.host_model.proofs.Submitted.{next_is, no_more_is}
-use Rattle.proof_host.specs.Entries.{notes_of}
-use Rattle.proof_device.proofs.HostOuts.{OutsAre}
-use Rattle.proof_walk.proofs.HostNotes.{NoteOuts, all_outs_note}
-use Rattle.proof_alone.specs.State.{HostMachine}
-use Rattle.proof_alone.specs.Steps.{AreTold, Does}
-use Rattle.proof_alone.specs.Phases.{Phase, Resting, Asked, Risen, Ticking, Open, Behind, Sleeping, Submitting, May}
-use Rattle.proof_alone.specs.Runs.{Knowledge, Walk, WalkOver, both_know}
-use Rattle.proof_alone.proofs.Apart.{AreOfLine, marks_are}
-use Rattle.proof_alone.proofs.Running.{over}
+use Rattle.proof_transcript.specs.proof_host.Entries.{notes_of}
+use Rattle.proof_transcript.proofs.proof_device_HostOuts.{OutsAre}
+use Rattle.proof_transcript.proofs.HostNotes.{NoteOuts, all_outs_note}
+use Rattle.proof_waking.specs.proof_alone.State.{HostMachine}
+use Rattle.proof_waking.specs.proof_alone.Steps.{AreTold, Does}
+use Rattle.proof_waking.specs.proof_alone.Phases.{Phase, Resting, Asked, Risen, Ticking, Open, Behind, Sleeping, Submitting, May}
+use Rattle.proof_waking.specs.proof_alone.Runs.{Knowledge, Walk, WalkOver, both_know}
+use Rattle.proof_waking.proofs.proof_alone_Apart.{AreOfLine, marks_are}
+use Rattle.proof_waking.proofs.Running.{over}
 use Rattle.proof_waking.specs.Judged.{IsBehindFrame, IsOfRequest, KnowsJudged}
 
 -- it does it of itself, or the request under way hears of something, or it follows the frame that was judged last

@@ -29,7 +29,7 @@ use Rattle.value_store.specs.Values.{count_with}
 use Rattle.value_store.proofs.Keys.{same_property_laws}
 use Rattle.law_transcript.specs.Units.{Carried, bringing_in, bringing_of, from_node, read_well}
 use Rattle.law_time.specs.Judged.{may_tell}
-use Rattle.law_host.specs.Following.{same_setting}
+use Rattle.proof_transcript.specs.law_host.Following.{same_setting}
 use Rattle.host_keep.specs.Status.{status_of}
 use Rattle.host_keep.specs.declared.final_status.FinalStatus.{FinalStatus}
 use Rattle.host_keep.specs.declared.final_status.FinalStatus.TheVariants as final
@@ -46,9 +46,9 @@ use Rattle.host_model.specs.Events.{HostEvent, Interviews, Interview_unkept, Unr
 use Rattle.host_model.specs.May.{says_listens}
 use Rattle.host_model.specs.Outs.{ended_of}
 use Rattle.host_model.specs.Taking.{AreTaken, FinalEvents, FrameEvents, InterviewEvents, IsOpened, IsTaken, NonceGetEvents, NonceReportEvents, NoticeEvents, PayloadEvents, ReportEvents, ResponseEvents, SealedEvents, is_secure, resent, value_event, value_events}
-use Rattle.proof_alone.proofs.Always.{either, none, one}
-use Rattle.proof_walk.proofs.Bodies.{body_is}
-use Rattle.proof_spoken.proofs.Classes.{IsNoInterview, LeavesRecords, event_kept}
+use Rattle.proof_waking.proofs.Always.{either, none, one}
+use Rattle.proof_transcript.proofs.Bodies.{body_is}
+use Rattle.proof_transcript.proofs.Classes.{IsNoInterview, LeavesRecords, event_kept}
 use Rattle.proof_known.specs.Noted.{ends_so, tells_end, tells_property, tells_report, tells_value}
 
 -- ---- the same

@@ -20,17 +20,17 @@ use Rattle.chip_functions.specs.declared.response.Response.{Response}
 use Rattle.zw_text.specs.declared.entry.Entry.{Entry}
 use Rattle.law_transcript.specs.Units.{notice_in, read_well}
 use Rattle.law_time.specs.Judged.{notices_here}
-use Rattle.law_host.specs.Heard.{classes_in}
+use Rattle.proof_transcript.specs.law_host.Heard.{classes_in}
 use Rattle.host_heard.specs.Telling.{heard_at}
 use Rattle.host_requests.specs.Events.{interviewed_by}
 use Rattle.host_model.specs.State.{HostState}
 use Rattle.host_model.specs.Events.{HostEvent, Interviews, Interview_unkept}
 use Rattle.host_model.specs.May.{says_listens}
 use Rattle.host_model.specs.Taking.{FrameEvents, InterviewEvents, NoticeEvents, ResponseEvents}
-use Rattle.proof_alone.specs.State.{HostMachine}
-use Rattle.proof_spoken.proofs.Always.{either, none, one}
-use Rattle.proof_spoken.proofs.Heard.{IsOfPayload, payload_of}
-use Rattle.proof_walk.proofs.Bodies.{body_is}
+use Rattle.proof_waking.specs.proof_alone.State.{HostMachine}
+use Rattle.proof_transcript.proofs.Always.{either, none, one}
+use Rattle.proof_transcript.proofs.proof_spoken_Heard.{IsOfPayload, payload_of}
+use Rattle.proof_transcript.proofs.Bodies.{body_is}
 use Rattle.proof_waking.specs.Judged.{IsBehindFrame}
 use Rattle.proof_waking.proofs.Settling.{behind_here}
 

@@ -10,7 +10,7 @@ use Rattle.zw_text.specs.declared.entry.Entry.TheVariants as entry
 use Rattle.law_time.specs.Judged.{notices_here}
 use Rattle.law_time.specs.Moments.{Allows}
 use Rattle.law_time.specs.Waking.{may_wake}
-use Rattle.law_host.specs.Heard.{classes_in, listing_heard}
+use Rattle.proof_transcript.specs.law_host.Heard.{classes_in, listing_heard}
 use Rattle.host_node.specs.Steps.{after_interview}
 use Rattle.host_node.specs.TableState.{node_of}
 use Rattle.host_model.specs.State.{HostState}
@@ -23,19 +23,19 @@ use Rattle.host_model.proofs.Own.{IsOwn}
 use Rattle.world_model.specs.State.{Machine}
 use Rattle.world_model.specs.Events as world
 use Rattle.world_model.specs.Events.{Event, OpensFrom}
-use Rattle.proof_device.proofs.HostOuts.{OwnIs, SharedAre, outs_are}
-use Rattle.proof_spoken.specs.Said.{KnowsAgain, KnowsListing}
-use Rattle.proof_spoken.specs.Restarts.{AreHeld, IsHeld, KeepsWell, StartsWell}
-use Rattle.proof_spoken.proofs.Classes.{IsNoInterview, LeavesRecords, classes_of, event_kept, joined_place, set_here, set_there}
-use Rattle.proof_spoken.proofs.Hosts.{of_joined}
-use Rattle.proof_walk.specs.ByLine.{IsAsked}
-use Rattle.proof_alone.specs.State.{HostMachine, with_world}
-use Rattle.proof_alone.specs.Steps.{AreTold, IsOfOthers, Step, Tells, Comes, Misses, Says, Says_nothing, Asks, Refuses, Shows, Restarts, Begins_tick, Numbers, Judges, Does, entries, happens}
-use Rattle.proof_alone.specs.Phases.{Phase, May}
-use Rattle.proof_alone.specs.Runs.{WalkOver, both_know}
-use Rattle.proof_alone.specs.Tables.{KnowsTables, TieTables}
-use Rattle.proof_alone.proofs.Apart.{AreOfLine, missed_are}
-use Rattle.proof_alone.proofs.InOrder.{is_asked}
+use Rattle.proof_transcript.proofs.proof_device_HostOuts.{OwnIs, SharedAre, outs_are}
+use Rattle.proof_transcript.specs.proof_spoken.Said.{KnowsAgain, KnowsListing}
+use Rattle.proof_transcript.specs.proof_spoken.Restarts.{AreHeld, IsHeld, KeepsWell, StartsWell}
+use Rattle.proof_transcript.proofs.Classes.{IsNoInterview, LeavesRecords, classes_of, event_kept, joined_place, set_here, set_there}
+use Rattle.proof_transcript.proofs.proof_spoken_Hosts.{of_joined}
+use Rattle.proof_transcript.specs.proof_walk.ByLine.{IsAsked}
+use Rattle.proof_waking.specs.proof_alone.State.{HostMachine, with_world}
+use Rattle.proof_waking.specs.proof_alone.Steps.{AreTold, IsOfOthers, Step, Tells, Comes, Misses, Says, Says_nothing, Asks, Refuses, Shows, Restarts, Begins_tick, Numbers, Judges, Does, entries, happens}
+use Rattle.proof_waking.specs.proof_alone.Phases.{Phase, May}
+use Rattle.proof_waking.specs.proof_alone.Runs.{WalkOver, both_know}
+use Rattle.proof_waking.specs.proof_alone.Tables.{KnowsTables, TieTables}
+use Rattle.proof_waking.proofs.proof_alone_Apart.{AreOfLine, missed_are}
+use Rattle.proof_waking.proofs.InOrder.{is_asked}
 use Rattle.proof_waking.specs.Judged.{IsBehindFrame, IsOfRequest, KnowsJudged}
 use Rattle.proof_known.specs.Known.{KnowsHeard}
 use Rattle.proof_known.proofs.Events.{AreAnswers, IsPartOf, answers_are, event_at, outs_told}

@@ -14,3 +14,4 @@ mod ValuesLeft
 mod Turning
 mod InTurn
 mod AtOnce
+pub use Rattle.proof_waking.proofs.Running

@@ -11,7 +11,7 @@ use Rattle.zw_text.proofs.Views.{shown-append}
 use Rattle.law_transcript.specs.Lists.{last_or, shown_after}
 use Rattle.law_transcript.specs.Nodes.{is_interviewed, known_at_first, known_classes}
 use Rattle.law_time.specs.Judged.{notices_here}
-use Rattle.law_host.specs.Heard.{classes_at, classes_in, listing_heard}
+use Rattle.proof_transcript.specs.law_host.Heard.{classes_at, classes_in, listing_heard}
 use Rattle.proof_transcript.proofs.MarkedFrames.{shown_one}
 
 -- what the host is shown to know of a node

@@ -9,14 +9,14 @@ use Rattle.zw_base.specs.declared.property.Property.{Property}
 use Rattle.value_store.specs.Values.{count_with}
 use Rattle.law_transcript.specs.Answers.{properties_kept}
 use Rattle.law_transcript.specs.Nodes.{known_classes}
-use Rattle.law_host.specs.Heard.{listing_heard}
+use Rattle.proof_transcript.specs.law_host.Heard.{listing_heard}
 use Rattle.host_heard.specs.declared.payload.Heard.{Heard}
 use Rattle.host_heard.specs.declared.payload.Heard.TheVariants.{Messages, Sealed, Unread}
 use Rattle.host_orders.specs.Classes.{lists}
 use Rattle.host_model.specs.Did.{after_all}
 use Rattle.host_model.specs.Taking.{is_secure}
-use Rattle.proof_spoken.proofs.Classes.{LeavesRecords}
-use Rattle.proof_spoken.specs.Said.{AreSaid, KnowsListing}
+use Rattle.proof_transcript.proofs.Classes.{LeavesRecords}
+use Rattle.proof_transcript.specs.proof_spoken.Said.{AreSaid, KnowsListing}
 use Rattle.proof_transcript.proofs.StoredPlaces.{KeepsNoMore}
 use Rattle.std.proofs.lemmas.Bool.{eq-eqb, eqb-true, or_left, or_right}
 use Rattle.zw_base.proofs.Each.{all-append, all-right}
@@ -40,7 +40,7 @@ use Rattle.law_time.specs.Sessions.{is_last_command}
 use Rattle.law_time.specs.Waking.{may_wake}
 use Rattle.host_heard.specs.Telling.{heard_at}
 use Rattle.host_heard.specs.declared.told.Told.{Told}
-use Rattle.proof_alone.specs.Tables.{TieTables}
+use Rattle.proof_waking.specs.proof_alone.Tables.{TieTables}
 use Rattle.host_keep.specs.declared.final_status.FinalStatus.{FinalStatus}
 use Rattle.host_keep.specs.declared.final_status.FinalStatus.TheVariants as final
 use Rattle.host_model.specs.State.{HostState, command_at, node_of}
@@ -52,13 +52,13 @@ use Rattle.host_model.specs.May.{May as MayHost, IsFinal}
 use Rattle.host_model.specs.Outs.{ended_of, held_entries, noted, outs, stored_entries}
 use Rattle.host_model.proofs.OpenSessions.{final_session}
 use Rattle.host_model.proofs.Own.{IsOwn}
-use Rattle.proof_host.specs.Facts.{Facts}
-use Rattle.proof_device.proofs.HostOuts.{OutsAre, SharedAre, outs_are}
-use Rattle.proof_alone.specs.State.{HostMachine}
-use Rattle.proof_alone.specs.Steps.{AreTold, IsOfOthers, Step, Tells, Comes, Misses, Says, Says_nothing, Asks, Refuses, Shows, Restarts, Begins_tick, Numbers, Judges, Does, entries}
-use Rattle.proof_alone.specs.Phases.{Phase, May}
-use Rattle.proof_alone.specs.Runs.{Knowledge, WalkOver}
-use Rattle.proof_alone.proofs.Apart.{AreOfLine, missed_are}
+use Rattle.proof_transcript.specs.proof_host.Facts.{Facts}
+use Rattle.proof_transcript.proofs.proof_device_HostOuts.{OutsAre, SharedAre, outs_are}
+use Rattle.proof_waking.specs.proof_alone.State.{HostMachine}
+use Rattle.proof_waking.specs.proof_alone.Steps.{AreTold, IsOfOthers, Step, Tells, Comes, Misses, Says, Says_nothing, Asks, Refuses, Shows, Restarts, Begins_tick, Numbers, Judges, Does, entries}
+use Rattle.proof_waking.specs.proof_alone.Phases.{Phase, May}
+use Rattle.proof_waking.specs.proof_alone.Runs.{Knowledge, WalkOver}
+use Rattle.proof_waking.proofs.proof_alone_Apart.{AreOfLine, missed_are}
 use Rattle.proof_waking.specs.Judged.{IsBehindFrame, IsOfRequest, LastFrame}
 use Rattle.proof_known.specs.Known.{KnowsWhole, TieTold}
 use Rattle.proof_known.proofs.Telling.{by_else, rest_of}

@@ -16,17 +16,17 @@ use Rattle.host_model.specs.Outs.{answers, outs}
 use Rattle.host_model.specs.Records.{records_at}
 use Rattle.host_model.specs.declared.out.HostOut.{HostOut}
 use Rattle.world_model.specs.Events.{shown_values}
-use Rattle.proof_host.specs.Entries.{notes_of}
+use Rattle.proof_transcript.specs.proof_host.Entries.{notes_of}
 use Rattle.proof_transcript.specs.Records.{TellsCancelled, cancelled_by}
 use Rattle.proof_transcript.proofs.CancelledRecords.{event_cancels}
 use Rattle.proof_transcript.proofs.RecordsWalking.{host_adds, silent}
-use Rattle.proof_alone.specs.State.{HostMachine, done}
-use Rattle.proof_alone.specs.Steps.{AreTold, IsOfOthers, Step, Tells, Comes, Misses, Says, Says_nothing, Asks, Refuses, Shows, Restarts, Begins_tick, Numbers, Judges, Does, entries, happens}
-use Rattle.proof_alone.specs.Phases.{Phase, May}
-use Rattle.proof_alone.specs.Runs.{WalkOver}
-use Rattle.proof_alone.specs.Tables.{KnowsTables}
-use Rattle.proof_alone.proofs.Apart.{AreOfLine, missed_are}
-use Rattle.proof_alone.proofs.InOrder.{asked_puts, event_in_part, is_asked}
+use Rattle.proof_waking.specs.proof_alone.State.{HostMachine, done}
+use Rattle.proof_waking.specs.proof_alone.Steps.{AreTold, IsOfOthers, Step, Tells, Comes, Misses, Says, Says_nothing, Asks, Refuses, Shows, Restarts, Begins_tick, Numbers, Judges, Does, entries, happens}
+use Rattle.proof_waking.specs.proof_alone.Phases.{Phase, May}
+use Rattle.proof_waking.specs.proof_alone.Runs.{WalkOver}
+use Rattle.proof_waking.specs.proof_alone.Tables.{KnowsTables}
+use Rattle.proof_waking.proofs.proof_alone_Apart.{AreOfLine, missed_are}
+use Rattle.proof_waking.proofs.InOrder.{asked_puts, event_in_part, is_asked}
 use Rattle.proof_known.specs.Known.{KnowsCancelled, KnowsNodes}
 use Rattle.proof_known.proofs.Events.{none_shown, told_shown}
 

@@ -13,7 +13,7 @@ use Rattle.zw_text.specs.Transcript.{line_last}
 use Rattle.law_transcript.specs.Nodes.{host_list}
 use Rattle.law_time.specs.Moments.{Allows}
 use Rattle.law_time.specs.Waking.{may_wake}
-use Rattle.law_host.specs.Heard.{listing_heard}
+use Rattle.proof_transcript.specs.law_host.Heard.{listing_heard}
 use Rattle.host_orders.specs.Wrapping.{carriage_of}
 use Rattle.host_orders.specs.declared.carriage.Carriage.{Carriage}
 use Rattle.host_model.specs.State.{Command, HostState}
@@ -26,19 +26,19 @@ use Rattle.host_model.specs.Outs.{answers, outs}
 use Rattle.world_model.specs.State.{Machine}
 use Rattle.world_model.specs.Events as world
 use Rattle.world_model.specs.Events.{Event, OpensFrom}
-use Rattle.proof_host.proofs.Lists.{each-anywhere, each-append, each-weaker}
-use Rattle.proof_once.specs.Tied.{KeepsOrders}
-use Rattle.proof_spoken.specs.Restarts.{IsHeld, KeepsWell, StartsWell}
-use Rattle.proof_spoken.specs.Said.{AreSaid, IsSaid, KnowsListing, MayAnswer}
-use Rattle.proof_spoken.proofs.Orders.{push_is}
-use Rattle.proof_walk.specs.Outside.{IsHostNote}
-use Rattle.proof_walk.proofs.ByLine.{last_is}
-use Rattle.proof_alone.specs.State.{HostMachine, with_world}
-use Rattle.proof_alone.specs.Steps.{AreTold, IsAskedBy, IsOfOthers, Step, Tells, Comes, Misses, Says, Says_nothing, Asks, Refuses, Shows, Restarts, Begins_tick, Numbers, Judges, Does, entries, happens}
-use Rattle.proof_alone.specs.Phases.{Phase, May}
-use Rattle.proof_alone.specs.Runs.{WalkOver}
-use Rattle.proof_alone.specs.Tables.{TieTables}
-use Rattle.proof_alone.proofs.Apart.{AreOfLine, missed_are, told_are}
+use Rattle.proof_transcript.proofs.Lists.{each-anywhere, each-append, each-weaker}
+use Rattle.proof_transcript.specs.proof_once.Tied.{KeepsOrders}
+use Rattle.proof_transcript.specs.proof_spoken.Restarts.{IsHeld, KeepsWell, StartsWell}
+use Rattle.proof_transcript.specs.proof_spoken.Said.{AreSaid, IsSaid, KnowsListing, MayAnswer}
+use Rattle.proof_transcript.proofs.Orders.{push_is}
+use Rattle.proof_transcript.specs.proof_walk.Outside.{IsHostNote}
+use Rattle.proof_transcript.proofs.ByLine.{last_is}
+use Rattle.proof_waking.specs.proof_alone.State.{HostMachine, with_world}
+use Rattle.proof_waking.specs.proof_alone.Steps.{AreTold, IsAskedBy, IsOfOthers, Step, Tells, Comes, Misses, Says, Says_nothing, Asks, Refuses, Shows, Restarts, Begins_tick, Numbers, Judges, Does, entries, happens}
+use Rattle.proof_waking.specs.proof_alone.Phases.{Phase, May}
+use Rattle.proof_waking.specs.proof_alone.Runs.{WalkOver}
+use Rattle.proof_waking.specs.proof_alone.Tables.{TieTables}
+use Rattle.proof_waking.proofs.proof_alone_Apart.{AreOfLine, missed_are, told_are}
 use Rattle.proof_waking.specs.Judged.{AfterWords, KnowsJudged}
 use Rattle.proof_known.specs.Known.{KnowsNodes, KnowsSaid}
 use Rattle.proof_known.proofs.Events.{event_notes}

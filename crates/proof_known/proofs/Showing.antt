@@ -10,23 +10,23 @@ use Rattle.zw_text.specs.Transcript.{line_last, line_of}
 use Rattle.law_transcript.specs.Lists.{EachAfter}
 use Rattle.law_time.specs.Moments.{Allows}
 use Rattle.law_time.specs.Waking.{may_wake}
-use Rattle.law_host.specs.Heard.{is_of_others, listing_heard}
-use Rattle.law_host.specs.HostLegal.{IsShown, ShowsValues}
+use Rattle.proof_transcript.specs.law_host.Heard.{is_of_others, listing_heard}
+use Rattle.proof_transcript.specs.law_host.HostLegal.{IsShown, ShowsValues}
 use Rattle.host_model.specs.State.{HostState}
 use Rattle.host_model.specs.Events.{HostEvent, Hears}
 use Rattle.host_model.specs.Outs.{outs}
 use Rattle.world_model.specs.Events.{shown_values}
 use Rattle.world_model.specs.Refusals.{IsRefused}
-use Rattle.proof_spoken.specs.Said.{AreSaid}
+use Rattle.proof_transcript.specs.proof_spoken.Said.{AreSaid}
 use Rattle.proof_transcript.specs.Showing.{AsksForNone}
-use Rattle.proof_walk.specs.Outside.{IsHostNote}
-use Rattle.proof_walk.proofs.ByLine.{last_is}
-use Rattle.proof_alone.specs.State.{HostMachine, with_world}
-use Rattle.proof_alone.specs.Steps.{AreTold, AsksNothing, IsAskedBy, IsOfOthers, Step, Tells, Comes, Misses, Says, Says_nothing, Asks, Refuses, Shows, Restarts, Begins_tick, Numbers, Judges, Does, entries, happens}
-use Rattle.proof_alone.specs.Phases.{Phase, Resting, Asked, Risen, Ticking, Open, Behind, Sleeping, Submitting, May, Turns}
-use Rattle.proof_alone.specs.Runs.{WalkOver}
-use Rattle.proof_alone.specs.Tables.{TieTables}
-use Rattle.proof_alone.proofs.Apart.{AreOfLine, missed_are, told_are}
+use Rattle.proof_transcript.specs.proof_walk.Outside.{IsHostNote}
+use Rattle.proof_transcript.proofs.ByLine.{last_is}
+use Rattle.proof_waking.specs.proof_alone.State.{HostMachine, with_world}
+use Rattle.proof_waking.specs.proof_alone.Steps.{AreTold, AsksNothing, IsAskedBy, IsOfOthers, Step, Tells, Comes, Misses, Says, Says_nothing, Asks, Refuses, Shows, Restarts, Begins_tick, Numbers, Judges, Does, entries, happens}
+use Rattle.proof_waking.specs.proof_alone.Phases.{Phase, Resting, Asked, Risen, Ticking, Open, Behind, Sleeping, Submitting, May, Turns}
+use Rattle.proof_waking.specs.proof_alone.Runs.{WalkOver}
+use Rattle.proof_waking.specs.proof_alone.Tables.{TieTables}
+use Rattle.proof_waking.proofs.proof_alone_Apart.{AreOfLine, missed_are, told_are}
 use Rattle.proof_waking.specs.Judged.{KnowsJudged}
 use Rattle.proof_known.specs.Known.{KnowsAll, KnowsAsked, KnowsTold, TieTold, ToldBefore}
 use Rattle.proof_known.proofs.Events.{AreAnswers, answers_are, event_notes}

@@ -39,20 +39,20 @@ use Rattle.host_model.proofs.Own.{IsOwn}
 use Rattle.world_model.specs.State.{Machine}
 use Rattle.world_model.specs.Events as world
 use Rattle.world_model.specs.Events.{Event, OpensFrom, shown_values}
-use Rattle.proof_host.specs.Entries.{notes_of}
-use Rattle.proof_spoken.specs.Restarts.{IsHeld, KeepsWell, StartsWell}
+use Rattle.proof_transcript.specs.proof_host.Entries.{notes_of}
+use Rattle.proof_transcript.specs.proof_spoken.Restarts.{IsHeld, KeepsWell, StartsWell}
 use Rattle.proof_transcript.proofs.FirstMachine.{first_told as first_machine_told}
 use Rattle.proof_transcript.proofs.Hosts.{IsNoJoin, LeavesRecords, heard_in, joined_here, joined_in, joined_there}
 use Rattle.proof_transcript.proofs.Over.{OneThing, Opens, starts_over}
 use Rattle.proof_transcript.proofs.TicksBegun.{event_goes_host, last_append}
-use Rattle.proof_walk.specs.Outside.{IsHostNote}
-use Rattle.proof_alone.specs.State.{HostMachine, with_world}
-use Rattle.proof_alone.specs.Steps.{AreTold, AsksNothing, IsAskedBy, IsOfOthers, Step, Tells, Comes, Misses, Says, Says_nothing, Asks, Refuses, Shows, Restarts, Begins_tick, Numbers, Judges, Does, entries, happens}
-use Rattle.proof_alone.specs.Phases.{Phase, Resting, Asked, Risen, Ticking, Open, Behind, Sleeping, Submitting, GoesBy, IsBetween, May, Turns}
-use Rattle.proof_alone.specs.Runs.{WalkOver}
-use Rattle.proof_alone.specs.Tables.{TieTables}
-use Rattle.proof_alone.proofs.Apart.{AreOfLine, missed_are, told_are}
-use Rattle.proof_alone.proofs.InOrder.{asked_puts, is_asked}
+use Rattle.proof_transcript.specs.proof_walk.Outside.{IsHostNote}
+use Rattle.proof_waking.specs.proof_alone.State.{HostMachine, with_world}
+use Rattle.proof_waking.specs.proof_alone.Steps.{AreTold, AsksNothing, IsAskedBy, IsOfOthers, Step, Tells, Comes, Misses, Says, Says_nothing, Asks, Refuses, Shows, Restarts, Begins_tick, Numbers, Judges, Does, entries, happens}
+use Rattle.proof_waking.specs.proof_alone.Phases.{Phase, Resting, Asked, Risen, Ticking, Open, Behind, Sleeping, Submitting, GoesBy, IsBetween, May, Turns}
+use Rattle.proof_waking.specs.proof_alone.Runs.{WalkOver}
+use Rattle.proof_waking.specs.proof_alone.Tables.{TieTables}
+use Rattle.proof_waking.proofs.proof_alone_Apart.{AreOfLine, missed_are, told_are}
+use Rattle.proof_waking.proofs.InOrder.{asked_puts, is_asked}
 use Rattle.proof_waking.specs.Judged.{IsOfRequest, KnowsJudged}
 use Rattle.proof_waking.proofs.Apart.{IsWordless, said_anew, said_in_vain, said_on, wordless_more}
 use Rattle.proof_waking.proofs.Followed.{MayFollow, frame_all}

@@ -28,13 +28,13 @@ use Rattle.host_model.specs.Events.{HostEvent, Hears_value, Has_no_room}
 use Rattle.host_model.specs.Outs.{outs}
 use Rattle.host_model.specs.declared.out.HostOut.TheVariants.{Note}
 use Rattle.host_model.proofs.Own.{IsOwn}
-use Rattle.proof_device.proofs.HostOuts.{OwnIs, SharedAre, outs_are}
-use Rattle.proof_alone.specs.State.{HostMachine}
-use Rattle.proof_alone.specs.Steps.{AreTold}
-use Rattle.proof_alone.specs.Phases.{Behind}
-use Rattle.proof_alone.specs.Runs.{Knowledge}
-use Rattle.proof_alone.proofs.Always.{none}
-use Rattle.proof_alone.proofs.Apart.{AreOfLine}
+use Rattle.proof_transcript.proofs.proof_device_HostOuts.{OwnIs, SharedAre, outs_are}
+use Rattle.proof_waking.specs.proof_alone.State.{HostMachine}
+use Rattle.proof_waking.specs.proof_alone.Steps.{AreTold}
+use Rattle.proof_waking.specs.proof_alone.Phases.{Behind}
+use Rattle.proof_waking.specs.proof_alone.Runs.{Knowledge}
+use Rattle.proof_waking.proofs.Always.{none}
+use Rattle.proof_waking.proofs.proof_alone_Apart.{AreOfLine}
 use Rattle.proof_waking.specs.Judged.{IsBehindFrame, IsOfRequest}
 use Rattle.proof_waking.proofs.Apart.{IsApart, apart_judged}
 use Rattle.proof_waking.proofs.Followed.{MayFollow, frame_all}

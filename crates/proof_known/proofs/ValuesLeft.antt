@@ -32,7 +32,7 @@ use Rattle.host_model.specs.Did.{after_all}
 use Rattle.host_model.specs.Events as happening
 use Rattle.host_model.specs.Events.{HostEvent, Hears_value, Has_no_room}
 use Rattle.host_model.specs.Taking.{AreTaken, FinalEvents, FrameEvents, IsTaken, NonceGetEvents, NonceReportEvents, NoticeEvents, PayloadEvents, ReportEvents, is_secure, resent, value_event, value_events}
-use Rattle.proof_alone.proofs.Always.{either, none, one}
+use Rattle.proof_waking.proofs.Always.{either, none, one}
 use Rattle.proof_known.specs.Noted.{values_in, values_told}
 use Rattle.proof_known.proofs.Followers.{brought_of, text_brings}
 

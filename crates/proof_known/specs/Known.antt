@@ -15,18 +15,18 @@ use Rattle.law_transcript.specs.Records.{KeepsRecords}
 use Rattle.law_transcript.specs.Sessions.{MayBegin}
 use Rattle.law_transcript.specs.Stores.{StoresConfirmed, heard_value}
 use Rattle.law_wire.specs.Serial.{ended}
-use Rattle.law_host.specs.Heard.{is_of_others, is_refusal_of_others, listing_heard}
-use Rattle.law_host.specs.HostLegal.{ShowsValues}
+use Rattle.proof_transcript.specs.law_host.Heard.{is_of_others, is_refusal_of_others, listing_heard}
+use Rattle.proof_transcript.specs.law_host.HostLegal.{ShowsValues}
 use Rattle.value_store.specs.Values.{stored_of}
 use Rattle.host_model.specs.State.{HostState, node_of}
-use Rattle.proof_spoken.specs.Said.{AreSaid, KnowsListing}
+use Rattle.proof_transcript.specs.proof_spoken.Said.{AreSaid, KnowsListing}
 use Rattle.proof_transcript.specs.Answering.{HostTies, IsAnswered}
 use Rattle.proof_transcript.specs.Records.{TellsCancelled}
 use Rattle.proof_transcript.proofs.StoredPlaces.{KeepsNoMore}
 use Rattle.proof_transcript.specs.Showing.{AsksForNone}
-use Rattle.proof_alone.specs.Phases.{Asked}
-use Rattle.proof_alone.specs.Runs.{Knowledge, both_know}
-use Rattle.proof_alone.specs.Tables.{KnowsTables}
+use Rattle.proof_waking.specs.proof_alone.Phases.{Asked}
+use Rattle.proof_waking.specs.proof_alone.Runs.{Knowledge, both_know}
+use Rattle.proof_waking.specs.proof_alone.Tables.{KnowsTables}
 use Rattle.proof_waking.specs.Judged.{KnowsJudged}
 
 -- at each phase it knows of each node what that listed in its last interview, and of a node without one what it knows at first

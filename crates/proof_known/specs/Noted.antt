@@ -23,8 +23,8 @@ use Rattle.law_time.specs.Requests.{are_none}
 use Rattle.law_time.specs.Judged.{brought_here, is_directly_after, is_mark, is_no_note, may_be_told, may_tell, payloads_here}
 use Rattle.law_time.specs.Moments.{Keeps}
 use Rattle.law_time.specs.Sessions.{is_last_command}
-use Rattle.law_host.specs.Following.{same_note, same_setting}
-use Rattle.law_host.specs.Heard.{listing_heard}
+use Rattle.proof_transcript.specs.law_host.Following.{same_note, same_setting}
+use Rattle.proof_transcript.specs.law_host.Heard.{listing_heard}
 use Rattle.law_transcript.specs.Answers.{properties_kept}
 use Rattle.law_transcript.specs.Nodes.{host_list}
 use Rattle.host_orders.specs.Classes.{lists}

@@ -4,18 +4,18 @@ ghost use Rattle.std.specs.Prelude.{◌≡◌, Bool, true, false, Some, List, []
 ghost use Rattle.s0_crypto.specs.declared.key_pair.Keys.{Keys};
 ghost use Rattle.zw_text.specs.declared.entry.Entry.{Entry};
 ghost use Rattle.law_transcript.specs.Answers.{AnswersAfter, refusals_by_host};
-ghost use Rattle.law_host.specs.Heard.{heard_by_host, listing_heard};
-ghost use Rattle.proof_alone.specs.State.{HostMachine, first_alone};
-ghost use Rattle.proof_alone.specs.Phases.{Phase, Resting};
-ghost use Rattle.proof_alone.specs.Runs.{Run, Told, ToldWhole};
+ghost use Rattle.proof_transcript.specs.law_host.Heard.{heard_by_host, listing_heard};
+ghost use Rattle.proof_waking.specs.proof_alone.State.{HostMachine, first_alone};
+ghost use Rattle.proof_waking.specs.proof_alone.Phases.{Phase, Resting};
+ghost use Rattle.proof_waking.specs.proof_alone.Runs.{Run, Told, ToldWhole};
 ghost use Rattle.proof_known.specs.Known.{AreForHost, KeepsWhatIsSaid};
 
 use crate::known::{hosts_keep_what_is_said, hosts_know_what_was_told};
 use crate::records::hosts_record_what_is_shown;
 use crate::shown::hosts_show_what_they_keep;
-use proof_alone::{hosts_answer_what_is_asked, hosts_keep_their_tables};
-use proof_host::laws_follow;
-use proof_spoken::tables_are_what_was_said;
+use proof_transcript::host::laws_follow;
+use proof_transcript::spoken::tables_are_what_was_said;
+use proof_waking::alone::{hosts_answer_what_is_asked, hosts_keep_their_tables};
 
 /// In any run of a host alone, over a keeper that tells its records and has none at first, in which no line is refused that is for others: each line has the
 /// one answer that the transcript before it demands, and no answer stands elsewhere; where the run does not end at rest, its last line may lack its answer.

@@ -6,20 +6,22 @@ ghost use Rattle.zw_text.specs.declared.entry.Entry.{Entry};
 ghost use Rattle.law_transcript.specs.Stores.{StoresConfirmed};
 ghost use Rattle.law_time.specs.Moments.{Allows};
 ghost use Rattle.law_time.specs.Waking.{may_wake};
-ghost use Rattle.law_host.specs.Heard.{listing_heard};
-ghost use Rattle.proof_once.specs.ByTable.{IsTable};
-ghost use Rattle.proof_alone.specs.State.{HostMachine, first_alone};
-ghost use Rattle.proof_alone.specs.Phases.{Phase, Resting};
-ghost use Rattle.proof_alone.specs.Runs.{Run, Told, Walk};
+ghost use Rattle.proof_transcript.specs.law_host.Heard.{listing_heard};
+ghost use Rattle.proof_transcript.specs.proof_once.ByTable.{IsTable};
+ghost use Rattle.proof_waking.specs.proof_alone.State.{HostMachine, first_alone};
+ghost use Rattle.proof_waking.specs.proof_alone.Phases.{Phase, Resting};
+ghost use Rattle.proof_waking.specs.proof_alone.Runs.{Run, Told, Walk};
 ghost use Rattle.proof_known.specs.Known.{KnowsHeard, KnowsNodes, KnowsOrders, KnowsWhole};
 
 use host_keep::texts_give_one_thing;
 use host_model::{a_host_begins_with_what_is_kept, a_restart_keeps_what_is_held, facts_are_kept};
 use host_node::a_restart_needs_the_records_alone;
-use proof_alone::hosts_keep_their_tables;
-use proof_host::laws_follow;
-use proof_spoken::world::restarts_go_on;
-use proof_spoken::{interviews_give_what_is_known, tables_are_what_was_said, tables_keep_orders};
+use proof_transcript::host::laws_follow;
+use proof_transcript::spoken::world::restarts_go_on;
+use proof_transcript::spoken::{
+    interviews_give_what_is_known, tables_are_what_was_said, tables_keep_orders,
+};
+use proof_waking::alone::hosts_keep_their_tables;
 use proof_waking::hosts_judge_as_told;
 
 /// In any run of a host alone, also where it starts again, over a keeper that tells its records and has none at first: at each phase it knows of each node

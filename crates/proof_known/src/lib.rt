@@ -24,5 +24,6 @@ pub use noted::{
     worked_at_once, worked_in_turn, worked_telling,
 };
 pub use proof_waking as waking;
+pub use proof_waking::alone;
 pub use records::hosts_record_what_is_shown;
 pub use shown::hosts_show_what_they_keep;

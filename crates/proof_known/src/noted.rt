@@ -3,9 +3,9 @@
 ghost use Rattle.std.specs.Prelude.{true, false, Option, Some, List, [], ◌++◌, ℕ};
 ghost use Rattle.s0_crypto.specs.declared.key_pair.Keys.{Keys};
 ghost use Rattle.zw_text.specs.declared.entry.Entry.{Entry};
-ghost use Rattle.proof_alone.specs.State.{first_alone};
-ghost use Rattle.proof_alone.specs.Runs.{Told, ToldWhole};
-ghost use Rattle.law_host.specs.Worked.{
+ghost use Rattle.proof_waking.specs.proof_alone.State.{first_alone};
+ghost use Rattle.proof_waking.specs.proof_alone.Runs.{Told, ToldWhole};
+ghost use Rattle.proof_transcript.specs.law_host.Worked.{
   begun,
   ended_by_other,
   ended_by_work,
@@ -27,8 +27,8 @@ ghost use Rattle.proof_known.specs.WorkedNotes.{ended_unreported, lock_believed,
 
 use crate::known::hosts_know_what_was_told;
 use host_node::a_restart_needs_the_records_alone;
-use proof_host::laws_follow;
-use proof_spoken::tables_are_what_was_said;
+use proof_transcript::host::laws_follow;
+use proof_transcript::spoken::tables_are_what_was_said;
 use proof_waking::hosts_judge_as_told;
 
 /// In any run of a host alone, over a keeper that tells its records and has none at first: a command ends only where a payload of its node was judged that

@@ -4,14 +4,14 @@ ghost use Rattle.std.specs.Prelude.{Some, IfSome, List, [], ℕ};
 ghost use Rattle.s0_crypto.specs.declared.key_pair.Keys.{Keys};
 ghost use Rattle.zw_text.specs.declared.entry.Entry.{Entry};
 ghost use Rattle.law_transcript.specs.Records.{KeepsRecords};
-ghost use Rattle.proof_alone.specs.State.{HostMachine, first_alone};
-ghost use Rattle.proof_alone.specs.Phases.{Resting};
-ghost use Rattle.proof_alone.specs.Runs.{Run};
+ghost use Rattle.proof_waking.specs.proof_alone.State.{HostMachine, first_alone};
+ghost use Rattle.proof_waking.specs.proof_alone.Phases.{Resting};
+ghost use Rattle.proof_waking.specs.proof_alone.Runs.{Run};
 
 use crate::known::hosts_know_what_was_told;
 use host_keep::a_text_is_of_one_record;
-use proof_host::laws_follow;
-use proof_spoken::tables_are_what_was_said;
+use proof_transcript::host::laws_follow;
+use proof_transcript::spoken::tables_are_what_was_said;
 
 /// In any run of a host alone that ends at rest, over a keeper that tells its records and has none at first: its records are legal, and give exactly the
 /// orders that were accepted, the commands that were cancelled, the sessions with their final outcomes, and the joined and interviewed nodes that the

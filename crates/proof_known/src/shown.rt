@@ -5,14 +5,14 @@ ghost use Rattle.s0_crypto.specs.declared.key_pair.Keys.{Keys};
 ghost use Rattle.zw_text.specs.declared.entry.Entry.{Entry};
 ghost use Rattle.law_transcript.specs.Lists.{EachAfter};
 ghost use Rattle.law_wire.specs.Serial.{ended};
-ghost use Rattle.law_host.specs.Heard.{listing_heard};
-ghost use Rattle.law_host.specs.HostLegal.{ShowsValues};
-ghost use Rattle.proof_alone.specs.State.{first_alone};
-ghost use Rattle.proof_alone.specs.Runs.{Told, ToldWhole};
+ghost use Rattle.proof_transcript.specs.law_host.Heard.{listing_heard};
+ghost use Rattle.proof_transcript.specs.law_host.HostLegal.{ShowsValues};
+ghost use Rattle.proof_waking.specs.proof_alone.State.{first_alone};
+ghost use Rattle.proof_waking.specs.proof_alone.Runs.{Told, ToldWhole};
 
 use crate::known::hosts_know_what_was_told;
-use proof_host::laws_follow;
-use proof_spoken::tables_are_what_was_said;
+use proof_transcript::host::laws_follow;
+use proof_transcript::spoken::tables_are_what_was_said;
 
 /// In any run of a host alone, over a keeper that tells its records and has none at first: the values of a node stand directly after the words of a line
 /// that asks for them, as the transcript gives them, and nowhere else; and where the run ends at rest, none is still to stand.

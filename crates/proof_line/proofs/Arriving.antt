@@ -18,16 +18,16 @@ use Rattle.zw_words.specs.declared.side.Side.{Side}
 use Rattle.zw_text.specs.declared.entry.Entry.{Entry}
 use Rattle.zw_text.specs.declared.entry.Entry.TheVariants as entry
 use Rattle.zw_text.specs.Transcript.{line_of, same_side}
-use Rattle.law_transcript.specs.Restarts.{is_restart, begins_refused}
+use Rattle.law_wire.specs.law_transcript.Restarts.{is_restart, begins_refused}
 use Rattle.law_wire.specs.Serial.{arriving_of, changed_or_not}
-use Rattle.proof_device.proofs.Entered.{IsMark, told_by_marks}
-use Rattle.proof_serial.specs.Way.{items_of, unit_item, changed_item}
-use Rattle.proof_serial.proofs.ChangedUnits.{changed_text, garbled_long}
-use Rattle.proof_serial.proofs.Ways.{carries_more}
+use Rattle.proof_walk.proofs.Entered.{IsMark, told_by_marks}
+use Rattle.proof_world.specs.proof_serial.Way.{items_of, unit_item, changed_item}
+use Rattle.proof_world.proofs.ChangedUnits.{changed_text, garbled_long}
+use Rattle.proof_world.proofs.Ways.{carries_more}
 use Rattle.proof_line.specs.Arrivals.{arrived_step, arrived_from, arrived, AreTexts, Comes}
 use Rattle.proof_line.proofs.Standing.{same_itself}
 use Rattle.proof_line.proofs.Holding.{NoMark, Joins, TellsNothing, lost_same, refused_then, apart_mark}
-use Rattle.proof_serial.proofs.Outer.{wrong as no_refusal}
+use Rattle.proof_world.proofs.Outer.{wrong as no_refusal}
 
 -- ---- what stands next may say what became of the last
 

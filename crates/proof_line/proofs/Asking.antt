@@ -6,13 +6,13 @@ use Rattle.zw_text.specs.declared.line.Line.TheVariants as lines
 use Rattle.zw_text.specs.declared.entry.Entry.{Entry}
 use Rattle.zw_text.specs.declared.entry.Entry.TheVariants as entry
 use Rattle.zw_text.specs.Transcript.{line_of}
-use Rattle.law_transcript.specs.Lists.{EachAfter}
+use Rattle.law_wire.specs.law_transcript.Lists.{EachAfter}
 use Rattle.law_wire.specs.Marks.{collision_of, collisions, cans, MayCollide}
-use Rattle.outside_model.specs.State.{OuterState}
-use Rattle.outside_model.specs.Events.{OuterEvent, Begins_line, Collides_next, outcome, devices_after, ticked_entry, is_own}
-use Rattle.world_model.specs.State.{Machine}
-use Rattle.world_model.specs.Events.{Event, Outside_does, happens, entries, May}
-use Rattle.world_model.specs.Lines.{IsEffect}
+use Rattle.proof_walk.specs.outside_model.State.{OuterState}
+use Rattle.proof_walk.specs.outside_model.Events.{OuterEvent, Begins_line, Collides_next, outcome, devices_after, ticked_entry, is_own}
+use Rattle.proof_walk.specs.world_model.State.{Machine}
+use Rattle.proof_walk.specs.world_model.Events.{Event, Outside_does, happens, entries, May}
+use Rattle.proof_walk.specs.world_model.Lines.{IsEffect}
 use Rattle.proof_walk.specs.Phases.{Between}
 use Rattle.proof_walk.specs.Walk.{Walk}
 use Rattle.proof_walk.specs.ByLine.{IsOfTick, CoversLine, ByLine}

@@ -13,23 +13,23 @@ use Rattle.device_sim.specs.State.{State}
 use Rattle.device_sim.specs.Event.{DeviceEvent}
 use Rattle.air_frames.specs.Ages.{refusal_of}
 use Rattle.air_frames.specs.declared.ages.Refusal.{Refusal as RepeatRefusal}
-use Rattle.mesh_sim.specs.declared.event.AirEvent.{AirEvent}
-use Rattle.mesh_sim.specs.declared.event.AirEvent.TheVariants as air_event
-use Rattle.mesh_sim.specs.Air.{AirState}
-use Rattle.mesh_sim.specs.Fates.{place_of}
-use Rattle.mesh_sim.specs.Steps.{AirStep, mesh_after, mesh_outs}
-use Rattle.mesh_sim.specs.Steps as mesh
+use Rattle.proof_walk.specs.mesh_sim.declared.event.AirEvent.{AirEvent}
+use Rattle.proof_walk.specs.mesh_sim.declared.event.AirEvent.TheVariants as air_event
+use Rattle.proof_walk.specs.mesh_sim.Air.{AirState}
+use Rattle.proof_walk.specs.mesh_sim.Fates.{place_of}
+use Rattle.proof_walk.specs.mesh_sim.Steps.{AirStep, mesh_after, mesh_outs}
+use Rattle.proof_walk.specs.mesh_sim.Steps as mesh
 use Rattle.zw_text.specs.declared.entry.Entry.TheVariants as entry
-use Rattle.outside_model.specs.State.{OuterState, Outside, Outcome, each, silent, tells, and_then, with_chip}
-use Rattle.outside_model.specs.Chip.{chip_does}
-use Rattle.outside_model.specs.Results.{device_at, frame_ends, gives}
-use Rattle.outside_model.specs.Air.{change_at, change_entries, deals}
-use Rattle.outside_model.specs.Devices.{acts_at}
-use Rattle.outside_model.specs.Events.{OuterEvent, Arrives, Chip_takes, Chip_ticks, Collides_next, Gives, Repeats, mesh_of, steps}
-use Rattle.world_model.specs.State.{Machine}
-use Rattle.world_model.specs.Events.{Event, Outside_does}
-use Rattle.proof_device.proofs.Entered.{IsChange, change_entered}
-use Rattle.proof_device.proofs.Results.{Calls, Gives as GivesSo, IsGiven, IsResult, IsSameChip, due_goes, end_goes}
+use Rattle.proof_walk.specs.outside_model.State.{OuterState, Outside, Outcome, each, silent, tells, and_then, with_chip}
+use Rattle.proof_walk.specs.outside_model.Chip.{chip_does}
+use Rattle.proof_walk.specs.outside_model.Results.{device_at, frame_ends, gives}
+use Rattle.proof_walk.specs.outside_model.Air.{change_at, change_entries, deals}
+use Rattle.proof_walk.specs.outside_model.Devices.{acts_at}
+use Rattle.proof_walk.specs.outside_model.Events.{OuterEvent, Arrives, Chip_takes, Chip_ticks, Collides_next, Gives, Repeats, mesh_of, steps}
+use Rattle.proof_walk.specs.world_model.State.{Machine}
+use Rattle.proof_walk.specs.world_model.Events.{Event, Outside_does}
+use Rattle.proof_walk.proofs.Entered.{IsChange, change_entered}
+use Rattle.proof_walk.proofs.Results.{Calls, Gives as GivesSo, IsGiven, IsResult, IsSameChip, due_goes, end_goes}
 use Rattle.proof_line.proofs.ChipTelling.{at_goes, change_of_air}
 use Rattle.proof_walk.specs.Outside.{IsOfAir}
 

@@ -36,28 +36,28 @@ use Rattle.device_sim.specs.Event.{DeviceEvent, Ticks, Wakes, Sets}
 use Rattle.air_frames.specs.Ages.{refusal_of}
 use Rattle.air_frames.specs.declared.ages.Refusal.{Refusal as RepeatRefusal}
 use Rattle.air_frames.specs.declared.ages.Refusal.TheVariants.{NeverSent, Forgotten, Stale}
-use Rattle.mesh_sim.specs.declared.event.AirEvent.{AirEvent}
-use Rattle.mesh_sim.specs.declared.event.AirEvent.TheVariants as air_event
-use Rattle.mesh_sim.specs.Air.{AirState}
-use Rattle.mesh_sim.specs.Fates.{place_of}
-use Rattle.mesh_sim.specs.Steps.{AirStep, mesh_after, mesh_outs}
-use Rattle.mesh_sim.specs.Steps as mesh
+use Rattle.proof_walk.specs.mesh_sim.declared.event.AirEvent.{AirEvent}
+use Rattle.proof_walk.specs.mesh_sim.declared.event.AirEvent.TheVariants as air_event
+use Rattle.proof_walk.specs.mesh_sim.Air.{AirState}
+use Rattle.proof_walk.specs.mesh_sim.Fates.{place_of}
+use Rattle.proof_walk.specs.mesh_sim.Steps.{AirStep, mesh_after, mesh_outs}
+use Rattle.proof_walk.specs.mesh_sim.Steps as mesh
 use Rattle.zw_words.specs.declared.side.Side.TheVariants.{Host as by_host, Chip as by_chip}
 use Rattle.zw_text.specs.declared.entry.Entry.{Entry}
 use Rattle.zw_text.specs.declared.entry.Entry.TheVariants as entry
-use Rattle.law_transcript.specs.Restarts.{begins_refused}
-use Rattle.outside_model.specs.State.{OuterState, Outside, Outcome, silent, tells, each, with_chip}
-use Rattle.outside_model.specs.Chip.{put_out, chip_does, chip_ticks}
-use Rattle.outside_model.specs.Results.{device_at}
-use Rattle.outside_model.specs.Air.{deals, sent_entries, change_entries, change_at}
-use Rattle.outside_model.specs.Devices.{acts_at, acts_by_hand, shown_entries}
-use Rattle.outside_model.specs.Events.{OuterEvent, Chip_takes, Arrives, Gives, Device_ticks, Chip_ticks, Repeats, Wakes_device, Sets_device, Shows, Joins, Discovers, Links, Loses, Loses_acks, Marks_loss, Marks_change, Collides_next, Stalls, Cuts, mesh_of, outcome, steps, repeats}
-use Rattle.proof_device.proofs.Entered.{IsShown, IsChange, all_shown, change_entered}
-use Rattle.proof_device.proofs.Results.{IsSameChip, IsGiven, Gives as GivesSo, ends_go, gives_go, to_chip_goes}
-use Rattle.proof_serial.specs.Way.{written_all}
-use Rattle.proof_serial.specs.Chip.{IsFrame as FitsFrame, HasFrame, HasFrames}
-use Rattle.proof_serial.proofs.Frames.{events_fit}
-use Rattle.proof_serial.proofs.ChipWays.{units-append, written_all-append}
+use Rattle.law_wire.specs.law_transcript.Restarts.{begins_refused}
+use Rattle.proof_walk.specs.outside_model.State.{OuterState, Outside, Outcome, silent, tells, each, with_chip}
+use Rattle.proof_walk.specs.outside_model.Chip.{put_out, chip_does, chip_ticks}
+use Rattle.proof_walk.specs.outside_model.Results.{device_at}
+use Rattle.proof_walk.specs.outside_model.Air.{deals, sent_entries, change_entries, change_at}
+use Rattle.proof_walk.specs.outside_model.Devices.{acts_at, acts_by_hand, shown_entries}
+use Rattle.proof_walk.specs.outside_model.Events.{OuterEvent, Chip_takes, Arrives, Gives, Device_ticks, Chip_ticks, Repeats, Wakes_device, Sets_device, Shows, Joins, Discovers, Links, Loses, Loses_acks, Marks_loss, Marks_change, Collides_next, Stalls, Cuts, mesh_of, outcome, steps, repeats}
+use Rattle.proof_walk.proofs.Entered.{IsShown, IsChange, all_shown, change_entered}
+use Rattle.proof_walk.proofs.Results.{IsSameChip, IsGiven, Gives as GivesSo, ends_go, gives_go, to_chip_goes}
+use Rattle.proof_world.specs.proof_serial.Way.{written_all}
+use Rattle.proof_world.specs.proof_serial.Chip.{IsFrame as FitsFrame, HasFrame, HasFrames}
+use Rattle.proof_world.proofs.Frames.{events_fit}
+use Rattle.proof_world.proofs.ChipWays.{units-append, written_all-append}
 use Rattle.proof_walk.specs.Outside.{IsOfAir}
 use Rattle.proof_walk.proofs.Linking.{acts_of_air, IsFed}
 use Rattle.proof_walk.proofs.Times.{does_chip}

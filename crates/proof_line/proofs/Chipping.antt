@@ -29,27 +29,27 @@ use Rattle.device_sim.specs.Event.{DeviceEvent, Ticks, Wakes, Sets}
 use Rattle.air_frames.specs.Ages.{refusal_of}
 use Rattle.air_frames.specs.declared.ages.Refusal.{Refusal as RepeatRefusal}
 use Rattle.air_frames.specs.declared.ages.Refusal.TheVariants.{NeverSent, Forgotten, Stale}
-use Rattle.mesh_sim.specs.declared.event.AirEvent.{AirEvent}
-use Rattle.mesh_sim.specs.Fates.{place_of}
-use Rattle.mesh_sim.specs.Steps.{AirStep, mesh_after, mesh_outs}
-use Rattle.mesh_sim.specs.Steps as mesh
+use Rattle.proof_walk.specs.mesh_sim.declared.event.AirEvent.{AirEvent}
+use Rattle.proof_walk.specs.mesh_sim.Fates.{place_of}
+use Rattle.proof_walk.specs.mesh_sim.Steps.{AirStep, mesh_after, mesh_outs}
+use Rattle.proof_walk.specs.mesh_sim.Steps as mesh
 use Rattle.zw_words.specs.declared.side.Side.TheVariants.{Host as by_host, Chip as by_chip}
 use Rattle.zw_text.specs.declared.entry.Entry.{Entry}
 use Rattle.zw_text.specs.declared.entry.Entry.TheVariants as entry
-use Rattle.law_transcript.specs.Lists.{EachAfter}
+use Rattle.law_wire.specs.law_transcript.Lists.{EachAfter}
 use Rattle.law_wire.specs.Pipes.{Pipe, with_answer, gone_on, with_turn, sum_of}
-use Rattle.outside_model.specs.State.{OuterState, Outside, outside, Outcome, each, with_chip, is_stalled}
-use Rattle.outside_model.specs.Chip.{put_out, chip_does}
-use Rattle.outside_model.specs.Results.{device_at}
-use Rattle.outside_model.specs.Air.{deals}
-use Rattle.outside_model.specs.Devices.{acts_at, acts_by_hand, device_set, set_by_hand, shown_entries}
-use Rattle.outside_model.specs.Events.{OuterEvent, Begins_line, Begins_tick, Chip_takes, Arrives, Gives, Device_ticks, Chip_ticks, Repeats, Wakes_device, Sets_device, Shows, Joins, Discovers, Links, Loses, Loses_acks, Marks_loss, Marks_change, Collides_next, Stalls, Cuts, mesh_of, outcome, devices_after, steps, repeats, devices_repeated, refusal_entries, ticked_entry, has_entered, happens, entries}
+use Rattle.proof_walk.specs.outside_model.State.{OuterState, Outside, outside, Outcome, each, with_chip, is_stalled}
+use Rattle.proof_walk.specs.outside_model.Chip.{put_out, chip_does}
+use Rattle.proof_walk.specs.outside_model.Results.{device_at}
+use Rattle.proof_walk.specs.outside_model.Air.{deals}
+use Rattle.proof_walk.specs.outside_model.Devices.{acts_at, acts_by_hand, device_set, set_by_hand, shown_entries}
+use Rattle.proof_walk.specs.outside_model.Events.{OuterEvent, Begins_line, Begins_tick, Chip_takes, Arrives, Gives, Device_ticks, Chip_ticks, Repeats, Wakes_device, Sets_device, Shows, Joins, Discovers, Links, Loses, Loses_acks, Marks_loss, Marks_change, Collides_next, Stalls, Cuts, mesh_of, outcome, devices_after, steps, repeats, devices_repeated, refusal_entries, ticked_entry, has_entered, happens, entries}
 use Rattle.proof_walk.specs.Outside.{Knowing, Moves, Comes, IsOfAir, awaits_number}
 use Rattle.proof_walk.proofs.Moving.{moves_none, moves_both, moves_then}
 use Rattle.proof_walk.proofs.Times.{each_keeps, outcome_time, IsWithin}
 use Rattle.proof_walk.proofs.Linking.{IsFed, Fed, ticks_go, results_go, deals_go, acts_go}
 use Rattle.proof_walk.proofs.Stamping.{stamped}
-use Rattle.proof_device.proofs.Entered.{IsShown, all_shown}
+use Rattle.proof_walk.proofs.Entered.{IsShown, all_shown}
 use Rattle.proof_line.specs.Pipes.{MayTell, Mode, most, Turned, Waits, AtMost, Taken, Held, IsByHand}
 use Rattle.proof_line.proofs.Standing.{frame_long}
 use Rattle.proof_line.proofs.Holding.{TellsNothing, Grown, grown_most}

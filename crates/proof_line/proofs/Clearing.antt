@@ -8,8 +8,8 @@ use Rattle.zw_text.specs.declared.line.Line.{Line}
 use Rattle.zw_text.specs.declared.entry.Entry.{Entry}
 use Rattle.zw_text.specs.declared.entry.Entry.TheVariants as entry
 use Rattle.zw_text.specs.Transcript.{line_of, shown}
-use Rattle.law_transcript.specs.Lists.{EachAfter}
-use Rattle.law_transcript.specs.Restarts.{is_restart, begins_refused}
+use Rattle.law_wire.specs.law_transcript.Lists.{EachAfter}
+use Rattle.law_wire.specs.law_transcript.Restarts.{is_restart, begins_refused}
 use Rattle.law_wire.specs.Clearing.{Cleared_there, clears_first, goes_on_after, clears, clear_at}
 use Rattle.proof_line.specs.Pipes.{IsCleared, MayClear, IsAheadOf, ClearsNowhereElse}
 use Rattle.proof_line.proofs.Standing.{last_only}

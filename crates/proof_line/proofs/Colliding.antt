@@ -23,14 +23,14 @@ use Rattle.chip_sim.specs.Did.{after_all}
 use Rattle.chip_sim.specs.declared.out.ChipOut.{ChipOut}
 use Rattle.chip_sim.specs.declared.out.ChipOut.TheVariants.{Write, OnAir, NoRoute, AskInfo, Full}
 use Rattle.device_sim.specs.State.{State}
-use Rattle.mesh_sim.specs.Air.{AirState, joining}
-use Rattle.mesh_sim.specs.Fates.{place_of}
-use Rattle.proof_host.proofs.Lists.{each-anywhere}
-use Rattle.outside_model.specs.State.{OuterState, Outside, outside, Outcome, each, with_chip}
-use Rattle.outside_model.specs.Chip.{put_out, chip_does}
-use Rattle.outside_model.specs.Results.{device_at}
-use Rattle.outside_model.specs.Nodes.{links_of, pairs_of, all_pairs, listens_at, joins, discovers, is_known}
-use Rattle.outside_model.specs.Events.{OuterEvent, Host_writes, Host_takes, Host_notes, Shows, Joins, Discovers, Links, Loses, Loses_acks, Marks_loss, Marks_change, Clears_pipe, Collides_next, Stalls, Cuts, outcome}
+use Rattle.proof_walk.specs.mesh_sim.Air.{AirState, joining}
+use Rattle.proof_walk.specs.mesh_sim.Fates.{place_of}
+use Rattle.proof_walk.proofs.Lists.{each-anywhere}
+use Rattle.proof_walk.specs.outside_model.State.{OuterState, Outside, outside, Outcome, each, with_chip}
+use Rattle.proof_walk.specs.outside_model.Chip.{put_out, chip_does}
+use Rattle.proof_walk.specs.outside_model.Results.{device_at}
+use Rattle.proof_walk.specs.outside_model.Nodes.{links_of, pairs_of, all_pairs, listens_at, joins, discovers, is_known}
+use Rattle.proof_walk.specs.outside_model.Events.{OuterEvent, Host_writes, Host_takes, Host_notes, Shows, Joins, Discovers, Links, Loses, Loses_acks, Marks_loss, Marks_change, Clears_pipe, Collides_next, Stalls, Cuts, outcome}
 use Rattle.proof_walk.specs.Outside.{Moves, Comes, Link, IsSimple, IsDone}
 use Rattle.proof_walk.proofs.Moving.{moves_none, moves_both}
 use Rattle.proof_line.specs.Collisions.{link_collisions, Tie, IsNoCollision}

@@ -21,10 +21,10 @@ use Rattle.zw_text.proofs.Views.{shown-append}
 use Rattle.law_wire.specs.Asked.{is_ack}
 use Rattle.law_wire.specs.Marks.{collision_of, collisions, is_can, cans, AnswersBy, MayCollide}
 use Rattle.device_sim.specs.State.{State}
-use Rattle.outside_model.specs.Devices.{shown_entries}
-use Rattle.outside_model.specs.Events.{cleared_entries}
+use Rattle.proof_walk.specs.outside_model.Devices.{shown_entries}
+use Rattle.proof_walk.specs.outside_model.Events.{cleared_entries}
 use Rattle.proof_walk.specs.Outside.{IsNote, IsOfAir}
-use Rattle.proof_device.proofs.Entered.{IsMark, told_by_marks, IsCleared, all_cleared, IsShown, all_shown}
+use Rattle.proof_walk.proofs.Entered.{IsMark, told_by_marks, IsCleared, all_cleared, IsShown, all_shown}
 
 -- ---- more entries
 

@@ -10,15 +10,15 @@ use Rattle.zw_words.specs.declared.side.Side.TheVariants.{Host as by_host, Chip 
 use Rattle.zw_text.specs.declared.entry.Entry.{Entry}
 use Rattle.zw_text.specs.declared.entry.Entry.TheVariants as entry
 use Rattle.zw_text.specs.Transcript.{line_of, line_last}
-use Rattle.law_transcript.specs.Lists.{EachAfter}
-use Rattle.law_transcript.specs.Restarts.{is_restart}
+use Rattle.law_wire.specs.law_transcript.Lists.{EachAfter}
+use Rattle.law_wire.specs.law_transcript.Restarts.{is_restart}
 use Rattle.law_wire.specs.Pipes.{Pipe, empty_pipe, with_answer, gone_on, with_turn, pipe_from, sum_of}
-use Rattle.outside_model.specs.State.{OuterState}
-use Rattle.proof_device.proofs.Entered.{IsMark, told_by_marks}
+use Rattle.proof_walk.specs.outside_model.State.{OuterState}
+use Rattle.proof_walk.proofs.Entered.{IsMark, told_by_marks}
 use Rattle.proof_line.specs.Pipes.{MayTell, Mode, most, Resting, Turned, Waits, AtMost, Taken, Heard, Held}
 use Rattle.proof_walk.proofs.ByLine.{last_is as line_then}
 use Rattle.proof_line.proofs.Holding.{pipe_grows, TellsNothing, apart_mark, apart_step, apart_line, apart_stands, Grown, other_pipe, unit_grows, unit_stands, grown_most, grown_frames, long_answer, gone_frames, gone_written, gone_none}
-use Rattle.proof_serial.proofs.Outer.{wrong as no_refusal}
+use Rattle.proof_world.proofs.Outer.{wrong as no_refusal}
 
 abbrev pub Up : List Entry → Pipe
 Up past = pipe_from by_host empty_pipe past

@@ -22,16 +22,16 @@ use Rattle.zw_words.specs.declared.side.Side.TheVariants.{Host as by_host, Chip 
 use Rattle.zw_text.specs.declared.entry.Entry.{Entry}
 use Rattle.zw_text.specs.declared.entry.Entry.TheVariants as entry
 use Rattle.zw_text.specs.Transcript.{same_side}
-use Rattle.law_transcript.specs.Lists.{EachAfter}
+use Rattle.law_wire.specs.law_transcript.Lists.{EachAfter}
 use Rattle.law_wire.specs.Pipes.{Pipe, empty_pipe, with_unit, with_answer, gone_on, is_lost, pipe_from, sum_of, bytes_surely, Unit_last, unit_last, unit_by, may_fit}
 use Rattle.law_wire.specs.Links.{other}
-use Rattle.proof_serial.specs.Way.{items_of, unit_item, changed_item, wanted_sum, found_sum}
-use Rattle.proof_serial.proofs.ChangedUnits.{garbled_long}
-use Rattle.proof_serial.proofs.Ways.{carries_more}
+use Rattle.proof_world.specs.proof_serial.Way.{items_of, unit_item, changed_item, wanted_sum, found_sum}
+use Rattle.proof_world.proofs.ChangedUnits.{garbled_long}
+use Rattle.proof_world.proofs.Ways.{carries_more}
 use Rattle.proof_line.specs.Rooms.{MayFit, LastFits, HasUnanswered, answers_due, Fills}
 use Rattle.proof_line.proofs.Standing.{last_only, but_last, same_itself, frame_long}
 use Rattle.proof_line.proofs.Holding.{pipe_grows, own_pipe, other_pipe, sum_more}
-use Rattle.proof_serial.proofs.Outer.{wrong as no_refusal}
+use Rattle.proof_world.proofs.Outer.{wrong as no_refusal}
 
 -- ---- the unit that stands last
 

@@ -10,15 +10,15 @@ use Rattle.zw_words.specs.declared.side.Side.TheVariants.{Host as by_host, Chip 
 use Rattle.zw_text.specs.declared.entry.Entry.{Entry}
 use Rattle.zw_text.specs.declared.entry.Entry.TheVariants as entry
 use Rattle.zw_text.specs.Transcript.{line_of, same_side}
-use Rattle.law_transcript.specs.Lists.{EachAfter}
+use Rattle.law_wire.specs.law_transcript.Lists.{EachAfter}
 use Rattle.law_wire.specs.Pipes.{Pipe, empty_pipe, with_turn, pipe_from, sum_of}
-use Rattle.proof_host.proofs.Lists.{each-append}
-use Rattle.proof_serial.specs.Way.{written_all}
+use Rattle.proof_walk.proofs.Lists.{each-append}
+use Rattle.proof_world.specs.proof_serial.Way.{written_all}
 use Rattle.proof_line.specs.Arrivals.{arrived, Comes}
 use Rattle.proof_line.specs.Rooms.{MayFit, LastFits, Fills}
 use Rattle.proof_line.proofs.Arriving.{time_same, comes_at}
 use Rattle.proof_line.proofs.Holding.{Joins, TellsNothing, pipe_grows}
-use Rattle.proof_serial.proofs.Outer.{wrong as no_refusal}
+use Rattle.proof_world.proofs.Outer.{wrong as no_refusal}
 use Rattle.proof_line.proofs.Fitting.{apart_fits}
 use Rattle.proof_line.proofs.Tellings.{Tells, tells_none, answers_all, AreFew, Written, writes}
 use Rattle.proof_line.proofs.Numbering.{IsNumber, Numbered}

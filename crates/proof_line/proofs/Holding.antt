@@ -13,10 +13,10 @@ use Rattle.zw_words.specs.declared.side.Side.{Side}
 use Rattle.zw_text.specs.declared.entry.Entry.{Entry}
 use Rattle.zw_text.specs.declared.entry.Entry.TheVariants as entry
 use Rattle.zw_text.specs.Transcript.{line_of, line_last, same_side}
-use Rattle.law_transcript.specs.Lists.{EachAfter}
-use Rattle.law_transcript.specs.Restarts.{is_restart, begins_refused}
+use Rattle.law_wire.specs.law_transcript.Lists.{EachAfter}
+use Rattle.law_wire.specs.law_transcript.Restarts.{is_restart, begins_refused}
 use Rattle.law_wire.specs.Pipes.{Pipe, empty_pipe, with_unit, with_answer, gone_on, with_turn, is_lost, pipe_by_unit, pipe_step, pipe_from, sum_of, bytes_perhaps, unit_by, may_lack}
-use Rattle.proof_device.proofs.Entered.{IsMark, told_by_marks}
+use Rattle.proof_walk.proofs.Entered.{IsMark, told_by_marks}
 use Rattle.proof_line.specs.Pipes.{MayTell, most}
 use Rattle.proof_line.proofs.Standing.{last_only, but_last, same_itself}
 

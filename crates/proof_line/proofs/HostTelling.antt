@@ -24,27 +24,27 @@ use Rattle.chip_functions.specs.declared.notice.Update.TheVariants.{Received, Re
 use Rattle.zw_words.specs.declared.side.Side.TheVariants.{Host as by_host}
 use Rattle.zw_text.specs.declared.entry.Entry.{Entry}
 use Rattle.zw_text.specs.declared.entry.Entry.TheVariants as entry
-use Rattle.law_transcript.specs.Restarts.{begins_refused}
+use Rattle.law_wire.specs.law_transcript.Restarts.{begins_refused}
 use Rattle.host_requests.specs.Events.{RequestsEvent}
 use Rattle.host_requests.specs.Events.RequestsEvent.{CallsBack as request_calls_back, Responds as request_responds, Updates as request_updates}
 use Rattle.host_node.specs.declared.attempt.Moment.TheVariants.{BetweenTicks}
-use Rattle.host_model.specs.State.{HostState, command_at}
-use Rattle.host_model.specs.Sessions.{settings_with}
-use Rattle.host_model.specs.Events.{HostEvent, Accepts, Cancels, Hears, Line_ticks, Requests_do, Finishes, Offers, Gives, Spends, Spends_unread, Takes_nonce, Unreads, Is_unkept, Reports_old, Works, Notifies, Resends, Hears_value, Has_no_room}
-use Rattle.host_model.specs.After.{after, is_full, is_held}
-use Rattle.host_model.specs.Did.{after_all, outs_all}
-use Rattle.host_model.specs.Outs.{answer_to, request_entries, dropped_if, stored_entries, held_entries, ended_of, outs, answers}
-use Rattle.host_model.specs.Taking.{told_requests, told_if, InterviewEvents, ResponseEvents, NoticeEvents, FrameEvents, IsFollowed, AreJudged}
-use Rattle.host_model.specs.declared.out.HostOut.{HostOut}
-use Rattle.host_model.specs.declared.out.HostOut.TheVariants.{Write, Note}
-use Rattle.host_model.proofs.EventLists.{outs_all-append}
-use Rattle.outside_model.specs.State.{OuterState, Outside}
-use Rattle.outside_model.specs.Events.{OuterEvent, Host_writes, Host_notes, Host_begins, outcome, happens as happens_outside, entries as entries_outside}
-use Rattle.outside_model.specs.Did.{happens_all as happens_all_outside, entries_all as entries_all_outside}
-use Rattle.world_model.specs.State.{Machine, begun_in, noted_by, routed, host_does}
-use Rattle.world_model.specs.Events.{Host_does, Host_takes, fed, notes, happens, entries}
-use Rattle.proof_serial.specs.Way.{written_all}
-use Rattle.proof_serial.specs.Line.{host_unit, host_units, host_writes}
+use Rattle.proof_world.specs.host_model.State.{HostState, command_at}
+use Rattle.proof_world.specs.host_model.Sessions.{settings_with}
+use Rattle.proof_world.specs.host_model.Events.{HostEvent, Accepts, Cancels, Hears, Line_ticks, Requests_do, Finishes, Offers, Gives, Spends, Spends_unread, Takes_nonce, Unreads, Is_unkept, Reports_old, Works, Notifies, Resends, Hears_value, Has_no_room}
+use Rattle.proof_world.specs.host_model.After.{after, is_full, is_held}
+use Rattle.proof_world.specs.host_model.Did.{after_all, outs_all}
+use Rattle.proof_world.specs.host_model.Outs.{answer_to, request_entries, dropped_if, stored_entries, held_entries, ended_of, outs, answers}
+use Rattle.proof_world.specs.host_model.Taking.{told_requests, told_if, InterviewEvents, ResponseEvents, NoticeEvents, FrameEvents, IsFollowed, AreJudged}
+use Rattle.proof_world.specs.host_model.declared.out.HostOut.{HostOut}
+use Rattle.proof_world.specs.host_model.declared.out.HostOut.TheVariants.{Write, Note}
+use Rattle.proof_world.proofs.EventLists.{outs_all-append}
+use Rattle.proof_walk.specs.outside_model.State.{OuterState, Outside}
+use Rattle.proof_walk.specs.outside_model.Events.{OuterEvent, Host_writes, Host_notes, Host_begins, outcome, happens as happens_outside, entries as entries_outside}
+use Rattle.proof_walk.specs.outside_model.Did.{happens_all as happens_all_outside, entries_all as entries_all_outside}
+use Rattle.proof_walk.specs.world_model.State.{Machine, begun_in, noted_by, routed, host_does}
+use Rattle.proof_walk.specs.world_model.Events.{Host_does, Host_takes, fed, notes, happens, entries}
+use Rattle.proof_world.specs.proof_serial.Way.{written_all}
+use Rattle.proof_world.specs.proof_serial.Line.{host_unit, host_units, host_writes}
 use Rattle.proof_walk.specs.Outside.{IsHostNote}
 use Rattle.proof_walk.proofs.HostNotes.{NoteOuts, is_note, all_outs_note}
 use Rattle.proof_walk.proofs.Machines.{UnitsAre}

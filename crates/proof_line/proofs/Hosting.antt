@@ -11,28 +11,28 @@ use Rattle.serial_pipes.specs.Events.{told}
 use Rattle.zw_words.specs.declared.side.Side.TheVariants.{Host as by_host, Chip as by_chip}
 use Rattle.zw_text.specs.declared.entry.Entry.{Entry}
 use Rattle.zw_text.specs.declared.entry.Entry.TheVariants as entry
-use Rattle.law_transcript.specs.Lists.{EachAfter}
+use Rattle.law_wire.specs.law_transcript.Lists.{EachAfter}
 use Rattle.law_wire.specs.Pipes.{Pipe, with_answer, gone_on, with_turn}
-use Rattle.proof_host.proofs.Lists.{each-append}
+use Rattle.proof_walk.proofs.Lists.{each-append}
 use Rattle.host_node.specs.Steps.{tick_end}
-use Rattle.host_model.specs.State.{HostState, node_of, command_at}
-use Rattle.host_model.specs.Sessions.{open_command, settings_with}
-use Rattle.host_model.specs.Ends.{attempt_entries}
-use Rattle.host_model.specs.After.{is_full, is_held, gives_up, line_ticked}
-use Rattle.host_model.specs.Events.{HostEvent, Accepts, Cancels, Joins, Queues, Queues_interview, Queues_probe, Hears, Requests_do, Finishes, Offers, Gives, Resends, Line_ticks, Node_ticks, Submits_abort, Submits_front, Starts, Gives_text, Gives_segment, Drops_no_more, Queues_no_more}
-use Rattle.host_model.specs.Outs.{copy_out, noted, request_entries, failing_entries, dropped_if, stored_entries, held_entries, ended_of, outs, answers}
-use Rattle.host_model.specs.Did.{outs_all}
-use Rattle.host_model.specs.Pumping.{no_more_event, IsNext}
-use Rattle.host_model.proofs.Submitted.{SubmittedAre, next_is}
-use Rattle.host_model.specs.Ticking.{first_ticks, tick_events, ticking_nodes}
-use Rattle.host_model.specs.Did.{after_all}
-use Rattle.host_model.specs.declared.out.HostOut.{HostOut}
-use Rattle.host_model.specs.declared.out.HostOut.TheVariants.{Write, Note}
-use Rattle.outside_model.specs.State.{Outside, outside}
-use Rattle.outside_model.specs.Events.{Host_writes, Host_notes, Host_begins, outcome, devices_after, happens as happens_outside, entries as entries_outside}
-use Rattle.outside_model.specs.Did.{happens_all as happens_all_outside, entries_all as entries_all_outside}
-use Rattle.world_model.specs.State.{begun_in, routed}
-use Rattle.world_model.specs.Events.{notes}
+use Rattle.proof_world.specs.host_model.State.{HostState, node_of, command_at}
+use Rattle.proof_world.specs.host_model.Sessions.{open_command, settings_with}
+use Rattle.proof_world.specs.host_model.Ends.{attempt_entries}
+use Rattle.proof_world.specs.host_model.After.{is_full, is_held, gives_up, line_ticked}
+use Rattle.proof_world.specs.host_model.Events.{HostEvent, Accepts, Cancels, Joins, Queues, Queues_interview, Queues_probe, Hears, Requests_do, Finishes, Offers, Gives, Resends, Line_ticks, Node_ticks, Submits_abort, Submits_front, Starts, Gives_text, Gives_segment, Drops_no_more, Queues_no_more}
+use Rattle.proof_world.specs.host_model.Outs.{copy_out, noted, request_entries, failing_entries, dropped_if, stored_entries, held_entries, ended_of, outs, answers}
+use Rattle.proof_world.specs.host_model.Did.{outs_all}
+use Rattle.proof_world.specs.host_model.Pumping.{no_more_event, IsNext}
+use Rattle.proof_world.proofs.Submitted.{SubmittedAre, next_is}
+use Rattle.proof_world.specs.host_model.Ticking.{first_ticks, tick_events, ticking_nodes}
+use Rattle.proof_world.specs.host_model.Did.{after_all}
+use Rattle.proof_world.specs.host_model.declared.out.HostOut.{HostOut}
+use Rattle.proof_world.specs.host_model.declared.out.HostOut.TheVariants.{Write, Note}
+use Rattle.proof_walk.specs.outside_model.State.{Outside, outside}
+use Rattle.proof_walk.specs.outside_model.Events.{Host_writes, Host_notes, Host_begins, outcome, devices_after, happens as happens_outside, entries as entries_outside}
+use Rattle.proof_walk.specs.outside_model.Did.{happens_all as happens_all_outside, entries_all as entries_all_outside}
+use Rattle.proof_walk.specs.world_model.State.{begun_in, routed}
+use Rattle.proof_walk.specs.world_model.Events.{notes}
 use Rattle.proof_walk.specs.Outside.{Moves, IsNote, session_begins}
 use Rattle.proof_walk.specs.ByLine.{IsAsked}
 use Rattle.proof_walk.proofs.Stamping.{stamped}

@@ -16,17 +16,17 @@ use Rattle.zw_text.specs.declared.entry.Entry.{Entry}
 use Rattle.zw_text.specs.declared.entry.Entry.TheVariants as entry
 use Rattle.zw_text.specs.declared.entry.Refusal.{Refusal}
 use Rattle.zw_text.specs.Transcript.{line_of}
-use Rattle.law_transcript.specs.Restarts.{is_restart}
+use Rattle.law_wire.specs.law_transcript.Restarts.{is_restart}
 use Rattle.law_wire.specs.Clearing.{Cleared_there, clears, to_clear}
 use Rattle.law_wire.specs.Serial.{SerialEvent, beginning_of, serial_events}
 use Rattle.law_wire.specs.Serial.SerialEvent.{Line_begins}
 use Rattle.law_wire.specs.Links.{Moment, clock_in, moments_of, stall_by}
-use Rattle.outside_model.specs.State.{OuterState}
-use Rattle.outside_model.specs.Events.{Begins_line, outcome, ticked_entry}
-use Rattle.world_model.specs.State.{Machine}
-use Rattle.world_model.specs.Events.{Outside_does, happens, entries}
-use Rattle.proof_serial.specs.Chip.{HasFrames}
-use Rattle.proof_serial.specs.Line.{AreAtRest}
+use Rattle.proof_walk.specs.outside_model.State.{OuterState}
+use Rattle.proof_walk.specs.outside_model.Events.{Begins_line, outcome, ticked_entry}
+use Rattle.proof_walk.specs.world_model.State.{Machine}
+use Rattle.proof_walk.specs.world_model.Events.{Outside_does, happens, entries}
+use Rattle.proof_world.specs.proof_serial.Chip.{HasFrames}
+use Rattle.proof_world.specs.proof_serial.Line.{AreAtRest}
 use Rattle.proof_traffic.specs.Links.{KeepsItsLink}
 use Rattle.proof_line.specs.Links.{AtLine, Brings, KnowsEvents, KnowsLink, LinkNow, MayEndNow, begun_line, cleared_in, due_from, stalls_in, tick_told}
 use Rattle.proof_line.specs.Linked.{Cuts, KnowsBoth, LinksBefore, LinksBegun, LinksDone, MayBothEnd}

@@ -22,11 +22,11 @@ use Rattle.zw_words.specs.declared.side.Side.{Side}
 use Rattle.zw_words.specs.declared.side.Side.TheVariants.{Host, Chip}
 use Rattle.zw_text.specs.declared.entry.Entry.{Entry}
 use Rattle.law_wire.specs.Serial.{SerialEvent}
-use Rattle.outside_model.specs.State.{OuterState, Outcome, each}
+use Rattle.proof_walk.specs.outside_model.State.{OuterState, Outcome, each}
 use Rattle.serial_frame.specs.Stream.{Rest, Feeds, no_rest}
 use Rattle.serial_pipes.specs.Events.{Takes}
 use Rattle.serial_pipes.specs.Events as way
-use Rattle.outside_model.specs.Chip.{chip_does, chip_takes, MayTake}
+use Rattle.proof_walk.specs.outside_model.Chip.{chip_does, chip_takes, MayTake}
 use Rattle.proof_walk.proofs.Times.{does_chip}
 use Rattle.proof_line.specs.Links.{Brings, IsMute, KnowsEvents, KnowsLink, LinkNow, MayHear, MayOfChip, gone, with_arriving}
 use Rattle.proof_line.proofs.Tellings.{IsBeside, Tells, tells_none}

@@ -8,14 +8,14 @@ use Rattle.host_orders.specs.declared.refused.Refused.{Refused}
 use Rattle.host_orders.specs.Refusals.{classes_of}
 use Rattle.host_orders.specs.Errands.{send_refusal, send_text, get_refusal, get_text}
 use Rattle.host_requests.specs.declared.task.Task.TheVariants as task
-use Rattle.host_model.specs.State.{node_of}
-use Rattle.host_model.specs.Events.{HostEvent, Accepts, Cancels, Joins as joins_host, Queues, Queues_interview, Queues_probe}
-use Rattle.host_model.specs.May.{known_of}
-use Rattle.host_model.specs.Asking.{carriage_for, places_refusal, interview_refusal}
-use Rattle.outside_model.specs.Events.{OuterEvent, Discovers, Joins, Repeats, Sets_device, Wakes_device}
-use Rattle.world_model.specs.State.{Machine}
-use Rattle.world_model.specs.Events.{Event, Outside_does, Host_does}
-use Rattle.world_model.specs.Lines.{IsRefusal, IsDone, Asks, IsEffect}
+use Rattle.proof_world.specs.host_model.State.{node_of}
+use Rattle.proof_world.specs.host_model.Events.{HostEvent, Accepts, Cancels, Joins as joins_host, Queues, Queues_interview, Queues_probe}
+use Rattle.proof_world.specs.host_model.May.{known_of}
+use Rattle.proof_world.specs.host_model.Asking.{carriage_for, places_refusal, interview_refusal}
+use Rattle.proof_walk.specs.outside_model.Events.{OuterEvent, Discovers, Joins, Repeats, Sets_device, Wakes_device}
+use Rattle.proof_walk.specs.world_model.State.{Machine}
+use Rattle.proof_walk.specs.world_model.Events.{Event, Outside_does, Host_does}
+use Rattle.proof_walk.specs.world_model.Lines.{IsRefusal, IsDone, Asks, IsEffect}
 use Rattle.proof_walk.specs.ByLine.{IsAsked}
 use Rattle.proof_line.specs.Linked.{ArePlain, IsLater, IsPlain}
 use Rattle.proof_line.proofs.LinkBegins.{IsOrdinary}

@@ -8,7 +8,7 @@ use Rattle.law_wire.specs.Links.{KeepsLink, joined}
 use Rattle.law_wire.specs.Asked.{course_of}
 use Rattle.law_wire.specs.Serial.{serial_events}
 use Rattle.serial_link.specs.Rules.{SideObeys, Step}
-use Rattle.outside_model.specs.State.{OuterState}
+use Rattle.proof_walk.specs.outside_model.State.{OuterState}
 use Rattle.proof_line.specs.Pipes.{ClearsNowhereElse}
 use Rattle.proof_line.specs.Links.{AtLine, KnowsLink, LinkNow}
 use Rattle.proof_line.specs.Linked.{Cuts}

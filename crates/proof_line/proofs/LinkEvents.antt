@@ -13,16 +13,16 @@ use Rattle.zw_text.specs.declared.entry.Entry.{Entry}
 use Rattle.law_wire.specs.Asked.{course_of}
 use Rattle.law_wire.specs.Clearing.{to_clear}
 use Rattle.law_wire.specs.Serial.{serial_events}
-use Rattle.outside_model.specs.State.{OuterState, Outcome}
-use Rattle.outside_model.specs.Events.{OuterEvent, has_entered, outcome, stamp, ticked_entry}
-use Rattle.world_model.specs.State.{Machine}
-use Rattle.world_model.specs.Events.{Event, Outside_does, happens, entries, May}
-use Rattle.world_model.specs.Settling.{TakesWhole}
-use Rattle.proof_serial.specs.Way.{Carries, written_all}
-use Rattle.proof_serial.specs.Chip.{HasFrames}
-use Rattle.proof_serial.specs.Line.{AreAtRest, IsWhole, WritesWell}
-use Rattle.proof_serial.proofs.Events.{at_rest, rests_after, whole_after}
-use Rattle.proof_serial.proofs.Outer.{entered_still}
+use Rattle.proof_walk.specs.outside_model.State.{OuterState, Outcome}
+use Rattle.proof_walk.specs.outside_model.Events.{OuterEvent, has_entered, outcome, stamp, ticked_entry}
+use Rattle.proof_walk.specs.world_model.State.{Machine}
+use Rattle.proof_walk.specs.world_model.Events.{Event, Outside_does, happens, entries, May}
+use Rattle.proof_walk.specs.world_model.Settling.{TakesWhole}
+use Rattle.proof_world.specs.proof_serial.Way.{Carries, written_all}
+use Rattle.proof_world.specs.proof_serial.Chip.{HasFrames}
+use Rattle.proof_world.specs.proof_serial.Line.{AreAtRest, IsWhole, WritesWell}
+use Rattle.proof_world.proofs.Events.{at_rest, rests_after, whole_after}
+use Rattle.proof_world.proofs.Outer.{entered_still}
 use Rattle.proof_traffic.specs.Links.{KeepsItsLink}
 use Rattle.proof_walk.proofs.Times.{IsWithin, outcome_time}
 use Rattle.proof_line.specs.Links.{AtLine, Brings, IsMute, KnowsLink, LinkNow, tick_told, with_arriving}

@@ -24,23 +24,23 @@ use Rattle.device_sim.specs.Event.{DeviceEvent, Ticks, Wakes, Sets}
 use Rattle.air_frames.specs.Ages.{refusal_of}
 use Rattle.air_frames.specs.declared.ages.Refusal.{Refusal as RepeatRefusal}
 use Rattle.air_frames.specs.declared.ages.Refusal.TheVariants.{NeverSent, Forgotten, Stale}
-use Rattle.mesh_sim.specs.Air.{AirState}
-use Rattle.mesh_sim.specs.Fates.{place_of}
-use Rattle.mesh_sim.specs.Steps.{AirStep}
-use Rattle.mesh_sim.specs.Steps as mesh
+use Rattle.proof_walk.specs.mesh_sim.Air.{AirState}
+use Rattle.proof_walk.specs.mesh_sim.Fates.{place_of}
+use Rattle.proof_walk.specs.mesh_sim.Steps.{AirStep}
+use Rattle.proof_walk.specs.mesh_sim.Steps as mesh
 use Rattle.zw_words.specs.declared.side.Side.TheVariants.{Host, Chip}
 use Rattle.zw_text.specs.declared.entry.Entry.{Entry}
 use Rattle.zw_text.specs.declared.entry.Entry.TheVariants as entry
 use Rattle.zw_text.specs.declared.entry.Refusal.{Refusal}
 use Rattle.zw_text.specs.declared.entry.Refusal.TheVariants as refusal
-use Rattle.outside_model.specs.State.{OuterState, Outside, Outcome, and_then, silent, tells}
-use Rattle.outside_model.specs.Chip.{chip_does}
-use Rattle.outside_model.specs.Nodes.{listens_at}
-use Rattle.outside_model.specs.Results.{device_at}
-use Rattle.outside_model.specs.Devices.{acts_at, acts_by_hand, shown_entries}
-use Rattle.outside_model.specs.Events.{OuterEvent, Arrives, Device_ticks, Gives, Repeats, Wakes_device, Sets_device, Shows, Joins, Discovers, Links, Loses, Loses_acks, Marks_loss, Marks_change, Cuts, outcome, repeats}
-use Rattle.proof_device.proofs.Results.{IsGiven, IsSameChip}
-use Rattle.proof_serial.specs.Chip.{HasFrames}
+use Rattle.proof_walk.specs.outside_model.State.{OuterState, Outside, Outcome, and_then, silent, tells}
+use Rattle.proof_walk.specs.outside_model.Chip.{chip_does}
+use Rattle.proof_walk.specs.outside_model.Nodes.{listens_at}
+use Rattle.proof_walk.specs.outside_model.Results.{device_at}
+use Rattle.proof_walk.specs.outside_model.Devices.{acts_at, acts_by_hand, shown_entries}
+use Rattle.proof_walk.specs.outside_model.Events.{OuterEvent, Arrives, Device_ticks, Gives, Repeats, Wakes_device, Sets_device, Shows, Joins, Discovers, Links, Loses, Loses_acks, Marks_loss, Marks_change, Cuts, outcome, repeats}
+use Rattle.proof_walk.proofs.Results.{IsGiven, IsSameChip}
+use Rattle.proof_world.specs.proof_serial.Chip.{HasFrames}
 use Rattle.proof_walk.specs.Outside.{IsOfAir}
 use Rattle.proof_walk.proofs.Times.{does_chip}
 use Rattle.proof_line.specs.Links.{AtLine, Brings, IsMute, LinkNow, MayOfChip, TakesTexts}

@@ -17,14 +17,14 @@ use Rattle.zw_text.specs.declared.entry.Entry.{Entry}
 use Rattle.host_requests.specs.declared.task.Purpose.TheVariants.{Attempt, Abort}
 use Rattle.host_requests.specs.Frames.{frame_of}
 use Rattle.host_requests.specs.State.{next_id}
-use Rattle.host_model.specs.State.{HostState}
-use Rattle.host_model.specs.Events.{HostEvent, Hears, Line_ticks, Submits_abort, Submits_front, Starts, Gives_text, Gives_segment}
-use Rattle.host_model.specs.After.{after, task_purpose}
-use Rattle.host_model.specs.May.{May as MayHost}
-use Rattle.host_model.specs.Outs.{outs}
-use Rattle.host_model.specs.Did.{after_all, outs_all, MayAll}
+use Rattle.proof_world.specs.host_model.State.{HostState}
+use Rattle.proof_world.specs.host_model.Events.{HostEvent, Hears, Line_ticks, Submits_abort, Submits_front, Starts, Gives_text, Gives_segment}
+use Rattle.proof_world.specs.host_model.After.{after, task_purpose}
+use Rattle.proof_world.specs.host_model.May.{May as MayHost}
+use Rattle.proof_world.specs.host_model.Outs.{outs}
+use Rattle.proof_world.specs.host_model.Did.{after_all, outs_all, MayAll}
 use Rattle.law_wire.specs.Links.{MayDo}
-use Rattle.proof_serial.specs.Line.{host_units}
+use Rattle.proof_world.specs.proof_serial.Line.{host_units}
 use Rattle.proof_traffic.specs.Links.{KeepsItsLink, host_link_steps, host_link_steps_all}
 use Rattle.proof_line.specs.Links.{KnowsLink, LinkNow, MayGo, MayHear, MayOfHost, TicksNot, gone, stepped}
 use Rattle.proof_line.proofs.HostTelling.{units_both}

@@ -13,7 +13,7 @@ use Rattle.zw_text.specs.declared.entry.Entry.{Entry}
 use Rattle.zw_text.specs.declared.entry.Entry.TheVariants as entry
 use Rattle.zw_text.specs.Transcript.{line_of}
 use Rattle.law_wire.specs.Clearing.{bytes_in}
-use Rattle.law_transcript.specs.Restarts.{ticks_asked}
+use Rattle.law_wire.specs.law_transcript.Restarts.{ticks_asked}
 use Rattle.law_wire.specs.Serial.{SerialEvent, beginning_of, done_line, serial_events, serial_events_from, ticks_up_to}
 use Rattle.law_wire.specs.Serial.SerialEvent.{Line_begins}
 use Rattle.law_wire.specs.Links.{Moment, Round, stall_by, arrivals_of, clock_in, moments_of, steps_in, texts_of}

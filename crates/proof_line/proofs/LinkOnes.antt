@@ -14,15 +14,15 @@ use Rattle.zw_text.specs.declared.line.Line.TheVariants as lines
 use Rattle.zw_text.specs.declared.entry.Entry.{Entry}
 use Rattle.zw_text.specs.declared.entry.Entry.TheVariants as entry
 use Rattle.zw_text.specs.Transcript.{line_of, lines_run}
-use Rattle.law_transcript.specs.Restarts.{is_restart, ticks_asked}
+use Rattle.law_wire.specs.law_transcript.Restarts.{is_restart, ticks_asked}
 use Rattle.law_wire.specs.Asked.{course_of}
 use Rattle.law_wire.specs.Clearing.{clears, to_clear}
 use Rattle.law_wire.specs.Serial.{serial_events}
-use Rattle.host_model.specs.State.{HostParts}
-use Rattle.outside_model.specs.State.{OuterState}
-use Rattle.outside_model.specs.Events.{Collides_next, Stalls, outcome, ticked_entry}
-use Rattle.world_model.specs.State.{Machine}
-use Rattle.world_model.specs.Events.{Event, Outside_does, happens, entries}
+use Rattle.proof_world.specs.host_model.State.{HostParts}
+use Rattle.proof_walk.specs.outside_model.State.{OuterState}
+use Rattle.proof_walk.specs.outside_model.Events.{Collides_next, Stalls, outcome, ticked_entry}
+use Rattle.proof_walk.specs.world_model.State.{Machine}
+use Rattle.proof_walk.specs.world_model.Events.{Event, Outside_does, happens, entries}
 use Rattle.proof_traffic.specs.Links.{KeepsItsLink}
 use Rattle.proof_line.specs.Links.{AtLine, Brings, LinkNow, begun_line, cleared_in, due_from, tick_told}
 use Rattle.proof_line.specs.Linked.{Cuts, KnowsBoth, LinksBegun, LinksDone, LinksEnded, LinksOne, MayBothEnd}

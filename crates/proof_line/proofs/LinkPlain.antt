@@ -11,19 +11,19 @@ use Rattle.zw_text.specs.declared.line.Line.{Line}
 use Rattle.zw_text.specs.declared.entry.Entry.{Entry}
 use Rattle.zw_text.specs.declared.entry.Entry.TheVariants as entry
 use Rattle.zw_text.specs.declared.entry.Refusal.{Refusal}
-use Rattle.law_transcript.specs.Restarts.{is_restart}
+use Rattle.law_wire.specs.law_transcript.Restarts.{is_restart}
 use Rattle.law_wire.specs.Asked.{course_of}
-use Rattle.host_model.specs.State.{HostParts, HostState}
-use Rattle.host_model.specs.Events.{HostEvent, Accepts, Cancels, Joins as joins_host, Queues, Queues_interview, Queues_probe}
-use Rattle.host_model.specs.After.{after as host_after}
-use Rattle.host_model.specs.May.{May as MayHost}
-use Rattle.host_model.specs.Outs.{outs as host_outs}
-use Rattle.outside_model.specs.State.{OuterState, Outcome, tells}
-use Rattle.outside_model.specs.Events.{OuterEvent, Discovers, Joins, Stalls, Collides_next, has_entered, outcome, stamp, ticked_entry}
-use Rattle.world_model.specs.State.{Machine}
-use Rattle.world_model.specs.Events.{Event, Outside_does, Host_does, Host_takes, Decoder_ticks, Refuses, Restarts, Shows_values, shown_values, happens, entries, May}
-use Rattle.proof_serial.specs.Chip.{HasFrames}
-use Rattle.proof_serial.specs.Line.{AreAtRest, host_units}
+use Rattle.proof_world.specs.host_model.State.{HostParts, HostState}
+use Rattle.proof_world.specs.host_model.Events.{HostEvent, Accepts, Cancels, Joins as joins_host, Queues, Queues_interview, Queues_probe}
+use Rattle.proof_world.specs.host_model.After.{after as host_after}
+use Rattle.proof_world.specs.host_model.May.{May as MayHost}
+use Rattle.proof_world.specs.host_model.Outs.{outs as host_outs}
+use Rattle.proof_walk.specs.outside_model.State.{OuterState, Outcome, tells}
+use Rattle.proof_walk.specs.outside_model.Events.{OuterEvent, Discovers, Joins, Stalls, Collides_next, has_entered, outcome, stamp, ticked_entry}
+use Rattle.proof_walk.specs.world_model.State.{Machine}
+use Rattle.proof_walk.specs.world_model.Events.{Event, Outside_does, Host_does, Host_takes, Decoder_ticks, Refuses, Restarts, Shows_values, shown_values, happens, entries, May}
+use Rattle.proof_world.specs.proof_serial.Chip.{HasFrames}
+use Rattle.proof_world.specs.proof_serial.Line.{AreAtRest, host_units}
 use Rattle.proof_traffic.specs.Links.{KeepsItsLink, host_link_steps}
 use Rattle.proof_walk.specs.ByLine.{IsAsked, KnownOf}
 use Rattle.proof_walk.proofs.Times.{IsWithin}

@@ -18,28 +18,28 @@ use Rattle.zw_text.specs.declared.line.Line.TheVariants as lines
 use Rattle.zw_text.specs.declared.entry.Entry.{Entry}
 use Rattle.zw_text.specs.declared.entry.Entry.TheVariants as entry
 use Rattle.zw_text.specs.Transcript.{line_of}
-use Rattle.law_transcript.specs.Restarts.{is_restart, begins_refused}
+use Rattle.law_wire.specs.law_transcript.Restarts.{is_restart, begins_refused}
 use Rattle.law_wire.specs.Asked.{course_of}
 use Rattle.law_wire.specs.Clearing.{AreTold, Cleared_there, bytes_in, cleared, clears, clears_first, goes_on_after, to_clear}
 use Rattle.law_wire.specs.Serial.{SerialEvent, serial_events}
 use Rattle.law_wire.specs.Serial.SerialEvent.{Line_begins}
 use Rattle.host_keep.specs.declared.record.Record.{Record}
-use Rattle.host_model.specs.Opening.{opened}
-use Rattle.host_model.specs.State.{HostParts, HostState}
-use Rattle.outside_model.specs.State.{OuterState}
-use Rattle.outside_model.specs.Events.{Clears_pipe, cleared_entries, outcome, ticked_entry}
-use Rattle.world_model.specs.State.{Machine}
+use Rattle.proof_world.specs.host_model.Opening.{opened}
+use Rattle.proof_world.specs.host_model.State.{HostParts, HostState}
+use Rattle.proof_walk.specs.outside_model.State.{OuterState}
+use Rattle.proof_walk.specs.outside_model.Events.{Clears_pipe, cleared_entries, outcome, ticked_entry}
+use Rattle.proof_walk.specs.world_model.State.{Machine}
 use Rattle.zw_text.specs.declared.line.Line.{Line}
 use Rattle.zw_text.specs.declared.entry.Refusal.{Refusal}
-use Rattle.world_model.specs.Events.{Event, Outside_does, Refuses, Restarts, OpensFrom, happens, entries, May}
-use Rattle.proof_device.proofs.Entered.{IsCleared}
+use Rattle.proof_walk.specs.world_model.Events.{Event, Outside_does, Refuses, Restarts, OpensFrom, happens, entries, May}
+use Rattle.proof_walk.proofs.Entered.{IsCleared}
 use Rattle.serial_frame.specs.Stream.{Rest}
-use Rattle.proof_serial.specs.Chip.{HasFrames}
-use Rattle.proof_serial.specs.Way.{Carries}
-use Rattle.proof_serial.proofs.Outer.{entered_still}
+use Rattle.proof_world.specs.proof_serial.Chip.{HasFrames}
+use Rattle.proof_world.specs.proof_serial.Way.{Carries}
+use Rattle.proof_world.proofs.Outer.{entered_still}
 use Rattle.proof_line.proofs.Holding.{NoMark}
-use Rattle.proof_serial.specs.Line.{AreAtRest, IsWhole}
-use Rattle.proof_serial.proofs.Events.{at_rest, rests_after, whole_after}
+use Rattle.proof_world.specs.proof_serial.Line.{AreAtRest, IsWhole}
+use Rattle.proof_world.proofs.Events.{at_rest, rests_after, whole_after}
 use Rattle.proof_traffic.specs.Links.{KeepsItsLink}
 use Rattle.proof_line.specs.Links.{AtLine, Brings, KnowsEvents, KnowsLink, LinkNow, cleared_in, due_from, tick_told}
 use Rattle.proof_line.specs.Linked.{Cuts, IsBegun, IsOrderly, KnowsBoth, LinksBegun, LinksClearing, LinksDone, LinksRestarting, MayBothEnd}

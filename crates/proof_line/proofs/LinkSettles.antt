@@ -20,19 +20,19 @@ use Rattle.chip_sim.proofs.Histories.{well_all}
 use Rattle.zw_words.specs.declared.side.Side.TheVariants.{Host, Chip}
 use Rattle.zw_text.specs.declared.entry.Entry.{Entry}
 use Rattle.host_node.specs.Search.{first_wanting}
-use Rattle.host_model.specs.State.{HostState}
-use Rattle.host_model.specs.Events.{HostEvent, Drops_no_more, Queues_no_more}
-use Rattle.host_model.specs.After.{after as host_after, is_full}
-use Rattle.host_model.specs.Did.{after_all}
-use Rattle.host_model.specs.May.{May as MayHost}
-use Rattle.host_model.specs.Outs.{outs as host_outs}
-use Rattle.host_model.specs.Pumping.{IsNext, IsPumped, no_more_event}
-use Rattle.outside_model.specs.State.{OuterState, Outcome, is_stalled}
-use Rattle.outside_model.specs.Chip.{MayTake, chip_takes}
-use Rattle.outside_model.specs.Events.{OuterEvent, Chip_takes, outcome, ticked_entry, May as MayOutside}
-use Rattle.world_model.specs.State.{Machine}
-use Rattle.world_model.specs.Events.{Event, Outside_does, Host_does, Host_takes, fed, happens, entries, May}
-use Rattle.proof_serial.specs.Line.{host_units, host_writes}
+use Rattle.proof_world.specs.host_model.State.{HostState}
+use Rattle.proof_world.specs.host_model.Events.{HostEvent, Drops_no_more, Queues_no_more}
+use Rattle.proof_world.specs.host_model.After.{after as host_after, is_full}
+use Rattle.proof_world.specs.host_model.Did.{after_all}
+use Rattle.proof_world.specs.host_model.May.{May as MayHost}
+use Rattle.proof_world.specs.host_model.Outs.{outs as host_outs}
+use Rattle.proof_world.specs.host_model.Pumping.{IsNext, IsPumped, no_more_event}
+use Rattle.proof_walk.specs.outside_model.State.{OuterState, Outcome, is_stalled}
+use Rattle.proof_walk.specs.outside_model.Chip.{MayTake, chip_takes}
+use Rattle.proof_walk.specs.outside_model.Events.{OuterEvent, Chip_takes, outcome, ticked_entry, May as MayOutside}
+use Rattle.proof_walk.specs.world_model.State.{Machine}
+use Rattle.proof_walk.specs.world_model.Events.{Event, Outside_does, Host_does, Host_takes, fed, happens, entries, May}
+use Rattle.proof_world.specs.proof_serial.Line.{host_units, host_writes}
 use Rattle.proof_traffic.specs.Links.{KeepsItsLink, host_link_steps, host_link_steps_all}
 use Rattle.proof_walk.specs.Phases.{IsStill, passes_after}
 use Rattle.proof_line.specs.Pipes.{HearsNothing}

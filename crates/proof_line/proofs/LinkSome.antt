@@ -3,21 +3,21 @@ use Rattle.std.proofs.Common.{◌≡◌, ℕ, zero, suc, ◌+◌, ◌-◌, Bool,
 use Rattle.std.specs.List.{AllByRecursion}
 use Rattle.zw_text.specs.declared.line.Line.{Line}
 use Rattle.zw_text.specs.declared.line.Line.TheVariants as lines
-use Rattle.host_model.specs.Events.{HostEvent}
-use Rattle.host_model.specs.Ticking.{tick_events}
-use Rattle.outside_model.specs.State.{is_stalled}
-use Rattle.outside_model.specs.Events.{OuterEvent, Chip_takes}
-use Rattle.outside_model.specs.Schedules.{Arrivals, DeviceTicks, Givings, TakesBy as ChipTakesBy}
-use Rattle.world_model.specs.State.{Machine}
-use Rattle.world_model.specs.Events.{Event, Outside_does, Host_does, Host_takes, Decoder_ticks, happens}
-use Rattle.world_model.specs.Did.{AllAlong}
-use Rattle.world_model.specs.Settling.{IsChipPart, IsHostPart, TakesBy}
-use Rattle.world_model.specs.Lines.{IsEffect}
-use Rattle.world_model.specs.Prefixes.{IsLineBefore}
-use Rattle.world_model.proofs.Along.{along}
-use Rattle.world_model.proofs.Pieces.{Of, Pieces, of_line_before, of_none, of_then}
-use Rattle.proof_serial.specs.Line.{AllWriteWell, AreLines}
-use Rattle.proof_serial.specs.Host.{AllAskWell}
+use Rattle.proof_world.specs.host_model.Events.{HostEvent}
+use Rattle.proof_world.specs.host_model.Ticking.{tick_events}
+use Rattle.proof_walk.specs.outside_model.State.{is_stalled}
+use Rattle.proof_walk.specs.outside_model.Events.{OuterEvent, Chip_takes}
+use Rattle.proof_walk.specs.outside_model.Schedules.{Arrivals, DeviceTicks, Givings, TakesBy as ChipTakesBy}
+use Rattle.proof_walk.specs.world_model.State.{Machine}
+use Rattle.proof_walk.specs.world_model.Events.{Event, Outside_does, Host_does, Host_takes, Decoder_ticks, happens}
+use Rattle.proof_walk.specs.world_model.Did.{AllAlong}
+use Rattle.proof_walk.specs.world_model.Settling.{IsChipPart, IsHostPart, TakesBy}
+use Rattle.proof_walk.specs.world_model.Lines.{IsEffect}
+use Rattle.proof_walk.specs.world_model.Prefixes.{IsLineBefore}
+use Rattle.proof_walk.proofs.Along.{along}
+use Rattle.proof_walk.proofs.Pieces.{Of, Pieces, of_line_before, of_none, of_then}
+use Rattle.proof_world.specs.proof_serial.Line.{AllWriteWell, AreLines}
+use Rattle.proof_world.specs.proof_serial.Host.{AllAskWell}
 use Rattle.proof_walk.specs.ByLine.{CoversLine, OfEffect}
 use Rattle.proof_walk.proofs.ByLine.{effect_asks}
 use Rattle.proof_line.specs.Linked.{IsOrderly, TakesSome}

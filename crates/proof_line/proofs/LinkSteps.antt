@@ -12,13 +12,13 @@ use Rattle.zw_words.specs.declared.side.Side.{Side}
 use Rattle.zw_words.specs.declared.side.Side.TheVariants.{Host, Chip}
 use Rattle.zw_text.specs.declared.line.Line.{Line}
 use Rattle.zw_text.specs.declared.line.Line.TheVariants as lines
-use Rattle.law_transcript.specs.Lists.{EachAfter, last_or, shown_after}
+use Rattle.law_wire.specs.law_transcript.Lists.{EachAfter, last_or, shown_after}
 use Rattle.law_wire.specs.Marks.{collision_of}
 use Rattle.law_wire.specs.Clearing.{bytes_in, lost_at}
 use Rattle.law_wire.specs.Serial.{SerialEvent}
 use Rattle.law_wire.specs.Serial.SerialEvent.{Line_begins, Writes}
 use Rattle.law_wire.specs.Links.{Moment, Round, AreFirst, CollidesAsTold, HearsInTime, LeavesFew, MayDo, Obeys, TicksInTime, WriteLast, WritesThere, ahead, arrival_of, arrivals_of, asked_for, clock_in, ends_round, is_stalled, left_ahead, line_in, lives, most_left, other, round_of, since_start, stall_by, steps_in, texts_of, tick_of}
-use Rattle.proof_host.proofs.Lists.{each-append}
+use Rattle.proof_walk.proofs.Lists.{each-append}
 use Rattle.proof_line.specs.Arrivals.{AreTexts}
 use Rattle.proof_line.specs.Links.{Does, Hears, IsMute, KeepsSoFar, MayEnd, life_of, life_steps, round_steps, stalls_in}
 use Rattle.proof_line.proofs.Arriving.{texts_both}

@@ -19,19 +19,19 @@ use Rattle.zw_text.specs.declared.entry.Entry.TheVariants as entry
 use Rattle.law_wire.specs.Serial.{serial_events}
 use Rattle.law_wire.specs.Serial.SerialEvent.{Tick_begins}
 use Rattle.law_wire.specs.Serial.{SerialEvent}
-use Rattle.host_model.specs.State.{HostState}
-use Rattle.host_model.specs.Events.{HostEvent, Hears, Line_ticks, Node_ticks}
-use Rattle.host_model.specs.After.{after as host_after}
-use Rattle.host_model.specs.Did.{after_all}
-use Rattle.host_model.specs.May.{May as MayHost}
-use Rattle.host_model.specs.Outs.{outs as host_outs}
-use Rattle.host_model.specs.Ticking.{tick_events, ticking_nodes, first_ticks}
-use Rattle.outside_model.specs.State.{OuterState, Outcome}
-use Rattle.outside_model.specs.Chip.{chip_does}
-use Rattle.outside_model.specs.Events.{OuterEvent, Begins_tick, Chip_ticks, Stalls, outcome, devices_after, ticked_entry}
-use Rattle.world_model.specs.State.{Machine}
-use Rattle.world_model.specs.Events.{Event, Outside_does, Host_does, Decoder_ticks, happens, entries, May}
-use Rattle.proof_serial.specs.Line.{host_units, host_writes}
+use Rattle.proof_world.specs.host_model.State.{HostState}
+use Rattle.proof_world.specs.host_model.Events.{HostEvent, Hears, Line_ticks, Node_ticks}
+use Rattle.proof_world.specs.host_model.After.{after as host_after}
+use Rattle.proof_world.specs.host_model.Did.{after_all}
+use Rattle.proof_world.specs.host_model.May.{May as MayHost}
+use Rattle.proof_world.specs.host_model.Outs.{outs as host_outs}
+use Rattle.proof_world.specs.host_model.Ticking.{tick_events, ticking_nodes, first_ticks}
+use Rattle.proof_walk.specs.outside_model.State.{OuterState, Outcome}
+use Rattle.proof_walk.specs.outside_model.Chip.{chip_does}
+use Rattle.proof_walk.specs.outside_model.Events.{OuterEvent, Begins_tick, Chip_ticks, Stalls, outcome, devices_after, ticked_entry}
+use Rattle.proof_walk.specs.world_model.State.{Machine}
+use Rattle.proof_walk.specs.world_model.Events.{Event, Outside_does, Host_does, Decoder_ticks, happens, entries, May}
+use Rattle.proof_world.specs.proof_serial.Line.{host_units, host_writes}
 use Rattle.proof_traffic.specs.Links.{KeepsItsLink, host_link_steps, host_link_steps_all}
 use Rattle.proof_walk.specs.ByLine.{KnownOf}
 use Rattle.proof_walk.proofs.Times.{does_chip}

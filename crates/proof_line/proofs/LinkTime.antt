@@ -10,13 +10,13 @@ use Rattle.zw_text.specs.declared.line.Line.{Line}
 use Rattle.zw_text.specs.declared.entry.Entry.{Entry}
 use Rattle.zw_text.specs.declared.entry.Entry.TheVariants as entry
 use Rattle.zw_text.specs.Transcript.{line_of}
-use Rattle.law_transcript.specs.Restarts.{is_restart, begins_refused}
+use Rattle.law_wire.specs.law_transcript.Restarts.{is_restart, begins_refused}
 use Rattle.law_wire.specs.Clearing.{Cleared_there, clears, clears_first, goes_on_after}
 use Rattle.law_wire.specs.Serial.{SerialEvent, serial_events, ticks_up_to}
 use Rattle.law_wire.specs.Serial.SerialEvent.{Tick_begins}
-use Rattle.outside_model.specs.State.{OuterState}
-use Rattle.outside_model.specs.Events.{ticked_entry}
-use Rattle.proof_device.proofs.Entered.{IsMark, told_by_marks}
+use Rattle.proof_walk.specs.outside_model.State.{OuterState}
+use Rattle.proof_walk.specs.outside_model.Events.{ticked_entry}
+use Rattle.proof_walk.proofs.Entered.{IsMark, told_by_marks}
 use Rattle.proof_walk.specs.Outside.{awaits_number}
 use Rattle.proof_line.specs.Links.{cleared_in, tick_told}
 use Rattle.proof_line.proofs.Holding.{TellsNothing, apart_line}

@@ -17,9 +17,9 @@ use Rattle.zw_words.specs.declared.side.Side.{Side}
 use Rattle.zw_text.specs.declared.entry.Entry.{Entry}
 use Rattle.law_wire.specs.Serial.{arriving_of, serial_events}
 use Rattle.law_wire.specs.Links.{other, text_of, texts_of}
-use Rattle.proof_serial.specs.Way.{items_of as way_items, written_all}
-use Rattle.proof_serial.proofs.EndedItems.{feeds_all}
-use Rattle.proof_serial.proofs.Ways.{carries_more}
+use Rattle.proof_world.specs.proof_serial.Way.{items_of as way_items, written_all}
+use Rattle.proof_world.proofs.EndedItems.{feeds_all}
+use Rattle.proof_world.proofs.Ways.{carries_more}
 use Rattle.proof_line.specs.Arrivals.{AreTexts}
 use Rattle.proof_line.specs.Links.{Brings, IsOne, KnowsLink, LinkNow, MayGo, MayHear, TakesTexts, gone, stepped, with_arriving}
 use Rattle.proof_line.proofs.Arriving.{none_carries, flat, items_arrive, joins_by, marks_of, texts_both}

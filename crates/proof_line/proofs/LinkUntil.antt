@@ -16,22 +16,22 @@ use Rattle.device_sim.specs.State.{State}
 use Rattle.device_sim.specs.Event.{DeviceEvent, Ticks, Wakes, Sets}
 use Rattle.air_frames.specs.Ages.{refusal_of}
 use Rattle.air_frames.specs.declared.ages.Refusal.{Refusal as RepeatRefusal}
-use Rattle.mesh_sim.specs.declared.event.AirEvent.{AirEvent}
-use Rattle.mesh_sim.specs.declared.event.AirEvent.TheVariants as air_event
-use Rattle.mesh_sim.specs.Fates.{place_of}
-use Rattle.mesh_sim.specs.Steps.{AirStep, mesh_after, mesh_outs}
-use Rattle.mesh_sim.specs.Steps as mesh
+use Rattle.proof_walk.specs.mesh_sim.declared.event.AirEvent.{AirEvent}
+use Rattle.proof_walk.specs.mesh_sim.declared.event.AirEvent.TheVariants as air_event
+use Rattle.proof_walk.specs.mesh_sim.Fates.{place_of}
+use Rattle.proof_walk.specs.mesh_sim.Steps.{AirStep, mesh_after, mesh_outs}
+use Rattle.proof_walk.specs.mesh_sim.Steps as mesh
 use Rattle.serial_pipes.specs.Events.{Takes}
 use Rattle.serial_pipes.specs.Events as way
 use Rattle.zw_words.specs.declared.side.Side.TheVariants.{Host as by_host, Chip as by_chip}
-use Rattle.outside_model.specs.declared.waits.Due.{Due}
-use Rattle.outside_model.specs.declared.waits.Due.TheVariants.{Info, NoRoute as no_route_due}
-use Rattle.outside_model.specs.State.{OuterState, Outside, Outcome, silent, with_chip}
-use Rattle.outside_model.specs.Chip.{put_out, chip_does}
-use Rattle.outside_model.specs.Results.{call_back, forgets, frame_ends, gives, leading, no_route, no_routes, owes_call, profile_for, without_no_route}
-use Rattle.outside_model.specs.Air.{deals}
-use Rattle.outside_model.specs.Devices.{acts_at, acts_by_hand}
-use Rattle.outside_model.specs.Events.{OuterEvent, Chip_takes, Arrives, Gives, Device_ticks, Chip_ticks, Repeats, Wakes_device, Sets_device, Marks_loss, Marks_change, Clears_pipe, Stalls, mesh_of, outcome, repeats, steps}
+use Rattle.proof_walk.specs.outside_model.declared.waits.Due.{Due}
+use Rattle.proof_walk.specs.outside_model.declared.waits.Due.TheVariants.{Info, NoRoute as no_route_due}
+use Rattle.proof_walk.specs.outside_model.State.{OuterState, Outside, Outcome, silent, with_chip}
+use Rattle.proof_walk.specs.outside_model.Chip.{put_out, chip_does}
+use Rattle.proof_walk.specs.outside_model.Results.{call_back, forgets, frame_ends, gives, leading, no_route, no_routes, owes_call, profile_for, without_no_route}
+use Rattle.proof_walk.specs.outside_model.Air.{deals}
+use Rattle.proof_walk.specs.outside_model.Devices.{acts_at, acts_by_hand}
+use Rattle.proof_walk.specs.outside_model.Events.{OuterEvent, Chip_takes, Arrives, Gives, Device_ticks, Chip_ticks, Repeats, Wakes_device, Sets_device, Marks_loss, Marks_change, Clears_pipe, Stalls, mesh_of, outcome, repeats, steps}
 use Rattle.proof_walk.proofs.Times.{each_keeps}
 
 abbrev until : OuterState → ℕ

@@ -20,22 +20,22 @@ use Rattle.zw_text.specs.declared.line.Line.TheVariants as lines
 use Rattle.zw_text.specs.declared.entry.Entry.{Entry}
 use Rattle.zw_text.specs.declared.entry.Entry.TheVariants.{Said}
 use Rattle.zw_text.specs.Transcript.{line_of}
-use Rattle.law_transcript.specs.Lists.{EachAfter}
+use Rattle.law_wire.specs.law_transcript.Lists.{EachAfter}
 use Rattle.host_keep.specs.declared.record.Record.{Record}
-use Rattle.host_model.specs.Opening.{opened}
-use Rattle.host_model.specs.State.{HostState, first_host}
-use Rattle.host_model.specs.Events.{HostEvent}
-use Rattle.host_model.specs.After.{after as host_after}
-use Rattle.host_model.specs.May.{May as MayHost}
-use Rattle.host_model.specs.Outs.{outs as host_outs}
-use Rattle.host_model.specs.Ticking.{tick_events}
-use Rattle.outside_model.specs.State.{first_outer}
-use Rattle.outside_model.specs.Events.{OuterEvent, Begins_line, Begins_tick, Arrives, Chip_takes, Gives, Device_ticks, Chip_ticks, Collides_next, Stalls}
-use Rattle.world_model.specs.State.{Machine, first_machine}
-use Rattle.world_model.specs.Events.{Event, Outside_does, Host_does, Host_takes, Decoder_ticks, entries, May}
-use Rattle.world_model.specs.Lines.{IsEffect}
-use Rattle.proof_serial.specs.Line.{host_units}
-use Rattle.proof_serial.proofs.First.{first_at_rest, first_frames}
+use Rattle.proof_world.specs.host_model.Opening.{opened}
+use Rattle.proof_world.specs.host_model.State.{HostState, first_host}
+use Rattle.proof_world.specs.host_model.Events.{HostEvent}
+use Rattle.proof_world.specs.host_model.After.{after as host_after}
+use Rattle.proof_world.specs.host_model.May.{May as MayHost}
+use Rattle.proof_world.specs.host_model.Outs.{outs as host_outs}
+use Rattle.proof_world.specs.host_model.Ticking.{tick_events}
+use Rattle.proof_walk.specs.outside_model.State.{first_outer}
+use Rattle.proof_walk.specs.outside_model.Events.{OuterEvent, Begins_line, Begins_tick, Arrives, Chip_takes, Gives, Device_ticks, Chip_ticks, Collides_next, Stalls}
+use Rattle.proof_walk.specs.world_model.State.{Machine, first_machine}
+use Rattle.proof_walk.specs.world_model.Events.{Event, Outside_does, Host_does, Host_takes, Decoder_ticks, entries, May}
+use Rattle.proof_walk.specs.world_model.Lines.{IsEffect}
+use Rattle.proof_world.specs.proof_serial.Line.{host_units}
+use Rattle.proof_world.proofs.First.{first_at_rest, first_frames}
 use Rattle.proof_traffic.specs.Links.{KeepsItsLink, host_link_steps}
 use Rattle.proof_walk.specs.Phases.{Phase, Between, Said_line, Begun, Doing, To_tick, Ticked, Arriving, Giving, Ticking_devices, Ticking_chip, Ticking_decoder, Ticking_host, Sleeping, Submitting, Moving, Moved, Turns, Goes}
 use Rattle.proof_walk.specs.Time.{KnowTime, MayCount}

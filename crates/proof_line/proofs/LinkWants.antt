@@ -9,14 +9,14 @@ use Rattle.host_node.specs.Steps.{after_begin, after_block}
 use Rattle.host_node.specs.TableState.{node_of as node_among}
 use Rattle.host_node.specs.Search.{first_wanting}
 use Rattle.host_node.proofs.Searches.{no_least_is_found, where_is_none}
-use Rattle.host_model.specs.State.{HostState}
-use Rattle.host_model.specs.After.{after, is_busy, is_full}
-use Rattle.host_model.specs.Did.{outs_all}
-use Rattle.host_model.specs.May.{IsFree}
-use Rattle.host_model.specs.Events.{HostEvent, Queues_no_more, Drops_no_more, Submits_abort, Submits_front, Starts, Gives_text, Gives_segment}
-use Rattle.host_model.specs.Pumping.{no_more_event, IsNextOfNodes, IsNextOf, IsNext, IsPumped}
-use Rattle.host_model.proofs.Submitted.{SubmittedAre, next_is}
-use Rattle.proof_serial.specs.Line.{host_units}
+use Rattle.proof_world.specs.host_model.State.{HostState}
+use Rattle.proof_world.specs.host_model.After.{after, is_busy, is_full}
+use Rattle.proof_world.specs.host_model.Did.{outs_all}
+use Rattle.proof_world.specs.host_model.May.{IsFree}
+use Rattle.proof_world.specs.host_model.Events.{HostEvent, Queues_no_more, Drops_no_more, Submits_abort, Submits_front, Starts, Gives_text, Gives_segment}
+use Rattle.proof_world.specs.host_model.Pumping.{no_more_event, IsNextOfNodes, IsNextOf, IsNext, IsPumped}
+use Rattle.proof_world.proofs.Submitted.{SubmittedAre, next_is}
+use Rattle.proof_world.specs.proof_serial.Line.{host_units}
 use Rattle.proof_line.specs.Linked.{IsQuiet, WantsNone}
 use Rattle.proof_line.proofs.Filling.{never}
 

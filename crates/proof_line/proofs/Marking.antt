@@ -15,36 +15,36 @@ use Rattle.zw_text.specs.declared.line.Line.TheVariants as lines
 use Rattle.zw_text.specs.declared.entry.Entry.{Entry}
 use Rattle.zw_text.specs.declared.entry.Entry.TheVariants as entry
 use Rattle.zw_text.specs.Transcript.{line_of}
-use Rattle.law_transcript.specs.Lists.{EachAfter}
+use Rattle.law_wire.specs.law_transcript.Lists.{EachAfter}
 use Rattle.law_wire.specs.Marks.{Changing, Marks, marks_by, marks_of}
-use Rattle.proof_host.proofs.Lists.{each-append}
+use Rattle.proof_walk.proofs.Lists.{each-append}
 use Rattle.chip_sim.specs.Events.{ChipEvent, Judged, Ticked, Forgets, after, outs}
 use Rattle.chip_sim.specs.declared.out.ChipOut.{ChipOut}
 use Rattle.chip_sim.specs.declared.out.ChipOut.TheVariants.{Write, OnAir, NoRoute, AskInfo, Full}
 use Rattle.device_sim.specs.State.{State}
 use Rattle.device_sim.specs.Event.{DeviceEvent, device_after}
-use Rattle.mesh_sim.specs.declared.event.AirEvent.{AirEvent}
-use Rattle.mesh_sim.specs.declared.event.AirEvent.TheVariants as air_event
-use Rattle.mesh_sim.specs.Fates.{place_of}
-use Rattle.mesh_sim.specs.Steps.{mesh_after}
-use Rattle.outside_model.specs.State.{OuterState, Outside, outside, Outcome, silent, each, with_chip, first_outer}
-use Rattle.outside_model.specs.Chip.{put_out, chip_does}
-use Rattle.outside_model.specs.Results.{device_at, gives}
-use Rattle.outside_model.specs.Air.{deals, sent_entries, change_entries, change_at}
-use Rattle.outside_model.specs.Devices.{acts, shown_entries}
-use Rattle.outside_model.specs.Events.{OuterEvent, Begins_line, Host_writes, Host_takes, Host_notes, Shows, Joins, Discovers, Links, Loses, Loses_acks, Marks_loss, Marks_change, Clears_pipe, Collides_next, Stalls, Cuts, way_of, mesh_of, cleared_entries, outcome, devices_after, ticked_entry, is_own}
-use Rattle.world_model.specs.State.{Machine}
-use Rattle.world_model.specs.Events.{Event, Outside_does, happens, entries, May}
-use Rattle.world_model.specs.Lines.{IsEffect}
+use Rattle.proof_walk.specs.mesh_sim.declared.event.AirEvent.{AirEvent}
+use Rattle.proof_walk.specs.mesh_sim.declared.event.AirEvent.TheVariants as air_event
+use Rattle.proof_walk.specs.mesh_sim.Fates.{place_of}
+use Rattle.proof_walk.specs.mesh_sim.Steps.{mesh_after}
+use Rattle.proof_walk.specs.outside_model.State.{OuterState, Outside, outside, Outcome, silent, each, with_chip, first_outer}
+use Rattle.proof_walk.specs.outside_model.Chip.{put_out, chip_does}
+use Rattle.proof_walk.specs.outside_model.Results.{device_at, gives}
+use Rattle.proof_walk.specs.outside_model.Air.{deals, sent_entries, change_entries, change_at}
+use Rattle.proof_walk.specs.outside_model.Devices.{acts, shown_entries}
+use Rattle.proof_walk.specs.outside_model.Events.{OuterEvent, Begins_line, Host_writes, Host_takes, Host_notes, Shows, Joins, Discovers, Links, Loses, Loses_acks, Marks_loss, Marks_change, Clears_pipe, Collides_next, Stalls, Cuts, way_of, mesh_of, cleared_entries, outcome, devices_after, ticked_entry, is_own}
+use Rattle.proof_walk.specs.world_model.State.{Machine}
+use Rattle.proof_walk.specs.world_model.Events.{Event, Outside_does, happens, entries, May}
+use Rattle.proof_walk.specs.world_model.Lines.{IsEffect}
 use Rattle.proof_walk.specs.Outside.{Pending, nothing, Moves, Outer, IsNote, IsSimple, IsOfAir, session_begins, CoversOuter}
 use Rattle.proof_walk.specs.Phases.{Between}
 use Rattle.proof_walk.specs.Walk.{Walk}
 use Rattle.proof_walk.specs.ByLine.{IsOfTick, CoversLine, ByLine}
 use Rattle.proof_walk.proofs.ByLine.{effect_covered, common_covered, walk_of}
-use Rattle.proof_device.proofs.Entered.{IsCleared, all_cleared, IsShown, all_shown, IsChange, change_entered}
+use Rattle.proof_walk.proofs.Entered.{IsCleared, all_cleared, IsShown, all_shown, IsChange, change_entered}
 use Rattle.proof_walk.proofs.Linking.{acts_of_air}
 use Rattle.proof_walk.proofs.Machines.{machine_keeps}
-use Rattle.proof_device.proofs.Results.{Gives, ends_go, gives_go, to_chip_goes}
+use Rattle.proof_walk.proofs.Results.{Gives, ends_go, gives_go, to_chip_goes}
 use Rattle.proof_line.specs.Marks.{changing_of, marks_at, MayMark, TieMarks, IsQuiet, KnowsMarks, SetsNoMark, Marked, Setting, Sets, LeftMarks, KnowMarks}
 use Rattle.proof_line.proofs.Standing.{marks_grow, IsApart, AreApart, apart_marks, all_apart, said_stands, Stands, unit_stands}
 

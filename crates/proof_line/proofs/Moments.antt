@@ -5,8 +5,8 @@ use Rattle.std.proofs.lemmas.List.{map-append}
 use Rattle.std.proofs.lemmas.Grind.{flat_map-append}
 use Rattle.serial_link.specs.Rules.{Step}
 use Rattle.zw_words.specs.declared.side.Side.{Side}
-use Rattle.law_transcript.specs.Lists.{last_or}
-use Rattle.law_transcript.specs.Restarts.{is_restart}
+use Rattle.law_wire.specs.law_transcript.Lists.{last_or}
+use Rattle.law_wire.specs.law_transcript.Restarts.{is_restart}
 use Rattle.law_wire.specs.Serial.{SerialEvent}
 use Rattle.law_wire.specs.Links.{Moment, Round, Obeys, arrival_of, arrivals_of, between_restarts, joined, line_in, moments_of, round_from, round_of, round_step, since_start, steps_in}
 

@@ -2,8 +2,8 @@
 use Rattle.std.proofs.Common.{◌≡◌, ◌⊎◌, ℕ, ◌&&◌, not, Bool, true, false, if◌then◌else◌, List, [], ◌∷◌, ◌++◌, inl, inr, refl, sym, ap, ap₂, ◌∙◌, append-nil, append_assoc}
 use Rattle.zw_text.specs.declared.entry.Entry.{Entry}
 use Rattle.zw_text.specs.declared.entry.Entry.TheVariants as entry
-use Rattle.outside_model.specs.State.{OuterState}
-use Rattle.outside_model.specs.Events.{stamp, has_entered, ticked_entry}
+use Rattle.proof_walk.specs.outside_model.State.{OuterState}
+use Rattle.proof_walk.specs.outside_model.Events.{stamp, has_entered, ticked_entry}
 use Rattle.proof_walk.specs.Outside.{awaits_number}
 use Rattle.proof_walk.proofs.Times.{IsSameTime}
 use Rattle.proof_walk.proofs.Stamping.{entered}

@@ -17,20 +17,20 @@ use Rattle.zw_text.specs.declared.entry.Entry.TheVariants as entry
 use Rattle.zw_text.specs.declared.entry.Refusal.{Refusal}
 use Rattle.zw_text.specs.Transcript.{line_of, line_after, line_last}
 use Rattle.zw_text.proofs.Views.{folded-append}
-use Rattle.law_transcript.specs.Lists.{EachAfter}
-use Rattle.law_transcript.specs.Restarts.{is_restart}
+use Rattle.law_wire.specs.law_transcript.Lists.{EachAfter}
+use Rattle.law_wire.specs.law_transcript.Restarts.{is_restart}
 use Rattle.law_wire.specs.Pipes.{Pipe, empty_pipe, with_answer, gone_on, with_turn, pipe_from, sum_of, bytes_perhaps}
-use Rattle.host_model.specs.State.{HostState}
-use Rattle.host_model.specs.Events.{HostEvent}
-use Rattle.host_model.specs.Did.{outs_all}
-use Rattle.host_model.specs.Outs.{answers}
-use Rattle.host_model.specs.Ticking.{tick_events}
-use Rattle.outside_model.specs.State.{OuterState, Outside, first_outer, is_stalled}
-use Rattle.outside_model.specs.Events.{OuterEvent, Begins_line, Begins_tick, Arrives, Gives, Device_ticks, Chip_ticks, Chip_takes, Clears_pipe, Host_takes as host_takes, outcome, devices_after, cleared_entries, May as MayOutside, happens as happens_outside, stamp, has_entered}
-use Rattle.outside_model.specs.Did.{happens_all as happens_all_outside, entries_all as entries_all_outside}
-use Rattle.world_model.specs.State.{Machine, routed, host_does}
-use Rattle.world_model.specs.Events.{Event, Outside_does, Host_does, Host_takes, Decoder_ticks, Refuses, Shows_values, Restarts, notes, shown_values, happens, entries, May}
-use Rattle.world_model.specs.Lines.{IsEffect}
+use Rattle.proof_world.specs.host_model.State.{HostState}
+use Rattle.proof_world.specs.host_model.Events.{HostEvent}
+use Rattle.proof_world.specs.host_model.Did.{outs_all}
+use Rattle.proof_world.specs.host_model.Outs.{answers}
+use Rattle.proof_world.specs.host_model.Ticking.{tick_events}
+use Rattle.proof_walk.specs.outside_model.State.{OuterState, Outside, first_outer, is_stalled}
+use Rattle.proof_walk.specs.outside_model.Events.{OuterEvent, Begins_line, Begins_tick, Arrives, Gives, Device_ticks, Chip_ticks, Chip_takes, Clears_pipe, Host_takes as host_takes, outcome, devices_after, cleared_entries, May as MayOutside, happens as happens_outside, stamp, has_entered}
+use Rattle.proof_walk.specs.outside_model.Did.{happens_all as happens_all_outside, entries_all as entries_all_outside}
+use Rattle.proof_walk.specs.world_model.State.{Machine, routed, host_does}
+use Rattle.proof_walk.specs.world_model.Events.{Event, Outside_does, Host_does, Host_takes, Decoder_ticks, Refuses, Shows_values, Restarts, notes, shown_values, happens, entries, May}
+use Rattle.proof_walk.specs.world_model.Lines.{IsEffect}
 use Rattle.proof_walk.specs.Outside.{awaits_number}
 use Rattle.proof_walk.specs.Phases.{Phase, Between, Said_line, Begun, Doing, To_tick, Ticked, Arriving, Giving, Ticking_devices, Ticking_chip, Ticking_decoder, Ticking_host, Sleeping, Submitting, Moving, Moved, Turns, Goes, IsStill}
 use Rattle.proof_walk.specs.Walk.{Walk}
@@ -41,7 +41,7 @@ use Rattle.proof_line.specs.Pipes.{MayLack, MayClear, MayTell, Mode, most, Resti
 use Rattle.proof_line.proofs.Standing.{frame_long}
 use Rattle.proof_line.proofs.Holding.{Grown, pipe_grows}
 use Rattle.proof_line.proofs.Filling.{Up, Down, held_empty, held_same, held_weaker, none_held, few_frames, never, resting_empty, turned_empty, heard_empty, turn_turned, turn_heard, resting_host, heard_host}
-use Rattle.proof_serial.proofs.Outer.{wrong as no_refusal}
+use Rattle.proof_world.proofs.Outer.{wrong as no_refusal}
 use Rattle.proof_line.proofs.Chipping.{IsFrame, IsGoing, going_keeps, drop_whole, takes_keep}
 use Rattle.proof_line.proofs.Hosting.{NoUnit, frames_alone, asked_none, any_of, no_more_nothing, tick_nothing, next_nothing, keeps_none, keeps_both, note_keeps, host_keeps, answer_keeps}
 

@@ -13,27 +13,27 @@ use Rattle.zw_text.specs.declared.entry.Entry.{Entry}
 use Rattle.zw_text.specs.declared.entry.Entry.TheVariants as entry
 use Rattle.zw_text.specs.declared.entry.Refusal.{Refusal}
 use Rattle.zw_text.specs.Transcript.{line_of}
-use Rattle.law_transcript.specs.Lists.{EachAfter}
-use Rattle.law_transcript.specs.Restarts.{is_restart, begins_refused}
+use Rattle.law_wire.specs.law_transcript.Lists.{EachAfter}
+use Rattle.law_wire.specs.law_transcript.Restarts.{is_restart, begins_refused}
 use Rattle.law_wire.specs.Pipes.{Pipe, empty_pipe, with_turn, pipe_from, may_overrun}
-use Rattle.host_model.specs.State.{HostState}
-use Rattle.host_model.specs.Events.{HostEvent}
-use Rattle.host_model.specs.Did.{outs_all}
-use Rattle.host_model.specs.Ticking.{tick_events}
-use Rattle.host_model.specs.declared.out.HostOut.{HostOut}
-use Rattle.host_model.specs.declared.out.HostOut.TheVariants.{Write, Note}
-use Rattle.outside_model.specs.State.{OuterState, Outside, first_outer, is_stalled}
-use Rattle.outside_model.specs.Events.{OuterEvent, Begins_line, Begins_tick, Arrives, Gives, Device_ticks, Chip_ticks, Chip_takes, Clears_pipe, Host_notes, outcome, cleared_entries, way_of, happens as happens_outside, entries as entries_outside}
-use Rattle.world_model.specs.State.{Machine, first_machine}
-use Rattle.world_model.specs.Events.{Event, Outside_does, Host_does, Host_takes, Decoder_ticks, Refuses, Shows_values, Restarts, shown_values, happens, entries, May}
-use Rattle.world_model.specs.Did.{AllAlong}
-use Rattle.world_model.specs.Lines.{IsEffect}
-use Rattle.world_model.specs.Settling.{OuterTakesAll}
-use Rattle.proof_device.proofs.Entered.{IsCleared, all_cleared}
-use Rattle.proof_serial.specs.Line.{AreAtRest, WritesWell, AllWriteWell, host_writes}
-use Rattle.proof_serial.specs.Chip.{HasFrames}
-use Rattle.proof_serial.proofs.Events.{at_rest, whole_after, rests_after}
-use Rattle.proof_serial.proofs.First.{first_frames, first_at_rest}
+use Rattle.proof_world.specs.host_model.State.{HostState}
+use Rattle.proof_world.specs.host_model.Events.{HostEvent}
+use Rattle.proof_world.specs.host_model.Did.{outs_all}
+use Rattle.proof_world.specs.host_model.Ticking.{tick_events}
+use Rattle.proof_world.specs.host_model.declared.out.HostOut.{HostOut}
+use Rattle.proof_world.specs.host_model.declared.out.HostOut.TheVariants.{Write, Note}
+use Rattle.proof_walk.specs.outside_model.State.{OuterState, Outside, first_outer, is_stalled}
+use Rattle.proof_walk.specs.outside_model.Events.{OuterEvent, Begins_line, Begins_tick, Arrives, Gives, Device_ticks, Chip_ticks, Chip_takes, Clears_pipe, Host_notes, outcome, cleared_entries, way_of, happens as happens_outside, entries as entries_outside}
+use Rattle.proof_walk.specs.world_model.State.{Machine, first_machine}
+use Rattle.proof_walk.specs.world_model.Events.{Event, Outside_does, Host_does, Host_takes, Decoder_ticks, Refuses, Shows_values, Restarts, shown_values, happens, entries, May}
+use Rattle.proof_walk.specs.world_model.Did.{AllAlong}
+use Rattle.proof_walk.specs.world_model.Lines.{IsEffect}
+use Rattle.proof_walk.specs.world_model.Settling.{OuterTakesAll}
+use Rattle.proof_walk.proofs.Entered.{IsCleared, all_cleared}
+use Rattle.proof_world.specs.proof_serial.Line.{AreAtRest, WritesWell, AllWriteWell, host_writes}
+use Rattle.proof_world.specs.proof_serial.Chip.{HasFrames}
+use Rattle.proof_world.proofs.Events.{at_rest, whole_after, rests_after}
+use Rattle.proof_world.proofs.First.{first_frames, first_at_rest}
 use Rattle.proof_walk.specs.Outside.{awaits_number}
 use Rattle.proof_walk.specs.Phases.{Phase, Between, Said_line, Begun, Doing, To_tick, Ticked, Arriving, Giving, Ticking_devices, Ticking_chip, Ticking_decoder, Ticking_host, Sleeping, Submitting, Moving, Moved, Turns, Goes}
 use Rattle.proof_walk.specs.Walk.{WalkWhere}
@@ -47,7 +47,7 @@ use Rattle.proof_line.specs.Arrivals.{arrived_from, arrived, Comes}
 use Rattle.proof_line.specs.Rooms.{MayFit, LastFits, Fills, Shown, ShownBefore, BegunShown, IsClearing, StartsClearing, EndsClearing, LeftClearing, LeftShown, HasGone, InTickShown, SettlingShown, KnowRooms}
 use Rattle.proof_walk.proofs.ByLine.{last_is as line_then}
 use Rattle.proof_line.proofs.Holding.{TellsNothing, pipe_grows}
-use Rattle.proof_serial.proofs.Outer.{wrong as no_refusal}
+use Rattle.proof_world.proofs.Outer.{wrong as no_refusal}
 use Rattle.proof_line.proofs.Hosting.{NoUnit, frames_alone, asked_none, tick_nothing}
 use Rattle.proof_line.proofs.Chipping.{IsFrame}
 use Rattle.proof_line.proofs.Piping.{covers_line, entered_same, stamp_quiet}

@@ -15,29 +15,29 @@ use Rattle.chip_sim.specs.State.{ChipParts}
 use Rattle.zw_words.specs.declared.side.Side.TheVariants.{Host as by_host, Chip as by_chip}
 use Rattle.zw_text.specs.declared.entry.Entry.{Entry}
 use Rattle.zw_text.specs.Transcript.{line_of, line_last}
-use Rattle.law_transcript.specs.Lists.{EachAfter}
-use Rattle.law_transcript.specs.Restarts.{is_restart, begins_refused}
+use Rattle.law_wire.specs.law_transcript.Lists.{EachAfter}
+use Rattle.law_wire.specs.law_transcript.Restarts.{is_restart, begins_refused}
 use Rattle.law_wire.specs.Pipes.{Pipe, empty_pipe, pipe_from, sum_of}
-use Rattle.host_model.specs.State.{HostState}
-use Rattle.host_model.specs.Events.{HostEvent, Queues_no_more, Drops_no_more, Submits_abort, Submits_front, Starts, Gives_text, Begin_unkept, Gives_segment, Begins}
-use Rattle.host_model.specs.After.{after, is_busy, is_full}
-use Rattle.host_model.specs.May.{IsFree}
-use Rattle.host_model.specs.Did.{outs_all}
-use Rattle.host_model.specs.Taking.{AreJudged}
-use Rattle.host_model.specs.Pumping.{no_more_event, IsNext}
-use Rattle.host_model.proofs.Submitted.{SubmittedAre, next_is}
-use Rattle.outside_model.specs.State.{OuterState, Outside, Outcome, is_stalled}
-use Rattle.outside_model.specs.Chip.{MayTake}
-use Rattle.outside_model.specs.Events.{OuterEvent, Chip_takes, outcome, has_entered, stamp, May as MayOutside, happens as happens_outside, entries as entries_outside}
-use Rattle.world_model.specs.State.{Machine}
-use Rattle.world_model.specs.Events.{Event, Outside_does, Host_does, Host_takes, fed, happens, entries, May}
-use Rattle.world_model.specs.Settling.{TakesWhole}
-use Rattle.proof_serial.specs.Way.{Carries, written_all}
-use Rattle.proof_serial.specs.Chip.{HasFrames}
-use Rattle.proof_serial.specs.Line.{IsWhole, AreAtRest, WritesWell, host_units, host_writes}
-use Rattle.proof_serial.proofs.EndedItems.{feeds_all}
-use Rattle.proof_serial.proofs.Events.{at_rest, whole_after, rests_after}
-use Rattle.proof_serial.proofs.Outer.{entered_still}
+use Rattle.proof_world.specs.host_model.State.{HostState}
+use Rattle.proof_world.specs.host_model.Events.{HostEvent, Queues_no_more, Drops_no_more, Submits_abort, Submits_front, Starts, Gives_text, Begin_unkept, Gives_segment, Begins}
+use Rattle.proof_world.specs.host_model.After.{after, is_busy, is_full}
+use Rattle.proof_world.specs.host_model.May.{IsFree}
+use Rattle.proof_world.specs.host_model.Did.{outs_all}
+use Rattle.proof_world.specs.host_model.Taking.{AreJudged}
+use Rattle.proof_world.specs.host_model.Pumping.{no_more_event, IsNext}
+use Rattle.proof_world.proofs.Submitted.{SubmittedAre, next_is}
+use Rattle.proof_walk.specs.outside_model.State.{OuterState, Outside, Outcome, is_stalled}
+use Rattle.proof_walk.specs.outside_model.Chip.{MayTake}
+use Rattle.proof_walk.specs.outside_model.Events.{OuterEvent, Chip_takes, outcome, has_entered, stamp, May as MayOutside, happens as happens_outside, entries as entries_outside}
+use Rattle.proof_walk.specs.world_model.State.{Machine}
+use Rattle.proof_walk.specs.world_model.Events.{Event, Outside_does, Host_does, Host_takes, fed, happens, entries, May}
+use Rattle.proof_walk.specs.world_model.Settling.{TakesWhole}
+use Rattle.proof_world.specs.proof_serial.Way.{Carries, written_all}
+use Rattle.proof_world.specs.proof_serial.Chip.{HasFrames}
+use Rattle.proof_world.specs.proof_serial.Line.{IsWhole, AreAtRest, WritesWell, host_units, host_writes}
+use Rattle.proof_world.proofs.EndedItems.{feeds_all}
+use Rattle.proof_world.proofs.Events.{at_rest, whole_after, rests_after}
+use Rattle.proof_world.proofs.Outer.{entered_still}
 use Rattle.proof_walk.specs.Outside.{awaits_number}
 use Rattle.proof_walk.proofs.Times.{IsWithin, outcome_time}
 use Rattle.proof_line.specs.Arrivals.{arrived, Comes}

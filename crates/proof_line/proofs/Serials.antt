@@ -10,10 +10,10 @@ use Rattle.zw_text.specs.declared.line.Line.{Line}
 use Rattle.zw_text.specs.declared.entry.Entry.{Entry}
 use Rattle.zw_text.specs.declared.entry.Entry.TheVariants as entry
 use Rattle.zw_text.specs.Transcript.{line_of}
-use Rattle.law_transcript.specs.Restarts.{begins_refused, ticks_asked}
+use Rattle.law_wire.specs.law_transcript.Restarts.{begins_refused, ticks_asked}
 use Rattle.law_wire.specs.Serial.{SerialEvent, arriving_of, beginning_of, serial_events, serial_events_from, ticks_up_to}
 use Rattle.law_wire.specs.Serial.SerialEvent.{Writes}
-use Rattle.proof_device.proofs.Entered.{IsMark, told_by_marks}
+use Rattle.proof_walk.proofs.Entered.{IsMark, told_by_marks}
 use Rattle.proof_line.specs.Links.{told_from, due_from, tick_told}
 use Rattle.proof_line.proofs.Holding.{NoMark, TellsNothing, apart_mark, refused_then}
 use Rattle.proof_line.proofs.Arriving.{arriving_same, marks_of}

@@ -19,7 +19,7 @@ use Rattle.zw_text.specs.declared.entry.Entry.{Entry}
 use Rattle.zw_text.specs.declared.entry.Entry.TheVariants as entry
 use Rattle.zw_text.specs.Transcript.{folded, same_side}
 use Rattle.zw_text.proofs.Views.{folded-append}
-use Rattle.law_transcript.specs.Lists.{EachAfter}
+use Rattle.law_wire.specs.law_transcript.Lists.{EachAfter}
 use Rattle.law_wire.specs.Marks.{Changing, Marks, marks_step, marks_of, changed_by, becomes, becomes_by, to_stand, IsMarked}
 use Rattle.proof_line.specs.Marks.{changing_of, marks_at, MayMark, IsQuiet}
 

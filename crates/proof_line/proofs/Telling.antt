@@ -7,14 +7,14 @@ use Rattle.zw_text.specs.declared.entry.Entry.{Entry}
 use Rattle.zw_text.specs.declared.entry.Entry.TheVariants as entry
 use Rattle.zw_text.specs.Transcript.{line_of, lines_run, line_last}
 use Rattle.zw_text.proofs.Views.{shown-append}
-use Rattle.law_transcript.specs.Lists.{EachAfter}
-use Rattle.law_transcript.specs.Restarts.{ticks_of, ticks_asked}
+use Rattle.law_wire.specs.law_transcript.Lists.{EachAfter}
+use Rattle.law_wire.specs.law_transcript.Restarts.{ticks_of, ticks_asked}
 use Rattle.law_wire.specs.Asked.{lines_before}
 use Rattle.law_wire.specs.Times.{is_time, tells_tick, IsDue, MayBeTold}
-use Rattle.outside_model.specs.State.{OuterState, Outside, first_outer}
-use Rattle.outside_model.specs.Events.{OuterEvent, Begins_line, Begins_tick, outcome, devices_after, is_own}
-use Rattle.world_model.specs.State.{Machine}
-use Rattle.world_model.specs.Events.{Event, Outside_does, happens, entries, May}
+use Rattle.proof_walk.specs.outside_model.State.{OuterState, Outside, first_outer}
+use Rattle.proof_walk.specs.outside_model.Events.{OuterEvent, Begins_line, Begins_tick, outcome, devices_after, is_own}
+use Rattle.proof_walk.specs.world_model.State.{Machine}
+use Rattle.proof_walk.specs.world_model.Events.{Event, Outside_does, happens, entries, May}
 use Rattle.proof_walk.specs.Outside.{Moves, Link, CoversOuter}
 use Rattle.proof_walk.specs.Phases.{Phase, Between, Said_line, Begun, Doing, To_tick, Ticked, Arriving, Giving, Ticking_devices, Ticking_chip, Ticking_decoder, Ticking_host, Sleeping, Submitting, Moving, Moved, Turns, Goes}
 use Rattle.proof_walk.specs.Walk.{WalkOver}

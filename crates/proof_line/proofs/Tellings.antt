@@ -11,12 +11,12 @@ use Rattle.zw_words.specs.declared.side.Side.{Side}
 use Rattle.zw_text.specs.declared.entry.Entry.{Entry}
 use Rattle.zw_text.specs.declared.entry.Entry.TheVariants as entry
 use Rattle.zw_text.specs.Transcript.{line_of, same_side}
-use Rattle.law_transcript.specs.Lists.{EachAfter}
-use Rattle.law_transcript.specs.Restarts.{begins_refused}
+use Rattle.law_wire.specs.law_transcript.Lists.{EachAfter}
+use Rattle.law_wire.specs.law_transcript.Restarts.{begins_refused}
 use Rattle.law_wire.specs.Pipes.{Pipe, empty_pipe, pipe_from, sum_of, unit_by}
-use Rattle.proof_host.proofs.Lists.{each-append}
-use Rattle.proof_device.proofs.Entered.{IsMark, told_by_marks}
-use Rattle.proof_serial.specs.Way.{written_all}
+use Rattle.proof_walk.proofs.Lists.{each-append}
+use Rattle.proof_walk.proofs.Entered.{IsMark, told_by_marks}
+use Rattle.proof_world.specs.proof_serial.Way.{written_all}
 use Rattle.proof_line.specs.Arrivals.{arrived, Comes}
 use Rattle.proof_line.specs.Rooms.{MayFit, LastFits, Fills}
 use Rattle.proof_line.proofs.Arriving.{apart_same, other_arrived, unit_comes, comes_at}

@@ -10,9 +10,9 @@ use Rattle.zw_words.specs.declared.side.Side.{Side}
 use Rattle.zw_text.specs.declared.entry.Entry.{Entry}
 use Rattle.zw_text.specs.declared.entry.Entry.TheVariants.{Said, Written}
 use Rattle.zw_text.specs.Transcript.{line_of, same_side}
-use Rattle.law_transcript.specs.Restarts.{is_restart, begins_refused}
+use Rattle.law_wire.specs.law_transcript.Restarts.{is_restart, begins_refused}
 use Rattle.law_wire.specs.Serial.{arriving_of}
-use Rattle.proof_serial.specs.Way.{Carries}
+use Rattle.proof_world.specs.proof_serial.Way.{Carries}
 
 -- one entry, with those after it: a restart that is not refused empties both ways
 abbrev pub arrived_step : Side → List (List ℕ) → Entry → List Entry → List (List ℕ)

@@ -4,10 +4,10 @@ use Rattle.std.specs.List.{AllByRecursion}
 use Rattle.zw_text.specs.declared.line.Line.{Line}
 use Rattle.zw_text.specs.declared.entry.Entry.{Entry}
 use Rattle.law_wire.specs.Marks.{collision_of, collisions, cans, MayCollide}
-use Rattle.outside_model.specs.State.{OuterState, Outside}
-use Rattle.outside_model.specs.Events.{OuterEvent, Collides_next}
-use Rattle.world_model.specs.State.{Machine}
-use Rattle.world_model.specs.Events.{Event, Outside_does}
+use Rattle.proof_walk.specs.outside_model.State.{OuterState, Outside}
+use Rattle.proof_walk.specs.outside_model.Events.{OuterEvent, Collides_next}
+use Rattle.proof_walk.specs.world_model.State.{Machine}
+use Rattle.proof_walk.specs.world_model.Events.{Event, Outside_does}
 use Rattle.proof_walk.specs.Phases.{Phase}
 use Rattle.proof_walk.specs.ByLine.{KnownOf, by_line}
 use Rattle.proof_walk.specs.Outside.{Knowing, Known, CoversOuter}

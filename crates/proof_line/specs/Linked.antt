@@ -13,19 +13,19 @@ use Rattle.zw_text.specs.Transcript.{line_of}
 use Rattle.law_wire.specs.Asked.{course_of}
 use Rattle.law_wire.specs.Clearing.{AreTold, cleared, clears, lost_by, to_clear}
 use Rattle.law_wire.specs.Links.{KeepsLinks, joined}
-use Rattle.host_model.specs.Events.{HostEvent, Line_ticks}
+use Rattle.proof_world.specs.host_model.Events.{HostEvent, Line_ticks}
 use Rattle.host_node.specs.Search.{first_wanting}
-use Rattle.host_model.specs.State.{HostState}
-use Rattle.host_model.specs.May.{IsFree}
-use Rattle.host_model.specs.Pumping.{HasNothing}
-use Rattle.outside_model.specs.State.{OuterState, is_stalled}
-use Rattle.outside_model.specs.Events.{OuterEvent, Clears_pipe, Collides_next, Discovers, Joins, Stalls, Chip_takes, ticked_entry}
-use Rattle.world_model.specs.State.{Machine}
-use Rattle.world_model.specs.Events.{Event, Outside_does, Host_does, Host_takes, Decoder_ticks, Restarts}
-use Rattle.world_model.specs.Lines.{IsEffect}
-use Rattle.proof_serial.specs.Line.{AreAtRest, IsWhole, WritesWell}
-use Rattle.proof_serial.specs.Chip.{HasFrames}
-use Rattle.proof_serial.specs.Host.{AsksWell}
+use Rattle.proof_world.specs.host_model.State.{HostState}
+use Rattle.proof_world.specs.host_model.May.{IsFree}
+use Rattle.proof_world.specs.host_model.Pumping.{HasNothing}
+use Rattle.proof_walk.specs.outside_model.State.{OuterState, is_stalled}
+use Rattle.proof_walk.specs.outside_model.Events.{OuterEvent, Clears_pipe, Collides_next, Discovers, Joins, Stalls, Chip_takes, ticked_entry}
+use Rattle.proof_walk.specs.world_model.State.{Machine}
+use Rattle.proof_walk.specs.world_model.Events.{Event, Outside_does, Host_does, Host_takes, Decoder_ticks, Restarts}
+use Rattle.proof_walk.specs.world_model.Lines.{IsEffect}
+use Rattle.proof_world.specs.proof_serial.Line.{AreAtRest, IsWhole, WritesWell}
+use Rattle.proof_world.specs.proof_serial.Chip.{HasFrames}
+use Rattle.proof_world.specs.proof_serial.Host.{AsksWell}
 use Rattle.proof_walk.specs.Phases.{Phase, Between, Said_line, Begun, Doing, To_tick, Ticked, Arriving, Giving, Ticking_devices, Ticking_chip, Ticking_decoder, Ticking_host, Sleeping, Submitting, Moving, Moved}
 use Rattle.proof_walk.specs.ByLine.{KnownOf, IsAsked}
 use Rattle.proof_traffic.specs.Links.{KeepsItsLink}

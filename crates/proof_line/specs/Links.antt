@@ -11,20 +11,20 @@ use Rattle.serial_frame.specs.declared.unit.Unit.{Unit as LineUnit}
 use Rattle.chip_sim.specs.Link.{link_unit}
 use Rattle.chip_sim.specs.Events.{ChipEvent, Judged, Ticked, Collides}
 use Rattle.chip_sim.specs.Rules.{WaitsWell}
-use Rattle.outside_model.specs.State.{OuterState}
-use Rattle.host_model.specs.Events.{HostEvent, Line_ticks}
+use Rattle.proof_walk.specs.outside_model.State.{OuterState}
+use Rattle.proof_world.specs.host_model.Events.{HostEvent, Line_ticks}
 use Rattle.serial_pipes.specs.State.{WayState}
 use Rattle.zw_words.specs.declared.side.Side.{Side}
 use Rattle.zw_words.specs.declared.side.Side.TheVariants.{Host, Chip}
 use Rattle.zw_text.specs.declared.entry.Entry.{Entry}
 use Rattle.zw_text.specs.declared.entry.Entry.TheVariants.{Said, Time}
 use Rattle.zw_text.specs.Transcript.{line_of}
-use Rattle.law_transcript.specs.Lists.{EachAfter, shown_after}
-use Rattle.law_transcript.specs.Restarts.{ticks_asked}
+use Rattle.law_wire.specs.law_transcript.Lists.{EachAfter, shown_after}
+use Rattle.law_wire.specs.law_transcript.Restarts.{ticks_asked}
 use Rattle.law_wire.specs.Clearing.{Cleared_there, clears, lost_at, to_clear}
 use Rattle.law_wire.specs.Serial.{SerialEvent, serial_events}
 use Rattle.law_wire.specs.Links.{Moment, CollidesAsTold, HasTicked, HearsInTime, LeavesFew, MayDo, Obeys, TicksInTime, WritesThere, arrivals_of, asked_for, clock_in, ends_round, is_stalled, line_in, lives, moments_of, most_left, other, round_of, since_start, stall_by, steps_in, texts_of}
-use Rattle.proof_serial.specs.Way.{Carries}
+use Rattle.proof_world.specs.proof_serial.Way.{Carries}
 use Rattle.proof_line.specs.Arrivals.{AreTexts}
 
 -- ---- the ticks that entries tell of

@@ -8,10 +8,10 @@ use Rattle.zw_text.specs.declared.line.Line.{Line}
 use Rattle.zw_text.specs.declared.line.Line.TheVariants as lines
 use Rattle.zw_text.specs.declared.entry.Entry.{Entry}
 use Rattle.law_wire.specs.Marks.{Changing, Marks, marks_by, marks_of, to_stand, IsMarked}
-use Rattle.outside_model.specs.State.{Outside}
-use Rattle.outside_model.specs.Events.{OuterEvent, Marks_loss, Marks_change, way_of}
-use Rattle.world_model.specs.State.{Machine}
-use Rattle.world_model.specs.Events.{Event, Outside_does}
+use Rattle.proof_walk.specs.outside_model.State.{Outside}
+use Rattle.proof_walk.specs.outside_model.Events.{OuterEvent, Marks_loss, Marks_change, way_of}
+use Rattle.proof_walk.specs.world_model.State.{Machine}
+use Rattle.proof_walk.specs.world_model.Events.{Event, Outside_does}
 use Rattle.proof_walk.specs.Outside.{Pending, Knowing, Known, CoversOuter}
 use Rattle.proof_walk.specs.Phases.{Phase}
 use Rattle.proof_walk.specs.ByLine.{KnownOf, by_line}

@@ -10,17 +10,17 @@ use Rattle.zw_text.specs.declared.entry.Entry.{Entry}
 use Rattle.zw_text.specs.declared.entry.Refusal.{Refusal}
 use Rattle.zw_text.specs.declared.entry.Entry.TheVariants.{Said, Overrun, Cleared}
 use Rattle.zw_text.specs.Transcript.{shown, line_of, line_last}
-use Rattle.law_transcript.specs.Lists.{EachAfter}
-use Rattle.law_transcript.specs.Restarts.{is_restart}
+use Rattle.law_wire.specs.law_transcript.Lists.{EachAfter}
+use Rattle.law_wire.specs.law_transcript.Restarts.{is_restart}
 use Rattle.law_wire.specs.Clearing.{clears, clear_at}
 use Rattle.law_wire.specs.Serial.{ended}
 use Rattle.law_wire.specs.Pipes.{Pipe, empty_pipe, pipe_from, sum_of, bytes_perhaps, unit_last, may_lack}
-use Rattle.host_model.specs.State.{HostState}
-use Rattle.host_model.specs.Events.{HostEvent, Hears}
-use Rattle.outside_model.specs.State.{OuterState, is_stalled}
-use Rattle.outside_model.specs.Events.{OuterEvent, Repeats, Wakes_device, Sets_device, Shows, Joins, Discovers, Links, Loses, Loses_acks, Marks_loss, Marks_change, Clears_pipe, Collides_next, Stalls, Cuts}
-use Rattle.world_model.specs.Events.{Event, Outside_does, Refuses}
-use Rattle.world_model.specs.Lines.{restart_events}
+use Rattle.proof_world.specs.host_model.State.{HostState}
+use Rattle.proof_world.specs.host_model.Events.{HostEvent, Hears}
+use Rattle.proof_walk.specs.outside_model.State.{OuterState, is_stalled}
+use Rattle.proof_walk.specs.outside_model.Events.{OuterEvent, Repeats, Wakes_device, Sets_device, Shows, Joins, Discovers, Links, Loses, Loses_acks, Marks_loss, Marks_change, Clears_pipe, Collides_next, Stalls, Cuts}
+use Rattle.proof_walk.specs.world_model.Events.{Event, Outside_does, Refuses}
+use Rattle.proof_walk.specs.world_model.Lines.{restart_events}
 use Rattle.proof_walk.specs.Outside.{awaits_number}
 use Rattle.proof_walk.specs.Phases.{Phase, Said_line, Begun, Doing, Ticked, Arriving, Giving, Ticking_devices, Ticking_chip, Ticking_host, Moved}
 use Rattle.proof_walk.specs.ByLine.{KnownOf, OfEffect}

@@ -16,20 +16,20 @@ use Rattle.zw_text.specs.declared.entry.Entry.{Entry}
 use Rattle.zw_text.specs.declared.entry.Refusal.{Refusal}
 use Rattle.zw_text.specs.declared.entry.Entry.TheVariants.{Said, Written, Overrun}
 use Rattle.zw_text.specs.Transcript.{line_of, line_last}
-use Rattle.law_transcript.specs.Restarts.{is_restart}
+use Rattle.law_wire.specs.law_transcript.Restarts.{is_restart}
 use Rattle.law_wire.specs.Pipes.{Pipe, empty_pipe, pipe_from, sum_of, unit_last, is_marked, may_fit}
 use Rattle.law_wire.specs.Links.{other}
-use Rattle.proof_device.proofs.Entered.{IsCleared}
-use Rattle.host_model.specs.State.{HostState}
-use Rattle.host_model.specs.May.{IsFree}
-use Rattle.outside_model.specs.State.{is_stalled}
-use Rattle.outside_model.specs.Events.{Clears_pipe}
-use Rattle.world_model.specs.State.{Machine}
-use Rattle.world_model.specs.Events.{Event, Outside_does, Refuses}
-use Rattle.world_model.specs.Lines.{restart_events}
-use Rattle.proof_serial.specs.Way.{Carries}
-use Rattle.proof_serial.specs.Chip.{HasFrames}
-use Rattle.proof_serial.specs.Line.{IsWhole, AreAtRest}
+use Rattle.proof_walk.proofs.Entered.{IsCleared}
+use Rattle.proof_world.specs.host_model.State.{HostState}
+use Rattle.proof_world.specs.host_model.May.{IsFree}
+use Rattle.proof_walk.specs.outside_model.State.{is_stalled}
+use Rattle.proof_walk.specs.outside_model.Events.{Clears_pipe}
+use Rattle.proof_walk.specs.world_model.State.{Machine}
+use Rattle.proof_walk.specs.world_model.Events.{Event, Outside_does, Refuses}
+use Rattle.proof_walk.specs.world_model.Lines.{restart_events}
+use Rattle.proof_world.specs.proof_serial.Way.{Carries}
+use Rattle.proof_world.specs.proof_serial.Chip.{HasFrames}
+use Rattle.proof_world.specs.proof_serial.Line.{IsWhole, AreAtRest}
 use Rattle.proof_walk.specs.Outside.{awaits_number}
 use Rattle.proof_walk.specs.Phases.{Phase, Said_line, Begun, Doing, Ticked, Arriving, Giving, Ticking_devices, Ticking_chip, Ticking_decoder, Ticking_host, Sleeping, Submitting, Moving, Moved}
 use Rattle.proof_walk.specs.ByLine.{KnownOf, OfEffect}

@@ -4,12 +4,12 @@ use Rattle.std.specs.Prelude.{◌≡◌, ◌≤◌, ℕ, Bool, false, List}
 use Rattle.std.specs.List.{AllByRecursion}
 use Rattle.zw_text.specs.declared.entry.Entry.{Entry}
 use Rattle.zw_text.specs.Transcript.{line_last}
-use Rattle.law_transcript.specs.Restarts.{ticks_of, ticks_asked}
+use Rattle.law_wire.specs.law_transcript.Restarts.{ticks_of, ticks_asked}
 use Rattle.law_wire.specs.Asked.{lines_before}
 use Rattle.law_wire.specs.Times.{MayBeTold, tells_tick}
-use Rattle.outside_model.specs.State.{Outside}
-use Rattle.outside_model.specs.Events.{OuterEvent, Begins_line, Begins_tick}
-use Rattle.world_model.specs.State.{Machine}
+use Rattle.proof_walk.specs.outside_model.State.{Outside}
+use Rattle.proof_walk.specs.outside_model.Events.{OuterEvent, Begins_line, Begins_tick}
+use Rattle.proof_walk.specs.world_model.State.{Machine}
 use Rattle.proof_walk.specs.Outside.{Known, CoversOuter}
 use Rattle.proof_walk.specs.Phases.{Phase, Said_line, Begun, Doing, To_tick}
 

@@ -23,6 +23,9 @@ pub use pipes::{
     lines_clear_at_restarts, lines_clear_nowhere_else, lines_overrun_only_when_full,
     lines_overrun_when_full,
 };
+pub use proof_traffic as traffic;
+pub use proof_walk::host;
 pub use proof_world as world;
+pub use proof_world::serial;
 pub use ties::{collisions_go_on, marks_go_on, numbers_go_on, pipes_go_on, rooms_go_on};
 pub use times::ticks_are_told;

@@ -5,16 +5,16 @@ ghost use Rattle.s0_crypto.specs.declared.key_pair.Keys.{Keys};
 ghost use Rattle.device_sim.specs.State.{State};
 ghost use Rattle.law_wire.specs.Clearing.{ClearsLine};
 ghost use Rattle.law_wire.specs.Links.{KeepsLinks};
-ghost use Rattle.world_model.specs.State.{first_machine};
-ghost use Rattle.world_lines.specs.Spoken.{Spoken, transcript_of};
-ghost use Rattle.world_lines.specs.Done.{AreDone};
-ghost use Rattle.world_lines.specs.Whole.{AreWhole};
+ghost use Rattle.proof_walk.specs.world_model.State.{first_machine};
+ghost use Rattle.proof_walk.specs.world_lines.Spoken.{Spoken, transcript_of};
+ghost use Rattle.proof_walk.specs.world_lines.Done.{AreDone};
+ghost use Rattle.proof_walk.specs.world_lines.Whole.{AreWhole};
 
 use crate::lines_clear_nowhere_else;
-use proof_serial::hosts_write_well;
 use proof_traffic::hosts_obey_the_line;
 use proof_walk::time_goes_on;
 use proof_world::lines_keep_and_ask_well;
+use proof_world::serial::hosts_write_well;
 
 /// Over any lines from the first on, the last of which an allocation failure may have cut short, over a keeper that tells its records and has none at
 /// first, both sides keep the rules of the serial line in time, and with links that do so just what was on its way is told at each restart that is not

@@ -5,15 +5,15 @@ ghost use Rattle.s0_crypto.specs.declared.key_pair.Keys.{Keys};
 ghost use Rattle.device_sim.specs.State.{State};
 ghost use Rattle.law_wire.specs.Pipes.{OverrunsWhenFull};
 ghost use Rattle.law_wire.specs.Serial.{ended};
-ghost use Rattle.world_model.specs.State.{first_machine};
-ghost use Rattle.world_lines.specs.Spoken.{Spoken, transcript_of};
-ghost use Rattle.world_lines.specs.Done.{AreDone};
-ghost use Rattle.world_lines.specs.Whole.{AreWhole};
+ghost use Rattle.proof_walk.specs.world_model.State.{first_machine};
+ghost use Rattle.proof_walk.specs.world_lines.Spoken.{Spoken, transcript_of};
+ghost use Rattle.proof_walk.specs.world_lines.Done.{AreDone};
+ghost use Rattle.proof_walk.specs.world_lines.Whole.{AreWhole};
 ghost use Rattle.proof_line.specs.Pipes.{ClearsAtRestarts, ClearsNowhereElse, OverrunsOnlyWhenFull};
 
 use crate::{pipes_go_on, rooms_go_on};
-use proof_serial::hosts_write_well;
 use proof_world::lines_keep_and_ask_well;
+use proof_world::serial::hosts_write_well;
 
 /// Over any lines from the first on, the last of which an allocation failure may have cut short, a unit is overrun only where what its pipe may still hold, by
 /// what stands before it, leaves it no room in 4,096 bytes.

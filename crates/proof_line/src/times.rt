@@ -5,10 +5,10 @@ ghost use Rattle.s0_crypto.specs.declared.key_pair.Keys.{Keys};
 ghost use Rattle.device_sim.specs.State.{State};
 ghost use Rattle.law_wire.specs.Serial.{ended};
 ghost use Rattle.law_wire.specs.Times.{TellsTime};
-ghost use Rattle.world_model.specs.State.{first_machine};
-ghost use Rattle.world_lines.specs.Spoken.{Spoken, transcript_of};
-ghost use Rattle.world_lines.specs.Done.{AreDone};
-ghost use Rattle.world_lines.specs.Whole.{AreWhole};
+ghost use Rattle.proof_walk.specs.world_model.State.{first_machine};
+ghost use Rattle.proof_walk.specs.world_lines.Spoken.{Spoken, transcript_of};
+ghost use Rattle.proof_walk.specs.world_lines.Done.{AreDone};
+ghost use Rattle.proof_walk.specs.world_lines.Whole.{AreWhole};
 
 use crate::numbers_go_on;
 use proof_walk::time_goes_on;

@@ -9,13 +9,13 @@ use Rattle.zw_text.specs.declared.entry.Outcome.{Outcome}
 use Rattle.zw_text.specs.declared.entry.Outcome.TheVariants.{Waiting, Begun, Success, Fail, NoSupport, Unanswered, Cancelled}
 use Rattle.zw_text.specs.Transcript.{shown, sessions, session_at, carried, carried_at, endings, ended_at, outcome, outcome_begun, outcome_of, last_outcome}
 use Rattle.zw_text.proofs.Views.{shown-append}
-use Rattle.law_transcript.specs.Lists.{EachAfter, Has}
-use Rattle.law_transcript.specs.Stores.{node_at}
-use Rattle.host_model.specs.State.{Command, command_at}
+use Rattle.proof_host.specs.law_transcript.Lists.{EachAfter, Has}
+use Rattle.proof_host.specs.law_transcript.Stores.{node_at}
+use Rattle.proof_host.specs.host_model.State.{Command, command_at}
 use Rattle.proof_host.specs.Laws.{IsUnderWay, MayCarry, MayEnd, MayStand, accepted_for, number_for, numbers_for}
 use Rattle.proof_host.specs.Tables.{nodes_by}
 use Rattle.proof_host.proofs.Views.{last_is}
-use Rattle.law_transcript.proofs.Having.{has_left, has_right, has_shown, shown_has}
+use Rattle.proof_host.proofs.Having.{has_left, has_right, has_shown, shown_has}
 
 -- a command of which a session began
 abbrev pub IsStarted : Outcome → Type 0

@@ -1,5 +1,5 @@
 -- Where the table is what the transcript shows, what holds by the table holds by the transcript.
-use Rattle.law_transcript.specs.Nodes.{always}
+use Rattle.proof_host.specs.law_transcript.Nodes.{always}
 use Rattle.std.proofs.Common.{◌≡◌, ℕ, if◌then◌else◌, List, [], ◌∷◌, map, Option, Some, None, sym, ap, subst, ◌∙◌}
 use Rattle.std.specs.List.{AllByRecursion}
 use Rattle.zw_base.specs.declared.property.Property.{Property}
@@ -9,20 +9,20 @@ use Rattle.device_stack.specs.State.{State, value_of}
 use Rattle.zw_text.specs.declared.entry.Entry.{Entry}
 use Rattle.zw_text.specs.declared.entry.Outcome.TheVariants.{Success}
 use Rattle.zw_text.specs.Transcript.{Command as Accepted, accepted, by_session, outcome, sessions}
-use Rattle.law_transcript.specs.Commands.{settings_for}
-use Rattle.law_transcript.specs.Lists.{Has}
-use Rattle.law_transcript.specs.Once.{IsUndone, MakesWhatIsAsked, Once, carried_by, commands_applied}
-use Rattle.law_transcript.specs.Values.{ConfirmsLast, confirmed, confirmed_by, is_success, last_command, last_given, properties_changed}
+use Rattle.proof_host.specs.law_transcript.Commands.{settings_for}
+use Rattle.proof_host.specs.law_transcript.Lists.{Has}
+use Rattle.proof_host.specs.law_transcript.Once.{IsUndone, MakesWhatIsAsked, Once, carried_by, commands_applied}
+use Rattle.proof_host.specs.law_transcript.Values.{ConfirmsLast, confirmed, confirmed_by, is_success, last_command, last_given, properties_changed}
 use Rattle.value_store.specs.Values.{stored_of}
 use Rattle.host_keep.specs.Kept.{value_among}
-use Rattle.host_model.specs.State.{Command, HostState}
+use Rattle.proof_host.specs.host_model.State.{Command, HostState}
 use Rattle.proof_host.specs.Laws.{numbers_for}
 use Rattle.proof_host.specs.Stores.{StoresLaw, given_by}
 use Rattle.proof_host.specs.Tables.{taken_at}
 use Rattle.proof_host.proofs.Confirmed.{last_agree}
 use Rattle.proof_once.specs.Tied.{MakesWhatIsTaken, settings_taken}
 use Rattle.proof_once.specs.ByTable.{ConfirmsByTable, IsTable, OnceByTable}
-use Rattle.law_transcript.proofs.Having.{all_has, all_of}
+use Rattle.proof_host.proofs.Having.{all_has, all_of}
 use Rattle.proof_once.proofs.CommandsOfSessions.{has_carried, session_has}
 use Rattle.proof_once.proofs.ConfirmedValues.{value_settings}
 

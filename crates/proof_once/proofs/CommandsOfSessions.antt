@@ -8,9 +8,9 @@ use Rattle.zw_base.specs.declared.property.By.TheVariants.{Session, Plain, Local
 use Rattle.supervision.specs.Host.{command_at}
 use Rattle.device_kinds.specs.declared.change.Change.{Change}
 use Rattle.zw_text.specs.Transcript.{by_session}
-use Rattle.law_transcript.specs.Lists.{Has, listed}
-use Rattle.law_transcript.specs.Once.{carried_by, sessions_by}
-use Rattle.law_transcript.proofs.Having.{has_shown, shown_has}
+use Rattle.proof_host.specs.law_transcript.Lists.{Has, listed}
+use Rattle.proof_host.specs.law_transcript.Once.{carried_by, sessions_by}
+use Rattle.proof_host.proofs.Having.{has_shown, shown_has}
 
 -- ---- places of lists
 

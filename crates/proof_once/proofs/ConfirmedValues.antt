@@ -14,21 +14,21 @@ use Rattle.zw_text.specs.declared.entry.Entry.{Entry}
 use Rattle.zw_text.specs.declared.entry.Outcome.{Outcome}
 use Rattle.zw_text.specs.declared.entry.Outcome.TheVariants.{Success}
 use Rattle.zw_text.specs.Transcript.{by_session, outcome, sessions}
-use Rattle.law_transcript.specs.Lists.{Has, Rises, listed}
-use Rattle.law_transcript.specs.Once.{carried_by, sessions_by}
-use Rattle.law_transcript.specs.Values.{is_success, last_command, last_given, last_setter, sets}
+use Rattle.proof_host.specs.law_transcript.Lists.{Has, Rises, listed}
+use Rattle.proof_host.specs.law_transcript.Once.{carried_by, sessions_by}
+use Rattle.proof_host.specs.law_transcript.Values.{is_success, last_command, last_given, last_setter, sets}
 use Rattle.value_store.specs.Values.{stored_of}
 use Rattle.host_orders.specs.Settings.{settings}
 use Rattle.host_orders.specs.declared.actuator.Actuator.{Actuator}
 use Rattle.host_keep.specs.Kept.{Taken, value_among, value_by as value_taken}
 use Rattle.host_node.specs.TableState.{node_of}
-use Rattle.host_model.specs.State.{HostState}
+use Rattle.proof_host.specs.host_model.State.{HostState}
 use Rattle.proof_host.specs.Facts.{AreShown, Facts}
 use Rattle.proof_host.specs.Stores.{AreSorted, StoresLaw, given_by}
 use Rattle.proof_host.specs.Tables.{taken_at}
 use Rattle.proof_once.specs.Tied.{IsTied, MakesWhatIsTaken, settings_taken}
 use Rattle.proof_once.specs.ByTable.{ConfirmsByTable}
-use Rattle.law_transcript.proofs.Having.{above_after, all_has, all_of}
+use Rattle.proof_host.proofs.Having.{above_after, all_has, all_of}
 use Rattle.proof_once.proofs.CommandsOfSessions.{carried_has, has_carried, has_change, sessions_by-append}
 use Rattle.proof_once.proofs.Successes.{successes_rise}
 use Rattle.proof_once.proofs.Once.{changed, succeeded, success_in}

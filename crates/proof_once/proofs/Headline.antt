@@ -3,12 +3,12 @@ use Rattle.std.proofs.Common.{◌≡◌, ℕ, ◌==◌, Bool, true, false, if◌
 use Rattle.std.specs.List.{AllByRecursion}
 use Rattle.device_sim.specs.State.{State}
 use Rattle.zw_text.specs.declared.entry.Entry.{Entry}
-use Rattle.law_transcript.specs.Headline.{Headline, HeadlineOf}
-use Rattle.law_transcript.specs.Nodes.{device_of, is_supervised, listing_of, always}
-use Rattle.law_transcript.specs.Once.{IsSupervisedChange, Once, SucceedsAfterChange}
-use Rattle.law_transcript.specs.Values.{ConfirmsLast}
+use Rattle.proof_host.specs.law_transcript.Headline.{Headline, HeadlineOf}
+use Rattle.proof_host.specs.law_transcript.Nodes.{device_of, is_supervised, listing_of, always}
+use Rattle.proof_host.specs.law_transcript.Once.{IsSupervisedChange, Once, SucceedsAfterChange}
+use Rattle.proof_host.specs.law_transcript.Values.{ConfirmsLast}
 use Rattle.host_node.specs.TableState.{node_of}
-use Rattle.host_model.specs.State.{HostState}
+use Rattle.proof_host.specs.host_model.State.{HostState}
 use Rattle.proof_host.specs.Facts.{Facts}
 use Rattle.proof_host.specs.Laws.{HostLaws}
 use Rattle.proof_once.specs.Tied.{AllTied, AreTied, IsTied}

@@ -13,8 +13,8 @@ use Rattle.device_kinds.specs.Kind.{lists}
 use Rattle.device_sim.specs.State.{State}
 use Rattle.device_sim.specs.Event.{DeviceEvent, Hears, Ticks, Wakes, Sets, device_after}
 use Rattle.device_sim.specs.Laws.{IsChanged, IsHeard, IsMade, IsTicked}
-use Rattle.law_transcript.specs.Devices.{after_events}
-use Rattle.law_transcript.specs.Once.{IsSupervisedChange}
+use Rattle.proof_host.specs.law_transcript.Devices.{after_events}
+use Rattle.proof_host.specs.law_transcript.Once.{IsSupervisedChange}
 use Rattle.proof_device.specs.GoingOn.{GoOn, IsSame}
 use Rattle.proof_device.specs.Showing.{AreUnchanged}
 use Rattle.proof_once.specs.InSessions.{ChangesInSessions}

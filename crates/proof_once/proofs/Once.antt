@@ -13,23 +13,23 @@ use Rattle.zw_text.specs.declared.entry.Entry.{Entry}
 use Rattle.zw_text.specs.declared.entry.Outcome.{Outcome}
 use Rattle.zw_text.specs.declared.entry.Outcome.TheVariants.{Waiting, Begun, Success, Fail, NoSupport, Unanswered, Cancelled}
 use Rattle.zw_text.specs.Transcript.{sessions, outcome}
-use Rattle.law_transcript.specs.Lists.{Has, Rises}
-use Rattle.law_transcript.specs.Once.{IsUndone, IsSupervisedChange, carried_by, commands_applied, sessions_by}
-use Rattle.law_transcript.specs.Sessions.{IsFinal}
+use Rattle.proof_host.specs.law_transcript.Lists.{Has, Rises}
+use Rattle.proof_host.specs.law_transcript.Once.{IsUndone, IsSupervisedChange, carried_by, commands_applied, sessions_by}
+use Rattle.proof_host.specs.law_transcript.Sessions.{IsFinal}
 use Rattle.host_keep.specs.Status.{status_byte}
 use Rattle.host_keep.specs.declared.final_status.FinalStatus.{FinalStatus}
 use Rattle.host_keep.specs.declared.final_status.FinalStatus.TheVariants as final
 use Rattle.host_node.specs.State.{NodeState}
 use Rattle.host_node.specs.TableState.{node_of}
-use Rattle.host_model.specs.State.{HostState, Command}
-use Rattle.host_model.specs.After.{outcome_of}
-use Rattle.host_model.specs.Sessions.{command_by, open_command}
+use Rattle.proof_host.specs.host_model.State.{HostState, Command}
+use Rattle.proof_host.specs.host_model.After.{outcome_of}
+use Rattle.proof_host.specs.host_model.Sessions.{command_by, open_command}
 use Rattle.proof_host.specs.Facts.{AreShown, Facts, IsInOrder}
 use Rattle.proof_host.specs.Laws.{HostLaws, IsUnderWay, numbers_for}
 use Rattle.proof_host.specs.Tables.{outcome_in, recorded}
 use Rattle.proof_once.specs.Tied.{IsTied, MakesWhatIsTaken}
 use Rattle.proof_once.specs.ByTable.{OnceByTable}
-use Rattle.law_transcript.proofs.Having.{all_has, all_of}
+use Rattle.proof_host.proofs.Having.{all_has, all_of}
 use Rattle.proof_device.proofs.Once.{numbers_are}
 use Rattle.proof_once.proofs.CommandsOfSessions.{carried_has, has_carried, has_session, session_has, session_within}
 use Rattle.proof_once.proofs.Successes.{has_success, successes_rise, successes_within, success_has}

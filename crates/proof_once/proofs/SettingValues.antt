@@ -13,10 +13,10 @@ use Rattle.device_kinds.specs.declared.change.Change.{Change}
 use Rattle.device_kinds.specs.Values.{value_after, value_by}
 use Rattle.supervision.specs.Host.{command_at}
 use Rattle.host_keep.specs.Kept.{or_else, value_among}
-use Rattle.law_transcript.specs.Table.{compare_properties}
-use Rattle.law_transcript.specs.Values.{last_given, last_setter, sets}
+use Rattle.proof_host.specs.law_transcript.Table.{compare_properties}
+use Rattle.proof_host.specs.law_transcript.Values.{last_given, last_setter, sets}
 use Rattle.proof_host.specs.Stores.{AreSorted}
-use Rattle.host_model.proofs.Values.{one_property}
+use Rattle.proof_host.proofs.host_model_Values.{one_property}
 use Rattle.device_kinds.proofs.CacheLemmas.{value_after-append as value_then}
 
 -- ---- settings in the order of properties

@@ -19,20 +19,20 @@ use Rattle.proof_device.specs.Showing.{IsShownAmong}
 use Rattle.zw_text.specs.declared.entry.Entry.{Entry}
 use Rattle.zw_text.specs.Transcript.{Made, applied, by_session, made, made_at}
 use Rattle.zw_text.proofs.Views.{shown-append}
-use Rattle.law_transcript.specs.Devices.{made_by}
-use Rattle.law_transcript.specs.Lists.{Has}
-use Rattle.law_transcript.specs.Once.{carried_by, commands_shown, sessions_by}
+use Rattle.proof_host.specs.law_transcript.Devices.{made_by}
+use Rattle.proof_host.specs.law_transcript.Lists.{Has}
+use Rattle.proof_host.specs.law_transcript.Once.{carried_by, commands_shown, sessions_by}
 use Rattle.host_orders.specs.Refusals.{is_bad, is_bad_bulk}
 use Rattle.host_orders.specs.Settings.{config_settings, settings, settings_by}
 use Rattle.host_orders.specs.declared.actuator.Actuator.{Actuator}
 use Rattle.host_orders.specs.declared.actuator.Actuator.TheVariants.{Binary, Multilevel, Lock}
 use Rattle.host_node.specs.TableState.{node_of}
-use Rattle.host_model.specs.State.{HostState, Command, command_at}
-use Rattle.host_model.specs.Facts.{IsCommandOf, IsSound}
+use Rattle.proof_host.specs.host_model.State.{HostState, Command, command_at}
+use Rattle.proof_host.specs.host_model.Facts.{IsCommandOf, IsSound}
 use Rattle.proof_host.specs.Facts.{Facts}
 use Rattle.proof_host.specs.Tables.{taken_at, taken_by}
 use Rattle.proof_once.specs.Tied.{MakesWhatIsTaken, settings_taken}
-use Rattle.law_transcript.proofs.Having.{all_has, has_left, has_shown}
+use Rattle.proof_host.proofs.Having.{all_has, has_left, has_shown}
 use Rattle.proof_device.proofs.Once.{numbers_are}
 use Rattle.proof_once.proofs.CommandsOfSessions.{carried_has, has_change, session_has}
 use Rattle.proof_once.proofs.Successes.{success_has}

@@ -8,8 +8,8 @@ use Rattle.zw_base.proofs.Each.{all-weaker}
 use Rattle.supervision.specs.Host.{command_at}
 use Rattle.supervision.specs.declared.session.TheConstants.{SUCCESS}
 use Rattle.proof_course.specs.Parts.{successes}
-use Rattle.law_transcript.specs.Lists.{Has, Rises}
-use Rattle.law_transcript.proofs.Having.{all_of}
+use Rattle.proof_host.specs.law_transcript.Lists.{Has, Rises}
+use Rattle.proof_host.proofs.Having.{all_of}
 use Rattle.proof_course.proofs.Parts.{successes_from}
 
 -- ---- which they are

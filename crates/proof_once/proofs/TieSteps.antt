@@ -15,19 +15,19 @@ use Rattle.zw_text.specs.declared.entry.Entry.{Entry}
 use Rattle.zw_text.specs.declared.entry.Outcome.{Outcome}
 use Rattle.zw_text.specs.declared.entry.Outcome.TheVariants.{Waiting, Begun, Success, Fail, NoSupport, Unanswered, Cancelled}
 use Rattle.zw_text.specs.Transcript.{by_session, outcome}
-use Rattle.law_transcript.specs.Lists.{Has}
-use Rattle.law_transcript.specs.Once.{carried_by}
+use Rattle.proof_host.specs.law_transcript.Lists.{Has}
+use Rattle.proof_host.specs.law_transcript.Once.{carried_by}
 use Rattle.host_keep.specs.Kept.{Taken}
 use Rattle.host_keep.specs.Status.{status_byte}
 use Rattle.host_keep.specs.declared.final_status.FinalStatus.{FinalStatus}
 use Rattle.host_keep.specs.declared.final_status.FinalStatus.TheVariants as final
-use Rattle.host_model.specs.State.{Command, HostState}
-use Rattle.host_model.specs.After.{outcome_of}
+use Rattle.proof_host.specs.host_model.State.{Command, HostState}
+use Rattle.proof_host.specs.host_model.After.{outcome_of}
 use Rattle.proof_host.specs.Facts.{AreShown, Facts}
 use Rattle.proof_host.specs.Laws.{HostLaws, IsOver}
 use Rattle.proof_host.specs.Tables.{outcome_in, recorded, taken_at}
 use Rattle.proof_once.specs.Tied.{AreOutcomes, IsTaken, IsToldAs, KeepsOrders, MakesWhatIsTaken, settings_taken}
-use Rattle.law_transcript.proofs.Having.{all_has, all_of, has_shown}
+use Rattle.proof_host.proofs.Having.{all_has, all_of, has_shown}
 use Rattle.proof_device.proofs.Once.{numbers_are}
 use Rattle.proof_once.proofs.CommandsOfSessions.{carried_has, has_carried, session_has, session_within, stands_prefix}
 use Rattle.proof_once.proofs.Successes.{successes_within}

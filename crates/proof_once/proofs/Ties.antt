@@ -13,10 +13,10 @@ use Rattle.device_sim.specs.State.{State}
 use Rattle.proof_messages.specs.Ending.{HasEnded}
 use Rattle.zw_text.specs.declared.entry.Outcome.{Outcome}
 use Rattle.zw_text.specs.Transcript.{by_session}
-use Rattle.law_transcript.specs.Once.{carried_by}
+use Rattle.proof_host.specs.law_transcript.Once.{carried_by}
 use Rattle.host_keep.specs.declared.final_status.FinalStatus.TheVariants as final
 use Rattle.host_node.specs.TableState.{node_of}
-use Rattle.host_model.specs.State.{HostState, Command}
+use Rattle.proof_host.specs.host_model.State.{HostState, Command}
 use Rattle.proof_host.specs.Facts.{StartsAs}
 use Rattle.proof_host.specs.Tables.{outcome_in, recorded, taken_at}
 use Rattle.proof_once.specs.Tied.{AreOutcomes, IsTied, IsToldAs, MakesWhatIsTaken, settings_taken}

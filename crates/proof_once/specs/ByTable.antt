@@ -8,12 +8,12 @@ use Rattle.device_stack.specs.State.{State, value_of}
 use Rattle.zw_text.specs.declared.entry.Entry.{Entry}
 use Rattle.zw_text.specs.declared.entry.Outcome.TheVariants.{Success}
 use Rattle.zw_text.specs.Transcript.{accepted, sessions, outcome}
-use Rattle.law_transcript.specs.Lists.{Has, Rises}
-use Rattle.law_transcript.specs.Commands.{numbers_of, settings_for}
-use Rattle.law_transcript.specs.Once.{IsUndone, IsSupervisedChange, commands_applied, sessions_by}
-use Rattle.law_transcript.specs.Values.{last_command}
+use Rattle.proof_host.specs.law_transcript.Lists.{Has, Rises}
+use Rattle.proof_host.specs.law_transcript.Commands.{numbers_of, settings_for}
+use Rattle.proof_host.specs.law_transcript.Once.{IsUndone, IsSupervisedChange, commands_applied, sessions_by}
+use Rattle.proof_host.specs.law_transcript.Values.{last_command}
 use Rattle.value_store.specs.Values.{Values, stored_of}
-use Rattle.host_model.specs.State.{Command}
+use Rattle.proof_host.specs.host_model.State.{Command}
 use Rattle.proof_host.specs.Laws.{numbers_for}
 use Rattle.proof_host.specs.Tables.{taken_at}
 use Rattle.proof_once.specs.Tied.{MakesWhatIsTaken, settings_taken}

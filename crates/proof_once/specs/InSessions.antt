@@ -3,8 +3,8 @@
 use Rattle.std.specs.Prelude.{◌≡◌, true}
 use Rattle.std.specs.List.{AllByRecursion}
 use Rattle.device_sim.specs.State.{State}
-use Rattle.law_transcript.specs.Nodes.{is_supervised}
-use Rattle.law_transcript.specs.Once.{IsSupervisedChange}
+use Rattle.proof_host.specs.law_transcript.Nodes.{is_supervised}
+use Rattle.proof_host.specs.law_transcript.Once.{IsSupervisedChange}
 
 -- no change of a device that knows Supervision was made by a Set without a session
 abbrev pub ChangesInSessions : State → Type 0

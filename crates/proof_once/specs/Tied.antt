@@ -11,15 +11,15 @@ use Rattle.device_sim.specs.State.{State}
 use Rattle.proof_messages.specs.Ending.{HasEnded}
 use Rattle.zw_text.specs.declared.entry.Outcome.{Outcome}
 use Rattle.zw_text.specs.Transcript.{by_session}
-use Rattle.law_transcript.specs.Nodes.{device_of, is_supervised}
-use Rattle.law_transcript.specs.Once.{carried_by}
+use Rattle.proof_host.specs.law_transcript.Nodes.{device_of, is_supervised}
+use Rattle.proof_host.specs.law_transcript.Once.{carried_by}
 use Rattle.host_orders.specs.Settings.{settings}
 use Rattle.host_keep.specs.Kept.{Taken}
 use Rattle.host_keep.specs.Status.{status_byte}
 use Rattle.host_keep.specs.declared.final_status.FinalStatus.{FinalStatus}
 use Rattle.host_node.specs.TableState.{node_of}
-use Rattle.host_model.specs.State.{Command, HostState}
-use Rattle.host_model.specs.After.{outcome_of}
+use Rattle.proof_host.specs.host_model.State.{Command, HostState}
+use Rattle.proof_host.specs.host_model.After.{outcome_of}
 use Rattle.proof_host.specs.Tables.{outcome_in, taken_at}
 
 -- ---- what the host was told

@@ -5,14 +5,14 @@ use Rattle.supervision.specs.Host.{command_at as session_at}
 use Rattle.supervision.specs.declared.session.TheConstants.{SUCCESS}
 use Rattle.device_sim.specs.State.{State}
 use Rattle.proof_messages.specs.Ending.{HasEnded}
-use Rattle.law_transcript.specs.Lists.{Has}
+use Rattle.proof_host.specs.law_transcript.Lists.{Has}
 use Rattle.host_keep.specs.declared.final_status.FinalStatus.TheVariants as final
 use Rattle.host_node.specs.TableState.{node_of}
-use Rattle.host_model.specs.State.{HostState}
-use Rattle.host_model.specs.Events.{HostEvent, Finishes}
-use Rattle.host_model.specs.After.{after}
-use Rattle.world_model.specs.State.{Machine}
-use Rattle.world_model.specs.Events.{Event, Host_does, Host_takes, happens}
+use Rattle.proof_host.specs.host_model.State.{HostState}
+use Rattle.proof_host.specs.host_model.Events.{HostEvent, Finishes}
+use Rattle.proof_host.specs.host_model.After.{after}
+use Rattle.proof_device.specs.world_model.State.{Machine}
+use Rattle.proof_device.specs.world_model.Events.{Event, Host_does, Host_takes, happens}
 use Rattle.proof_once.specs.Tied.{MakesWhatIsTaken}
 
 -- a device of the node ended this session with success, and each of its changes by sessions made what the host's table asks for

@@ -14,3 +14,6 @@ pub use laws::{
     laws_of_transcripts_follow, restarts_keep_ties, ties_confirm_what_was_set, ties_go_on,
     ties_keep_once_only,
 };
+pub use proof_device as device;
+pub use proof_host as host;
+pub use proof_messages as messages;

@@ -39,14 +39,14 @@ use Rattle.proof_serial.specs.Units.{good_units}
 use Rattle.run_replay.specs.Machine.{Lone, Event, Does_asked, Does_itself, Takes, Ticks, Refuses, Shows_values, May, MayAll, alone, Then, entries, entries_of, happens, happens_all}
 use Rattle.run_replay.specs.Lines.{AreTicks, IsEffect, IsLine, IsPlain, IsPump, IsReplayed, IsTaking, by_host}
 use Rattle.run_replay.proofs.EventLists.{happens_all-append}
-use Rattle.proof_alone.specs.State.{HostMachine, host_machine, with_world}
-use Rattle.proof_alone.specs.Steps as step
-use Rattle.proof_alone.specs.Steps.{IsAskedBy}
-use Rattle.proof_alone.specs.Phases.{Phase, Resting, Asked, Risen, Open}
-use Rattle.proof_alone.specs.Runs.{Run}
-use Rattle.proof_alone.specs.Runs.Run.{Stepped, Turned}
-use Rattle.proof_alone.proofs.InOrder.{asked_puts, is_asked}
-use Rattle.proof_alone.proofs.Hosting.{items_run, kept, pump_run, tick_and_pump}
+use Rattle.proof_requests.specs.proof_alone.State.{HostMachine, host_machine, with_world}
+use Rattle.proof_requests.specs.proof_alone.Steps as step
+use Rattle.proof_requests.specs.proof_alone.Steps.{IsAskedBy}
+use Rattle.proof_requests.specs.proof_alone.Phases.{Phase, Resting, Asked, Risen, Open}
+use Rattle.proof_requests.specs.proof_alone.Runs.{Run}
+use Rattle.proof_requests.specs.proof_alone.Runs.Run.{Stepped, Turned}
+use Rattle.proof_requests.proofs.InOrder.{asked_puts, is_asked}
+use Rattle.proof_requests.proofs.Hosting.{items_run, kept, pump_run, tick_and_pump}
 use Rattle.proof_replay.specs.Heard.{AreReplayed, IsRun, Replayed, came_of, heard_all, heard_at, heard_of, lone_after, plain_of}
 use Rattle.proof_replay.proofs.Putting.{alone_at, alone_enters, alone_next, alone_put, clock_at, in_tick, untimed}
 

@@ -18,14 +18,14 @@ use Rattle.world_model.specs.Events.{OpensFrom}
 use Rattle.port_run.specs.Steps.{Place, Step, Asks, Takes, Rests, Ticks, Pumps, AllRan}
 use Rattle.run_replay.specs.Machine.{Lone, entries_of}
 use Rattle.law_transcript.specs.Records.{KeepsRecords}
-use Rattle.law_host.specs.Heard.{is_of_others}
-use Rattle.proof_alone.specs.State.{HostMachine, first_alone, host_machine}
-use Rattle.proof_alone.specs.Steps as step
-use Rattle.proof_alone.specs.Phases.{Phase, Asked, Open, Resting}
-use Rattle.proof_alone.specs.Runs.{Run}
-use Rattle.proof_alone.specs.Runs.Run.{Begins, Stepped}
-use Rattle.proof_known.specs.Known.{AreForHost, AreSaidToHost, IsSaidToHost}
-use Rattle.proof_known.proofs.ForHost.{said_for_host}
+use Rattle.proof_requests.specs.law_host.Heard.{is_of_others}
+use Rattle.proof_requests.specs.proof_alone.State.{HostMachine, first_alone, host_machine}
+use Rattle.proof_requests.specs.proof_alone.Steps as step
+use Rattle.proof_requests.specs.proof_alone.Phases.{Phase, Asked, Open, Resting}
+use Rattle.proof_requests.specs.proof_alone.Runs.{Run}
+use Rattle.proof_requests.specs.proof_alone.Runs.Run.{Begins, Stepped}
+use Rattle.proof_asking.specs.proof_known.Known.{AreForHost, AreSaidToHost, IsSaidToHost}
+use Rattle.proof_asking.proofs.ForHost.{said_for_host}
 use Rattle.proof_replay.specs.HostSteps.{HaveHeard, HearsMore, HearsRun, Holds, IsRunSteps, restart_word}
 use Rattle.proof_replay.specs.Laws.{HostsKeepLaws}
 use Rattle.proof_replay.proofs.Serving.{none_added, pump_part, restart_is, steps_go}

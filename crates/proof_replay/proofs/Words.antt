@@ -11,7 +11,7 @@ use Rattle.zw_text.specs.declared.line.ReplayLine.{ReplayLine}
 use Rattle.zw_text.specs.declared.line.ReplayLine.TheVariants.{Plain, Chip}
 use Rattle.zw_text.specs.declared.entry.Entry.{Entry}
 use Rattle.zw_text.specs.declared.entry.Entry.TheVariants as entry
-use Rattle.law_host.specs.Heard.{is_of_others}
+use Rattle.proof_requests.specs.law_host.Heard.{is_of_others}
 use Rattle.host_model.specs.State.{HostState}
 use Rattle.host_model.specs.Events.{HostEvent}
 use Rattle.host_model.specs.Did.{outs_all}
@@ -23,13 +23,13 @@ use Rattle.port_run.specs.Steps.{Place, Step, Asks, Takes, Rests, Ticks, Pumps, 
 use Rattle.port_run.specs.declared.asking.Answer.TheVariants.{Taken, Command, Refused}
 use Rattle.proof_serial.specs.Units.{good_units}
 use Rattle.proof_device.proofs.HostOuts.{OutIs}
-use Rattle.proof_walk.specs.Outside.{IsHostNote}
-use Rattle.proof_walk.proofs.HostNotes.{NoteOuts, all_outs_note}
+use Rattle.proof_attempts.specs.proof_walk.Outside.{IsHostNote}
+use Rattle.proof_attempts.proofs.HostNotes.{NoteOuts, all_outs_note}
 use Rattle.run_replay.specs.Lines.{IsReplayed}
 use Rattle.run_replay.specs.Machine.{Lone, Event, entries, entries_of, happens, timed}
 use Rattle.run_replay.specs.Machine as replay
-use Rattle.proof_known.specs.Known.{AreSaidToHost, IsSaidToHost}
-use Rattle.proof_known.proofs.Events.{answers_are}
+use Rattle.proof_asking.specs.proof_known.Known.{AreSaidToHost, IsSaidToHost}
+use Rattle.proof_asking.proofs.Events.{answers_are}
 use Rattle.proof_replay.specs.Heard.{AreReplayed, Replayed, came_of, heard_all, heard_at, heard_of, plain_of}
 use Rattle.proof_replay.specs.HostSteps.{AreOrderly, HearsPart, HearsRun, HearsSteps, IsPumpedStep, IsRunSteps, WithPump}
 use Rattle.proof_replay.proofs.Serving.{chip_is, tick_is}

@@ -22,10 +22,10 @@ use Rattle.port_run.specs.declared.line.PortLine.TheVariants.{Plain, Wait}
 use Rattle.proof_serial.specs.Units.{good_units}
 use Rattle.world_model.specs.Refusals.{IsRefused}
 use Rattle.run_replay.specs.Machine.{Lone, alone, entries_of, timed}
-use Rattle.proof_alone.specs.State.{first_alone, host_machine}
-use Rattle.proof_alone.specs.Phases.{Resting}
-use Rattle.proof_alone.specs.Runs.{Run}
-use Rattle.proof_known.specs.Known.{AreSaidToHost}
+use Rattle.proof_requests.specs.proof_alone.State.{first_alone, host_machine}
+use Rattle.proof_requests.specs.proof_alone.Phases.{Resting}
+use Rattle.proof_requests.specs.proof_alone.Runs.{Run}
+use Rattle.proof_asking.specs.proof_known.Known.{AreSaidToHost}
 use Rattle.proof_replay.specs.Heard.{came_of}
 use Rattle.proof_replay.specs.Laws.{HostsKeepLaws}
 

@@ -7,19 +7,19 @@ use Rattle.host_core.specs.Network.{keys_of}
 use Rattle.host_keep.specs.Keeping.{OptAdds}
 use Rattle.law_transcript.specs.Lists.{EachAfter}
 use Rattle.law_transcript.specs.Payloads.{SendsWhatIsDue}
-use Rattle.law_host.specs.Heard.{listing_heard}
+use Rattle.proof_requests.specs.law_host.Heard.{listing_heard}
 use Rattle.law_time.specs.Holds.{HoldsAsAsked}
 use Rattle.law_time.specs.Questions.{AnswersQuestions}
 use Rattle.law_time.specs.Waking.{WakesAsTold}
 use Rattle.run_lines.specs.Lines.{TextLine}
 use Rattle.run_replay.specs.Machine.{Lone}
 use Rattle.proof_host.specs.Laws.{HostLaws}
-use Rattle.proof_walk.specs.Time.{MayCount}
-use Rattle.proof_alone.specs.State.{HostMachine, first_alone}
-use Rattle.proof_alone.specs.Phases.{Resting}
-use Rattle.proof_alone.specs.Runs.{Run}
-use Rattle.proof_known.specs.Known.{AreForHost, KeepsWhatIsSaid}
-use Rattle.proof_known.specs.Noted.{NotesAtOnce, NotesInTurn, NotesWhatWasTold}
+use Rattle.proof_attempts.specs.proof_walk.Time.{MayCount}
+use Rattle.proof_requests.specs.proof_alone.State.{HostMachine, first_alone}
+use Rattle.proof_requests.specs.proof_alone.Phases.{Resting}
+use Rattle.proof_requests.specs.proof_alone.Runs.{Run}
+use Rattle.proof_asking.specs.proof_known.Known.{AreForHost, KeepsWhatIsSaid}
+use Rattle.proof_asking.specs.proof_known.Noted.{NotesAtOnce, NotesInTurn, NotesWhatWasTold}
 use Rattle.proof_replay.specs.Heard.{AreReplayed, AreSaid, Replayed, heard_of, told_of}
 
 -- One field a law. Orders, sessions and outcomes keep their laws.

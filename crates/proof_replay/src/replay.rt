@@ -10,20 +10,20 @@ ghost use Rattle.host_core.specs.Network.{keys_of};
 ghost use Rattle.run_lines.specs.Lines.{AllRan, TextLine};
 ghost use Rattle.run_replay.specs.Machine.{first_replay, lone_of};
 ghost use Rattle.run_replay.specs.Replay.{LineRan, Point, point_of};
-ghost use Rattle.proof_alone.specs.State.{HostMachine, first_alone};
-ghost use Rattle.proof_alone.specs.Phases.{Phase, Resting};
-ghost use Rattle.proof_alone.specs.Runs.{Run};
-ghost use Rattle.proof_known.specs.Known.{AreForHost};
+ghost use Rattle.proof_requests.specs.proof_alone.State.{HostMachine, first_alone};
+ghost use Rattle.proof_requests.specs.proof_alone.Phases.{Phase, Resting};
+ghost use Rattle.proof_requests.specs.proof_alone.Runs.{Run};
+ghost use Rattle.proof_asking.specs.proof_known.Known.{AreForHost};
 ghost use Rattle.proof_replay.specs.Heard.{AreReplayed, IsReadSo, Replayed, heard_of, lone_after};
 ghost use Rattle.proof_replay.specs.Laws.{HearsLines, HostsKeepLaws, IsHeardAlone};
 
-use proof_alone::{hosts_keep_their_tables, hosts_tell_time};
 use proof_asking::hosts_send_what_is_due;
-use proof_attempts::hosts_hold_as_asked;
-use proof_known::waking::hosts_wake_as_told;
-use proof_known::{
+use proof_asking::known::waking::hosts_wake_as_told;
+use proof_asking::known::{
     hosts_do_as_is_said, hosts_note_at_once, hosts_note_values_in_turn, hosts_note_what_was_told,
 };
+use proof_attempts::hosts_hold_as_asked;
+use proof_requests::alone::{hosts_keep_their_tables, hosts_tell_time};
 use proof_requests::{hosts_answer_questions, hosts_listen_as_told};
 
 /// Of any lines that are run whole, over any bytes and any keeper, what the host of `replay` heard is told by a run of a host alone that began without

@@ -35,7 +35,7 @@ use Rattle.host_requests.specs.declared.next.Next.{Next}
 use Rattle.host_requests.specs.declared.next.Next.TheVariants.{Ends, GoesOn}
 use Rattle.host_requests.specs.declared.under_way.Progress.{Progress}
 use Rattle.host_requests.specs.declared.under_way.UnderWay.{UnderWay}
-use Rattle.proof_alone.specs.Steps.{IsOfUnit}
+use Rattle.proof_waking.specs.proof_alone.Steps.{IsOfUnit}
 use Rattle.proof_waking.specs.Judged.{TieFrames}
 use Rattle.proof_waking.proofs.Apart.{IsApart, acknowledged_frames, apart_judged, apart_same}
 use Rattle.proof_waking.proofs.Parts.{mark_still}

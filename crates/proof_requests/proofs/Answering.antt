@@ -57,10 +57,10 @@ use Rattle.host_model.specs.Outs.{answer_to, answers, noted, outs}
 use Rattle.host_model.specs.Taking.{FrameEvents, InterviewEvents, NoticeEvents, ResponseEvents, told_if, told_requests}
 use Rattle.host_model.proofs.Own.{IsOwn, sleepers_own, submitted_own}
 use Rattle.host_model.proofs.Submitted.{next_is, no_more_is}
-use Rattle.proof_alone.specs.State.{HostMachine, done}
-use Rattle.proof_alone.specs.Steps.{AreTold, DidNotCome, IsOfOthers, IsOfUnit, Step, Tells, Comes, Misses, Says, Says_nothing, Asks, Refuses, Shows, Restarts, Begins_tick, Numbers, Judges, Does, entries, happens}
-use Rattle.proof_alone.specs.Phases.{Phase, Resting, Asked, Risen, Ticking, Open, Behind, Sleeping, Submitting, IsBetween, IsJudgedNow, May, Turns}
-use Rattle.proof_alone.specs.Runs.{WalkOver, both_know}
+use Rattle.proof_waking.specs.proof_alone.State.{HostMachine, done}
+use Rattle.proof_waking.specs.proof_alone.Steps.{AreTold, DidNotCome, IsOfOthers, IsOfUnit, Step, Tells, Comes, Misses, Says, Says_nothing, Asks, Refuses, Shows, Restarts, Begins_tick, Numbers, Judges, Does, entries, happens}
+use Rattle.proof_waking.specs.proof_alone.Phases.{Phase, Resting, Asked, Risen, Ticking, Open, Behind, Sleeping, Submitting, IsBetween, IsJudgedNow, May, Turns}
+use Rattle.proof_waking.specs.proof_alone.Runs.{WalkOver, both_know}
 use Rattle.proof_waking.specs.Judged.{TieFrames}
 use Rattle.proof_waking.proofs.Followed.{FollowersAre, payload_all}
 use Rattle.proof_requests.specs.Asking.{TieAsked, doing_of}

@@ -23,10 +23,10 @@ use Rattle.host_model.specs.After.{after}
 use Rattle.host_model.specs.Events.{HostEvent, Hears, Requests_do, Interviews, Interview_unkept, Line_ticks, Submits_abort, Submits_front, Starts, Gives_text, Gives_segment}
 use Rattle.host_model.specs.Outs.{answer_to, outs}
 use Rattle.host_model.specs.declared.out.HostOut.TheVariants.{Write}
-use Rattle.proof_alone.specs.State.{HostMachine, done}
-use Rattle.proof_alone.specs.Steps.{AreTold, IsOfUnit, Step, Tells, Comes, Misses, Says, Says_nothing, Asks, Refuses, Shows, Restarts, Begins_tick, Numbers, Judges, Does, entries, happens}
-use Rattle.proof_alone.specs.Phases.{Phase, Resting, Asked, Risen, Ticking, Open, Behind, Sleeping, Submitting, IsBetween, May, Turns}
-use Rattle.proof_alone.specs.Runs.{WalkOver, both_know}
+use Rattle.proof_waking.specs.proof_alone.State.{HostMachine, done}
+use Rattle.proof_waking.specs.proof_alone.Steps.{AreTold, IsOfUnit, Step, Tells, Comes, Misses, Says, Says_nothing, Asks, Refuses, Shows, Restarts, Begins_tick, Numbers, Judges, Does, entries, happens}
+use Rattle.proof_waking.specs.proof_alone.Phases.{Phase, Resting, Asked, Risen, Ticking, Open, Behind, Sleeping, Submitting, IsBetween, May, Turns}
+use Rattle.proof_waking.specs.proof_alone.Runs.{WalkOver, both_know}
 use Rattle.proof_waking.specs.Judged.{IsOfRequest, KnowsJudged}
 use Rattle.proof_waking.proofs.Followed.{MayFollow, frame_all}
 use Rattle.proof_requests.specs.Standing.{GoesOn, brought_before, prior_of, standing_of, with_entries}

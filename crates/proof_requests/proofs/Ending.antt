@@ -19,7 +19,7 @@ use Rattle.law_time.specs.Ends.{has_ended, is_abort, is_abort_frame, is_before_f
 use Rattle.host_requests.specs.declared.under_way.Progress.{Progress}
 use Rattle.host_requests.specs.declared.under_way.Progress.TheVariants.{Submitted, Sent, Answered}
 use Rattle.host_requests.specs.declared.under_way.UnderWay.{UnderWay}
-use Rattle.proof_alone.specs.Steps.{AreFrames}
+use Rattle.proof_waking.specs.proof_alone.Steps.{AreFrames}
 use Rattle.proof_requests.specs.Standing.{Standing, brought_of, counted, ending_in, failing_in, first_ending, giving_up_in, has_ended_in, owes_abort_in, responses_in, sent_in, silence_in, standing_of, ticks_sent, wait_in}
 use Rattle.proof_requests.specs.Asking.{Leaving, AsProgress, Doing, EndedAsAbort, EndedByFrame, EndedByLine, EndedInSilence, HasEnded, IsUnderWay, TellsOfHost, TieAsked, TieLine, TieUnderWay, WasAsked}
 use Rattle.proof_requests.proofs.Line.{counted_copied, counted_few, failing_few, failing_four, failing_sent, few_is, less_than_due, none_to_come}

@@ -6,14 +6,14 @@ use Rattle.zw_text.specs.declared.entry.Entry.{Entry}
 use Rattle.law_time.specs.Moments.{Allows}
 use Rattle.law_time.specs.Waking.{may_wake}
 use Rattle.proof_host.specs.Laws.{MayStand}
-use Rattle.proof_walk.specs.Time.{MayCount}
-use Rattle.proof_alone.specs.State.{first_alone}
-use Rattle.proof_alone.specs.Phases.{Resting}
-use Rattle.proof_alone.specs.Runs.{Knowledge, Walk, WalkOver, both_know}
-use Rattle.proof_alone.specs.Tables.{KnowsTables}
-use Rattle.proof_alone.specs.Time.{KnowsClock}
-use Rattle.proof_alone.proofs.Running.{over}
-use Rattle.proof_alone.proofs.Timing.{first_clock}
+use Rattle.proof_waking.specs.proof_walk.Time.{MayCount}
+use Rattle.proof_waking.specs.proof_alone.State.{first_alone}
+use Rattle.proof_waking.specs.proof_alone.Phases.{Resting}
+use Rattle.proof_waking.specs.proof_alone.Runs.{Knowledge, Walk, WalkOver, both_know}
+use Rattle.proof_waking.specs.proof_alone.Tables.{KnowsTables}
+use Rattle.proof_waking.specs.proof_alone.Time.{KnowsClock}
+use Rattle.proof_waking.proofs.Running.{over}
+use Rattle.proof_waking.proofs.Timing.{first_clock}
 use Rattle.proof_waking.specs.Judged.{KnowsJudged}
 use Rattle.proof_requests.specs.Walking.{Ground, KnowsAsked, KnowsCame, KnowsHost, KnowsQueue}
 use Rattle.proof_requests.proofs.Came.{came_walk}

@@ -23,3 +23,7 @@ mod Listening
 mod Questions
 mod Answered
 mod Answering
+pub use Rattle.proof_waking.proofs.Coming
+pub use Rattle.proof_waking.proofs.Hosting
+pub use Rattle.proof_waking.proofs.Stamps
+pub use Rattle.proof_waking.proofs.InOrder

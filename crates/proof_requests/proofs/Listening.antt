@@ -25,14 +25,14 @@ use Rattle.host_model.specs.May.{May as MayHost, says_listens}
 use Rattle.host_model.specs.Outs.{answers, outs}
 use Rattle.host_model.proofs.Own.{IsOwn, sleepers_own, submitted_own}
 use Rattle.host_model.proofs.Submitted.{next_is, no_more_is}
-use Rattle.proof_alone.specs.State.{HostMachine, done}
-use Rattle.proof_alone.specs.Steps.{AreTold, Step, Tells, Comes, Misses, Says, Says_nothing, Asks, Refuses, Shows, Restarts, Begins_tick, Numbers, Judges, Does, entries, happens}
-use Rattle.proof_alone.specs.Phases.{Phase, Resting, Asked, Risen, Ticking, Open, Behind, Sleeping, Submitting, May}
-use Rattle.proof_alone.specs.Runs.{Knowledge, Walk, both_know}
-use Rattle.proof_alone.specs.Tables.{TieTables}
-use Rattle.proof_alone.specs.Listening.{ListensAsTold}
-use Rattle.proof_alone.proofs.Apart.{missed_are}
-use Rattle.proof_alone.proofs.Listening.{IsNoInterview, LeavesRecords, OneGiven, TellsNone, answers_none, event_none, event_same, interviewed_here, interviewed_there, line_none, listening, listens_here, listens_more, listens_there, others_none, own_quiet, restart_same, says_now}
+use Rattle.proof_waking.specs.proof_alone.State.{HostMachine, done}
+use Rattle.proof_waking.specs.proof_alone.Steps.{AreTold, Step, Tells, Comes, Misses, Says, Says_nothing, Asks, Refuses, Shows, Restarts, Begins_tick, Numbers, Judges, Does, entries, happens}
+use Rattle.proof_waking.specs.proof_alone.Phases.{Phase, Resting, Asked, Risen, Ticking, Open, Behind, Sleeping, Submitting, May}
+use Rattle.proof_waking.specs.proof_alone.Runs.{Knowledge, Walk, both_know}
+use Rattle.proof_waking.specs.proof_alone.Tables.{TieTables}
+use Rattle.proof_waking.specs.proof_alone.Listening.{ListensAsTold}
+use Rattle.proof_waking.proofs.proof_alone_Apart.{missed_are}
+use Rattle.proof_waking.proofs.Listening.{IsNoInterview, LeavesRecords, OneGiven, TellsNone, answers_none, event_none, event_same, interviewed_here, interviewed_there, line_none, listening, listens_here, listens_more, listens_there, others_none, own_quiet, restart_same, says_now}
 use Rattle.proof_requests.specs.Standing.{brought_of}
 use Rattle.proof_requests.specs.Asking.{doing_of}
 use Rattle.proof_requests.specs.Walking.{Ground, KeepsBrought, KnowsAsked, KnowsBrought, KnowsInterviews}

@@ -11,7 +11,7 @@ use Rattle.serial_link.specs.declared.turn.Turn.{Turn}
 use Rattle.serial_link.specs.declared.turn.Turn.TheVariants.{Idle, Copied, Paused}
 use Rattle.law_time.specs.Judged.{is_acknowledgement}
 use Rattle.law_time.specs.Requests.{Answer, Judging}
-use Rattle.proof_alone.specs.Steps.{AreFrames}
+use Rattle.proof_waking.specs.proof_alone.Steps.{AreFrames}
 use Rattle.proof_requests.specs.Standing.{Prior, Standing, first_standing, sent_in, ticks_sent, with_answer, with_copy, with_judging}
 use Rattle.proof_requests.specs.Asking.{IsCopied, IsPaused, TieLine, WasGivenUp, WasIgnored, WasSent, frames_among, to_come}
 use Rattle.proof_requests.proofs.Line.{counted_copied, counted_few, few_is, four_is, none_to_come, ticks_more, ticks_none}

@@ -45,7 +45,7 @@ use Rattle.host_model.specs.Events.{HostEvent, Hears, Requests_do, Interviews, I
 use Rattle.host_model.specs.Outs.{copy_out, dropped_if, failing_entries, held_entries, noted, outs, request_entries, stored_entries}
 use Rattle.host_model.specs.declared.out.HostOut.{HostOut}
 use Rattle.host_model.specs.declared.out.HostOut.TheVariants.{Note, Write}
-use Rattle.proof_alone.specs.Steps.{AreTold, IsOfUnit}
+use Rattle.proof_waking.specs.proof_alone.Steps.{AreTold, IsOfUnit}
 use Rattle.proof_requests.specs.Questions.{AnswersNone, OwesNone, TellsNoAnswer}
 
 -- ---- entries

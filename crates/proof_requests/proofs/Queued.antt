@@ -51,7 +51,7 @@ use Rattle.host_model.specs.Events.{HostEvent, Accepts, Cancels, Joins, Queues, 
 use Rattle.host_model.specs.May.{IsStart, May}
 use Rattle.host_model.specs.Taking.{FrameEvents, InterviewEvents, IsFollowed, NoticeEvents, ResponseEvents, told_if}
 use Rattle.host_model.proofs.Own.{IsOwn}
-use Rattle.proof_alone.proofs.Always.{either, none, one}
+use Rattle.proof_waking.proofs.Always.{either, none, one}
 use Rattle.proof_waking.proofs.Followed.{FollowersAre, payload_all}
 use Rattle.proof_requests.specs.Walking.{AddsWell, CanBeRead, IsOfChip}
 use Rattle.proof_requests.proofs.Doing.{asks_of, attempt_asks, end_if_asks, holds_asks}

@@ -43,7 +43,7 @@ use Rattle.host_requests.specs.declared.task.Purpose.TheVariants.{Housekeeping, 
 use Rattle.host_requests.specs.declared.under_way.Progress.{Progress}
 use Rattle.host_requests.specs.declared.under_way.Progress.TheVariants.{Submitted, Sent, Answered}
 use Rattle.host_requests.specs.declared.under_way.UnderWay.{UnderWay}
-use Rattle.proof_walk.proofs.Bodies.{body_is}
+use Rattle.proof_waking.proofs.Bodies.{body_is}
 use Rattle.proof_requests.specs.Standing.{Standing, brought_by, ends_now, responses_in}
 use Rattle.proof_requests.proofs.Judging.{and_true, or_false}
 use Rattle.proof_requests.specs.Asking.{AsProgress, IsUnderWay}

@@ -26,7 +26,7 @@ use Rattle.law_transcript.specs.Units.{read_well, request_in}
 use Rattle.host_requests.specs.Frames.{frame_of, request_of}
 use Rattle.host_requests.specs.State.{next_id}
 use Rattle.host_requests.specs.declared.task.Purpose.{Purpose}
-use Rattle.proof_walk.proofs.Bodies.{body_is}
+use Rattle.proof_waking.proofs.Bodies.{body_is}
 
 -- ---- requests
 

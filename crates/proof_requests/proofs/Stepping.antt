@@ -46,11 +46,11 @@ use Rattle.host_model.specs.Ticking.{first_ticks, tick_events, ticking_nodes}
 use Rattle.host_model.specs.declared.out.HostOut.TheVariants.{Write}
 use Rattle.host_model.proofs.Submitted.{SubmittedAre, next_is}
 use Rattle.world_model.specs.Events.{shown_values}
-use Rattle.proof_alone.specs.State.{HostMachine, done}
-use Rattle.proof_alone.specs.Steps.{AreFrames, AreTold, AsksNothing as AsksNone, IsAskedBy, IsOfUnit, Step, Tells, Comes, Misses, Says, Says_nothing, Asks, Refuses, Shows, Restarts, Begins_tick, Numbers, Judges, Does, entries, happens}
-use Rattle.proof_alone.specs.Phases.{Phase, Resting, Asked, Risen, Ticking, Open, Behind, Sleeping, Submitting, IsBetween, IsJudgedNow, IsNumbered, May, MayCome, Turns}
-use Rattle.proof_alone.specs.Runs.{WalkOver}
-use Rattle.proof_alone.proofs.Timing.{clock_is}
+use Rattle.proof_waking.specs.proof_alone.State.{HostMachine, done}
+use Rattle.proof_waking.specs.proof_alone.Steps.{AreFrames, AreTold, AsksNothing as AsksNone, IsAskedBy, IsOfUnit, Step, Tells, Comes, Misses, Says, Says_nothing, Asks, Refuses, Shows, Restarts, Begins_tick, Numbers, Judges, Does, entries, happens}
+use Rattle.proof_waking.specs.proof_alone.Phases.{Phase, Resting, Asked, Risen, Ticking, Open, Behind, Sleeping, Submitting, IsBetween, IsJudgedNow, IsNumbered, May, MayCome, Turns}
+use Rattle.proof_waking.specs.proof_alone.Runs.{WalkOver}
+use Rattle.proof_waking.proofs.Timing.{clock_is}
 use Rattle.proof_waking.specs.Judged.{IsOfRequest, KnowsJudged, TieFrames}
 use Rattle.proof_waking.proofs.Followed.{MayFollow, frame_all}
 use Rattle.proof_waking.proofs.Parts.{IsNote, follow_notes}

@@ -16,8 +16,8 @@ use Rattle.law_time.specs.Moments.{Passing, clock, later_of, passing_step}
 use Rattle.law_time.specs.Judged.{acknowledged, frames_come, is_acknowledgement, is_data, judged, last_of}
 use Rattle.law_transcript.specs.Lists.{shown_after}
 use Rattle.law_time.specs.Requests.{Answer, Asked, answers_from, asked, is_answer, is_missed, is_new, judging_at, up_to_first}
-use Rattle.proof_walk.proofs.Untimed.{AreUntimed, same_time}
-use Rattle.proof_alone.specs.Steps.{ChangesFrame, DidNotCome, IsOfUnit}
+use Rattle.proof_waking.proofs.Untimed.{AreUntimed, same_time}
+use Rattle.proof_waking.specs.proof_alone.Steps.{ChangesFrame, DidNotCome, IsOfUnit}
 use Rattle.proof_waking.proofs.Apart.{IsWordless, acknowledged_in, count_more, said_in_vain, said_on, wordless_more}
 use Rattle.proof_requests.specs.Standing.{prior_of, GoesOn, IsAside, Standing, first_standing, standing_of, with_answer, with_copy, with_entries, with_judging}
 use Rattle.proof_requests.specs.Asking.{AsksNothing, AsksSo, Doing, TieAsked, WasAsked}

@@ -42,9 +42,9 @@ use Rattle.host_model.specs.Outs.{copy_out, failing_entries, noted, outs, reques
 use Rattle.host_model.specs.Taking.{IsFollowed, told_if}
 use Rattle.host_model.specs.declared.out.HostOut.{HostOut}
 use Rattle.host_model.specs.declared.out.HostOut.TheVariants.{Note, Write}
-use Rattle.proof_walk.specs.Outside.{IsHostNote}
-use Rattle.proof_walk.proofs.HostNotes.{NoteOuts, all_outs_note}
-use Rattle.proof_alone.specs.Steps.{AreFrames, AreTold, IsOfOthers, IsOfUnit}
+use Rattle.proof_waking.specs.proof_walk.Outside.{IsHostNote}
+use Rattle.proof_waking.proofs.HostNotes.{NoteOuts, all_outs_note}
+use Rattle.proof_waking.specs.proof_alone.Steps.{AreFrames, AreTold, IsOfOthers, IsOfUnit}
 use Rattle.proof_waking.specs.Judged.{TieFrames, frames_of}
 use Rattle.proof_waking.proofs.Apart.{acknowledged_frames}
 use Rattle.proof_waking.proofs.Parts.{IsNote}

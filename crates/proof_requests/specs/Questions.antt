@@ -16,8 +16,8 @@ use Rattle.host_requests.specs.declared.under_way.UnderWay.{UnderWay}
 use Rattle.host_model.specs.State.{HostState}
 use Rattle.host_model.specs.Events.{HostEvent, Hears, Requests_do}
 use Rattle.host_model.specs.Taking.{told_requests}
-use Rattle.proof_alone.specs.Phases.{Behind}
-use Rattle.proof_alone.specs.Runs.{Knowledge}
+use Rattle.proof_waking.specs.proof_alone.Phases.{Behind}
+use Rattle.proof_waking.specs.proof_alone.Runs.{Knowledge}
 
 -- no answer is owed
 abbrev pub OwesNone : List Entry → Type 0

@@ -27,13 +27,13 @@ use Rattle.host_model.specs.Events.{HostEvent, Queues, Queues_interview, Offers,
 use Rattle.host_model.specs.After.{task_purpose}
 use Rattle.host_model.specs.Did.{after_all}
 use Rattle.host_model.specs.Ticking.{first_ticks}
-use Rattle.proof_alone.specs.State.{HostMachine}
-use Rattle.proof_alone.specs.Steps.{AreFrames}
-use Rattle.proof_alone.specs.Phases.{Phase, Asked, Risen, Ticking, Open, Behind, Sleeping}
-use Rattle.proof_alone.specs.Runs.{Knowledge, both_know}
-use Rattle.proof_alone.specs.Tables.{KnowsTables}
-use Rattle.proof_alone.specs.Time.{KnowsClock}
-use Rattle.proof_alone.specs.Listening.{KnowsListening}
+use Rattle.proof_waking.specs.proof_alone.State.{HostMachine}
+use Rattle.proof_waking.specs.proof_alone.Steps.{AreFrames}
+use Rattle.proof_waking.specs.proof_alone.Phases.{Phase, Asked, Risen, Ticking, Open, Behind, Sleeping}
+use Rattle.proof_waking.specs.proof_alone.Runs.{Knowledge, both_know}
+use Rattle.proof_waking.specs.proof_alone.Tables.{KnowsTables}
+use Rattle.proof_waking.specs.proof_alone.Time.{KnowsClock}
+use Rattle.proof_waking.specs.proof_alone.Listening.{KnowsListening}
 use Rattle.proof_waking.specs.Judged.{KnowsJudged}
 use Rattle.proof_requests.specs.Standing.{brought_before, prior_of}
 use Rattle.proof_requests.specs.Asking.{Doing, TieAsked, doing_of}

@@ -5,24 +5,24 @@ ghost use Rattle.s0_crypto.specs.declared.key_pair.Keys.{Keys};
 ghost use Rattle.serial_frame.specs.declared.unit.Unit.{Unit as LineUnit};
 ghost use Rattle.device_sim.specs.State.{State};
 ghost use Rattle.zw_text.specs.declared.entry.Entry.{Entry};
-ghost use Rattle.law_host.specs.Heard.{heard_by_host};
+ghost use Rattle.proof_waking.specs.law_host.Heard.{heard_by_host};
 ghost use Rattle.world_model.specs.State.{first_machine};
 ghost use Rattle.world_lines.specs.Spoken.{Spoken, transcript_of};
 ghost use Rattle.world_lines.specs.Done.{AreDone};
 ghost use Rattle.law_time.specs.Moments.{Allows};
 ghost use Rattle.law_time.specs.Waking.{may_wake};
 ghost use Rattle.law_time.specs.Questions.{AnswersQuestions};
-ghost use Rattle.proof_alone.specs.State.{HostMachine, first_alone};
-ghost use Rattle.proof_alone.specs.Phases.{Phase, Resting};
-ghost use Rattle.proof_alone.specs.Runs.{Run, Told, Walk, both_know};
+ghost use Rattle.proof_waking.specs.proof_alone.State.{HostMachine, first_alone};
+ghost use Rattle.proof_waking.specs.proof_alone.Phases.{Phase, Resting};
+ghost use Rattle.proof_waking.specs.proof_alone.Runs.{Run, Told, Walk, both_know};
 ghost use Rattle.proof_requests.specs.Asking.{Doing, TellsOfHost, TieAsked, doing_of};
-ghost use Rattle.proof_alone.specs.Listening.{ListensAsTold};
+ghost use Rattle.proof_waking.specs.proof_alone.Listening.{ListensAsTold};
 ghost use Rattle.proof_requests.specs.Walking.{Ground, KnowsAsked, KnowsInterviews};
 
 use host_keep::texts_give_one_thing;
 use host_model::attempts_have_what_they_give;
 use host_node::a_restart_needs_the_records_alone;
-use proof_alone::{
+use proof_waking::alone::{
     hosts_keep_their_tables, hosts_tell_time, lines_are_a_hosts, what_is_heard_is_a_hosts,
 };
 use proof_waking::hosts_judge_as_told;

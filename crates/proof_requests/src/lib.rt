@@ -24,3 +24,4 @@ pub use asking::{
     hosts_answer_questions, hosts_ask_as_told, hosts_listen_as_told, lines_answer_questions,
 };
 pub use entries::requests_stand_by_entries;
+pub use proof_waking::alone;

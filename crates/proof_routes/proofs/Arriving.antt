@@ -41,7 +41,7 @@ use Rattle.proof_routes.specs.Networks.{HasLinks, Tie}
 use Rattle.proof_routes.specs.Forgetting.{MayForget, Passage, passage_by, passage_flown, passages, IsApartFrom, HasPassages}
 use Rattle.proof_routes.proofs.Books.{SameShown, same_shown, same_then, still_shown}
 use Rattle.proof_routes.proofs.Passages.{GoesSo, frames_same, next_passage, passage_got}
-use Rattle.proof_device.proofs.Entering.{IsOfChip, calls_of_chip}
+use Rattle.proof_walk.proofs.Entering.{IsOfChip, calls_of_chip}
 use Rattle.proof_routes.proofs.Mute.{IsMute, AreMute, chip_mute, AreMuteEvents, IsMuteEvent, each_mute, at_mute}
 
 -- ---- what is to be forgotten next

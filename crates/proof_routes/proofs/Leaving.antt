@@ -28,7 +28,7 @@ use Rattle.law_transcript.specs.Nodes.{controller, is_joined}
 use Rattle.law_wire.specs.Networks.{are_linked, chip_links, listens_at}
 use Rattle.outside_model.specs.State.{OuterState, Outside, outside, Outcome, tells, each, with_chip}
 use Rattle.outside_model.specs.Chip.{put_out, chip_does, shown_via}
-use Rattle.proof_device.proofs.Results.{Gives, IsGiven, IsSameChip}
+use Rattle.proof_walk.proofs.Results.{Gives, IsGiven, IsSameChip}
 use Rattle.proof_walk.specs.Outside.{Pending}
 use Rattle.proof_walk.proofs.Times.{puts_chip}
 use Rattle.proof_routes.specs.Networks.{HasLinks, is_repeater, Tie}

@@ -12,7 +12,7 @@ use Rattle.law_transcript.specs.Nodes.{first_node, is_joined, device_of}
 use Rattle.law_wire.specs.Networks.{is_listener, listens_at}
 use Rattle.outside_model.specs.Results.{device_at}
 use Rattle.outside_model.specs.Nodes.{listens_at as listens_now}
-use Rattle.proof_device.specs.GoingOn.{AreSame}
+use Rattle.proof_walk.specs.proof_device.GoingOn.{AreSame}
 
 later_place : (device : State) (devices : List State) (place : Option ℕ) → device_at (device ∷ devices) (option_map suc place) ≡ device_at devices place
 later_place device devices None = refl

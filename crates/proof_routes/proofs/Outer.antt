@@ -31,9 +31,9 @@ use Rattle.outside_model.specs.Air.{sent_entries, change_entries, deals, change_
 use Rattle.outside_model.specs.Results.{device_at}
 use Rattle.outside_model.specs.Devices.{acts, changes_entries, new_changes, MayAct}
 use Rattle.outside_model.specs.Events.{OuterEvent, Host_notes, Joins, Discovers, Links, Loses, Loses_acks, Collides_next, begins, mesh_of, outcome}
-use Rattle.proof_device.proofs.Entered.{IsChange, change_entered, changes_entered}
-use Rattle.proof_device.proofs.Results.{gives_go, ends_go, to_chip_goes}
-use Rattle.proof_device.proofs.Entering.{pipes_leave}
+use Rattle.proof_walk.proofs.Entered.{IsChange, change_entered, changes_entered}
+use Rattle.proof_walk.proofs.Results.{gives_go, ends_go, to_chip_goes}
+use Rattle.proof_walk.proofs.Entering.{pipes_leave}
 use Rattle.proof_walk.specs.Outside.{Judging, Dealing, nothing, IsNote, IsSimple, IsHearing, Moves, session_begins, Outer}
 use Rattle.proof_routes.specs.Networks.{Tie}
 use Rattle.proof_routes.specs.Knowing.{Asks, Knows, SetsNone}

@@ -17,7 +17,7 @@ use Rattle.outside_model.specs.Events.{OuterEvent, Begins_line, Joins, Discovers
 use Rattle.world_model.specs.State.{Machine}
 use Rattle.world_model.specs.Events.{Event, Outside_does, happens, entries}
 use Rattle.world_model.specs.Lines.{IsEffect}
-use Rattle.proof_device.specs.GoingOn.{GoOn}
+use Rattle.proof_walk.specs.proof_device.GoingOn.{GoOn}
 use Rattle.proof_walk.specs.ByLine.{IsOfTick, CoversLine}
 use Rattle.proof_walk.proofs.ByLine.{effect_covered, last_is}
 use Rattle.proof_walk.proofs.Alone.{wordless_line}

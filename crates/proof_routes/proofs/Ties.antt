@@ -10,11 +10,11 @@ use Rattle.law_transcript.specs.Lists.{EachAfter}
 use Rattle.law_transcript.specs.Nodes.{controller}
 use Rattle.law_wire.specs.Networks.{are_linked, air_links, chip_links, listens_at}
 use Rattle.law_wire.specs.Routes.{MayGo}
-use Rattle.proof_host.proofs.Lists.{each-append}
+use Rattle.proof_walk.proofs.Lists.{each-append}
 use Rattle.outside_model.specs.State.{OuterState, Outside}
 use Rattle.outside_model.specs.Events.{OuterEvent, outcome}
 use Rattle.proof_walk.specs.Outside.{HasNoWords, Pending, Judging, Dealing, Moves}
-use Rattle.proof_device.proofs.Entering.{IsOfPipe, IsOfPipes, pipes_enter, told_of_pipe}
+use Rattle.proof_walk.proofs.Entering.{IsOfPipe, IsOfPipes, pipes_enter, told_of_pipe}
 use Rattle.zw_base.proofs.Each.{all-weaker}
 use Rattle.zw_words.specs.declared.side.Side.{Side}
 use Rattle.zw_words.specs.declared.side.Side.TheVariants.{Host as by_host}

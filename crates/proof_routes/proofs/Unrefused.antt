@@ -5,7 +5,7 @@ use Rattle.zw_text.specs.declared.entry.Entry.{Entry}
 use Rattle.zw_text.specs.declared.entry.Entry.TheVariants as entry
 use Rattle.world_model.specs.State.{Machine}
 use Rattle.world_model.specs.Events.{Event, entries, May}
-use Rattle.proof_device.proofs.Entered.{IsMark}
+use Rattle.proof_walk.proofs.Entered.{IsMark}
 use Rattle.proof_walk.specs.Outside.{IsOfAir, IsHostNote}
 use Rattle.proof_walk.specs.ByLine.{IsCommon}
 use Rattle.proof_walk.proofs.Alone.{KindsAre, common_are}

@@ -34,8 +34,8 @@ use Rattle.outside_model.specs.Events.{Joins, Discovers, Links, outcome, devices
 use Rattle.world_model.specs.State.{Machine}
 use Rattle.world_model.specs.Events.{Event, Outside_does, Host_does, Refuses, happens, entries, May}
 use Rattle.world_model.specs.Lines.{Asks as asks_line, IsEffect}
-use Rattle.proof_device.specs.GoingOn.{GoOn, AreSame}
-use Rattle.proof_device.proofs.DevicePlaces.{go_then}
+use Rattle.proof_walk.specs.proof_device.GoingOn.{GoOn, AreSame}
+use Rattle.proof_walk.proofs.DevicePlaces.{go_then}
 use Rattle.proof_walk.specs.Outside.{CoversOuter}
 use Rattle.proof_walk.specs.Walk.{Walk}
 use Rattle.proof_walk.specs.ByLine.{IsCommon, ByLine}

@@ -27,7 +27,7 @@ use Rattle.outside_model.specs.Events.{OuterEvent, Joins, Discovers, Links}
 use Rattle.world_model.specs.State.{Machine}
 use Rattle.world_model.specs.Events.{Event, Outside_does}
 use Rattle.world_model.specs.Lines.{IsEffect}
-use Rattle.proof_device.specs.GoingOn.{GoOn}
+use Rattle.proof_walk.specs.proof_device.GoingOn.{GoOn}
 use Rattle.proof_walk.specs.Phases.{Phase}
 use Rattle.proof_walk.specs.ByLine.{KnownOf, by_line}
 use Rattle.proof_walk.specs.Outside.{HasNoWords, Pending, Judging, Dealing, Knowing, Known, CoversOuter}

@@ -19,7 +19,7 @@ use Rattle.law_transcript.specs.Lists.{Has}
 use Rattle.law_transcript.specs.Units.{arrived, arrived_of, bringing_in, bringings, from_node}
 use Rattle.law_transcript.proofs.Having.{has_left, has_shown, shown_has}
 use Rattle.law_wire.specs.Serial.{arriving_of}
-use Rattle.proof_device.proofs.Entered.{IsMark, told_by_marks}
+use Rattle.proof_spoken.proofs.Entered.{IsMark, told_by_marks}
 use Rattle.proof_sending.specs.Arriving.{ArrivesMore, ArrivesSo, BringsMore, all_arriving}
 
 -- ---- the last unit

@@ -23,10 +23,10 @@ use Rattle.host_model.specs.State.{HostState, node_of}
 use Rattle.host_model.specs.After.{after, is_full, requests_do, giving, offering}
 use Rattle.host_model.specs.May.{May}
 use Rattle.host_model.specs.Events.{HostEvent, Accepts, Begins, Gives, Gives_text, Spends, Spends_unread, Starts, Takes_nonce}
-use Rattle.proof_device.proofs.HostOuts.{OwnIs, SharedAre}
-use Rattle.proof_host.specs.Entries.{entries_at}
-use Rattle.proof_host.specs.Facts.{Facts}
-use Rattle.proof_host.proofs.Views.{sessions-begun_other}
+use Rattle.proof_spoken.proofs.HostOuts.{OwnIs, SharedAre}
+use Rattle.proof_line.specs.proof_host.Entries.{entries_at}
+use Rattle.proof_line.specs.proof_host.Facts.{Facts}
+use Rattle.proof_line.proofs.Views.{sessions-begun_other}
 use Rattle.proof_messages.specs.Hosts.{IsAside, LeavesNonces, LeavesSealing}
 use Rattle.proof_spoken.proofs.RoutineNotes.{entries_are}
 use Rattle.proof_sending.specs.Reasons.{HasTexts}

@@ -30,7 +30,7 @@ use Rattle.host_model.specs.State.{HostState, node_of}
 use Rattle.host_model.specs.declared.out.HostOut.{HostOut}
 use Rattle.host_model.specs.declared.out.HostOut.TheVariants.{Write, Note}
 use Rattle.host_model.specs.Sessions.{nonce_get}
-use Rattle.proof_host.specs.Facts.{AreBegun}
+use Rattle.proof_line.specs.proof_host.Facts.{AreBegun}
 use Rattle.proof_sending.specs.Reasons.{Reason, Asked_for, Gave_nonce, Wants_nonce, IsCarriedBy, IsPart, IsDueTask, IsDuePurpose, IsDueUnit, WritesDue}
 use Rattle.proof_sending.proofs.SentUnits.{purpose_sends}
 use Rattle.proof_sending.specs.Due.{sends, IsOfCommandsBy, IsOfSessionBy, IsDueBy, IsShown, AreCarried, WritesWhatIsDue}

@@ -30,12 +30,12 @@ use Rattle.world_model.specs.Events.{Event, Outside_does, Host_does, Host_takes,
 use Rattle.world_model.specs.Did.{happens_all, entries_all}
 use Rattle.world_model.specs.Lines.{IsEffect, Asks}
 use Rattle.world_model.proofs.Along.{IsAskedBy, IsOfEffect, anywhere, effect_along}
-use Rattle.proof_host.specs.Facts.{Facts}
+use Rattle.proof_line.specs.proof_host.Facts.{Facts}
 use Rattle.proof_spoken.specs.Said.{AreSaid}
 use Rattle.proof_spoken.proofs.Orders.{IsNoOrder}
 use Rattle.proof_spoken.proofs.Plain.{IsPlain}
 use Rattle.proof_spoken.proofs.SaidOrders.{IsSo, order_so}
-use Rattle.proof_walk.specs.ByLine.{begun}
+use Rattle.proof_air.specs.proof_walk.ByLine.{begun}
 use Rattle.proof_sending.specs.Reasons.{Reason, HasReason, IsDueTask, IsReasoned}
 use Rattle.proof_sending.specs.Due.{IsShown}
 use Rattle.proof_sending.specs.Arriving.{BringsMore}
@@ -48,8 +48,8 @@ use Rattle.proof_sending.proofs.HostUnits.{FirstDue, entry_not, none_stand}
 use Rattle.proof_sending.proofs.OutsideUnits.{outside_not}
 use Rattle.proof_sending.proofs.Reasoned.{event_is, opened_is}
 use Rattle.proof_sending.proofs.Steps.{Stands, host_stands, keys_stay, reasoned_more}
-use Rattle.proof_serial.proofs.HostRuns.{in_range}
-use Rattle.proof_walk.proofs.ByLine.{begins_none}
+use Rattle.proof_spoken.proofs.HostRuns.{in_range}
+use Rattle.proof_air.proofs.ByLine.{begins_none}
 
 -- ---- events that need no reason
 

@@ -19,11 +19,11 @@ use Rattle.outside_model.specs.Events.{ticked_entry}
 use Rattle.world_model.specs.State.{Machine}
 use Rattle.world_model.specs.Events.{Event, happens, entries, May}
 use Rattle.world_model.specs.Did.{entries_all}
-use Rattle.proof_host.specs.Entries.{IsAside}
-use Rattle.proof_host.specs.Facts.{Facts}
-use Rattle.proof_host.specs.Laws.{HostLaws, numbers_for}
-use Rattle.proof_host.specs.Tables.{taken_at}
-use Rattle.proof_host.proofs.Lists.{each-append}
+use Rattle.proof_line.specs.proof_host.Entries.{IsAside}
+use Rattle.proof_line.specs.proof_host.Facts.{Facts}
+use Rattle.proof_line.specs.proof_host.Laws.{HostLaws, numbers_for}
+use Rattle.proof_line.specs.proof_host.Tables.{taken_at}
+use Rattle.proof_line.proofs.Lists.{each-append}
 use Rattle.proof_spoken.specs.Said.{AreSaid, KnowsListing, MayAnswer, Tells}
 use Rattle.proof_spoken.proofs.Plain.{IsPlain}
 use Rattle.proof_spoken.proofs.SaidOrders.{AsidesKeep, FactsGoOn, plain_so}

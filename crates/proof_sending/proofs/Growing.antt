@@ -16,10 +16,10 @@ use Rattle.outside_model.specs.Results.{device_at}
 use Rattle.outside_model.specs.Events.{OuterEvent, Host_writes, Host_takes, Host_notes, Shows, Joins, Discovers, Links, Loses, Loses_acks, Marks_loss, Marks_change, Clears_pipe, Collides_next, Stalls, Cuts, way_of, outcome, ticked_entry}
 use Rattle.world_model.specs.State.{Machine}
 use Rattle.world_model.specs.Events.{Event, Outside_does, entries, May}
-use Rattle.proof_device.proofs.Entered.{IsCleared, IsShown, all_cleared, all_shown}
-use Rattle.proof_walk.specs.Outside.{CoversOuter, IsNote, IsOfAir, IsSimple, Knowing, Link, Moves}
-use Rattle.proof_walk.proofs.Linking.{of_link}
-use Rattle.proof_walk.proofs.Machines.{machine_keeps}
+use Rattle.proof_spoken.proofs.Entered.{IsCleared, IsShown, all_cleared, all_shown}
+use Rattle.proof_air.specs.proof_walk.Outside.{CoversOuter, IsNote, IsOfAir, IsSimple, Knowing, Link, Moves}
+use Rattle.proof_air.proofs.Linking.{of_link}
+use Rattle.proof_air.proofs.Machines.{machine_keeps}
 use Rattle.proof_sending.specs.Arriving.{ArrivesMore, ArrivesSo, BringsMore}
 use Rattle.proof_sending.proofs.Arrivals.{Goes, IsNoUnit, brings_more, brings_none, chip_goes, go_both, host_goes, none_go}
 

@@ -19,7 +19,7 @@ use Rattle.zw_text.specs.declared.entry.Entry.TheVariants as entry
 use Rattle.law_transcript.specs.Lists.{EachAfter}
 use Rattle.law_transcript.specs.Payloads.{IsDue, MayRequest}
 use Rattle.law_transcript.specs.Units.{sending_in}
-use Rattle.proof_host.proofs.Lists.{each-anywhere, each-append}
+use Rattle.proof_line.proofs.Lists.{each-anywhere, each-append}
 use Rattle.host_model.specs.State.{HostState, command_at, node_of}
 use Rattle.host_model.specs.Sessions.{open_command, settings_with}
 use Rattle.host_model.specs.Ends.{attempt_entries}
@@ -37,10 +37,10 @@ use Rattle.outside_model.specs.Did.{happens_all as happens_all_outside, entries_
 use Rattle.outside_model.proofs.EventLists.{entries_all-append}
 use Rattle.world_model.specs.State.{begun_in, noted_by, routed}
 use Rattle.world_model.specs.Events.{notes}
-use Rattle.proof_walk.specs.Outside.{IsNote}
-use Rattle.proof_walk.proofs.HostNotes.{NoteOuts, is_note, all_outs_note}
-use Rattle.proof_walk.proofs.Machines.{UnitsAre, answers_keep, outs_keep}
-use Rattle.proof_device.proofs.Entered.{IsMark, told_by_marks}
+use Rattle.proof_air.specs.proof_walk.Outside.{IsNote}
+use Rattle.proof_air.proofs.HostNotes.{NoteOuts, is_note, all_outs_note}
+use Rattle.proof_air.proofs.Machines.{UnitsAre, answers_keep, outs_keep}
+use Rattle.proof_spoken.proofs.Entered.{IsMark, told_by_marks}
 use Rattle.proof_sending.proofs.OutsideUnits.{AreNotWritten, IsNotWritten, note_not, number_not}
 
 abbrev pub NoUnit : LineUnit → Type 0

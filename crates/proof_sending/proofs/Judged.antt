@@ -44,7 +44,7 @@ use Rattle.host_model.specs.May.{May}
 use Rattle.host_model.specs.Events.{HostEvent, Hears, Requests_do, Unreads, Is_unkept, Reports_old, Works, Finishes, Offers, Gives, Spends, Spends_unread, Takes_nonce, Notifies, Resends, Hears_value, Has_no_room}
 use Rattle.host_node.specs.declared.attempt.Moment.TheVariants.{BetweenTicks}
 use Rattle.host_model.specs.Taking.{IsKeptOr, is_secure, named_by, FinalEvents, ReportEvents, NonceGetEvents, NonceReportEvents, resent, value_event, value_events, told_if, ends_from, IsTaken, AreTaken, IsOpened, SealedEvents, PayloadEvents, InterviewEvents, ResponseEvents, NoticeEvents, FrameEvents, IsFollowed, AreJudged}
-use Rattle.proof_host.specs.Entries.{entries_at}
+use Rattle.proof_line.specs.proof_host.Entries.{entries_at}
 use Rattle.proof_messages.proofs.LockSessions.{some_same}
 use Rattle.proof_line.proofs.Always.{one, none, either}
 use Rattle.proof_sending.specs.Reasons.{Reason, HasEight, HasReason, IsEight}
@@ -53,7 +53,7 @@ use Rattle.proof_sending.proofs.BroughtNodes.{brought_from}
 use Rattle.proof_sending.proofs.HeardNonces.{IsEightTold, heard_eight}
 use Rattle.proof_sending.proofs.Waiting.{live_eight}
 use Rattle.s0_session.specs.Nonces.{live_of, unused}
-use Rattle.proof_serial.proofs.HostFits.{all_at}
+use Rattle.proof_spoken.proofs.HostFits.{all_at}
 use Rattle.proof_sending.proofs.Reasoned.{Laws, event_is}
 use Rattle.proof_messages.proofs.SealedByNumber.{sealed_length}
 

@@ -17,3 +17,5 @@ pub mod Grounds
 pub mod Steps
 pub mod Effects
 mod Walking
+pub use Rattle.proof_air.proofs.HostNotes
+pub use Rattle.proof_air.proofs.Machines

@@ -25,8 +25,8 @@ use Rattle.host_model.specs.Facts.{FitsForm, HostFacts, IsSound}
 use Rattle.host_model.proofs.Pumps.{found_is}
 use Rattle.host_model.specs.May.{IsStart}
 use Rattle.proof_air.specs.Carrying.{TurnHas}
-use Rattle.proof_host.specs.Tables.{taken_by}
-use Rattle.proof_once.specs.Tied.{KeepsOrders}
+use Rattle.proof_line.specs.proof_host.Tables.{taken_by}
+use Rattle.proof_spoken.specs.proof_once.Tied.{KeepsOrders}
 use Rattle.proof_sending.specs.Reasons.{Reason, IsLast, IsCarriedBy, IsPart, IsToSeal, IsDueTask, IsDuePurpose, IsDueFrame, HasWaiting, HasTexts}
 use Rattle.proof_sending.proofs.Books.{SameBooks}
 

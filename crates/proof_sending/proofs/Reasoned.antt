@@ -49,9 +49,9 @@ use Rattle.host_model.specs.Outs.{answer_to, copy_out, dropped_if, failing_entri
 use Rattle.host_model.specs.Events.{HostEvent, Queues, Queues_interview, Queues_probe, Hears, Requests_do, Finishes, Offers, Gives, Takes_nonce, Resends, Line_ticks, Node_ticks, Queues_no_more, Submits_abort, Submits_front, Starts, Gives_text, Gives_segment, Begins}
 use Rattle.host_model.specs.declared.out.HostOut.{HostOut}
 use Rattle.proof_air.specs.Carrying.{TurnHas}
-use Rattle.proof_host.specs.Facts.{Facts}
-use Rattle.proof_once.specs.Tied.{KeepsOrders}
-use Rattle.proof_serial.proofs.HostFits.{all_at}
+use Rattle.proof_line.specs.proof_host.Facts.{Facts}
+use Rattle.proof_spoken.specs.proof_once.Tied.{KeepsOrders}
+use Rattle.proof_spoken.proofs.HostFits.{all_at}
 use Rattle.proof_sending.specs.Reasons.{Reason, IsCarriedBy, IsPart, IsToSeal, IsDueTask, IsDuePurpose, IsDueFrame, HasEight, HasTexts, IsReasoned, IsSealedSo, HasReason, WritesDue}
 use Rattle.proof_sending.proofs.Waiting.{Brings, HostHas, all_restored, event_goes}
 use Rattle.proof_sending.proofs.Books.{BeginsNone, BringsText, EventKeeps, IsBare, SameBooks, TextsLeft, bare_texts, books_stay, closed_bare, others_stay, texts_go}

@@ -22,7 +22,7 @@ use Rattle.host_requests.specs.declared.task.Task.TheVariants.{Plain, Offer, Seg
 use Rattle.host_requests.specs.declared.task.Purpose.{Purpose}
 use Rattle.host_requests.specs.declared.task.Purpose.TheVariants.{Housekeeping, Attempt, Abort}
 use Rattle.law_transcript.specs.Units.{Carried, read_well, sending_in, sending_of}
-use Rattle.proof_walk.proofs.Bodies.{body_is}
+use Rattle.proof_air.proofs.Bodies.{body_is}
 use Rattle.proof_air.proofs.Judging.{both_true}
 use Rattle.proof_sending.specs.Due.{sends}
 

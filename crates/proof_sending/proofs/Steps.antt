@@ -36,13 +36,13 @@ use Rattle.outside_model.specs.Events.{ticked_entry, entries as entries_outside}
 use Rattle.outside_model.specs.Did.{entries_all as entries_all_outside}
 use Rattle.world_model.specs.State.{Machine, host_does, host_entries}
 use Rattle.world_model.specs.Events.{Event, Outside_does, Host_does, Host_takes, Decoder_ticks, Refuses, Shows_values, Restarts, fed, happens, entries, notes, May}
-use Rattle.proof_device.proofs.Entered.{IsMark}
-use Rattle.proof_host.proofs.Lists.{each-append}
+use Rattle.proof_spoken.proofs.Entered.{IsMark}
+use Rattle.proof_line.proofs.Lists.{each-append}
 use Rattle.proof_spoken.proofs.Plain.{IsPlain, own_plain}
-use Rattle.proof_walk.specs.Outside.{IsHostNote, IsOfAir}
-use Rattle.proof_walk.specs.ByLine.{IsCommon}
-use Rattle.proof_walk.proofs.Alone.{KindsAre, common_are}
-use Rattle.proof_walk.proofs.Machines.{UnitsAre}
+use Rattle.proof_air.specs.proof_walk.Outside.{IsHostNote, IsOfAir}
+use Rattle.proof_air.specs.proof_walk.ByLine.{IsCommon}
+use Rattle.proof_air.proofs.Alone.{KindsAre, common_are}
+use Rattle.proof_air.proofs.Machines.{UnitsAre}
 use Rattle.proof_sending.specs.Reasons.{Reason, Asked_for, Wants_nonce, Gave_nonce, HasReason, IsReasoned, PushesNothing, WritesDue}
 use Rattle.proof_sending.specs.Due.{IsShown}
 use Rattle.proof_sending.specs.Heard.{HaveReasons, ItemTells, WritesNoFrame}

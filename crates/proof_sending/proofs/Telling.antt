@@ -42,8 +42,8 @@ use Rattle.law_transcript.proofs.Having.{all_of, has_either, has_left, has_right
 use Rattle.law_wire.specs.Serial.{arriving_of}
 use Rattle.world_model.specs.State.{Machine}
 use Rattle.world_model.specs.Events.{Host_takes, May}
-use Rattle.proof_serial.proofs.Ways.{carries_left}
-use Rattle.proof_walk.proofs.Bodies.{body_is}
+use Rattle.proof_spoken.proofs.Ways.{carries_left}
+use Rattle.proof_air.proofs.Bodies.{body_is}
 use Rattle.proof_line.specs.Arrivals.{AreTexts, arrived_from}
 use Rattle.proof_line.specs.Arrivals as line
 use Rattle.proof_line.specs.Rooms.{Shown}

@@ -48,7 +48,7 @@ use Rattle.host_model.specs.Restoring.{restored, ending}
 use Rattle.host_model.specs.Opening.{restored_all}
 use Rattle.host_model.specs.Events.{HostEvent, Queues, Queues_interview, Queues_probe, Hears, Requests_do, Interviews, Interview_unkept, Finishes, Offers, Gives, Spends, Spends_unread, Resends, Line_ticks, Node_ticks, Queues_no_more, Submits_abort, Submits_front, Starts, Gives_text, Gives_segment}
 use Rattle.proof_air.specs.Carrying.{TurnHas}
-use Rattle.proof_serial.proofs.HostFits.{all-set, all_at, next_queue}
+use Rattle.proof_spoken.proofs.HostFits.{all-set, all_at, next_queue}
 use Rattle.proof_sending.specs.Reasons.{HasEight, HasWaiting, IsEight, PushesNothing}
 
 -- ---- nonces

@@ -15,16 +15,16 @@ use Rattle.world_model.specs.State.{Machine}
 use Rattle.world_model.specs.Events.{Event, Outside_does, Host_takes, entries, happens, May}
 use Rattle.world_model.specs.Did.{AllAlong}
 use Rattle.proof_spoken.specs.Said.{AllTell}
-use Rattle.proof_walk.specs.ByLine.{begun}
-use Rattle.proof_walk.specs.Phases.{Phase, Between, Said_line, Begun, Doing, To_tick, Ticked, Arriving, Giving, Ticking_devices, Ticking_chip, Ticking_decoder, Ticking_host, Sleeping, Submitting, Moving, Moved, Turns, Goes, passes_after}
-use Rattle.proof_walk.specs.Walk.{WalkWhere}
-use Rattle.proof_serial.specs.Line.{AllWriteWell, WritesWell}
+use Rattle.proof_air.specs.proof_walk.ByLine.{begun}
+use Rattle.proof_air.specs.proof_walk.Phases.{Phase, Between, Said_line, Begun, Doing, To_tick, Ticked, Arriving, Giving, Ticking_devices, Ticking_chip, Ticking_decoder, Ticking_host, Sleeping, Submitting, Moving, Moved, Turns, Goes, passes_after}
+use Rattle.proof_air.specs.proof_walk.Walk.{WalkWhere}
+use Rattle.proof_spoken.specs.proof_serial.Line.{AllWriteWell, WritesWell}
 use Rattle.proof_line.specs.Rooms.{KnowRooms, MayFit}
-use Rattle.proof_walk.proofs.Stepping.{Steps, event_then}
+use Rattle.proof_air.proofs.Stepping.{Steps, event_then}
 use Rattle.proof_line.specs.Restarts.{AllKeepWell, AllStartWell}
 use Rattle.proof_sending.specs.Knowing.{IsMine, IsSound, IsWell, KnowSending, Opened, Saying}
 use Rattle.proof_sending.proofs.Effects.{effect_left, left_done, left_step, opened_sound}
-use Rattle.proof_walk.proofs.ByLine.{begins_none}
+use Rattle.proof_air.proofs.ByLine.{begins_none}
 use Rattle.proof_sending.proofs.Grounds.{WalkLaws, ground_said}
 use Rattle.proof_sending.proofs.Steps.{HearsTold, mine_step}
 use Rattle.proof_sending.proofs.Telling.{items_tell}

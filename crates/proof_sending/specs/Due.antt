@@ -19,7 +19,7 @@ use Rattle.law_transcript.specs.Lists.{listed}
 use Rattle.law_transcript.specs.Commands.{classes_for, message_for, order_of}
 use Rattle.law_transcript.specs.Payloads.{form_by, nonce_get, nonce_report, no_more_information, IsAskedFor, IsDue, IsToldBy}
 use Rattle.law_transcript.specs.Units.{Carried, sending_in}
-use Rattle.proof_host.specs.Tables.{taken_at}
+use Rattle.proof_line.specs.proof_host.Tables.{taken_at}
 use Rattle.proof_sending.specs.Reasons.{Reason, Asked_for, Wants_nonce, Gave_nonce, IsCarriedBy}
 
 -- what a purpose asks to be sent

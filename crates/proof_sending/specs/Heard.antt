@@ -20,7 +20,7 @@ use Rattle.host_model.specs.May.{May}
 use Rattle.host_model.specs.Events.{HostEvent, Line_ticks, Submits_abort, Submits_front, Starts, Gives_text, Gives_segment}
 use Rattle.host_model.specs.Taking.{ends_from}
 use Rattle.zw_text.specs.declared.entry.Entry.{Entry}
-use Rattle.proof_host.specs.Facts.{Facts}
+use Rattle.proof_line.specs.proof_host.Facts.{Facts}
 use Rattle.proof_sending.specs.Reasons.{Reason, Gave_nonce, Wants_nonce, HasReason, IsReasoned}
 
 -- a message of a node that asks for a nonce, or gives one, is a reason

@@ -18,10 +18,10 @@ use Rattle.host_model.specs.Events.{HostEvent, Accepts, Cancels, Joins, Queues, 
 use Rattle.host_model.proofs.Own.{IsOwn}
 use Rattle.world_model.specs.State.{Machine}
 use Rattle.world_model.specs.Events.{Event, Outside_does, Host_does, Host_takes, Decoder_ticks}
-use Rattle.proof_host.specs.Facts.{Facts}
+use Rattle.proof_line.specs.proof_host.Facts.{Facts}
 use Rattle.proof_spoken.specs.Said.{AreSaid, KnowsListing, Tells}
-use Rattle.proof_walk.specs.ByLine.{IsOfTick, begun}
-use Rattle.proof_walk.specs.Phases.{Phase, Said_line, Begun, Doing, Ticking_host}
+use Rattle.proof_air.specs.proof_walk.ByLine.{IsOfTick, begun}
+use Rattle.proof_air.specs.proof_walk.Phases.{Phase, Said_line, Begun, Doing, Ticking_host}
 use Rattle.proof_line.specs.Restarts.{KeepsWell, StartsWell}
 use Rattle.proof_sending.specs.Reasons.{IsReasoned}
 use Rattle.proof_sending.specs.Due.{IsShown}

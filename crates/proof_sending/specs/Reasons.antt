@@ -31,7 +31,7 @@ use Rattle.host_model.specs.declared.out.HostOut.TheVariants.{Write, Note}
 use Rattle.host_model.specs.Events.{HostEvent, Queues, Requests_do, Offers, Gives, Takes_nonce}
 use Rattle.law_transcript.specs.Payloads.{IsSegmentOf}
 use Rattle.proof_air.specs.Carrying.{TurnHas}
-use Rattle.proof_host.specs.Tables.{taken_at}
+use Rattle.proof_line.specs.proof_host.Tables.{taken_at}
 
 -- ---- what others have said
 

@@ -17,6 +17,7 @@ mod reasons;
 pub use asked::lines_ask_for_what_is_queued;
 pub use lines::lines_send_what_is_due;
 pub use proof_line as line;
+pub use proof_spoken as spoken;
 pub use reasons::{
     frames_ask_for_their_purpose, hosts_ask_what_is_due, hosts_send_for_reasons,
     what_is_judged_gives_reasons,

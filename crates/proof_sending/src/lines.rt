@@ -10,11 +10,11 @@ ghost use Rattle.world_lines.specs.Done.{AreDone};
 ghost use Rattle.law_transcript.specs.Payloads.{SendsWhatIsDue};
 
 use host_requests::callback_ids;
-use proof_host::{asides_keep_facts, events_keep_facts, laws_follow};
+use proof_line::host::{asides_keep_facts, events_keep_facts, laws_follow};
 use proof_line::rooms_go_on;
 use proof_line::world::{lines_keep_and_ask_well, restarts_go_on, the_machine_keeps_facts};
 use proof_messages::hosts_leave_nonces;
-use proof_serial::hosts_write_well;
+use proof_spoken::serial::hosts_write_well;
 use proof_spoken::{
     interviews_give_what_is_known, interviews_tell_what_nodes_list, orders_are_carried_as_said,
     tables_keep_orders,

@@ -23,14 +23,14 @@ ghost use Rattle.host_model.specs.Outs.{outs};
 ghost use Rattle.device_kinds.specs.Sealing.{keys_of};
 ghost use Rattle.law_transcript.specs.Lists.{Has};
 ghost use Rattle.law_transcript.specs.Units.{Carried, sending_in};
-ghost use Rattle.proof_host.specs.Facts.{AreBegun, Facts};
+ghost use Rattle.proof_line.specs.proof_host.Facts.{AreBegun, Facts};
 ghost use Rattle.zw_text.specs.declared.entry.Entry.{Entry};
 ghost use Rattle.proof_sending.specs.Due.{sends, AreCarried, IsShown, WritesWhatIsDue};
 ghost use Rattle.proof_sending.specs.Heard.{HaveReasons, ItemTells};
 ghost use Rattle.proof_sending.specs.Reasons.{Reason, HasReason, IsReasoned, WritesDue};
 
 use host_requests::callback_ids;
-use proof_host::events_keep_facts;
+use proof_line::host::events_keep_facts;
 use proof_messages::hosts_leave_nonces;
 use proof_spoken::tables_keep_orders;
 

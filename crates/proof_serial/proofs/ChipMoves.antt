@@ -22,15 +22,15 @@ use Rattle.mesh_sim.specs.declared.event.AirEvent.{AirEvent}
 use Rattle.mesh_sim.specs.declared.event.AirEvent.TheVariants as air_event
 use Rattle.air_frames.specs.declared.ages.Refusal.{Refusal as RepeatRefusal}
 use Rattle.zw_text.specs.declared.entry.Entry.TheVariants.{Forget}
-use Rattle.outside_model.specs.declared.waits.Due.{Due}
-use Rattle.outside_model.specs.declared.waits.Due.TheVariants.{Info, NoRoute as no_route_due}
-use Rattle.outside_model.specs.State.{OuterState, Outside, Outcome, silent, tells, and_then, each, with_chip}
-use Rattle.outside_model.specs.Chip.{chip_does}
-use Rattle.outside_model.specs.Results.{owes_call, call_back, no_route, no_routes, leading, forgets, frame_ends, gives, without_no_route, profile_for, device_at, informs}
-use Rattle.outside_model.specs.Air.{to_chip, deals}
-use Rattle.outside_model.specs.Devices.{acts_at, acts_by_hand}
-use Rattle.outside_model.specs.Nodes.{joins, discovers, links_of, all_pairs, is_known}
-use Rattle.outside_model.specs.Events.{mesh_of, steps, repeats}
+use Rattle.world_model.specs.outside_model.declared.waits.Due.{Due}
+use Rattle.world_model.specs.outside_model.declared.waits.Due.TheVariants.{Info, NoRoute as no_route_due}
+use Rattle.world_model.specs.outside_model.State.{OuterState, Outside, Outcome, silent, tells, and_then, each, with_chip}
+use Rattle.world_model.specs.outside_model.Chip.{chip_does}
+use Rattle.world_model.specs.outside_model.Results.{owes_call, call_back, no_route, no_routes, leading, forgets, frame_ends, gives, without_no_route, profile_for, device_at, informs}
+use Rattle.world_model.specs.outside_model.Air.{to_chip, deals}
+use Rattle.world_model.specs.outside_model.Devices.{acts_at, acts_by_hand}
+use Rattle.world_model.specs.outside_model.Nodes.{joins, discovers, links_of, all_pairs, is_known}
+use Rattle.world_model.specs.outside_model.Events.{mesh_of, steps, repeats}
 use Rattle.proof_serial.specs.Way.{written_all}
 use Rattle.proof_serial.specs.Chip.{ChipDoes}
 use Rattle.proof_serial.proofs.ChipWays.{IsStill, SetsTable, all_pairs_set, does_both, does_one, fits_for, owes, quiet_one, sets_map, sets_may, short_payload, still_does}

@@ -24,11 +24,11 @@ use Rattle.device_kinds.specs.declared.kind.Kind.TheVariants.{Relay, Switch, Dim
 use Rattle.device_sim.specs.Kind.{classes_of}
 use Rattle.device_sim.specs.State.{State}
 use Rattle.mesh_sim.specs.Air.{AirState}
-use Rattle.outside_model.specs.State.{OuterState, each, with_chip}
-use Rattle.outside_model.specs.Chip.{put_out, chip_does}
-use Rattle.outside_model.specs.Results.{owes_call, told_profile, profile_of}
-use Rattle.outside_model.specs.Air.{to_chip}
-use Rattle.outside_model.specs.Nodes.{pairs_of, all_pairs, is_known}
+use Rattle.world_model.specs.outside_model.State.{OuterState, each, with_chip}
+use Rattle.world_model.specs.outside_model.Chip.{put_out, chip_does}
+use Rattle.world_model.specs.outside_model.Results.{owes_call, told_profile, profile_of}
+use Rattle.world_model.specs.outside_model.Air.{to_chip}
+use Rattle.world_model.specs.outside_model.Nodes.{pairs_of, all_pairs, is_known}
 use Rattle.proof_serial.specs.Way.{written_all}
 use Rattle.proof_serial.specs.Chip.{ChipDoes}
 

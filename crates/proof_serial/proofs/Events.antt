@@ -13,8 +13,8 @@ use Rattle.host_model.specs.State.{HostState}
 use Rattle.host_model.specs.Events.{HostEvent}
 use Rattle.host_model.specs.Did.{outs_all as host_outs_all}
 use Rattle.host_model.specs.Outs.{answers}
-use Rattle.outside_model.specs.State.{OuterState}
-use Rattle.outside_model.specs.Events.{OuterEvent, Chip_takes, Chip_ticks, Clears_pipe, outcome, May as MayOutside}
+use Rattle.world_model.specs.outside_model.State.{OuterState}
+use Rattle.world_model.specs.outside_model.Events.{OuterEvent, Chip_takes, Chip_ticks, Clears_pipe, outcome, May as MayOutside}
 use Rattle.world_model.specs.State.{Machine, host_does}
 use Rattle.world_model.specs.Events.{Event, Outside_does, Host_does, Host_takes, Decoder_ticks, Refuses, Shows_values, Restarts, happens, May, fed, host_answers, shown_values}
 use Rattle.world_model.specs.Did.{happens_all, MayAll}

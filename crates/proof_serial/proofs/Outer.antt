@@ -23,11 +23,11 @@ use Rattle.device_sim.specs.Event.{Ticks, Wakes, Sets}
 use Rattle.air_frames.specs.Ages.{refusal_of}
 use Rattle.mesh_sim.specs.Fates.{place_of}
 use Rattle.mesh_sim.specs.Steps as mesh
-use Rattle.outside_model.specs.Results.{device_at}
-use Rattle.outside_model.specs.Nodes.{listens_at}
-use Rattle.outside_model.specs.State.{OuterState, Outside}
-use Rattle.outside_model.specs.Events.{OuterEvent, Begins_line, Begins_tick, Host_writes, Host_takes as host_takes, Host_notes, Host_begins, Chip_takes, Arrives, Gives, Device_ticks, Chip_ticks, Repeats, Wakes_device, Sets_device, Shows, Joins, Discovers, Links, Loses, Loses_acks, Marks_loss, Marks_change, Clears_pipe, Collides_next, Stalls, Cuts, is_own, outcome, has_entered, happens as happens_outside, May as MayOutside}
-use Rattle.outside_model.specs.Did.{happens_all as happens_all_outside}
+use Rattle.world_model.specs.outside_model.Results.{device_at}
+use Rattle.world_model.specs.outside_model.Nodes.{listens_at}
+use Rattle.world_model.specs.outside_model.State.{OuterState, Outside}
+use Rattle.world_model.specs.outside_model.Events.{OuterEvent, Begins_line, Begins_tick, Host_writes, Host_takes as host_takes, Host_notes, Host_begins, Chip_takes, Arrives, Gives, Device_ticks, Chip_ticks, Repeats, Wakes_device, Sets_device, Shows, Joins, Discovers, Links, Loses, Loses_acks, Marks_loss, Marks_change, Clears_pipe, Collides_next, Stalls, Cuts, is_own, outcome, has_entered, happens as happens_outside, May as MayOutside}
+use Rattle.world_model.specs.outside_model.Did.{happens_all as happens_all_outside}
 use Rattle.world_model.specs.State.{Machine, routed, noted_by, begun_in}
 use Rattle.world_model.specs.Events.{Outside_does, happens, notes}
 use Rattle.proof_serial.specs.Way.{Carries, written_all, items_all}

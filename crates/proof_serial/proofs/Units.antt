@@ -19,7 +19,7 @@ use Rattle.chip_sim.specs.Did.{MayAll as MayAllChip, after_all, outs_all}
 use Rattle.chip_sim.specs.Link.{chip_units}
 use Rattle.chip_sim.proofs.EventLists.{after_all-append, outs_all-append, may_all-append}
 use Rattle.proof_course.specs.Parts.{IsPart}
-use Rattle.outside_model.specs.Events.{Chip_takes, Clears_pipe}
+use Rattle.world_model.specs.outside_model.Events.{Chip_takes, Clears_pipe}
 use Rattle.world_model.specs.State.{Machine}
 use Rattle.world_model.specs.Events.{Event, Outside_does, Host_does, Host_takes, happens}
 use Rattle.world_model.specs.Did.{happens_all, MayAll}

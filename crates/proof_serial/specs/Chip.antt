@@ -10,7 +10,7 @@ use Rattle.chip_sim.specs.Waiting.{PortState}
 use Rattle.chip_sim.specs.Events.{ChipEvent}
 use Rattle.chip_sim.specs.Did.{MayAll, after_all, outs_all}
 use Rattle.chip_sim.specs.Link.{chip_units}
-use Rattle.outside_model.specs.State.{OuterState}
+use Rattle.world_model.specs.outside_model.State.{OuterState}
 use Rattle.proof_serial.specs.Way.{written_all}
 
 -- a frame that the format carries: its length fits a byte

@@ -3,3 +3,4 @@ pub mod Chip
 pub mod Line
 pub mod Units
 pub mod Host
+pub use Rattle.host_model.specs as host_model

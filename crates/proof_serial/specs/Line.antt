@@ -16,7 +16,7 @@ use Rattle.chip_sim.specs.Link.{chip_units}
 use Rattle.host_model.specs.Did.{outs_all as host_outs_all}
 use Rattle.host_model.specs.declared.out.HostOut.{HostOut}
 use Rattle.host_model.specs.declared.out.HostOut.TheVariants.{Write, Note}
-use Rattle.outside_model.specs.Events.{OuterEvent, Chip_takes, Chip_ticks, Clears_pipe}
+use Rattle.world_model.specs.outside_model.Events.{OuterEvent, Chip_takes, Chip_ticks, Clears_pipe}
 use Rattle.world_model.specs.State.{Machine}
 use Rattle.world_model.specs.Events.{Event, Outside_does, Host_does, Host_takes, Decoder_ticks, Restarts, happens}
 use Rattle.world_model.specs.Did.{happens_all, AllAlong, Schedule, Then}

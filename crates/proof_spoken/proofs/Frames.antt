@@ -26,8 +26,8 @@ use Rattle.chip_sim.specs.declared.out.Sending.{Sending}
 use Rattle.zw_base.specs.declared.profile.Profile.{Profile}
 use Rattle.device_kinds.specs.declared.kind.Kind.{Kind as DeviceKind}
 use Rattle.device_kinds.specs.Kind.{classes_of}
-use Rattle.outside_model.specs.Results.{profile_of}
-use Rattle.proof_serial.proofs.ChipFrames.{IsIf, Makes, PortIs, UnitIs, events_out as outs_so, events_port as port_so}
+use Rattle.proof_once.specs.outside_model.Results.{profile_of}
+use Rattle.proof_world.proofs.ChipFrames.{IsIf, Makes, PortIs, UnitIs, events_out as outs_so, events_port as port_so}
 use Rattle.proof_spoken.proofs.NoticeLists.{NoticeTells, others_tell, failed_tells, kind_tells}
 
 -- what each node lists

@@ -51,26 +51,26 @@ use Rattle.device_sim.specs.Event.{Ticks, Wakes, Sets}
 use Rattle.air_frames.specs.Ages.{refusal_of}
 use Rattle.mesh_sim.specs.Fates.{place_of}
 use Rattle.mesh_sim.specs.Steps as mesh
-use Rattle.outside_model.specs.Results.{device_at}
-use Rattle.outside_model.specs.Nodes.{listens_at}
-use Rattle.outside_model.specs.State.{OuterState, Outside, first_outer}
-use Rattle.outside_model.specs.Events.{OuterEvent, Begins_line, Begins_tick, Host_writes, Host_takes as host_takes, Host_notes, Host_begins, Chip_takes, Arrives, Gives, Device_ticks, Chip_ticks, Repeats, Wakes_device, Sets_device, Shows, Joins, Discovers, Links, Loses, Loses_acks, Marks_loss, Marks_change, Clears_pipe, Collides_next, Stalls, Cuts, is_own, outcome, happens as happens_outside, May as MayOutside}
-use Rattle.world_model.specs.State.{Machine, host_does, first_machine}
-use Rattle.world_model.specs.Events.{Event, Outside_does, Host_does, Host_takes, Decoder_ticks, Refuses, Shows_values, Restarts, happens, May, fed, shown_values}
-use Rattle.world_model.specs.Did.{MayAll}
-use Rattle.proof_serial.specs.Way.{Carries, wanted_sum, found_sum, items_of, unit_item, changed_item, marked_items, items_all}
-use Rattle.proof_serial.specs.Chip.{HasFrames}
-use Rattle.proof_serial.specs.Line.{OuterAtRest, IsAtRest, AllAtRest}
-use Rattle.proof_serial.proofs.Frames.{events_have, events_fit}
-use Rattle.proof_serial.proofs.Ways.{carries_all, carries_left, carries_none}
-use Rattle.proof_serial.proofs.ChipWays.{does_each, does_one}
-use Rattle.proof_serial.proofs.Outer.{entered_still, routed_all, notes_all, Written, tick_still}
+use Rattle.proof_once.specs.outside_model.Results.{device_at}
+use Rattle.proof_once.specs.outside_model.Nodes.{listens_at}
+use Rattle.proof_once.specs.outside_model.State.{OuterState, Outside, first_outer}
+use Rattle.proof_once.specs.outside_model.Events.{OuterEvent, Begins_line, Begins_tick, Host_writes, Host_takes as host_takes, Host_notes, Host_begins, Chip_takes, Arrives, Gives, Device_ticks, Chip_ticks, Repeats, Wakes_device, Sets_device, Shows, Joins, Discovers, Links, Loses, Loses_acks, Marks_loss, Marks_change, Clears_pipe, Collides_next, Stalls, Cuts, is_own, outcome, happens as happens_outside, May as MayOutside}
+use Rattle.proof_once.specs.world_model.State.{Machine, host_does, first_machine}
+use Rattle.proof_once.specs.world_model.Events.{Event, Outside_does, Host_does, Host_takes, Decoder_ticks, Refuses, Shows_values, Restarts, happens, May, fed, shown_values}
+use Rattle.proof_once.specs.world_model.Did.{MayAll}
+use Rattle.proof_world.specs.proof_serial.Way.{Carries, wanted_sum, found_sum, items_of, unit_item, changed_item, marked_items, items_all}
+use Rattle.proof_world.specs.proof_serial.Chip.{HasFrames}
+use Rattle.proof_world.specs.proof_serial.Line.{OuterAtRest, IsAtRest, AllAtRest}
+use Rattle.proof_world.proofs.Frames.{events_have, events_fit}
+use Rattle.proof_world.proofs.Ways.{carries_all, carries_left, carries_none}
+use Rattle.proof_world.proofs.ChipWays.{does_each, does_one}
+use Rattle.proof_world.proofs.Outer.{entered_still, routed_all, notes_all, Written, tick_still}
 use Rattle.proof_world.proofs.Always.{one, none, either}
 use Rattle.proof_world.proofs.Heard.{IsOfPayload, payload_of}
 use Rattle.proof_spoken.specs.Interviews.{HearsList, HearLists}
 use Rattle.proof_spoken.proofs.NoticeLists.{NoticeTells, UpdateTells}
 use Rattle.proof_spoken.proofs.Frames.{UnitTells, IsTelling, FrameTells, PortTells, EventTells, events_port, events_out}
-use Rattle.proof_serial.proofs.ChipMoves.{at_moves, collides_moves, discovers_moves, gives_moves, hand_moves, joins_moves, moves_here, repeats_moves, steps_moves, still_moves}
+use Rattle.proof_world.proofs.ChipMoves.{at_moves, collides_moves, discovers_moves, gives_moves, hand_moves, joins_moves, moves_here, repeats_moves, steps_moves, still_moves}
 use Rattle.proof_spoken.proofs.ListsAtChip.{Informs, Lists, listed}
 
 -- what each node lists

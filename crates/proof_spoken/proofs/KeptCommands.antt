@@ -4,8 +4,8 @@ use Rattle.host_model.specs.State.{Command, HostState}
 use Rattle.host_model.specs.Events.{HostEvent, Accepts}
 use Rattle.host_model.specs.After.{after}
 use Rattle.host_model.specs.Did.{after_all}
-use Rattle.world_model.specs.State.{Machine}
-use Rattle.world_model.specs.Events.{Event, Outside_does, Host_does, Host_takes, Decoder_ticks, Refuses, Shows_values, Restarts, happens}
+use Rattle.proof_once.specs.world_model.State.{Machine}
+use Rattle.proof_once.specs.world_model.Events.{Event, Outside_does, Host_does, Host_takes, Decoder_ticks, Refuses, Shows_values, Restarts, happens}
 use Rattle.proof_world.specs.Restarts.{StartsWell}
 use Rattle.proof_once.specs.Tied.{KeepsOrders}
 use Rattle.proof_spoken.proofs.Orders.{SameOrders, event_kept, push_stays}

@@ -9,7 +9,7 @@ use Rattle.zw_text.specs.declared.entry.Entry.TheVariants.{Accepted, Interviewed
 use Rattle.zw_text.specs.declared.entry.Ended.TheVariants as ended
 use Rattle.zw_text.specs.Transcript.{interview_at, interviews}
 use Rattle.zw_text.proofs.Views.{shown-append}
-use Rattle.law_transcript.specs.Nodes.{known_at_first, known_classes, always}
+use Rattle.proof_once.specs.law_transcript.Nodes.{known_at_first, known_classes, always}
 use Rattle.host_node.specs.Steps.{after_interview, after_join}
 use Rattle.host_node.specs.TableState.{node_of, unknown_from, unknown_nodes, with_node}
 use Rattle.host_model.specs.State.{HostState, command_at, first_classes, first_host, first_nodes}
@@ -28,16 +28,16 @@ use Rattle.host_model.specs.Did.{after_all as host_after_all}
 use Rattle.host_model.specs.Outs.{outs, answers}
 use Rattle.host_model.specs.declared.out.HostOut.{HostOut}
 use Rattle.host_model.specs.declared.out.HostOut.TheVariants.{Write, Note}
-use Rattle.proof_host.specs.Entries.{entries_at, notes_of}
-use Rattle.outside_model.specs.State.{Outside}
-use Rattle.outside_model.specs.Events.{Host_writes, Host_notes, Host_begins, entries as entries_outside, outcome, ticked_entry, happens as happens_outside}
-use Rattle.outside_model.specs.Did.{entries_all as entries_all_outside, happens_all as happens_all_outside}
-use Rattle.outside_model.proofs.EventLists.{entries_all-append}
-use Rattle.world_model.specs.State.{Machine, begun_in, host_does, host_entries, noted_by, routed}
-use Rattle.world_model.specs.Events.{Event, Outside_does, Host_does, Host_takes, Decoder_ticks, Refuses, Shows_values, Restarts, entries, fed, happens, notes, shown_values, May}
-use Rattle.world_model.specs.Did.{happens_all, entries_all, MayAll}
-use Rattle.world_model.proofs.Hosting.{entries_cons}
-use Rattle.world_lines.specs.Spoken.{Spoken, after, after_all, entries_of, transcript_of}
+use Rattle.proof_once.specs.proof_host.Entries.{entries_at, notes_of}
+use Rattle.proof_once.specs.outside_model.State.{Outside}
+use Rattle.proof_once.specs.outside_model.Events.{Host_writes, Host_notes, Host_begins, entries as entries_outside, outcome, ticked_entry, happens as happens_outside}
+use Rattle.proof_once.specs.outside_model.Did.{entries_all as entries_all_outside, happens_all as happens_all_outside}
+use Rattle.proof_once.proofs.EventLists.{entries_all-append}
+use Rattle.proof_once.specs.world_model.State.{Machine, begun_in, host_does, host_entries, noted_by, routed}
+use Rattle.proof_once.specs.world_model.Events.{Event, Outside_does, Host_does, Host_takes, Decoder_ticks, Refuses, Shows_values, Restarts, entries, fed, happens, notes, shown_values, May}
+use Rattle.proof_once.specs.world_model.Did.{happens_all, entries_all, MayAll}
+use Rattle.proof_once.proofs.Hosting.{entries_cons}
+use Rattle.proof_world.specs.world_lines.Spoken.{Spoken, after, after_all, entries_of, transcript_of}
 use Rattle.proof_spoken.specs.Spoken.{AreSpoken}
 use Rattle.proof_spoken.specs.Said.{AllKnow, AllTell, IsTrueInterview, KnowsAgain, KnowsListing, LinesTell, TellListing, TellsListing, Tells}
 use Rattle.proof_spoken.proofs.Classes.{IsNoInterview, LeavesRecords, classes_of, event_kept, joined_place, set_here, set_there}

@@ -7,11 +7,11 @@ use Rattle.host_model.specs.State.{HostState}
 use Rattle.host_model.specs.Events.{HostEvent, Interviews}
 use Rattle.host_model.specs.After.{after}
 use Rattle.host_model.specs.Facts.{HostFacts}
-use Rattle.proof_host.specs.Facts.{Facts}
+use Rattle.proof_once.specs.proof_host.Facts.{Facts}
 use Rattle.host_model.specs.Recording.{IsOfJoined, AllOfJoined}
-use Rattle.world_model.specs.State.{Machine}
-use Rattle.world_model.specs.Events.{Event, Outside_does, Host_does, Host_takes, Decoder_ticks, Refuses, Shows_values, Restarts, happens, entries, May}
-use Rattle.world_model.specs.Did.{MayAll}
+use Rattle.proof_once.specs.world_model.State.{Machine}
+use Rattle.proof_once.specs.world_model.Events.{Event, Outside_does, Host_does, Host_takes, Decoder_ticks, Refuses, Shows_values, Restarts, happens, entries, May}
+use Rattle.proof_once.specs.world_model.Did.{MayAll}
 use Rattle.proof_world.specs.Restarts.{StartsWell, KeepsWell, AllKeepWell, AreHeld, IsHeld}
 use Rattle.proof_world.specs.Lines.{IsAsked, AsksWell, AllAsked}
 use Rattle.proof_spoken.specs.Said.{TellsListing, TellListing, KnowsAgain, Tells, AllTell}

@@ -26,3 +26,16 @@ pub use Rattle.proof_world.proofs.Errands
 pub use Rattle.proof_world.proofs.FactsKept
 pub use Rattle.proof_world.proofs.FirstHosts
 pub use Rattle.proof_world.proofs.Hosts
+pub use Rattle.proof_once.proofs.ChangesOutside
+pub use Rattle.proof_once.proofs.Headline
+pub use Rattle.proof_once.proofs.Entered
+pub use Rattle.proof_once.proofs.HostOuts
+pub use Rattle.proof_world.proofs.HostFits
+pub use Rattle.proof_world.proofs.Ways
+pub use Rattle.proof_world.proofs.HostRuns
+pub use Rattle.proof_once.proofs.Results
+pub use Rattle.proof_once.proofs.DevicePlaces
+pub use Rattle.proof_once.proofs.BegunCommands
+pub use Rattle.proof_world.proofs.First
+pub use Rattle.proof_world.proofs.ChangedUnits
+pub use Rattle.proof_once.proofs.CommandsOfSessions

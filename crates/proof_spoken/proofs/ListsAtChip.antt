@@ -6,9 +6,9 @@ use Rattle.chip_sim.specs.Events.{ChipEvent, Informed}
 use Rattle.device_sim.specs.State.{State}
 use Rattle.mesh_sim.specs.Air.{is_joined}
 use Rattle.mesh_sim.specs.Fates.{place_of}
-use Rattle.outside_model.specs.State.{OuterState}
-use Rattle.outside_model.specs.Results.{told_profile, profile_of, device_at}
-use Rattle.proof_serial.proofs.ChipMoves.{IsFree, Moves, Rule}
+use Rattle.proof_once.specs.outside_model.State.{OuterState}
+use Rattle.proof_once.specs.outside_model.Results.{told_profile, profile_of, device_at}
+use Rattle.proof_world.proofs.ChipMoves.{IsFree, Moves, Rule}
 use Rattle.device_kinds.specs.Kind.{classes_of}
 use Rattle.proof_spoken.proofs.Frames.{ProfileTells, EventTells}
 

@@ -4,10 +4,10 @@ use Rattle.std.specs.Prelude.{Option, Some, None, ◌==◌, if◌then◌else◌,
 use Rattle.device_kinds.specs.Kind.{classes_of}
 use Rattle.device_sim.specs.State.{State}
 use Rattle.mesh_sim.specs.Fates.{place_of}
-use Rattle.outside_model.specs.Results.{device_at}
-use Rattle.law_transcript.specs.Nodes.{device_of, listed_by, listing_of}
-use Rattle.world_model.specs.State.{Machine}
-use Rattle.world_model.specs.Events.{Event, happens}
+use Rattle.proof_once.specs.outside_model.Results.{device_at}
+use Rattle.proof_once.specs.law_transcript.Nodes.{device_of, listed_by, listing_of}
+use Rattle.proof_once.specs.world_model.State.{Machine}
+use Rattle.proof_once.specs.world_model.Events.{Event, happens}
 use Rattle.proof_world.specs.GoingOn.{GoOn, AreSame}
 use Rattle.proof_world.proofs.DevicePlaces.{go_then}
 use Rattle.proof_spoken.proofs.ListsAtChip.{Lists}

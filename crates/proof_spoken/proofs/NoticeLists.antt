@@ -18,7 +18,7 @@ use Rattle.chip_sim.specs.Events.{update_of}
 use Rattle.device_kinds.specs.declared.kind.Kind.{Kind}
 use Rattle.device_kinds.specs.declared.kind.Kind.TheVariants.{Relay, Switch, Dimmer, Lock, Sensor, Thermostat, Strip, Configurable}
 use Rattle.device_kinds.specs.Kind.{classes_of}
-use Rattle.outside_model.specs.Results.{profile_of}
+use Rattle.proof_once.specs.outside_model.Results.{profile_of}
 
 -- ---- the update of a node of a kind
 

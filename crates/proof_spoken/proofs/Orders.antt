@@ -7,9 +7,9 @@ use Rattle.host_model.specs.State.{HostState, Command, set_at, with_outcome}
 use Rattle.host_model.specs.After.{after}
 use Rattle.host_model.specs.Events.{HostEvent, Accepts, Joins, Interviews, Hears_value}
 use Rattle.host_model.proofs.Numbered.{last_of}
-use Rattle.proof_host.specs.Facts.{StartsAs}
-use Rattle.proof_host.specs.Tables.{taken_at, taken_by}
-use Rattle.proof_host.proofs.Commands.{set_taken, length_set_at}
+use Rattle.proof_once.specs.proof_host.Facts.{StartsAs}
+use Rattle.proof_once.specs.proof_host.Tables.{taken_at, taken_by}
+use Rattle.proof_once.proofs.Commands.{set_taken, length_set_at}
 use Rattle.proof_spoken.proofs.Keeping.{Keeping, each_kept}
 
 -- ---- the same orders

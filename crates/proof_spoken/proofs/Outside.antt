@@ -5,8 +5,8 @@ use Rattle.zw_base.proofs.Each.{all-weaker}
 use Rattle.zw_text.specs.declared.entry.Entry.{Entry}
 use Rattle.zw_text.specs.declared.entry.Entry.TheVariants.{Interviewed}
 use Rattle.serial_frame.specs.declared.unit.Unit.{Unit as LineUnit}
-use Rattle.outside_model.specs.State.{OuterState, Outside}
-use Rattle.outside_model.specs.Events.{OuterEvent, Host_writes, is_own, stamp, ticked_entry, entries}
+use Rattle.proof_once.specs.outside_model.State.{OuterState, Outside}
+use Rattle.proof_once.specs.outside_model.Events.{OuterEvent, Host_writes, is_own, stamp, ticked_entry, entries}
 use Rattle.proof_world.proofs.Aside.{IsOutside, AreOutside, ticked_are, stamp_are, own_outside, write_outside}
 
 -- an entry that tells no interview that ended well

@@ -11,18 +11,18 @@ use Rattle.host_orders.specs.declared.carriage.Carriage.{Carriage}
 use Rattle.host_model.specs.State.{HostState}
 use Rattle.host_model.specs.Events.{HostEvent, Accepts}
 use Rattle.host_model.specs.Outs.{answers}
-use Rattle.outside_model.specs.Events.{Begins_line}
-use Rattle.world_model.specs.State.{Machine}
-use Rattle.world_model.specs.Events.{Event, Outside_does, Host_does}
-use Rattle.world_model.specs.Did.{happens_all, AllAlong, PrefixOf}
-use Rattle.world_model.specs.Settling.{Settles}
-use Rattle.world_model.specs.Lines.{IsEffect, IsLineBegin}
-use Rattle.world_model.specs.Prefixes.{SettlesPrefix, LinePart}
-use Rattle.world_model.proofs.Pieces.{Law, Pieces, of_settling, of_settling_prefix, of_line_part}
+use Rattle.proof_once.specs.outside_model.Events.{Begins_line}
+use Rattle.proof_once.specs.world_model.State.{Machine}
+use Rattle.proof_once.specs.world_model.Events.{Event, Outside_does, Host_does}
+use Rattle.proof_once.specs.world_model.Did.{happens_all, AllAlong, PrefixOf}
+use Rattle.proof_once.specs.world_model.Settling.{Settles}
+use Rattle.proof_once.specs.world_model.Lines.{IsEffect, IsLineBegin}
+use Rattle.proof_once.specs.world_model.Prefixes.{SettlesPrefix, LinePart}
+use Rattle.proof_once.proofs.Pieces.{Law, Pieces, of_settling, of_settling_prefix, of_line_part}
 use Rattle.host_model.proofs.Own.{IsOwn}
 use Rattle.host_model.proofs.Silence.{Silent}
-use Rattle.world_model.proofs.Along.{IsAskedBy, IsOfPart, IsOfEffect, along, pieces_along, effect_along, anywhere}
-use Rattle.world_lines.specs.Spoken.{Spoken}
+use Rattle.proof_once.proofs.Along.{IsAskedBy, IsOfPart, IsOfEffect, along, pieces_along, effect_along, anywhere}
+use Rattle.proof_world.specs.world_lines.Spoken.{Spoken}
 use Rattle.proof_spoken.specs.Spoken.{IsSpoken}
 use Rattle.proof_spoken.proofs.Orders.{IsNoOrder}
 

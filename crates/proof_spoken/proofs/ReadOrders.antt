@@ -11,20 +11,20 @@ use Rattle.zw_text.specs.declared.entry.Entry.{Entry}
 use Rattle.zw_text.specs.declared.entry.Entry.TheVariants.{Accepted}
 use Rattle.zw_text.specs.Transcript.{Accepting, Command as Shown, accepted, accepted_at, accepted_number, accepted_numbers, accepting, folded, line_after, line_last, not_accepting, numbered, order_for}
 use Rattle.zw_text.proofs.Views.{folded-append}
-use Rattle.law_transcript.specs.Commands.{before_accepted, classes_for, numbers_of, order_of, settings_by, settings_for}
-use Rattle.law_transcript.specs.Lists.{EachAfter, Has}
-use Rattle.law_transcript.specs.Stores.{node_at}
+use Rattle.proof_once.specs.law_transcript.Commands.{before_accepted, classes_for, numbers_of, order_of, settings_by, settings_for}
+use Rattle.proof_once.specs.law_transcript.Lists.{EachAfter, Has}
+use Rattle.proof_once.specs.law_transcript.Stores.{node_at}
 use Rattle.host_keep.specs.Kept.{Taken}
 use Rattle.host_orders.specs.Settings.{settings}
 use Rattle.host_orders.specs.Wrapping.{carriage_of}
 use Rattle.host_orders.specs.declared.carriage.Carriage.{Carriage}
 use Rattle.host_model.specs.State.{Command, HostState, command_at}
-use Rattle.proof_host.specs.Facts.{Facts}
-use Rattle.proof_host.specs.Laws.{accepted_for, number_for, numbers_for}
-use Rattle.proof_host.specs.Tables.{nodes_by, taken_at}
+use Rattle.proof_once.specs.proof_host.Facts.{Facts}
+use Rattle.proof_once.specs.proof_host.Laws.{accepted_for, number_for, numbers_for}
+use Rattle.proof_once.specs.proof_host.Tables.{nodes_by, taken_at}
 use Rattle.proof_once.specs.ByTable.{IsTable}
 use Rattle.proof_once.specs.Tied.{settings_taken}
-use Rattle.law_transcript.proofs.Having.{all_of, has_left, has_right, has_shown, shown_has}
+use Rattle.proof_once.proofs.Having.{all_of, has_left, has_right, has_shown, shown_has}
 use Rattle.proof_once.proofs.BegunCommands.{accepted_here}
 use Rattle.proof_spoken.specs.Said.{AreSaid, IsSaid, MayAnswer}
 

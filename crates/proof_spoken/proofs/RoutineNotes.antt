@@ -12,7 +12,7 @@ use Rattle.host_model.specs.Outs.{held_entries, noted, outs, stored_entries, ans
 use Rattle.host_model.specs.Events.{HostEvent, Accepts, Cancels, Interviews, Finishes}
 use Rattle.host_model.specs.declared.out.HostOut.{HostOut}
 use Rattle.host_model.specs.declared.out.HostOut.TheVariants.{Write, Note}
-use Rattle.proof_host.specs.Entries.{entries_at, notes_of}
+use Rattle.proof_once.specs.proof_host.Entries.{entries_at, notes_of}
 use Rattle.proof_world.proofs.HostOuts.{OutsAre, OwnIs, SharedAre, outs_are, session_are}
 
 -- ---- the entries of an event

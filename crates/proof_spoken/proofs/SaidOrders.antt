@@ -10,7 +10,7 @@ use Rattle.zw_text.specs.declared.entry.Entry.TheVariants.{Accepted, Said}
 use Rattle.zw_text.specs.declared.entry.Outcome.TheVariants.{Waiting}
 use Rattle.zw_text.specs.Transcript.{accepted_number, accepted_numbers, interview_at, interviews, line_after, line_last, line_of}
 use Rattle.zw_text.proofs.Views.{folded-append, shown-append}
-use Rattle.law_transcript.specs.Nodes.{host_list, known_at_first, known_classes, always}
+use Rattle.proof_once.specs.law_transcript.Nodes.{host_list, known_at_first, known_classes, always}
 use Rattle.host_keep.specs.Kept.{Taken}
 use Rattle.host_orders.specs.Wrapping.{carriage_of}
 use Rattle.host_orders.specs.declared.carriage.Carriage.{Carriage}
@@ -19,19 +19,19 @@ use Rattle.host_model.specs.Events.{HostEvent, Accepts}
 use Rattle.host_model.specs.May.{IsAccepted}
 use Rattle.host_model.specs.After.{after as host_after}
 use Rattle.host_model.specs.Did.{after_all as host_after_all}
-use Rattle.proof_host.specs.Entries.{IsAside}
-use Rattle.proof_host.specs.Facts.{Facts}
-use Rattle.proof_host.specs.Tables.{taken_at}
-use Rattle.proof_host.proofs.Lists.{each-append, each-anywhere, each-weaker}
-use Rattle.outside_model.specs.Events.{Begins_line, devices_after, outcome}
-use Rattle.world_model.specs.State.{Machine}
-use Rattle.world_model.specs.Events.{Event, Outside_does, Host_does, Host_takes, Decoder_ticks, Refuses, Shows_values, Restarts, happens, entries, May}
-use Rattle.world_model.specs.Did.{happens_all, entries_all, MayAll}
-use Rattle.world_model.specs.Prefixes.{LinePart}
+use Rattle.proof_once.specs.proof_host.Entries.{IsAside}
+use Rattle.proof_once.specs.proof_host.Facts.{Facts}
+use Rattle.proof_once.specs.proof_host.Tables.{taken_at}
+use Rattle.proof_once.proofs.Lists.{each-append, each-anywhere, each-weaker}
+use Rattle.proof_once.specs.outside_model.Events.{Begins_line, devices_after, outcome}
+use Rattle.proof_once.specs.world_model.State.{Machine}
+use Rattle.proof_once.specs.world_model.Events.{Event, Outside_does, Host_does, Host_takes, Decoder_ticks, Refuses, Shows_values, Restarts, happens, entries, May}
+use Rattle.proof_once.specs.world_model.Did.{happens_all, entries_all, MayAll}
+use Rattle.proof_once.specs.world_model.Prefixes.{LinePart}
 use Rattle.host_model.proofs.Silence.{judged_silent}
-use Rattle.world_model.proofs.EventLists.{entries_all-append}
+use Rattle.proof_once.proofs.world_model_EventLists.{entries_all-append}
 use Rattle.proof_world.specs.Restarts.{StartsWell, AllStartWell}
-use Rattle.world_lines.specs.Spoken.{Spoken, after, after_all, entries_of, transcript_of}
+use Rattle.proof_world.specs.world_lines.Spoken.{Spoken, after, after_all, entries_of, transcript_of}
 use Rattle.proof_spoken.specs.Spoken.{IsSpoken, AreSpoken}
 use Rattle.proof_spoken.specs.Said.{AllKnow, AreSaid, IsSaid, KnowsListing, MayAnswer}
 use Rattle.proof_spoken.proofs.Orders.{IsNoOrder, SameOrders, event_kept, push_is, push_stays, restart_kept, same_orders, then_same}

@@ -1,11 +1,11 @@
 -- Of lines that are said one after another, each restart starts well and each line tells, where that is so of all their events.
 use Rattle.std.proofs.Common.{ℕ, List, [], ◌∷◌, ◌++◌}
-use Rattle.world_model.specs.State.{Machine}
-use Rattle.world_model.specs.Events.{Event, happens}
-use Rattle.world_model.specs.Did.{happens_all}
+use Rattle.proof_once.specs.world_model.State.{Machine}
+use Rattle.proof_once.specs.world_model.Events.{Event, happens}
+use Rattle.proof_once.specs.world_model.Did.{happens_all}
 use Rattle.proof_world.specs.Restarts.{AllStartWell}
-use Rattle.world_lines.specs.Spoken.{Spoken, after}
-use Rattle.world_lines.specs.Done.{AreDone, events_of}
+use Rattle.proof_world.specs.world_lines.Spoken.{Spoken, after}
+use Rattle.proof_world.specs.world_lines.Done.{AreDone, events_of}
 use Rattle.proof_spoken.specs.Spoken.{AreSpoken}
 use Rattle.proof_spoken.specs.Said.{AllTell, LinesTell}
 

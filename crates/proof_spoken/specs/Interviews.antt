@@ -2,7 +2,7 @@
 use Rattle.std.specs.Prelude.{◌≡◌, ℕ, List}
 use Rattle.std.specs.List.{AllByRecursion}
 use Rattle.host_model.specs.Events.{HostEvent, Interviews}
-use Rattle.world_model.specs.Events.{Event, Host_takes}
+use Rattle.proof_once.specs.world_model.Events.{Event, Host_takes}
 
 -- an interview that ends well hears the list of its node
 abbrev pub HearsList : (ℕ → List ℕ) → HostEvent → Type 0

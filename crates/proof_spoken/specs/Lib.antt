@@ -5,3 +5,6 @@ pub use Rattle.proof_world.specs.Devices
 pub use Rattle.proof_world.specs.Restarts
 pub use Rattle.proof_world.specs.Asking
 pub use Rattle.proof_world.specs.Lines
+pub use Rattle.proof_once.specs.proof_device as proof_device
+pub use Rattle.proof_once.specs as proof_once
+pub use Rattle.proof_world.specs.proof_serial as proof_serial

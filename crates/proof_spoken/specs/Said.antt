@@ -5,18 +5,18 @@ use Rattle.zw_text.specs.declared.line.Line.TheVariants.{Command as Commanded}
 use Rattle.zw_text.specs.declared.entry.Entry.{Entry}
 use Rattle.zw_text.specs.declared.entry.Entry.TheVariants.{Accepted}
 use Rattle.zw_text.specs.Transcript.{line_last}
-use Rattle.law_transcript.specs.Lists.{EachAfter}
-use Rattle.law_transcript.specs.Nodes.{host_list, known_classes, always}
+use Rattle.proof_once.specs.law_transcript.Lists.{EachAfter}
+use Rattle.proof_once.specs.law_transcript.Nodes.{host_list, known_classes, always}
 use Rattle.host_orders.specs.Wrapping.{carriage_of}
 use Rattle.host_orders.specs.declared.carriage.Carriage.{Carriage}
 use Rattle.host_node.specs.TableState.{node_of}
 use Rattle.host_model.specs.State.{Command, HostState}
 use Rattle.host_model.specs.Events.{HostEvent, Interviews}
 use Rattle.host_model.specs.After.{after as host_after}
-use Rattle.proof_host.specs.Tables.{taken_at}
-use Rattle.world_model.specs.State.{Machine}
-use Rattle.world_model.specs.Events.{Event, Host_does, Host_takes, Restarts, happens}
-use Rattle.world_lines.specs.Spoken.{Spoken, after, entries_of}
+use Rattle.proof_once.specs.proof_host.Tables.{taken_at}
+use Rattle.proof_once.specs.world_model.State.{Machine}
+use Rattle.proof_once.specs.world_model.Events.{Event, Host_does, Host_takes, Restarts, happens}
+use Rattle.proof_world.specs.world_lines.Spoken.{Spoken, after, entries_of}
 
 -- ---- orders
 

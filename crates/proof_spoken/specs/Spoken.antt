@@ -2,10 +2,10 @@
 use Rattle.std.specs.Prelude.{◌≡◌, List, [], ◌∷◌}
 use Rattle.zw_text.specs.declared.entry.Entry.TheVariants.{Said}
 use Rattle.zw_text.specs.Transcript.{line_of}
-use Rattle.world_model.specs.State.{Machine}
-use Rattle.world_model.specs.Did.{MayAll}
-use Rattle.world_model.specs.Prefixes.{IsLineBefore}
-use Rattle.world_lines.specs.Spoken.{Spoken, after}
+use Rattle.proof_once.specs.world_model.State.{Machine}
+use Rattle.proof_once.specs.world_model.Did.{MayAll}
+use Rattle.proof_once.specs.world_model.Prefixes.{IsLineBefore}
+use Rattle.proof_world.specs.world_lines.Spoken.{Spoken, after}
 use Rattle.proof_world.specs.Restarts.{AllStartWell}
 
 -- the words are read as the line; its events are those of such a line, all of them where others follow, and may happen; and a host that starts again has what the one before recorded

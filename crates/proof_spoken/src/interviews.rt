@@ -5,20 +5,20 @@ ghost use Rattle.std.specs.List.{AllByRecursion};
 ghost use Rattle.s0_crypto.specs.declared.key_pair.Keys.{Keys};
 ghost use Rattle.device_sim.specs.State.{State};
 ghost use Rattle.zw_text.specs.declared.line.Line.{Line};
-ghost use Rattle.law_transcript.specs.Nodes.{listing_of};
-ghost use Rattle.world_model.specs.State.{first_machine};
-ghost use Rattle.world_model.specs.Events.{Event};
-ghost use Rattle.world_model.specs.Did.{MayAll};
-ghost use Rattle.proof_serial.specs.Line.{AreLines};
-ghost use Rattle.world_lines.specs.Spoken.{Spoken};
+ghost use Rattle.proof_once.specs.law_transcript.Nodes.{listing_of};
+ghost use Rattle.proof_once.specs.world_model.State.{first_machine};
+ghost use Rattle.proof_once.specs.world_model.Events.{Event};
+ghost use Rattle.proof_once.specs.world_model.Did.{MayAll};
+ghost use Rattle.proof_world.specs.proof_serial.Line.{AreLines};
+ghost use Rattle.proof_world.specs.world_lines.Spoken.{Spoken};
 ghost use Rattle.proof_spoken.specs.Spoken.{AreSpoken};
 ghost use Rattle.proof_spoken.specs.Said.{AllTell, LinesTell};
-ghost use Rattle.world_lines.specs.Done.{AreDone};
+ghost use Rattle.proof_world.specs.world_lines.Done.{AreDone};
 ghost use Rattle.proof_spoken.specs.Interviews.{HearLists};
 
 use crate::interviews_give_what_is_known;
-use proof_serial::{hosts_write_well, units_are_judged_whole};
 use proof_world::device::{devices_go_on, devices_stay_the_same};
+use proof_world::serial::{hosts_write_well, units_are_judged_whole};
 use proof_world::{
     lines_ask_well, lines_keep_and_ask_well, restarts_go_on, runs_keep_and_ask_well,
     the_machine_keeps_facts,

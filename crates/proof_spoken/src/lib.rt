@@ -17,7 +17,10 @@ mod interviews;
 mod said;
 
 pub use interviews::{interviews_tell_what_nodes_list, lines_tell_what_nodes_list};
+pub use proof_once as once;
+pub use proof_once::device;
 pub use proof_world as world;
+pub use proof_world::serial;
 pub use said::{
     answers_stand_after_their_lines, interviews_give_what_is_known, orders_are_carried_as_said,
     runs_have_their_tables, tables_are_what_was_said, tables_keep_orders,

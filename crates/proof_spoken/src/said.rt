@@ -1,33 +1,33 @@
 //! The laws of orders that were said.
 
-ghost use Rattle.law_transcript.specs.Nodes.{always};
+ghost use Rattle.proof_once.specs.law_transcript.Nodes.{always};
 ghost use Rattle.std.specs.Prelude.{◌≡◌, ℕ, Option, Some, List, [], ◌++◌};
 ghost use Rattle.s0_crypto.specs.declared.key_pair.Keys.{Keys};
 ghost use Rattle.device_sim.specs.State.{State};
 ghost use Rattle.zw_text.specs.declared.entry.Entry.{Entry};
 ghost use Rattle.zw_text.specs.Transcript.{accepted};
-ghost use Rattle.law_transcript.specs.Commands.{classes_for, order_of};
-ghost use Rattle.law_transcript.specs.Lists.{Has};
+ghost use Rattle.proof_once.specs.law_transcript.Commands.{classes_for, order_of};
+ghost use Rattle.proof_once.specs.law_transcript.Lists.{Has};
 ghost use Rattle.host_keep.specs.Kept.{Taken};
 ghost use Rattle.host_orders.specs.Wrapping.{carriage_of};
-ghost use Rattle.proof_host.specs.Laws.{numbers_for};
-ghost use Rattle.proof_host.specs.Tables.{taken_at};
+ghost use Rattle.proof_once.specs.proof_host.Laws.{numbers_for};
+ghost use Rattle.proof_once.specs.proof_host.Tables.{taken_at};
 ghost use Rattle.host_model.specs.State.{HostState, first_host};
 ghost use Rattle.host_model.specs.Events.{HostEvent};
 ghost use Rattle.host_model.specs.After.{after as host_after};
-ghost use Rattle.proof_host.specs.Facts.{Facts};
-ghost use Rattle.world_model.specs.State.{Machine, first_machine};
-ghost use Rattle.world_model.specs.Events.{Event, happens, entries, May};
+ghost use Rattle.proof_once.specs.proof_host.Facts.{Facts};
+ghost use Rattle.proof_once.specs.world_model.State.{Machine, first_machine};
+ghost use Rattle.proof_once.specs.world_model.Events.{Event, happens, entries, May};
 ghost use Rattle.proof_world.specs.Restarts.{AreHeld, StartsWell};
 ghost use Rattle.proof_once.specs.Tied.{KeepsOrders};
 ghost use Rattle.proof_once.specs.ByTable.{IsTable};
-ghost use Rattle.world_lines.specs.Spoken.{Spoken, after, after_all, entries_of, transcript_of};
+ghost use Rattle.proof_world.specs.world_lines.Spoken.{Spoken, after, after_all, entries_of, transcript_of};
 ghost use Rattle.proof_spoken.specs.Spoken.{IsSpoken, AreSpoken};
 ghost use Rattle.proof_spoken.specs.Said.{AllKnow, AreSaid, KnowsAgain, KnowsListing, LinesTell, Tells};
 
 use host_keep::texts_give_one_thing;
 use host_node::a_restart_needs_the_records_alone;
-use proof_host::asides_keep_facts;
+use proof_once::host::asides_keep_facts;
 use proof_world::the_machine_keeps_facts;
 
 /// A command that was taken stays in the table as it was taken, whatever the host does, and over restarts.

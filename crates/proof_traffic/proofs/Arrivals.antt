@@ -5,8 +5,8 @@ use Rattle.std.specs.Option.{is_none, unwrap_or}
 use Rattle.std.specs.List.{AllByRecursion}
 use Rattle.chip_sim.specs.Events.{Heard as chip_hears}
 use Rattle.route_table.specs.declared.route.Route.{Route}
-use Rattle.device_sim.specs.State.{State}
-use Rattle.device_sim.specs.Event.{DeviceEvent, Hears, device_after, device_replies}
+use Rattle.proof_device.specs.device_sim.State.{State}
+use Rattle.proof_device.specs.device_sim.Event.{DeviceEvent, Hears, device_after, device_replies}
 use Rattle.air_frames.specs.declared.frame.Departure.{Departure}
 use Rattle.air_frames.specs.declared.frame.Heading.{Heading}
 use Rattle.air_frames.specs.declared.frame.Heading.TheVariants.{Outward, Homeward}
@@ -14,18 +14,18 @@ use Rattle.air_frames.specs.Flown.{Flown}
 use Rattle.air_frames.specs.Frames.{FramesState, next_of, landing}
 use Rattle.air_frames.specs.History.{Mark, Goes as goes_mark, Begins as begins_mark, GoBetweenNodes, stamped}
 use Rattle.proof_traffic.specs.Flights.{Fly, flown_in, flown_now}
-use Rattle.mesh_sim.specs.declared.event.AirEvent.{AirEvent}
-use Rattle.mesh_sim.specs.declared.event.AirEvent.TheVariants.{Heard, Lost, Unheard, Sent, Changed, ToChip, Done}
-use Rattle.mesh_sim.specs.declared.fate.Fate.{Fate}
-use Rattle.mesh_sim.specs.declared.fate.Fate.TheVariants as fate
-use Rattle.mesh_sim.specs.Routes.{backwards}
-use Rattle.mesh_sim.specs.Air.{AirState, is_joined, no_route, departing}
-use Rattle.mesh_sim.specs.Fates.{Mesh, dead_hop_of, listener_of, fate_by, fate_of}
-use Rattle.mesh_sim.specs.Steps.{Arrives, landed, acknowledged, status_of, done_of, changed, answered, answers, answered_if, answers_if, air_hearing, outs_hearing, heard_at, outs_at, arriving_as, arrival_outs_as, mesh_after, mesh_outs, MayHappen}
-use Rattle.outside_model.specs.State.{OuterState, outside, each}
-use Rattle.outside_model.specs.Air.{to_chip, deals}
-use Rattle.outside_model.specs.Results.{frame_ends}
-use Rattle.outside_model.specs.Events.{mesh_of, steps}
+use Rattle.proof_device.specs.mesh_sim.declared.event.AirEvent.{AirEvent}
+use Rattle.proof_device.specs.mesh_sim.declared.event.AirEvent.TheVariants.{Heard, Lost, Unheard, Sent, Changed, ToChip, Done}
+use Rattle.proof_device.specs.mesh_sim.declared.fate.Fate.{Fate}
+use Rattle.proof_device.specs.mesh_sim.declared.fate.Fate.TheVariants as fate
+use Rattle.proof_device.specs.mesh_sim.Routes.{backwards}
+use Rattle.proof_device.specs.mesh_sim.Air.{AirState, is_joined, no_route, departing}
+use Rattle.proof_device.specs.mesh_sim.Fates.{Mesh, dead_hop_of, listener_of, fate_by, fate_of}
+use Rattle.proof_device.specs.mesh_sim.Steps.{Arrives, landed, acknowledged, status_of, done_of, changed, answered, answers, answered_if, answers_if, air_hearing, outs_hearing, heard_at, outs_at, arriving_as, arrival_outs_as, mesh_after, mesh_outs, MayHappen}
+use Rattle.proof_device.specs.outside_model.State.{OuterState, outside, each}
+use Rattle.proof_device.specs.outside_model.Air.{to_chip, deals}
+use Rattle.proof_device.specs.outside_model.Results.{frame_ends}
+use Rattle.proof_device.specs.outside_model.Events.{mesh_of, steps}
 use Rattle.proof_traffic.specs.Requests.{Word, Traffic}
 use Rattle.proof_traffic.specs.Requests as course
 use Rattle.proof_traffic.specs.Facts.{flying_in}

@@ -10,17 +10,17 @@ use Rattle.air_frames.specs.Flown.{Flown}
 use Rattle.air_frames.specs.Frames.{FramesState, landing}
 use Rattle.air_frames.specs.History.{Mark, Goes as goes_mark}
 use Rattle.proof_traffic.specs.Flights.{Fly, flown_now}
-use Rattle.device_sim.specs.State.{State}
-use Rattle.device_sim.specs.Event.{DeviceEvent, Hears, device_replies}
-use Rattle.mesh_sim.specs.Air.{AirState, departing, is_joined, no_route}
-use Rattle.mesh_sim.specs.Fates.{Mesh, fate_of}
-use Rattle.mesh_sim.specs.Routes.{backwards}
-use Rattle.mesh_sim.specs.declared.fate.Fate.{Fate}
-use Rattle.mesh_sim.specs.declared.fate.Fate.TheVariants as fate
-use Rattle.mesh_sim.specs.Steps as mesh
-use Rattle.mesh_sim.specs.Steps.{answered, answered_if, landed, acknowledged, heard_at, arriving_as, mesh_after}
-use Rattle.outside_model.specs.State.{Outside}
-use Rattle.outside_model.specs.Events.{Arrives, mesh_of, happens}
+use Rattle.proof_device.specs.device_sim.State.{State}
+use Rattle.proof_device.specs.device_sim.Event.{DeviceEvent, Hears, device_replies}
+use Rattle.proof_device.specs.mesh_sim.Air.{AirState, departing, is_joined, no_route}
+use Rattle.proof_device.specs.mesh_sim.Fates.{Mesh, fate_of}
+use Rattle.proof_device.specs.mesh_sim.Routes.{backwards}
+use Rattle.proof_device.specs.mesh_sim.declared.fate.Fate.{Fate}
+use Rattle.proof_device.specs.mesh_sim.declared.fate.Fate.TheVariants as fate
+use Rattle.proof_device.specs.mesh_sim.Steps as mesh
+use Rattle.proof_device.specs.mesh_sim.Steps.{answered, answered_if, landed, acknowledged, heard_at, arriving_as, mesh_after}
+use Rattle.proof_device.specs.outside_model.State.{Outside}
+use Rattle.proof_device.specs.outside_model.Events.{Arrives, mesh_of, happens}
 use Rattle.proof_traffic.specs.OutsideTraffic.{outward}
 use Rattle.proof_traffic.proofs.Arrivals.{flight_within}
 use Rattle.proof_traffic.proofs.Parts.{Airs}

@@ -10,11 +10,11 @@ use Rattle.chip_sim.specs.Events.{Done, ended, ended_outs, after, outs}
 use Rattle.air_frames.specs.Flown.{Flown}
 use Rattle.air_frames.specs.History.{Mark}
 use Rattle.proof_traffic.specs.Flights.{Fly}
-use Rattle.outside_model.specs.declared.waits.Call.{Call}
-use Rattle.outside_model.specs.State.{OuterState, with_chip, each}
-use Rattle.outside_model.specs.Chip.{put_out, chip_does}
-use Rattle.outside_model.specs.Results.{owes_call, call_back}
-use Rattle.mesh_sim.specs.Air.{AirState}
+use Rattle.proof_device.specs.outside_model.declared.waits.Call.{Call}
+use Rattle.proof_device.specs.outside_model.State.{OuterState, with_chip, each}
+use Rattle.proof_device.specs.outside_model.Chip.{put_out, chip_does}
+use Rattle.proof_device.specs.outside_model.Results.{owes_call, call_back}
+use Rattle.proof_device.specs.mesh_sim.Air.{AirState}
 use Rattle.proof_traffic.specs.Requests.{Traffic, called}
 use Rattle.proof_traffic.specs.OutsideTraffic.{flags, no_routes_due, Knows, Follows}
 use Rattle.proof_traffic.proofs.Mild.{AreMild, Untouched, each_mild, queued_mild}

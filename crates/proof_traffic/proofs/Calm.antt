@@ -12,17 +12,17 @@ use Rattle.air_frames.specs.Frames.{FramesState, peer_of}
 use Rattle.air_frames.specs.declared.peer.Peer.{Peer}
 use Rattle.air_frames.specs.History.{Mark, Begins as begins_mark}
 use Rattle.proof_traffic.specs.Flights.{Fly}
-use Rattle.mesh_sim.specs.Air.{AirState, beginning}
-use Rattle.host_model.specs.Did.{outs_all}
-use Rattle.host_model.specs.Events.{HostEvent}
-use Rattle.host_model.specs.declared.out.HostOut.{HostOut}
-use Rattle.host_model.specs.declared.out.HostOut.TheVariants.{Write, Note}
-use Rattle.host_model.specs.Outs.{answers}
-use Rattle.outside_model.specs.State.{OuterState, Outside}
-use Rattle.outside_model.specs.Events.{Host_writes, Host_notes, Host_begins, begins, outcome, has_entered, happens as happens_outside}
-use Rattle.outside_model.specs.Did.{happens_all as happens_all_outside}
-use Rattle.world_model.specs.State.{Machine, routed, noted_by, begun_in, host_does}
-use Rattle.world_model.specs.Events.{Host_does, Host_takes, notes, fed, enters, happens}
+use Rattle.proof_device.specs.mesh_sim.Air.{AirState, beginning}
+use Rattle.proof_serial.specs.host_model.Did.{outs_all}
+use Rattle.proof_serial.specs.host_model.Events.{HostEvent}
+use Rattle.proof_serial.specs.host_model.declared.out.HostOut.{HostOut}
+use Rattle.proof_serial.specs.host_model.declared.out.HostOut.TheVariants.{Write, Note}
+use Rattle.proof_serial.specs.host_model.Outs.{answers}
+use Rattle.proof_device.specs.outside_model.State.{OuterState, Outside}
+use Rattle.proof_device.specs.outside_model.Events.{Host_writes, Host_notes, Host_begins, begins, outcome, has_entered, happens as happens_outside}
+use Rattle.proof_device.specs.outside_model.Did.{happens_all as happens_all_outside}
+use Rattle.proof_device.specs.world_model.State.{Machine, routed, noted_by, begun_in, host_does}
+use Rattle.proof_device.specs.world_model.Events.{Host_does, Host_takes, notes, fed, enters, happens}
 use Rattle.proof_traffic.specs.OnAir.{on_air}
 use Rattle.proof_traffic.proofs.Parts.{Airs}
 

@@ -20,21 +20,21 @@ use Rattle.chip_sim.specs.Waiting.{PortState, is_full, queued_outs, queued_outs_
 use Rattle.chip_sim.specs.Events.{ChipEvent, Ticked, Heard as chip_hears, Done as chip_done, Informed, ended_outs, after, outs}
 use Rattle.route_table.specs.declared.route.Route.{Route}
 use Rattle.route_table.specs.Network.{linked}
-use Rattle.device_sim.specs.State.{State}
-use Rattle.device_sim.specs.Event.{DeviceEvent, Ticks}
-use Rattle.mesh_sim.specs.Steps as mesh
-use Rattle.mesh_sim.specs.Steps.{mesh_after, mesh_outs}
-use Rattle.mesh_sim.specs.declared.event.AirEvent.{AirEvent}
-use Rattle.mesh_sim.specs.declared.event.AirEvent.TheVariants.{Heard, Lost, Unheard, Sent, Changed, ToChip, Done}
+use Rattle.proof_device.specs.device_sim.State.{State}
+use Rattle.proof_device.specs.device_sim.Event.{DeviceEvent, Ticks}
+use Rattle.proof_device.specs.mesh_sim.Steps as mesh
+use Rattle.proof_device.specs.mesh_sim.Steps.{mesh_after, mesh_outs}
+use Rattle.proof_device.specs.mesh_sim.declared.event.AirEvent.{AirEvent}
+use Rattle.proof_device.specs.mesh_sim.declared.event.AirEvent.TheVariants.{Heard, Lost, Unheard, Sent, Changed, ToChip, Done}
 use Rattle.zw_text.specs.declared.entry.Entry.{Entry}
-use Rattle.outside_model.specs.declared.waits.Due.{Due}
-use Rattle.outside_model.specs.declared.waits.Due.TheVariants.{Info, NoRoute as no_route_due}
-use Rattle.outside_model.specs.State.{OuterState, Outside, with_chip, each}
-use Rattle.outside_model.specs.Chip.{put_out, chip_does}
-use Rattle.outside_model.specs.Results.{owes_call, call_back, no_route, no_routes, leading, forgets, frame_ends, profile_for, informs, gives}
-use Rattle.outside_model.specs.Air.{to_chip, deals}
-use Rattle.outside_model.specs.Devices.{acts_at}
-use Rattle.outside_model.specs.Events.{Arrives, Gives, Device_ticks, Chip_ticks, mesh_of, outcome, has_entered, happens}
+use Rattle.proof_device.specs.outside_model.declared.waits.Due.{Due}
+use Rattle.proof_device.specs.outside_model.declared.waits.Due.TheVariants.{Info, NoRoute as no_route_due}
+use Rattle.proof_device.specs.outside_model.State.{OuterState, Outside, with_chip, each}
+use Rattle.proof_device.specs.outside_model.Chip.{put_out, chip_does}
+use Rattle.proof_device.specs.outside_model.Results.{owes_call, call_back, no_route, no_routes, leading, forgets, frame_ends, profile_for, informs, gives}
+use Rattle.proof_device.specs.outside_model.Air.{to_chip, deals}
+use Rattle.proof_device.specs.outside_model.Devices.{acts_at}
+use Rattle.proof_device.specs.outside_model.Events.{Arrives, Gives, Device_ticks, Chip_ticks, mesh_of, outcome, has_entered, happens}
 
 -- a unit that goes to the host, or one that found no room
 abbrev IsSaid : ChipOut → Type 0

@@ -3,16 +3,16 @@ use Rattle.std.proofs.Common.{◌≡◌, ℕ, ◌<◌, List, [], ◌∷◌, ◌+
 use Rattle.std.proofs.lemmas.List.{append-nil}
 use Rattle.serial_frame.specs.declared.item.Item.{Item}
 use Rattle.air_frames.specs.History.{Mark}
-use Rattle.device_sim.specs.State.{State}
+use Rattle.proof_device.specs.device_sim.State.{State}
 use Rattle.proof_traffic.specs.Requests.{Traffic, Step}
 use Rattle.proof_traffic.specs.Requests as course
 use Rattle.proof_traffic.specs.OutsideTraffic.{AreNodes}
 use Rattle.proof_device.specs.GoingOn.{AreSame}
 use Rattle.proof_device.proofs.DevicePlaces.{run_goes, go_same}
-use Rattle.world_model.specs.State.{Machine}
-use Rattle.world_model.specs.Events.{Event, May, happens}
-use Rattle.world_model.specs.Did.{happens_all, MayAll, Schedule, Then, Nothing, PrefixOf, ThenPrefix}
-use Rattle.world_model.proofs.EventLists.{happens_all-append}
+use Rattle.proof_device.specs.world_model.State.{Machine}
+use Rattle.proof_device.specs.world_model.Events.{Event, May, happens}
+use Rattle.proof_device.specs.world_model.Did.{happens_all, MayAll, Schedule, Then, Nothing, PrefixOf, ThenPrefix}
+use Rattle.proof_device.proofs.EventLists.{happens_all-append}
 use Rattle.proof_serial.specs.Host.{AsksWell, AllAskWell}
 use Rattle.proof_serial.specs.Line.{IsWhole, WritesWell, AllWriteWell}
 use Rattle.proof_traffic.specs.OnAir.{IsFew, AlwaysFew}

@@ -1,9 +1,9 @@
 -- The first of events outside the host, and what kinds of calls are made of.
 use Rattle.std.proofs.Common.{◌≡◌, ℕ, zero, suc, ◌+◌, List, [], ◌∷◌, ◌++◌, map, refl, ap, sym, subst}
 use Rattle.std.specs.List.{AllByRecursion}
-use Rattle.outside_model.specs.Events.{OuterEvent, Gives}
-use Rattle.outside_model.specs.Schedules.{Arrivals, Givings, DeviceTicks}
-use Rattle.world_model.specs.Events.{Event, Outside_does}
+use Rattle.proof_device.specs.outside_model.Events.{OuterEvent, Gives}
+use Rattle.proof_device.specs.outside_model.Schedules.{Arrivals, Givings, DeviceTicks}
+use Rattle.proof_device.specs.world_model.Events.{Event, Outside_does}
 use Rattle.proof_traffic.proofs.Outside.{IsFree}
 
 -- the first of events outside the host are such, and others follow

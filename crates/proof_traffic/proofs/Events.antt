@@ -14,8 +14,8 @@ use Rattle.chip_sim.specs.Did.{after_all}
 use Rattle.serial_link.specs.State.{copy_due}
 use Rattle.route_table.specs.declared.route.Route.{Route}
 use Rattle.route_table.specs.Network.{linked}
-use Rattle.device_sim.specs.State.{State}
-use Rattle.device_sim.specs.Event.{DeviceEvent, Hears, Ticks, Wakes, Sets, device_after, device_replies}
+use Rattle.proof_device.specs.device_sim.State.{State}
+use Rattle.proof_device.specs.device_sim.Event.{DeviceEvent, Hears, Ticks, Wakes, Sets, device_after, device_replies}
 use Rattle.air_frames.specs.declared.ages.Refusal.{Refusal as RepeatRefusal}
 use Rattle.air_frames.specs.declared.frame.Heading.{Heading}
 use Rattle.air_frames.specs.declared.frame.Heading.TheVariants.{Outward, Homeward}
@@ -24,24 +24,24 @@ use Rattle.air_frames.specs.Flown.{Flown}
 use Rattle.air_frames.specs.Frames.{FramesState, peer_of, remembered}
 use Rattle.air_frames.specs.History.{Mark, Begins as begins_mark}
 use Rattle.proof_traffic.specs.Flights.{Fly, flown_in}
-use Rattle.mesh_sim.specs.declared.event.AirEvent.{AirEvent}
-use Rattle.mesh_sim.specs.Routes.{backwards}
-use Rattle.mesh_sim.specs.Air.{AirState, is_joined, linking, joining, beginning}
-use Rattle.mesh_sim.specs.Fates.{Mesh, place_of, listener_of}
-use Rattle.mesh_sim.specs.Steps as mesh
-use Rattle.mesh_sim.specs.Steps.{AirStep, answered_if, answers_if, changed, outs_hearing, heard_at, outs_at, heard_again, outs_again, repeating_by, repeating, repeat_outs_by, repeat_outs, mesh_after, mesh_outs, MayHappen}
-use Rattle.outside_model.specs.declared.waits.Due.{Due}
-use Rattle.outside_model.specs.declared.waits.Due.TheVariants.{Info, NoRoute as no_route_due}
-use Rattle.outside_model.specs.declared.waits.Call.{Call}
-use Rattle.outside_model.specs.declared.waits.Call.TheVariants.{OfFrame, NoRoute as no_route_call}
-use Rattle.outside_model.specs.State.{OuterState, Outside, outside, with_chip, each}
-use Rattle.outside_model.specs.Chip.{chip_does, chip_ticks}
-use Rattle.outside_model.specs.Results.{call_back, without_no_route, no_route, profile_for, informs, gives}
-use Rattle.outside_model.specs.Air.{to_chip, deals}
-use Rattle.outside_model.specs.Devices.{acts, acts_at, acts_by_hand}
-use Rattle.outside_model.specs.Nodes.{is_known, links_of, joins, pairs_of, all_pairs}
-use Rattle.outside_model.specs.Events.{OuterEvent, way_of, with_way, begins, mesh_of, steps, repeats, outcome, happens, has_entered, May}
-use Rattle.outside_model.specs.Events as outer
+use Rattle.proof_device.specs.mesh_sim.declared.event.AirEvent.{AirEvent}
+use Rattle.proof_device.specs.mesh_sim.Routes.{backwards}
+use Rattle.proof_device.specs.mesh_sim.Air.{AirState, is_joined, linking, joining, beginning}
+use Rattle.proof_device.specs.mesh_sim.Fates.{Mesh, place_of, listener_of}
+use Rattle.proof_device.specs.mesh_sim.Steps as mesh
+use Rattle.proof_device.specs.mesh_sim.Steps.{AirStep, answered_if, answers_if, changed, outs_hearing, heard_at, outs_at, heard_again, outs_again, repeating_by, repeating, repeat_outs_by, repeat_outs, mesh_after, mesh_outs, MayHappen}
+use Rattle.proof_device.specs.outside_model.declared.waits.Due.{Due}
+use Rattle.proof_device.specs.outside_model.declared.waits.Due.TheVariants.{Info, NoRoute as no_route_due}
+use Rattle.proof_device.specs.outside_model.declared.waits.Call.{Call}
+use Rattle.proof_device.specs.outside_model.declared.waits.Call.TheVariants.{OfFrame, NoRoute as no_route_call}
+use Rattle.proof_device.specs.outside_model.State.{OuterState, Outside, outside, with_chip, each}
+use Rattle.proof_device.specs.outside_model.Chip.{chip_does, chip_ticks}
+use Rattle.proof_device.specs.outside_model.Results.{call_back, without_no_route, no_route, profile_for, informs, gives}
+use Rattle.proof_device.specs.outside_model.Air.{to_chip, deals}
+use Rattle.proof_device.specs.outside_model.Devices.{acts, acts_at, acts_by_hand}
+use Rattle.proof_device.specs.outside_model.Nodes.{is_known, links_of, joins, pairs_of, all_pairs}
+use Rattle.proof_device.specs.outside_model.Events.{OuterEvent, way_of, with_way, begins, mesh_of, steps, repeats, outcome, happens, has_entered, May}
+use Rattle.proof_device.specs.outside_model.Events as outer
 use Rattle.proof_traffic.specs.Requests.{Word, Traffic, called}
 use Rattle.proof_traffic.specs.Requests as course
 use Rattle.proof_traffic.specs.Facts.{flying_in}

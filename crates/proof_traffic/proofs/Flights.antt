@@ -8,7 +8,7 @@ use Rattle.air_frames.specs.Frames.{FramesState, kept}
 use Rattle.air_frames.specs.History.{Mark, IsOf}
 use Rattle.air_frames.proofs.Logs.{length-stamped}
 use Rattle.proof_traffic.specs.Flights.{flown_in, Fly}
-use Rattle.outside_model.specs.State.{OuterState}
+use Rattle.proof_device.specs.outside_model.State.{OuterState}
 use Rattle.proof_traffic.specs.Requests.{Traffic}
 use Rattle.proof_traffic.specs.Facts.{RequestFacts, flying_in}
 use Rattle.proof_traffic.proofs.FactsKept.{two_by_facts}

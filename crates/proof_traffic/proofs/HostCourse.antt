@@ -20,31 +20,31 @@ use Rattle.host_keep.specs.declared.record.Record.{Record}
 use Rattle.host_keep.specs.declared.record.Record.TheVariants as kept
 use Rattle.host_requests.specs.State.{RequestsState}
 use Rattle.host_requests.specs.declared.under_way.UnderWay.{UnderWay}
-use Rattle.host_model.specs.Opening.{restored_all, opened}
-use Rattle.host_model.specs.Restoring.{restored, ending}
-use Rattle.host_model.specs.State.{HostState, first_host}
-use Rattle.host_model.specs.After.{after}
-use Rattle.host_model.specs.Outs.{outs}
-use Rattle.host_model.specs.Did.{after_all, outs_all}
-use Rattle.host_model.specs.Events.{HostEvent, Accepts, Cancels, Joins, Queues, Queues_interview, Queues_probe}
-use Rattle.host_model.specs.Taking.{AreJudged}
-use Rattle.host_model.specs.declared.out.HostOut.{HostOut}
+use Rattle.proof_serial.specs.host_model.Opening.{restored_all, opened}
+use Rattle.proof_serial.specs.host_model.Restoring.{restored, ending}
+use Rattle.proof_serial.specs.host_model.State.{HostState, first_host}
+use Rattle.proof_serial.specs.host_model.After.{after}
+use Rattle.proof_serial.specs.host_model.Outs.{outs}
+use Rattle.proof_serial.specs.host_model.Did.{after_all, outs_all}
+use Rattle.proof_serial.specs.host_model.Events.{HostEvent, Accepts, Cancels, Joins, Queues, Queues_interview, Queues_probe}
+use Rattle.proof_serial.specs.host_model.Taking.{AreJudged}
+use Rattle.proof_serial.specs.host_model.declared.out.HostOut.{HostOut}
 use Rattle.host_keep.specs.declared.final_status.FinalStatus.{FinalStatus}
-use Rattle.outside_model.specs.State.{OuterState, Outside}
-use Rattle.outside_model.specs.Events.{Clears_pipe, outcome, happens as happens_outside}
+use Rattle.proof_device.specs.outside_model.State.{OuterState, Outside}
+use Rattle.proof_device.specs.outside_model.Events.{Clears_pipe, outcome, happens as happens_outside}
 use Rattle.proof_traffic.specs.Requests.{Word, Traffic, Step, Restarts as starts_anew}
 use Rattle.proof_traffic.specs.Requests as course
 use Rattle.proof_traffic.specs.Facts.{RequestFacts}
 use Rattle.proof_traffic.specs.HostTraffic.{word_on, pending_of, InOrder, words_put, words_out, Knows, Writes, Goes as HostGoes}
 use Rattle.proof_traffic.specs.OutsideTraffic.{outward, words_all}
 use Rattle.proof_traffic.specs.OutsideTraffic as outer
-use Rattle.world_model.specs.State.{Machine}
-use Rattle.world_model.specs.Events.{Event, Outside_does, Host_does, Host_takes, Decoder_ticks, Refuses, Shows_values, Restarts, OpensFrom, shown_values, May, happens}
-use Rattle.world_model.specs.Did.{happens_all}
-use Rattle.world_model.specs.Lines.{restart_events}
+use Rattle.proof_device.specs.world_model.State.{Machine}
+use Rattle.proof_device.specs.world_model.Events.{Event, Outside_does, Host_does, Host_takes, Decoder_ticks, Refuses, Shows_values, Restarts, OpensFrom, shown_values, May, happens}
+use Rattle.proof_device.specs.world_model.Did.{happens_all}
+use Rattle.proof_device.specs.world_model.Lines.{restart_events}
 use Rattle.proof_serial.specs.Chip.{HasFrames}
 use Rattle.proof_serial.specs.Way.{items_all}
-use Rattle.world_model.specs.Settling.{TakesWhole}
+use Rattle.proof_device.specs.world_model.Settling.{TakesWhole}
 use Rattle.proof_serial.specs.Line.{Carried, IsWhole, AreAtRest, LineAfter, Change, Grows, Becomes, up_change, host_writes}
 use Rattle.proof_serial.proofs.Events.{event_after, at_rest, rests_after, all_stay}
 use Rattle.proof_traffic.specs.OnAir.{on_air, IsFew, EventStaysFew, AlwaysFew}

@@ -32,20 +32,20 @@ use Rattle.host_requests.specs.Events.{end_at}
 use Rattle.host_requests.specs.Events.RequestsEvent.{Fails as request_fails}
 use Rattle.host_node.specs.declared.attempt.Moment.TheVariants.{BeforeItsTick}
 use Rattle.host_node.specs.Steps.{tick_end}
-use Rattle.host_model.specs.declared.out.HostOut.{HostOut}
-use Rattle.host_model.specs.State.{HostState, node_of, command_at, first_host}
-use Rattle.host_model.specs.Sessions.{open_command, settings_with}
-use Rattle.host_model.specs.Ends.{attempt_entries}
-use Rattle.host_model.specs.Events.{HostEvent, Hears, Requests_do, Interviews, Interview_unkept, Finishes, Offers, Gives, Resends, Line_ticks, Node_ticks, Submits_abort, Submits_front, Starts, Gives_text, Gives_segment}
-use Rattle.host_model.specs.After.{after, requests_do, line_ticked, failing_if, gives_up, is_busy, is_full, is_held, task_purpose}
-use Rattle.host_model.specs.Outs.{outs, noted, answer_to, copy_out, dropped_if, ended_of, stored_entries, held_entries, request_entries, failing_entries}
-use Rattle.host_model.specs.May.{May as MayHost}
-use Rattle.host_model.specs.Did.{MayAll as MayAllHost, after_all}
-use Rattle.host_model.specs.Restoring.{restored, ending}
-use Rattle.host_model.specs.Opening.{restored_all, opened}
-use Rattle.world_model.specs.State.{Machine}
-use Rattle.world_model.specs.Events.{Event, Outside_does, Host_does, Host_takes, Decoder_ticks, Refuses, Shows_values, Restarts, OpensFrom, happens, May}
-use Rattle.world_model.specs.Did.{MayAll, happens_all}
+use Rattle.proof_serial.specs.host_model.declared.out.HostOut.{HostOut}
+use Rattle.proof_serial.specs.host_model.State.{HostState, node_of, command_at, first_host}
+use Rattle.proof_serial.specs.host_model.Sessions.{open_command, settings_with}
+use Rattle.proof_serial.specs.host_model.Ends.{attempt_entries}
+use Rattle.proof_serial.specs.host_model.Events.{HostEvent, Hears, Requests_do, Interviews, Interview_unkept, Finishes, Offers, Gives, Resends, Line_ticks, Node_ticks, Submits_abort, Submits_front, Starts, Gives_text, Gives_segment}
+use Rattle.proof_serial.specs.host_model.After.{after, requests_do, line_ticked, failing_if, gives_up, is_busy, is_full, is_held, task_purpose}
+use Rattle.proof_serial.specs.host_model.Outs.{outs, noted, answer_to, copy_out, dropped_if, ended_of, stored_entries, held_entries, request_entries, failing_entries}
+use Rattle.proof_serial.specs.host_model.May.{May as MayHost}
+use Rattle.proof_serial.specs.host_model.Did.{MayAll as MayAllHost, after_all}
+use Rattle.proof_serial.specs.host_model.Restoring.{restored, ending}
+use Rattle.proof_serial.specs.host_model.Opening.{restored_all, opened}
+use Rattle.proof_device.specs.world_model.State.{Machine}
+use Rattle.proof_device.specs.world_model.Events.{Event, Outside_does, Host_does, Host_takes, Decoder_ticks, Refuses, Shows_values, Restarts, OpensFrom, happens, May}
+use Rattle.proof_device.specs.world_model.Did.{MayAll, happens_all}
 use Rattle.proof_serial.specs.Line.{host_unit, host_units}
 use Rattle.proof_serial.specs.Host.{AllAskWell, AsksWell}
 use Rattle.proof_traffic.specs.Links.{KeepsItsLink, host_link_steps, host_link_steps_all, with_steps, steps_since_start}

@@ -1,11 +1,11 @@
 -- Events of a host that are steps of the course, one after another.
 use Rattle.std.proofs.Common.{◌≡◌, List, [], ◌++◌, refl, sym, ap, ◌∙◌, subst, append_assoc, append-nil}
 use Rattle.std.proofs.lemmas.List.Concat.{flat_map-append}
-use Rattle.host_model.specs.declared.out.HostOut.{HostOut}
-use Rattle.host_model.specs.State.{HostState}
-use Rattle.host_model.specs.Events.{HostEvent}
-use Rattle.host_model.specs.Did.{after_all, outs_all}
-use Rattle.host_model.proofs.EventLists.{after_all-append, outs_all-append}
+use Rattle.proof_serial.specs.host_model.declared.out.HostOut.{HostOut}
+use Rattle.proof_serial.specs.host_model.State.{HostState}
+use Rattle.proof_serial.specs.host_model.Events.{HostEvent}
+use Rattle.proof_serial.specs.host_model.Did.{after_all, outs_all}
+use Rattle.proof_serial.proofs.EventLists.{after_all-append, outs_all-append}
 use Rattle.proof_traffic.specs.Requests.{Word, Traffic}
 use Rattle.proof_traffic.specs.Requests as course
 use Rattle.proof_traffic.specs.HostTraffic.{words_put, words_out, Knows, Writes, Goes}

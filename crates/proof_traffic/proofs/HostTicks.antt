@@ -18,12 +18,12 @@ use Rattle.host_requests.specs.Next.{is_answered, counted_down, on_with, at_tick
 use Rattle.host_requests.specs.Events.{end_at}
 use Rattle.host_requests.specs.Events.RequestsEvent.{Fails as request_fails, Ticks as request_ticks}
 use Rattle.host_node.specs.declared.attempt.Moment.TheVariants.{BeforeItsTick}
-use Rattle.host_model.specs.State.{HostState}
-use Rattle.host_model.specs.Events.{Line_ticks, Requests_do, Node_ticks}
-use Rattle.host_model.specs.After.{after, requests_do, request_does, gives_up, line_ticked, failing_if}
-use Rattle.host_model.specs.Outs.{outs, copy_out, noted, failing_entries}
-use Rattle.host_model.specs.Did.{after_all, outs_all}
-use Rattle.host_model.specs.Ticking.{first_ticks, ticking_nodes, tick_events}
+use Rattle.proof_serial.specs.host_model.State.{HostState}
+use Rattle.proof_serial.specs.host_model.Events.{Line_ticks, Requests_do, Node_ticks}
+use Rattle.proof_serial.specs.host_model.After.{after, requests_do, request_does, gives_up, line_ticked, failing_if}
+use Rattle.proof_serial.specs.host_model.Outs.{outs, copy_out, noted, failing_entries}
+use Rattle.proof_serial.specs.host_model.Did.{after_all, outs_all}
+use Rattle.proof_serial.specs.host_model.Ticking.{first_ticks, ticking_nodes, tick_events}
 use Rattle.proof_traffic.specs.Requests.{Word, Send, Abort, Other, Pending, Traffic, IsSend, linked}
 use Rattle.proof_traffic.specs.Requests as course
 use Rattle.proof_traffic.specs.HostTraffic.{word_of, words_out, word_on, pending_of, IsPlain, InOrder, Knows, Writes, Goes}

@@ -43,17 +43,17 @@ use Rattle.host_requests.specs.Events.RequestsEvent.{CallsBack as request_calls_
 use Rattle.host_node.specs.declared.attempt.Moment.{Moment}
 use Rattle.host_node.specs.declared.attempt.Moment.TheVariants.{BetweenTicks}
 use Rattle.host_node.specs.Events.NodeEvent.{Interviews as node_interviews}
-use Rattle.host_model.specs.State.{HostState}
-use Rattle.host_model.specs.Events.{HostEvent, Hears, Requests_do, Interviews, Interview_unkept}
-use Rattle.host_model.specs.After.{after, requests_do, request_does, is_busy, gives_up, node_does}
-use Rattle.host_model.specs.Outs.{outs, answer_to, request_entries}
-use Rattle.host_model.specs.Did.{after_all, outs_all}
-use Rattle.host_model.specs.May.{says_listens}
-use Rattle.host_model.specs.Taking.{told_requests, told_if, InterviewEvents, ResponseEvents, NoticeEvents, FrameEvents, IsFollowed, IsJudged, AreJudged}
+use Rattle.proof_serial.specs.host_model.State.{HostState}
+use Rattle.proof_serial.specs.host_model.Events.{HostEvent, Hears, Requests_do, Interviews, Interview_unkept}
+use Rattle.proof_serial.specs.host_model.After.{after, requests_do, request_does, is_busy, gives_up, node_does}
+use Rattle.proof_serial.specs.host_model.Outs.{outs, answer_to, request_entries}
+use Rattle.proof_serial.specs.host_model.Did.{after_all, outs_all}
+use Rattle.proof_serial.specs.host_model.May.{says_listens}
+use Rattle.proof_serial.specs.host_model.Taking.{told_requests, told_if, InterviewEvents, ResponseEvents, NoticeEvents, FrameEvents, IsFollowed, IsJudged, AreJudged}
 use Rattle.proof_traffic.specs.Requests.{Word, Send, Abort, Other, Pending, Traffic, Step, IsAbort, answered_now}
 use Rattle.proof_traffic.specs.Requests as course
 use Rattle.proof_traffic.specs.HostTraffic.{word_of, words_out, word_on, pending_of, IsPlain, InOrder, Knows, Writes, Goes}
-use Rattle.host_model.proofs.EventLists.{outs_all-append}
+use Rattle.proof_serial.proofs.EventLists.{outs_all-append}
 use Rattle.proof_traffic.proofs.HostSteps.{goes_nowhere, goes_on, writes-none, words-append}
 use Rattle.proof_traffic.proofs.Quiet.{Same, knows_same, same_end_if, no_words, AreQuiet, quiet_goes, quiet_mutes, payload_quiet}
 use Rattle.proof_traffic.proofs.Submissions.{task_is_other}

@@ -32,11 +32,11 @@ use Rattle.air_frames.specs.Flown.{Flown}
 use Rattle.air_frames.specs.Frames.{FramesState, putting}
 use Rattle.air_frames.specs.History.{Mark, Goes as goes_mark}
 use Rattle.proof_traffic.specs.Flights.{Fly, flown_now}
-use Rattle.outside_model.specs.declared.waits.Due.TheVariants.{NoRoute as no_route_due}
-use Rattle.outside_model.specs.declared.waits.Call.{Call}
-use Rattle.outside_model.specs.declared.waits.Call.TheVariants.{OfFrame, NoRoute as no_route_call}
-use Rattle.outside_model.specs.State.{OuterState, with_chip, each}
-use Rattle.outside_model.specs.Chip.{put_out, chip_does}
+use Rattle.proof_device.specs.outside_model.declared.waits.Due.TheVariants.{NoRoute as no_route_due}
+use Rattle.proof_device.specs.outside_model.declared.waits.Call.{Call}
+use Rattle.proof_device.specs.outside_model.declared.waits.Call.TheVariants.{OfFrame, NoRoute as no_route_call}
+use Rattle.proof_device.specs.outside_model.State.{OuterState, with_chip, each}
+use Rattle.proof_device.specs.outside_model.Chip.{put_out, chip_does}
 use Rattle.proof_traffic.specs.Requests.{Word, Send, Abort, Traffic, Step, judged}
 use Rattle.proof_traffic.specs.Requests as course
 use Rattle.proof_traffic.specs.Facts.{flying_in}

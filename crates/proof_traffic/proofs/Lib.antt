@@ -27,3 +27,5 @@ pub mod HostCourse
 pub mod Settlings
 pub mod Ticks
 pub mod Lines
+pub use Rattle.proof_device.proofs.ChangesOutside
+pub use Rattle.proof_device.proofs.HostOuts

@@ -10,20 +10,20 @@ use Rattle.host_orders.specs.declared.refused.Refused.{Refused}
 use Rattle.host_orders.specs.Refusals.{classes_of}
 use Rattle.host_orders.specs.Errands.{send_refusal, send_text, get_refusal, get_text}
 use Rattle.host_requests.specs.declared.task.Task.TheVariants as task
-use Rattle.host_model.specs.State.{node_of}
-use Rattle.host_model.specs.Events.{HostEvent, Accepts, Cancels, Joins as joins_host, Queues, Queues_interview, Queues_probe}
-use Rattle.host_model.specs.May.{known_of}
-use Rattle.host_model.specs.Asking.{carriage_for, places_refusal, interview_refusal}
-use Rattle.outside_model.specs.Events.{OuterEvent, Begins_line, Discovers, Joins, Links, Loses, Loses_acks, Marks_loss, Marks_change, Collides_next, Stalls, Cuts, Shows, Repeats, Wakes_device, Sets_device}
-use Rattle.outside_model.specs.Schedules.{IsRepeat, IsWake, IsSet}
+use Rattle.proof_serial.specs.host_model.State.{node_of}
+use Rattle.proof_serial.specs.host_model.Events.{HostEvent, Accepts, Cancels, Joins as joins_host, Queues, Queues_interview, Queues_probe}
+use Rattle.proof_serial.specs.host_model.May.{known_of}
+use Rattle.proof_serial.specs.host_model.Asking.{carriage_for, places_refusal, interview_refusal}
+use Rattle.proof_device.specs.outside_model.Events.{OuterEvent, Begins_line, Discovers, Joins, Links, Loses, Loses_acks, Marks_loss, Marks_change, Collides_next, Stalls, Cuts, Shows, Repeats, Wakes_device, Sets_device}
+use Rattle.proof_device.specs.outside_model.Schedules.{IsRepeat, IsWake, IsSet}
 use Rattle.proof_traffic.specs.Requests.{Traffic}
 use Rattle.proof_traffic.specs.Requests as course
-use Rattle.world_model.specs.State.{Machine}
-use Rattle.world_model.specs.Events.{Event, Outside_does, Host_does, Refuses, Shows_values, happens}
-use Rattle.world_model.specs.Did.{Nothing}
-use Rattle.world_model.specs.Settling.{Outside, Settles}
-use Rattle.world_model.specs.Lines.{IsRefusal, IsDone, Asks, restart_events, IsRestart, IsDiscovery, IsEffect, IsLineBegin, IsLineRest, IsLine}
-use Rattle.world_model.specs.Prefixes.{SettlesPrefix, EffectPrefix, LineRestPrefix, LinePrefix, LinePart, IsLineBefore}
+use Rattle.proof_device.specs.world_model.State.{Machine}
+use Rattle.proof_device.specs.world_model.Events.{Event, Outside_does, Host_does, Refuses, Shows_values, happens}
+use Rattle.proof_device.specs.world_model.Did.{Nothing}
+use Rattle.proof_device.specs.world_model.Settling.{Outside, Settles}
+use Rattle.proof_device.specs.world_model.Lines.{IsRefusal, IsDone, Asks, restart_events, IsRestart, IsDiscovery, IsEffect, IsLineBegin, IsLineRest, IsLine}
+use Rattle.proof_device.specs.world_model.Prefixes.{SettlesPrefix, EffectPrefix, LineRestPrefix, LinePrefix, LinePart, IsLineBefore}
 use Rattle.proof_serial.specs.Line.{AreLines}
 use Rattle.proof_traffic.specs.Course.{Follows, Goes}
 use Rattle.proof_traffic.proofs.Parts.{Laws}

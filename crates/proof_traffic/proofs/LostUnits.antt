@@ -12,8 +12,8 @@ use Rattle.serial_pipes.specs.State.{WayState, fits}
 use Rattle.serial_pipes.specs.Events.{after, Writes as writes_unit}
 use Rattle.serial_pipes.specs.declared.marks.Garble.{Garble}
 use Rattle.proof_course.specs.Parts.{IsPart}
-use Rattle.host_model.specs.declared.out.HostOut.{HostOut}
-use Rattle.host_model.specs.declared.out.HostOut.TheVariants.{Write, Note}
+use Rattle.proof_serial.specs.host_model.declared.out.HostOut.{HostOut}
+use Rattle.proof_serial.specs.host_model.declared.out.HostOut.TheVariants.{Write, Note}
 use Rattle.proof_traffic.specs.Requests.{Word, Traffic, Step, Loses}
 use Rattle.proof_traffic.specs.Requests as course
 use Rattle.proof_traffic.specs.HostTraffic.{words_in, words_out}

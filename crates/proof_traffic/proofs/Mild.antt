@@ -18,12 +18,12 @@ use Rattle.chip_sim.specs.Events.{ChipEvent, after, outs}
 use Rattle.air_frames.specs.Flown.{Flown}
 use Rattle.air_frames.specs.History.{Mark}
 use Rattle.proof_traffic.specs.Flights.{Fly}
-use Rattle.outside_model.specs.declared.waits.Due.{Due}
-use Rattle.outside_model.specs.declared.waits.Due.TheVariants.{Info}
-use Rattle.outside_model.specs.declared.waits.Call.{Call}
-use Rattle.outside_model.specs.State.{OuterState, with_chip, each}
-use Rattle.outside_model.specs.Chip.{put_out, chip_does}
-use Rattle.mesh_sim.specs.Air.{AirState}
+use Rattle.proof_device.specs.outside_model.declared.waits.Due.{Due}
+use Rattle.proof_device.specs.outside_model.declared.waits.Due.TheVariants.{Info}
+use Rattle.proof_device.specs.outside_model.declared.waits.Call.{Call}
+use Rattle.proof_device.specs.outside_model.State.{OuterState, with_chip, each}
+use Rattle.proof_device.specs.outside_model.Chip.{put_out, chip_does}
+use Rattle.proof_device.specs.mesh_sim.Air.{AirState}
 use Rattle.proof_traffic.specs.Requests.{Traffic}
 use Rattle.proof_traffic.specs.Facts.{flying_in}
 use Rattle.proof_traffic.specs.OutsideTraffic.{flags, no_routes_due, without_frame, Follows}

@@ -11,11 +11,11 @@ use Rattle.proof_traffic.specs.Flights.{Fly}
 use Rattle.chip_sim.specs.State.{ChipState}
 use Rattle.chip_sim.specs.Events.{Judged}
 use Rattle.chip_sim.specs.Did.{judged_all}
-use Rattle.host_model.specs.State.{HostState}
-use Rattle.outside_model.specs.declared.waits.Call.{Call}
-use Rattle.outside_model.specs.State.{OuterState, each}
-use Rattle.outside_model.specs.Chip.{chip_does, chip_takes}
-use Rattle.outside_model.specs.Events.{OuterEvent, Chip_takes, Clears_pipe, Gives, Host_begins, outcome, happens as happens_outside, May as MayOutside}
+use Rattle.proof_serial.specs.host_model.State.{HostState}
+use Rattle.proof_device.specs.outside_model.declared.waits.Call.{Call}
+use Rattle.proof_device.specs.outside_model.State.{OuterState, each}
+use Rattle.proof_device.specs.outside_model.Chip.{chip_does, chip_takes}
+use Rattle.proof_device.specs.outside_model.Events.{OuterEvent, Chip_takes, Clears_pipe, Gives, Host_begins, outcome, happens as happens_outside, May as MayOutside}
 use Rattle.std.specs.Option.{is_some}
 use Rattle.proof_traffic.specs.Requests.{Word, Traffic}
 use Rattle.proof_traffic.specs.Requests as course
@@ -23,9 +23,9 @@ use Rattle.proof_traffic.specs.Facts.{RequestFacts, flying_in}
 use Rattle.proof_traffic.specs.HostTraffic.{Knows}
 use Rattle.proof_traffic.specs.OutsideTraffic.{flags, no_routes_due, without_frame, words_all, HostStays, InTurn, Goes as OuterGoes}
 use Rattle.proof_traffic.specs.OutsideTraffic as outer
-use Rattle.world_model.specs.State.{Machine}
-use Rattle.world_model.specs.Events.{Event, Outside_does, May, happens}
-use Rattle.world_model.specs.Settling.{OuterTakesAll}
+use Rattle.proof_device.specs.world_model.State.{Machine}
+use Rattle.proof_device.specs.world_model.Events.{Event, Outside_does, May, happens}
+use Rattle.proof_device.specs.world_model.Settling.{OuterTakesAll}
 use Rattle.proof_serial.specs.Line.{LineAfter, Change, Grows, Becomes, outer_up}
 use Rattle.proof_serial.proofs.EndedItems.{feeds_all}
 use Rattle.proof_serial.proofs.Events.{event_after, at_rest, rests_after}

@@ -8,14 +8,14 @@ use Rattle.air_frames.specs.Flown.{Flown}
 use Rattle.air_frames.specs.Frames.{FramesState, peer_of, putting, landing, next_of}
 use Rattle.air_frames.specs.History.{Mark, Goes as goes_mark, Begins as begins_mark}
 use Rattle.proof_traffic.specs.Flights.{Fly, flown_now}
-use Rattle.host_model.specs.State.{HostState}
-use Rattle.host_model.specs.Events.{HostEvent}
-use Rattle.host_model.specs.Pumping.{Pumps}
-use Rattle.host_model.specs.Taking.{AreJudged}
-use Rattle.host_model.specs.Ticking.{tick_events}
-use Rattle.outside_model.specs.State.{OuterState, Outside}
-use Rattle.outside_model.specs.Chip.{chip_takes}
-use Rattle.outside_model.specs.Events.{OuterEvent, May, happens}
+use Rattle.proof_serial.specs.host_model.State.{HostState}
+use Rattle.proof_serial.specs.host_model.Events.{HostEvent}
+use Rattle.proof_serial.specs.host_model.Pumping.{Pumps}
+use Rattle.proof_serial.specs.host_model.Taking.{AreJudged}
+use Rattle.proof_serial.specs.host_model.Ticking.{tick_events}
+use Rattle.proof_device.specs.outside_model.State.{OuterState, Outside}
+use Rattle.proof_device.specs.outside_model.Chip.{chip_takes}
+use Rattle.proof_device.specs.outside_model.Events.{OuterEvent, May, happens}
 use Rattle.proof_traffic.specs.Requests.{Word, Traffic, Step}
 use Rattle.proof_traffic.specs.Requests as course
 use Rattle.proof_traffic.specs.Facts.{RequestFacts}

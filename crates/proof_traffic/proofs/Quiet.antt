@@ -31,14 +31,14 @@ use Rattle.host_node.specs.declared.attempt.AttemptEnd.{AttemptEnd}
 use Rattle.host_node.specs.declared.attempt.AttemptEnd.TheVariants.{NoneRan, Again, Unanswered}
 use Rattle.host_node.specs.Steps.{attempt_end, after_attempt_end, tick_end}
 use Rattle.host_node.specs.Events.NodeEvent.{Ticks as node_ticks}
-use Rattle.host_model.specs.State.{HostState, node_of, with_node, command_at}
-use Rattle.host_model.specs.Sessions.{open_command, settings_with}
-use Rattle.host_model.specs.Ends.{attempt_entries, unanswered, attempt_ended, PartEnd, Good, Passed_over, Bad, part_end, after_part, after_task, after_end, after_end_if}
-use Rattle.host_model.specs.Events.{HostEvent, Hears, Requests_do, Interviews, Interview_unkept, Unreads, Is_unkept, Reports_old, Works, Finishes, Offers, Gives, Spends, Spends_unread, Takes_nonce, Notifies, Resends, Hears_value, Has_no_room, Line_ticks, Node_ticks, Submits_abort, Submits_front, Starts, Gives_text, Gives_segment}
-use Rattle.host_model.specs.After.{after, queues_if_room, offering, giving, holding, finishing, is_held, is_full, node_does}
-use Rattle.host_model.specs.Outs.{outs, noted, ended_of, stored_entries, held_entries, dropped_if}
-use Rattle.host_model.specs.Did.{after_all, outs_all}
-use Rattle.host_model.specs.Taking.{IsKeptOr, is_secure, FinalEvents, ReportEvents, NonceGetEvents, NonceReportEvents, resent, value_event, value_events, IsTaken, AreTaken, IsOpened, SealedEvents, PayloadEvents}
+use Rattle.proof_serial.specs.host_model.State.{HostState, node_of, with_node, command_at}
+use Rattle.proof_serial.specs.host_model.Sessions.{open_command, settings_with}
+use Rattle.proof_serial.specs.host_model.Ends.{attempt_entries, unanswered, attempt_ended, PartEnd, Good, Passed_over, Bad, part_end, after_part, after_task, after_end, after_end_if}
+use Rattle.proof_serial.specs.host_model.Events.{HostEvent, Hears, Requests_do, Interviews, Interview_unkept, Unreads, Is_unkept, Reports_old, Works, Finishes, Offers, Gives, Spends, Spends_unread, Takes_nonce, Notifies, Resends, Hears_value, Has_no_room, Line_ticks, Node_ticks, Submits_abort, Submits_front, Starts, Gives_text, Gives_segment}
+use Rattle.proof_serial.specs.host_model.After.{after, queues_if_room, offering, giving, holding, finishing, is_held, is_full, node_does}
+use Rattle.proof_serial.specs.host_model.Outs.{outs, noted, ended_of, stored_entries, held_entries, dropped_if}
+use Rattle.proof_serial.specs.host_model.Did.{after_all, outs_all}
+use Rattle.proof_serial.specs.host_model.Taking.{IsKeptOr, is_secure, FinalEvents, ReportEvents, NonceGetEvents, NonceReportEvents, resent, value_event, value_events, IsTaken, AreTaken, IsOpened, SealedEvents, PayloadEvents}
 use Rattle.proof_traffic.specs.Requests.{Word, Traffic}
 use Rattle.proof_traffic.specs.Requests as course
 use Rattle.proof_traffic.specs.HostTraffic.{words_out, word_on, pending_of, InOrder, Knows, Writes, Goes}

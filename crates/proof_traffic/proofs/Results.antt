@@ -8,12 +8,12 @@ use Rattle.chip_functions.specs.declared.notice.TransmitStatus.TheVariants.{Fail
 use Rattle.route_table.specs.Network.{linked}
 use Rattle.air_frames.specs.Flown.{Flown}
 use Rattle.air_frames.specs.History.{Mark}
-use Rattle.outside_model.specs.declared.waits.Due.{Due}
-use Rattle.outside_model.specs.declared.waits.Due.TheVariants.{Info, NoRoute as no_route_due}
-use Rattle.outside_model.specs.declared.waits.Call.{Call}
-use Rattle.outside_model.specs.declared.waits.Call.TheVariants.{OfFrame, NoRoute as no_route_call}
-use Rattle.outside_model.specs.State.{OuterState}
-use Rattle.outside_model.specs.Results.{call_back, without_no_route, leading, no_routes, forgets, frame_ends}
+use Rattle.proof_device.specs.outside_model.declared.waits.Due.{Due}
+use Rattle.proof_device.specs.outside_model.declared.waits.Due.TheVariants.{Info, NoRoute as no_route_due}
+use Rattle.proof_device.specs.outside_model.declared.waits.Call.{Call}
+use Rattle.proof_device.specs.outside_model.declared.waits.Call.TheVariants.{OfFrame, NoRoute as no_route_call}
+use Rattle.proof_device.specs.outside_model.State.{OuterState}
+use Rattle.proof_device.specs.outside_model.Results.{call_back, without_no_route, leading, no_routes, forgets, frame_ends}
 use Rattle.proof_traffic.specs.Requests.{Word, Traffic, Step, called}
 use Rattle.proof_traffic.specs.Requests as course
 use Rattle.proof_traffic.specs.Facts.{flying_in}

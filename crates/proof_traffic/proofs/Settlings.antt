@@ -4,16 +4,16 @@ use Rattle.std.specs.Prelude.{take}
 use Rattle.serial_frame.specs.Stream.{Rest, Feeds, no_rest}
 use Rattle.serial_frame.specs.declared.item.Item.{Item}
 use Rattle.air_frames.specs.History.{Mark}
-use Rattle.outside_model.specs.State.{is_stalled}
-use Rattle.outside_model.specs.Events.{OuterEvent}
-use Rattle.outside_model.specs.Schedules.{TakesBy as ChipTakesBy}
+use Rattle.proof_device.specs.outside_model.State.{is_stalled}
+use Rattle.proof_device.specs.outside_model.Events.{OuterEvent}
+use Rattle.proof_device.specs.outside_model.Schedules.{TakesBy as ChipTakesBy}
 use Rattle.proof_traffic.specs.Requests.{Traffic}
 use Rattle.proof_traffic.specs.Requests as course
-use Rattle.world_model.specs.State.{Machine}
-use Rattle.world_model.specs.Events.{Event, Outside_does, Host_does, Host_takes}
-use Rattle.world_model.specs.Did.{happens_all, Schedule, Nothing}
-use Rattle.world_model.specs.Settling.{IsPump, IsChipPart, TakesBy, IsMove, IfMoved, Passes, Settles}
-use Rattle.world_model.specs.Prefixes.{PassesPrefix, SettlesPrefix}
+use Rattle.proof_device.specs.world_model.State.{Machine}
+use Rattle.proof_device.specs.world_model.Events.{Event, Outside_does, Host_does, Host_takes}
+use Rattle.proof_device.specs.world_model.Did.{happens_all, Schedule, Nothing}
+use Rattle.proof_device.specs.world_model.Settling.{IsPump, IsChipPart, TakesBy, IsMove, IfMoved, Passes, Settles}
+use Rattle.proof_device.specs.world_model.Prefixes.{PassesPrefix, SettlesPrefix}
 use Rattle.proof_serial.proofs.EndedItems.{feeds_all}
 use Rattle.proof_traffic.specs.Course.{Follows, Goes}
 use Rattle.proof_traffic.proofs.Parts.{Laws}

@@ -15,13 +15,13 @@ use Rattle.host_requests.specs.State.{next_id}
 use Rattle.host_node.specs.declared.series.Series.{Series}
 use Rattle.host_node.specs.declared.series.Series.TheVariants as series
 use Rattle.host_node.specs.Search.{next_of}
-use Rattle.host_model.specs.State.{HostState, node_of}
-use Rattle.host_model.specs.Events.{HostEvent, Submits_abort, Submits_front, Starts, Gives_text, Gives_segment, Begins, Begin_unkept, Queues_no_more, Drops_no_more}
-use Rattle.host_model.specs.After.{after, is_busy, is_full}
-use Rattle.host_model.specs.Outs.{outs}
-use Rattle.host_model.specs.Did.{after_all}
-use Rattle.host_model.specs.May.{IsFree}
-use Rattle.host_model.specs.Pumping.{LetsSleep, GivesNext, IsServedBy, IsNextOfNodes, IsNextOf, Submits, Pumps}
+use Rattle.proof_serial.specs.host_model.State.{HostState, node_of}
+use Rattle.proof_serial.specs.host_model.Events.{HostEvent, Submits_abort, Submits_front, Starts, Gives_text, Gives_segment, Begins, Begin_unkept, Queues_no_more, Drops_no_more}
+use Rattle.proof_serial.specs.host_model.After.{after, is_busy, is_full}
+use Rattle.proof_serial.specs.host_model.Outs.{outs}
+use Rattle.proof_serial.specs.host_model.Did.{after_all}
+use Rattle.proof_serial.specs.host_model.May.{IsFree}
+use Rattle.proof_serial.specs.host_model.Pumping.{LetsSleep, GivesNext, IsServedBy, IsNextOfNodes, IsNextOf, Submits, Pumps}
 use Rattle.proof_traffic.specs.Requests.{Word, Send, Abort, Other, Pending, Traffic, MaySubmit}
 use Rattle.proof_traffic.specs.Requests as course
 use Rattle.proof_traffic.specs.HostTraffic.{word_of, words_out, word_on, pending_of, InOrder, Knows, Goes}

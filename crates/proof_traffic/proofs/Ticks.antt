@@ -8,27 +8,27 @@ use Rattle.air_frames.specs.Flown.{Flown}
 use Rattle.air_frames.specs.Frames.{FramesState}
 use Rattle.air_frames.specs.History.{Mark}
 use Rattle.proof_traffic.specs.Flights.{Fly}
-use Rattle.mesh_sim.specs.Air.{AirState}
-use Rattle.host_model.specs.Events.{HostEvent}
-use Rattle.host_model.specs.Ticking.{tick_events}
-use Rattle.outside_model.specs.declared.waits.Call.{Call}
-use Rattle.outside_model.specs.declared.waits.Call.TheVariants.{OfFrame, NoRoute as no_route_call}
-use Rattle.outside_model.specs.declared.waits.Due.{Due}
-use Rattle.outside_model.specs.State.{OuterState, Outside}
-use Rattle.outside_model.specs.Events.{OuterEvent, Begins_tick, Arrives, Gives, Device_ticks, Chip_ticks, happens as happens_outside}
-use Rattle.outside_model.specs.Schedules.{Arrivals, Givings, DeviceTicks}
+use Rattle.proof_device.specs.mesh_sim.Air.{AirState}
+use Rattle.proof_serial.specs.host_model.Events.{HostEvent}
+use Rattle.proof_serial.specs.host_model.Ticking.{tick_events}
+use Rattle.proof_device.specs.outside_model.declared.waits.Call.{Call}
+use Rattle.proof_device.specs.outside_model.declared.waits.Call.TheVariants.{OfFrame, NoRoute as no_route_call}
+use Rattle.proof_device.specs.outside_model.declared.waits.Due.{Due}
+use Rattle.proof_device.specs.outside_model.State.{OuterState, Outside}
+use Rattle.proof_device.specs.outside_model.Events.{OuterEvent, Begins_tick, Arrives, Gives, Device_ticks, Chip_ticks, happens as happens_outside}
+use Rattle.proof_device.specs.outside_model.Schedules.{Arrivals, Givings, DeviceTicks}
 use Rattle.proof_traffic.specs.Requests.{Traffic}
 use Rattle.proof_traffic.specs.Requests as course
 use Rattle.proof_traffic.specs.Facts.{flying_in}
 use Rattle.proof_traffic.specs.HostTraffic.{Goes as HostGoes}
 use Rattle.proof_traffic.specs.OutsideTraffic.{flags, outward, no_routes_due, without_frame}
-use Rattle.world_model.specs.State.{Machine}
-use Rattle.world_model.specs.Events.{Event, Outside_does, Host_does, Decoder_ticks, happens}
-use Rattle.world_model.specs.Did.{happens_all, Schedule, Then, Nothing, PrefixOf, ThenPrefix}
-use Rattle.world_model.proofs.EventLists.{happens_all-append}
-use Rattle.world_model.specs.Settling.{Settles}
-use Rattle.world_model.specs.Ticking.{IsClockTick, IsDelivery, IsGiving, IsDeviceTick, IsOutsideTick, IsHostTick, IsTick, Ticks}
-use Rattle.world_model.specs.Prefixes.{SettlesPrefix, OutsideTickPrefix, TickPrefix, TicksPrefix}
+use Rattle.proof_device.specs.world_model.State.{Machine}
+use Rattle.proof_device.specs.world_model.Events.{Event, Outside_does, Host_does, Decoder_ticks, happens}
+use Rattle.proof_device.specs.world_model.Did.{happens_all, Schedule, Then, Nothing, PrefixOf, ThenPrefix}
+use Rattle.proof_device.proofs.EventLists.{happens_all-append}
+use Rattle.proof_device.specs.world_model.Settling.{Settles}
+use Rattle.proof_device.specs.world_model.Ticking.{IsClockTick, IsDelivery, IsGiving, IsDeviceTick, IsOutsideTick, IsHostTick, IsTick, Ticks}
+use Rattle.proof_device.specs.world_model.Prefixes.{SettlesPrefix, OutsideTickPrefix, TickPrefix, TicksPrefix}
 use Rattle.proof_traffic.specs.OnAir.{on_air, hosts_on_air}
 use Rattle.proof_traffic.specs.Course.{Follows, Goes}
 use Rattle.proof_traffic.proofs.Parts.{Laws}

@@ -7,9 +7,9 @@ use Rattle.proof_traffic.specs.Facts.{RequestFacts}
 use Rattle.proof_traffic.specs.HostTraffic.{Knows}
 use Rattle.proof_traffic.specs.OutsideTraffic.{AreNodes, words_all}
 use Rattle.proof_traffic.specs.OutsideTraffic as outer
-use Rattle.world_model.specs.State.{Machine}
-use Rattle.world_model.specs.Events.{Event}
-use Rattle.world_model.specs.Did.{happens_all}
+use Rattle.proof_device.specs.world_model.State.{Machine}
+use Rattle.proof_device.specs.world_model.Events.{Event}
+use Rattle.proof_device.specs.world_model.Did.{happens_all}
 use Rattle.proof_serial.specs.Chip.{HasFrames}
 use Rattle.proof_serial.specs.Line.{Carried, AreAtRest}
 use Rattle.proof_traffic.specs.OnAir.{on_air, AlwaysFew}

@@ -13,11 +13,11 @@ use Rattle.host_requests.specs.declared.task.Purpose.TheVariants.{Housekeeping, 
 use Rattle.host_requests.specs.declared.under_way.Progress.{Progress}
 use Rattle.host_requests.specs.declared.under_way.Progress.TheVariants.{Submitted}
 use Rattle.host_requests.specs.declared.under_way.UnderWay.{UnderWay}
-use Rattle.host_model.specs.declared.out.HostOut.{HostOut}
-use Rattle.host_model.specs.declared.out.HostOut.TheVariants.{Write, Note}
-use Rattle.host_model.specs.State.{HostState}
-use Rattle.host_model.specs.Events.{HostEvent}
-use Rattle.host_model.specs.Did.{after_all, outs_all}
+use Rattle.proof_serial.specs.host_model.declared.out.HostOut.{HostOut}
+use Rattle.proof_serial.specs.host_model.declared.out.HostOut.TheVariants.{Write, Note}
+use Rattle.proof_serial.specs.host_model.State.{HostState}
+use Rattle.proof_serial.specs.host_model.Events.{HostEvent}
+use Rattle.proof_serial.specs.host_model.Did.{after_all, outs_all}
 use Rattle.proof_traffic.specs.Requests.{Word, Send, Abort, Other, Pending, Traffic, Step}
 use Rattle.proof_traffic.specs.Requests as course
 

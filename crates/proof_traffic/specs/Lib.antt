@@ -6,3 +6,4 @@ pub mod OutsideTraffic
 pub mod OnAir
 pub mod Course
 pub mod Links
+pub use Rattle.proof_device.specs as proof_device

@@ -7,11 +7,11 @@ use Rattle.host_requests.specs.declared.task.Purpose.{Purpose}
 use Rattle.host_requests.specs.declared.task.Purpose.TheVariants.{Attempt, Abort}
 use Rattle.host_requests.specs.Frames.{frame_of}
 use Rattle.host_requests.specs.State.{next_id}
-use Rattle.host_model.specs.State.{HostState}
-use Rattle.host_model.specs.Events.{HostEvent, Hears, Line_ticks, Submits_abort, Submits_front, Starts, Gives_text, Gives_segment}
-use Rattle.host_model.specs.After.{after, task_purpose}
-use Rattle.world_model.specs.State.{Machine}
-use Rattle.world_model.specs.Events.{Event, Host_does, Host_takes, Restarts, happens}
+use Rattle.proof_serial.specs.host_model.State.{HostState}
+use Rattle.proof_serial.specs.host_model.Events.{HostEvent, Hears, Line_ticks, Submits_abort, Submits_front, Starts, Gives_text, Gives_segment}
+use Rattle.proof_serial.specs.host_model.After.{after, task_purpose}
+use Rattle.proof_device.specs.world_model.State.{Machine}
+use Rattle.proof_device.specs.world_model.Events.{Event, Host_does, Host_takes, Restarts, happens}
 
 -- the frame of a purpose is submitted
 abbrev pub submitted_for : HostState → Purpose → List Step

@@ -8,12 +8,12 @@ use Rattle.route_table.specs.declared.route.Route.{Route}
 use Rattle.air_frames.specs.Flown.{Flown}
 use Rattle.air_frames.specs.Frames.{FramesState}
 use Rattle.chip_sim.specs.Events.{Judged}
-use Rattle.outside_model.specs.State.{OuterState}
-use Rattle.outside_model.specs.Chip.{chip_does}
-use Rattle.outside_model.specs.Events.{OuterEvent, Chip_takes}
+use Rattle.proof_device.specs.outside_model.State.{OuterState}
+use Rattle.proof_device.specs.outside_model.Chip.{chip_does}
+use Rattle.proof_device.specs.outside_model.Events.{OuterEvent, Chip_takes}
 use Rattle.proof_traffic.specs.OutsideTraffic.{outward}
-use Rattle.world_model.specs.State.{Machine}
-use Rattle.world_model.specs.Events.{Event, Outside_does, happens}
+use Rattle.proof_device.specs.world_model.State.{Machine}
+use Rattle.proof_device.specs.world_model.Events.{Event, Outside_does, happens}
 
 -- the frames that were sent and have not arrived, oldest first: the last of those that are kept
 unfoldable pub on_air : FramesState → List Flown

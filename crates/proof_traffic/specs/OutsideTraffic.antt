@@ -10,13 +10,13 @@ use Rattle.air_frames.specs.declared.frame.Heading.TheVariants.{Outward, Homewar
 use Rattle.air_frames.specs.Flown.{Flown}
 use Rattle.air_frames.specs.History.{Mark}
 use Rattle.proof_traffic.specs.Flights.{Fly}
-use Rattle.outside_model.specs.declared.waits.Due.{Due}
-use Rattle.outside_model.specs.declared.waits.Due.TheVariants.{Info, NoRoute as no_route_due}
-use Rattle.outside_model.specs.declared.waits.Call.{Call}
-use Rattle.outside_model.specs.declared.waits.Call.TheVariants.{OfFrame, NoRoute as no_route_call}
-use Rattle.device_sim.specs.State.{State}
-use Rattle.outside_model.specs.State.{OuterState}
-use Rattle.outside_model.specs.Events.{OuterEvent, Gives, Chip_takes, Host_begins}
+use Rattle.proof_device.specs.outside_model.declared.waits.Due.{Due}
+use Rattle.proof_device.specs.outside_model.declared.waits.Due.TheVariants.{Info, NoRoute as no_route_due}
+use Rattle.proof_device.specs.outside_model.declared.waits.Call.{Call}
+use Rattle.proof_device.specs.outside_model.declared.waits.Call.TheVariants.{OfFrame, NoRoute as no_route_call}
+use Rattle.proof_device.specs.device_sim.State.{State}
+use Rattle.proof_device.specs.outside_model.State.{OuterState}
+use Rattle.proof_device.specs.outside_model.Events.{OuterEvent, Gives, Chip_takes, Host_begins}
 use Rattle.proof_traffic.specs.Requests.{Word, Traffic, Step}
 use Rattle.proof_traffic.specs.Requests as course
 use Rattle.proof_traffic.specs.Facts.{flying_in}

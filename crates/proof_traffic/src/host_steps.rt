@@ -3,11 +3,11 @@
 ghost use Rattle.std.specs.Prelude.{◌≡◌, List, []};
 ghost use Rattle.s0_crypto.specs.declared.key_pair.Keys.{Keys};
 ghost use Rattle.serial_frame.specs.declared.item.Item.{Item};
-ghost use Rattle.host_model.specs.State.{HostState, first_host};
-ghost use Rattle.host_model.specs.Events.{HostEvent};
-ghost use Rattle.host_model.specs.Pumping.{Pumps};
-ghost use Rattle.host_model.specs.Taking.{AreJudged};
-ghost use Rattle.host_model.specs.Ticking.{tick_events};
+ghost use Rattle.proof_serial.specs.host_model.State.{HostState, first_host};
+ghost use Rattle.proof_serial.specs.host_model.Events.{HostEvent};
+ghost use Rattle.proof_serial.specs.host_model.Pumping.{Pumps};
+ghost use Rattle.proof_serial.specs.host_model.Taking.{AreJudged};
+ghost use Rattle.proof_serial.specs.host_model.Ticking.{tick_events};
 ghost use Rattle.proof_traffic.specs.Requests.{Traffic, no_traffic};
 ghost use Rattle.proof_traffic.specs.HostTraffic.{Knows, Goes};
 

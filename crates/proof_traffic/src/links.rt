@@ -1,20 +1,20 @@
 //! The host as a link of the serial line: what it hears, submits and ticks obeys the rules of the line, from each start to the next.
 
 ghost use Rattle.std.specs.Prelude.{◌≡◌, ℕ, List, [], ◌++◌, Option};
-ghost use Rattle.device_sim.specs.State.{State};
+ghost use Rattle.proof_device.specs.device_sim.State.{State};
 ghost use Rattle.s0_crypto.specs.declared.key_pair.Keys.{Keys};
 ghost use Rattle.serial_link.specs.Rules.{Step};
 ghost use Rattle.chip_sim.specs.Link.{link_units};
 ghost use Rattle.host_keep.specs.declared.record.Record.{Record};
-ghost use Rattle.host_model.specs.State.{HostState, first_host};
-ghost use Rattle.host_model.specs.Opening.{opened};
-ghost use Rattle.host_model.specs.Events.{HostEvent};
-ghost use Rattle.host_model.specs.May.{May as MayHost};
-ghost use Rattle.host_model.specs.After.{after};
-ghost use Rattle.host_model.specs.Outs.{outs};
-ghost use Rattle.world_model.specs.State.{first_machine};
-ghost use Rattle.world_model.specs.Events.{Event};
-ghost use Rattle.world_model.specs.Did.{happens_all, MayAll};
+ghost use Rattle.proof_serial.specs.host_model.State.{HostState, first_host};
+ghost use Rattle.proof_serial.specs.host_model.Opening.{opened};
+ghost use Rattle.proof_serial.specs.host_model.Events.{HostEvent};
+ghost use Rattle.proof_serial.specs.host_model.May.{May as MayHost};
+ghost use Rattle.proof_serial.specs.host_model.After.{after};
+ghost use Rattle.proof_serial.specs.host_model.Outs.{outs};
+ghost use Rattle.proof_device.specs.world_model.State.{first_machine};
+ghost use Rattle.proof_device.specs.world_model.Events.{Event};
+ghost use Rattle.proof_device.specs.world_model.Did.{happens_all, MayAll};
 ghost use Rattle.proof_serial.specs.Host.{AllAskWell};
 ghost use Rattle.proof_serial.specs.Line.{host_units};
 ghost use Rattle.proof_traffic.specs.Links.{KeepsItsLink, host_link_steps, steps_since_start};

@@ -7,9 +7,9 @@ ghost use Rattle.route_table.specs.declared.route.Route.{Route as TheRoute};
 ghost use Rattle.air_frames.specs.Flown.{Flown};
 ghost use Rattle.air_frames.specs.History.{Mark};
 ghost use Rattle.proof_traffic.specs.Requests.{Word, Traffic, no_traffic};
-ghost use Rattle.outside_model.specs.State.{OuterState, Outside, first_outer};
-ghost use Rattle.outside_model.specs.Chip.{chip_takes};
-ghost use Rattle.outside_model.specs.Events.{OuterEvent, May, happens};
+ghost use Rattle.proof_device.specs.outside_model.State.{OuterState, Outside, first_outer};
+ghost use Rattle.proof_device.specs.outside_model.Chip.{chip_takes};
+ghost use Rattle.proof_device.specs.outside_model.Events.{OuterEvent, May, happens};
 ghost use Rattle.proof_traffic.specs.OutsideTraffic.{Follows, Goes, AreNodes, InTurn, words_all, no_routes_due};
 
 /// At first nothing is on its way. Each event is steps of the course: frames that arrive, results that come in the order of the chip's

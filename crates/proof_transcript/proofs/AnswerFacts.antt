@@ -31,14 +31,14 @@ use Rattle.host_model.specs.Facts.{IsCommandOf}
 use Rattle.host_model.specs.May.{known_of as known_of_host}
 use Rattle.host_model.proofs.RestoredFacts.{from_among}
 use Rattle.value_store.specs.Values.{count_with, stored_of}
-use Rattle.proof_host.specs.Facts.{AreShown, Facts}
-use Rattle.proof_host.specs.Laws.{accepted_for, number_for, numbers_for}
-use Rattle.proof_host.specs.Tables.{nodes_by, outcome_in, recorded}
-use Rattle.proof_once.specs.ByTable.{IsTable}
-use Rattle.proof_device.specs.GoingOn.{AreSame}
+use Rattle.proof_air.specs.proof_host.Facts.{AreShown, Facts}
+use Rattle.proof_air.specs.proof_host.Laws.{accepted_for, number_for, numbers_for}
+use Rattle.proof_air.specs.proof_host.Tables.{nodes_by, outcome_in, recorded}
+use Rattle.proof_spoken.specs.proof_once.ByTable.{IsTable}
+use Rattle.proof_spoken.specs.proof_device.GoingOn.{AreSame}
 use Rattle.proof_spoken.specs.Said.{KnowsListing}
-use Rattle.world_model.specs.State.{Machine}
-use Rattle.world_model.specs.Refusals.{HasBad}
+use Rattle.proof_air.specs.world_model.State.{Machine}
+use Rattle.proof_air.specs.world_model.Refusals.{HasBad}
 use Rattle.proof_air.specs.Hearing.{RefusesAlike}
 use Rattle.proof_transcript.specs.Answering.{AnswerTies, HostTies, may_be_taken_back}
 use Rattle.proof_transcript.specs.Told.{IsTold}
@@ -46,7 +46,7 @@ use Rattle.proof_transcript.proofs.KeptProperties.{same_count}
 use Rattle.proof_transcript.proofs.Nodes.{device_is, filter_has, has_any, any_has}
 use Rattle.proof_transcript.proofs.StoredPlaces.{KeepsNoMore}
 use Rattle.proof_transcript.proofs.StoredValues.{number_among}
-use Rattle.proof_once.proofs.BegunCommands.{accepted_here as node_here}
+use Rattle.proof_spoken.proofs.BegunCommands.{accepted_here as node_here}
 
 -- ---- lists of numbers
 

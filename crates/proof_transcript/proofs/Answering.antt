@@ -37,7 +37,7 @@ use Rattle.law_transcript.specs.Lists.{EachAfter, listed}
 use Rattle.law_transcript.specs.Answers.{AsksNothing, Follows, IsAnswer, IsNoAnswer, IsNoBadRecord, IsRefusal, LetsIn, MayAnswer, MayStandAfter, ReadsItsRecords, answer_to, answered_by, before_last, refusal_entry, refusals_to, refused_without}
 use Rattle.law_transcript.specs.Nodes.{device_of, is_joined, listing_of, always}
 use Rattle.law_transcript.specs.Repeats.{repeat_entry}
-use Rattle.proof_host.proofs.Lists.{each-weaker}
+use Rattle.proof_air.proofs.Lists.{each-weaker}
 use Rattle.host_model.specs.State.{HostState, node_of}
 use Rattle.host_model.specs.After.{node_for}
 use Rattle.host_model.specs.Events.{HostEvent, Accepts, Cancels, Joins as joins_host, Queues, Queues_interview, Queues_probe}
@@ -49,16 +49,16 @@ use Rattle.outside_model.specs.State.{Outcome}
 use Rattle.outside_model.specs.Devices.{MayAct, MayActByHand, acts, acts_at, acts_by_hand, shown_entries}
 use Rattle.outside_model.specs.Results.{device_at}
 use Rattle.outside_model.specs.Events.{OuterEvent, Repeats, Wakes_device, Sets_device, Shows, Joins, Discovers, Links, Loses, Loses_acks, Marks_loss, Marks_change, Clears_pipe, Collides_next, Stalls, Cuts, MayRepeat, cleared_entries, refusal_entries, repeats, stamp, way_of, outcome, devices_after, May as MayOutside}
-use Rattle.proof_device.proofs.Entered.{IsMark, IsCleared, all_cleared}
-use Rattle.world_model.specs.State.{Machine}
-use Rattle.world_model.specs.Events.{Event, Outside_does, Host_does, Refuses, Shows_values, Restarts, shown_values, happens, entries, May}
-use Rattle.world_model.specs.Refusals.{HasBad, IsRefusedBy, IsRefusedOrUnkept, IsUncancelled, IsUnopened, shown}
-use Rattle.world_model.specs.Lines.{Asks, IsDone, IsEffect}
-use Rattle.proof_walk.specs.Outside.{IsOfAir, IsHostNote}
-use Rattle.proof_walk.specs.ByLine.{Asked, begun, Opened, TiedByLine}
-use Rattle.proof_walk.specs.Walk.{TiedWalk}
-use Rattle.proof_walk.proofs.Alone.{KindsAre, acts_are, common_are, stamped_are, steps_are}
-use Rattle.proof_walk.proofs.ByLine.{last_is, said_last, opens, tied_walk_of}
+use Rattle.proof_spoken.proofs.Entered.{IsMark, IsCleared, all_cleared}
+use Rattle.proof_air.specs.world_model.State.{Machine}
+use Rattle.proof_air.specs.world_model.Events.{Event, Outside_does, Host_does, Refuses, Shows_values, Restarts, shown_values, happens, entries, May}
+use Rattle.proof_air.specs.world_model.Refusals.{HasBad, IsRefusedBy, IsRefusedOrUnkept, IsUncancelled, IsUnopened, shown}
+use Rattle.proof_air.specs.world_model.Lines.{Asks, IsDone, IsEffect}
+use Rattle.proof_air.specs.proof_walk.Outside.{IsOfAir, IsHostNote}
+use Rattle.proof_air.specs.proof_walk.ByLine.{Asked, begun, Opened, TiedByLine}
+use Rattle.proof_air.specs.proof_walk.Walk.{TiedWalk}
+use Rattle.proof_air.proofs.Alone.{KindsAre, acts_are, common_are, stamped_are, steps_are}
+use Rattle.proof_air.proofs.ByLine.{last_is, said_last, opens, tied_walk_of}
 use Rattle.proof_transcript.specs.Answering.{IsFree, AreFree, IsFreeEvent, AnswerTies, HostTies, IsAnswered, Answered, AwaitsAnswer, KnowsAnswers, IsAnswerOf, may_be_taken_back}
 
 -- ---- lists

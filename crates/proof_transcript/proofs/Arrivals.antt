@@ -27,7 +27,7 @@ use Rattle.outside_model.specs.State.{OuterState, Outside, Outcome, each}
 use Rattle.outside_model.specs.Air.{change_entries, change_at, sent_entries, deals}
 use Rattle.outside_model.specs.Results.{device_at}
 use Rattle.outside_model.specs.Events.{mesh_of, steps, repeats}
-use Rattle.proof_device.proofs.ChangesOutside.{fate_listens}
+use Rattle.proof_spoken.proofs.ChangesOutside.{fate_listens}
 use Rattle.proof_transcript.proofs.Plain.{change_plain}
 use Rattle.proof_transcript.proofs.KeptOverLists.{Keeps, Airs, Goes, IsSameTime, same_then, keeps_none, keeps_both, keeps_plain}
 use Rattle.proof_transcript.proofs.Outcomes.{goes_still, then_goes, ends_goes, hears_goes}

@@ -30,13 +30,13 @@ use Rattle.zw_text.proofs.Views.{folded-append}
 use Rattle.law_transcript.specs.Lists.{EachAfter}
 use Rattle.law_transcript.specs.Units.{Carried, arrived_of, function_in, read_well, sending_in, sending_of}
 use Rattle.law_transcript.specs.Carrying.{ArePicked, MaySend, asked, asked_by, asked_in, body_of, frame_text, is_request, sent_out}
-use Rattle.proof_device.proofs.Entered.{IsMark, told_by_marks}
-use Rattle.proof_host.proofs.Lists.{each-anywhere}
+use Rattle.proof_spoken.proofs.Entered.{IsMark, told_by_marks}
+use Rattle.proof_air.proofs.Lists.{each-anywhere}
 use Rattle.outside_model.specs.State.{OuterState}
-use Rattle.proof_serial.specs.Way.{changed_item, items_of, unit_item}
-use Rattle.proof_serial.proofs.ChangedUnits.{changed_text}
-use Rattle.proof_serial.proofs.Ways.{carries_more, same_room}
-use Rattle.proof_walk.proofs.Bodies.{body_is}
+use Rattle.proof_spoken.specs.proof_serial.Way.{changed_item, items_of, unit_item}
+use Rattle.proof_spoken.proofs.ChangedUnits.{changed_text}
+use Rattle.proof_spoken.proofs.Ways.{carries_more, same_room}
+use Rattle.proof_air.proofs.Bodies.{body_is}
 use Rattle.proof_transcript.specs.Carrying.{Underway, sends_in, sends_of}
 use Rattle.proof_transcript.proofs.Picked.{IsNoFrame, asked-append, picked_both, picked_same, same_sent}
 

@@ -27,17 +27,17 @@ use Rattle.host_model.specs.State.{HostState}
 use Rattle.host_model.specs.Facts.{HostFacts}
 use Rattle.host_model.specs.May.{IsStart}
 use Rattle.host_model.specs.Events.{HostEvent, Begins, Cancels, Starts}
-use Rattle.proof_host.specs.Entries.{IsAside, entries_at}
-use Rattle.proof_host.specs.Facts.{Facts}
-use Rattle.proof_host.proofs.Lists.{each-append}
+use Rattle.proof_air.specs.proof_host.Entries.{IsAside, entries_at}
+use Rattle.proof_air.specs.proof_host.Facts.{Facts}
+use Rattle.proof_air.proofs.Lists.{each-append}
 use Rattle.outside_model.specs.State.{OuterState}
 use Rattle.outside_model.specs.Events.{devices_after, outcome, ticked_entry}
-use Rattle.world_model.specs.State.{Machine}
-use Rattle.world_model.specs.Events.{Event, Host_does, Host_takes, entries, happens, May}
-use Rattle.world_model.specs.Did.{happens_all, entries_all, MayAll}
+use Rattle.proof_air.specs.world_model.State.{Machine}
+use Rattle.proof_air.specs.world_model.Events.{Event, Host_does, Host_takes, entries, happens, May}
+use Rattle.proof_air.specs.world_model.Did.{happens_all, entries_all, MayAll}
 use Rattle.proof_spoken.specs.Restarts.{AllStartWell, StartsWell}
 use Rattle.proof_spoken.proofs.Aside.{Asides, told_aside}
-use Rattle.world_lines.specs.Spoken.{Spoken, after, entries_of, transcript_of}
+use Rattle.proof_air.specs.world_lines.Spoken.{Spoken, after, entries_of, transcript_of}
 use Rattle.proof_spoken.specs.Spoken.{AreSpoken, IsSpoken}
 use Rattle.proof_spoken.proofs.Plain.{spoken_part}
 use Rattle.proof_transcript.proofs.Common.{IsCommon, IsNoBeginning, aside_common, event_common}

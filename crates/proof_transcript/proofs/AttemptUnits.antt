@@ -17,7 +17,7 @@ use Rattle.host_requests.specs.declared.task.Purpose.TheVariants.{Attempt}
 use Rattle.host_requests.specs.Frames.{frame_of}
 use Rattle.law_transcript.specs.Payloads.{GoesTo}
 use Rattle.law_transcript.specs.Units.{body_in, read_well, sending_in, sending_of}
-use Rattle.proof_walk.proofs.Bodies.{body_is}
+use Rattle.proof_air.proofs.Bodies.{body_is}
 
 goes : (n : ℕ) (payload : List ℕ) (id : ℕ) (r : Result Request BodyFault) → r ≡ Ok (SendData n payload TRANSMIT_OPTIONS id) → GoesTo n (flat_map sending_of (read_well r))
 goes n payload id r is = subst (λ (x : Result Request BodyFault). GoesTo n (flat_map sending_of (read_well x))) (sym is) refl

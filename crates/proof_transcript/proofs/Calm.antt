@@ -10,14 +10,14 @@ use Rattle.host_model.specs.Ticking.{tick_events}
 use Rattle.outside_model.specs.State.{is_stalled}
 use Rattle.outside_model.specs.Events.{OuterEvent, Begins_tick, Arrives}
 use Rattle.outside_model.specs.Schedules.{TakesBy as ChipTakesBy, Arrivals, Givings, DeviceTicks}
-use Rattle.world_model.specs.State.{Machine}
-use Rattle.world_model.specs.Events.{Event, Outside_does, Host_does}
-use Rattle.world_model.specs.Did.{happens_all, Schedule, Then, Nothing, PrefixOf, ThenPrefix}
-use Rattle.world_model.specs.Settling.{IsPump, IsChipPart, IsHostPart, IsMove, TakesBy, IfMoved, Passes, Settles}
-use Rattle.world_model.specs.Ticking.{IsClockTick, IsDelivery, IsGiving, IsDeviceTick, IsChipTick, IsHostTick, IsTick}
-use Rattle.world_model.specs.Lines.{IsRefusal, IsDone, Asks, IsRestart, IsEffect}
-use Rattle.world_model.specs.Prefixes.{PassesPrefix, SettlesPrefix, TickPrefix, EffectPrefix}
-use Rattle.world_model.proofs.Pieces.{Of, Law, of_none, of_then}
+use Rattle.proof_air.specs.world_model.State.{Machine}
+use Rattle.proof_air.specs.world_model.Events.{Event, Outside_does, Host_does}
+use Rattle.proof_air.specs.world_model.Did.{happens_all, Schedule, Then, Nothing, PrefixOf, ThenPrefix}
+use Rattle.proof_air.specs.world_model.Settling.{IsPump, IsChipPart, IsHostPart, IsMove, TakesBy, IfMoved, Passes, Settles}
+use Rattle.proof_air.specs.world_model.Ticking.{IsClockTick, IsDelivery, IsGiving, IsDeviceTick, IsChipTick, IsHostTick, IsTick}
+use Rattle.proof_air.specs.world_model.Lines.{IsRefusal, IsDone, Asks, IsRestart, IsEffect}
+use Rattle.proof_air.specs.world_model.Prefixes.{PassesPrefix, SettlesPrefix, TickPrefix, EffectPrefix}
+use Rattle.proof_air.proofs.Pieces.{Of, Law, of_none, of_then}
 use Rattle.proof_transcript.proofs.Events.{IsQuiet, IsCalm}
 
 abbrev pub Calm : Schedule

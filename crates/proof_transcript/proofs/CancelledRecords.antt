@@ -21,10 +21,10 @@ use Rattle.host_model.specs.Outs.{outs, ended_of}
 use Rattle.host_model.specs.declared.out.HostOut.{HostOut}
 use Rattle.host_model.specs.declared.out.HostOut.TheVariants.{Write, Note}
 use Rattle.host_model.proofs.Silence.{Silent}
-use Rattle.proof_host.specs.Entries.{IsAside, notes_of, entries_at}
-use Rattle.proof_device.proofs.HostOuts.{OutsAre, OwnIs, SharedAre, outs_are}
-use Rattle.world_model.specs.State.{Machine, host_does, host_entries, routed}
-use Rattle.world_model.proofs.Hosting.{entries_cons}
+use Rattle.proof_air.specs.proof_host.Entries.{IsAside, notes_of, entries_at}
+use Rattle.proof_spoken.proofs.HostOuts.{OutsAre, OwnIs, SharedAre, outs_are}
+use Rattle.proof_air.specs.world_model.State.{Machine, host_does, host_entries, routed}
+use Rattle.proof_air.proofs.Hosting.{entries_cons}
 use Rattle.outside_model.specs.Events.{Host_notes}
 use Rattle.outside_model.specs.Did.{entries_all as entries_all_outside}
 use Rattle.proof_spoken.proofs.Aside.{Asides}

@@ -22,7 +22,7 @@ use Rattle.law_transcript.specs.Lists.{EachAfter}
 use Rattle.law_transcript.specs.Nodes.{controller}
 use Rattle.law_transcript.specs.Units.{Carried}
 use Rattle.law_transcript.specs.Carrying.{ArePicked, MaySend, asked, sent_out}
-use Rattle.proof_host.proofs.Lists.{each-append}
+use Rattle.proof_air.proofs.Lists.{each-append}
 use Rattle.host_model.specs.State.{HostState}
 use Rattle.host_model.specs.Events.{HostEvent}
 use Rattle.host_model.specs.Did.{outs_all}
@@ -32,18 +32,18 @@ use Rattle.host_model.specs.declared.out.HostOut.TheVariants.{Write, Note}
 use Rattle.outside_model.specs.State.{OuterState, Outside}
 use Rattle.outside_model.specs.Events.{OuterEvent, Host_writes, Host_takes as host_takes, Host_notes, Host_begins, Chip_takes, Clears_pipe, is_own, outcome, stamp, ticked_entry, happens as happens_outside, entries as entries_outside}
 use Rattle.outside_model.specs.Did.{happens_all as happens_all_outside, entries_all as entries_all_outside}
-use Rattle.world_model.specs.State.{Machine, first_machine, host_does, routed}
-use Rattle.world_model.specs.Events.{Event, Outside_does, Host_does, Host_takes, Decoder_ticks, Refuses, Shows_values, Restarts, notes, shown_values, happens, entries, May}
-use Rattle.world_model.specs.Did.{AllAlong}
-use Rattle.proof_serial.specs.Line.{AllAtRest, AllWriteWell, Becomes, LineAfter, host_units, outer_up}
-use Rattle.proof_serial.specs.Line as line
-use Rattle.proof_serial.specs.Way.{Carries}
-use Rattle.proof_serial.specs.Chip.{HasFrames}
-use Rattle.proof_serial.proofs.First.{first_carried, first_frames}
-use Rattle.proof_walk.specs.Outside.{IsNote}
-use Rattle.proof_walk.specs.Phases.{Phase}
-use Rattle.proof_walk.specs.Walk.{Walk, WalkWhere, both_know}
-use Rattle.proof_walk.proofs.Machines.{UnitsAre, answers_keep, outs_keep}
+use Rattle.proof_air.specs.world_model.State.{Machine, first_machine, host_does, routed}
+use Rattle.proof_air.specs.world_model.Events.{Event, Outside_does, Host_does, Host_takes, Decoder_ticks, Refuses, Shows_values, Restarts, notes, shown_values, happens, entries, May}
+use Rattle.proof_air.specs.world_model.Did.{AllAlong}
+use Rattle.proof_spoken.specs.proof_serial.Line.{AllAtRest, AllWriteWell, Becomes, LineAfter, host_units, outer_up}
+use Rattle.proof_spoken.specs.proof_serial.Line as line
+use Rattle.proof_spoken.specs.proof_serial.Way.{Carries}
+use Rattle.proof_spoken.specs.proof_serial.Chip.{HasFrames}
+use Rattle.proof_spoken.proofs.First.{first_carried, first_frames}
+use Rattle.proof_air.specs.proof_walk.Outside.{IsNote}
+use Rattle.proof_air.specs.proof_walk.Phases.{Phase}
+use Rattle.proof_air.specs.proof_walk.Walk.{Walk, WalkWhere, both_know}
+use Rattle.proof_air.proofs.Machines.{UnitsAre, answers_keep, outs_keep}
 use Rattle.proof_spoken.proofs.Aside.{stamp_are}
 use Rattle.proof_air.specs.Hearing.{KnowAir, MayHear}
 use Rattle.proof_air.proofs.Handling.{tie_here}

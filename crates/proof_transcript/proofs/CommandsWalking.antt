@@ -8,15 +8,15 @@ use Rattle.host_model.specs.Ticking.{first_ticks, tick_events, ticking_nodes}
 use Rattle.host_model.specs.Did.{after_all}
 use Rattle.outside_model.specs.Events.{OuterEvent}
 use Rattle.outside_model.specs.State.{is_stalled}
-use Rattle.world_model.specs.State.{Machine}
-use Rattle.world_model.specs.Events.{Event, Outside_does, Host_does, Decoder_ticks, happens}
-use Rattle.world_model.specs.Did.{happens_all, AllAlong, PrefixOf, Nothing, Schedule, Then, ThenPrefix}
-use Rattle.world_model.specs.Settling.{Outside, IsPump, IsChipPart, IsHostPart, IsMove, IfMoved, Passes, Settles, TakesBy}
-use Rattle.world_model.specs.Ticking.{IsClockTick, IsDelivery, IsGiving, IsDeviceTick, IsChipTick, IsOutsideTick, IsHostTick, IsTick, Ticks}
-use Rattle.world_model.specs.Lines.{IsEffect, IsLineBegin, IsLineRest}
-use Rattle.world_model.specs.Prefixes.{PassesPrefix, SettlesPrefix, OutsideTickPrefix, TickPrefix, TicksPrefix, EffectPrefix, LineRestPrefix, LinePart}
-use Rattle.world_model.proofs.Along.{IsAskedBy, IsOfEffect, along, anywhere, effect_along}
-use Rattle.world_model.proofs.Pieces.{Law, Of}
+use Rattle.proof_air.specs.world_model.State.{Machine}
+use Rattle.proof_air.specs.world_model.Events.{Event, Outside_does, Host_does, Decoder_ticks, happens}
+use Rattle.proof_air.specs.world_model.Did.{happens_all, AllAlong, PrefixOf, Nothing, Schedule, Then, ThenPrefix}
+use Rattle.proof_air.specs.world_model.Settling.{Outside, IsPump, IsChipPart, IsHostPart, IsMove, IfMoved, Passes, Settles, TakesBy}
+use Rattle.proof_air.specs.world_model.Ticking.{IsClockTick, IsDelivery, IsGiving, IsDeviceTick, IsChipTick, IsOutsideTick, IsHostTick, IsTick, Ticks}
+use Rattle.proof_air.specs.world_model.Lines.{IsEffect, IsLineBegin, IsLineRest}
+use Rattle.proof_air.specs.world_model.Prefixes.{PassesPrefix, SettlesPrefix, OutsideTickPrefix, TickPrefix, TicksPrefix, EffectPrefix, LineRestPrefix, LinePart}
+use Rattle.proof_air.proofs.Along.{IsAskedBy, IsOfEffect, along, anywhere, effect_along}
+use Rattle.proof_air.proofs.Pieces.{Law, Of}
 use Rattle.proof_transcript.proofs.Common.{IsNoBeginning}
 use Rattle.proof_transcript.proofs.PairedEvents.{Paired, BeginsNone, both_paired, none_paired, outside_none}
 use Rattle.proof_transcript.proofs.ServedNodes.{pump_paired}

@@ -17,8 +17,8 @@ use Rattle.host_model.specs.Facts.{HostFacts, IsCommandOf}
 use Rattle.host_model.specs.Holding.{Holds, Rise, as_kept, commands_of, ended_in, outcome_by, outcome_kept}
 use Rattle.host_model.proofs.Rising.{not_below, not_later, rise-left}
 use Rattle.host_model.proofs.Begun.{ended_so}
-use Rattle.proof_host.specs.Facts.{AreShown}
-use Rattle.proof_host.specs.Tables.{outcome_in, outcome_by as outcome_of_one, recorded}
+use Rattle.proof_air.specs.proof_host.Facts.{AreShown}
+use Rattle.proof_air.specs.proof_host.Tables.{outcome_in, outcome_by as outcome_of_one, recorded}
 
 -- ---- sessions whose commands rise
 

@@ -12,7 +12,7 @@ use Rattle.host_node.specs.TableState.{node_of, unknown_from, unknown_nodes, wit
 use Rattle.host_model.specs.State.{first_classes, first_host, first_nodes}
 use Rattle.outside_model.specs.State.{first_outer}
 use Rattle.law_transcript.specs.Nodes.{is_joined}
-use Rattle.world_model.specs.State.{first_machine}
+use Rattle.proof_air.specs.world_model.State.{first_machine}
 use Rattle.proof_transcript.proofs.Hosts.{joined_here, joined_in, joined_there}
 use Rattle.proof_transcript.specs.Told.{IsTold}
 use Rattle.proof_spoken.proofs.KnownClasses.{all_length}

@@ -19,11 +19,11 @@ use Rattle.mesh_sim.specs.Steps as mesh
 use Rattle.outside_model.specs.State.{OuterState, Outside, Outcome}
 use Rattle.outside_model.specs.Chip.{shown_via}
 use Rattle.outside_model.specs.Events.{OuterEvent, Begins_line, Begins_tick, Host_notes, Arrives, Repeats, Loses, is_own, outcome, stamp, has_entered, steps, repeats, happens as happens_outside, entries as entries_outside, May as MayOutside}
-use Rattle.world_model.specs.State.{Machine}
-use Rattle.world_model.specs.Events.{Event, Outside_does, happens, entries, May}
-use Rattle.world_model.specs.Did.{happens_all, entries_all, MayAll}
-use Rattle.world_lines.specs.Spoken.{Spoken, after, after_all, entries_of, transcript_of}
-use Rattle.world_lines.specs.Done.{AreDone}
+use Rattle.proof_air.specs.world_model.State.{Machine}
+use Rattle.proof_air.specs.world_model.Events.{Event, Outside_does, happens, entries, May}
+use Rattle.proof_air.specs.world_model.Did.{happens_all, entries_all, MayAll}
+use Rattle.proof_air.specs.world_lines.Spoken.{Spoken, after, after_all, entries_of, transcript_of}
+use Rattle.proof_air.specs.world_lines.Done.{AreDone}
 use Rattle.proof_transcript.proofs.Plain.{IsNoAir, plain_no_air}
 use Rattle.proof_transcript.proofs.KeptOverLists.{Keeps, Airs, Goes, keeps_none, keeps_both}
 use Rattle.proof_transcript.proofs.Arrivals.{IsFate, IsAgain, arrives_lands, repeats_again}

@@ -9,20 +9,20 @@ use Rattle.zw_text.specs.declared.entry.Entry.{Entry}
 use Rattle.zw_text.specs.declared.entry.Entry.TheVariants.{Said}
 use Rattle.zw_text.specs.Transcript.{line_of}
 use Rattle.law_transcript.specs.Lists.{EachAfter}
-use Rattle.proof_host.proofs.Lists.{each-append}
+use Rattle.proof_air.proofs.Lists.{each-append}
 use Rattle.outside_model.specs.State.{OuterState}
 use Rattle.outside_model.specs.Events.{OuterEvent, Begins_line, Loses, Repeats, outcome}
-use Rattle.world_model.specs.State.{Machine}
-use Rattle.world_model.specs.Events.{Event, Outside_does, happens, entries, May}
-use Rattle.world_model.specs.Did.{happens_all, entries_all, MayAll, Schedule, Then, ThenPrefix}
-use Rattle.world_model.specs.Settling.{Settles}
-use Rattle.world_model.specs.Ticking.{Ticks}
-use Rattle.world_model.specs.Lines.{IsEffect, IsLineBegin, IsLineRest, IsLine}
-use Rattle.world_model.specs.Prefixes.{SettlesPrefix, TicksPrefix, EffectPrefix, LineRestPrefix, LinePrefix, LinePart}
-use Rattle.world_model.proofs.EventLists.{happens_all-append, entries_all-append}
-use Rattle.world_lines.specs.Spoken.{Spoken, after, after_all, entries_of, transcript_of}
-use Rattle.world_lines.specs.Done.{AreDone}
-use Rattle.world_lines.specs.Whole.{AreWhole}
+use Rattle.proof_air.specs.world_model.State.{Machine}
+use Rattle.proof_air.specs.world_model.Events.{Event, Outside_does, happens, entries, May}
+use Rattle.proof_air.specs.world_model.Did.{happens_all, entries_all, MayAll, Schedule, Then, ThenPrefix}
+use Rattle.proof_air.specs.world_model.Settling.{Settles}
+use Rattle.proof_air.specs.world_model.Ticking.{Ticks}
+use Rattle.proof_air.specs.world_model.Lines.{IsEffect, IsLineBegin, IsLineRest, IsLine}
+use Rattle.proof_air.specs.world_model.Prefixes.{SettlesPrefix, TicksPrefix, EffectPrefix, LineRestPrefix, LinePrefix, LinePart}
+use Rattle.proof_air.proofs.EventLists.{happens_all-append, entries_all-append}
+use Rattle.proof_air.specs.world_lines.Spoken.{Spoken, after, after_all, entries_of, transcript_of}
+use Rattle.proof_air.specs.world_lines.Done.{AreDone}
+use Rattle.proof_air.specs.world_lines.Whole.{AreWhole}
 use Rattle.proof_transcript.proofs.KeptOverLists.{Keeps, keeps_none, keeps_both}
 use Rattle.proof_transcript.proofs.Events.{IsCalm}
 use Rattle.proof_transcript.proofs.Calm.{CalmlyAfter, Arriving, ArrivingPrefix, IsCalmLine, calm_settling, calm_settling_prefix, calm_effect, calm_effect_prefix, calm_restart_prefix, ticks_calmly, ticks_calmly_prefix}

@@ -16,10 +16,10 @@ use Rattle.outside_model.specs.State.{Outside, OuterState}
 use Rattle.outside_model.specs.Events.{Host_begins, Host_notes, Host_writes, entries as entries_outside, happens as happens_outside, outcome, stamp, ticked_entry}
 use Rattle.outside_model.specs.Did.{entries_all as entries_all_outside, happens_all as happens_all_outside}
 use Rattle.outside_model.proofs.EventLists.{entries_all-append}
-use Rattle.world_model.specs.State.{Machine, begun_in, host_does, host_entries, noted_by, routed}
-use Rattle.world_model.specs.Events.{Event, Outside_does, Host_does, Host_takes, Decoder_ticks, Refuses, Shows_values, Restarts, entries, fed, happens, notes, shown_values, May}
-use Rattle.world_model.specs.Did.{entries_all, MayAll}
-use Rattle.proof_host.specs.Entries.{IsAside, entries_at, notes_of}
+use Rattle.proof_air.specs.world_model.State.{Machine, begun_in, host_does, host_entries, noted_by, routed}
+use Rattle.proof_air.specs.world_model.Events.{Event, Outside_does, Host_does, Host_takes, Decoder_ticks, Refuses, Shows_values, Restarts, entries, fed, happens, notes, shown_values, May}
+use Rattle.proof_air.specs.world_model.Did.{entries_all, MayAll}
+use Rattle.proof_air.specs.proof_host.Entries.{IsAside, entries_at, notes_of}
 use Rattle.proof_spoken.proofs.Aside.{Asides, own_aside, ticked_aside, write_aside}
 
 module _ (Free : Entry → Type 0) (Of : HostEvent → Type 0) (aside : (entry : Entry) → IsAside entry → Free entry)

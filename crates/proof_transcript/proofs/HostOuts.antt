@@ -5,7 +5,7 @@ use Rattle.host_model.specs.Events.{HostEvent, Accepts}
 use Rattle.host_model.specs.Did.{outs_all}
 use Rattle.host_model.specs.declared.out.HostOut.{HostOut}
 use Rattle.host_model.specs.Outs.{answers}
-use Rattle.proof_device.proofs.HostOuts.{OutsAre, OwnIs, SharedAre, all_outs_are, answers_are}
+use Rattle.proof_spoken.proofs.HostOuts.{OutsAre, OwnIs, SharedAre, all_outs_are, answers_are}
 use Rattle.proof_transcript.proofs.Plain.{IsPlain, Plains}
 
 abbrev pub PlainOuts : List HostOut → Type 0

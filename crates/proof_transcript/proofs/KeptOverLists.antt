@@ -11,7 +11,7 @@ use Rattle.outside_model.specs.Air.{sent_entries}
 use Rattle.zw_text.specs.declared.entry.Entry.{Entry}
 use Rattle.zw_text.specs.declared.entry.Entry.TheVariants.{Air}
 use Rattle.law_transcript.specs.Lists.{EachAfter}
-use Rattle.proof_host.proofs.Lists.{each-append}
+use Rattle.proof_air.proofs.Lists.{each-append}
 use Rattle.proof_transcript.proofs.Plain.{IsPlain, Plains}
 
 -- Where the entries so far tell what is known of one state, these may stand after them, and then they tell it of another.

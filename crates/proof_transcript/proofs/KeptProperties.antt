@@ -28,11 +28,11 @@ use Rattle.host_orders.specs.Settings.{properties_of, settings}
 use Rattle.host_model.specs.State.{HostState, Command, command_at}
 use Rattle.host_model.specs.Facts.{IsSound}
 use Rattle.host_model.proofs.Values.{one_property, same_key}
-use Rattle.proof_host.specs.Facts.{Facts}
-use Rattle.proof_host.specs.Laws.{accepted_for, numbers_for}
-use Rattle.proof_host.specs.Tables.{nodes_by, taken_at, taken_by}
-use Rattle.proof_once.specs.ByTable.{IsTable}
-use Rattle.proof_once.specs.Tied.{settings_taken}
+use Rattle.proof_air.specs.proof_host.Facts.{Facts}
+use Rattle.proof_air.specs.proof_host.Laws.{accepted_for, numbers_for}
+use Rattle.proof_air.specs.proof_host.Tables.{nodes_by, taken_at, taken_by}
+use Rattle.proof_spoken.specs.proof_once.ByTable.{IsTable}
+use Rattle.proof_spoken.specs.proof_once.Tied.{settings_taken}
 use Rattle.proof_transcript.proofs.StoredPlaces.{IsSet, KeepsNoMore, or_later, either_of, append_among}
 use Rattle.supervision.proofs.OnceLemmas.{All-slice_get as at_place}
 use Rattle.proof_transcript.proofs.EndedRecords.{or_here as or_sooner}

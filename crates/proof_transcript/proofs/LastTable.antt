@@ -20,21 +20,21 @@ use Rattle.value_store.specs.Values.{held_of, stored_of}
 use Rattle.value_store.specs.declared.stored.Held.{Held}
 use Rattle.host_keep.specs.Kept.{Taken, value_among, value_by}
 use Rattle.host_model.specs.State.{HostState}
-use Rattle.proof_host.specs.Facts.{AreShown}
-use Rattle.proof_host.specs.Laws.{HostLaws, numbers_for}
-use Rattle.proof_host.specs.Stores.{StoresLaw, given_by}
-use Rattle.proof_host.specs.Tables.{taken_at}
-use Rattle.proof_host.proofs.Confirmed.{last_agree}
-use Rattle.world_model.specs.State.{Machine}
-use Rattle.world_model.specs.Did.{AllAlong}
-use Rattle.world_model.specs.Events.{shown_values}
-use Rattle.world_model.specs.Table.{node_entries, table_entries, value_entry}
-use Rattle.proof_once.specs.ByTable.{IsTable}
-use Rattle.proof_once.specs.Tied.{settings_taken}
-use Rattle.world_lines.specs.Spoken.{Spoken, after, after_all, entries_of, transcript_of}
-use Rattle.world_lines.specs.Done.{AreDone, IsRead, events_of}
-use Rattle.world_lines.specs.Whole.{AreWhole}
-use Rattle.proof_walk.proofs.Where.{along_parts}
+use Rattle.proof_air.specs.proof_host.Facts.{AreShown}
+use Rattle.proof_air.specs.proof_host.Laws.{HostLaws, numbers_for}
+use Rattle.proof_air.specs.proof_host.Stores.{StoresLaw, given_by}
+use Rattle.proof_air.specs.proof_host.Tables.{taken_at}
+use Rattle.proof_air.proofs.Confirmed.{last_agree}
+use Rattle.proof_air.specs.world_model.State.{Machine}
+use Rattle.proof_air.specs.world_model.Did.{AllAlong}
+use Rattle.proof_air.specs.world_model.Events.{shown_values}
+use Rattle.proof_air.specs.world_model.Table.{node_entries, table_entries, value_entry}
+use Rattle.proof_spoken.specs.proof_once.ByTable.{IsTable}
+use Rattle.proof_spoken.specs.proof_once.Tied.{settings_taken}
+use Rattle.proof_air.specs.world_lines.Spoken.{Spoken, after, after_all, entries_of, transcript_of}
+use Rattle.proof_air.specs.world_lines.Done.{AreDone, IsRead, events_of}
+use Rattle.proof_air.specs.world_lines.Whole.{AreWhole}
+use Rattle.proof_air.proofs.Where.{along_parts}
 use Rattle.proof_transcript.proofs.Hosts.{LeavesRecords}
 use Rattle.proof_transcript.specs.Told.{IsTold}
 use Rattle.proof_transcript.proofs.ToldState.{GoesOn, line_told}

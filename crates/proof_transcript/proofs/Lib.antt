@@ -59,3 +59,17 @@ pub use Rattle.proof_spoken.proofs.SpokenLines
 pub use Rattle.proof_spoken.proofs.Aside
 pub use Rattle.proof_spoken.proofs.Notes
 pub use Rattle.proof_spoken.proofs.FactsKept
+pub use Rattle.proof_spoken.proofs.HostOuts as proof_device_HostOuts
+pub use Rattle.proof_air.proofs.Lists
+pub use Rattle.proof_spoken.proofs.Always
+pub use Rattle.proof_spoken.proofs.Heard as proof_spoken_Heard
+pub use Rattle.proof_spoken.proofs.Classes
+pub use Rattle.proof_spoken.proofs.Hosts as proof_spoken_Hosts
+pub use Rattle.proof_spoken.proofs.Orders
+pub use Rattle.proof_spoken.proofs.HeldRecords
+pub use Rattle.proof_air.proofs.Bodies
+pub use Rattle.proof_air.proofs.ByLine
+pub use Rattle.proof_air.proofs.HostNotes
+pub use Rattle.proof_spoken.proofs.CommandsOfSessions
+pub use Rattle.proof_air.proofs.Alone
+pub use Rattle.proof_air.proofs.Shown as proof_walk_Shown

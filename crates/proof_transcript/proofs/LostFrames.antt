@@ -13,11 +13,11 @@ use Rattle.law_transcript.specs.Lists.{EachAfter, Has}
 use Rattle.law_transcript.specs.Restarts.{is_repeat, repeats as answers_repeat}
 use Rattle.mesh_sim.specs.Steps as mesh
 use Rattle.outside_model.specs.Events.{Begins_tick, Arrives, Loses, Repeats, outcome, steps, May as MayOutside}
-use Rattle.world_model.specs.State.{Machine}
-use Rattle.world_model.specs.Events.{Event, Outside_does, happens, entries, May}
-use Rattle.world_model.specs.Did.{happens_all, entries_all, MayAll}
-use Rattle.world_lines.specs.Spoken.{Spoken, transcript_of}
-use Rattle.world_lines.specs.Done.{AreDone}
+use Rattle.proof_air.specs.world_model.State.{Machine}
+use Rattle.proof_air.specs.world_model.Events.{Event, Outside_does, happens, entries, May}
+use Rattle.proof_air.specs.world_model.Did.{happens_all, entries_all, MayAll}
+use Rattle.proof_air.specs.world_lines.Spoken.{Spoken, transcript_of}
+use Rattle.proof_air.specs.world_lines.Done.{AreDone}
 use Rattle.proof_transcript.proofs.KeptOverLists.{Keeps, keeps_none, keeps_both}
 use Rattle.proof_transcript.proofs.Arrivals.{arrives_lands}
 use Rattle.proof_transcript.proofs.Events.{lands_keep, calm_keeps}

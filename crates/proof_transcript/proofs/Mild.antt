@@ -17,14 +17,14 @@ use Rattle.host_model.specs.Ticking.{tick_events}
 use Rattle.outside_model.specs.State.{is_stalled}
 use Rattle.outside_model.specs.Events.{OuterEvent, Begins_tick}
 use Rattle.outside_model.specs.Schedules.{TakesBy as ChipTakesBy, Arrivals, Givings, DeviceTicks, IsRepeat, IsWake, IsSet}
-use Rattle.world_model.specs.State.{Machine}
-use Rattle.world_model.specs.Events.{Event, Outside_does, Host_does, happens}
-use Rattle.world_model.specs.Did.{happens_all, MayAll, Schedule, Then}
-use Rattle.world_model.specs.Settling.{Outside, IsPump, IsChipPart, IsHostPart, IsMove, IfMoved, Passes, Settles, TakesBy}
-use Rattle.world_model.specs.Ticking.{IsDelivery, IsGiving, IsDeviceTick, IsChipTick, IsOutsideTick, IsHostTick, IsTick, Ticks}
-use Rattle.world_model.specs.Lines.{IsRefusal, IsDone, Asks, IsDiscovery, IsEffect}
+use Rattle.proof_air.specs.world_model.State.{Machine}
+use Rattle.proof_air.specs.world_model.Events.{Event, Outside_does, Host_does, happens}
+use Rattle.proof_air.specs.world_model.Did.{happens_all, MayAll, Schedule, Then}
+use Rattle.proof_air.specs.world_model.Settling.{Outside, IsPump, IsChipPart, IsHostPart, IsMove, IfMoved, Passes, Settles, TakesBy}
+use Rattle.proof_air.specs.world_model.Ticking.{IsDelivery, IsGiving, IsDeviceTick, IsChipTick, IsOutsideTick, IsHostTick, IsTick, Ticks}
+use Rattle.proof_air.specs.world_model.Lines.{IsRefusal, IsDone, Asks, IsDiscovery, IsEffect}
 use Rattle.host_model.proofs.Own.{IsOwn, pump_own, tick_own}
-use Rattle.world_model.proofs.Pieces.{Of, Law, of_then}
+use Rattle.proof_air.proofs.Pieces.{Of, Law, of_then}
 use Rattle.proof_transcript.proofs.Outer.{IsMildOuter}
 use Rattle.proof_transcript.proofs.Hosts.{IsNoJoin, LeavesRecords}
 use Rattle.proof_transcript.proofs.TicksBegun.{IsMild, AreMild, Goes, goes_none, goes_both, mild_goes, tick_goes}

@@ -19,9 +19,9 @@ use Rattle.law_transcript.proofs.Having.{all_has}
 use Rattle.host_model.specs.State.{HostState, node_of}
 use Rattle.outside_model.specs.Devices.{device_entries}
 use Rattle.outside_model.specs.Results.{device_at}
-use Rattle.world_model.specs.Table.{joined_nodes}
+use Rattle.proof_air.specs.world_model.Table.{joined_nodes}
 use Rattle.proof_transcript.proofs.Ordered.{Agree, Sorted, has_in_order, in_order_has, in_order_sorted, same_shown}
-use Rattle.proof_host.proofs.Values.{less_number}
+use Rattle.proof_air.proofs.Values.{less_number}
 
 -- ---- numbers in order
 

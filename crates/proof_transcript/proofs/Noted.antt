@@ -3,8 +3,8 @@ use Rattle.std.proofs.Common.{◌≡◌, Bool, true, false}
 use Rattle.host_model.specs.State.{HostState}
 use Rattle.host_model.specs.Outs.{outs}
 use Rattle.host_model.specs.Events.{HostEvent, Accepts, Hears_value}
-use Rattle.proof_host.specs.Entries.{notes_of}
-use Rattle.proof_device.proofs.HostOuts.{OwnIs, SharedAre, outs_are}
+use Rattle.proof_air.specs.proof_host.Entries.{notes_of}
+use Rattle.proof_spoken.proofs.HostOuts.{OwnIs, SharedAre, outs_are}
 use Rattle.proof_spoken.proofs.RoutineNotes.{notes_are}
 use Rattle.proof_transcript.proofs.Outer.{IsPlain, ArePlain}
 

@@ -13,8 +13,8 @@ use Rattle.law_transcript.specs.Records.{accepted_order, order_at, orders_accept
 use Rattle.host_keep.specs.Kept.{Taken}
 use Rattle.host_model.specs.State.{Command}
 use Rattle.host_model.specs.Holding.{taken_as}
-use Rattle.proof_host.specs.Laws.{MayAccept}
-use Rattle.proof_host.specs.Tables.{taken_at, taken_by}
+use Rattle.proof_air.specs.proof_host.Laws.{MayAccept}
+use Rattle.proof_air.specs.proof_host.Tables.{taken_at, taken_by}
 use Rattle.proof_spoken.specs.Said.{AreSaid, MayAnswer}
 
 -- the order that was taken, where one was

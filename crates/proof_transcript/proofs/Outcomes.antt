@@ -24,7 +24,7 @@ use Rattle.outside_model.specs.Chip.{put_out, chip_does}
 use Rattle.outside_model.specs.Results.{frame_ends, gives}
 use Rattle.outside_model.specs.Air.{to_chip, sent_entries}
 use Rattle.outside_model.specs.Devices.{changes_entries, new_changes, sends, acts, acts_at, acts_by_hand}
-use Rattle.proof_device.proofs.Results.{Gives, IsSameChip, ends_go, gives_go, to_chip_goes}
+use Rattle.proof_spoken.proofs.Results.{Gives, IsSameChip, ends_go, gives_go, to_chip_goes}
 use Rattle.proof_transcript.proofs.Plain.{Plains, told_plain, changes_plain}
 use Rattle.proof_transcript.proofs.KeptOverLists.{Keeps, Airs, Goes, IsSameTime, same_then, keeps_none, keeps_both, keeps_plain}
 

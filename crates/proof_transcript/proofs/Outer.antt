@@ -31,9 +31,9 @@ use Rattle.outside_model.specs.Chip.{put_out, chip_does}
 use Rattle.outside_model.specs.Air.{change_entries, sent_entries, deals}
 use Rattle.outside_model.specs.Devices.{changes_entries, new_changes, sends, acts_at, acts_by_hand, shown_entries}
 use Rattle.outside_model.specs.Events.{OuterEvent, Begins_line, Begins_tick, Host_writes, Host_takes, Host_notes, Host_begins, Chip_takes, Arrives, Gives as gives_due, Device_ticks, Chip_ticks, Repeats, Wakes_device, Sets_device, Shows, Clears_pipe, is_own, cleared_entries, mesh_of, steps, repeats, outcome, stamp, has_entered, ticked_entry, happens, entries}
-use Rattle.proof_device.proofs.Entered.{IsMark, told_by_marks, IsCleared, all_cleared, IsShown, all_shown, IsChange, change_entered, changes_entered}
-use Rattle.proof_device.proofs.Results.{Gives, ends_go, gives_go, to_chip_goes}
-use Rattle.proof_walk.proofs.Times.{outcome_time}
+use Rattle.proof_spoken.proofs.Entered.{IsMark, told_by_marks, IsCleared, all_cleared, IsShown, all_shown, IsChange, change_entered, changes_entered}
+use Rattle.proof_spoken.proofs.Results.{Gives, ends_go, gives_go, to_chip_goes}
+use Rattle.proof_air.proofs.Times.{outcome_time}
 
 -- an entry that says no line, and refuses one or reports a value only where that may be
 abbrev pub IsPlain : Bool → Bool → Entry → Type 0

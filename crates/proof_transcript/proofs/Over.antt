@@ -12,10 +12,10 @@ use Rattle.host_model.specs.Events.{Joins}
 use Rattle.host_model.specs.Facts.{HostFacts}
 use Rattle.host_model.specs.Holding.{HoldsAlone}
 use Rattle.host_model.specs.Opening.{opened}
-use Rattle.proof_host.specs.Facts.{Facts}
-use Rattle.world_model.specs.State.{Machine}
-use Rattle.world_model.specs.Events.{Event, Host_does, Restarts, OpensFrom, happens, entries, May}
-use Rattle.world_model.specs.Did.{AllAlong, MayAll}
+use Rattle.proof_air.specs.proof_host.Facts.{Facts}
+use Rattle.proof_air.specs.world_model.State.{Machine}
+use Rattle.proof_air.specs.world_model.Events.{Event, Host_does, Restarts, OpensFrom, happens, entries, May}
+use Rattle.proof_air.specs.world_model.Did.{AllAlong, MayAll}
 use Rattle.proof_spoken.specs.Restarts.{StartsWell, KeepsWell, AllKeepWell, AreHeld, IsHeld}
 use Rattle.proof_transcript.proofs.Hosts.{SameJoined}
 use Rattle.proof_transcript.proofs.ToldState.{GoesOn, StartsOver}

@@ -12,9 +12,9 @@ use Rattle.host_model.specs.Did.{MayAll as MayAllHost, after_all, records_all, t
 use Rattle.host_model.specs.Facts.{HostFacts}
 use Rattle.host_model.specs.Holding.{HoldsAlone}
 use Rattle.host_model.specs.Opening.{opened}
-use Rattle.world_model.specs.State.{Machine, with_texts}
-use Rattle.world_model.specs.Events.{Event, Outside_does, Host_does, Host_takes, Decoder_ticks, Refuses, Shows_values, Restarts, OpensFrom, happens, May}
-use Rattle.world_model.specs.Did.{MayAll, happens_all}
+use Rattle.proof_air.specs.world_model.State.{Machine, with_texts}
+use Rattle.proof_air.specs.world_model.Events.{Event, Outside_does, Host_does, Host_takes, Decoder_ticks, Refuses, Shows_values, Restarts, OpensFrom, happens, May}
+use Rattle.proof_air.specs.world_model.Did.{MayAll, happens_all}
 use Rattle.proof_transcript.proofs.StoredPlaces.{KeepsNoMore, OrdersStay, alone_keeps, event_keeps}
 
 -- what is known of a host whose keeper tells its records

@@ -9,9 +9,9 @@ use Rattle.law_transcript.specs.Records.{Shows, ShowsNode, cancelled_at, final_o
 use Rattle.host_keep.specs.Kept.{Interview, Kept, Taken, classes_said, node_of as kept_of_node}
 use Rattle.host_model.specs.State.{HostState, node_of}
 use Rattle.host_model.specs.Holding.{Holds}
-use Rattle.proof_host.specs.Facts.{AreShown, Facts}
-use Rattle.proof_host.specs.Laws.{HostLaws}
-use Rattle.proof_once.specs.ByTable.{IsTable}
+use Rattle.proof_air.specs.proof_host.Facts.{AreShown, Facts}
+use Rattle.proof_air.specs.proof_host.Laws.{HostLaws}
+use Rattle.proof_spoken.specs.proof_once.ByTable.{IsTable}
 use Rattle.proof_spoken.specs.Said.{AreSaid, KnowsListing}
 use Rattle.proof_transcript.proofs.EndedRecords.{node_ended}
 use Rattle.proof_transcript.proofs.OrderRecords.{orders_are}

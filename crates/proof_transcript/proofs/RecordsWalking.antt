@@ -21,19 +21,19 @@ use Rattle.host_model.proofs.EventLists.{all_in_range}
 use Rattle.outside_model.specs.State.{Outside}
 use Rattle.outside_model.specs.Events.{Host_notes, entries as entries_outside, outcome}
 use Rattle.outside_model.specs.Did.{entries_all as entries_all_outside}
-use Rattle.world_model.specs.State.{Machine, host_does, host_entries, routed, with_texts}
-use Rattle.world_model.specs.Events.{Event, Outside_does, Host_does, Host_takes, Decoder_ticks, Refuses, Shows_values, Restarts, fed, shown_values, happens, entries, May}
+use Rattle.proof_air.specs.world_model.State.{Machine, host_does, host_entries, routed, with_texts}
+use Rattle.proof_air.specs.world_model.Events.{Event, Outside_does, Host_does, Host_takes, Decoder_ticks, Refuses, Shows_values, Restarts, fed, shown_values, happens, entries, May}
 use Rattle.host_model.proofs.Silence.{judged_silent}
-use Rattle.world_lines.specs.Spoken.{Spoken, after_all, transcript_of}
-use Rattle.world_lines.specs.Done.{AreDone}
-use Rattle.world_lines.specs.Whole.{AreWhole}
-use Rattle.proof_host.specs.Entries.{IsAside, entries_at}
+use Rattle.proof_air.specs.world_lines.Spoken.{Spoken, after_all, transcript_of}
+use Rattle.proof_air.specs.world_lines.Done.{AreDone}
+use Rattle.proof_air.specs.world_lines.Whole.{AreWhole}
+use Rattle.proof_air.specs.proof_host.Entries.{IsAside, entries_at}
 use Rattle.proof_spoken.proofs.Aside.{own_aside, stamp_aside}
 use Rattle.proof_spoken.proofs.HeldRecords.{texts_both, texts_of_range}
 use Rattle.proof_spoken.proofs.Notes.{Trailing, event_following}
-use Rattle.proof_walk.specs.Phases.{Phase}
-use Rattle.proof_walk.specs.Walk.{Walk}
-use Rattle.proof_walk.proofs.Lines.{lines_lead}
+use Rattle.proof_air.specs.proof_walk.Phases.{Phase}
+use Rattle.proof_air.specs.proof_walk.Walk.{Walk}
+use Rattle.proof_air.proofs.Lines.{lines_lead}
 use Rattle.proof_transcript.specs.Records.{TellsCancelled, cancelled_by}
 use Rattle.proof_transcript.proofs.CancelledRecords.{asides_none, event_cancels, host_cancels, trailing_same}
 

@@ -13,8 +13,8 @@ use Rattle.mesh_sim.specs.Steps as mesh
 use Rattle.air_frames.specs.Ages.{refusal_of}
 use Rattle.outside_model.specs.State.{OuterState, Outside, Outcome}
 use Rattle.outside_model.specs.Events.{Repeats, stamp, has_entered, outcome, repeats}
-use Rattle.world_model.specs.State.{Machine}
-use Rattle.world_model.specs.Events.{Outside_does, happens, entries}
+use Rattle.proof_air.specs.world_model.State.{Machine}
+use Rattle.proof_air.specs.world_model.Events.{Outside_does, happens, entries}
 use Rattle.proof_transcript.proofs.KeptOverLists.{Keeps, Airs, Goes, keeps_both}
 use Rattle.proof_transcript.proofs.Arrivals.{IsAgain, repeats_again}
 use Rattle.proof_transcript.proofs.Events.{Stamps, stamped_keeps}

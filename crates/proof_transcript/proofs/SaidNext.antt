@@ -4,11 +4,11 @@ use Rattle.zw_text.specs.declared.line.Line.{Line}
 use Rattle.zw_text.specs.declared.entry.Entry.{Entry}
 use Rattle.zw_text.specs.declared.entry.Entry.TheVariants.{Said}
 use Rattle.zw_text.specs.Transcript.{line_of}
-use Rattle.world_model.specs.State.{Machine}
-use Rattle.world_model.specs.Lines.{IsLine}
-use Rattle.world_lines.specs.Spoken.{Spoken, after, after_all, entries_of, transcript_of}
-use Rattle.world_lines.specs.Done.{AreDone, IsDone}
-use Rattle.world_lines.specs.Whole.{AreWhole}
+use Rattle.proof_air.specs.world_model.State.{Machine}
+use Rattle.proof_air.specs.world_model.Lines.{IsLine}
+use Rattle.proof_air.specs.world_lines.Spoken.{Spoken, after, after_all, entries_of, transcript_of}
+use Rattle.proof_air.specs.world_lines.Done.{AreDone, IsDone}
+use Rattle.proof_air.specs.world_lines.Whole.{AreWhole}
 use Rattle.proof_transcript.specs.Told.{IsTold}
 use Rattle.proof_transcript.proofs.TicksBegun.{goes_none}
 use Rattle.proof_transcript.proofs.Mild.{IsOther}

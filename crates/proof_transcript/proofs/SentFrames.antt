@@ -61,9 +61,9 @@ use Rattle.outside_model.specs.Results.{device_at}
 use Rattle.outside_model.specs.Air.{change_at, deals, sent_entries}
 use Rattle.outside_model.specs.Devices.{acts, acts_at, acts_by_hand, changes_entries, new_changes}
 use Rattle.outside_model.specs.Events.{OuterEvent, Host_writes, Host_takes, Host_notes, Host_begins, Chip_takes, Arrives, Gives, Device_ticks, Chip_ticks, Repeats, Wakes_device, Sets_device, Shows, Marks_loss, Marks_change, Clears_pipe, is_own, mesh_of, outcome, repeats, steps}
-use Rattle.proof_device.proofs.Entered.{IsChange, IsCleared, IsShown, all_cleared, all_shown, change_entered, changes_entered}
-use Rattle.proof_device.proofs.Results.{Gives as GivesOn, IsGiven, ends_go, gives_go, to_chip_goes}
-use Rattle.proof_walk.proofs.Bodies.{body_is}
+use Rattle.proof_spoken.proofs.Entered.{IsChange, IsCleared, IsShown, all_cleared, all_shown, change_entered, changes_entered}
+use Rattle.proof_spoken.proofs.Results.{Gives as GivesOn, IsGiven, ends_go, gives_go, to_chip_goes}
+use Rattle.proof_air.proofs.Bodies.{body_is}
 use Rattle.proof_air.proofs.Judging.{JudgesNone, NoFrame, StartsSo, none_flies}
 use Rattle.proof_transcript.specs.Carrying.{sends_in, sends_of}
 use Rattle.proof_transcript.proofs.Picked.{AreQuiet, IsNoFrame, IsNoUnit, IsQuiet, none_sent, picked_both, quiet_no_frame, quiet_no_unit, sent-append}

@@ -19,7 +19,7 @@ use Rattle.host_model.specs.May.{IsFree, IsServed}
 use Rattle.host_model.specs.Events.{HostEvent, Begins, Queues_no_more, Drops_no_more}
 use Rattle.host_model.specs.Pumping.{GivesNext, IsNext, IsNextOf, IsNextOfNodes, IsPumped, IsServedBy, LetsSleep, Pumps, Submits}
 use Rattle.host_model.proofs.Pumps.{next_works}
-use Rattle.world_model.specs.Events.{Event, Host_does}
+use Rattle.proof_air.specs.world_model.Events.{Event, Host_does}
 use Rattle.proof_transcript.proofs.PairedEvents.{Paired, PairedBy, StartsNext}
 
 -- ---- the next node

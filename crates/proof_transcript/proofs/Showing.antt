@@ -12,22 +12,22 @@ use Rattle.zw_text.specs.declared.entry.Entry.TheVariants as entry
 use Rattle.zw_text.specs.Transcript.{line_of, line_last}
 use Rattle.law_transcript.specs.Lists.{EachAfter}
 use Rattle.law_transcript.specs.Nodes.{listing_of, always}
-use Rattle.law_wire.specs.Shown.{IsToShow, asked_to_show, to_show, to_show_from, to_show_step}
+use Rattle.law_host.specs.law_wire.Shown.{IsToShow, asked_to_show, to_show, to_show_from, to_show_step}
 use Rattle.law_host.specs.HostLegal.{IsShown, ShowsValues, values_now}
 use Rattle.outside_model.specs.Devices.{device_entries, kept_entries, shown_entries}
 use Rattle.outside_model.specs.Results.{device_at}
 use Rattle.outside_model.specs.Events.{Shows, stamp, outcome, devices_after}
-use Rattle.world_model.specs.State.{Machine}
-use Rattle.world_model.specs.Events.{Event, Outside_does, Shows_values, shown_values, happens, entries, May}
-use Rattle.world_model.specs.Lines.{IsEffect}
-use Rattle.proof_device.specs.Showing.{AreApart}
-use Rattle.proof_device.proofs.Entered.{IsMark, IsCleared}
-use Rattle.proof_host.proofs.Lists.{each-weaker}
-use Rattle.proof_walk.specs.Outside.{IsOfAir, IsHostNote}
-use Rattle.proof_walk.specs.ByLine.{CoversLine, ShowsNothing, Asked, begun, Opened, TiedByLine}
-use Rattle.proof_walk.specs.Walk.{TiedWalk}
-use Rattle.proof_walk.proofs.Alone.{AnswersAre, KindsAre, common_are, effect_are}
-use Rattle.proof_walk.proofs.ByLine.{effect_asks, last_is, said_last, opens, tied_walk_of}
+use Rattle.proof_air.specs.world_model.State.{Machine}
+use Rattle.proof_air.specs.world_model.Events.{Event, Outside_does, Shows_values, shown_values, happens, entries, May}
+use Rattle.proof_air.specs.world_model.Lines.{IsEffect}
+use Rattle.proof_spoken.specs.proof_device.Showing.{AreApart}
+use Rattle.proof_spoken.proofs.Entered.{IsMark, IsCleared}
+use Rattle.proof_air.proofs.Lists.{each-weaker}
+use Rattle.proof_air.specs.proof_walk.Outside.{IsOfAir, IsHostNote}
+use Rattle.proof_air.specs.proof_walk.ByLine.{CoversLine, ShowsNothing, Asked, begun, Opened, TiedByLine}
+use Rattle.proof_air.specs.proof_walk.Walk.{TiedWalk}
+use Rattle.proof_air.proofs.Alone.{AnswersAre, KindsAre, common_are, effect_are}
+use Rattle.proof_air.proofs.ByLine.{effect_asks, last_is, said_last, opens, tied_walk_of}
 use Rattle.proof_transcript.specs.Showing.{Stands, ShowsNone, IsPlain, ShownTies, AsksForNone, NoneDue, KnownThere, LeftToShow, KnowsShown}
 
 -- ---- kinds of entries

@@ -20,14 +20,14 @@ use Rattle.zw_text.proofs.Views.{shown-append}
 use Rattle.law_transcript.specs.Devices.{made_by}
 use Rattle.law_transcript.specs.Nodes.{device_of}
 use Rattle.law_transcript.specs.Table.{device_lines}
-use Rattle.law_wire.specs.Shown.{as_entered, change_of}
-use Rattle.world_model.specs.State.{Machine}
-use Rattle.world_model.specs.Did.{entries_all}
-use Rattle.world_model.proofs.EventLists.{entries_all-append}
-use Rattle.world_lines.specs.Spoken.{Spoken, after, entries_of, transcript_of}
-use Rattle.world_lines.specs.Done.{events_of}
-use Rattle.proof_device.specs.GoingOn.{AreSame, IsSame}
-use Rattle.proof_device.specs.Showing.{AllShow, Shows}
+use Rattle.law_host.specs.law_wire.Shown.{as_entered, change_of}
+use Rattle.proof_air.specs.world_model.State.{Machine}
+use Rattle.proof_air.specs.world_model.Did.{entries_all}
+use Rattle.proof_air.proofs.EventLists.{entries_all-append}
+use Rattle.proof_air.specs.world_lines.Spoken.{Spoken, after, entries_of, transcript_of}
+use Rattle.proof_air.specs.world_lines.Done.{events_of}
+use Rattle.proof_spoken.specs.proof_device.GoingOn.{AreSame, IsSame}
+use Rattle.proof_spoken.specs.proof_device.Showing.{AllShow, Shows}
 
 -- ---- values
 

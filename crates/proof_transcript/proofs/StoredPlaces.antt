@@ -43,12 +43,12 @@ use Rattle.host_model.specs.Facts.{HostFacts, IsCommandOf}
 use Rattle.host_model.specs.May.{May}
 use Rattle.host_model.specs.Holding.{HoldsAlone, taken_as}
 use Rattle.host_model.proofs.Values.{get-one, heard-confirming, reserved-reserving, stored-one, stored-reserving}
-use Rattle.proof_host.specs.Tables.{taken_at, taken_by}
-use Rattle.proof_once.specs.Tied.{KeepsOrders}
+use Rattle.proof_air.specs.proof_host.Tables.{taken_at, taken_by}
+use Rattle.proof_spoken.specs.proof_once.Tied.{KeepsOrders}
 use Rattle.proof_spoken.proofs.Orders.{push_is}
 use Rattle.supervision.proofs.OnceLemmas.{All-slice_get as at_place}
 use Rattle.host_model.proofs.Tests.{both_true as both}
-use Rattle.proof_host.proofs.Effects.{held_store}
+use Rattle.proof_air.proofs.Effects.{held_store}
 
 -- a command of the node sets the property
 pub record IsSet (commands : List Command) (n : ℕ) (p : Property) : Type 0 where

@@ -13,12 +13,12 @@ use Rattle.law_transcript.specs.Stores.{StoresConfirmed, node_at, store_at, stor
 use Rattle.law_transcript.proofs.Having.{all_has, has_shown, shown_has}
 use Rattle.host_model.specs.State.{Command, HostState, command_at}
 use Rattle.host_model.specs.Outs.{stored_entries}
-use Rattle.proof_host.specs.Facts.{AreShown}
-use Rattle.proof_host.specs.Laws.{accepted_for, number_for, numbers_for}
-use Rattle.proof_host.specs.Stores.{StoresLaw, stores_at, stores_by}
-use Rattle.proof_host.specs.Tables.{nodes_by, taken_at, taken_by}
-use Rattle.proof_once.specs.ByTable.{IsTable}
-use Rattle.proof_once.specs.Tied.{settings_taken}
+use Rattle.proof_air.specs.proof_host.Facts.{AreShown}
+use Rattle.proof_air.specs.proof_host.Laws.{accepted_for, number_for, numbers_for}
+use Rattle.proof_air.specs.proof_host.Stores.{StoresLaw, stores_at, stores_by}
+use Rattle.proof_air.specs.proof_host.Tables.{nodes_by, taken_at, taken_by}
+use Rattle.proof_spoken.specs.proof_once.ByTable.{IsTable}
+use Rattle.proof_spoken.specs.proof_once.Tied.{settings_taken}
 
 -- ---- a command that was accepted for a node is one of its commands
 

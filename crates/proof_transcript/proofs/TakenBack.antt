@@ -15,23 +15,23 @@ use Rattle.law_transcript.specs.Lists.{EachAfter}
 use Rattle.host_model.specs.State.{HostState}
 use Rattle.host_model.specs.Events.{HostEvent, Begins, Cancels}
 use Rattle.host_model.specs.Outs.{answers}
-use Rattle.proof_host.specs.Entries.{IsAside, entries_at}
-use Rattle.proof_host.specs.Laws.{MayEnd}
-use Rattle.proof_host.proofs.Lists.{each-append, each-anywhere}
+use Rattle.proof_air.specs.proof_host.Entries.{IsAside, entries_at}
+use Rattle.proof_air.specs.proof_host.Laws.{MayEnd}
+use Rattle.proof_air.proofs.Lists.{each-append, each-anywhere}
 use Rattle.outside_model.specs.Events.{Begins_line, devices_after, outcome}
-use Rattle.world_model.specs.State.{Machine}
-use Rattle.world_model.specs.Events.{Event, Outside_does, Host_does, Host_takes, entries, happens, May}
-use Rattle.world_model.specs.Did.{happens_all, entries_all, AllAlong, PrefixOf, MayAll}
-use Rattle.world_model.specs.Settling.{Settles}
-use Rattle.world_model.specs.Lines.{IsEffect, IsLineBegin}
-use Rattle.world_model.specs.Prefixes.{IsLineBefore, SettlesPrefix, LinePart}
-use Rattle.world_model.proofs.EventLists.{entries_all-append}
+use Rattle.proof_air.specs.world_model.State.{Machine}
+use Rattle.proof_air.specs.world_model.Events.{Event, Outside_does, Host_does, Host_takes, entries, happens, May}
+use Rattle.proof_air.specs.world_model.Did.{happens_all, entries_all, AllAlong, PrefixOf, MayAll}
+use Rattle.proof_air.specs.world_model.Settling.{Settles}
+use Rattle.proof_air.specs.world_model.Lines.{IsEffect, IsLineBegin}
+use Rattle.proof_air.specs.world_model.Prefixes.{IsLineBefore, SettlesPrefix, LinePart}
+use Rattle.proof_air.proofs.EventLists.{entries_all-append}
 use Rattle.host_model.proofs.Own.{IsOwn}
-use Rattle.world_model.proofs.Pieces.{Law, Pieces, of_settling, of_settling_prefix, of_line_part}
-use Rattle.world_model.proofs.Along.{IsAskedBy, IsOfPart, IsOfEffect, along, pieces_along, effect_along, anywhere}
+use Rattle.proof_air.proofs.Pieces.{Law, Pieces, of_settling, of_settling_prefix, of_line_part}
+use Rattle.proof_air.proofs.Along.{IsAskedBy, IsOfPart, IsOfEffect, along, pieces_along, effect_along, anywhere}
 use Rattle.host_model.proofs.Silence.{Silent, judged_silent}
-use Rattle.world_lines.specs.Spoken.{Spoken, after, entries_of, transcript_of}
-use Rattle.world_lines.specs.Done.{AreDone, IsDone}
+use Rattle.proof_air.specs.world_lines.Spoken.{Spoken, after, entries_of, transcript_of}
+use Rattle.proof_air.specs.world_lines.Done.{AreDone, IsDone}
 use Rattle.proof_transcript.proofs.Common.{IsCommon, IsNoTaking, aside_common, event_common}
 use Rattle.proof_transcript.proofs.HostLaws.{IsOf, events_free}
 use Rattle.proof_spoken.proofs.SaidOrders.{last_said}

@@ -24,14 +24,14 @@ use Rattle.host_model.specs.After.{after}
 use Rattle.host_model.specs.Outs.{outs, answers}
 use Rattle.host_model.specs.Did.{after_all, outs_all}
 use Rattle.host_model.specs.declared.out.HostOut.{HostOut}
-use Rattle.proof_host.specs.Entries.{note_of, notes_of}
+use Rattle.proof_air.specs.proof_host.Entries.{note_of, notes_of}
 use Rattle.outside_model.specs.State.{Outside}
 use Rattle.outside_model.specs.Events.{OuterEvent, Begins_tick, Repeats, Wakes_device, Sets_device, Shows, outcome}
 use Rattle.outside_model.specs.Did.{entries_all as entries_all_outside}
-use Rattle.world_model.specs.State.{Machine, host_does, host_entries, routed}
-use Rattle.world_model.specs.Events.{Event, Outside_does, Host_does, Host_takes, Decoder_ticks, Refuses, Shows_values, Restarts, entries, fed, happens, notes, shown_values, May}
-use Rattle.world_model.specs.Did.{happens_all, entries_all, MayAll}
-use Rattle.world_model.proofs.EventLists.{happens_all-append, entries_all-append}
+use Rattle.proof_air.specs.world_model.State.{Machine, host_does, host_entries, routed}
+use Rattle.proof_air.specs.world_model.Events.{Event, Outside_does, Host_does, Host_takes, Decoder_ticks, Refuses, Shows_values, Restarts, entries, fed, happens, notes, shown_values, May}
+use Rattle.proof_air.specs.world_model.Did.{happens_all, entries_all, MayAll}
+use Rattle.proof_air.proofs.EventLists.{happens_all-append, entries_all-append}
 use Rattle.proof_transcript.proofs.Outer.{IsPlain, ArePlain, IsMildOuter, own_clock, own_plain}
 use Rattle.proof_transcript.proofs.Noted.{HearsOnly, event_plain}
 use Rattle.proof_transcript.proofs.Hosts.{IsNoJoin, LeavesRecords, SameJoined, heard_in, joined_in, event_kept}

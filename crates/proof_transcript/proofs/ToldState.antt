@@ -24,20 +24,20 @@ use Rattle.host_node.specs.Steps.{after_join}
 use Rattle.value_store.specs.Values.{Values}
 use Rattle.host_node.specs.State.{NodeState}
 use Rattle.outside_model.specs.Events.{Begins_line, Clears_pipe, Joins as joins_outside, devices_after, outcome}
-use Rattle.world_model.specs.State.{Machine}
-use Rattle.world_model.specs.Events.{Event, Outside_does, Host_does, Refuses, Restarts, happens, entries}
-use Rattle.world_model.specs.Did.{happens_all, entries_all, AllAlong, MayAll, Then}
-use Rattle.world_model.proofs.EventLists.{happens_all-append, entries_all-append}
-use Rattle.world_model.specs.Settling.{Settles}
-use Rattle.world_model.specs.Lines.{IsLine, IsLineRest, IsEffect}
-use Rattle.world_lines.specs.Done.{IsRead}
+use Rattle.proof_air.specs.world_model.State.{Machine}
+use Rattle.proof_air.specs.world_model.Events.{Event, Outside_does, Host_does, Refuses, Restarts, happens, entries}
+use Rattle.proof_air.specs.world_model.Did.{happens_all, entries_all, AllAlong, MayAll, Then}
+use Rattle.proof_air.proofs.EventLists.{happens_all-append, entries_all-append}
+use Rattle.proof_air.specs.world_model.Settling.{Settles}
+use Rattle.proof_air.specs.world_model.Lines.{IsLine, IsLineRest, IsEffect}
+use Rattle.proof_air.specs.world_lines.Done.{IsRead}
 use Rattle.proof_transcript.specs.Told.{IsTold}
 use Rattle.proof_transcript.proofs.Outer.{ArePlain}
 use Rattle.proof_transcript.proofs.Hosts.{LeavesRecords, SameJoined, heard_in, joined_in, joined_here, joined_there}
 use Rattle.proof_transcript.proofs.TicksBegun.{IsMild, AreMild, Goes, goes_both, mild_goes, mild_weaker}
 use Rattle.proof_transcript.proofs.Mild.{IsOther, effect_mild, may_both, settling_mild, ticks_go}
 use Rattle.proof_transcript.proofs.Shown.{heard_again, heard_more, joined_more, joined_same, lines_more, unrefused}
-use Rattle.proof_walk.proofs.Clock.{asked-append}
+use Rattle.proof_air.proofs.Clock.{asked-append}
 use Rattle.proof_spoken.proofs.KnownClasses.{or_none}
 
 -- a host has a place for each node; one that starts again has the nodes of the one before, and has heard nothing

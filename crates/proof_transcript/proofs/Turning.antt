@@ -15,7 +15,7 @@ use Rattle.law_transcript.specs.Lists.{EachAfter}
 use Rattle.law_transcript.specs.Restarts.{is_repeat, repeats as answers_repeat}
 use Rattle.law_transcript.specs.Fates.{Flying, first_fate, first_fates, flying, flying_step, IsHeardSo, AllLanded, MayFare}
 use Rattle.proof_air.specs.Hearing.{MayRepeat}
-use Rattle.proof_host.proofs.Lists.{each-append, each-weaker}
+use Rattle.proof_air.proofs.Lists.{each-append, each-weaker}
 use Rattle.air_frames.specs.declared.frame.Heading.TheVariants.{Outward, Homeward}
 use Rattle.air_frames.specs.Flown.{Flown}
 use Rattle.air_frames.specs.Frames.{no_frames, putting, landing}
@@ -26,15 +26,15 @@ use Rattle.outside_model.specs.State.{OuterState, Outcome, first_outer}
 use Rattle.outside_model.specs.Chip.{shown_via}
 use Rattle.outside_model.specs.Events.{OuterEvent, Begins_tick, Arrives, Loses, Repeats, stamp, has_entered, outcome, steps, May as MayOutside}
 use Rattle.outside_model.specs.Schedules.{Arrivals, Delivers}
-use Rattle.world_model.specs.State.{Machine}
-use Rattle.world_model.specs.Events.{Event, Outside_does, happens, entries, May}
-use Rattle.world_model.specs.Did.{happens_all, entries_all, MayAll}
+use Rattle.proof_air.specs.world_model.State.{Machine}
+use Rattle.proof_air.specs.world_model.Events.{Event, Outside_does, happens, entries, May}
+use Rattle.proof_air.specs.world_model.Did.{happens_all, entries_all, MayAll}
 use Rattle.proof_transcript.proofs.Plain.{IsPlain}
 use Rattle.proof_transcript.proofs.KeptOverLists.{Keeps, Airs, IsAsAired, keeps_none}
 use Rattle.proof_transcript.proofs.Arrivals.{IsFate, Lands, arrives_lands}
-use Rattle.world_lines.specs.Spoken.{Spoken, after_all, transcript_of}
-use Rattle.world_lines.specs.Done.{AreDone}
-use Rattle.world_lines.specs.Whole.{AreWhole}
+use Rattle.proof_air.specs.world_lines.Spoken.{Spoken, after_all, transcript_of}
+use Rattle.proof_air.specs.world_lines.Done.{AreDone}
+use Rattle.proof_air.specs.world_lines.Whole.{AreWhole}
 use Rattle.proof_transcript.specs.Lines.{IsNoRepeat, RepeatsNone}
 use Rattle.proof_transcript.specs.Fares.{IsHeardBy, MayFareBy}
 use Rattle.proof_transcript.proofs.Events.{Stamps, calm_keeps}
@@ -42,7 +42,7 @@ use Rattle.proof_transcript.proofs.Calm.{Arriving, ArrivingPrefix}
 use Rattle.proof_transcript.proofs.FramesWalking.{Stands, Walks, RepeatsOnly, begun, lines_lead, lines_stand}
 use Rattle.proof_transcript.proofs.Repeating.{repeat_keeps}
 use Rattle.proof_transcript.proofs.MarkedFrames.{shown_one}
-use Rattle.proof_walk.proofs.ByLine.{last_is as last_after}
+use Rattle.proof_air.proofs.ByLine.{last_is as last_after}
 use Rattle.proof_transcript.proofs.LostFrames.{any_lines as all_any}
 
 -- so many more frames arrive in this tick: those that are due and have no fate yet. Until all have arrived, the last entry is not the words of a `repeat`.

@@ -23,12 +23,12 @@ use Rattle.host_model.specs.May.{known_of as known_of_host}
 use Rattle.host_model.specs.Asking.{places_refusal, refusal_for, Waits}
 use Rattle.outside_model.specs.Events.{Discovers}
 use Rattle.outside_model.specs.Results.{device_at}
-use Rattle.world_model.specs.State.{Machine}
-use Rattle.world_model.specs.Events.{Event, Outside_does, happens, entries}
-use Rattle.world_model.specs.Refusals.{HasBad}
-use Rattle.world_model.specs.Lines.{Asks, IsEffect}
-use Rattle.proof_walk.specs.ByLine.{KnownOf, by_line, Asked, begun, Opened}
-use Rattle.proof_walk.specs.Phases.{Phase}
+use Rattle.proof_air.specs.world_model.State.{Machine}
+use Rattle.proof_air.specs.world_model.Events.{Event, Outside_does, happens, entries}
+use Rattle.proof_air.specs.world_model.Refusals.{HasBad}
+use Rattle.proof_air.specs.world_model.Lines.{Asks, IsEffect}
+use Rattle.proof_air.specs.proof_walk.ByLine.{KnownOf, by_line, Asked, begun, Opened}
+use Rattle.proof_air.specs.proof_walk.Phases.{Phase}
 
 -- ---- entries
 

@@ -9,12 +9,12 @@ use Rattle.zw_text.specs.declared.entry.Entry.{Entry}
 use Rattle.law_transcript.specs.Units.{Carried, sending_in}
 use Rattle.law_transcript.specs.Carrying.{ArePicked, asked, sent_out}
 use Rattle.outside_model.specs.State.{OuterState}
-use Rattle.world_model.specs.State.{Machine}
-use Rattle.world_model.specs.Events.{Event}
-use Rattle.proof_serial.specs.Way.{Carries}
-use Rattle.proof_serial.specs.Chip.{HasFrames}
-use Rattle.proof_serial.specs.Line.{IsAtRest, WritesWell}
-use Rattle.proof_walk.specs.Phases.{Phase}
+use Rattle.proof_air.specs.world_model.State.{Machine}
+use Rattle.proof_air.specs.world_model.Events.{Event}
+use Rattle.proof_spoken.specs.proof_serial.Way.{Carries}
+use Rattle.proof_spoken.specs.proof_serial.Chip.{HasFrames}
+use Rattle.proof_spoken.specs.proof_serial.Line.{IsAtRest, WritesWell}
+use Rattle.proof_air.specs.proof_walk.Phases.{Phase}
 
 -- what an item that the chip judges asks to be sent
 abbrev pub sends_in : Item → List Carried

@@ -1,7 +1,7 @@
 -- Lines that repeat no frame (this project's own).
 use Rattle.zw_text.specs.declared.line.Line.{Line}
 use Rattle.zw_text.specs.declared.line.Line.TheVariants.{Repeat}
-use Rattle.world_lines.specs.Spoken.{Spoken}
+use Rattle.proof_air.specs.world_lines.Spoken.{Spoken}
 
 abbrev pub IsNoRepeat : Line → Type 0
 IsNoRepeat (Repeat frame) = ⊥

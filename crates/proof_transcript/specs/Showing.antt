@@ -9,15 +9,15 @@ use Rattle.zw_text.specs.declared.entry.Entry.TheVariants.{Said, Device, Json, T
 use Rattle.zw_text.specs.Transcript.{line_of, line_last}
 use Rattle.law_transcript.specs.Nodes.{device_of, listing_of, always}
 use Rattle.law_transcript.specs.Table.{device_lines}
-use Rattle.law_wire.specs.Shown.{IsToShow, as_entered, to_show}
+use Rattle.law_host.specs.law_wire.Shown.{IsToShow, as_entered, to_show}
 use Rattle.law_host.specs.HostLegal.{ShowsValues, values_now}
 use Rattle.outside_model.specs.Devices.{kept_entries}
 use Rattle.outside_model.specs.Events.{Shows}
-use Rattle.world_model.specs.State.{Machine}
-use Rattle.world_model.specs.Events.{Event, Outside_does, Shows_values, shown_values}
-use Rattle.proof_device.specs.Showing.{AreApart}
-use Rattle.proof_walk.specs.ByLine.{KnownOf, by_line, OfEffect, ShowsNothing, Asked, begun, Opened}
-use Rattle.proof_walk.specs.Phases.{Phase}
+use Rattle.proof_air.specs.world_model.State.{Machine}
+use Rattle.proof_air.specs.world_model.Events.{Event, Outside_does, Shows_values, shown_values}
+use Rattle.proof_spoken.specs.proof_device.Showing.{AreApart}
+use Rattle.proof_air.specs.proof_walk.ByLine.{KnownOf, by_line, OfEffect, ShowsNothing, Asked, begun, Opened}
+use Rattle.proof_air.specs.proof_walk.Phases.{Phase}
 
 -- ---- the laws
 

@@ -10,7 +10,7 @@ use Rattle.law_transcript.specs.Restarts.{ticks_asked}
 use Rattle.law_transcript.specs.Stores.{heard_value}
 use Rattle.value_store.specs.Values.{stored_of}
 use Rattle.host_model.specs.State.{node_of}
-use Rattle.world_model.specs.State.{Machine}
+use Rattle.proof_air.specs.world_model.State.{Machine}
 
 -- the clock counts the ticks that lines asked for; the joined nodes are node 2 and those of `join` lines that were not refused; what was heard of a
 -- property is what was reported since the last restart

@@ -4,16 +4,16 @@ ghost use Rattle.std.specs.Prelude.{false, true, Some, List, []};
 ghost use Rattle.s0_crypto.specs.declared.key_pair.Keys.{Keys};
 ghost use Rattle.device_sim.specs.State.{State};
 ghost use Rattle.law_transcript.specs.Answers.{AnswersLines, ReadsItsRecords};
-ghost use Rattle.world_model.specs.State.{first_machine};
-ghost use Rattle.world_lines.specs.Spoken.{Spoken, transcript_of};
-ghost use Rattle.world_lines.specs.Done.{AreDone};
-ghost use Rattle.world_lines.specs.Whole.{AreWhole};
+ghost use Rattle.proof_air.specs.world_model.State.{first_machine};
+ghost use Rattle.proof_air.specs.world_lines.Spoken.{Spoken, transcript_of};
+ghost use Rattle.proof_air.specs.world_lines.Done.{AreDone};
+ghost use Rattle.proof_air.specs.world_lines.Whole.{AreWhole};
 
 use crate::{lines_number_frames, what_is_told};
 use host_keep::texts_give_one_thing;
 use host_model::{a_host_begins_with_what_is_kept, a_restart_keeps_what_is_held, facts_are_kept};
+use proof_air::host::laws_follow;
 use proof_air::lines_refuse_what_is_old;
-use proof_host::laws_follow;
 use proof_spoken::world::{lines_keep_and_ask_well, restarts_go_on, the_machine_keeps_facts};
 use proof_spoken::{
     answers_stand_after_their_lines, interviews_give_what_is_known, lines_tell_what_nodes_list,

@@ -4,13 +4,13 @@ ghost use Rattle.std.specs.Prelude.{Some, List, []};
 ghost use Rattle.s0_crypto.specs.declared.key_pair.Keys.{Keys};
 ghost use Rattle.device_sim.specs.State.{State};
 ghost use Rattle.law_transcript.specs.Carrying.{CarriesUnits};
-ghost use Rattle.world_model.specs.State.{first_machine};
-ghost use Rattle.world_lines.specs.Spoken.{Spoken, transcript_of};
-ghost use Rattle.world_lines.specs.Done.{AreDone};
+ghost use Rattle.proof_air.specs.world_model.State.{first_machine};
+ghost use Rattle.proof_air.specs.world_lines.Spoken.{Spoken, transcript_of};
+ghost use Rattle.proof_air.specs.world_lines.Done.{AreDone};
 
 use chip_sim::rules_of_events;
 use proof_air::history_goes_on;
-use proof_serial::{hosts_write_well, units_are_judged_whole};
+use proof_spoken::serial::{hosts_write_well, units_are_judged_whole};
 use proof_spoken::world::lines_keep_and_ask_well;
 
 /// Over lines that are said one after another, the last of which an allocation failure may have cut short, over a keeper that tells its records and has none at

@@ -7,15 +7,15 @@ ghost use Rattle.law_transcript.specs.Answers.{CancelsWhenAsked};
 ghost use Rattle.law_transcript.specs.Nodes.{always, listing_of};
 ghost use Rattle.law_transcript.specs.Payloads.{BeginsWithUnit};
 ghost use Rattle.law_transcript.specs.Stores.{StoresConfirmed};
-ghost use Rattle.proof_host.specs.Laws.{HostLaws};
-ghost use Rattle.world_model.specs.State.{Machine, first_machine};
-ghost use Rattle.world_lines.specs.Spoken.{Spoken, transcript_of};
-ghost use Rattle.world_lines.specs.Done.{AreDone, events_of};
+ghost use Rattle.proof_air.specs.proof_host.Laws.{HostLaws};
+ghost use Rattle.proof_air.specs.world_model.State.{Machine, first_machine};
+ghost use Rattle.proof_air.specs.world_lines.Spoken.{Spoken, transcript_of};
+ghost use Rattle.proof_air.specs.world_lines.Done.{AreDone, events_of};
 ghost use Rattle.proof_spoken.specs.Restarts.{AllStartWell};
 
 use host_model::attempts_have_what_they_give;
 use host_requests::callback_ids;
-use proof_host::{asides_keep_facts, laws_follow};
+use proof_air::host::{asides_keep_facts, laws_follow};
 use proof_spoken::world::the_machine_keeps_facts;
 use proof_spoken::{
     answers_stand_after_their_lines, interviews_give_what_is_known, lines_tell_what_nodes_list,

@@ -6,11 +6,11 @@ ghost use Rattle.s0_crypto.specs.declared.key_pair.Keys.{Keys};
 ghost use Rattle.device_sim.specs.State.{State};
 ghost use Rattle.law_transcript.specs.Fates.{FaresInTurn, LosesMarked, NumbersFrames};
 ghost use Rattle.law_transcript.specs.Sessions.{KeepsSessions};
-ghost use Rattle.law_wire.specs.Serial.{ended};
-ghost use Rattle.world_model.specs.State.{first_machine};
-ghost use Rattle.world_lines.specs.Spoken.{Spoken, transcript_of};
-ghost use Rattle.world_lines.specs.Done.{AreDone};
-ghost use Rattle.world_lines.specs.Whole.{AreWhole};
+ghost use Rattle.law_host.specs.law_wire.Serial.{ended};
+ghost use Rattle.proof_air.specs.world_model.State.{first_machine};
+ghost use Rattle.proof_air.specs.world_lines.Spoken.{Spoken, transcript_of};
+ghost use Rattle.proof_air.specs.world_lines.Done.{AreDone};
+ghost use Rattle.proof_air.specs.world_lines.Whole.{AreWhole};
 ghost use Rattle.proof_transcript.specs.Lines.{RepeatsNone};
 
 /// Over any lines from the first on, the last of which an allocation failure may have cut short, each frame that goes on the air has the

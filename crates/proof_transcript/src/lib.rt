@@ -29,6 +29,7 @@ pub use frames::{
     all_frames_land_in_the_end, lines_lose_marked_frames, lines_number_frames,
     ticks_decide_each_frame,
 };
+pub use proof_air::host;
 pub use proof_spoken as spoken;
 pub use records::records_are_what_is_shown;
 pub use shows::lines_show_what_is_kept;

@@ -3,15 +3,15 @@
 ghost use Rattle.std.specs.Prelude.{Some, List, []};
 ghost use Rattle.s0_crypto.specs.declared.key_pair.Keys.{Keys};
 ghost use Rattle.device_sim.specs.State.{State};
-ghost use Rattle.world_model.specs.State.{first_machine};
-ghost use Rattle.world_lines.specs.Spoken.{Spoken, after_all, transcript_of};
-ghost use Rattle.world_lines.specs.Done.{AreDone};
-ghost use Rattle.world_lines.specs.Whole.{AreWhole};
+ghost use Rattle.proof_air.specs.world_model.State.{first_machine};
+ghost use Rattle.proof_air.specs.world_lines.Spoken.{Spoken, after_all, transcript_of};
+ghost use Rattle.proof_air.specs.world_lines.Done.{AreDone};
+ghost use Rattle.proof_air.specs.world_lines.Whole.{AreWhole};
 ghost use Rattle.proof_transcript.specs.Records.{HasRecords};
 
 use crate::what_is_told;
 use host_keep::a_text_is_of_one_record;
-use proof_host::laws_follow;
+use proof_air::host::laws_follow;
 use proof_spoken::world::{lines_keep_and_ask_well, restarts_go_on, the_machine_keeps_facts};
 use proof_spoken::{
     answers_stand_after_their_lines, interviews_give_what_is_known, lines_tell_what_nodes_list,

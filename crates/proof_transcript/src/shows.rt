@@ -5,18 +5,18 @@ ghost use Rattle.s0_crypto.specs.declared.key_pair.Keys.{Keys};
 ghost use Rattle.device_sim.specs.State.{State};
 ghost use Rattle.law_transcript.specs.Lists.{EachAfter};
 ghost use Rattle.law_transcript.specs.Nodes.{always, listing_of};
-ghost use Rattle.law_wire.specs.Serial.{ended};
-ghost use Rattle.law_wire.specs.Shown.{ShowsDevices};
+ghost use Rattle.law_host.specs.law_wire.Serial.{ended};
+ghost use Rattle.law_host.specs.law_wire.Shown.{ShowsDevices};
 ghost use Rattle.law_host.specs.HostLegal.{ShowsValues};
-ghost use Rattle.world_model.specs.State.{first_machine};
-ghost use Rattle.world_lines.specs.Spoken.{Spoken, transcript_of};
-ghost use Rattle.world_lines.specs.Done.{AreDone};
-ghost use Rattle.world_lines.specs.Whole.{AreWhole};
-ghost use Rattle.proof_device.specs.Showing.{AreApart};
+ghost use Rattle.proof_air.specs.world_model.State.{first_machine};
+ghost use Rattle.proof_air.specs.world_lines.Spoken.{Spoken, transcript_of};
+ghost use Rattle.proof_air.specs.world_lines.Done.{AreDone};
+ghost use Rattle.proof_air.specs.world_lines.Whole.{AreWhole};
+ghost use Rattle.proof_spoken.specs.proof_device.Showing.{AreApart};
 
 use crate::what_is_told;
-use proof_device::changes_are_shown;
-use proof_host::laws_follow;
+use proof_air::host::laws_follow;
+use proof_spoken::device::changes_are_shown;
 use proof_spoken::world::the_machine_keeps_facts;
 use proof_spoken::{
     answers_stand_after_their_lines, interviews_give_what_is_known, lines_tell_what_nodes_list,

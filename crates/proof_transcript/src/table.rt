@@ -7,17 +7,17 @@ ghost use Rattle.zw_text.specs.Transcript.{lines_run};
 ghost use Rattle.law_transcript.specs.Nodes.{always, listing_of};
 ghost use Rattle.law_transcript.specs.Restarts.{ticks_asked};
 ghost use Rattle.law_transcript.specs.Table.{table_of};
-ghost use Rattle.world_model.specs.State.{first_machine};
-ghost use Rattle.world_model.specs.Table.{table_entries};
-ghost use Rattle.world_lines.specs.Spoken.{Spoken, after_all, transcript_of};
-ghost use Rattle.world_lines.specs.Done.{AreDone};
+ghost use Rattle.proof_air.specs.world_model.State.{first_machine};
+ghost use Rattle.proof_air.specs.world_model.Table.{table_entries};
+ghost use Rattle.proof_air.specs.world_lines.Spoken.{Spoken, after_all, transcript_of};
+ghost use Rattle.proof_air.specs.world_lines.Done.{AreDone};
 ghost use Rattle.proof_transcript.specs.Told.{IsTold};
-ghost use Rattle.world_lines.specs.Whole.{AreWhole};
+ghost use Rattle.proof_air.specs.world_lines.Whole.{AreWhole};
 
 use host_keep::texts_give_one_thing;
 use host_model::a_restart_keeps_what_is_held;
 use host_node::a_restart_needs_the_records_alone;
-use proof_host::laws_follow;
+use proof_air::host::laws_follow;
 use proof_spoken::world::{lines_keep_and_ask_well, restarts_go_on, the_machine_keeps_facts};
 use proof_spoken::{
     answers_stand_after_their_lines, interviews_give_what_is_known, lines_tell_what_nodes_list,

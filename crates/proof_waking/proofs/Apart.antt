@@ -15,8 +15,8 @@ use Rattle.zw_text.specs.declared.entry.Entry.TheVariants as entry
 use Rattle.zw_text.specs.Transcript.{Unit_on, Way, folded, last_with, line_of, unit_at, unit_step, units, written}
 use Rattle.zw_text.specs.Transcript.Way.{Whole, Missed, Changed}
 use Rattle.zw_text.proofs.Views.{folded-append, shown-append}
-use Rattle.law_transcript.specs.Restarts.{begins_refused, is_restart, since_restart, since_restart_from}
-use Rattle.law_time.specs.Judged.{acknowledged, frame_whole, frames_come, is_acknowledgement, judged, last_of}
+use Rattle.proof_alone.specs.law_transcript.Restarts.{begins_refused, is_restart, since_restart, since_restart_from}
+use Rattle.proof_alone.specs.law_time.Judged.{acknowledged, frame_whole, frames_come, is_acknowledgement, judged, last_of}
 use Rattle.proof_alone.specs.Steps.{DidNotCome}
 use Rattle.proof_waking.specs.Judged.{TieFrames, frames_of}
 

@@ -25,9 +25,9 @@ use Rattle.supervision.specs.Host.{told_of}
 use Rattle.supervision.specs.declared.host_node.Told.{Told as TheTold}
 use Rattle.supervision.specs.declared.host_node.Told.TheVariants as told
 use Rattle.value_store.specs.Values.{count_with}
-use Rattle.law_transcript.specs.Units.{Carried, bringing_in, bringing_of, from_node, read_well}
-use Rattle.law_time.specs.Judged.{may_tell}
-use Rattle.law_time.specs.Waking.{is_notification, tells_waking}
+use Rattle.proof_alone.specs.law_transcript.Units.{Carried, bringing_in, bringing_of, from_node, read_well}
+use Rattle.proof_alone.specs.law_time.Judged.{may_tell}
+use Rattle.proof_alone.specs.law_time.Waking.{is_notification, tells_waking}
 use Rattle.host_keep.specs.declared.final_status.FinalStatus.{FinalStatus}
 use Rattle.host_heard.specs.Telling.{heard_at}
 use Rattle.host_heard.specs.declared.payload.Heard.{Heard}
@@ -42,7 +42,7 @@ use Rattle.host_model.specs.Events.{HostEvent, Requests_do, Interviews, Intervie
 use Rattle.host_model.specs.May.{says_listens}
 use Rattle.host_model.specs.Taking.{AreTaken, FinalEvents, FrameEvents, InterviewEvents, IsOpened, IsTaken, NonceGetEvents, NonceReportEvents, NoticeEvents, PayloadEvents, ReportEvents, ResponseEvents, SealedEvents, is_secure, resent, value_event, value_events}
 use Rattle.proof_alone.proofs.Always.{either, none, one}
-use Rattle.proof_walk.proofs.Bodies.{body_is}
+use Rattle.proof_alone.proofs.Bodies.{body_is}
 
 -- ---- which events may follow
 

@@ -18,11 +18,11 @@ use Rattle.zw_text.specs.declared.entry.Entry.{Entry}
 use Rattle.zw_text.specs.declared.entry.Entry.TheVariants as entry
 use Rattle.zw_text.specs.Transcript.{folded, line_of}
 use Rattle.zw_text.proofs.Views.{folded-append}
-use Rattle.law_transcript.specs.Lists.{EachAfter}
-use Rattle.law_transcript.specs.Restarts.{is_restart}
-use Rattle.law_time.specs.Judged.{after_step, is_following, is_mark, judged, last_of}
-use Rattle.law_time.specs.Moments.{Allows}
-use Rattle.law_time.specs.Waking.{may_wake}
+use Rattle.proof_alone.specs.law_transcript.Lists.{EachAfter}
+use Rattle.proof_alone.specs.law_transcript.Restarts.{is_restart}
+use Rattle.proof_alone.specs.law_time.Judged.{after_step, is_following, is_mark, judged, last_of}
+use Rattle.proof_alone.specs.law_time.Moments.{Allows}
+use Rattle.proof_alone.specs.law_time.Waking.{may_wake}
 use Rattle.host_requests.specs.Events.{RequestsEvent}
 use Rattle.host_requests.specs.Events.RequestsEvent.{Fails as request_fails, IsSent as request_is_sent}
 use Rattle.host_model.specs.State.{HostState}
@@ -33,7 +33,7 @@ use Rattle.host_model.specs.Taking.{IsFollowed, told_if}
 use Rattle.host_model.specs.Ticking.{tick_events}
 use Rattle.host_model.proofs.Own.{IsOwn, sleepers_own, submitted_own, tick_own}
 use Rattle.host_model.proofs.Submitted.{next_is as submitted_is, no_more_is}
-use Rattle.world_model.specs.Events.{shown_values}
+use Rattle.proof_alone.specs.world_model.Events.{shown_values}
 use Rattle.proof_alone.specs.State.{HostMachine, done}
 use Rattle.proof_alone.specs.Steps.{AreTold, AsksNothing, DidNotCome, IsAskedBy, IsOfOthers, IsOfUnit, Step, Tells, Comes, Misses, Says, Says_nothing, Asks, Refuses, Shows, Restarts, Begins_tick, Numbers, Judges, Does, entries, happens}
 use Rattle.proof_alone.specs.Phases.{Phase, Resting, Asked, Risen, Ticking, Open, Behind, Sleeping, Submitting, IsBetween, IsJudgedNow, IsNumbered, May, Turns}

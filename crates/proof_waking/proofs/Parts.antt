@@ -19,7 +19,7 @@ use Rattle.host_model.specs.Outs.{copy_out, dropped_if, failing_entries, held_en
 use Rattle.host_model.specs.declared.out.HostOut.{HostOut}
 use Rattle.host_model.specs.declared.out.HostOut.TheVariants.{Note, Write}
 use Rattle.host_model.proofs.Own.{IsOwn}
-use Rattle.proof_device.proofs.HostOuts.{OutsAre, SharedAre, outs_are}
+use Rattle.proof_alone.proofs.HostOuts.{OutsAre, SharedAre, outs_are}
 use Rattle.proof_alone.specs.Steps.{AreTold, IsOfUnit}
 use Rattle.proof_waking.specs.Judged.{IsOfRequest}
 use Rattle.proof_waking.proofs.Apart.{IsApart}

@@ -10,11 +10,11 @@ use Rattle.zw_text.specs.declared.entry.Entry.{Entry}
 use Rattle.zw_text.specs.declared.entry.Entry.TheVariants as entry
 use Rattle.zw_text.specs.Transcript.{folded}
 use Rattle.zw_text.proofs.Views.{folded-append}
-use Rattle.law_transcript.specs.Lists.{EachAfter}
-use Rattle.law_transcript.specs.Units.{Carried, bringing_in, from_node}
-use Rattle.law_time.specs.Judged.{after_step, brought_here, directly_step, is_acknowledgement, is_directly_after, is_following, is_mark, judged, judged_here, last_of, may_be_told}
-use Rattle.law_time.specs.Moments.{Allows}
-use Rattle.law_time.specs.Waking.{is_notification, may_wake, owes_waking, tells_waking}
+use Rattle.proof_alone.specs.law_transcript.Lists.{EachAfter}
+use Rattle.proof_alone.specs.law_transcript.Units.{Carried, bringing_in, from_node}
+use Rattle.proof_alone.specs.law_time.Judged.{after_step, brought_here, directly_step, is_acknowledgement, is_directly_after, is_following, is_mark, judged, judged_here, last_of, may_be_told}
+use Rattle.proof_alone.specs.law_time.Moments.{Allows}
+use Rattle.proof_alone.specs.law_time.Waking.{is_notification, may_wake, owes_waking, tells_waking}
 use Rattle.host_heard.specs.Telling.{heard_at}
 use Rattle.host_model.specs.State.{HostState}
 use Rattle.host_model.specs.Events.{HostEvent, Accepts, Notifies}
@@ -25,7 +25,7 @@ use Rattle.host_model.specs.Taking.{FrameEvents}
 use Rattle.host_model.specs.declared.out.HostOut.{HostOut}
 use Rattle.host_model.specs.declared.out.HostOut.TheVariants.{Note, Write}
 use Rattle.host_model.proofs.EventLists.{after_all-append, outs_all-append}
-use Rattle.proof_device.proofs.HostOuts.{OutsAre, OwnIs, SharedAre, outs_are}
+use Rattle.proof_alone.proofs.HostOuts.{OutsAre, OwnIs, SharedAre, outs_are}
 use Rattle.proof_alone.specs.State.{HostMachine, done}
 use Rattle.proof_alone.specs.Steps.{AreTold}
 use Rattle.proof_waking.specs.Judged.{IsBehindFrame, LastFrame, Settled, TieFrames}

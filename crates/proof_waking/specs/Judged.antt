@@ -11,7 +11,7 @@ use Rattle.zw_text.specs.declared.entry.Entry.{Entry}
 use Rattle.zw_text.specs.declared.entry.Entry.TheVariants.{Said}
 use Rattle.zw_text.specs.Transcript.{line_of}
 use Rattle.zw_text.specs.Transcript.Way.{Whole}
-use Rattle.law_time.specs.Judged.{acknowledged, frame_whole, frames_come, is_directly_after, is_following, judged, last_of}
+use Rattle.proof_alone.specs.law_time.Judged.{acknowledged, frame_whole, frames_come, is_directly_after, is_following, judged, last_of}
 use Rattle.host_model.specs.State.{HostState}
 use Rattle.host_model.specs.Events.{HostEvent, Requests_do}
 use Rattle.host_model.specs.Did.{after_all, outs_all}

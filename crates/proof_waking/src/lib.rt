@@ -12,4 +12,6 @@ mod judged;
 mod waking;
 
 pub use judged::hosts_judge_as_told;
+pub use proof_alone as alone;
+pub use proof_alone::traffic;
 pub use waking::{hosts_wake_as_told, lines_wake_as_told};

@@ -7,24 +7,24 @@ use Rattle.serial_pipes.specs.Events.{told}
 use Rattle.zw_words.specs.declared.side.Side.{Side}
 use Rattle.zw_words.specs.declared.side.Side.TheVariants.{Host as by_host}
 use Rattle.route_table.specs.declared.route.Route.{Route}
-use Rattle.device_sim.specs.State.{State}
-use Rattle.device_sim.specs.Event.{DeviceEvent}
-use Rattle.mesh_sim.specs.Steps.{AirStep, MayHappen}
+use Rattle.proof_device.specs.device_sim.State.{State}
+use Rattle.proof_device.specs.device_sim.Event.{DeviceEvent}
+use Rattle.proof_device.specs.mesh_sim.Steps.{AirStep, MayHappen}
 use Rattle.zw_text.specs.declared.entry.Entry.{Entry}
 use Rattle.zw_text.specs.declared.entry.Entry.TheVariants as entry
 use Rattle.zw_text.specs.declared.entry.Ended.TheVariants.{Cancelled}
 use Rattle.zw_text.specs.declared.entry.Refusal.{Refusal}
 use Rattle.zw_text.specs.Transcript.{line_of}
-use Rattle.law_transcript.specs.Lists.{EachAfter}
-use Rattle.host_model.specs.State.{HostState}
-use Rattle.host_model.specs.Events.{HostEvent, Accepts, Cancels}
-use Rattle.host_model.specs.Outs.{answers}
-use Rattle.outside_model.specs.State.{OuterState, Outside}
-use Rattle.outside_model.specs.Devices.{acts}
-use Rattle.outside_model.specs.Events.{OuterEvent, Host_writes, Host_takes as host_takes, Host_notes, Host_begins, Arrives, Repeats, Wakes_device, Sets_device, Shows, Clears_pipe, outcome, mesh_of, steps, stamp, happens as happens_outside, entries as entries_outside, Device_ticks}
-use Rattle.world_model.specs.State.{Machine}
-use Rattle.world_model.specs.Events.{Event, Outside_does, Host_does, Refuses, Shows_values, happens, entries, May}
-use Rattle.world_model.specs.Did.{MayAll, entries_all}
+use Rattle.proof_host.specs.law_transcript.Lists.{EachAfter}
+use Rattle.proof_host.specs.host_model.State.{HostState}
+use Rattle.proof_host.specs.host_model.Events.{HostEvent, Accepts, Cancels}
+use Rattle.proof_host.specs.host_model.Outs.{answers}
+use Rattle.proof_device.specs.outside_model.State.{OuterState, Outside}
+use Rattle.proof_device.specs.outside_model.Devices.{acts}
+use Rattle.proof_device.specs.outside_model.Events.{OuterEvent, Host_writes, Host_takes as host_takes, Host_notes, Host_begins, Arrives, Repeats, Wakes_device, Sets_device, Shows, Clears_pipe, outcome, mesh_of, steps, stamp, happens as happens_outside, entries as entries_outside, Device_ticks}
+use Rattle.proof_device.specs.world_model.State.{Machine}
+use Rattle.proof_device.specs.world_model.Events.{Event, Outside_does, Host_does, Refuses, Shows_values, happens, entries, May}
+use Rattle.proof_device.specs.world_model.Did.{MayAll, entries_all}
 use Rattle.proof_device.proofs.Entered.{IsMark, IsCleared}
 use Rattle.proof_device.proofs.Entering.{Enters, IsOfChip, IsShowing, MayAnswer, NotesNone, outcome_enters, own_notes_none, stamp_are, steps_enter, told_of_chip, Acts}
 use Rattle.proof_walk.specs.Outside.{HasNoWords, IsHearing, IsOfAir, IsNote, IsHostNote, CoversOuter, CoversRefusal, CoversAnswer, IsSimple}

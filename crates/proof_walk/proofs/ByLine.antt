@@ -9,23 +9,23 @@ use Rattle.zw_text.specs.declared.entry.Entry.{Entry}
 use Rattle.zw_text.specs.declared.entry.Entry.TheVariants as entry
 use Rattle.zw_text.specs.Transcript.{line_of, line_last, line_after}
 use Rattle.zw_text.proofs.Views.{folded-append}
-use Rattle.law_transcript.specs.Lists.{EachAfter}
+use Rattle.proof_host.specs.law_transcript.Lists.{EachAfter}
 use Rattle.host_orders.specs.declared.refused.Refused.{Refused}
 use Rattle.host_orders.specs.Refusals.{classes_of}
 use Rattle.host_orders.specs.Errands.{send_refusal, send_text, get_refusal, get_text}
 use Rattle.host_requests.specs.declared.task.Task.TheVariants as task
-use Rattle.host_model.specs.State.{HostState, node_of}
-use Rattle.host_model.specs.Events.{HostEvent, Accepts, Cancels, Joins as joins_host, Queues, Queues_interview, Queues_probe}
-use Rattle.host_model.specs.Pumping.{no_more_event, IsNext}
-use Rattle.host_model.proofs.Silence.{Silent, tick_silent}
-use Rattle.host_model.proofs.Submitted.{SubmittedAre, next_is, no_more_is}
-use Rattle.host_model.specs.May.{known_of}
-use Rattle.host_model.specs.Asking.{carriage_for, places_refusal, interview_refusal}
-use Rattle.host_model.specs.Ticking.{tick_events}
-use Rattle.outside_model.specs.Events.{OuterEvent, Begins_line, Joins, Repeats, Wakes_device, Sets_device, Discovers, outcome}
-use Rattle.world_model.specs.State.{Machine}
-use Rattle.world_model.specs.Events.{Event, Outside_does, Host_does, Host_takes, Decoder_ticks, happens, entries, May}
-use Rattle.world_model.specs.Lines.{IsRefusal, IsDone, Asks as asks_line, IsEffect}
+use Rattle.proof_host.specs.host_model.State.{HostState, node_of}
+use Rattle.proof_host.specs.host_model.Events.{HostEvent, Accepts, Cancels, Joins as joins_host, Queues, Queues_interview, Queues_probe}
+use Rattle.proof_host.specs.host_model.Pumping.{no_more_event, IsNext}
+use Rattle.proof_host.proofs.Silence.{Silent, tick_silent}
+use Rattle.proof_host.proofs.Submitted.{SubmittedAre, next_is, no_more_is}
+use Rattle.proof_host.specs.host_model.May.{known_of}
+use Rattle.proof_host.specs.host_model.Asking.{carriage_for, places_refusal, interview_refusal}
+use Rattle.proof_host.specs.host_model.Ticking.{tick_events}
+use Rattle.proof_device.specs.outside_model.Events.{OuterEvent, Begins_line, Joins, Repeats, Wakes_device, Sets_device, Discovers, outcome}
+use Rattle.proof_device.specs.world_model.State.{Machine}
+use Rattle.proof_device.specs.world_model.Events.{Event, Outside_does, Host_does, Host_takes, Decoder_ticks, happens, entries, May}
+use Rattle.proof_device.specs.world_model.Lines.{IsRefusal, IsDone, Asks as asks_line, IsEffect}
 use Rattle.proof_walk.specs.Phases.{Phase, Between, Said_line, Begun, Doing, To_tick, Ticked, Arriving, Giving, Ticking_devices, Ticking_chip, Ticking_decoder, Ticking_host, Sleeping, Submitting, Moving, Moved, Turns, Goes, passes_after}
 use Rattle.proof_walk.specs.Walk.{Walk, TiedWalk}
 use Rattle.proof_walk.specs.Outside.{CoversOuter}

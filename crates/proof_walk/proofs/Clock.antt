@@ -6,15 +6,15 @@ use Rattle.zw_text.specs.declared.entry.Entry.{Entry}
 use Rattle.zw_text.specs.declared.entry.Entry.TheVariants as entry
 use Rattle.zw_text.specs.Transcript.{line_of, lines_run, tick_at, ticks, last_number, time_of}
 use Rattle.zw_text.proofs.Views.{shown-append}
-use Rattle.law_transcript.specs.Lists.{EachAfter}
-use Rattle.law_transcript.specs.Restarts.{ticks_of, ticks_asked}
+use Rattle.proof_host.specs.law_transcript.Lists.{EachAfter}
+use Rattle.proof_host.specs.law_transcript.Restarts.{ticks_of, ticks_asked}
 use Rattle.proof_host.proofs.Lists.{each-anywhere}
-use Rattle.host_model.specs.Ticking.{tick_events}
-use Rattle.outside_model.specs.State.{OuterState, Outside, first_outer}
-use Rattle.outside_model.specs.Events.{Begins_tick, outcome, devices_after, ticked_entry}
-use Rattle.world_model.specs.State.{Machine}
-use Rattle.world_model.specs.Events.{Event, Outside_does, happens, entries, May}
-use Rattle.world_model.specs.Lines.{IsEffect}
+use Rattle.proof_host.specs.host_model.Ticking.{tick_events}
+use Rattle.proof_device.specs.outside_model.State.{OuterState, Outside, first_outer}
+use Rattle.proof_device.specs.outside_model.Events.{Begins_tick, outcome, devices_after, ticked_entry}
+use Rattle.proof_device.specs.world_model.State.{Machine}
+use Rattle.proof_device.specs.world_model.Events.{Event, Outside_does, happens, entries, May}
+use Rattle.proof_device.specs.world_model.Lines.{IsEffect}
 use Rattle.proof_walk.specs.Phases.{Phase, Between, Said_line, Begun, Doing, To_tick, Ticked, Arriving, Giving, Ticking_devices, Ticking_chip, Ticking_decoder, Ticking_host, Sleeping, Submitting, Moving, Moved, Turns, Goes}
 use Rattle.proof_walk.specs.Walk.{Walk}
 use Rattle.proof_walk.specs.Outside.{Moves, Link, CoversOuter}

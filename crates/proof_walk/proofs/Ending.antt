@@ -2,10 +2,10 @@
 use Rattle.std.proofs.Common.{ℕ, ◌&&◌, not, Bool, true, false, if◌then◌else◌, List, [], ◌∷◌, ◌++◌}
 use Rattle.zw_text.specs.declared.entry.Entry.{Entry}
 use Rattle.zw_text.specs.declared.entry.Entry.TheVariants as entry
-use Rattle.outside_model.specs.State.{OuterState, Outside}
-use Rattle.outside_model.specs.Events.{OuterEvent, Host_begins, Host_notes, outcome, May as MayOutside, happens as happens_outside, entries as entries_outside, stamp}
-use Rattle.world_model.specs.State.{Machine}
-use Rattle.world_model.specs.Events.{Event, entries, May}
+use Rattle.proof_device.specs.outside_model.State.{OuterState, Outside}
+use Rattle.proof_device.specs.outside_model.Events.{OuterEvent, Host_begins, Host_notes, outcome, May as MayOutside, happens as happens_outside, entries as entries_outside, stamp}
+use Rattle.proof_device.specs.world_model.State.{Machine}
+use Rattle.proof_device.specs.world_model.Events.{Event, entries, May}
 use Rattle.proof_walk.specs.Outside.{CoversOuter}
 use Rattle.proof_walk.specs.Time.{BeginsNoTick}
 use Rattle.proof_walk.proofs.Machines.{covers_answer, covers_host, machine_goes}

@@ -5,12 +5,12 @@ use Rattle.zw_text.specs.declared.entry.Entry.{Entry}
 use Rattle.zw_text.specs.declared.entry.Entry.TheVariants.{Accepted, Refused, Json, Out}
 use Rattle.host_keep.specs.declared.final_status.FinalStatus.{FinalStatus}
 use Rattle.host_keep.specs.declared.final_status.FinalStatus.TheVariants as final
-use Rattle.host_model.specs.State.{HostState}
-use Rattle.host_model.specs.Events.{HostEvent, Accepts, Cancels, Finishes}
-use Rattle.host_model.specs.After.{after}
-use Rattle.host_model.specs.Did.{outs_all}
-use Rattle.host_model.specs.Outs.{outs, ended_of}
-use Rattle.host_model.specs.declared.out.HostOut.{HostOut}
+use Rattle.proof_host.specs.host_model.State.{HostState}
+use Rattle.proof_host.specs.host_model.Events.{HostEvent, Accepts, Cancels, Finishes}
+use Rattle.proof_host.specs.host_model.After.{after}
+use Rattle.proof_host.specs.host_model.Did.{outs_all}
+use Rattle.proof_host.specs.host_model.Outs.{outs, ended_of}
+use Rattle.proof_host.specs.host_model.declared.out.HostOut.{HostOut}
 use Rattle.proof_device.proofs.HostOuts.{OutIs, OutsAre, SharedAre, outs_are}
 use Rattle.proof_walk.specs.Outside.{IsNote, IsHostNote}
 

@@ -1,11 +1,11 @@
 -- Paths one after another, a path that was cut short, and what a walk makes of a path.
 use Rattle.std.proofs.Common.{◌≡◌, List, [], ◌∷◌, ◌++◌, inl, inr, refl, sym, subst, append-nil, append_assoc}
 use Rattle.zw_text.specs.declared.entry.Entry.{Entry}
-use Rattle.law_transcript.specs.Lists.{EachAfter}
+use Rattle.proof_host.specs.law_transcript.Lists.{EachAfter}
 use Rattle.proof_host.proofs.Lists.{each-append}
-use Rattle.world_model.specs.State.{Machine}
-use Rattle.world_model.specs.Events.{Event, happens, entries}
-use Rattle.world_model.specs.Did.{happens_all, entries_all, MayAll, Then, Nothing, PrefixOf, ThenPrefix}
+use Rattle.proof_device.specs.world_model.State.{Machine}
+use Rattle.proof_device.specs.world_model.Events.{Event, happens, entries}
+use Rattle.proof_device.specs.world_model.Did.{happens_all, entries_all, MayAll, Then, Nothing, PrefixOf, ThenPrefix}
 use Rattle.proof_walk.specs.Phases.{Phase, Turns}
 use Rattle.proof_walk.specs.Paths.{Path, Leads, GoesOn, Begins}
 use Rattle.proof_walk.specs.Paths.Path.{Ends, Turned, Stepped}

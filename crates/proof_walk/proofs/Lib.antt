@@ -18,3 +18,20 @@ pub mod Over
 pub mod Where
 pub mod Shown
 pub mod Bodies
+pub use Rattle.proof_device.proofs.Entered
+pub use Rattle.proof_device.proofs.Results
+pub use Rattle.proof_device.proofs.Entering
+pub use Rattle.proof_device.proofs.ChangesOutside
+pub use Rattle.proof_device.proofs.KeptKinds
+pub use Rattle.proof_host.proofs.Lists
+pub use Rattle.proof_device.proofs.DevicePlaces
+pub use Rattle.proof_device.proofs.Along
+pub use Rattle.proof_device.proofs.Pieces
+pub use Rattle.proof_host.proofs.Effects
+pub use Rattle.proof_device.proofs.outside_model_EventLists as EventLists
+pub use Rattle.proof_device.proofs.HostOuts
+pub use Rattle.proof_host.proofs.Views
+pub use Rattle.proof_host.proofs.Confirmed
+pub use Rattle.proof_host.proofs.Values
+pub use Rattle.proof_device.proofs.Hosting
+pub use Rattle.proof_device.proofs.EventLists as world_model_EventLists

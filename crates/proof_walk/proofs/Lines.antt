@@ -5,15 +5,15 @@ use Rattle.zw_text.specs.declared.line.Line.{Line}
 use Rattle.zw_text.specs.declared.line.Line.TheVariants.{Tick, Restart}
 use Rattle.zw_text.specs.declared.entry.Entry.{Entry}
 use Rattle.zw_text.specs.declared.entry.Entry.TheVariants.{Said}
-use Rattle.law_transcript.specs.Lists.{EachAfter}
+use Rattle.proof_host.specs.law_transcript.Lists.{EachAfter}
 use Rattle.proof_host.proofs.Lists.{each-append}
-use Rattle.outside_model.specs.Events.{Clears_pipe}
-use Rattle.world_model.specs.State.{Machine}
-use Rattle.world_model.specs.Events.{Event, Outside_does, Restarts, happens}
-use Rattle.world_model.specs.Did.{entries_all, Nothing, Then, PrefixOf, ThenPrefix}
-use Rattle.world_model.specs.Settling.{Settles}
-use Rattle.world_model.specs.Lines.{IsEffect, IsLineBegin, IsLineRest, IsLine, restart_events}
-use Rattle.world_model.specs.Prefixes.{SettlesPrefix, EffectPrefix, LineRestPrefix, LinePart}
+use Rattle.proof_device.specs.outside_model.Events.{Clears_pipe}
+use Rattle.proof_device.specs.world_model.State.{Machine}
+use Rattle.proof_device.specs.world_model.Events.{Event, Outside_does, Restarts, happens}
+use Rattle.proof_device.specs.world_model.Did.{entries_all, Nothing, Then, PrefixOf, ThenPrefix}
+use Rattle.proof_device.specs.world_model.Settling.{Settles}
+use Rattle.proof_device.specs.world_model.Lines.{IsEffect, IsLineBegin, IsLineRest, IsLine, restart_events}
+use Rattle.proof_device.specs.world_model.Prefixes.{SettlesPrefix, EffectPrefix, LineRestPrefix, LinePart}
 use Rattle.world_lines.specs.Spoken.{Spoken, after, after_all, entries_of, transcript_of}
 use Rattle.world_lines.specs.Done.{IsDone, AreDone}
 use Rattle.world_lines.specs.Whole.{AreWhole}

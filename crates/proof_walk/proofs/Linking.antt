@@ -7,19 +7,19 @@ use Rattle.serial_frame.specs.Stream.{after_tick}
 use Rattle.route_table.specs.declared.route.Route.{Route}
 use Rattle.device_kinds.specs.declared.change.Change.{Change}
 use Rattle.chip_sim.specs.Events.{ChipEvent, Judged, Ticked, Done, Heard as chip_hears, Informed, Forgets, Joined, Linked, Collides, after}
-use Rattle.device_sim.specs.State.{State}
-use Rattle.device_sim.specs.Event.{DeviceEvent, device_after}
-use Rattle.mesh_sim.specs.declared.event.AirEvent.{AirEvent}
-use Rattle.mesh_sim.specs.declared.event.AirEvent.TheVariants as air_event
-use Rattle.mesh_sim.specs.Fates.{place_of}
+use Rattle.proof_device.specs.device_sim.State.{State}
+use Rattle.proof_device.specs.device_sim.Event.{DeviceEvent, device_after}
+use Rattle.proof_device.specs.mesh_sim.declared.event.AirEvent.{AirEvent}
+use Rattle.proof_device.specs.mesh_sim.declared.event.AirEvent.TheVariants as air_event
+use Rattle.proof_device.specs.mesh_sim.Fates.{place_of}
 use Rattle.zw_text.specs.declared.entry.Entry.{Entry}
 use Rattle.zw_text.specs.declared.entry.Entry.TheVariants as entry
-use Rattle.outside_model.specs.State.{OuterState, Outside, outside, Outcome, silent, tells, with_chip}
-use Rattle.outside_model.specs.Chip.{chip_does, chip_ticks}
-use Rattle.outside_model.specs.Results.{gives, device_at}
-use Rattle.outside_model.specs.Air.{deals, sent_entries, change_entries, change_at}
-use Rattle.outside_model.specs.Devices.{acts}
-use Rattle.outside_model.specs.Events.{OuterEvent}
+use Rattle.proof_device.specs.outside_model.State.{OuterState, Outside, outside, Outcome, silent, tells, with_chip}
+use Rattle.proof_device.specs.outside_model.Chip.{chip_does, chip_ticks}
+use Rattle.proof_device.specs.outside_model.Results.{gives, device_at}
+use Rattle.proof_device.specs.outside_model.Air.{deals, sent_entries, change_entries, change_at}
+use Rattle.proof_device.specs.outside_model.Devices.{acts}
+use Rattle.proof_device.specs.outside_model.Events.{OuterEvent}
 use Rattle.proof_walk.specs.Outside.{Knowing, Moves, Comes, Outer, Link, IsOfAir, IsSameLink, IsDone, session_begins}
 use Rattle.proof_walk.proofs.Moving.{moves_silent, moves_none, moves_both, moves_then}
 use Rattle.proof_device.proofs.Entering.{IsOwn, acts_own, change_own}

@@ -5,25 +5,25 @@ use Rattle.std.specs.List.{AllByRecursion}
 use Rattle.serial_frame.specs.declared.unit.Unit.{Unit as LineUnit}
 use Rattle.zw_text.specs.declared.entry.Entry.{Entry}
 use Rattle.zw_text.specs.declared.entry.Entry.TheVariants as entry
-use Rattle.law_transcript.specs.Lists.{EachAfter}
+use Rattle.proof_host.specs.law_transcript.Lists.{EachAfter}
 use Rattle.proof_host.proofs.Lists.{each-append}
-use Rattle.host_model.specs.State.{HostState}
-use Rattle.host_model.specs.Events.{HostEvent, Accepts, Cancels}
-use Rattle.host_model.specs.Did.{outs_all}
-use Rattle.host_model.specs.declared.out.HostOut.{HostOut}
-use Rattle.host_model.specs.declared.out.HostOut.TheVariants.{Write, Note}
-use Rattle.host_model.specs.Outs.{answers}
-use Rattle.outside_model.specs.State.{Outside, is_stalled}
-use Rattle.outside_model.specs.Events.{OuterEvent, Begins_line, Begins_tick, Host_writes, Host_takes as host_takes, Host_notes, Host_begins, Chip_takes, Arrives, Gives, Device_ticks, Chip_ticks, Repeats, Wakes_device, Sets_device, outcome, May as MayOutside, happens as happens_outside, entries as entries_outside, is_own}
+use Rattle.proof_host.specs.host_model.State.{HostState}
+use Rattle.proof_host.specs.host_model.Events.{HostEvent, Accepts, Cancels}
+use Rattle.proof_host.specs.host_model.Did.{outs_all}
+use Rattle.proof_host.specs.host_model.declared.out.HostOut.{HostOut}
+use Rattle.proof_host.specs.host_model.declared.out.HostOut.TheVariants.{Write, Note}
+use Rattle.proof_host.specs.host_model.Outs.{answers}
+use Rattle.proof_device.specs.outside_model.State.{Outside, is_stalled}
+use Rattle.proof_device.specs.outside_model.Events.{OuterEvent, Begins_line, Begins_tick, Host_writes, Host_takes as host_takes, Host_notes, Host_begins, Chip_takes, Arrives, Gives, Device_ticks, Chip_ticks, Repeats, Wakes_device, Sets_device, outcome, May as MayOutside, happens as happens_outside, entries as entries_outside, is_own}
 use Rattle.zw_text.specs.declared.entry.Ended.TheVariants.{Cancelled}
-use Rattle.outside_model.specs.Did.{happens_all as happens_all_outside, entries_all as entries_all_outside}
-use Rattle.outside_model.proofs.EventLists.{happens_all-append, entries_all-append}
-use Rattle.world_model.specs.State.{Machine, begun_in, noted_by, routed, host_does}
-use Rattle.world_model.specs.Events.{Event, Outside_does, Host_does, Host_takes, Decoder_ticks, Refuses, Shows_values, Restarts, notes, shown_values, happens, entries, May}
+use Rattle.proof_device.specs.outside_model.Did.{happens_all as happens_all_outside, entries_all as entries_all_outside}
+use Rattle.proof_device.proofs.outside_model_EventLists.{happens_all-append, entries_all-append}
+use Rattle.proof_device.specs.world_model.State.{Machine, begun_in, noted_by, routed, host_does}
+use Rattle.proof_device.specs.world_model.Events.{Event, Outside_does, Host_does, Host_takes, Decoder_ticks, Refuses, Shows_values, Restarts, notes, shown_values, happens, entries, May}
 use Rattle.proof_walk.specs.Outside.{Pending, Knowing, Outer, Known, CoversOuter, CoversHost, CoversRefusal, CoversAnswer, IsNote, IsHostNote}
 use Rattle.proof_walk.proofs.HostNotes.{NoteOuts, is_note, all_outs_note}
 use Rattle.proof_walk.proofs.Stamping.{Fits, outer_keeps, session_keeps}
-use Rattle.law_transcript.proofs.Deciding.{not_true as not_own}
+use Rattle.proof_host.proofs.Deciding.{not_true as not_own}
 
 own_fits : (Covers : OuterEvent → Type 0) (event : OuterEvent) → is_own event ≡ true → Covers event → CoversRefusal Covers event → Fits Covers event
 own_fits Covers (Host_writes unit) own covers refuses = absurd (not_own own)

@@ -2,7 +2,7 @@
 use Rattle.std.proofs.Common.{◌≡◌, Bool, true, List, [], ◌∷◌, ◌++◌, refl, sym, subst, append_assoc, append-nil}
 use Rattle.zw_text.specs.declared.entry.Entry.{Entry}
 use Rattle.proof_host.proofs.Lists.{each-append}
-use Rattle.outside_model.specs.State.{Outside}
+use Rattle.proof_device.specs.outside_model.State.{Outside}
 use Rattle.proof_walk.specs.Outside.{Knowing, Moves}
 
 -- where two lists are none together, each is

@@ -1,7 +1,7 @@
 -- What one walk knows at each phase is the ground of another.
 use Rattle.std.proofs.Common.{List}
 use Rattle.zw_text.specs.declared.entry.Entry.{Entry}
-use Rattle.world_model.specs.State.{Machine}
+use Rattle.proof_device.specs.world_model.State.{Machine}
 use Rattle.proof_walk.specs.Phases.{Phase}
 use Rattle.proof_walk.specs.Walk.{Walk, WalkOver, both_know}
 

@@ -5,18 +5,18 @@ use Rattle.std.specs.Prelude.{Option}
 use Rattle.serial_frame.specs.Stream.{Rest}
 use Rattle.serial_frame.specs.declared.item.Item.{Item}
 use Rattle.route_table.specs.declared.route.Route.{Route}
-use Rattle.host_model.specs.State.{HostState}
-use Rattle.host_model.specs.Events.{HostEvent}
-use Rattle.host_model.specs.Did.{after_all as host_after_all}
-use Rattle.host_model.specs.Pumping.{LetsSleep, Submits}
-use Rattle.outside_model.specs.State.{is_stalled}
-use Rattle.outside_model.specs.Events.{OuterEvent, Chip_takes}
-use Rattle.outside_model.specs.Schedules.{TakesBy as ChipTakesBy}
-use Rattle.world_model.specs.State.{Machine}
-use Rattle.world_model.specs.Events.{Event, Outside_does, Host_does, Host_takes, happens}
-use Rattle.world_model.specs.Did.{happens_all, Then, Nothing, ThenPrefix}
-use Rattle.world_model.specs.Settling.{IsPump, IsChipPart, IsHostPart, IsMove, IfMoved, Passes, TakesBy}
-use Rattle.world_model.specs.Prefixes.{MovePrefix, PassesPrefix}
+use Rattle.proof_host.specs.host_model.State.{HostState}
+use Rattle.proof_host.specs.host_model.Events.{HostEvent}
+use Rattle.proof_host.specs.host_model.Did.{after_all as host_after_all}
+use Rattle.proof_host.specs.host_model.Pumping.{LetsSleep, Submits}
+use Rattle.proof_device.specs.outside_model.State.{is_stalled}
+use Rattle.proof_device.specs.outside_model.Events.{OuterEvent, Chip_takes}
+use Rattle.proof_device.specs.outside_model.Schedules.{TakesBy as ChipTakesBy}
+use Rattle.proof_device.specs.world_model.State.{Machine}
+use Rattle.proof_device.specs.world_model.Events.{Event, Outside_does, Host_does, Host_takes, happens}
+use Rattle.proof_device.specs.world_model.Did.{happens_all, Then, Nothing, ThenPrefix}
+use Rattle.proof_device.specs.world_model.Settling.{IsPump, IsChipPart, IsHostPart, IsMove, IfMoved, Passes, TakesBy}
+use Rattle.proof_device.specs.world_model.Prefixes.{MovePrefix, PassesPrefix}
 use Rattle.proof_walk.specs.Phases.{To_tick, Sleeping, Submitting, Moving, Moved, after_pump, passes_after, IsStill}
 use Rattle.proof_walk.specs.Paths.{Path, Leads, Begins}
 use Rattle.proof_walk.specs.Paths.Path.{Ends, Turned, Stepped}

@@ -1,6 +1,6 @@
 -- What is shown of a list, where each item is judged by those before it, over one list after another.
 use Rattle.std.proofs.Common.{◌≡◌, List, [], ◌∷◌, ◌++◌, sym, ap, ◌∙◌, append_assoc, append-nil}
-use Rattle.law_transcript.specs.Lists.{shown_after}
+use Rattle.proof_host.specs.law_transcript.Lists.{shown_after}
 
 pub shown_both : {A B : Type 0} (shows : List A → A → List B) (before xs ys : List A) → shown_after shows before (xs ++ ys) ≡ shown_after shows before xs ++ shown_after shows (before ++ xs) ys
 shown_both {A} {B} shows before [] ys = ap (λ (l : List A). shown_after shows l ys) (sym (append-nil before))

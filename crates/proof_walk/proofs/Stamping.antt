@@ -6,28 +6,28 @@ use Rattle.route_table.specs.declared.route.Route.{Route}
 use Rattle.chip_sim.specs.State.{ChipState}
 use Rattle.chip_sim.specs.Events.{Judged}
 use Rattle.chip_sim.specs.Did.{MayAll as MayAllOfChip, judged_all}
-use Rattle.device_sim.specs.State.{State}
-use Rattle.device_sim.specs.Event.{DeviceEvent, Ticks, Wakes, Sets}
+use Rattle.proof_device.specs.device_sim.State.{State}
+use Rattle.proof_device.specs.device_sim.Event.{DeviceEvent, Ticks, Wakes, Sets}
 use Rattle.air_frames.specs.Ages.{refusal_of}
 use Rattle.air_frames.specs.declared.ages.Refusal.{Refusal as RepeatRefusal}
 use Rattle.air_frames.specs.declared.ages.Refusal.TheVariants.{NeverSent, Forgotten, Stale}
-use Rattle.mesh_sim.specs.declared.event.AirEvent.{AirEvent}
-use Rattle.mesh_sim.specs.Fates.{place_of}
-use Rattle.mesh_sim.specs.Steps.{AirStep, mesh_after, mesh_outs, MayHappen}
-use Rattle.mesh_sim.specs.Steps as mesh
+use Rattle.proof_device.specs.mesh_sim.declared.event.AirEvent.{AirEvent}
+use Rattle.proof_device.specs.mesh_sim.Fates.{place_of}
+use Rattle.proof_device.specs.mesh_sim.Steps.{AirStep, mesh_after, mesh_outs, MayHappen}
+use Rattle.proof_device.specs.mesh_sim.Steps as mesh
 use Rattle.serial_pipes.specs.Events.{Takes}
 use Rattle.serial_pipes.specs.Events as way
 use Rattle.zw_text.specs.declared.entry.Entry.{Entry}
 use Rattle.zw_text.specs.declared.entry.Entry.TheVariants as entry
 use Rattle.zw_text.specs.declared.entry.Refusal.{Refusal}
 use Rattle.zw_text.specs.declared.entry.Refusal.TheVariants as refusal
-use Rattle.law_transcript.specs.Lists.{EachAfter}
+use Rattle.proof_host.specs.law_transcript.Lists.{EachAfter}
 use Rattle.proof_host.proofs.Lists.{each-append}
-use Rattle.outside_model.specs.State.{OuterState, Outside, outside, Outcome, each, tells}
-use Rattle.outside_model.specs.Chip.{chip_does}
-use Rattle.outside_model.specs.Air.{deals}
-use Rattle.outside_model.specs.Devices.{acts_at, acts_by_hand, device_set, set_by_hand, MayAct, MayActByHand}
-use Rattle.outside_model.specs.Events.{OuterEvent, Begins_line, Begins_tick, Host_notes, Host_begins, Chip_takes, Arrives, Gives, Device_ticks, Chip_ticks, Repeats, Wakes_device, Sets_device, mesh_of, outcome, devices_after, May, steps, repeats, devices_repeated, MayRepeat, ticked_entry, stamp, has_entered, happens, entries}
+use Rattle.proof_device.specs.outside_model.State.{OuterState, Outside, outside, Outcome, each, tells}
+use Rattle.proof_device.specs.outside_model.Chip.{chip_does}
+use Rattle.proof_device.specs.outside_model.Air.{deals}
+use Rattle.proof_device.specs.outside_model.Devices.{acts_at, acts_by_hand, device_set, set_by_hand, MayAct, MayActByHand}
+use Rattle.proof_device.specs.outside_model.Events.{OuterEvent, Begins_line, Begins_tick, Host_notes, Host_begins, Chip_takes, Arrives, Gives, Device_ticks, Chip_ticks, Repeats, Wakes_device, Sets_device, mesh_of, outcome, devices_after, May, steps, repeats, devices_repeated, MayRepeat, ticked_entry, stamp, has_entered, happens, entries}
 use Rattle.proof_walk.specs.Outside.{Pending, Judging, Dealing, nothing, Knowing, Moves, Comes, Outer, IsSimple, IsHearing, session_begins, Known, awaits_number, CoversRefusal}
 use Rattle.proof_walk.proofs.Moving.{moves_none, moves_both, moves_then}
 use Rattle.proof_walk.proofs.Times.{time_of, IsSameTime, IsWithin, does_chip, outcome_time}

@@ -1,9 +1,9 @@
 -- One event of a walk: what it enters, and what is known after it.
 use Rattle.std.proofs.Common.{◌≡◌, List, ◌++◌, sym, subst}
 use Rattle.zw_text.specs.declared.entry.Entry.{Entry}
-use Rattle.law_transcript.specs.Lists.{EachAfter}
-use Rattle.world_model.specs.State.{Machine}
-use Rattle.world_model.specs.Events.{Event, happens, entries}
+use Rattle.proof_host.specs.law_transcript.Lists.{EachAfter}
+use Rattle.proof_device.specs.world_model.State.{Machine}
+use Rattle.proof_device.specs.world_model.Events.{Event, happens, entries}
 use Rattle.proof_walk.specs.Phases.{Phase}
 
 module _ (Asks : List Entry → Entry → Type 0) (Know : Phase → List Entry → Machine → Type 0) where

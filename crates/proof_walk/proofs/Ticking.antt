@@ -1,15 +1,15 @@
 -- Ticks as paths: what is outside the host has its part, then the host, and then all settles.
 use Rattle.std.proofs.Common.{ℕ, zero, suc, ◌+◌, ◌-◌, List, [], ◌∷◌, length, map, refl, ap}
-use Rattle.host_model.specs.Events.{HostEvent}
-use Rattle.host_model.specs.Ticking.{tick_events}
-use Rattle.outside_model.specs.Events.{OuterEvent, Arrives, Gives, Device_ticks}
-use Rattle.outside_model.specs.Schedules.{Arrivals, Givings, DeviceTicks}
-use Rattle.world_model.specs.State.{Machine}
-use Rattle.world_model.specs.Events.{Outside_does, Host_does, Decoder_ticks, happens}
-use Rattle.world_model.specs.Did.{Then, Nothing, PrefixOf, ThenPrefix}
-use Rattle.world_model.specs.Settling.{Settles}
-use Rattle.world_model.specs.Ticking.{IsClockTick, IsDelivery, IsGiving, IsDeviceTick, IsChipTick, IsOutsideTick, IsHostTick, IsTick, Ticks}
-use Rattle.world_model.specs.Prefixes.{SettlesPrefix, OutsideTickPrefix, TickPrefix, TicksPrefix}
+use Rattle.proof_host.specs.host_model.Events.{HostEvent}
+use Rattle.proof_host.specs.host_model.Ticking.{tick_events}
+use Rattle.proof_device.specs.outside_model.Events.{OuterEvent, Arrives, Gives, Device_ticks}
+use Rattle.proof_device.specs.outside_model.Schedules.{Arrivals, Givings, DeviceTicks}
+use Rattle.proof_device.specs.world_model.State.{Machine}
+use Rattle.proof_device.specs.world_model.Events.{Outside_does, Host_does, Decoder_ticks, happens}
+use Rattle.proof_device.specs.world_model.Did.{Then, Nothing, PrefixOf, ThenPrefix}
+use Rattle.proof_device.specs.world_model.Settling.{Settles}
+use Rattle.proof_device.specs.world_model.Ticking.{IsClockTick, IsDelivery, IsGiving, IsDeviceTick, IsChipTick, IsOutsideTick, IsHostTick, IsTick, Ticks}
+use Rattle.proof_device.specs.world_model.Prefixes.{SettlesPrefix, OutsideTickPrefix, TickPrefix, TicksPrefix}
 use Rattle.proof_walk.specs.Phases.{To_tick, Ticked, Arriving, Giving, Ticking_devices, Ticking_chip, Ticking_decoder, Ticking_host, Sleeping}
 use Rattle.proof_walk.specs.Paths.{Path, Leads, Begins}
 use Rattle.proof_walk.specs.Paths.Path.{Ends, Turned, Stepped}

@@ -9,23 +9,23 @@ use Rattle.chip_sim.specs.Events.{ChipEvent, Ticked, after, outs}
 use Rattle.chip_sim.specs.Did.{judged_all}
 use Rattle.chip_sim.specs.declared.out.ChipOut.{ChipOut}
 use Rattle.chip_sim.specs.declared.out.ChipOut.TheVariants as chip_out
-use Rattle.device_sim.specs.State.{State}
-use Rattle.device_sim.specs.Event.{DeviceEvent, Ticks, Wakes, Sets}
-use Rattle.mesh_sim.specs.declared.event.AirEvent.{AirEvent}
-use Rattle.mesh_sim.specs.declared.event.AirEvent.TheVariants as air_event
-use Rattle.mesh_sim.specs.Fates.{place_of}
-use Rattle.mesh_sim.specs.Steps.{AirStep, mesh_after, mesh_outs}
-use Rattle.mesh_sim.specs.Steps as mesh
+use Rattle.proof_device.specs.device_sim.State.{State}
+use Rattle.proof_device.specs.device_sim.Event.{DeviceEvent, Ticks, Wakes, Sets}
+use Rattle.proof_device.specs.mesh_sim.declared.event.AirEvent.{AirEvent}
+use Rattle.proof_device.specs.mesh_sim.declared.event.AirEvent.TheVariants as air_event
+use Rattle.proof_device.specs.mesh_sim.Fates.{place_of}
+use Rattle.proof_device.specs.mesh_sim.Steps.{AirStep, mesh_after, mesh_outs}
+use Rattle.proof_device.specs.mesh_sim.Steps as mesh
 use Rattle.serial_frame.specs.Stream.{after_tick}
 use Rattle.serial_pipes.specs.Events.{Takes}
 use Rattle.serial_pipes.specs.Events as way
 use Rattle.zw_words.specs.declared.side.Side.TheVariants.{Host as by_host, Chip as by_chip}
 use Rattle.zw_text.specs.declared.entry.Entry.TheVariants as entry
-use Rattle.outside_model.specs.State.{OuterState, Outside, Outcome, each, with_chip}
-use Rattle.outside_model.specs.Chip.{put_out, chip_does}
-use Rattle.outside_model.specs.Air.{deals}
-use Rattle.outside_model.specs.Devices.{acts_at, acts_by_hand}
-use Rattle.outside_model.specs.Events.{OuterEvent, Begins_line, Begins_tick, Chip_takes, Arrives, Gives, Device_ticks, Chip_ticks, Repeats, Wakes_device, Sets_device, Marks_loss, Marks_change, Clears_pipe, mesh_of, outcome, repeats, steps, ticked_entry}
+use Rattle.proof_device.specs.outside_model.State.{OuterState, Outside, Outcome, each, with_chip}
+use Rattle.proof_device.specs.outside_model.Chip.{put_out, chip_does}
+use Rattle.proof_device.specs.outside_model.Air.{deals}
+use Rattle.proof_device.specs.outside_model.Devices.{acts_at, acts_by_hand}
+use Rattle.proof_device.specs.outside_model.Events.{OuterEvent, Begins_line, Begins_tick, Chip_takes, Arrives, Gives, Device_ticks, Chip_ticks, Repeats, Wakes_device, Sets_device, Marks_loss, Marks_change, Clears_pipe, mesh_of, outcome, repeats, steps, ticked_entry}
 use Rattle.proof_device.proofs.Results.{Gives as GivesSo, IsSameChip, ends_go, gives_go, to_chip_goes}
 
 -- whether a tick runs, whether its number was entered, and the number

@@ -9,9 +9,9 @@ use Rattle.zw_text.specs.declared.entry.Entry.TheVariants as entry
 use Rattle.zw_text.specs.Transcript.{line_of, lines_run, tick_at, ticks, last_number, time_of}
 use Rattle.zw_text.proofs.Views.{shown-append}
 use Rattle.chip_sim.specs.Events.{ChipEvent}
-use Rattle.outside_model.specs.State.{Outside, outside}
-use Rattle.outside_model.specs.Chip.{chip_does}
-use Rattle.outside_model.specs.Events.{OuterEvent, Begins_line, Begins_tick, Host_notes, outcome, is_own}
+use Rattle.proof_device.specs.outside_model.State.{Outside, outside}
+use Rattle.proof_device.specs.outside_model.Chip.{chip_does}
+use Rattle.proof_device.specs.outside_model.Events.{OuterEvent, Begins_line, Begins_tick, Host_notes, outcome, is_own}
 use Rattle.proof_walk.specs.Outside.{Knowing, Moves, Comes, Link, IsNote, IsSimple, IsDone, IsOfAir}
 use Rattle.proof_walk.specs.Time.{BeginsNoTick}
 use Rattle.proof_device.proofs.Entering.{Enters, IsOfChip, NotesNone, does_of_chip, outcome_enters}

@@ -2,12 +2,12 @@
 use Rattle.std.proofs.Common.{List, [], ◌∷◌, ◌++◌, sym, ap, ◌∙◌, subst, append-nil, append_assoc}
 use Rattle.zw_text.specs.declared.entry.Entry.{Entry}
 use Rattle.zw_text.specs.declared.entry.Entry.TheVariants.{Said}
-use Rattle.law_transcript.specs.Lists.{EachAfter}
+use Rattle.proof_host.specs.law_transcript.Lists.{EachAfter}
 use Rattle.proof_host.proofs.Lists.{each-append}
-use Rattle.world_model.specs.State.{Machine}
-use Rattle.world_model.specs.Events.{Event, happens, entries}
-use Rattle.world_model.specs.Did.{happens_all, entries_all, MayAll, AllAlong}
-use Rattle.world_model.specs.Lines.{IsLine}
+use Rattle.proof_device.specs.world_model.State.{Machine}
+use Rattle.proof_device.specs.world_model.Events.{Event, happens, entries}
+use Rattle.proof_device.specs.world_model.Did.{happens_all, entries_all, MayAll, AllAlong}
+use Rattle.proof_device.specs.world_model.Lines.{IsLine}
 use Rattle.world_lines.specs.Spoken.{Spoken, after, after_all, entries_of, transcript_of}
 use Rattle.world_lines.specs.Done.{AreDone, events_of}
 use Rattle.world_lines.specs.Whole.{AreWhole}

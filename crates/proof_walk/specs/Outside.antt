@@ -6,29 +6,29 @@ use Rattle.serial_frame.specs.Stream.{Rest}
 use Rattle.serial_frame.specs.declared.item.Item.{Item}
 use Rattle.serial_frame.specs.declared.unit.Unit.{Unit as LineUnit}
 use Rattle.route_table.specs.declared.route.Route.{Route}
-use Rattle.device_sim.specs.State.{State}
-use Rattle.device_sim.specs.Event.{DeviceEvent, device_after}
+use Rattle.proof_device.specs.device_sim.State.{State}
+use Rattle.proof_device.specs.device_sim.Event.{DeviceEvent, device_after}
 use Rattle.chip_sim.specs.Events.{ChipEvent, Judged, Joined, Linked, Collides, May as MayOfChip}
-use Rattle.mesh_sim.specs.declared.event.AirEvent.{AirEvent}
-use Rattle.mesh_sim.specs.Steps.{AirStep, mesh_after, mesh_outs, MayHappen}
-use Rattle.mesh_sim.specs.Steps as mesh
+use Rattle.proof_device.specs.mesh_sim.declared.event.AirEvent.{AirEvent}
+use Rattle.proof_device.specs.mesh_sim.Steps.{AirStep, mesh_after, mesh_outs, MayHappen}
+use Rattle.proof_device.specs.mesh_sim.Steps as mesh
 use Rattle.serial_pipes.specs.Events.{Takes}
 use Rattle.serial_pipes.specs.Events as way
 use Rattle.zw_text.specs.declared.entry.Ended.TheVariants.{Cancelled}
 use Rattle.zw_text.specs.declared.entry.Refusal.{Refusal}
 use Rattle.zw_text.specs.declared.entry.Entry.{Entry}
 use Rattle.zw_text.specs.declared.entry.Entry.TheVariants as entry
-use Rattle.law_transcript.specs.Lists.{EachAfter}
-use Rattle.host_model.specs.State.{HostState}
-use Rattle.host_model.specs.Outs.{answers}
-use Rattle.outside_model.specs.State.{OuterState, Outside, outside, Outcome}
-use Rattle.outside_model.specs.Chip.{chip_does, chip_ticks, MayTake}
-use Rattle.outside_model.specs.Results.{gives, MayGive}
-use Rattle.outside_model.specs.Air.{deals}
-use Rattle.outside_model.specs.Devices.{acts, MayAct}
-use Rattle.outside_model.specs.Events.{OuterEvent, Begins_line, Begins_tick, Host_writes, Host_takes as host_takes, Host_notes, Host_begins, Chip_takes, Arrives, Gives, Device_ticks, Chip_ticks, Repeats, Wakes_device, Sets_device, begins, mesh_of, outcome, ticked_entry}
-use Rattle.world_model.specs.State.{begun_in}
-use Rattle.world_model.specs.Events.{Event, Outside_does, Host_does, Refuses, Shows_values}
+use Rattle.proof_host.specs.law_transcript.Lists.{EachAfter}
+use Rattle.proof_host.specs.host_model.State.{HostState}
+use Rattle.proof_host.specs.host_model.Outs.{answers}
+use Rattle.proof_device.specs.outside_model.State.{OuterState, Outside, outside, Outcome}
+use Rattle.proof_device.specs.outside_model.Chip.{chip_does, chip_ticks, MayTake}
+use Rattle.proof_device.specs.outside_model.Results.{gives, MayGive}
+use Rattle.proof_device.specs.outside_model.Air.{deals}
+use Rattle.proof_device.specs.outside_model.Devices.{acts, MayAct}
+use Rattle.proof_device.specs.outside_model.Events.{OuterEvent, Begins_line, Begins_tick, Host_writes, Host_takes as host_takes, Host_notes, Host_begins, Chip_takes, Arrives, Gives, Device_ticks, Chip_ticks, Repeats, Wakes_device, Sets_device, begins, mesh_of, outcome, ticked_entry}
+use Rattle.proof_device.specs.world_model.State.{begun_in}
+use Rattle.proof_device.specs.world_model.Events.{Event, Outside_does, Host_does, Refuses, Shows_values}
 
 -- ---- what is known
 

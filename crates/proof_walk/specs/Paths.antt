@@ -1,8 +1,8 @@
 -- The events of a schedule as a path through the phases of a line (this project's own rule).
 use Rattle.std.specs.Prelude.{List, [], ◌∷◌}
-use Rattle.world_model.specs.State.{Machine}
-use Rattle.world_model.specs.Events.{Event, happens}
-use Rattle.world_model.specs.Did.{Schedule}
+use Rattle.proof_device.specs.world_model.State.{Machine}
+use Rattle.proof_device.specs.world_model.Events.{Event, happens}
+use Rattle.proof_device.specs.world_model.Did.{Schedule}
 use Rattle.proof_walk.specs.Phases.{Phase, Turns, Goes}
 
 -- From a phase, with the machine as it is there, these events lead to a last phase: each may come where it comes, and parts begin between them.

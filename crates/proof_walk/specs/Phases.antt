@@ -7,14 +7,14 @@ use Rattle.route_table.specs.declared.route.Route.{Route}
 use Rattle.zw_text.specs.declared.line.Line.{Line}
 use Rattle.zw_text.specs.declared.line.Line.TheVariants.{Tick}
 use Rattle.host_node.specs.Search.{first_wanting}
-use Rattle.host_model.specs.Events.{HostEvent}
-use Rattle.host_model.specs.Pumping.{no_more_event, IsNext, IsPumped}
-use Rattle.host_model.specs.Ticking.{tick_events}
-use Rattle.outside_model.specs.State.{is_stalled}
-use Rattle.outside_model.specs.Events.{Begins_line, Begins_tick, Arrives, Gives, Device_ticks, Chip_ticks, Chip_takes}
-use Rattle.world_model.specs.State.{Machine}
-use Rattle.world_model.specs.Events.{Event, Outside_does, Host_does, Host_takes, Decoder_ticks}
-use Rattle.world_model.specs.Lines.{IsEffect}
+use Rattle.proof_host.specs.host_model.Events.{HostEvent}
+use Rattle.proof_host.specs.host_model.Pumping.{no_more_event, IsNext, IsPumped}
+use Rattle.proof_host.specs.host_model.Ticking.{tick_events}
+use Rattle.proof_device.specs.outside_model.State.{is_stalled}
+use Rattle.proof_device.specs.outside_model.Events.{Begins_line, Begins_tick, Arrives, Gives, Device_ticks, Chip_ticks, Chip_takes}
+use Rattle.proof_device.specs.world_model.State.{Machine}
+use Rattle.proof_device.specs.world_model.Events.{Event, Outside_does, Host_does, Host_takes, Decoder_ticks}
+use Rattle.proof_device.specs.world_model.Lines.{IsEffect}
 
 pub data Phase : Type 0 where
   -- no line runs; the words of a line are entered; it has begun; these events of its effect are to come

@@ -5,10 +5,10 @@ use Rattle.std.specs.List.{AllByRecursion}
 use Rattle.zw_text.specs.declared.entry.Entry.{Entry}
 use Rattle.zw_text.specs.declared.entry.Entry.TheVariants.{Time}
 use Rattle.zw_text.specs.Transcript.{lines_run, time_of}
-use Rattle.law_transcript.specs.Restarts.{ticks_of, ticks_asked}
-use Rattle.outside_model.specs.State.{Outside}
-use Rattle.outside_model.specs.Events.{OuterEvent, Begins_tick}
-use Rattle.world_model.specs.State.{Machine}
+use Rattle.proof_host.specs.law_transcript.Restarts.{ticks_of, ticks_asked}
+use Rattle.proof_device.specs.outside_model.State.{Outside}
+use Rattle.proof_device.specs.outside_model.Events.{OuterEvent, Begins_tick}
+use Rattle.proof_device.specs.world_model.State.{Machine}
 use Rattle.proof_walk.specs.Phases.{Phase, Between, Said_line, Begun, Doing, To_tick, Ticked, Arriving, Giving, Ticking_devices, Ticking_chip, Ticking_decoder, Ticking_host, Sleeping, Submitting, Moving, Moved}
 use Rattle.proof_walk.specs.Outside.{Known, CoversOuter}
 

@@ -4,9 +4,9 @@ use Rattle.zw_text.specs.declared.line.Line.{Line}
 use Rattle.zw_text.specs.declared.entry.Entry.{Entry}
 use Rattle.zw_text.specs.declared.entry.Entry.TheVariants.{Said}
 use Rattle.zw_text.specs.Transcript.{line_of}
-use Rattle.law_transcript.specs.Lists.{EachAfter}
-use Rattle.world_model.specs.State.{Machine}
-use Rattle.world_model.specs.Events.{Event, happens, entries, May}
+use Rattle.proof_host.specs.law_transcript.Lists.{EachAfter}
+use Rattle.proof_device.specs.world_model.State.{Machine}
+use Rattle.proof_device.specs.world_model.Events.{Event, happens, entries, May}
 use Rattle.world_lines.specs.Spoken.{Spoken, after, entries_of}
 use Rattle.proof_walk.specs.Phases.{Phase, Between, Said_line, Turns, Goes}
 

@@ -15,4 +15,6 @@ mod paths;
 mod time;
 
 pub use paths::lines_are_paths;
+pub use proof_device as device;
+pub use proof_host as host;
 pub use time::time_goes_on;

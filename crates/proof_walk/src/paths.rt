@@ -1,8 +1,8 @@
 //! Lines as paths.
 
 ghost use Rattle.zw_text.specs.declared.line.Line.{Line};
-ghost use Rattle.world_model.specs.Lines.{IsLine};
-ghost use Rattle.world_model.specs.Prefixes.{LinePart};
+ghost use Rattle.proof_device.specs.world_model.Lines.{IsLine};
+ghost use Rattle.proof_device.specs.world_model.Prefixes.{LinePart};
 ghost use Rattle.proof_walk.specs.Phases.{Between, Said_line};
 ghost use Rattle.proof_walk.specs.Paths.{Begins, Leads};
 

@@ -16,7 +16,7 @@ use Rattle.world_model.specs.Lines.{IsEffect}
 use Rattle.world_model.specs.Prefixes.{LinePart, IsLineBefore}
 use Rattle.world_model.proofs.Along.{IsAskedBy, IsOfPart, IsOfEffect, along, pieces_along, effect_along}
 use Rattle.world_model.proofs.Pieces.{Of, Law, Pieces, of_none, of_then, of_line_part, of_line_before}
-use Rattle.proof_serial.specs.Line.{AreLines}
+use Rattle.proof_world.specs.proof_serial.Line.{AreLines}
 use Rattle.proof_world.specs.Restarts.{KeepsWell, AllKeepWell}
 use Rattle.proof_work.specs.Doing.{IsDone}
 use Rattle.proof_work.specs.Machines.{DoesWell, AllDoWell}

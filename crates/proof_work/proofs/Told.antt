@@ -40,9 +40,9 @@ use Rattle.host_model.specs.After.{gives_up, is_full, is_held, line_ticked, requ
 use Rattle.host_model.specs.Events.{HostEvent, Accepts, Cancels, Hears, Requests_do, Interviews, Interview_unkept, Unreads, Is_unkept, Reports_old, Finishes, Offers, Gives, Spends_unread, Notifies, Resends, Hears_value, Has_no_room, Line_ticks, Node_ticks, Drops_no_more, Begins, Begin_unkept}
 use Rattle.host_model.specs.May.{May, IsInterviewed}
 use Rattle.host_model.specs.Outs.{answer_to, dropped_if, ended_of, failing_entries, held_entries, noted, request_entries, stored_entries}
-use Rattle.proof_host.specs.Entries.{entries_at, notes_of}
+use Rattle.proof_walk.specs.proof_host.Entries.{entries_at, notes_of}
 use Rattle.proof_work.specs.Tasks.{KeepsInterview, ended, ended_if, errand_of, errands, interview_of, interviews, task_ended, task_of}
-use Rattle.proof_host.proofs.Effects.{notes_noted, copy_notes}
+use Rattle.proof_walk.proofs.Effects.{notes_noted, copy_notes}
 
 -- an entry that tells of no end of an errand or interview
 abbrev IsOther : Entry → Type 0

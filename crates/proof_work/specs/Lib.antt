@@ -5,3 +5,5 @@ pub mod Line
 pub mod Tasks
 pub mod Machines
 pub mod Phases
+pub use Rattle.proof_walk.specs.proof_device as proof_device
+pub use Rattle.proof_walk.specs as proof_walk

@@ -8,7 +8,7 @@ ghost use Rattle.world_model.specs.State.{Machine, first_machine};
 ghost use Rattle.world_model.specs.Events.{Event, happens, May};
 ghost use Rattle.world_model.specs.Did.{happens_all, MayAll};
 ghost use Rattle.world_model.specs.Prefixes.{LinePart};
-ghost use Rattle.proof_serial.specs.Line.{AreLines};
+ghost use Rattle.proof_world.specs.proof_serial.Line.{AreLines};
 ghost use Rattle.proof_world.specs.Restarts.{KeepsWell};
 ghost use Rattle.proof_work.specs.Machines.{AllDoWell, DoesWell};
 ghost use Rattle.proof_work.specs.Work.{HostWork};

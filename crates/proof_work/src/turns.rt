@@ -10,7 +10,7 @@ ghost use Rattle.host_model.specs.After.{after};
 ghost use Rattle.host_model.specs.Did.{after_all, MayAll};
 ghost use Rattle.host_model.specs.May.{May, IsFree};
 ghost use Rattle.law_time.specs.Rests.{interview_end};
-ghost use Rattle.proof_host.specs.Entries.{entries_at};
+ghost use Rattle.proof_walk.specs.proof_host.Entries.{entries_at};
 ghost use Rattle.proof_work.specs.Doing.{IsDone};
 ghost use Rattle.proof_work.specs.Rests.{Rests};
 ghost use Rattle.proof_work.specs.Tasks.{KeepsInterview, added, added_all, ended, ended_all, errands, interviews, tasks_of};

@@ -29,19 +29,19 @@ use Rattle.device_sim.specs.State.{State}
 use Rattle.device_sim.specs.Event.{DeviceEvent, device_replies}
 use Rattle.air_frames.specs.declared.ages.Refusal.{Refusal as RepeatRefusal}
 use Rattle.air_frames.specs.declared.ages.Refusal.TheVariants as repeat
-use Rattle.mesh_sim.specs.Air.{is_joined}
-use Rattle.mesh_sim.specs.Steps.{AirStep, answers_if, mesh_after, mesh_outs}
-use Rattle.mesh_sim.specs.Routes.{backwards}
-use Rattle.mesh_sim.specs.declared.event.AirEvent.{AirEvent}
-use Rattle.mesh_sim.specs.declared.event.AirEvent.TheVariants as air_event
-use Rattle.outside_model.specs.declared.waits.Due.{Due}
-use Rattle.outside_model.specs.declared.waits.Due.TheVariants.{Info, NoRoute as no_route_due}
-use Rattle.outside_model.specs.State.{OuterState, Outside, Outcome, silent, tells, and_then, each, with_chip}
-use Rattle.outside_model.specs.Chip.{put_out, chip_does}
-use Rattle.outside_model.specs.Results.{owes_call, call_back, no_route, no_routes, leading, forgets, frame_ends, gives, without_no_route}
-use Rattle.outside_model.specs.Air.{change_entries, to_chip, sent_entries, deals}
-use Rattle.outside_model.specs.Devices.{changes_entries, new_changes, sends, acts, acts_at, acts_by_hand, shown_entries}
-use Rattle.outside_model.specs.Events.{OuterEvent, Begins_line, Begins_tick, Host_writes, Host_takes, Host_notes, Host_begins, Chip_takes, Arrives, Gives, Device_ticks, Chip_ticks, Repeats, Wakes_device, Sets_device, Shows, Joins, Discovers, Links, Loses, Loses_acks, Marks_loss, Marks_change, Clears_pipe, Collides_next, Stalls, Cuts, is_own, cleared_entries, mesh_of, steps, repeats, outcome, stamp, ticked_entry, entries}
+use Rattle.proof_device.specs.mesh_sim.Air.{is_joined}
+use Rattle.proof_device.specs.mesh_sim.Steps.{AirStep, answers_if, mesh_after, mesh_outs}
+use Rattle.proof_device.specs.mesh_sim.Routes.{backwards}
+use Rattle.proof_device.specs.mesh_sim.declared.event.AirEvent.{AirEvent}
+use Rattle.proof_device.specs.mesh_sim.declared.event.AirEvent.TheVariants as air_event
+use Rattle.proof_device.specs.outside_model.declared.waits.Due.{Due}
+use Rattle.proof_device.specs.outside_model.declared.waits.Due.TheVariants.{Info, NoRoute as no_route_due}
+use Rattle.proof_device.specs.outside_model.State.{OuterState, Outside, Outcome, silent, tells, and_then, each, with_chip}
+use Rattle.proof_device.specs.outside_model.Chip.{put_out, chip_does}
+use Rattle.proof_device.specs.outside_model.Results.{owes_call, call_back, no_route, no_routes, leading, forgets, frame_ends, gives, without_no_route}
+use Rattle.proof_device.specs.outside_model.Air.{change_entries, to_chip, sent_entries, deals}
+use Rattle.proof_device.specs.outside_model.Devices.{changes_entries, new_changes, sends, acts, acts_at, acts_by_hand, shown_entries}
+use Rattle.proof_device.specs.outside_model.Events.{OuterEvent, Begins_line, Begins_tick, Host_writes, Host_takes, Host_notes, Host_begins, Chip_takes, Arrives, Gives, Device_ticks, Chip_ticks, Repeats, Wakes_device, Sets_device, Shows, Joins, Discovers, Links, Loses, Loses_acks, Marks_loss, Marks_change, Clears_pipe, Collides_next, Stalls, Cuts, is_own, cleared_entries, mesh_of, steps, repeats, outcome, stamp, ticked_entry, entries}
 use Rattle.proof_host.specs.Entries.{IsAside}
 
 abbrev pub Asides : List Entry → Type 0

@@ -5,7 +5,7 @@ use Rattle.zw_text.specs.declared.entry.Entry.{Entry}
 use Rattle.device_kinds.specs.declared.kind.Kind.{Kind}
 use Rattle.device_sim.specs.State.{State, fresh}
 use Rattle.device_sim.specs.Laws.{IsInOrder}
-use Rattle.law_transcript.specs.Headline.{IsAsMade}
+use Rattle.proof_host.specs.law_transcript.Headline.{IsAsMade}
 use Rattle.proof_device.specs.GoingOn.{AreInOrder, TakesOnce, TakeOnce}
 use Rattle.proof_device.specs.Showing.{AreUnchanged, IsShown}
 use Rattle.proof_world.specs.Devices.{GroupsSessions}

@@ -9,13 +9,13 @@ use Rattle.host_model.specs.After.{after}
 use Rattle.host_model.specs.Outs.{outs, answers}
 use Rattle.host_model.specs.May.{May as MayHost}
 use Rattle.host_model.specs.Did.{MayAll as MayAllHost, after_all}
-use Rattle.outside_model.specs.State.{Outside}
-use Rattle.outside_model.specs.Events.{Host_notes, entries as entries_outside, outcome}
-use Rattle.outside_model.specs.Did.{entries_all as entries_all_outside}
-use Rattle.world_model.specs.State.{Machine, routed, host_does, host_entries}
-use Rattle.world_model.specs.Events.{Event, Outside_does, Host_does, Host_takes, Decoder_ticks, Refuses, Shows_values, Restarts, fed, shown_values, happens, entries, May}
-use Rattle.world_model.specs.Did.{happens_all, entries_all, MayAll}
-use Rattle.world_model.proofs.Hosting.{entries_cons}
+use Rattle.proof_device.specs.outside_model.State.{Outside}
+use Rattle.proof_device.specs.outside_model.Events.{Host_notes, entries as entries_outside, outcome}
+use Rattle.proof_device.specs.outside_model.Did.{entries_all as entries_all_outside}
+use Rattle.proof_device.specs.world_model.State.{Machine, routed, host_does, host_entries}
+use Rattle.proof_device.specs.world_model.Events.{Event, Outside_does, Host_does, Host_takes, Decoder_ticks, Refuses, Shows_values, Restarts, fed, shown_values, happens, entries, May}
+use Rattle.proof_device.specs.world_model.Did.{happens_all, entries_all, MayAll}
+use Rattle.proof_device.proofs.Hosting.{entries_cons}
 use Rattle.host_model.proofs.Silence.{Silent, judged_silent}
 use Rattle.proof_host.specs.Entries.{IsAside, entries_at}
 use Rattle.proof_host.specs.Facts.{Facts, StartsAs}

@@ -15,3 +15,17 @@ pub mod Runs
 pub mod SpokenLines
 pub use Rattle.proof_device.proofs.DevicePlaces
 pub use Rattle.proof_device.proofs.HostOuts
+pub use Rattle.proof_serial.proofs.Frames
+pub use Rattle.proof_serial.proofs.Ways
+pub use Rattle.proof_serial.proofs.ChipWays
+pub use Rattle.proof_serial.proofs.Outer
+pub use Rattle.proof_serial.proofs.ChipMoves
+pub use Rattle.proof_serial.proofs.ChipFrames
+pub use Rattle.proof_serial.proofs.HostFits
+pub use Rattle.proof_serial.proofs.EndedItems
+pub use Rattle.host_model.proofs.Submitted
+pub use Rattle.host_model.proofs.EventLists
+pub use Rattle.proof_serial.proofs.Events
+pub use Rattle.proof_serial.proofs.ChangedUnits
+pub use Rattle.proof_serial.proofs.First
+pub use Rattle.proof_serial.proofs.HostRuns

@@ -15,10 +15,10 @@ use Rattle.host_model.specs.Events.{HostEvent, Accepts, Cancels, Joins, Queues, 
 use Rattle.host_model.specs.Outs.{outs, answer_to, copy_out, noted, answers}
 use Rattle.host_model.specs.declared.out.HostOut.{HostOut}
 use Rattle.host_model.specs.declared.out.HostOut.TheVariants.{Write, Note}
-use Rattle.outside_model.specs.State.{Outside, OuterState}
-use Rattle.outside_model.specs.Events.{Host_writes, Host_notes, Host_begins, happens, entries, outcome, devices_after, ticked_entry}
-use Rattle.outside_model.specs.Did.{entries_all}
-use Rattle.world_model.specs.State.{begun_in, noted_by, routed}
+use Rattle.proof_device.specs.outside_model.State.{Outside, OuterState}
+use Rattle.proof_device.specs.outside_model.Events.{Host_writes, Host_notes, Host_begins, happens, entries, outcome, devices_after, ticked_entry}
+use Rattle.proof_device.specs.outside_model.Did.{entries_all}
+use Rattle.proof_device.specs.world_model.State.{begun_in, noted_by, routed}
 use Rattle.proof_host.specs.Entries.{IsAside, note_of, notes_of, entries_at}
 use Rattle.proof_world.proofs.Aside.{Asides, ticked_aside, write_aside}
 

@@ -8,9 +8,9 @@ use Rattle.host_model.specs.State.{HostState}
 use Rattle.host_model.specs.Events.{HostEvent}
 use Rattle.host_model.specs.After.{after}
 use Rattle.host_model.specs.Did.{MayAll as MayAllHost, after_all, records_all, texts_of}
-use Rattle.world_model.specs.State.{Machine, with_texts, first_machine}
-use Rattle.world_model.specs.Events.{Event, Outside_does, Host_does, Host_takes, Decoder_ticks, Refuses, Shows_values, Restarts, OpensFrom, happens, May}
-use Rattle.world_model.specs.Did.{MayAll}
+use Rattle.proof_device.specs.world_model.State.{Machine, with_texts, first_machine}
+use Rattle.proof_device.specs.world_model.Events.{Event, Outside_does, Host_does, Host_takes, Decoder_ticks, Refuses, Shows_values, Restarts, OpensFrom, happens, May}
+use Rattle.proof_device.specs.world_model.Did.{MayAll}
 use Rattle.host_model.specs.Recording.{AllOfJoined}
 use Rattle.proof_world.specs.Restarts.{KeepsWell, AllKeepWell}
 use Rattle.proof_serial.specs.Host.{FitsEvent, AsksWell as LineAsksWell, AllAskWell}

@@ -10,14 +10,14 @@ use Rattle.host_model.specs.State.{HostState, node_of}
 use Rattle.host_model.specs.May.{known_of}
 use Rattle.host_model.specs.Asking.{places_refusal, interview_refusal}
 use Rattle.host_model.specs.Events.{HostEvent, Queues, Queues_interview, Requests_do, Interviews, Finishes, Gives, Spends, Spends_unread, Takes_nonce}
-use Rattle.world_model.specs.State.{Machine}
-use Rattle.world_model.specs.Events.{Event, Host_does}
-use Rattle.world_model.specs.Did.{happens_all}
-use Rattle.world_model.specs.Lines.{IsEffect}
-use Rattle.world_model.specs.Prefixes.{LinePart, IsLineBefore}
+use Rattle.proof_device.specs.world_model.State.{Machine}
+use Rattle.proof_device.specs.world_model.Events.{Event, Host_does}
+use Rattle.proof_device.specs.world_model.Did.{happens_all}
+use Rattle.proof_device.specs.world_model.Lines.{IsEffect}
+use Rattle.proof_device.specs.world_model.Prefixes.{LinePart, IsLineBefore}
 use Rattle.host_model.proofs.Own.{IsOwn}
-use Rattle.world_model.proofs.Pieces.{Of, Law, Pieces, of_none, of_then, of_line_part, of_line_before}
-use Rattle.world_model.proofs.Along.{IsAskedBy, IsOfPart, IsOfEffect, along, pieces_along, effect_along}
+use Rattle.proof_device.proofs.Pieces.{Of, Law, Pieces, of_none, of_then, of_line_part, of_line_before}
+use Rattle.proof_device.proofs.Along.{IsAskedBy, IsOfPart, IsOfEffect, along, pieces_along, effect_along}
 use Rattle.proof_serial.specs.Line.{AreLines}
 use Rattle.proof_world.specs.Lines.{AsksNothing, IsAsked, AsksWell, AllAsked}
 use Rattle.proof_world.proofs.Errands.{send_short, get_short}

@@ -6,11 +6,11 @@ use Rattle.zw_words.specs.declared.fault.LineFault.{LineFault}
 use Rattle.zw_text.specs.Line.{line_at}
 use Rattle.zw_text.specs.Transcript.{read_as}
 use Rattle.zw_text.specs.declared.line.Line.{Line}
-use Rattle.world_model.specs.State.{Machine}
-use Rattle.world_model.specs.Events.{Event}
-use Rattle.world_model.specs.Did.{happens_all, MayAll}
-use Rattle.world_model.specs.Prefixes.{IsLineBefore}
-use Rattle.world_model.proofs.EventLists.{happens_all-append, may_all-append}
+use Rattle.proof_device.specs.world_model.State.{Machine}
+use Rattle.proof_device.specs.world_model.Events.{Event}
+use Rattle.proof_device.specs.world_model.Did.{happens_all, MayAll}
+use Rattle.proof_device.specs.world_model.Prefixes.{IsLineBefore}
+use Rattle.proof_device.proofs.EventLists.{happens_all-append, may_all-append}
 use Rattle.proof_serial.specs.Line.{AreLines}
 use Rattle.world_lines.specs.Spoken.{Spoken, after, after_all}
 use Rattle.world_lines.specs.Done.{IsRead, AreDone, events_of}

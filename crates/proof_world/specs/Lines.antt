@@ -6,9 +6,9 @@ use Rattle.host_requests.specs.declared.task.Task.{Task}
 use Rattle.host_requests.specs.declared.task.Task.TheVariants.{Plain, Offer, Segment, First, Second}
 use Rattle.host_model.specs.State.{HostState, node_of}
 use Rattle.host_model.specs.Events.{HostEvent, Queues, Queues_interview, Requests_do, Interviews, Finishes, Gives, Spends, Spends_unread, Takes_nonce}
-use Rattle.world_model.specs.State.{Machine}
-use Rattle.world_model.specs.Events.{Event, Host_does}
-use Rattle.world_model.specs.Did.{AllAlong}
+use Rattle.proof_device.specs.world_model.State.{Machine}
+use Rattle.proof_device.specs.world_model.Events.{Event, Host_does}
+use Rattle.proof_device.specs.world_model.Did.{AllAlong}
 
 -- a message of a user's own, that fits a frame of the radio, or a question; an interview is asked for as a whole
 abbrev pub IsErrand : Task → Type 0

@@ -7,8 +7,8 @@ use Rattle.host_keep.specs.declared.record.Record.{Record}
 use Rattle.host_model.specs.State.{HostState}
 use Rattle.host_model.specs.Holding.{Holds}
 use Rattle.host_model.specs.Recording.{IsOfJoined, AllOfJoined}
-use Rattle.world_model.specs.State.{Machine}
-use Rattle.world_model.specs.Events.{Event, Host_does, Host_takes, Restarts, happens}
+use Rattle.proof_device.specs.world_model.State.{Machine}
+use Rattle.proof_device.specs.world_model.Events.{Event, Host_does, Host_takes, Restarts, happens}
 use Rattle.proof_host.specs.Facts.{StartsAs}
 
 -- a host that starts has what the one before it recorded

@@ -18,3 +18,4 @@ mod machine;
 pub use lines::{lines_ask_well, lines_keep_and_ask_well, runs_keep_and_ask_well};
 pub use machine::{restarts_go_on, runs_keep_laws, runs_take_once, the_machine_keeps_facts};
 pub use proof_device as device;
+pub use proof_serial as serial;

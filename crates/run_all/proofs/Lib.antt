@@ -1,1 +1,2 @@
 pub mod Asked
+pub use Rattle.run_replay.proofs.EventLists

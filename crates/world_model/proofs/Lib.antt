@@ -5,3 +5,4 @@ pub mod Taking
 pub mod Schedules
 pub mod Pieces
 pub mod Along
+pub use Rattle.outside_model.proofs.EventLists as outside_model_EventLists

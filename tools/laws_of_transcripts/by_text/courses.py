@@ -2,6 +2,8 @@
 
 These are found from the transcript, and then judged by the text of the law.
 """
+from copy import copy
+
 from ..ciphers import unsealed
 from ..serial import item_of
 from .values import EMPTY, WORLD, Function, Rest, append, tuple_of
@@ -53,7 +55,7 @@ def text_of(unit):
 
 
 class Link:
-    """The steps of a side, as late as the units that it wrote allow."""
+    """The steps of a side, in one way that the units that it wrote allow."""
 
     def __init__(self, names, is_chip):
         self.is_chip, self.names = is_chip, names
@@ -108,21 +110,33 @@ class Link:
             self.side = WORLD.record(("turn", "collisions"), (self.side.turn, self.side.collisions + 1))
             self.step(ASKED, ())
 
-    def writes(self, unit):
-        """The steps up to a unit that the side wrote; whether they write it."""
+    def ways(self, unit):
+        """Each way to go on up to a unit that the side wrote: a frame of its own may be submitted before what is ahead is heard, or after some of it."""
         self.asks()
+        found = []
         while True:
             may_submit = self.side.turn is IDLE and unit[0] == 1
             if self.is_tick and not self.has_ticked and not (may_submit and self.is_chip):
                 written = self.ticks()
-            elif may_submit:
-                written = self.submits(unit)
-            elif self.ahead and not self.is_stalled():
-                written = self.hears()
             else:
-                return False
+                if may_submit:
+                    found.append(self.copy())
+                    found[-1].submits(unit)
+                if not self.ahead or self.is_stalled():
+                    return found
+                written = self.hears()
             if written is not None:
-                return written == unit
+                return found + [self] if written == unit else found
+
+    def copy(self):
+        """As it is now."""
+        link = copy(self)
+        link.ahead, link.part = list(self.ahead), list(self.part)
+        return link
+
+    def state(self):
+        """What the steps to come go by."""
+        return repr(self.side), tuple(self.ahead), self.has_ticked, self.is_asked
 
     def ends(self):
         """The steps up to the end of a line or tick."""
@@ -157,23 +171,40 @@ class Link:
 
 
 def parts_of(names, events, is_chip):
-    """The steps of a side up to each event of the serial line, or the place of the event up to which there are none."""
-    link, parts, own = Link(names, is_chip), [], "Side.Chip" if is_chip else "Side.Host"
+    """The steps of a side up to each event of the serial line, in each way that was found; or none, and the place of the event up to which there are none."""
+    links, own = [(Link(names, is_chip), None)], "Side.Chip" if is_chip else "Side.Host"
     for place, event in enumerate(events):
-        if event.name == "SerialEvent.Writes":
-            side, unit, arriving = event.fields
-            if side.name == own:
-                if not link.writes(tuple(unit)):
-                    return place
-            else:
-                link.ahead += [tuple(one) for one in tuple_of(arriving)]
-            parts.append(link.taken())
-        else:
-            if not link.ends():
-                return place
-            parts.append(link.taken())
-            link.begins(event)
-    return parts
+        then = {}
+        for link, before in links:
+            for way in goes_on(link, event, own):
+                part = way.taken()
+                if event.name != "SerialEvent.Writes":
+                    way.begins(event)
+                then.setdefault(way.state(), (way, (before, part)))
+        if not then:
+            return [], place
+        links = list(then.values())
+    return [in_order(parts) for _, parts in links], None
+
+
+def goes_on(link, event, own):
+    """Each way in which a side goes on up to an event."""
+    if event.name != "SerialEvent.Writes":
+        return [link] if link.ends() else []
+    side, unit, arriving = event.fields
+    if side.name == own:
+        return link.ways(tuple(unit))
+    link.ahead += [tuple(one) for one in tuple_of(arriving)]
+    return [link]
+
+
+def in_order(parts):
+    """What was linked last first, as a list."""
+    found = []
+    while parts is not None:
+        parts, part = parts
+        found.append(part)
+    return found[::-1]
 
 
 def moments_of(events, parts):

@@ -111,18 +111,28 @@ Broken = namedtuple("Broken", "law whole part place entry")
 
 
 def links_broken(entries, side):
-    """Where `KeepsLink` breaks: a part of it and the place of an event of the serial line; and the moments."""
+    """Where `KeepsLink` breaks: a part of it and the place of an event of the serial line, where it breaks with all steps that were found; and the moments."""
     events = tuple_of(NAMES.get("law_wire.specs.Serial.serial_events").code(entries))
-    parts = parts_of(NAMES, events, side.name == "Side.Chip")
-    if isinstance(parts, int):
-        return ("writes", parts), None
-    moments = moments_of(events, parts)
+    found, place = parts_of(NAMES, events, side.name == "Side.Chip")
+    first = (("writes", place), None)
+    for parts in found:
+        moments = moments_of(events, parts)
+        broken = moments_broken(moments, side)
+        if broken is None:
+            return None, moments
+        if parts is found[0]:
+            first = broken, moments
+    return first
+
+
+def moments_broken(moments, side):
+    """The same of these moments."""
     for name in LINKS:
         claim = NAMES.get("law_wire.specs.Links." + name).code
         for place, (past, one) in enumerate(steps_of(moments)):
             if not (claim(side, one) if name == "WritesThere" else claim(side, past, one)):
-                return (name, place), moments
-    return None, moments
+                return name, place
+    return None
 
 
 def clears_broken(entries, chip, host):

@@ -1,7 +1,7 @@
 use Rattle.std.proofs.Common.{[], refl, ◌∙◌}
 use Rattle.law_wire.proofs.Walks.{direct, is_linked}
 use Rattle.law_time.proofs.Computing.{computing}
-use Rattle.law_transcript.proofs.Deciding.{not_true}
+use Rattle.law_wire.proofs.Deciding.{not_true}
 use Rattle.law_time.proofs.calm.owed_stretches.Goals as goal
 
 pub returns-clause-rest : goal.returns-clause-rest

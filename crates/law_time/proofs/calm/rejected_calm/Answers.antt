@@ -1,5 +1,5 @@
 use Rattle.law_time.proofs.Computing.{computing}
-use Rattle.law_transcript.proofs.Deciding.{not_true}
+use Rattle.law_wire.proofs.Deciding.{not_true}
 use Rattle.law_time.proofs.calm.rejected_calm.Goals as goal
 
 pub returns-clause-marked : goal.returns-clause-marked

@@ -1,7 +1,7 @@
 use Rattle.std.proofs.Common.{[], refl, sym, ◌∙◌}
 use Rattle.law_wire.proofs.Walks.{apart, direct, is_linked}
 use Rattle.law_time.proofs.Computing.{computing}
-use Rattle.law_transcript.proofs.Deciding.{not_true}
+use Rattle.law_wire.proofs.Deciding.{not_true}
 use Rattle.law_time.proofs.calm.rejected_stretches.Goals as goal
 
 pub returns-clause-lossy : goal.returns-clause-lossy

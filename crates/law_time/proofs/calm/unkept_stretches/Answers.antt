@@ -1,6 +1,6 @@
 use Rattle.std.proofs.Common.{refl, sym}
 use Rattle.law_time.proofs.Computing.{computing}
-use Rattle.law_transcript.proofs.Deciding.{not_true}
+use Rattle.law_wire.proofs.Deciding.{not_true}
 use Rattle.law_time.proofs.calm.unkept_stretches.Goals as goal
 
 pub returns-clause-quiet : goal.returns-clause-quiet

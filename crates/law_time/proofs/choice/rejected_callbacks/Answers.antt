@@ -2,7 +2,7 @@ use Rattle.std.proofs.Common.{refl}
 use Rattle.law_time.specs.Choice.{may_number}
 use Rattle.law_time.specs.WrongChoice.{id_over_restart, id_repeated, id_skipped, sent_with_options}
 use Rattle.law_time.proofs.Computing.{computing}
-use Rattle.law_transcript.proofs.Deciding.{broken}
+use Rattle.law_wire.proofs.Deciding.{broken}
 use Rattle.law_time.proofs.choice.rejected_callbacks.Goals as goal
 
 pub returns-clause-skipped : goal.returns-clause-skipped

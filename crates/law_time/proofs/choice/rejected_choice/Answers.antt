@@ -3,9 +3,9 @@ use Rattle.std.proofs.Common.{[], ◌∷◌, refl}
 use Rattle.law_time.specs.Choice.{may_send}
 use Rattle.law_time.specs.WorkedChoice.{the_near_lock}
 use Rattle.law_time.specs.WrongChoice.{begun_asleep, begun_before_abort, begun_before_request, begun_out_of_order, begun_unkept, begun_while_open, first_sent_twice, first_served_twice, nonce_asked_plainly, sealed_after_late, sealed_after_plain, sealed_again, sealed_for_none, sealed_for_other, sealed_for_skipped, sealed_for_uncounted, sealed_for_unkept, sealed_for_unkept_lost, sealed_twice, sealed_when_over, second_after_restart, second_sent_first, second_sent_twice, second_served_first, second_served_twice, sent_after_get, sent_after_third, sent_before_wait, sent_beyond, sent_for_nonce, sent_fourth, sent_though_working, sent_unsealed, sent_while_under_way, set_repeated}
-use Rattle.law_transcript.specs.Worked.{the_lock, the_plug, the_switch}
+use Rattle.law_wire.specs.law_transcript.Worked.{the_lock, the_plug, the_switch}
 use Rattle.law_time.proofs.Computing.{computing}
-use Rattle.law_transcript.proofs.Deciding.{broken}
+use Rattle.law_wire.proofs.Deciding.{broken}
 use Rattle.law_time.proofs.choice.rejected_choice.Goals as goal
 
 pub returns-clause-set : goal.returns-clause-set

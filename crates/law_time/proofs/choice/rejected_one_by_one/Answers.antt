@@ -2,7 +2,7 @@ use Rattle.std.proofs.Common.{refl}
 use Rattle.law_time.specs.Choice.{may_follow}
 use Rattle.law_time.specs.WrongChoice.{asked_before_end, asked_before_free, asked_before_silence, begun_before_end}
 use Rattle.law_time.proofs.Computing.{computing}
-use Rattle.law_transcript.proofs.Deciding.{broken}
+use Rattle.law_wire.proofs.Deciding.{broken}
 use Rattle.law_time.proofs.choice.rejected_one_by_one.Goals as goal
 
 pub returns-clause-response : goal.returns-clause-response

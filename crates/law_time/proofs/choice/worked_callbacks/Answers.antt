@@ -1,9 +1,9 @@
 use Rattle.std.proofs.Common.{refl}
 use Rattle.law_time.specs.Choice.{may_number}
 use Rattle.law_time.specs.WorkedTurns.{copied_after_overrun}
-use Rattle.law_transcript.specs.Worked.{long_message, plain_exchange, repeated_exchange, restarted_host}
+use Rattle.law_wire.specs.law_transcript.Worked.{long_message, plain_exchange, repeated_exchange, restarted_host}
 use Rattle.law_time.proofs.Computing.{computing}
-use Rattle.law_transcript.proofs.Deciding.{kept}
+use Rattle.law_wire.proofs.Deciding.{kept}
 use Rattle.law_time.proofs.choice.worked_callbacks.Goals as goal
 
 pub returns-clause-plain : goal.returns-clause-plain

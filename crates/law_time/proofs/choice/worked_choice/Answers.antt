@@ -3,9 +3,9 @@ use Rattle.std.proofs.Common.{[], ◌∷◌, refl}
 use Rattle.law_time.specs.Choice.{may_send}
 use Rattle.law_time.specs.WorkedAttempts.{begun_kept}
 use Rattle.law_time.specs.WorkedChoice.{again_after_get, again_after_set, again_after_wait, again_though_working, begun_after_abort, begun_after_restart, begun_after_unkept, begun_beside_unkept, first_after_restart, first_again, sealed_beside_unkept, sealed_for_next, sealed_for_same, sealed_over_restart, segment_after_failed, segment_after_lost}
-use Rattle.law_transcript.specs.Worked.{the_lock, the_plug, the_switch}
+use Rattle.law_wire.specs.law_transcript.Worked.{the_lock, the_plug, the_switch}
 use Rattle.law_time.proofs.Computing.{computing}
-use Rattle.law_transcript.proofs.Deciding.{kept}
+use Rattle.law_wire.proofs.Deciding.{kept}
 use Rattle.law_time.proofs.choice.worked_choice.Goals as goal
 
 pub returns-clause-again : goal.returns-clause-again

@@ -2,9 +2,9 @@ use Rattle.std.proofs.Common.{refl}
 use Rattle.law_time.specs.Choice.{may_follow}
 use Rattle.law_time.specs.WorkedQueue.{failed_attempts, silent_attempt}
 use Rattle.law_time.specs.WorkedWaits.{answered_errands}
-use Rattle.law_transcript.specs.Worked.{lossy_exchange, plain_exchange, restarted_host}
+use Rattle.law_wire.specs.law_transcript.Worked.{lossy_exchange, plain_exchange, restarted_host}
 use Rattle.law_time.proofs.Computing.{computing}
-use Rattle.law_transcript.proofs.Deciding.{kept}
+use Rattle.law_wire.proofs.Deciding.{kept}
 use Rattle.law_time.proofs.choice.worked_one_by_one.Goals as goal
 
 pub returns-clause-plain : goal.returns-clause-plain

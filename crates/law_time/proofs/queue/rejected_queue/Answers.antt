@@ -2,10 +2,10 @@ use Rattle.law_time.specs.Heeds.{heeds_of}
 use Rattle.std.proofs.Common.{[], ◌∷◌, refl}
 use Rattle.law_time.specs.Queue.{may_queue}
 use Rattle.law_time.specs.WrongQueue.{dropped_with_room, let_in_though_full, refused_with_room, reported_though_full, waits_though_full}
-use Rattle.law_transcript.specs.Worked.{the_lock, the_sensor, the_switch}
+use Rattle.law_wire.specs.law_transcript.Worked.{the_lock, the_sensor, the_switch}
 use Rattle.law_time.specs.WrongEntries.{dropped_of_another, refused_for_fewer}
 use Rattle.law_time.proofs.Computing.{computing}
-use Rattle.law_transcript.proofs.Deciding.{broken}
+use Rattle.law_wire.proofs.Deciding.{broken}
 use Rattle.law_time.proofs.queue.rejected_queue.Goals as goal
 use Rattle.law_time.specs.WrongTurns.{dropped_twice, undropped_before_session, undropped_before_unit, undropped_in_tick}
 

@@ -6,10 +6,10 @@ use Rattle.law_time.specs.WrongQueue.{aborted_unasked, sent_before_abort, sent_b
 use Rattle.law_time.specs.WrongRequests.{sent_out_of_turn, sent_unasked}
 use Rattle.law_time.specs.WrongWaits.{told_while_waiting}
 use Rattle.zw_text.specs.declared.entry.Ended.TheVariants as endings
-use Rattle.law_transcript.specs.Worked.{the_lock, the_sensor, the_switch, the_plug}
+use Rattle.law_wire.specs.law_transcript.Worked.{the_lock, the_sensor, the_switch, the_plug}
 use Rattle.law_time.specs.WrongEntries.{sent_after_end}
 use Rattle.law_time.proofs.Computing.{computing}
-use Rattle.law_transcript.proofs.Deciding.{broken}
+use Rattle.law_wire.proofs.Deciding.{broken}
 use Rattle.law_time.proofs.queue.rejected_turns.Goals as goal
 use Rattle.law_time.specs.WrongTurns.{asked_over_restart, probed_out_of_turn, reported_unkept, resent_beyond, resent_inside, resent_of_other, resent_of_plain, resent_when_ended, sent_again, sent_asleep, sent_by_other_command, sent_by_other_waking, sent_by_refused_restart, sent_fifth, sent_for_nothing, sent_in_time, sent_over_restart, sent_refused, sent_to_other, sent_too_soon, sent_when_ended, told_asleep, told_listening, told_out_of_turn, told_though_held, told_unjoined, told_unknown, told_while_held, aborted_early}
 

@@ -3,9 +3,9 @@ use Rattle.std.proofs.Common.{[], ◌∷◌, refl}
 use Rattle.law_time.specs.Queue.{may_queue}
 use Rattle.law_time.specs.WorkedQueue.{dropped_no_more, dropped_nonce}
 use Rattle.law_time.specs.WorkedWaits.{answered_errands, full_queue}
-use Rattle.law_transcript.specs.Worked.{cancelled_order, long_message, lossy_exchange, plain_exchange, repeated_exchange, restarted_host, sealed_exchange, sleeping_node, the_lock, the_plug, the_sensor, the_switch}
+use Rattle.law_wire.specs.law_transcript.Worked.{cancelled_order, long_message, lossy_exchange, plain_exchange, repeated_exchange, restarted_host, sealed_exchange, sleeping_node, the_lock, the_plug, the_sensor, the_switch}
 use Rattle.law_time.proofs.Computing.{computing}
-use Rattle.law_transcript.proofs.Deciding.{kept}
+use Rattle.law_wire.proofs.Deciding.{kept}
 use Rattle.law_time.proofs.queue.worked_queue.Goals as goal
 use Rattle.law_time.specs.WorkedTurns.{dropped_at_once, dropped_after_lost, dropped_after_report, refused_otherwise, unkept_though_full, dropped_again, dropped_once, dropped_woken}
 

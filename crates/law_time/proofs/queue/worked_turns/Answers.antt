@@ -4,9 +4,9 @@ use Rattle.law_time.specs.Choice.{may_send}
 use Rattle.law_time.specs.WorkedBetween.{told_after_restart, told_as_chip_writes}
 use Rattle.law_time.specs.WorkedQueue.{resent_segments, silent_attempt}
 use Rattle.law_time.specs.WorkedWaits.{answered_errands, held_node, the_keeper, the_other_switch, woken_before_restart}
-use Rattle.law_transcript.specs.Worked.{cancelled_order, long_message, lossy_exchange, plain_exchange, repeated_exchange, restarted_host, sealed_exchange, sleeping_node, the_lock, the_plug, the_sensor, the_switch}
+use Rattle.law_wire.specs.law_transcript.Worked.{cancelled_order, long_message, lossy_exchange, plain_exchange, repeated_exchange, restarted_host, sealed_exchange, sleeping_node, the_lock, the_plug, the_sensor, the_switch}
 use Rattle.law_time.proofs.Computing.{computing}
-use Rattle.law_transcript.proofs.Deciding.{kept}
+use Rattle.law_wire.proofs.Deciding.{kept}
 use Rattle.law_time.proofs.queue.worked_turns.Goals as goal
 use Rattle.law_time.specs.WorkedEnds.{aborted_at_fourth}
 use Rattle.law_time.specs.WorkedTurns.{again_after_cancelled, again_by_command, again_by_restart, again_by_waking, again_in_time, asked_after_abort, asked_after_unkept, asked_over_refused, asked_without_abort, discovered, first_resent, nonce_reported, probed, reported_beside_unkept, second_resent, told_again, told_awake, told_by_number, told_by_time, told_held, told_unheld, told_once, told_twice, told_as_numbered, told_by_time_as_numbered, copied_after_overrun, asked_after_interview}

@@ -1,12 +1,12 @@
 use Rattle.std.proofs.Common.{[], ◌∷◌, refl}
 use Rattle.law_time.specs.Errands.{may_say_done}
 use Rattle.law_time.specs.WrongRequests.{left_unsaid, said_early, said_given_up, said_otherwise, said_refused, said_unasked, silent_early, silent_too_soon}
-use Rattle.law_transcript.specs.Nodes.{listing_of, always}
-use Rattle.law_transcript.specs.Worked.{the_switch}
+use Rattle.law_wire.specs.law_transcript.Nodes.{listing_of, always}
+use Rattle.law_wire.specs.law_transcript.Worked.{the_switch}
 use Rattle.law_time.specs.WrongEntries.{said_of_another, said_not_idle, refused_as_not_idle, said_unrouted}
-use Rattle.law_transcript.specs.WorkedCases.{the_dimmer}
+use Rattle.law_wire.specs.law_transcript.WorkedCases.{the_dimmer}
 use Rattle.law_time.proofs.Computing.{computing}
-use Rattle.law_transcript.proofs.Deciding.{broken}
+use Rattle.law_wire.proofs.Deciding.{broken}
 use Rattle.law_time.proofs.requests.rejected_errands.Goals as goal
 use Rattle.law_time.specs.WrongEnds.{acknowledged_late, delivered_after_silence, delivered_after_denied, delivered_given_up, given_up_though_delivered, given_up_though_silent, refused_by_later, said_after_unit, said_by_new_list, said_failed, said_of_other, said_to_another, said_twice, silent_given_up, silent_over_restart, silent_though_delivered, unsaid, unsaid_refused, unsaid_after_changed, unsaid_after_lost, unsaid_after_overrun}
 use Rattle.law_time.specs.WorkedUnits.{failed, not_acknowledged, not_idle, without_route}

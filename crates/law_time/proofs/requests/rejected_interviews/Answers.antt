@@ -3,7 +3,7 @@ use Rattle.law_time.specs.Interviews.{may_end}
 use Rattle.law_time.specs.WrongRequests.{failed_though_informed, interviewed_early, left_unended}
 use Rattle.law_time.specs.WrongEntries.{interviewed_of_another, interviewed_unknown}
 use Rattle.law_time.proofs.Computing.{computing}
-use Rattle.law_transcript.proofs.Deciding.{broken}
+use Rattle.law_wire.proofs.Deciding.{broken}
 use Rattle.law_time.proofs.requests.rejected_interviews.Goals as goal
 use Rattle.law_time.specs.WrongEnds.{failed_by_response, failed_by_second, failed_of_another, failed_twice, interviewed_of_two, interviewed_twice, interviewed_uninformed, left_uninformed}
 

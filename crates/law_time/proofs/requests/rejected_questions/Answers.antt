@@ -3,7 +3,7 @@ use Rattle.law_time.specs.Questions.{may_answer}
 use Rattle.law_time.specs.WrongRequests.{answered_of_another, answered_otherwise, left_unanswered}
 use Rattle.law_time.specs.WrongEntries.{neighbours_of_another, failed_otherwise, answered_late}
 use Rattle.law_time.proofs.Computing.{computing}
-use Rattle.law_transcript.proofs.Deciding.{broken}
+use Rattle.law_wire.proofs.Deciding.{broken}
 use Rattle.law_time.proofs.requests.rejected_questions.Goals as goal
 use Rattle.law_time.specs.WrongEnds.{answered_twice, neighbours_untold}
 

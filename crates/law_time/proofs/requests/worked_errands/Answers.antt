@@ -1,11 +1,11 @@
 use Rattle.std.proofs.Common.{[], ◌∷◌, refl}
 use Rattle.law_time.specs.Errands.{may_say_done}
 use Rattle.law_time.specs.WorkedWaits.{answered_errands, not_idle_errand, refused_errand, silent_request, unrouted_errand}
-use Rattle.law_transcript.specs.Nodes.{listing_of, always}
-use Rattle.law_transcript.specs.Worked.{cancelled_order, long_message, lossy_exchange, plain_exchange, repeated_exchange, restarted_host, sealed_exchange, sleeping_node, the_lock, the_plug, the_sensor, the_switch}
-use Rattle.law_transcript.specs.WorkedCases.{the_dimmer}
+use Rattle.law_wire.specs.law_transcript.Nodes.{listing_of, always}
+use Rattle.law_wire.specs.law_transcript.Worked.{cancelled_order, long_message, lossy_exchange, plain_exchange, repeated_exchange, restarted_host, sealed_exchange, sleeping_node, the_lock, the_plug, the_sensor, the_switch}
+use Rattle.law_wire.specs.law_transcript.WorkedCases.{the_dimmer}
 use Rattle.law_time.proofs.Computing.{computing}
-use Rattle.law_transcript.proofs.Deciding.{kept}
+use Rattle.law_wire.proofs.Deciding.{kept}
 use Rattle.law_time.proofs.requests.worked_errands.Goals as goal
 use Rattle.law_time.specs.WorkedEnds.{acknowledged_after_stray, acknowledged_last, delivered_after_unread, delivered_before_denied, delivered_last, delivered_unanswered, failed_errand, given_up_at_answer, given_up_errand, given_up_in_time, refused_after_others, said_after_changed, said_after_lost, said_after_overrun, said_by_old_list, silent_before_given_up, silent_before_response, silent_after_response, denied_with_response, silent_later, silent_after_late, delivered_after_refused, silent_beside_other}
 

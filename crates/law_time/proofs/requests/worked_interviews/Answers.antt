@@ -1,10 +1,10 @@
 use Rattle.std.proofs.Common.{refl}
 use Rattle.law_time.specs.Interviews.{may_end}
 use Rattle.law_time.specs.WorkedWaits.{woken_before_restart}
-use Rattle.law_transcript.specs.Worked.{cancelled_order, long_message, lossy_exchange, plain_exchange, repeated_exchange, restarted_host, sealed_exchange, sleeping_node}
+use Rattle.law_wire.specs.law_transcript.Worked.{cancelled_order, long_message, lossy_exchange, plain_exchange, repeated_exchange, restarted_host, sealed_exchange, sleeping_node}
 use Rattle.law_time.specs.WrongEntries.{failed_unknown}
 use Rattle.law_time.proofs.Computing.{computing}
-use Rattle.law_transcript.proofs.Deciding.{kept}
+use Rattle.law_wire.proofs.Deciding.{kept}
 use Rattle.law_time.proofs.requests.worked_interviews.Goals as goal
 use Rattle.law_time.specs.WorkedEnds.{informed_after_lost, informed_twice, informed_unkept, interview_given_up, interview_refused, interview_uninformed, informed_beside_other}
 

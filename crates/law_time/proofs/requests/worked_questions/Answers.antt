@@ -2,9 +2,9 @@ use Rattle.std.proofs.Common.{refl}
 use Rattle.law_time.specs.Questions.{may_answer}
 use Rattle.law_time.specs.WorkedLate.{late_answer}
 use Rattle.law_time.specs.WorkedWaits.{answered_errands}
-use Rattle.law_transcript.specs.Worked.{cancelled_order, long_message, lossy_exchange, plain_exchange, repeated_exchange, restarted_host, sealed_exchange, sleeping_node}
+use Rattle.law_wire.specs.law_transcript.Worked.{cancelled_order, long_message, lossy_exchange, plain_exchange, repeated_exchange, restarted_host, sealed_exchange, sleeping_node}
 use Rattle.law_time.proofs.Computing.{computing}
-use Rattle.law_transcript.proofs.Deciding.{kept}
+use Rattle.law_wire.proofs.Deciding.{kept}
 use Rattle.law_time.proofs.requests.worked_questions.Goals as goal
 use Rattle.law_time.specs.WorkedEnds.{answered_after_lost}
 

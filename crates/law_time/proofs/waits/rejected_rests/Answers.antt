@@ -6,9 +6,9 @@ use Rattle.law_time.specs.WrongChoice.{left_due, left_sealed, left_segment}
 use Rattle.law_time.specs.WorkedWaits.{the_keeper}
 use Rattle.law_time.specs.WrongQueue.{left_unaborted, left_unreported, left_unresent}
 use Rattle.law_time.specs.WrongWaits.{left_awake, left_in_stall, left_overdue, left_unasked, left_unbegun, left_unheard, left_unsent, left_waiting}
-use Rattle.law_transcript.specs.Worked.{the_lock, the_plug, the_sensor, the_switch}
+use Rattle.law_wire.specs.law_transcript.Worked.{the_lock, the_plug, the_sensor, the_switch}
 use Rattle.law_time.proofs.Computing.{computing}
-use Rattle.law_transcript.proofs.Deciding.{broken, not_true}
+use Rattle.law_wire.proofs.Deciding.{broken, not_true}
 use Rattle.law_time.proofs.waits.rejected_rests.Goals as goal
 use Rattle.law_time.specs.WrongAttempts.{left_beside_unkept, left_over_restart, left_uninterviewed, left_unkept, left_a_tick, left_after_abort, left_after_line, left_given_up}
 

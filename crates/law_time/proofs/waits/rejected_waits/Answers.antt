@@ -3,10 +3,10 @@ use Rattle.std.proofs.Common.{[], ◌∷◌, refl}
 use Rattle.law_time.specs.Unanswered.{may_give_up}
 use Rattle.law_time.specs.WrongQueue.{given_up_before_failing, given_up_before_silence, given_up_by_resend, gone_on_after_failing, gone_on_after_silence, gone_on_after_waiting, gone_on_after_segments}
 use Rattle.law_time.specs.WrongWaits.{given_up_after_two, given_up_before_time, given_up_inside, given_up_under_way, gone_on_after_three}
-use Rattle.law_transcript.specs.Worked.{the_plug, the_switch, the_lock}
+use Rattle.law_wire.specs.law_transcript.Worked.{the_plug, the_switch, the_lock}
 use Rattle.law_time.specs.WrongEntries.{given_up_unbegun}
 use Rattle.law_time.proofs.Computing.{computing}
-use Rattle.law_transcript.proofs.Deciding.{broken, not_true}
+use Rattle.law_wire.proofs.Deciding.{broken, not_true}
 use Rattle.law_time.proofs.waits.rejected_waits.Goals as goal
 use Rattle.law_time.specs.WrongAttempts.{given_up_at_work, given_up_by_get, given_up_counting_earlier, given_up_counting_get, given_up_counting_other, given_up_counting_sealed, given_up_delivered, given_up_early, given_up_over_restart, given_up_succeeded, given_up_twice, given_up_late, given_up_after_line}
 

@@ -3,9 +3,9 @@ use Rattle.std.proofs.Common.{[], ◌∷◌, refl}
 use Rattle.law_time.specs.Unanswered.{may_give_up}
 use Rattle.law_time.specs.WorkedQueue.{failed_attempts, resent_segments, silent_attempt}
 use Rattle.law_time.specs.WorkedWaits.{given_up_asleep, given_up_lock, given_up_segments, waited_attempts}
-use Rattle.law_transcript.specs.Worked.{cancelled_order, long_message, lossy_exchange, plain_exchange, repeated_exchange, restarted_host, sealed_exchange, sleeping_node, the_lock, the_plug, the_sensor, the_switch}
+use Rattle.law_wire.specs.law_transcript.Worked.{cancelled_order, long_message, lossy_exchange, plain_exchange, repeated_exchange, restarted_host, sealed_exchange, sleeping_node, the_lock, the_plug, the_sensor, the_switch}
 use Rattle.law_time.proofs.Computing.{computing}
-use Rattle.law_transcript.proofs.Deciding.{kept}
+use Rattle.law_wire.proofs.Deciding.{kept}
 use Rattle.law_time.proofs.waits.worked_attempts.Goals as goal
 use Rattle.law_time.specs.WorkedAttempts.{given_up_at_segment, given_up_after_lost, given_up_beside_get, given_up_beside_other, given_up_beside_working, given_up_over_refused, given_up_refused, given_up_working, halted_waiting, given_up_after_unit, given_up_unkept}
 

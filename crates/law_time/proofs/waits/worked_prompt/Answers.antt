@@ -4,9 +4,9 @@ use Rattle.law_time.specs.Queue.{may_queue}
 use Rattle.law_time.specs.Choice.{may_follow, may_number, may_send}
 use Rattle.law_time.specs.Unanswered.{may_give_up}
 use Rattle.law_time.specs.Rests.{may_rest}
-use Rattle.law_transcript.specs.Worked.{plain_exchange, the_switch}
+use Rattle.law_wire.specs.law_transcript.Worked.{plain_exchange, the_switch}
 use Rattle.law_time.proofs.Computing.{computing}
-use Rattle.law_transcript.proofs.Deciding.{kept}
+use Rattle.law_wire.proofs.Deciding.{kept}
 use Rattle.law_time.proofs.waits.worked_prompt.Goals as goal
 
 pub returns : goal.returns

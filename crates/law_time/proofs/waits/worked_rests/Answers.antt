@@ -5,9 +5,9 @@ use Rattle.law_time.specs.WorkedBetween.{told_after_restart, told_as_chip_writes
 use Rattle.law_time.specs.WorkedChoice.{attempt_follows}
 use Rattle.law_time.specs.WorkedQueue.{resent_segments}
 use Rattle.law_time.specs.WorkedWaits.{sent_in_stall, answered_errands, the_keeper, the_other_switch, waited_attempts, woken_before_restart}
-use Rattle.law_transcript.specs.Worked.{cancelled_order, long_message, lossy_exchange, plain_exchange, repeated_exchange, restarted_host, sealed_exchange, sleeping_node, the_lock, the_plug, the_sensor, the_switch}
+use Rattle.law_wire.specs.law_transcript.Worked.{cancelled_order, long_message, lossy_exchange, plain_exchange, repeated_exchange, restarted_host, sealed_exchange, sleeping_node, the_lock, the_plug, the_sensor, the_switch}
 use Rattle.law_time.proofs.Computing.{computing}
-use Rattle.law_transcript.proofs.Deciding.{kept}
+use Rattle.law_wire.proofs.Deciding.{kept}
 use Rattle.law_time.proofs.waits.worked_rests.Goals as goal
 use Rattle.law_time.specs.WorkedAttempts.{asked_before_restart, begun_kept, waits_asleep}
 use Rattle.law_time.specs.WorkedEnds.{informed, informed_unkept, interview_uninformed, waits_for_line}

@@ -4,7 +4,7 @@ use Rattle.law_time.specs.Waking.{may_sleep, may_wake}
 use Rattle.law_time.specs.WrongWaits.{asleep_untold, asleep_unwoken, awake_untold, given_up_awake, held_unasked, not_held, sleep_passed_over, waking_passed_over}
 use Rattle.law_time.specs.WrongEntries.{asleep_though_listening, held_though_listening}
 use Rattle.law_time.proofs.Computing.{computing}
-use Rattle.law_transcript.proofs.Deciding.{broken, not_true}
+use Rattle.law_wire.proofs.Deciding.{broken, not_true}
 use Rattle.law_time.proofs.waking.rejected_waking.Goals as goal
 use Rattle.law_time.specs.WrongEnds.{asleep_again, asleep_before_end, asleep_by_other, awake_after_link, awake_after_refusal, awake_as_it_asks, awake_in_next_line, awake_in_next_tick}
 use Rattle.law_time.specs.WrongWaking.{awake_by_unread, held_by_other, held_by_unread, held_by_work, held_unanswered, not_held_by_both, not_held_failing, not_held_unsupported, awake_after_accepted, awake_after_change, awake_after_cleared, awake_after_forgotten, awake_after_frame, awake_after_full, awake_after_hearing, awake_after_line, awake_after_loss, awake_after_refused, awake_after_session, awake_after_tick, awake_after_unhearing, awake_after_unit, awake_after_note}

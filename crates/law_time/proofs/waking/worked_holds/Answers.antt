@@ -1,9 +1,9 @@
 use Rattle.std.proofs.Common.{refl}
 use Rattle.law_time.specs.Holds.{may_hold}
 use Rattle.law_time.specs.WorkedWaits.{held_node}
-use Rattle.law_transcript.specs.Worked.{cancelled_order, long_message, lossy_exchange, plain_exchange, repeated_exchange, restarted_host, sealed_exchange, sleeping_node}
+use Rattle.law_wire.specs.law_transcript.Worked.{cancelled_order, long_message, lossy_exchange, plain_exchange, repeated_exchange, restarted_host, sealed_exchange, sleeping_node}
 use Rattle.law_time.proofs.Computing.{computing}
-use Rattle.law_transcript.proofs.Deciding.{kept}
+use Rattle.law_wire.proofs.Deciding.{kept}
 use Rattle.law_time.proofs.waking.worked_holds.Goals as goal
 use Rattle.law_time.specs.WorkedWaking.{held_by_both, held_by_first, held_by_sealed, held_failing, held_unsupported, not_held_by_second, not_held_by_work}
 

@@ -1,9 +1,9 @@
 use Rattle.std.proofs.Common.{refl}
 use Rattle.law_time.specs.Waking.{may_sleep}
 use Rattle.law_time.specs.WorkedWaits.{given_up_asleep}
-use Rattle.law_transcript.specs.Worked.{cancelled_order, long_message, lossy_exchange, plain_exchange, repeated_exchange, restarted_host, sealed_exchange, sleeping_node}
+use Rattle.law_wire.specs.law_transcript.Worked.{cancelled_order, long_message, lossy_exchange, plain_exchange, repeated_exchange, restarted_host, sealed_exchange, sleeping_node}
 use Rattle.law_time.proofs.Computing.{computing}
-use Rattle.law_transcript.proofs.Deciding.{kept}
+use Rattle.law_wire.proofs.Deciding.{kept}
 use Rattle.law_time.proofs.waking.worked_sleeping.Goals as goal
 use Rattle.law_time.specs.WorkedEnds.{asleep_after_lost, asleep_given_up, asleep_in_silence, asleep_refused, telling, woken_again}
 

@@ -8,7 +8,7 @@ use Rattle.law_wire.specs.Arriving.{MayMeet}
 use Rattle.law_wire.proofs.Listening.{IsUp, lock_hears, lock_hears_again}
 use Rattle.transport_segments.specs.Places.{written, IsFull}
 use Rattle.transport_segments.specs.Taking.{taken_at, kept_after}
-use Rattle.device_stack.specs.Hearing.{hears_in_segments, hears_segment}
+use Rattle.law_transcript.specs.device_stack.Hearing.{hears_in_segments, hears_segment}
 use Rattle.law_wire.proofs.Computing.{reckoning}
 use Rattle.law_wire.proofs.arriving.worked_arrivals.Goals as goal
 

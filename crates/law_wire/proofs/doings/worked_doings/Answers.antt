@@ -1,9 +1,9 @@
 use Rattle.std.proofs.Common.{◌≡◌, List, [], ◌∷◌, ◌++◌, refl, sym, ap, inl, inr}
 use Rattle.std.specs.Prelude.{take}
 use Rattle.std.specs.List.{flat_map}
-use Rattle.device_kinds.specs.declared.change.Change.{Change}
-use Rattle.device_sim.specs.Event.{DeviceEvent}
-use Rattle.device_sim.specs.State.{State}
+use Rattle.law_transcript.specs.device_kinds.declared.change.Change.{Change}
+use Rattle.law_transcript.specs.device_sim.Event.{DeviceEvent}
+use Rattle.law_transcript.specs.device_sim.State.{State}
 use Rattle.zw_text.specs.Transcript.{made}
 use Rattle.zw_text.specs.declared.entry.Entry.{Entry}
 use Rattle.law_transcript.specs.Devices.{after_events, brought, comings, made_by, replies_joined, sent_from, ticks_lived}

@@ -2,10 +2,10 @@ use Rattle.std.proofs.Common.{◌≡◌, ℕ, suc, true, false, List, [], ◌∷
 use Rattle.std.specs.Prelude.{◌≤◌}
 use Rattle.std.specs.List.{flat_map}
 use Rattle.zw_base.specs.declared.property.Setting.{Setting}
-use Rattle.device_kinds.specs.declared.change.Change.{Change}
-use Rattle.device_sim.specs.State.{State}
-use Rattle.device_sim.specs.Event.{DeviceEvent, device_after}
-use Rattle.device_sim.specs.Event.DeviceEvent.{Hears, Ticks, Sets}
+use Rattle.law_transcript.specs.device_kinds.declared.change.Change.{Change}
+use Rattle.law_transcript.specs.device_sim.State.{State}
+use Rattle.law_transcript.specs.device_sim.Event.{DeviceEvent, device_after}
+use Rattle.law_transcript.specs.device_sim.Event.DeviceEvent.{Hears, Ticks, Sets}
 use Rattle.law_transcript.specs.Devices.{after_events, comings, made_by, replies_joined}
 use Rattle.law_transcript.specs.Worked.{the_sensor, the_switch}
 use Rattle.law_transcript.proofs.Comings.{first_tag, nothing_came, only_set, only_ticked}

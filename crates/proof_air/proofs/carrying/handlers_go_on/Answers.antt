@@ -1,6 +1,6 @@
 -- At first the chip has no frame for the host.
 use Rattle.std.proofs.Common.{refl}
-use Rattle.world_model.specs.State.{first_machine}
+use Rattle.proof_walk.specs.world_model.State.{first_machine}
 use Rattle.proof_air.proofs.Handling.{handler_walk, handlers_first}
 use Rattle.proof_air.proofs.carrying.handlers_go_on.Goals as goal
 

@@ -1,7 +1,7 @@
 -- What the walk knows of the frames of the chip is enough for the law.
 use Rattle.std.proofs.Common.{[]}
-use Rattle.world_model.specs.State.{first_machine}
-use Rattle.law_transcript.specs.Carrying.{MayBring}
+use Rattle.proof_walk.specs.world_model.State.{first_machine}
+use Rattle.law_wire.specs.law_transcript.Carrying.{MayBring}
 use Rattle.proof_walk.specs.Walk.{both_know}
 use Rattle.proof_walk.proofs.Lines.{lines_stand}
 use Rattle.proof_walk.proofs.Over.{over}

@@ -1,6 +1,6 @@
 -- At first each node has the device that it has at entry.
 use Rattle.std.proofs.Common.{[]}
-use Rattle.world_model.specs.State.{first_machine}
+use Rattle.proof_walk.specs.world_model.State.{first_machine}
 use Rattle.proof_walk.proofs.Lines.{lines_stand}
 use Rattle.proof_air.specs.Doing.{KnownDoers, MayDo}
 use Rattle.proof_air.proofs.Doing.{doers_first, doers_walk}

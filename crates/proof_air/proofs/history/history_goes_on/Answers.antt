@@ -2,8 +2,8 @@
 use Rattle.std.proofs.Common.{[], refl}
 use Rattle.air_frames.proofs.Counted.{IsOf-first}
 use Rattle.chip_sim.specs.Nodes.{none_marked}
-use Rattle.outside_model.specs.State.{first_outer}
-use Rattle.world_model.specs.State.{first_machine}
+use Rattle.proof_walk.specs.outside_model.State.{first_outer}
+use Rattle.proof_walk.specs.world_model.State.{first_machine}
 use Rattle.proof_air.proofs.Hearing.{air_walk, nothing_said}
 use Rattle.proof_air.proofs.history.history_goes_on.Goals as goal
 

@@ -1,7 +1,7 @@
 -- At first no tick has begun and nothing was sent.
 use Rattle.std.proofs.Common.{false, true, ◌≡◌, ◌≤◌, refl, arith}
 use Rattle.air_frames.specs.Frames.{no_frames}
-use Rattle.outside_model.specs.State.{first_outer}
+use Rattle.proof_walk.specs.outside_model.State.{first_outer}
 use Rattle.proof_air.proofs.LandingWalk.{landing_walk}
 use Rattle.proof_air.proofs.landing.landings_go_on.Goals as goal
 

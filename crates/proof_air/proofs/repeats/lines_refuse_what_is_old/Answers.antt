@@ -1,8 +1,8 @@
 -- What the air refuses to repeat is refused by the transcript.
 use Rattle.std.proofs.Common.{[], append-nil, subst, sym, ◌∙◌}
 use Rattle.std.specs.List.{AllByRecursion}
-use Rattle.world_model.specs.State.{first_machine}
-use Rattle.world_lines.specs.Spoken.{after_all, transcript_of}
+use Rattle.proof_walk.specs.world_model.State.{first_machine}
+use Rattle.proof_walk.specs.world_lines.Spoken.{after_all, transcript_of}
 use Rattle.proof_walk.proofs.Lines.{lines_lead}
 use Rattle.proof_air.specs.Hearing.{KnowAir, MayHear}
 use Rattle.proof_air.specs.Logs.{IsApart, log_of}

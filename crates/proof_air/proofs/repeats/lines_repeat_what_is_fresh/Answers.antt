@@ -1,7 +1,7 @@
 -- What is fresh by the history is fresh by the transcript.
 use Rattle.std.proofs.Common.{[]}
-use Rattle.world_model.specs.State.{first_machine}
-use Rattle.world_lines.specs.Spoken.{transcript_of}
+use Rattle.proof_walk.specs.world_model.State.{first_machine}
+use Rattle.proof_walk.specs.world_lines.Spoken.{transcript_of}
 use Rattle.proof_walk.proofs.Lines.{lines_stand}
 use Rattle.proof_air.specs.Hearing.{KnowAir, MayHear}
 use Rattle.proof_air.proofs.Fresh.{repeats_fresh}

@@ -1,11 +1,11 @@
 -- The machine is read so from the first line on.
 use Rattle.std.proofs.Common.{[]}
 use Rattle.std.specs.Prelude.{Some}
-use Rattle.world_model.specs.State.{first_machine}
-use Rattle.world_lines.specs.Spoken.{after_all, transcript_of}
-use Rattle.world_lines.specs.Done.{events_of}
+use Rattle.proof_line.specs.world_model.State.{first_machine}
+use Rattle.proof_line.specs.world_lines.Spoken.{after_all, transcript_of}
+use Rattle.proof_line.specs.world_lines.Done.{events_of}
 use Rattle.proof_line.proofs.SpokenLines.{all_lines, all_may, lines_of}
-use Rattle.proof_walk.proofs.Where.{where_lead, where_whole}
+use Rattle.proof_line.proofs.Where.{where_lead, where_whole}
 use Rattle.proof_alone.specs.State.{first_alone}
 use Rattle.proof_alone.specs.Reading.{IsFine, ReadsMarked}
 use Rattle.proof_alone.proofs.ReadingWalk.{Anything, all_fine, all_told, first_reads, keeper_told, reading_walk}

@@ -1,12 +1,12 @@
 -- The walk of this law goes over that of tables.
 use Rattle.std.proofs.Common.{[]}
 use Rattle.std.specs.Prelude.{Some}
-use Rattle.law_transcript.specs.Answers.{MayCancel}
-use Rattle.world_model.specs.State.{first_machine}
-use Rattle.world_lines.specs.Spoken.{transcript_of}
+use Rattle.law_host.specs.law_transcript.Answers.{MayCancel}
+use Rattle.proof_line.specs.world_model.State.{first_machine}
+use Rattle.proof_line.specs.world_lines.Spoken.{transcript_of}
 use Rattle.law_host.specs.Heard.{heard_by_host}
-use Rattle.proof_host.specs.Laws.{MayStand}
-use Rattle.proof_host.proofs.Lists.{each-weaker}
+use Rattle.proof_line.specs.proof_host.Laws.{MayStand}
+use Rattle.proof_line.proofs.Lists.{each-weaker}
 use Rattle.proof_alone.specs.State.{first_alone}
 use Rattle.proof_alone.specs.Answering.{AsOrdered, MayAnswer}
 use Rattle.proof_alone.specs.Runs.{both_know}

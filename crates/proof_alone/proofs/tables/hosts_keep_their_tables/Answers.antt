@@ -1,7 +1,7 @@
 -- The facts go on along each run, and the laws follow from them.
 use Rattle.std.proofs.Common.{[], refl}
 use Rattle.std.specs.Prelude.{Some}
-use Rattle.proof_host.specs.Laws.{MayStand}
+use Rattle.proof_line.specs.proof_host.Laws.{MayStand}
 use Rattle.proof_alone.specs.Tables.{KnowsTables}
 use Rattle.proof_alone.proofs.Running.{run_keeps}
 use Rattle.proof_alone.proofs.Tabling.{first_tables, tables_walk}

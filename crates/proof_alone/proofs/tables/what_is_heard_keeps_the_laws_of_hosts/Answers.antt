@@ -1,8 +1,8 @@
 -- What is heard of lines is told by a run of a host alone.
 use Rattle.std.proofs.Common.{[]}
 use Rattle.std.specs.Prelude.{Some}
-use Rattle.world_model.specs.State.{first_machine}
-use Rattle.world_lines.specs.Spoken.{transcript_of}
+use Rattle.proof_line.specs.world_model.State.{first_machine}
+use Rattle.proof_line.specs.world_lines.Spoken.{transcript_of}
 use Rattle.law_host.specs.Heard.{heard_by_host}
 use Rattle.proof_alone.specs.State.{first_alone}
 use Rattle.proof_alone.proofs.tables.what_is_heard_keeps_the_laws_of_hosts.Goals as goal

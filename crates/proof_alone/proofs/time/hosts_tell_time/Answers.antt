@@ -1,6 +1,6 @@
 -- At first no tick has begun, and none was asked for.
 use Rattle.std.proofs.Common.{[], refl}
-use Rattle.proof_walk.specs.Time.{MayCount}
+use Rattle.proof_line.specs.proof_walk.Time.{MayCount}
 use Rattle.proof_alone.specs.State.{first_alone}
 use Rattle.proof_alone.specs.Time.{KnowsClock}
 use Rattle.proof_alone.proofs.Running.{run_keeps}

@@ -4,15 +4,15 @@ use Rattle.std.specs.Prelude.{Some}
 use Rattle.device_kinds.specs.Sealing.{keys_of}
 use Rattle.zw_text.specs.declared.entry.Entry.{Entry}
 use Rattle.law_transcript.specs.Payloads.{SendsWhatIsDue}
-use Rattle.law_host.specs.Heard.{listing_heard}
+use Rattle.proof_known.specs.law_host.Heard.{listing_heard}
 use Rattle.law_time.specs.Moments.{Allows}
 use Rattle.law_time.specs.Waking.{may_wake}
 use Rattle.world_model.specs.State.{first_machine}
 use Rattle.world_lines.specs.Spoken.{transcript_of}
 use Rattle.proof_sending.proofs.Reasoned.{first_is}
-use Rattle.proof_alone.specs.State.{first_alone}
-use Rattle.proof_alone.specs.Runs.{Told, both_know}
-use Rattle.proof_alone.proofs.Running.{over, run_keeps}
+use Rattle.proof_known.specs.proof_alone.State.{first_alone}
+use Rattle.proof_known.specs.proof_alone.Runs.{Told, both_know}
+use Rattle.proof_known.proofs.Running.{over, run_keeps}
 use Rattle.proof_known.specs.Known.{KnowsOrders}
 use Rattle.proof_asking.specs.Asking.{IsHeardOf, KnowsDue}
 use Rattle.proof_asking.proofs.Telling.{Asks}

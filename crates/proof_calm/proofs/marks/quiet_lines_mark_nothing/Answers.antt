@@ -1,9 +1,9 @@
 -- One walk over quiet lines, from any machine that has no marks.
 use Rattle.std.proofs.Common.{[], refl}
 use Rattle.outside_model.specs.State.{first_outer}
-use Rattle.proof_walk.specs.Walk.{Walk}
-use Rattle.proof_walk.proofs.ByLine.{walk_of}
-use Rattle.proof_walk.proofs.Lines.{lines_lead}
+use Rattle.proof_work.specs.proof_walk.Walk.{Walk}
+use Rattle.proof_work.proofs.ByLine.{walk_of}
+use Rattle.proof_work.proofs.Lines.{lines_lead}
 use Rattle.proof_work.specs.Phases.{AsksNothing}
 use Rattle.proof_calm.specs.Marks.{IsUnmarked}
 use Rattle.proof_calm.specs.Quiet.{InQuiet, AtQuiet, DoingQuiet, KnowUnmarked}

@@ -1,8 +1,8 @@
 -- One walk over quiet lines, for any network.
 use Rattle.std.proofs.Common.{[], refl}
-use Rattle.proof_walk.specs.Walk.{Walk}
-use Rattle.proof_walk.proofs.ByLine.{walk_of}
-use Rattle.proof_walk.proofs.Lines.{lines_lead}
+use Rattle.proof_work.specs.proof_walk.Walk.{Walk}
+use Rattle.proof_work.proofs.ByLine.{walk_of}
+use Rattle.proof_work.proofs.Lines.{lines_lead}
 use Rattle.proof_work.specs.Phases.{AsksNothing}
 use Rattle.proof_calm.specs.Networks.{Members, members, HasMembers, KnowMembers}
 use Rattle.proof_calm.specs.Quiet.{InQuiet, AtQuiet, DoingQuiet}

@@ -1,5 +1,5 @@
 -- Both parts of a pass.
-use Rattle.proof_traffic.proofs.Parts.{Airs}
+use Rattle.proof_waking.proofs.proof_traffic_Parts.{Airs}
 use Rattle.proof_calm.proofs.ChipTurns.{chip_turns}
 use Rattle.proof_calm.proofs.HostTurns.{host_turns}
 use Rattle.proof_calm.proofs.passes.each_pass_brings_a_frame.Goals as goal

@@ -1,8 +1,8 @@
 -- One walk over quiet lines, from any machine whose line rests.
 use Rattle.std.proofs.Common.{[], refl}
 use Rattle.outside_model.specs.State.{first_outer}
-use Rattle.proof_walk.proofs.Where.{where_whole}
-use Rattle.proof_traffic.proofs.Parts.{Airs}
+use Rattle.proof_work.proofs.Where.{where_whole}
+use Rattle.proof_waking.proofs.proof_traffic_Parts.{Airs}
 use Rattle.proof_work.specs.Phases.{AsksNothing}
 use Rattle.proof_calm.specs.Resting.{KnowLine}
 use Rattle.proof_calm.specs.Settling.{IsServed}

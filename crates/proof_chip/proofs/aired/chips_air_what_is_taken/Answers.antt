@@ -9,11 +9,11 @@ use Rattle.world_model.specs.State.{Machine, first_machine}
 use Rattle.world_lines.specs.Spoken.{after_all, transcript_of}
 use Rattle.world_lines.specs.Done.{events_of}
 use Rattle.proof_line.proofs.SpokenLines.{all_lines, all_may, lines_of}
-use Rattle.proof_walk.specs.Phases.{Phase, Between}
-use Rattle.proof_walk.specs.Time.{KnowTime, MayCount}
-use Rattle.proof_walk.specs.Walk.{Walk, WalkOver, both_know}
-use Rattle.proof_walk.proofs.Over.{beside, over}
-use Rattle.proof_walk.proofs.Where.{where_lead, where_whole}
+use Rattle.proof_air.specs.proof_walk.Phases.{Phase, Between}
+use Rattle.proof_air.specs.proof_walk.Time.{KnowTime, MayCount}
+use Rattle.proof_air.specs.proof_walk.Walk.{Walk, WalkOver, both_know}
+use Rattle.proof_air.proofs.Over.{beside, over}
+use Rattle.proof_air.proofs.Where.{where_lead, where_whole}
 use Rattle.proof_air.specs.Hearing.{KnowAir as KnowHistory, MayHear}
 use Rattle.proof_air.specs.Landing.{KnowLanding}
 use Rattle.proof_routes.specs.Knowing.{KnowNetworks}

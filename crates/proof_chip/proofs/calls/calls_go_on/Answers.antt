@@ -1,8 +1,8 @@
 -- At first the chip waits for no result.
 use Rattle.std.proofs.Common.{[], refl}
 use Rattle.outside_model.specs.State.{first_outer}
-use Rattle.proof_traffic.specs.Requests.{no_traffic}
-use Rattle.proof_traffic.proofs.Parts.{Laws}
+use Rattle.proof_line.specs.proof_traffic.Requests.{no_traffic}
+use Rattle.proof_line.proofs.Parts.{Laws}
 use Rattle.proof_chip.proofs.CallWalk.{call_walk, waits_none}
 use Rattle.proof_chip.proofs.Calling.{follows_waits}
 use Rattle.proof_chip.proofs.calls.calls_go_on.Goals as goal

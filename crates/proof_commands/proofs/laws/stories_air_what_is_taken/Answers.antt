@@ -1,5 +1,5 @@
 -- What is proved of lines of the machine is so of stories: over a new keeper.
-use Rattle.host_core.specs.Network.{keys_of}
+use Rattle.run_all.specs.host_core.Network.{keys_of}
 use Rattle.world_lines.specs.Spoken.{transcript_of}
 use Rattle.proof_chip.specs.Served.{AirsByLink}
 use Rattle.proof_commands.specs.Laws.{AreSchedules, first}

@@ -1,6 +1,6 @@
 -- The lines of a story were said, and each has its answer.
 use Rattle.std.proofs.Common.{Bool, List, []}
-use Rattle.host_core.specs.Network.{keys_of}
+use Rattle.run_all.specs.host_core.Network.{keys_of}
 use Rattle.law_transcript.specs.Answers.{AnswersLines, ReadsItsRecords}
 use Rattle.law_transcript.specs.Lists.{EachAfter}
 use Rattle.law_transcript.specs.Nodes.{listing_of, always}

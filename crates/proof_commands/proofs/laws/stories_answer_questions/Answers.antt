@@ -1,5 +1,5 @@
 -- The lines of a story were said, and questions are answered in lines that were said.
-use Rattle.host_core.specs.Network.{keys_of}
+use Rattle.run_all.specs.host_core.Network.{keys_of}
 use Rattle.law_time.specs.Questions.{AnswersQuestions}
 use Rattle.proof_commands.proofs.AsSaid.{of_new}
 use Rattle.proof_commands.proofs.Speaking.{all_said}

@@ -1,7 +1,7 @@
 -- The lines of a story were said, also over a new keeper, and their host heard what it does of such lines.
 use Rattle.std.proofs.Common.{ℕ, List, ap, subst}
 use Rattle.std.specs.Prelude.{Option}
-use Rattle.host_core.specs.Network.{keys_of}
+use Rattle.run_all.specs.host_core.Network.{keys_of}
 use Rattle.zw_text.specs.declared.entry.Entry.{Entry}
 use Rattle.world_model.specs.State.{Machine}
 use Rattle.world_lines.specs.Spoken.{transcript_of}

@@ -4,7 +4,7 @@ use Rattle.std.specs.List.{AllByRecursion}
 use Rattle.device_sim.specs.State.{State}
 use Rattle.outside_model.specs.Events.{OuterEvent}
 use Rattle.zw_text.specs.declared.entry.Entry.{Entry}
-use Rattle.host_core.specs.Network.{keys_of}
+use Rattle.run_all.specs.host_core.Network.{keys_of}
 use Rattle.s0_crypto.specs.declared.key_pair.Keys.{Keys}
 use Rattle.law_transcript.specs.Headline.{IsAsMade}
 use Rattle.law_wire.specs.Doings.{DoneByDevices}

@@ -8,7 +8,7 @@ use Rattle.device_kinds.specs.declared.kind.Kind.{Kind}
 use Rattle.device_sim.specs.State.{State}
 use Rattle.proof_device.specs.GoingOn.{AreSame}
 use Rattle.proof_device.specs.Showing.{AreUnchanged}
-use Rattle.host_core.specs.Network.{keys_of}
+use Rattle.run_all.specs.host_core.Network.{keys_of}
 use Rattle.zw_text.specs.Line.{line_at}
 use Rattle.zw_text.specs.declared.line.Line.{Line}
 use Rattle.zw_text.specs.declared.entry.Entry.{Entry}

@@ -13,12 +13,12 @@ use Rattle.law_wire.specs.Pipes.{OverrunsWhenFull}
 use Rattle.law_wire.specs.Serial.{ended}
 use Rattle.law_wire.specs.Routes.{GoesByRoute}
 use Rattle.law_wire.specs.Times.{TellsTime}
-use Rattle.proof_sending.specs.Line.{ClearsAtRestarts, ClearsNowhereElse, OverrunsOnlyWhenFull}
+use Rattle.proof_replay.specs.proof_sending.Line.{ClearsAtRestarts, ClearsNowhereElse, OverrunsOnlyWhenFull}
 use Rattle.proof_host.specs.Laws.{HostLaws}
 use Rattle.world_model.specs.State.{first_machine}
 use Rattle.world_lines.specs.Spoken.{transcript_of}
 use Rattle.proof_audit.specs.Transcript.{RepeatsNone}
-use Rattle.host_core.specs.Network.{keys_of}
+use Rattle.run_all.specs.host_core.Network.{keys_of}
 use Rattle.run_all.specs.Around.{Around}
 use Rattle.proof_commands.specs.Laws.{Ran, AreSchedules, RepeatsNothing, KeepsRecords, first, transcript}
 use Rattle.proof_commands.proofs.AsSaid.{as_run, of_any, of_new, of_telling}

@@ -1,6 +1,6 @@
 -- The facts go through the lines of a story, and the laws follow from them.
 use Rattle.std.proofs.Common.{ℕ, List, [], ◌∷◌, ◌++◌}
-use Rattle.host_core.specs.Network.{keys_of}
+use Rattle.run_all.specs.host_core.Network.{keys_of}
 use Rattle.host_model.specs.State.{HostState}
 use Rattle.zw_text.specs.declared.entry.Entry.{Entry}
 use Rattle.world_model.specs.State.{Machine}
@@ -8,7 +8,7 @@ use Rattle.world_model.specs.Events.{Event}
 use Rattle.world_model.specs.Did.{MayAll, entries_all, happens_all}
 use Rattle.proof_host.specs.Entries.{IsAside}
 use Rattle.proof_host.specs.Facts.{Facts}
-use Rattle.proof_world.specs.Restarts.{AllStartWell}
+use Rattle.proof_chip.specs.proof_world.Restarts.{AllStartWell}
 use Rattle.run_all.specs.Around.{Around}
 use Rattle.proof_commands.specs.Laws.{IsStory, KeepsRecords, Ran, events_of, first, last, transcript}
 use Rattle.proof_commands.proofs.SimKeeping.{story_keeps}

@@ -4,7 +4,7 @@ use Rattle.s0_crypto.specs.declared.key_pair.Keys.{Keys}
 use Rattle.device_kinds.specs.Sealing.{keys_of as device_keys}
 use Rattle.device_sim.specs.State.{State}
 use Rattle.zw_text.specs.declared.entry.Entry.{Entry}
-use Rattle.host_core.specs.Network.{keys_of}
+use Rattle.run_all.specs.host_core.Network.{keys_of}
 use Rattle.law_transcript.specs.Nodes.{listing_of, always}
 use Rattle.law_transcript.specs.Payloads.{SendsWhatIsDue}
 use Rattle.world_model.specs.State.{first_machine}

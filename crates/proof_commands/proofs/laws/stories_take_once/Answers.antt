@@ -4,8 +4,8 @@ use Rattle.std.specs.List.{AllByRecursion}
 use Rattle.device_sim.specs.State.{State}
 use Rattle.proof_device.specs.GoingOn.{AreSame, TakeOnce}
 use Rattle.proof_device.specs.Showing.{IsShown}
-use Rattle.host_core.specs.Network.{keys_of}
-use Rattle.proof_world.specs.Devices.{GroupsSessions}
+use Rattle.run_all.specs.host_core.Network.{keys_of}
+use Rattle.proof_chip.specs.proof_world.Devices.{GroupsSessions}
 use Rattle.world_model.specs.Did.{entries_all}
 use Rattle.proof_commands.specs.Laws.{events_of, first, last, end, transcript}
 use Rattle.proof_commands.proofs.SimKeeping.{all_shown, all_group}

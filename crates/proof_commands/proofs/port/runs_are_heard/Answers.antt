@@ -1,6 +1,6 @@
 -- Its host goes on from what hosts heard before.
-use Rattle.host_core.specs.Network.{keys_of}
-use Rattle.port_run.specs.Ending.{start_of}
+use Rattle.run_all.specs.host_core.Network.{keys_of}
+use Rattle.run_all.specs.port_run.Ending.{start_of}
 use Rattle.proof_commands.proofs.PortHearing.{heard_so}
 use Rattle.proof_commands.proofs.port.runs_are_heard.Goals as goal
 

@@ -3,9 +3,9 @@ use Rattle.std.proofs.Common.{ℕ, Option, List, [], subst}
 use Rattle.zw_base.proofs.Each.{all-weaker}
 use Rattle.zw_text.specs.Line.{replay_at}
 use Rattle.run_lines.specs.Lines.{lines_in}
-use Rattle.host_core.specs.Network.{keys_of}
-use Rattle.run_replay.specs.Machine.{first_replay, lone_of}
-use Rattle.run_replay.specs.Replay.{point_of}
+use Rattle.run_all.specs.host_core.Network.{keys_of}
+use Rattle.run_all.specs.run_replay.Machine.{first_replay, lone_of}
+use Rattle.run_all.specs.run_replay.Replay.{point_of}
 use Rattle.proof_replay.specs.Heard.{IsReadSo}
 use Rattle.proof_replay.specs.Laws.{HearsLines}
 use Rattle.proof_commands.specs.Replay.{KeepsHost, KeepsRecords}

@@ -1,5 +1,5 @@
 -- Each clause is a lemma, over what the host sends beside orders.
-use Rattle.proof_messages.specs.Others.{IsOther}
+use Rattle.proof_once.specs.proof_messages.Others.{IsOther}
 use Rattle.proof_course_plain.proofs.HeardPayloads.{lines_end}
 use Rattle.proof_course_plain.proofs.PlainOrders.{text_names, events_end, events_plain}
 use Rattle.proof_course_plain.proofs.world.lines_ask_plainly.Goals as goal

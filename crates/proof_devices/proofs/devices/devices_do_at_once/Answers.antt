@@ -3,9 +3,9 @@ use Rattle.std.proofs.Common.{[], refl}
 use Rattle.std.specs.Prelude.{Some}
 use Rattle.world_lines.specs.Spoken.{transcript_of}
 use Rattle.world_model.specs.State.{Machine, first_machine}
-use Rattle.proof_walk.specs.Walk.{both_know}
-use Rattle.proof_walk.proofs.Lines.{lines_stand}
-use Rattle.proof_walk.proofs.Over.{over}
+use Rattle.proof_air.specs.proof_walk.Walk.{both_know}
+use Rattle.proof_air.proofs.Lines.{lines_stand}
+use Rattle.proof_air.proofs.Over.{over}
 use Rattle.proof_devices.specs.Living.{Answers, MayAny}
 use Rattle.proof_devices.proofs.Changes.{changes_first}
 use Rattle.proof_devices.proofs.Replies.{answers_first, answers_keep}

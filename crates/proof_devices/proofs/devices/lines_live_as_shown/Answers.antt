@@ -2,10 +2,10 @@
 use Rattle.std.proofs.Common.{[], arith}
 use Rattle.world_lines.specs.Spoken.{after_all, transcript_of}
 use Rattle.world_model.specs.State.{Machine, first_machine}
-use Rattle.proof_walk.specs.Time.{MayCount, KnowTime}
-use Rattle.proof_walk.specs.Walk.{Walk, both_know}
-use Rattle.proof_walk.proofs.Lines.{lines_lead}
-use Rattle.proof_walk.proofs.Over.{over, beside}
+use Rattle.proof_air.specs.proof_walk.Time.{MayCount, KnowTime}
+use Rattle.proof_air.specs.proof_walk.Walk.{Walk, both_know}
+use Rattle.proof_air.proofs.Lines.{lines_lead}
+use Rattle.proof_air.proofs.Over.{over, beside}
 use Rattle.proof_air.specs.Hearing.{MayHear, KnowAir}
 use Rattle.proof_devices.specs.Living.{MayAny, KnowDevices}
 use Rattle.proof_devices.proofs.Whole.{whole_lived}

@@ -11,7 +11,7 @@ use Rattle.world_lines.specs.Done.{AreDone}
 use Rattle.world_model.specs.State.{Machine, first_machine}
 use Rattle.world_model.specs.Events.{Event}
 use Rattle.proof_device.specs.Showing.{AreApart}
-use Rattle.proof_walk.proofs.Lines.{lines_lead}
+use Rattle.proof_air.proofs.Lines.{lines_lead}
 use Rattle.proof_devices.specs.LastLine.{with_last}
 use Rattle.proof_devices.specs.Living.{Answers, MayAny}
 use Rattle.proof_devices.proofs.Changes.{changes_first}

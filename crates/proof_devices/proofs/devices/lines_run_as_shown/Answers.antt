@@ -3,7 +3,7 @@ use Rattle.std.proofs.Common.{[], refl, arith}
 use Rattle.std.specs.Prelude.{Some}
 use Rattle.world_lines.specs.Spoken.{after_all, transcript_of}
 use Rattle.world_model.specs.State.{Machine, first_machine}
-use Rattle.proof_walk.proofs.Lines.{lines_lead}
+use Rattle.proof_air.proofs.Lines.{lines_lead}
 use Rattle.proof_devices.specs.Living.{Answers, MayAny}
 use Rattle.proof_devices.proofs.Changes.{changes_first}
 use Rattle.proof_devices.proofs.Replies.{answers_first, answers_keep}

@@ -7,8 +7,8 @@ use Rattle.law_transcript.specs.Sessions.{MayBegin}
 use Rattle.world_lines.specs.Spoken.{after_all, transcript_of}
 use Rattle.world_model.specs.State.{Machine, first_machine}
 use Rattle.proof_host.proofs.Lists.{each-append}
-use Rattle.proof_walk.specs.Walk.{both_know}
-use Rattle.proof_walk.proofs.Lines.{lines_lead, lines_stand}
+use Rattle.proof_air.specs.proof_walk.Walk.{both_know}
+use Rattle.proof_air.proofs.Lines.{lines_lead, lines_stand}
 use Rattle.proof_devices.specs.Answering.{MayAnswer, KnowAnswers, Ground}
 use Rattle.proof_devices.proofs.Following.{all_follow}
 use Rattle.proof_devices.proofs.FateGrounds.{ground_walk, answering_walk}

@@ -1,8 +1,8 @@
 use Rattle.std.proofs.Common.{ℕ, [], inl, inr}
 use Rattle.law_transcript.specs.Nodes.{listing_of}
 use Rattle.world_model.specs.State.{first_machine}
-use Rattle.proof_once.specs.InSessions.{ChangesInSessions}
-use Rattle.proof_once.proofs.Headline.{of_device}
+use Rattle.proof_spoken.specs.proof_once.InSessions.{ChangesInSessions}
+use Rattle.proof_spoken.proofs.Headline.{of_device}
 use Rattle.world_lines.specs.Spoken.{after_all, transcript_of}
 use Rattle.proof_headline.specs.Truly.{LinesAreTrue}
 use Rattle.proof_headline.proofs.Heading.{lines_still}

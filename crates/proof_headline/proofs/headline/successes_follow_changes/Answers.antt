@@ -1,6 +1,6 @@
 use Rattle.std.proofs.Common.{◌≡◌, ℕ, sym, subst}
 use Rattle.law_transcript.specs.Once.{MayEnd}
-use Rattle.proof_once.specs.Truly.{IsTrue}
+use Rattle.proof_spoken.specs.proof_once.Truly.{IsTrue}
 use Rattle.proof_headline.specs.Truly.{MayEndOf}
 use Rattle.proof_headline.proofs.Succeeding.{IsAny, any_finish, event_succeeds, finish_of, free_end, free_end_of}
 use Rattle.proof_headline.proofs.headline.successes_follow_changes.Goals as goal

@@ -3,10 +3,10 @@ use Rattle.std.proofs.Common.{List, [], Some, inr, ap, sym, subst, ◌∙◌}
 use Rattle.device_kinds.specs.Kind.{lists}
 use Rattle.device_kinds.specs.declared.kind.Kind.{Kind}
 use Rattle.device_sim.specs.State.{State}
-use Rattle.proof_device.specs.GoingOn.{GoOn}
+use Rattle.proof_spoken.specs.proof_device.GoingOn.{GoOn}
 use Rattle.host_model.specs.State.{HostState}
 use Rattle.world_model.specs.State.{Machine, first_machine}
-use Rattle.proof_once.specs.Tied.{AreTied}
+use Rattle.proof_spoken.specs.proof_once.Tied.{AreTied}
 use Rattle.world_lines.specs.Spoken.{after_all}
 use Rattle.world_lines.specs.Done.{events_of}
 use Rattle.proof_spoken.proofs.SpokenLines.{all_after}

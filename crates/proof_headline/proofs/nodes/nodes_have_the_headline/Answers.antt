@@ -1,7 +1,7 @@
 -- Such a node is tied, and what follows of that is the headline.
 use Rattle.std.proofs.Common.{subst}
 use Rattle.host_model.specs.State.{HostState}
-use Rattle.proof_once.specs.Tied.{AreTied}
+use Rattle.proof_spoken.specs.proof_once.Tied.{AreTied}
 use Rattle.proof_headline.proofs.nodes.nodes_have_the_headline.Goals as goal
 
 pub returns : goal.returns

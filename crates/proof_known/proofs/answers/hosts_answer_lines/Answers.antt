@@ -10,13 +10,13 @@ use Rattle.law_transcript.specs.Answers.{AsksNothing, MayAnswer, before_last, re
 use Rattle.law_transcript.specs.Lists.{EachAfter}
 use Rattle.law_time.specs.Moments.{Allows}
 use Rattle.law_time.specs.Waking.{may_wake}
-use Rattle.law_host.specs.Heard.{listing_heard}
+use Rattle.proof_transcript.specs.law_host.Heard.{listing_heard}
 use Rattle.proof_transcript.specs.Answering.{IsAnswered}
 use Rattle.proof_transcript.proofs.AnswerFacts.{host_ties}
-use Rattle.proof_alone.specs.State.{HostMachine, first_alone}
-use Rattle.proof_alone.specs.Phases.{Phase}
-use Rattle.proof_alone.specs.Runs.{Run, Walk, both_know}
-use Rattle.proof_alone.proofs.Running.{over, run_keeps}
+use Rattle.proof_waking.specs.proof_alone.State.{HostMachine, first_alone}
+use Rattle.proof_waking.specs.proof_alone.Phases.{Phase}
+use Rattle.proof_waking.specs.proof_alone.Runs.{Run, Walk, both_know}
+use Rattle.proof_waking.proofs.Running.{over, run_keeps}
 use Rattle.proof_known.specs.Known.{IsAnswerAlone, IsForHost, IsSettled, KnowsAnswered, KnowsWhole}
 use Rattle.proof_known.proofs.Answering.{Decides, answers_walk}
 use Rattle.proof_known.proofs.ForHost.{heard_is_for_host}

@@ -3,9 +3,9 @@ use Rattle.std.proofs.Common.{◌≡◌, Bool, true, false, List, [], refl, subs
 use Rattle.std.specs.Prelude.{Some}
 use Rattle.s0_crypto.specs.declared.key_pair.Keys.{Keys}
 use Rattle.zw_text.specs.declared.entry.Entry.{Entry}
-use Rattle.proof_alone.specs.State.{HostMachine, first_alone}
-use Rattle.proof_alone.specs.Phases.{Phase, Resting}
-use Rattle.proof_alone.specs.Runs.{Run}
+use Rattle.proof_waking.specs.proof_alone.State.{HostMachine, first_alone}
+use Rattle.proof_waking.specs.proof_alone.Phases.{Phase, Resting}
+use Rattle.proof_waking.specs.proof_alone.Runs.{Run}
 use Rattle.proof_known.specs.Known.{AreForHost, KeepsWhatIsSaid}
 use Rattle.proof_known.proofs.answers.hosts_do_as_is_said.Goals as goal
 

@@ -2,8 +2,8 @@
 use Rattle.std.proofs.Common.{[], refl}
 use Rattle.law_time.specs.Moments.{Allows}
 use Rattle.law_time.specs.Waking.{may_wake}
-use Rattle.law_host.specs.Heard.{listing_heard}
-use Rattle.proof_alone.proofs.Running.{over, run_keeps}
+use Rattle.proof_transcript.specs.law_host.Heard.{listing_heard}
+use Rattle.proof_waking.proofs.Running.{over, run_keeps}
 use Rattle.proof_transcript.proofs.StoredValues.{stores_confirmed}
 use Rattle.proof_known.specs.Known.{KnowsNodes, KnowsOrders, KnowsSaid}
 use Rattle.proof_known.proofs.Saying.{said_walk}

@@ -3,12 +3,12 @@ use Rattle.std.proofs.Common.{[], refl}
 use Rattle.std.specs.Prelude.{Some}
 use Rattle.law_time.specs.Moments.{Allows}
 use Rattle.law_time.specs.Waking.{may_wake}
-use Rattle.law_host.specs.Heard.{listing_heard}
-use Rattle.proof_host.specs.Laws.{MayStand}
-use Rattle.proof_alone.specs.State.{first_alone}
-use Rattle.proof_alone.specs.Runs.{both_know}
-use Rattle.proof_alone.specs.Tables.{KnowsTables}
-use Rattle.proof_alone.proofs.Running.{over, run_keeps}
+use Rattle.proof_transcript.specs.law_host.Heard.{listing_heard}
+use Rattle.proof_transcript.specs.proof_host.Laws.{MayStand}
+use Rattle.proof_waking.specs.proof_alone.State.{first_alone}
+use Rattle.proof_waking.specs.proof_alone.Runs.{both_know}
+use Rattle.proof_waking.specs.proof_alone.Tables.{KnowsTables}
+use Rattle.proof_waking.proofs.Running.{over, run_keeps}
 use Rattle.proof_waking.specs.Judged.{KnowsJudged}
 use Rattle.proof_known.specs.Known.{KnowsHeard, KnowsNodes}
 use Rattle.proof_known.proofs.Events.{beside}

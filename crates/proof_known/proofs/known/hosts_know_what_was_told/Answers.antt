@@ -5,7 +5,7 @@ use Rattle.host_keep.specs.Kept.{first_kept}
 use Rattle.host_model.specs.State.{first_host}
 use Rattle.proof_transcript.proofs.PlacesKept.{HostsKeep}
 use Rattle.proof_transcript.proofs.StoredPlaces.{alone_keeps}
-use Rattle.proof_alone.proofs.Running.{over}
+use Rattle.proof_waking.proofs.Running.{over}
 use Rattle.proof_known.specs.Known.{KnowsAll, KnowsNodes, KnowsOrders, KnowsPlaces, KnowsSaid, KnowsTold}
 use Rattle.proof_known.proofs.Answering.{places_walk}
 use Rattle.proof_known.proofs.Events.{beyond}

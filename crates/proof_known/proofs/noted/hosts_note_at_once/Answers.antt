@@ -7,12 +7,12 @@ use Rattle.zw_text.specs.declared.entry.Entry.TheVariants.{Said}
 use Rattle.law_transcript.specs.Lists.{EachAfter}
 use Rattle.law_time.specs.Moments.{Allows}
 use Rattle.law_time.specs.Waking.{may_wake}
-use Rattle.law_host.specs.Heard.{listing_heard}
+use Rattle.proof_transcript.specs.law_host.Heard.{listing_heard}
 use Rattle.proof_transcript.proofs.AnswerFacts.{count_is}
-use Rattle.proof_alone.specs.State.{HostMachine, first_alone}
-use Rattle.proof_alone.specs.Phases.{Phase}
-use Rattle.proof_alone.specs.Runs.{Run, both_know}
-use Rattle.proof_alone.proofs.Running.{over, run_keeps}
+use Rattle.proof_waking.specs.proof_alone.State.{HostMachine, first_alone}
+use Rattle.proof_waking.specs.proof_alone.Phases.{Phase}
+use Rattle.proof_waking.specs.proof_alone.Runs.{Run, both_know}
+use Rattle.proof_waking.proofs.Running.{over, run_keeps}
 use Rattle.proof_known.specs.Known.{KnowsWhole}
 use Rattle.proof_known.specs.Noted.{may_follow}
 use Rattle.proof_known.proofs.AtOnce.{once_walk, settled_stands}

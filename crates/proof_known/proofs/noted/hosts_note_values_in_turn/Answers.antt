@@ -6,10 +6,10 @@ use Rattle.zw_text.specs.declared.entry.Entry.{Entry}
 use Rattle.law_transcript.specs.Lists.{EachAfter}
 use Rattle.law_time.specs.Moments.{Allows}
 use Rattle.law_time.specs.Waking.{may_wake}
-use Rattle.proof_alone.specs.State.{HostMachine, first_alone}
-use Rattle.proof_alone.specs.Phases.{Phase}
-use Rattle.proof_alone.specs.Runs.{Run, both_know}
-use Rattle.proof_alone.proofs.Running.{over, run_keeps}
+use Rattle.proof_waking.specs.proof_alone.State.{HostMachine, first_alone}
+use Rattle.proof_waking.specs.proof_alone.Phases.{Phase}
+use Rattle.proof_waking.specs.proof_alone.Runs.{Run, both_know}
+use Rattle.proof_waking.proofs.Running.{over, run_keeps}
 use Rattle.proof_waking.specs.Judged.{KnowsJudged}
 use Rattle.proof_known.specs.Noted.{may_turn}
 use Rattle.proof_known.proofs.InTurn.{first_turn, in_turn_walk, rests_none}

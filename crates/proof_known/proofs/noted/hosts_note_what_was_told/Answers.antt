@@ -2,10 +2,10 @@
 use Rattle.std.proofs.Common.{[], ◌∷◌}
 use Rattle.law_time.specs.Moments.{Allows}
 use Rattle.law_time.specs.Waking.{may_wake}
-use Rattle.law_host.specs.Heard.{listing_heard}
+use Rattle.proof_transcript.specs.law_host.Heard.{listing_heard}
 use Rattle.proof_transcript.proofs.AnswerFacts.{count_is}
-use Rattle.proof_alone.specs.Runs.{both_know}
-use Rattle.proof_alone.proofs.Running.{over, run_keeps}
+use Rattle.proof_waking.specs.proof_alone.Runs.{both_know}
+use Rattle.proof_waking.proofs.Running.{over, run_keeps}
 use Rattle.proof_known.specs.Known.{KnowsWhole}
 use Rattle.proof_known.specs.Noted.{may_note}
 use Rattle.proof_known.proofs.Noting.{Nothing, Rooms, noted_walk}

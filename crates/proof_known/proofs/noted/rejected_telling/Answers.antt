@@ -2,7 +2,7 @@
 use Rattle.std.proofs.Common.{◌++◌, refl}
 use Rattle.law_transcript.proofs.Deciding.{broken}
 use Rattle.law_time.proofs.Computing.{computing}
-use Rattle.law_host.specs.Worked.{begun, ended_by_other, ended_by_work, ended_of_another, ended_otherwise, value_again}
+use Rattle.proof_transcript.specs.law_host.Worked.{begun, ended_by_other, ended_by_work, ended_of_another, ended_otherwise, value_again}
 use Rattle.proof_known.specs.Noted.{may_note}
 use Rattle.proof_known.specs.WorkedNotes.{ended_unreported, lock_believed}
 use Rattle.proof_known.proofs.noted.rejected_telling.Goals as goal

@@ -2,7 +2,7 @@
 use Rattle.std.proofs.Common.{refl}
 use Rattle.law_transcript.proofs.Deciding.{broken, kept, not_true}
 use Rattle.law_time.proofs.Computing.{computing}
-use Rattle.law_host.specs.Worked.{unread_payload, value_heard, value_otherwise}
+use Rattle.proof_transcript.specs.law_host.Worked.{unread_payload, value_heard, value_otherwise}
 use Rattle.proof_known.specs.Noted.{may_follow}
 use Rattle.proof_known.proofs.noted.worked_at_once.Goals as goal
 

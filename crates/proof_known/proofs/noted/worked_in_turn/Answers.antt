@@ -2,7 +2,7 @@
 use Rattle.std.proofs.Common.{refl}
 use Rattle.law_transcript.proofs.Deciding.{broken, kept, not_true}
 use Rattle.law_time.proofs.Computing.{computing}
-use Rattle.law_host.specs.Worked.{value_heard, value_otherwise, value_twice}
+use Rattle.proof_transcript.specs.law_host.Worked.{value_heard, value_otherwise, value_twice}
 use Rattle.proof_known.specs.Noted.{may_turn}
 use Rattle.proof_known.proofs.noted.worked_in_turn.Goals as goal
 

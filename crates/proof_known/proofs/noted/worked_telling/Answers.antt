@@ -2,7 +2,7 @@
 use Rattle.std.proofs.Common.{◌++◌, refl}
 use Rattle.law_transcript.proofs.Deciding.{kept}
 use Rattle.law_time.proofs.Computing.{computing}
-use Rattle.law_host.specs.Worked.{begun, failure_told, other_told, unread_payload, unsupported_told, value_heard}
+use Rattle.proof_transcript.specs.law_host.Worked.{begun, failure_told, other_told, unread_payload, unsupported_told, value_heard}
 use Rattle.proof_known.specs.Noted.{may_note}
 use Rattle.proof_known.specs.WorkedNotes.{lock_unread}
 use Rattle.proof_known.proofs.noted.worked_telling.Goals as goal

@@ -5,16 +5,16 @@ use Rattle.std.specs.List.{flat_map}
 use Rattle.law_transcript.specs.Records.{KeepsRecords}
 use Rattle.law_time.specs.Moments.{Allows}
 use Rattle.law_time.specs.Waking.{may_wake}
-use Rattle.law_host.specs.Heard.{listing_heard}
+use Rattle.proof_transcript.specs.law_host.Heard.{listing_heard}
 use Rattle.host_keep.specs.Kept.{first_kept, kept_of}
 use Rattle.host_keep.specs.declared.record.Record.{Record}
-use Rattle.proof_spoken.specs.Restarts.{AreHeld, IsHeld}
+use Rattle.proof_transcript.specs.proof_spoken.Restarts.{AreHeld, IsHeld}
 use Rattle.proof_transcript.specs.Records.{cancelled_by}
 use Rattle.proof_transcript.proofs.CancelledRecords.{all_cancelled}
-use Rattle.proof_spoken.proofs.HeldRecords.{one_reading}
+use Rattle.proof_transcript.proofs.HeldRecords.{one_reading}
 use Rattle.proof_transcript.proofs.RecordsShown.{shows}
-use Rattle.proof_alone.specs.Runs.{Walk, both_know}
-use Rattle.proof_alone.proofs.Running.{over, run_keeps}
+use Rattle.proof_waking.specs.proof_alone.Runs.{Walk, both_know}
+use Rattle.proof_waking.proofs.Running.{over, run_keeps}
 use Rattle.proof_known.specs.Known.{KnowsAll, KnowsCancelled, KnowsNodes, KnowsOrders, KnowsPlaces, KnowsSaid, KnowsTold, KnowsWhole}
 use Rattle.proof_known.proofs.Events.{beyond}
 use Rattle.proof_known.proofs.Recording.{cancelled_walk}

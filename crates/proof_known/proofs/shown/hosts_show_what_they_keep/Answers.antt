@@ -8,15 +8,15 @@ use Rattle.zw_text.specs.declared.entry.Entry.TheVariants.{Said}
 use Rattle.law_transcript.specs.Lists.{EachAfter}
 use Rattle.law_time.specs.Moments.{Allows}
 use Rattle.law_time.specs.Waking.{may_wake}
-use Rattle.law_host.specs.Heard.{listing_heard}
-use Rattle.law_host.specs.HostLegal.{IsShown, ShowsValues}
+use Rattle.proof_transcript.specs.law_host.Heard.{listing_heard}
+use Rattle.proof_transcript.specs.law_host.HostLegal.{IsShown, ShowsValues}
 use Rattle.world_model.specs.Events.{shown_values}
-use Rattle.proof_host.proofs.Lists.{each-append}
+use Rattle.proof_transcript.proofs.Lists.{each-append}
 use Rattle.proof_transcript.proofs.LastTable.{shown_kept}
-use Rattle.proof_alone.specs.State.{HostMachine, first_alone}
-use Rattle.proof_alone.specs.Phases.{Phase}
-use Rattle.proof_alone.specs.Runs.{Run, Walk, both_know}
-use Rattle.proof_alone.proofs.Running.{over, run_keeps}
+use Rattle.proof_waking.specs.proof_alone.State.{HostMachine, first_alone}
+use Rattle.proof_waking.specs.proof_alone.Phases.{Phase}
+use Rattle.proof_waking.specs.proof_alone.Runs.{Run, Walk, both_know}
+use Rattle.proof_waking.proofs.Running.{over, run_keeps}
 use Rattle.proof_known.specs.Known.{KnowsAll, KnowsAsked, KnowsPlaces, KnowsWhole}
 use Rattle.proof_known.proofs.Events.{beyond}
 use Rattle.proof_known.proofs.Showing.{rests_show, shown_walk}

@@ -1,9 +1,9 @@
 -- What is known of both links where the events end gives the law; at the end of a whole run it is known between lines.
 use Rattle.std.proofs.Common.{[]}
 use Rattle.std.specs.Prelude.{Some, false, true}
-use Rattle.world_lines.specs.Spoken.{after_all, transcript_of}
-use Rattle.world_lines.specs.Done.{events_of}
-use Rattle.world_model.specs.State.{first_machine}
+use Rattle.proof_walk.specs.world_lines.Spoken.{after_all, transcript_of}
+use Rattle.proof_walk.specs.world_lines.Done.{events_of}
+use Rattle.proof_walk.specs.world_model.State.{first_machine}
 use Rattle.proof_world.proofs.SpokenLines.{all_lines, all_may, lines_of}
 use Rattle.proof_walk.proofs.Where.{where_lead, where_whole}
 use Rattle.proof_line.specs.Linked.{IsOrderly}

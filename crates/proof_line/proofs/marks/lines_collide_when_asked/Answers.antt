@@ -1,7 +1,7 @@
 -- The count of collisions holds over all lines.
 use Rattle.std.proofs.Common.{[]}
 use Rattle.law_wire.specs.Marks.{MayCollide}
-use Rattle.world_model.specs.State.{first_machine}
+use Rattle.proof_walk.specs.world_model.State.{first_machine}
 use Rattle.proof_walk.proofs.Lines.{lines_stand}
 use Rattle.proof_line.specs.Collisions.{KnowCollisions}
 use Rattle.proof_line.proofs.marks.lines_collide_when_asked.Goals as goal

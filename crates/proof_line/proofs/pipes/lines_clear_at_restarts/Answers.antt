@@ -1,8 +1,8 @@
 -- What a restart loses was on its way, and the pipes hold no more than the transcript shows.
 use Rattle.std.proofs.Common.{[]}
-use Rattle.world_lines.specs.Spoken.{transcript_of}
-use Rattle.world_model.specs.State.{first_machine}
-use Rattle.proof_host.proofs.Lists.{each-weaker}
+use Rattle.proof_walk.specs.world_lines.Spoken.{transcript_of}
+use Rattle.proof_walk.specs.world_model.State.{first_machine}
+use Rattle.proof_walk.proofs.Lists.{each-weaker}
 use Rattle.proof_walk.proofs.Lines.{lines_stand}
 use Rattle.proof_line.specs.Pipes.{KnowPipes, MayClear, MayTell}
 use Rattle.proof_line.proofs.Piping.{tells_clear}

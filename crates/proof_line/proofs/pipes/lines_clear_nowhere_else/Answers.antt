@@ -1,6 +1,6 @@
 -- Bytes are cleared only at restarts, so what stands directly after these is all of it.
-use Rattle.world_lines.specs.Spoken.{transcript_of}
-use Rattle.world_model.specs.State.{first_machine}
+use Rattle.proof_walk.specs.world_lines.Spoken.{transcript_of}
+use Rattle.proof_walk.specs.world_model.State.{first_machine}
 use Rattle.proof_line.proofs.Clearing.{clears_alone}
 use Rattle.proof_line.proofs.pipes.lines_clear_nowhere_else.Goals as goal
 

@@ -5,13 +5,13 @@ use Rattle.zw_text.specs.declared.entry.Entry.{Entry}
 use Rattle.zw_text.specs.declared.entry.Entry.TheVariants.{Said}
 use Rattle.law_wire.specs.Pipes.{OverrunsWhenFull, may_overrun}
 use Rattle.law_wire.specs.Serial.{ended}
-use Rattle.proof_host.proofs.Lists.{each-append}
-use Rattle.world_lines.specs.Spoken.{Spoken, transcript_of}
-use Rattle.world_lines.specs.Done.{AreDone, events_of}
-use Rattle.world_lines.specs.Whole.{AreWhole}
-use Rattle.world_model.specs.State.{Machine, first_machine}
-use Rattle.world_model.specs.Did.{AllAlong}
-use Rattle.proof_serial.specs.Line.{WritesWell}
+use Rattle.proof_walk.proofs.Lists.{each-append}
+use Rattle.proof_walk.specs.world_lines.Spoken.{Spoken, transcript_of}
+use Rattle.proof_walk.specs.world_lines.Done.{AreDone, events_of}
+use Rattle.proof_walk.specs.world_lines.Whole.{AreWhole}
+use Rattle.proof_walk.specs.world_model.State.{Machine, first_machine}
+use Rattle.proof_walk.specs.world_model.Did.{AllAlong}
+use Rattle.proof_world.specs.proof_serial.Line.{WritesWell}
 use Rattle.proof_world.proofs.SpokenLines.{all_lines, all_may, lines_of}
 use Rattle.proof_walk.specs.Phases.{Between}
 use Rattle.proof_walk.specs.Walk.{WalkWhere}

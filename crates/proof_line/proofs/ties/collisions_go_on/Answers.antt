@@ -1,7 +1,7 @@
 -- The chip's link has no collision to make at first.
 use Rattle.std.proofs.Common.{refl}
-use Rattle.outside_model.specs.State.{first_outer}
-use Rattle.world_model.specs.State.{first_machine}
+use Rattle.proof_walk.specs.outside_model.State.{first_outer}
+use Rattle.proof_walk.specs.world_model.State.{first_machine}
 use Rattle.proof_line.proofs.Asking.{collision_walk, collisions_first}
 use Rattle.proof_line.proofs.ties.collisions_go_on.Goals as goal
 

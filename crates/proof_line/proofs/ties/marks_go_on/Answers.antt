@@ -1,5 +1,5 @@
 -- No mark waits at first.
-use Rattle.world_model.specs.State.{first_machine}
+use Rattle.proof_walk.specs.world_model.State.{first_machine}
 use Rattle.proof_line.proofs.Marking.{mark_walk, marks_first, none_wait}
 use Rattle.proof_line.proofs.ties.marks_go_on.Goals as goal
 

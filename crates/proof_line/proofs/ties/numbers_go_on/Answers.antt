@@ -1,6 +1,6 @@
 -- At first nothing was entered, and no line has asked for a tick.
 use Rattle.std.proofs.Common.{refl}
-use Rattle.world_model.specs.State.{first_machine}
+use Rattle.proof_walk.specs.world_model.State.{first_machine}
 use Rattle.proof_line.proofs.Telling.{number_walk, numbers_first}
 use Rattle.proof_line.proofs.ties.numbers_go_on.Goals as goal
 

@@ -1,6 +1,6 @@
 -- At first nothing is on its way.
 use Rattle.std.proofs.Common.{refl}
-use Rattle.world_model.specs.State.{first_machine}
+use Rattle.proof_walk.specs.world_model.State.{first_machine}
 use Rattle.proof_line.proofs.Piping.{pipe_walk, pipes_first}
 use Rattle.proof_line.proofs.ties.pipes_go_on.Goals as goal
 

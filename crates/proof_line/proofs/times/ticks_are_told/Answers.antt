@@ -4,11 +4,11 @@ use Rattle.zw_text.specs.declared.entry.Entry.{Entry}
 use Rattle.zw_text.specs.declared.entry.Entry.TheVariants.{Said}
 use Rattle.law_wire.specs.Serial.{ended}
 use Rattle.law_wire.specs.Times.{MayBeTold, TellsTime}
-use Rattle.proof_host.proofs.Lists.{each-append}
-use Rattle.world_model.specs.State.{Machine, first_machine}
-use Rattle.world_lines.specs.Spoken.{Spoken, transcript_of}
-use Rattle.world_lines.specs.Done.{AreDone}
-use Rattle.world_lines.specs.Whole.{AreWhole}
+use Rattle.proof_walk.proofs.Lists.{each-append}
+use Rattle.proof_walk.specs.world_model.State.{Machine, first_machine}
+use Rattle.proof_walk.specs.world_lines.Spoken.{Spoken, transcript_of}
+use Rattle.proof_walk.specs.world_lines.Done.{AreDone}
+use Rattle.proof_walk.specs.world_lines.Whole.{AreWhole}
 use Rattle.proof_walk.specs.Phases.{Phase, Between}
 use Rattle.proof_walk.specs.Time.{MayCount, KnowTime}
 use Rattle.proof_walk.specs.Walk.{Walk, both_know}

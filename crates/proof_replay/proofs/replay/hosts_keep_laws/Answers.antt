@@ -3,10 +3,10 @@ use Rattle.std.proofs.Common.{◌≡◌, Bool, true, false, List, [], refl, subs
 use Rattle.std.specs.Prelude.{Some}
 use Rattle.s0_crypto.specs.declared.key_pair.Keys.{Keys}
 use Rattle.zw_text.specs.declared.entry.Entry.{Entry}
-use Rattle.proof_alone.specs.State.{HostMachine, first_alone}
-use Rattle.proof_alone.specs.Phases.{Phase, Resting}
-use Rattle.proof_alone.specs.Runs.{Run, Told, ToldWhole}
-use Rattle.proof_known.specs.Noted.{NotesAtOnce, NotesInTurn}
+use Rattle.proof_requests.specs.proof_alone.State.{HostMachine, first_alone}
+use Rattle.proof_requests.specs.proof_alone.Phases.{Phase, Resting}
+use Rattle.proof_requests.specs.proof_alone.Runs.{Run, Told, ToldWhole}
+use Rattle.proof_asking.specs.proof_known.Noted.{NotesAtOnce, NotesInTurn}
 use Rattle.device_kinds.specs.Sealing.{keys_of as device_keys}
 use Rattle.host_core.specs.Network.{keys_of}
 use Rattle.proof_replay.proofs.replay.hosts_keep_laws.Goals as goal

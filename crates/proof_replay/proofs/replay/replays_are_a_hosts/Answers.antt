@@ -6,9 +6,9 @@ use Rattle.host_keep.specs.Keeping.{OptAdds}
 use Rattle.host_model.proofs.EventLists.{none_added}
 use Rattle.world_model.specs.State.{with_texts}
 use Rattle.run_replay.specs.Machine.{first_replay, lone_of}
-use Rattle.proof_alone.specs.State.{first_alone, host_machine}
-use Rattle.proof_alone.specs.Runs.Run.{Begins}
-use Rattle.proof_known.proofs.ForHost.{said_for_host}
+use Rattle.proof_requests.specs.proof_alone.State.{first_alone, host_machine}
+use Rattle.proof_requests.specs.proof_alone.Runs.Run.{Begins}
+use Rattle.proof_asking.proofs.ForHost.{said_for_host}
 use Rattle.proof_replay.specs.Heard.{heard_of, lone_after}
 use Rattle.proof_replay.proofs.Replaying.{all_go}
 use Rattle.proof_replay.proofs.Words.{replayed_said}

@@ -3,8 +3,8 @@ use Rattle.std.proofs.Common.{[], refl}
 use Rattle.law_time.specs.Moments.{Allows}
 use Rattle.law_time.specs.Waking.{may_wake}
 use Rattle.law_time.specs.Questions.{may_answer}
-use Rattle.proof_alone.specs.Runs.{both_know}
-use Rattle.proof_alone.proofs.Running.{over, run_keeps}
+use Rattle.proof_waking.specs.proof_alone.Runs.{both_know}
+use Rattle.proof_waking.proofs.Running.{over, run_keeps}
 use Rattle.proof_requests.specs.Walking.{Ground, KnowsAsked}
 use Rattle.proof_requests.specs.Questions.{KnowsAnswers}
 use Rattle.proof_requests.proofs.Answering.{answers_walk}

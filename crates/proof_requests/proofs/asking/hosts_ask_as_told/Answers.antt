@@ -3,9 +3,9 @@ use Rattle.std.proofs.Common.{[], refl}
 use Rattle.std.specs.Prelude.{Some}
 use Rattle.law_time.specs.Moments.{Allows}
 use Rattle.law_time.specs.Waking.{may_wake}
-use Rattle.proof_alone.specs.State.{first_alone}
-use Rattle.proof_alone.specs.Runs.{both_know}
-use Rattle.proof_alone.proofs.Running.{run_keeps}
+use Rattle.proof_waking.specs.proof_alone.State.{first_alone}
+use Rattle.proof_waking.specs.proof_alone.Runs.{both_know}
+use Rattle.proof_waking.proofs.Running.{run_keeps}
 use Rattle.proof_requests.specs.Asking.{doing_of}
 use Rattle.proof_requests.specs.Walking.{Ground, KnowsAsked}
 use Rattle.proof_requests.proofs.Ending.{told_of_host}

@@ -2,9 +2,9 @@
 use Rattle.std.proofs.Common.{[]}
 use Rattle.law_time.specs.Moments.{Allows}
 use Rattle.law_time.specs.Waking.{may_wake}
-use Rattle.proof_alone.specs.Runs.{both_know}
-use Rattle.proof_alone.proofs.Listening.{first_listening}
-use Rattle.proof_alone.proofs.Running.{over, run_keeps}
+use Rattle.proof_waking.specs.proof_alone.Runs.{both_know}
+use Rattle.proof_waking.proofs.Listening.{first_listening}
+use Rattle.proof_waking.proofs.Running.{over, run_keeps}
 use Rattle.proof_requests.specs.Walking.{Ground, KnowsAsked, KnowsBrought, KnowsInterviews}
 use Rattle.proof_requests.proofs.Brought.{brought_walk}
 use Rattle.proof_requests.proofs.Listening.{listening_walk}

@@ -5,7 +5,7 @@ use Rattle.proof_routes.proofs.First.{first_tie}
 use Rattle.proof_routes.proofs.Remembering.{first_remembers}
 use Rattle.proof_routes.proofs.Saying.{nothing_said, tie_of}
 use Rattle.proof_routes.proofs.Walking.{networks_walk}
-use Rattle.proof_device.proofs.DevicePlaces.{go_none}
+use Rattle.proof_walk.proofs.DevicePlaces.{go_none}
 use Rattle.proof_routes.proofs.networks.networks_go_on.Goals as goal
 
 pub returns-clause-walk : goal.returns-clause-walk

@@ -3,7 +3,7 @@ use Rattle.std.proofs.Common.{[], ◌∷◌, List, Some, sym, subst}
 use Rattle.zw_text.specs.declared.entry.Entry.TheVariants as entry
 use Rattle.law_wire.specs.Arriving.{Hop, IsForgotten}
 use Rattle.law_wire.specs.Routes.{MayGo}
-use Rattle.proof_host.proofs.Lists.{each-append}
+use Rattle.proof_walk.proofs.Lists.{each-append}
 use Rattle.world_model.specs.State.{first_machine}
 use Rattle.world_lines.specs.Spoken.{transcript_of}
 use Rattle.proof_walk.specs.Walk.{both_know}

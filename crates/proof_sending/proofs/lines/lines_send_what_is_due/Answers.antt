@@ -5,7 +5,7 @@ use Rattle.law_transcript.specs.Nodes.{listing_of, always}
 use Rattle.world_model.specs.State.{first_machine}
 use Rattle.world_lines.specs.Done.{events_of}
 use Rattle.proof_line.proofs.SpokenLines.{all_lines, all_may, lines_of}
-use Rattle.proof_walk.proofs.Where.{where_stand}
+use Rattle.proof_air.proofs.Where.{where_stand}
 use Rattle.law_transcript.specs.Payloads.{MayRequest}
 use Rattle.proof_sending.specs.Due.{IsShown}
 use Rattle.proof_sending.proofs.Reasoned.{first_is}

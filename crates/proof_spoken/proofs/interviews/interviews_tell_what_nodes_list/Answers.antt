@@ -1,7 +1,7 @@
 -- Units are judged whole, so interviews hear what devices list; they are of joined nodes, and restarts know again.
 use Rattle.std.proofs.Common.{[], Some, refl}
-use Rattle.law_transcript.specs.Nodes.{listing_of}
-use Rattle.world_model.specs.State.{first_machine}
+use Rattle.proof_once.specs.law_transcript.Nodes.{listing_of}
+use Rattle.proof_once.specs.world_model.State.{first_machine}
 use Rattle.proof_world.proofs.DevicePlaces.{go_none}
 use Rattle.proof_spoken.proofs.HeardLists.{all_hear_lists, first_down}
 use Rattle.proof_spoken.proofs.NodeLists.{lists_on}

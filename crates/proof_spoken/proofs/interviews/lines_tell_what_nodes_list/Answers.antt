@@ -1,8 +1,8 @@
 -- All the events of the lines are those of one list of lines.
 use Rattle.std.proofs.Common.{[], Some, refl}
-use Rattle.law_transcript.specs.Nodes.{listing_of}
-use Rattle.world_model.specs.State.{first_machine}
-use Rattle.world_lines.specs.Done.{events_of}
+use Rattle.proof_once.specs.law_transcript.Nodes.{listing_of}
+use Rattle.proof_once.specs.world_model.State.{first_machine}
+use Rattle.proof_world.specs.world_lines.Done.{events_of}
 use Rattle.proof_world.proofs.SpokenLines.{lines_of, all_lines, all_may}
 use Rattle.proof_spoken.proofs.ToldLines.{are_spoken, lines_tell}
 use Rattle.proof_spoken.proofs.interviews.lines_tell_what_nodes_list.Goals as goal

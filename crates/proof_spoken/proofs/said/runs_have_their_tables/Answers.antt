@@ -1,7 +1,7 @@
 use Rattle.std.proofs.Common.{[]}
-use Rattle.law_transcript.specs.Nodes.{always}
-use Rattle.world_model.specs.State.{first_machine}
-use Rattle.world_lines.specs.Spoken.{after_all, transcript_of}
+use Rattle.proof_once.specs.law_transcript.Nodes.{always}
+use Rattle.proof_once.specs.world_model.State.{first_machine}
+use Rattle.proof_world.specs.world_lines.Spoken.{after_all, transcript_of}
 use Rattle.proof_spoken.proofs.said.runs_have_their_tables.Goals as goal
 
 pub returns : goal.returns

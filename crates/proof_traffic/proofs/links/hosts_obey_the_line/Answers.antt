@@ -1,6 +1,6 @@
 -- Each clause is a lemma on events of the host.
 use Rattle.std.proofs.Common.{[]}
-use Rattle.world_model.specs.State.{first_machine}
+use Rattle.proof_device.specs.world_model.State.{first_machine}
 use Rattle.proof_traffic.proofs.HostLinks.{first_keeps, opened_keeps, event_keeps, event_units, run_keeps}
 use Rattle.proof_traffic.proofs.links.hosts_obey_the_line.Goals as goal
 

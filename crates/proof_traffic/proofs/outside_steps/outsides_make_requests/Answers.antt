@@ -2,7 +2,7 @@ use Rattle.std.proofs.Common.{refl}
 use Rattle.serial_pipes.specs.Events.{Takes}
 use Rattle.serial_pipes.specs.Events as way
 use Rattle.chip_sim.specs.Nodes.{none_marked}
-use Rattle.outside_model.specs.State.{first_outer}
+use Rattle.proof_device.specs.outside_model.State.{first_outer}
 use Rattle.proof_traffic.proofs.JudgedItems.{items_go}
 use Rattle.proof_traffic.proofs.Events.{event_goes, none_to_come}
 use Rattle.proof_traffic.proofs.outside_steps.outsides_make_requests.Goals as goal

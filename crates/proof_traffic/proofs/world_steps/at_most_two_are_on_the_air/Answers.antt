@@ -1,5 +1,5 @@
 use Rattle.std.proofs.Common.{◌++◌}
-use Rattle.world_model.specs.State.{first_machine}
+use Rattle.proof_device.specs.world_model.State.{first_machine}
 use Rattle.proof_traffic.proofs.Flights.{flights_are, room_before}
 use Rattle.proof_traffic.proofs.CourseSteps.{few_at}
 use Rattle.proof_traffic.proofs.world_steps.at_most_two_are_on_the_air.Goals as goal

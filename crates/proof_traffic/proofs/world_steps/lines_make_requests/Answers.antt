@@ -1,7 +1,7 @@
 -- Each clause is a lemma on lines, by what is proved of the parts.
 use Rattle.std.proofs.Common.{[], refl}
-use Rattle.world_model.specs.State.{first_machine}
-use Rattle.outside_model.specs.State.{first_outer}
+use Rattle.proof_device.specs.world_model.State.{first_machine}
+use Rattle.proof_device.specs.outside_model.State.{first_outer}
 use Rattle.proof_serial.proofs.First.{first_carried, first_frames, first_at_rest}
 use Rattle.proof_traffic.proofs.Parts.{Laws}
 use Rattle.proof_traffic.proofs.Flights.{follows_on_air}

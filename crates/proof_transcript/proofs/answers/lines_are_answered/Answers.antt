@@ -6,18 +6,18 @@ use Rattle.host_model.specs.State.{first_host}
 use Rattle.host_keep.specs.Kept.{first_kept, kept_of}
 use Rattle.law_transcript.specs.Lists.{EachAfter}
 use Rattle.law_transcript.specs.Nodes.{listing_of, always}
-use Rattle.proof_device.proofs.DevicePlaces.{go_same, run_goes}
-use Rattle.proof_device.specs.GoingOn.{AreSame}
-use Rattle.world_model.specs.State.{Machine, first_machine}
-use Rattle.world_model.specs.Did.{happens_all}
-use Rattle.world_lines.specs.Spoken.{Spoken, after_all, transcript_of}
-use Rattle.world_lines.specs.Done.{AreDone, events_of}
-use Rattle.world_lines.specs.Whole.{AreWhole}
+use Rattle.proof_spoken.proofs.DevicePlaces.{go_same, run_goes}
+use Rattle.proof_spoken.specs.proof_device.GoingOn.{AreSame}
+use Rattle.proof_air.specs.world_model.State.{Machine, first_machine}
+use Rattle.proof_air.specs.world_model.Did.{happens_all}
+use Rattle.proof_air.specs.world_lines.Spoken.{Spoken, after_all, transcript_of}
+use Rattle.proof_air.specs.world_lines.Done.{AreDone, events_of}
+use Rattle.proof_air.specs.world_lines.Whole.{AreWhole}
 use Rattle.proof_spoken.proofs.SpokenLines.{all_after, all_lines, all_may, lines_of}
 use Rattle.proof_spoken.specs.Restarts.{IsHeld}
-use Rattle.world_model.specs.Refusals.{HasBad}
-use Rattle.proof_walk.proofs.Lines.{all_tied, tied_lead, tied_stand}
-use Rattle.proof_walk.specs.Walk.{AllTied}
+use Rattle.proof_air.specs.world_model.Refusals.{HasBad}
+use Rattle.proof_air.proofs.Lines.{all_tied, tied_lead, tied_stand}
+use Rattle.proof_air.specs.proof_walk.Walk.{AllTied}
 use Rattle.proof_transcript.specs.Answering.{AnswerTies, IsAnswerOf, KnowsAnswers}
 use Rattle.proof_transcript.proofs.AnswerFacts.{ties_are}
 use Rattle.proof_transcript.proofs.Answering.{answers_of, answers_walk, nothing_due, sound_of}

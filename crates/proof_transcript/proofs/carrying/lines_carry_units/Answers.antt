@@ -1,9 +1,9 @@
 -- The units of each host are ones that the format carries, and what is on the line is whole: so the walk goes along all lines.
 use Rattle.std.proofs.Common.{[], Some}
-use Rattle.world_model.specs.State.{first_machine}
-use Rattle.world_lines.specs.Done.{events_of}
+use Rattle.proof_air.specs.world_model.State.{first_machine}
+use Rattle.proof_air.specs.world_lines.Done.{events_of}
 use Rattle.proof_spoken.proofs.SpokenLines.{all_lines, all_may, lines_of}
-use Rattle.proof_walk.proofs.Where.{where_stand}
+use Rattle.proof_air.proofs.Where.{where_stand}
 use Rattle.law_transcript.specs.Carrying.{MaySend}
 use Rattle.proof_transcript.specs.Carrying.{IsWell}
 use Rattle.proof_transcript.proofs.CarryingWalk.{KnowBoth, all_well, carrying_walk, first_underway}

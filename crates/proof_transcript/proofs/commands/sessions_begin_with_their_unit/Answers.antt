@@ -1,5 +1,5 @@
 -- The lines were said, and each host starts well: so sessions begin with their units.
-use Rattle.world_model.specs.State.{first_machine}
+use Rattle.proof_air.specs.world_model.State.{first_machine}
 use Rattle.proof_spoken.proofs.ToldLines.{are_spoken}
 use Rattle.proof_transcript.proofs.AttemptStarts.{lines_begin_with_units}
 use Rattle.proof_transcript.proofs.commands.sessions_begin_with_their_unit.Goals as goal

@@ -1,7 +1,7 @@
 use Rattle.std.proofs.Common.{[], Some}
 use Rattle.law_transcript.specs.Nodes.{listing_of, always}
-use Rattle.world_model.specs.State.{first_machine}
-use Rattle.world_lines.specs.Spoken.{after_all, transcript_of}
+use Rattle.proof_air.specs.world_model.State.{first_machine}
+use Rattle.proof_air.specs.world_lines.Spoken.{after_all, transcript_of}
 use Rattle.proof_transcript.proofs.StoredValues.{stores_confirmed}
 use Rattle.proof_transcript.proofs.commands.values_are_stored_as_asked.Goals as goal
 

@@ -3,10 +3,10 @@ use Rattle.std.proofs.Common.{true, List, [], ◌∷◌}
 use Rattle.zw_text.specs.declared.entry.Entry.{Entry}
 use Rattle.zw_text.specs.declared.entry.Entry.TheVariants as entry
 use Rattle.law_transcript.specs.Fates.{AllLanded, FaresInTurn, MayFare}
-use Rattle.law_wire.specs.Serial.{ended}
-use Rattle.proof_host.proofs.Lists.{each-append}
-use Rattle.world_model.specs.State.{first_machine}
-use Rattle.world_lines.specs.Spoken.{transcript_of}
+use Rattle.law_host.specs.law_wire.Serial.{ended}
+use Rattle.proof_air.proofs.Lists.{each-append}
+use Rattle.proof_air.specs.world_model.State.{first_machine}
+use Rattle.proof_air.specs.world_lines.Spoken.{transcript_of}
 use Rattle.proof_transcript.proofs.Turning.{all_land, nothing_flies}
 use Rattle.proof_transcript.proofs.frames.all_frames_land_in_the_end.Goals as goal
 

@@ -1,7 +1,7 @@
 -- Nothing was on the air at first, and so frames have their fates in turn over all lines that repeat none, and over all others where what is repeated is fresh.
 use Rattle.std.proofs.Common.{[]}
-use Rattle.world_model.specs.State.{first_machine}
-use Rattle.world_lines.specs.Spoken.{transcript_of}
+use Rattle.proof_air.specs.world_model.State.{first_machine}
+use Rattle.proof_air.specs.world_lines.Spoken.{transcript_of}
 use Rattle.proof_transcript.proofs.Turning.{lines_fare_once, lines_fare_named, each_fares, nothing_flies}
 use Rattle.proof_transcript.proofs.frames.ticks_decide_each_frame.Goals as goal
 

@@ -3,9 +3,9 @@ use Rattle.std.specs.List.{flat_map}
 use Rattle.law_transcript.specs.Nodes.{listing_of, always}
 use Rattle.host_keep.specs.Kept.{first_kept, kept_of}
 use Rattle.host_keep.specs.declared.record.Record.{Record}
-use Rattle.world_model.specs.State.{Machine, first_machine}
-use Rattle.world_lines.specs.Done.{events_of}
-use Rattle.world_lines.specs.Spoken.{after_all, transcript_of}
+use Rattle.proof_air.specs.world_model.State.{Machine, first_machine}
+use Rattle.proof_air.specs.world_lines.Done.{events_of}
+use Rattle.proof_air.specs.world_lines.Spoken.{after_all, transcript_of}
 use Rattle.proof_spoken.proofs.SpokenLines.{all_after, all_lines, all_may, lines_of}
 use Rattle.proof_spoken.specs.Restarts.{AreHeld, IsHeld}
 use Rattle.proof_spoken.proofs.HeldRecords.{one_reading}

@@ -7,21 +7,21 @@ use Rattle.zw_text.specs.declared.entry.Entry.{Entry}
 use Rattle.zw_text.specs.declared.entry.Entry.TheVariants.{Said}
 use Rattle.law_transcript.specs.Lists.{EachAfter}
 use Rattle.law_transcript.specs.Nodes.{always, listing_of}
-use Rattle.law_wire.specs.Serial.{ended}
+use Rattle.law_host.specs.law_wire.Serial.{ended}
 use Rattle.law_host.specs.HostLegal.{values_now}
-use Rattle.world_model.specs.State.{Machine, first_machine}
-use Rattle.world_model.specs.Events.{shown_values}
-use Rattle.world_model.specs.Did.{happens_all}
-use Rattle.world_lines.specs.Spoken.{Spoken, after_all, transcript_of}
-use Rattle.world_lines.specs.Done.{AreDone, events_of}
-use Rattle.world_lines.specs.Whole.{AreWhole}
-use Rattle.proof_device.proofs.DevicePlaces.{go_same, run_goes}
-use Rattle.proof_device.specs.GoingOn.{AreSame}
-use Rattle.proof_device.specs.Showing.{AllShow, AreApart}
-use Rattle.proof_host.proofs.Lists.{each-append}
+use Rattle.proof_air.specs.world_model.State.{Machine, first_machine}
+use Rattle.proof_air.specs.world_model.Events.{shown_values}
+use Rattle.proof_air.specs.world_model.Did.{happens_all}
+use Rattle.proof_air.specs.world_lines.Spoken.{Spoken, after_all, transcript_of}
+use Rattle.proof_air.specs.world_lines.Done.{AreDone, events_of}
+use Rattle.proof_air.specs.world_lines.Whole.{AreWhole}
+use Rattle.proof_spoken.proofs.DevicePlaces.{go_same, run_goes}
+use Rattle.proof_spoken.specs.proof_device.GoingOn.{AreSame}
+use Rattle.proof_spoken.specs.proof_device.Showing.{AllShow, AreApart}
+use Rattle.proof_air.proofs.Lists.{each-append}
 use Rattle.proof_spoken.proofs.SpokenLines.{all_after, all_may}
-use Rattle.proof_walk.proofs.Lines.{all_tied, tied_lead, tied_stand}
-use Rattle.proof_walk.specs.Walk.{AllTied}
+use Rattle.proof_air.proofs.Lines.{all_tied, tied_lead, tied_stand}
+use Rattle.proof_air.specs.proof_walk.Walk.{AllTied}
 use Rattle.proof_transcript.specs.Showing.{KnowsShown, ShownTies, Stands}
 use Rattle.proof_transcript.specs.Told.{IsTold}
 use Rattle.proof_transcript.proofs.LastTable.{shown_kept}

@@ -1,7 +1,7 @@
 use Rattle.std.proofs.Common.{[], Some}
 use Rattle.law_transcript.specs.Nodes.{always, listing_of}
-use Rattle.world_model.specs.State.{first_machine}
-use Rattle.world_lines.specs.Spoken.{after_all, transcript_of}
+use Rattle.proof_air.specs.world_model.State.{first_machine}
+use Rattle.proof_air.specs.world_lines.Spoken.{after_all, transcript_of}
 use Rattle.proof_transcript.proofs.LastTable.{table_is}
 use Rattle.proof_transcript.proofs.table.tables_are_what_is_shown.Goals as goal
 

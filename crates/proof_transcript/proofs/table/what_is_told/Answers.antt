@@ -1,6 +1,6 @@
 use Rattle.std.proofs.Common.{[], Some, refl}
-use Rattle.world_model.specs.State.{first_machine}
-use Rattle.world_lines.specs.Done.{events_of}
+use Rattle.proof_air.specs.world_model.State.{first_machine}
+use Rattle.proof_air.specs.world_lines.Done.{events_of}
 use Rattle.proof_spoken.proofs.SpokenLines.{all_lines, all_may, all_read, lines_of}
 use Rattle.proof_transcript.proofs.FirstMachine.{first_told}
 use Rattle.proof_transcript.proofs.LastTable.{lines_told}

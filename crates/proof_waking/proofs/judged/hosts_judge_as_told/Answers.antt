@@ -1,7 +1,7 @@
 -- The tie is that of the walk, and gives what was judged here.
 use Rattle.std.proofs.Common.{[], refl}
-use Rattle.law_time.specs.Moments.{Allows}
-use Rattle.law_time.specs.Waking.{may_wake}
+use Rattle.proof_alone.specs.law_time.Moments.{Allows}
+use Rattle.proof_alone.specs.law_time.Waking.{may_wake}
 use Rattle.proof_alone.specs.State.{first_alone}
 use Rattle.proof_alone.proofs.Running.{run_keeps}
 use Rattle.proof_waking.specs.Judged.{KnowsJudged}

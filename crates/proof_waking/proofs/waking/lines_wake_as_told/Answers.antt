@@ -1,8 +1,8 @@
 -- Lines are told by a host alone, and so is what is heard of them.
 use Rattle.std.specs.Prelude.{Some, []}
-use Rattle.world_model.specs.State.{first_machine}
-use Rattle.world_lines.specs.Spoken.{transcript_of}
-use Rattle.law_host.specs.Heard.{heard_by_host}
+use Rattle.proof_alone.specs.world_model.State.{first_machine}
+use Rattle.proof_alone.specs.world_lines.Spoken.{transcript_of}
+use Rattle.proof_alone.specs.law_host.Heard.{heard_by_host}
 use Rattle.proof_alone.specs.State.{first_alone}
 use Rattle.proof_waking.proofs.waking.lines_wake_as_told.Goals as goal
 

@@ -1,6 +1,6 @@
 -- The walk of time, and its beginning.
 use Rattle.std.proofs.Common.{refl}
-use Rattle.world_model.specs.State.{first_machine}
+use Rattle.proof_device.specs.world_model.State.{first_machine}
 use Rattle.proof_walk.proofs.Clock.{time_walk, first_time}
 use Rattle.proof_walk.proofs.time.time_goes_on.Goals as goal
 

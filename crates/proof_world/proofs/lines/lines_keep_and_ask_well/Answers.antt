@@ -1,6 +1,6 @@
 -- What lines ask, and so all that a run asks.
 use Rattle.std.proofs.Common.{[], Some}
-use Rattle.world_model.specs.State.{first_machine}
+use Rattle.proof_device.specs.world_model.State.{first_machine}
 use Rattle.proof_world.proofs.lines.lines_keep_and_ask_well.Goals as goal
 
 pub returns : goal.returns

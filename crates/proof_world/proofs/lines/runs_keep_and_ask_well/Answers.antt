@@ -1,6 +1,6 @@
 -- The induction over the events of a run, from the first on.
 use Rattle.std.proofs.Common.{[], Some}
-use Rattle.world_model.specs.State.{first_machine}
+use Rattle.proof_device.specs.world_model.State.{first_machine}
 use Rattle.proof_world.proofs.Runs.{all_ask, first_machine_asks}
 use Rattle.proof_world.proofs.lines.runs_keep_and_ask_well.Goals as goal
 

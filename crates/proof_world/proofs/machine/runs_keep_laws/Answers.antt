@@ -1,6 +1,6 @@
 -- The laws follow from the facts, which hold over restarts too.
 use Rattle.std.proofs.Common.{[]}
-use Rattle.world_model.specs.State.{first_machine}
+use Rattle.proof_device.specs.world_model.State.{first_machine}
 use Rattle.proof_world.proofs.machine.runs_keep_laws.Goals as goal
 
 pub returns-clause-laws : goal.returns-clause-laws

@@ -1,6 +1,6 @@
 -- What any events keep, those of a run do.
-use Rattle.world_model.specs.State.{first_machine}
-use Rattle.world_model.specs.Did.{happens_all, entries_all}
+use Rattle.proof_device.specs.world_model.State.{first_machine}
+use Rattle.proof_device.specs.world_model.Did.{happens_all, entries_all}
 use Rattle.proof_world.proofs.Devices.{made_in_order, made_unchanged, all_group}
 use Rattle.proof_world.proofs.machine.runs_take_once.Goals as goal
 
