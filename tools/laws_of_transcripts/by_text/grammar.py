@@ -294,6 +294,12 @@ def types_of(signature):
     return [one.split(":", 1)[1].rstrip(") ").strip() if re.match(r"\(\w+( \w+)* :", one) else one for one in types if not one.startswith("{")]
 
 
+def home_of(path):
+    """The path of a module in its own crate: `B.specs.M` for `A.specs.B.M`, by which A passes on what B defines. Names of modules are capitalized, but for `declared`."""
+    passed = re.match(r"\w+\.specs\.(?!declared\.)([a-z]\w*)\.(.*)$", path)
+    return home_of("%s.specs.%s" % passed.groups()) if passed else path
+
+
 class Module:
     """What a file defines and imports."""
 
@@ -328,9 +334,9 @@ class Module:
         """`use Rattle.A.B.{c, d as e}` or `use Rattle.A.B as c`."""
         whole = re.match(r"use Rattle\.([\w.]+) as (\w+)$", part)
         if whole:
-            self.aliases[whole.group(2)] = whole.group(1)
+            self.aliases[whole.group(2)] = home_of(whole.group(1))
             return
         path, names = re.match(r"use Rattle\.([\w.]+)\.\{(.*)\}\s*$", part, re.S).groups()
         for name in names.split(","):
             old, _, new = name.strip().partition(" as ")
-            self.imports[new or old] = (path, old)
+            self.imports[new or old] = (home_of(path), old)
