@@ -5,7 +5,7 @@ ghost use Rattle.zw_base.specs.Faults.{Rose, raised};
 ghost use Rattle.host_keep.specs.Keeping.{OptAdds};
 ghost use Rattle.host_keep.specs.Legal.{IsFirstBad};
 ghost use Rattle.host_model.specs.Did.{RoseBy};
-ghost use Rattle.host_core.specs.Network.{keys_of};
+ghost use Rattle.s0_crypto.specs.Sealing.{keys_of};
 ghost use Rattle.host_core.specs.Opening.{Opens, IsRecordAt, IsNoneAt, Takes, MayTakeNone};
 ghost use Rattle.host_core.specs.Recorded.{TablesAreTold};
 

@@ -11,8 +11,8 @@ use Rattle.s0_crypto.proofs.MessageLemmas.{nonce_of_layout}
 use Rattle.s0_crypto.proofs.OpeningLemmas.{good_from_seals, length-code_of, one_plain_text}
 use Rattle.s0_crypto.proofs.StreamLemmas.{length-ofb_from}
 use Rattle.s0_session.specs.Nonces.{account_of, live_of, with_first, nonce_spent}
-use Rattle.device_kinds.specs.Sealing.{cipher_text_of, sealed_text}
-use Rattle.device_kinds.proofs.SealingLemmas.{sealed_is}
+use Rattle.s0_crypto.specs.Sealing.{cipher_text_of, sealed_text}
+use Rattle.s0_crypto.proofs.SealingLemmas.{sealed_is}
 use Rattle.host_heard.specs.Telling.{heard_at}
 use Rattle.host_heard.specs.declared.payload.Heard.{Heard}
 use Rattle.host_heard.specs.declared.payload.Heard.TheVariants.{Messages, Sealed}

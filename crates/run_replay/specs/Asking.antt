@@ -17,9 +17,3 @@ Enters seen before all = (refusal : Refusal) × (seen ≡ Some refusal) × (all 
 abbrev pub Answers : {A : Type 0} → Result A Refused → List Entry → List Entry → Type 0
 Answers (Ok value) before all = all ≡ before
 Answers (Err refused) before all = Enters (shown refused) before all
-
--- what is entered of a command that is not cancelled; an allocation failure is no refusal
-abbrev pub shown_uncancelled : ℕ → CancelFault → Option Refusal
-shown_uncancelled command cancel.NotWaiting = Some (NotWaiting command)
-shown_uncancelled command cancel.KeeperFault = Some KeeperFault
-shown_uncancelled command cancel.NoMemory = None

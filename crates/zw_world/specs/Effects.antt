@@ -69,12 +69,6 @@ line_of Probe = probe
 abbrev pub IsAsked : Question → Schedule
 IsAsked question m events = Asks (places_refusal m.host.state (places_of question)) (line_of question) (question_event question) events
 
--- what is entered of a command that is not cancelled; an allocation failure is no refusal
-abbrev pub shown_uncancelled : ℕ → CancelFault → Option Refusal
-shown_uncancelled command cancel.NotWaiting = Some (NotWaiting command)
-shown_uncancelled command cancel.KeeperFault = Some KeeperFault
-shown_uncancelled command cancel.NoMemory = None
-
 -- on an allocation failure the bytes on their way to the chip are lost, and those to the host are not; or neither, and nothing is entered
 abbrev pub ClearsInPart : OuterState → List Entry → List Entry → Type 0
 ClearsInPart old before all = (all ≡ before) ⊎ ((mid : OuterState) × Goes (Clears_pipe side.Host ∷ []) old mid before all)
