@@ -9,6 +9,7 @@ use Rattle.std.specs.FinMap.{nat_cmp-IsAntisymmetric, slice_cmp-IsAntisymmetric}
 use Rattle.std.specs.Ordering.{is_eq, nat_cmp}
 use Rattle.std.specs.declared.cmp.Ordering.{Ordering}
 use Rattle.std.specs.declared.cmp.Ordering.TheVariants.{Less, Equal, Greater}
+use Rattle.std.proofs.lemmas.Option.{none-some as none-is-some}
 use Rattle.zw_base.specs.PropertyOrder.{name_rank_of, rank_of}
 use Rattle.zw_base.specs.declared.property.Name.{Name}
 use Rattle.zw_base.specs.declared.property.Name.TheVariants as names
@@ -83,13 +84,6 @@ none-fits None none other fits = refl
 none-fits (Some made) none other fits = none-named made made.property.name refl none other fits
 
 -- ---- lists of settings, one by one
-
-none-is-some : {A : Type 0} (x : A) → None ≡ Some x → ⊥
-none-is-some {A} x e = subst F e tt
-  where
-    F : Option A → Type 0
-    F None = Unit {0}
-    F (Some y) = ⊥
 
 abbrev some_or : {A : Type 0} → A → Option A → A
 some_or d None = d

@@ -5,6 +5,7 @@ use Rattle.std.specs.Int.{Width, w16, w32, byte_len, from_be_bytes, to_be_bytes}
 use Rattle.std.proofs.lemmas.Bool.{cases_lt, ltb-true, ltb-false, le-ltb, le-leb, leb-true, and_from, and_parts, eqb-true}
 use Rattle.std.proofs.lemmas.List.{take_at, drop_at, take-append-drop, length-append, length-take, get_or-drop, get_or-take, get_or_past}
 use Rattle.std.proofs.lemmas.Nat.{be_bytes_2, be_bytes_4, from_be_bytes-to_be_bytes_2, from_be_bytes-to_be_bytes_4}
+use Rattle.std.proofs.lemmas.Option.{cond_some as some_if}
 use Rattle.chip_functions.specs.declared.fault.BodyFault.{BodyFault}
 use Rattle.chip_functions.specs.declared.fault.BodyFault.TheVariants.{UnknownFunction, Short, BadField, NoMemory}
 use Rattle.chip_functions.specs.declared.mask.TheConstants.{MASK_BYTES}
@@ -220,10 +221,6 @@ if_within low high b = cond (leb low b && leb b high) (Some b) None
 
 within_back : (low high b : ℕ) → (low ≤ b) × (b ≤ high) → if_within low high b ≡ Some b
 within_back low high b h = rw (and_from _ _ (le-leb low b h.0) (le-leb b high h.1)) refl
-
-some_if : {A : Type 0} (t : Bool) (x y : A) → cond t (Some x) None ≡ Some y → (t ≡ true) × (x ≡ y)
-some_if true x y e = (refl, cc)
-some_if false x y e = absurd cc
 
 within_there : (low high b x : ℕ) → if_within low high b ≡ Some x → (x ≡ b) × ((low ≤ x) × (x ≤ high))
 within_there low high b x e =

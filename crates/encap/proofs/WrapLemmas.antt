@@ -1,15 +1,12 @@
 -- Lists of commands as they are measured and written.
-use Rattle.std.proofs.Common.{◌≡◌, ℕ, zero, suc, ◌+◌, ◌<◌, ◌≤◌, List, [], ◌∷◌, ◌++◌, length, take, drop, get_or, Bool, true, false, Some, None, refl, sym, ◌∙◌, ap, arith, append-nil, add-one, cond}
-use Rattle.std.specs.Prelude.{Option, nat_lt}
+use Rattle.std.proofs.Common.{◌≡◌, ℕ, zero, suc, ◌+◌, ◌<◌, ◌≤◌, List, [], ◌∷◌, ◌++◌, length, take, drop, get_or, Some, None, refl, sym, ◌∙◌, ap, arith, append-nil, add-one, cond}
+use Rattle.std.specs.Prelude.{nat_lt}
 use Rattle.std.proofs.Math.Seq.{take-suc, drop-cons}
 use Rattle.std.proofs.lemmas.Bool.{ltb-false, lt-ltb, le-ltb}
 use Rattle.encap.specs.Wraps.{listed}
 use Rattle.encap.specs.Written.{first_long}
 use Rattle.encap.proofs.BatchLemmas.{listed-push}
-
-long_cases : (b : Bool) (len : ℕ) (more : Option ℕ) → cond b (Some len) more ≡ None → (b ≡ false) × (more ≡ None)
-long_cases true len more e = absurd (cc)
-long_cases false len more e = (refl, e)
+use Rattle.encap.proofs.FormLemmas.{none_of as long_cases}
 
 -- where none is long, each fits its length
 pub fit_at : (commands : List (List ℕ)) (at : ℕ) → first_long commands ≡ None → at < length commands → length (get_or commands at []) ≤ 255

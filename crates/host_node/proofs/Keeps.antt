@@ -1,6 +1,7 @@
 -- Each event keeps the facts of a node.
 use Rattle.std.proofs.Common.{◌≡◌, ℕ, ◌+◌, ◌-◌, ◌<◌, ◌≤◌, ◌==◌, ◌&&◌, ◌||◌, nat_lt, Bool, true, false, if◌then◌else◌, Option, Some, None, List, [], ◌∷◌, ◌++◌, length, is_some, IsSome, IsTrue, refl, sym, subst, arith, length-append, length-take, length-drop}
 use Rattle.std.proofs.lemmas.Bool.Decides.{nat_tests}
+use Rattle.std.proofs.lemmas.Bool.{ltb-true as below_holds, ltb-false as not_below_holds}
 use Rattle.supervision.specs.Host.{open_session, told_of}
 use Rattle.supervision.specs.declared.host_node.Told.{Told}
 use Rattle.supervision.specs.declared.host_node.Told.TheVariants.{Final, Working, Old}
@@ -23,19 +24,13 @@ either : (test : Bool) (yes no : NodeState) → (test ≡ true → NodeFacts yes
 either true m k p q = p refl
 either false m k p q = q refl
 
-first_holds : (a b : Bool) → a && b ≡ true → a ≡ true
+pub first_holds : (a b : Bool) → a && b ≡ true → a ≡ true
 first_holds true b e = refl
 first_holds false b e = cc
 
-second_holds : (a b : Bool) → a && b ≡ true → b ≡ true
+pub second_holds : (a b : Bool) → a && b ≡ true → b ≡ true
 second_holds true b e = e
 second_holds false b e = cc
-
-below_holds : (a b : ℕ) → nat_lt a b ≡ true → a < b
-below_holds a b e = grind (arith, nat_tests)
-
-not_below_holds : (a b : ℕ) → nat_lt a b ≡ false → b ≤ a
-not_below_holds a b e = grind (arith, nat_tests)
 
 is_one : (a : ℕ) → a == 1 ≡ true → a ≡ 1
 is_one a e = grind (arith, nat_tests)

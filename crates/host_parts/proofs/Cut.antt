@@ -1,9 +1,9 @@
 -- The segments of a message fit a frame.
-use Rattle.std.proofs.Common.{◌≡◌, ◌≤◌, ◌<◌, ◌*◌, ◌+◌, ◌/◌, ◌%◌, ◌==◌, nat_lt, ℕ, zero, suc, Bool, true, false, List, [], ◌∷◌, length, length-append, take, drop, get_or, Some, None, if◌then◌else◌, refl, sym, ap, ◌∙◌, subst, arith}
+use Rattle.std.proofs.Common.{◌≡◌, ◌≤◌, ◌<◌, ◌*◌, ◌+◌, ◌/◌, ◌%◌, ◌==◌, ℕ, zero, suc, Bool, true, false, List, [], ◌∷◌, length, length-append, take, drop, get_or, Some, None, if◌then◌else◌, refl, sym, ap, ◌∙◌, subst, arith}
 use Rattle.std.specs.Prelude.{slice_get}
 use Rattle.std.proofs.lemmas.List.{length-take}
 use Rattle.std.proofs.lemmas.Option.{slice_get_read, slice_get_within, same_Some}
-use Rattle.std.proofs.lemmas.Bool.Decides.{nat_tests}
+use Rattle.std.proofs.lemmas.Bool.{lt-ltb as below_is, le-ltb as past_is}
 use Rattle.host_orders.specs.declared.carriage.Form.TheVariants.{Cut}
 use Rattle.host_model.specs.Sessions.{segment_count, segment_at, segment_by}
 use Rattle.zw_base.specs.Crc.{crc}
@@ -43,12 +43,6 @@ some_segments message some most = (omega arith, omega arith)
 -- the first segment
 pub first_segment : (message : List ℕ) (session : ℕ) (segments : List (List ℕ)) → Parts message (session % 16) segments → 1 ≤ length message → slice_get segments 0 ≡ Some (segment_at session message 0)
 first_segment message session segments parts some = let there : 0 < length segments = omega (arith, parts.count) in parts.each 0 there
-
-below_is : (a b : ℕ) → a < b → nat_lt a b ≡ true
-below_is a b below = grind (arith, nat_tests)
-
-past_is : (a b : ℕ) → b ≤ a → nat_lt a b ≡ false
-past_is a b past = grind (arith, nat_tests)
 
 -- a segment that is there, and one that is not
 pub segment_there : (message : List ℕ) (session at : ℕ) (segments : List (List ℕ)) (segment : List ℕ) → Parts message (session % 16) segments → slice_get segments at ≡ Some segment → Some segment ≡ segment_by Cut session message at

@@ -16,6 +16,7 @@ use Rattle.supervision.specs.Session.{wire_id}
 use Rattle.std.proofs.lemmas.Bool.{eq-eqb, eqb-true}
 use Rattle.std.specs.Prelude.{slice_index}
 use Rattle.s0_session.specs.Nonces.{given_of, live_of, IsRestorable}
+use Rattle.host_model.proofs.Tests.{all_true as all_three}
 
 -- ---- what the test of a session says
 
@@ -24,12 +25,6 @@ all_true true true true e = (refl, refl)
 all_true true true false e = absurd cc
 all_true true false c e = absurd cc
 all_true false b c e = absurd cc
-
-all_three : (a b c : Bool) → (a && b && c) ≡ true → (a ≡ true) × (b ≡ true) × (c ≡ true)
-all_three true true true e = (refl, refl, refl)
-all_three true true false e = absurd cc
-all_three true false c e = absurd cc
-all_three false b c e = absurd cc
 
 some_waits : (l : List ℕ) (command : ℕ) → is_first l command ≡ true → 0 < length l
 some_waits [] command e = absurd cc

@@ -25,7 +25,7 @@ use Rattle.world_model.specs.Events.{Outside_does, Host_takes, fed, happens, May
 use Rattle.proof_serial.specs.Way.{written_all}
 use Rattle.proof_serial.specs.Chip.{HasFrames}
 use Rattle.proof_serial.specs.Line.{host_units}
-use Rattle.proof_serial.proofs.EndedItems.{same_rest}
+use Rattle.serial_frame.proofs.Streams.{same_rest}
 use Rattle.proof_serial.proofs.Outer.{routed_all}
 use Rattle.proof_calm.specs.Passes.{chip_taken, ChipMayTake, AtChip, OnLine}
 use Rattle.proof_calm.specs.Settling.{is_sending}

@@ -15,18 +15,14 @@ use Rattle.serial_frame.specs.Stream.{Rest}
 use Rattle.serial_frame.specs.declared.item.Item.{Item}
 use Rattle.device_sim.specs.State.{State}
 use Rattle.outside_model.specs.State.{Outside}
-use Rattle.outside_model.specs.Events.{devices_after}
 use Rattle.outside_model.specs.Did.{happens_all as happens_all_outside}
 use Rattle.law_transcript.specs.Lists.{Has}
-use Rattle.zw_text.specs.declared.entry.Entry.{Entry}
-use Rattle.world_model.specs.State.{begun_in, noted_by, routed, routed_one}
+use Rattle.world_model.specs.State.{routed}
 use Rattle.world_model.proofs.Hosting.{routed_still}
 use Rattle.host_keep.specs.declared.final_status.FinalStatus.{FinalStatus}
 use Rattle.host_keep.specs.declared.final_status.FinalStatus.TheVariants as final
 use Rattle.host_keep.specs.Status.{status_byte}
 use Rattle.host_model.specs.State.{HostState, node_of}
-use Rattle.host_model.specs.declared.out.HostOut.{HostOut}
-use Rattle.host_model.specs.declared.out.HostOut.TheVariants.{Write, Note}
 use Rattle.host_model.specs.After.{after as after_host}
 use Rattle.host_model.specs.Did.{after_all, outs_all}
 use Rattle.host_model.specs.Outs.{outs}
@@ -47,16 +43,6 @@ use Rattle.proof_course_plain.proofs.Taken.{changes_taken}
 use Rattle.proof_traffic.proofs.ChangesOutside.{place_is}
 
 -- ---- devices
-
-noted_devices : (w : Outside) (begun : Option (ℕ × ℕ)) (e : Entry) → (happens_all_outside w (noted_by begun e)).devices ≡ w.devices
-unfolding devices_after
-noted_devices w None e = refl
-noted_devices w (Some begun) e = refl
-
-out_devices : (w : Outside) (out : HostOut) → (happens_all_outside w (routed_one out)).devices ≡ w.devices
-unfolding devices_after
-out_devices w (Write unit) = refl
-out_devices w (Note e) = noted_devices w (begun_in e) e
 
 pub got_has : (devices : List State) (place : ℕ) (device : State) → slice_get devices place ≡ Some device → Has devices device
 got_has [] place device e = absurd cc

@@ -75,8 +75,10 @@ use Rattle.device_stack.specs.Hearing.{Answered, answers, answers_opened, answer
 use Rattle.device_stack.specs.Ticking.{aged, works_out, ticked, woken, by_hand, main_told, tells_by_hand, set_by_hand}
 use Rattle.s0_crypto.specs.Sealing.{keys_of, cipher_text_of, unsealed_at, sealed_text}
 use Rattle.device_sim.specs.Event.{DeviceEvent, Hears, Ticks, Wakes, Sets, outcome_of, device_after, device_replies}
-use Rattle.proof_messages.proofs.Bare.{bare, bare_opens, high_command, middle_command, low_command, never_begins, never_ends}
+use Rattle.proof_messages.proofs.Bare.{bare, bare_opens, high_command, middle_command, low_command, never_begins}
+use Rattle.host_model.proofs.Pumps.{and_false as never_ends}
 use Rattle.proof_messages.specs.Reporting.{TellsOwn, IsNoReport, TellsNone, TellsTrue, CanBeAnswered, CanSay}
+use Rattle.host_node.proofs.Keeps.{first_holds, second_holds}
 
 -- ---- statuses
 
@@ -448,14 +450,6 @@ none_unasked device plan commands = by plan.batch
     by : (b : Bool) → IsUnasked (if b then Ignores else effect_alone device.kind device.journal (end_of plan.channel) (info_at (only_of commands)))
     by true = tt
     by false = alone_unasked device (end_of plan.channel) (info_at (only_of commands))
-
-pub first_holds : (a b : Bool) → a && b ≡ true → a ≡ true
-first_holds true b e = refl
-first_holds false b e = cc
-
-pub second_holds : (a b : Bool) → a && b ≡ true → b ≡ true
-second_holds true b e = e
-second_holds false b e = cc
 
 asked_said : (device : State) (plan : Plan) (commands : List (List ℕ)) (asked : Supervised) → IsSaid device asked (effect_by device.kind device.journal device.sessions plan commands (Some asked))
 asked_said device plan commands asked = supervised (lists device.kind 0x6C)

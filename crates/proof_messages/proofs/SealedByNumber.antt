@@ -27,7 +27,8 @@ use Rattle.proof_course.specs.NonceLaws.{NamesGiven}
 use Rattle.proof_messages.specs.Numbers.{IsNonce, HasGiven}
 use Rattle.proof_messages.specs.Payloads.{IsSealed}
 use Rattle.proof_messages.specs.Opened.{OpensAs}
-use Rattle.proof_messages.proofs.NonceNumbers.{found_live, none_named, same_sides}
+use Rattle.proof_messages.proofs.NonceNumbers.{found_live, none_named}
+use Rattle.host_model.proofs.Taken.{same_either as same_sides}
 use Rattle.proof_messages.proofs.Texts.{IsText, is_text}
 use Rattle.proof_messages.proofs.LockSessions.{some_same}
 use Rattle.proof_messages.proofs.DeviceReports.{same_messages as messages_same}

@@ -18,7 +18,7 @@ use Rattle.class_info.proofs.OwnLaws.{written_wholes}
 use Rattle.encap.specs.Opening.{begins_with}
 use Rattle.s0_crypto.specs.Sealing.{cipher_text_of, sealed_text}
 use Rattle.proof_messages.specs.Payloads.{report_of}
-use Rattle.proof_messages.proofs.Bare.{never_ends}
+use Rattle.host_model.proofs.Pumps.{and_false as never_ends}
 
 -- ---- a Nonce Report
 

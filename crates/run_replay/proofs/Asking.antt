@@ -3,7 +3,6 @@ use Rattle.std.proofs.Common.{◌≡◌, ℕ, ◌+◌, ◌≤◌, Bool, false, L
 use Rattle.std.specs.Prelude.{Option, Some, None, Result, Ok, Err, OnOk, OnErr, ◌&&◌}
 use Rattle.std.specs.List.{flat_map}
 use Rattle.std.proofs.lemmas.List.{append-nil}
-use Rattle.zw_base.specs.Faults.{Rose}
 use Rattle.serial_frame.specs.Stream.{Rest}
 use Rattle.zw_base.specs.declared.order.Order.{Order}
 use Rattle.zw_text.specs.declared.line.Line.{Line}
@@ -12,29 +11,23 @@ use Rattle.zw_text.specs.declared.entry.Entry.{Entry}
 use Rattle.zw_text.specs.declared.entry.Entry.TheVariants.{Refused as refused_entry, Accepted, Out, Json}
 use Rattle.zw_text.specs.declared.entry.Ended.TheVariants.{Cancelled}
 use Rattle.zw_text.specs.declared.entry.Refusal.{Refusal}
-use Rattle.zw_text.specs.declared.entry.Refusal.TheVariants.{KeeperFault as keeper_fault}
 use Rattle.value_store.specs.Values.{held_of}
 use Rattle.value_store.specs.ValueText.{values_text}
 use Rattle.host_orders.specs.declared.refused.Refused.{Refused}
-use Rattle.host_orders.specs.declared.refused.Refused.TheVariants.{NotJoined, NotInterviewed, Unsupported, BadValue, Unsupervised, TooLong, MailboxFull, StoreFull, Secured, QueueFull, AlreadyJoined, KeeperFault, NoMemory}
 use Rattle.host_orders.specs.Refusals.{Refuses as RefusesBy}
 use Rattle.host_orders.specs.Errands.{RefusesOrNone}
 use Rattle.host_keep.specs.Keeping.{OptAdds}
-use Rattle.host_model.specs.State.{HostState, HostParts}
+use Rattle.host_model.specs.State.{HostParts}
 use Rattle.host_model.specs.Events.{HostEvent, Accepts, Cancels}
 use Rattle.host_model.specs.Events.{Joins as joins_host}
 use Rattle.host_model.specs.Did.{Did, RoseIf, RoseBy, is_unkept, one_if, unkept_in, records_all, texts_of}
 use Rattle.host_model.proofs.EventLists.{rose_one, rose_none, unkept_alone}
-use Rattle.host_model.specs.Asking.{carriage_for, Waits}
+use Rattle.host_model.specs.Asking.{carriage_for}
 use Rattle.host_model.specs.declared.out.HostOut.{HostOut}
 use Rattle.host_model.specs.Outs.{answers}
 use Rattle.host_core.specs.Calls.{DoesAlone, Are, scene}
 use Rattle.host_core.specs.Calls as calls
-use Rattle.host_parts.specs.Choices.{Judges}
-use Rattle.host_core.specs.Orders.{KeptOrRefused, CancelsOrNot}
-use Rattle.host_core.specs.declared.orders.CancelFault.{CancelFault}
-use Rattle.host_core.specs.declared.orders.CancelFault.TheVariants as cancel
-use Rattle.world_model.specs.Refusals.{shown, IsRefused, IsRefusedBy, IsRefusedOrUnkept, IsUncancelled}
+use Rattle.world_model.specs.Refusals.{shown, IsRefused, IsRefusedBy}
 use Rattle.world_model.specs.Events.{Host_does, Refuses as refuses_there, Shows_values as shows_there}
 use Rattle.world_model.specs.Events.{Event as MachineEvent}
 use Rattle.host_model.specs.Refusals.{is_keeper_fault}
@@ -43,7 +36,6 @@ use Rattle.world_model.specs.Lines.{Asks as AsksThere}
 use Rattle.world_model.proofs.Hosting.{adds_is}
 use Rattle.run_replay.specs.Machine.{Lone, Event, Does_asked, Refuses, Shows_values, Run, Does, Stops, May, happens, entries, entries_of, alone, asks_keeper}
 use Rattle.run_replay.specs.Lines.{IsEffect, by_host}
-use Rattle.host_core.specs.Orders.{shown_uncancelled}
 use Rattle.run_replay.specs.Asking.{Answers, Enters}
 use Rattle.run_replay.proofs.EventLists.{ran_one, stopped_in, stopped_still}
 use Rattle.host_core.specs.Calls.{shelf_of}

@@ -1,12 +1,9 @@
 -- What is entered of what a line asks of the host (this project's own).
-use Rattle.std.specs.Prelude.{◌≡◌, ℕ, List, [], ◌∷◌, ◌++◌, Option, Some, None, Result, Ok, Err}
+use Rattle.std.specs.Prelude.{◌≡◌, List, [], ◌∷◌, ◌++◌, Option, Some, Result, Ok, Err}
 use Rattle.zw_text.specs.declared.entry.Entry.{Entry}
 use Rattle.zw_text.specs.declared.entry.Entry.TheVariants.{Refused as refused_entry}
 use Rattle.zw_text.specs.declared.entry.Refusal.{Refusal}
-use Rattle.zw_text.specs.declared.entry.Refusal.TheVariants.{NotWaiting, KeeperFault}
 use Rattle.host_orders.specs.declared.refused.Refused.{Refused}
-use Rattle.host_core.specs.declared.orders.CancelFault.{CancelFault}
-use Rattle.host_core.specs.declared.orders.CancelFault.TheVariants as cancel
 use Rattle.world_model.specs.Refusals.{shown}
 
 -- the refusal that is shown so is entered, and nothing else

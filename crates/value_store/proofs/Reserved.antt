@@ -19,7 +19,7 @@ use Rattle.value_store.specs.Entries.{Entries, IsInOrder, IsWithinLimit, keeping
 use Rattle.value_store.proofs.Keys.{key_total, same_property_laws}
 use Rattle.value_store.proofs.Sorted.{and_left, and_right}
 
-same_and : (n m : ℕ) (o : Ordering) → is_eq (ordering_then (nat_cmp n m) o) ≡ (eqb n m && is_eq o)
+pub same_and : (n m : ℕ) (o : Ordering) → is_eq (ordering_then (nat_cmp n m) o) ≡ (eqb n m && is_eq o)
 same_and n m o = grind (arith, nat_tests)
 
 -- two keys tie where they are of one node and one property

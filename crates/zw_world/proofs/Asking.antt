@@ -18,7 +18,7 @@ use Rattle.value_store.specs.ValueText.{values_text}
 use Rattle.zw_text.specs.declared.entry.Refusal.{Refusal}
 use Rattle.zw_text.specs.declared.entry.Refusal.TheVariants.{KeeperFault as keeper_fault}
 use Rattle.host_orders.specs.declared.refused.Refused.{Refused}
-use Rattle.host_orders.specs.declared.refused.Refused.TheVariants.{NotJoined, NotInterviewed, Unsupported, BadValue, Unsupervised, TooLong, MailboxFull, StoreFull, Secured, QueueFull, AlreadyJoined, KeeperFault, NoMemory}
+use Rattle.host_orders.specs.declared.refused.Refused.TheVariants.{NotJoined, NotInterviewed, Unsupported, BadValue, Secured, QueueFull, KeeperFault}
 use Rattle.host_orders.specs.Classes.{lists, class_of}
 use Rattle.host_orders.specs.Refusals.{Known, Refuses, classes_of, first_some, unless, unsupported, is_bad_word}
 use Rattle.host_orders.specs.Errands.{RefusesOrNone, send_refusal, sendable_refusal, get_refusal, gettable_refusal, gettable_of, gettable_class, secured, queue_full, sendable_of}
@@ -28,24 +28,21 @@ use Rattle.host_model.specs.State.{HostState, HostParts}
 use Rattle.host_model.specs.Events.{HostEvent, Accepts, Cancels}
 use Rattle.host_model.specs.Events.{Joins as joins_host}
 use Rattle.host_model.specs.Did.{Did, RoseIf, after_all, outs_all, records_all, texts_of}
-use Rattle.host_model.specs.Asking.{places_refusal, carriage_for, Waits}
+use Rattle.host_model.specs.Asking.{places_refusal, carriage_for}
 use Rattle.host_model.specs.declared.out.HostOut.{HostOut}
 use Rattle.host_model.specs.Outs.{answers}
 use Rattle.host_model.proofs.Silence.{Silent}
 use Rattle.host_core.specs.Calls.{DoesAlone, Are, scene, shelf_of}
 use Rattle.host_core.specs.Calls as calls
-use Rattle.host_parts.specs.Choices.{Judges}
-use Rattle.host_core.specs.Orders.{KeptOrRefused, CancelsOrNot, question_event, places_of}
+use Rattle.host_core.specs.Orders.{question_event, places_of}
 use Rattle.host_core.specs.declared.orders.Question.{Question}
 use Rattle.host_core.specs.declared.orders.Question.TheVariants.{Members, Neighbours, Failed, Probe}
-use Rattle.host_core.specs.declared.orders.CancelFault.{CancelFault}
-use Rattle.host_core.specs.declared.orders.CancelFault.TheVariants as cancel
 use Rattle.outside_model.specs.State.{OuterState, Outside, outside}
 use Rattle.outside_model.specs.Events.{Host_notes, Joins, Discovers}
 use Rattle.outside_model.specs.Did.{Goes, GoesFor, happens_all as happens_all_outside, entries_all as entries_all_outside}
 use Rattle.outside_model.specs.Schedules.{IsOne}
 use Rattle.world_model.specs.State.{Machine, machine, routed, with_texts}
-use Rattle.world_model.specs.Refusals.{shown, IsRefused, IsRefusedBy, IsRefusedOrUnkept, IsUncancelled}
+use Rattle.world_model.specs.Refusals.{shown, IsRefused, IsRefusedBy}
 use Rattle.world_model.specs.Events.{Event, Host_does, Outside_does, Refuses as refuses, Shows_values, notes, happens, entries, May}
 use Rattle.world_model.specs.Did.{Run, Does, Nothing, Stops}
 use Rattle.host_model.specs.Refusals.{is_keeper_fault}
@@ -55,7 +52,6 @@ use Rattle.world_model.proofs.Hosting.{adds_is}
 use Rattle.world_model.proofs.Outside.{ran_outside}
 use Rattle.world_step.specs.Scene.{scene_of}
 use Rattle.world_step.proofs.Scenes.{ran_hosted, nothing_goes, quiet_goes, stopped_hosted, stopped_still}
-use Rattle.host_core.specs.Orders.{shown_uncancelled}
 use Rattle.zw_world.specs.Effects.{Answers, IsAsked}
 use Rattle.zw_world.proofs.Scenes.{ran_refuses, quiet_run, none_more, did_as}
 use Rattle.host_core.proofs.Refusing.{IsNothing, given, rose_entered, by_rule}
