@@ -11,7 +11,7 @@ use Rattle.chip_functions.specs.declared.fault.BodyFault.TheVariants.{UnknownFun
 use Rattle.chip_functions.specs.declared.mask.TheConstants.{MASK_BYTES}
 use Rattle.chip_functions.specs.Mask.{IsBytes, AreNodes, nodes_of, mask_of}
 use Rattle.chip_functions.specs.Place.{Place, Reading, IsFaultFrom, ◌>>=◌, byte_from, piece_from, found_at}
-use Rattle.chip_functions.specs.Field.{Field, nothing, byte, piece, ◌then◌, coded, byte_within, node, mark, number, mask, counted, read_as}
+use Rattle.chip_functions.specs.Field.{Field, byte, piece, ◌then◌, coded, byte_within, node, mark, number, mask, counted, read_as}
 use Rattle.chip_functions.proofs.MaskLemmas.{mask_of-nodes_of, nodes_of-mask_of, are_nodes, mask_len}
 
 -- what was read from p on, up to q
@@ -167,13 +167,6 @@ piece_lawful count = record {
   takes = λ p bytes q fits e. let t = piece_takes count p.before p.rest bytes q fits e in (piece_step count p q bytes t, t.2);
   again = λ bytes p rest long e. record { place = record { before = p.before + count; rest = rest }; is = piece_again count p bytes rest long e; after = refl };
   faults = λ p fault _ e. piece_faults count p.before p.rest fault e;
-}
-
-pub nothing_lawful : Lawful nothing (λ _. Unit {0})
-nothing_lawful = record {
-  takes = λ p x q fits e. (subst (λ (y : Unit {0} × Place). Takes p y.1 []) (ok_is (tt, p) (x, q) e) (record { parts = refl; fits = fits; moves = omega arith; sum = refl }), tt);
-  again = λ x p rest _ e. record { place = p; is = refl; after = e };
-  faults = λ p fault _ e. no_fault {A = Unit {0} × Place} (tt, p) fault e;
 }
 
 -- ---- one field after the other

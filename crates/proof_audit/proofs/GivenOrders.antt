@@ -68,12 +68,6 @@ among-right number (x ∷ xs) ys none = by (eqb x.number number) none (among-rig
 
 -- ---- the orders by number
 
-get-last : (orders : List (Option Order)) (one : Option Order) (k : ℕ) → k ≡ length orders → slice_get (orders ++ (one ∷ [])) k ≡ Some one
-get-last [] one zero is = refl
-get-last [] one (suc k) is = absurd (omega (arith, is))
-get-last (first ∷ orders) one zero is = absurd (omega (arith, is))
-get-last (first ∷ orders) one (suc k) is = get-last orders one k (omega (arith, is))
-
 get-left : (orders more : List (Option Order)) (k : ℕ) (order : Order) → order_there (slice_get orders k) ≡ Some order → order_there (slice_get (orders ++ more) k) ≡ Some order
 get-left [] more k order is = absurd cc
 get-left (first ∷ orders) more zero order is = is

@@ -1,6 +1,6 @@
 -- A host that starts from records has what the one before recorded.
-use Rattle.std.proofs.Common.{◌≡◌, ℕ, zero, suc, Bool, true, if◌then◌else◌, List, [], ◌∷◌, ◌++◌, length, map, Option, Some, None, refl, sym, ap, ap₂, subst, ◌∙◌, append_assoc, append-nil}
-use Rattle.std.specs.Prelude.{slice_get, option_map}
+use Rattle.std.proofs.Common.{◌≡◌, ℕ, zero, suc, List, [], ◌∷◌, ◌++◌, length, map, Option, Some, None, refl, sym, ap, ap₂, subst, ◌∙◌, append_assoc, append-nil}
+use Rattle.std.specs.Prelude.{slice_get}
 use Rattle.std.proofs.lemmas.List.{length-map}
 use Rattle.s0_crypto.specs.declared.key_pair.Keys.{Keys}
 use Rattle.zw_base.specs.declared.order.Order.{Order}
@@ -77,9 +77,6 @@ starts_as old new kept f g host =
         ∙ sym (f.outcomes k a e) ∙ as_recorded_so a.outcome
 
 -- ---- records one after another
-
-legal_whole : (b : Bool) (o : Option ℕ) → b ≡ true → o ≡ None → (if b then option_map suc o else Some 0) ≡ None
-legal_whole b o e f = ap₂ (λ (c : Bool) (p : Option ℕ). if c then option_map suc p else Some 0) e f
 
 pub nothing_kept : kept_of [] ≡ first_kept
 unfolding kept_after_all

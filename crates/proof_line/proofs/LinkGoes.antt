@@ -34,11 +34,6 @@ use Rattle.law_wire.specs.Links.{MayDo, MayDoInTick, end_quietly, is_quiet_tick}
 use Rattle.proof_line.specs.Links.{IsOne, LinkNow, MayGo, MayOfChip, MayStep, stepped}
 -- ---- each step writes at most one unit
 
-none_acknowledged : (turn : Turn) → flat_map link_unit (outs_heard turn (Good Ack)) ≡ []
-none_acknowledged Idle = refl
-none_acknowledged (Copied f copies count) = refl
-none_acknowledged (Paused f copies count) = refl
-
 none_ended : (copies : ℕ) → flat_map link_unit (outs_ended copies) ≡ []
 none_ended copies = by (copies == 4)
   where

@@ -102,12 +102,6 @@ status_said status is = none (status == 0) refl
     none true e = sym (eqb-true status 0 e)
     none false e = work (status == 1) refl (subst (λ (b : Bool). (((b || status == 1) || status == 2) || status == 255) ≡ true) e is)
 
-verdict_status : (verdict : Verdict) → IsStatus (status_of verdict)
-verdict_status NoSupport = refl
-verdict_status Fails = refl
-verdict_status (Makes settings) = refl
-verdict_status (Works settings) = refl
-
 -- ---- a message that is read
 
 one_told : (payload : List ℕ) (plan : Plan) (command : List ℕ) (message : InfoMessage) → begins_with payload 152 129 ≡ false
@@ -134,11 +128,6 @@ sealed_none : (payload : List ℕ) → heard_at payload ≡ Sealed → TellsNone
 sealed_none payload e = λ others heard. let bad : Sealed ≡ Messages others = sym e ∙ heard in cc
 
 -- ---- a bare text
-
-bare_none : (text : List ℕ) (read : Result InfoMessage ClassFault) → IsCommand false text → begins_with text 152 129 ≡ false → info_at text ≡ read
-    → ((message : InfoMessage) → read ≡ Ok message → IsNoReport (told_by 0 message)) → TellsNone text
-bare_none text (Ok message) is unsealed read none = told_none text (told_by 0 message) (none message refl) (one_told text bare text message unsealed (bare_opens text is) read)
-bare_none text (Err fault) is unsealed read none = unread_none text (none_told text bare text fault unsealed (bare_opens text is) read)
 
 pub same_ok : (a b : InfoMessage) → ◌≡◌ {A = Result InfoMessage ClassFault} (Ok a) (Ok b) → a ≡ b
 same_ok a b e = cc

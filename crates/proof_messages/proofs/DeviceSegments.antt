@@ -1,20 +1,17 @@
 -- What a device makes of a segment of a message.
 use Rattle.std.proofs.Common.{◌≡◌, ◌≢◌, ℕ, zero, suc, ◌+◌, ◌-◌, ◌%◌, ◌<◌, ◌≤◌, ◌==◌, ◌⊎◌, inl, inr, Bool, true, false, ◌&&◌, nat_lt, if◌then◌else◌, Option, Some, None, List, [], ◌∷◌, length, map, refl, ap, sym, ◌∙◌, subst, arith}
-use Rattle.std.specs.Prelude.{nat_le, slice_index_or, is_some}
-use Rattle.std.specs.List.{AllByRecursion}
+use Rattle.std.specs.Prelude.{slice_index_or, is_some}
 use Rattle.std.proofs.lemmas.Bool.Decides.{Decides-eqb}
-use Rattle.std.proofs.lemmas.Bool.{false_from_ne_true as never_true, le-leb as at_most}
-use Rattle.zw_base.specs.Crc.{crc}
+use Rattle.std.proofs.lemmas.Bool.{false_from_ne_true as never_true}
 use Rattle.class_info.specs.declared.message.InfoMessage.TheVariants.{TransportComplete}
 use Rattle.class_info.specs.InfoSpelling.{form}
 use Rattle.encap.specs.Begins.{IsMisplaced}
-use Rattle.transport_segments.specs.Segment.{IsSegment, id_of, size_of, offset_of, payload_of, extension_of, check_of, covered_of}
-use Rattle.transport_segments.specs.Faults.{IsSound}
+use Rattle.transport_segments.specs.Segment.{IsSegment, id_of}
 use Rattle.transport_segments.specs.Places.{IsThere, IsLeastMissing, present}
 use Rattle.transport_segments.specs.Kept.{Reassembly, Empty, Partial}
 use Rattle.transport_segments.specs.Reassembly.{places_after}
 use Rattle.transport_segments.specs.Runs.{IsPart, Agrees}
-use Rattle.transport_segments.specs.Taking.{is_segment, is_sound, ends_its_datagram, first_missing, taken_by, taken_at, kept_after}
+use Rattle.transport_segments.specs.Taking.{is_segment, ends_its_datagram, first_missing, taken_by, taken_at, kept_after}
 use Rattle.transport_segments.specs.declared.assembler.Taken.TheVariants.{Kept, Need, Whole}
 use Rattle.transport_segments.proofs.PlacesLemmas.{there_at, missing_at}
 use Rattle.transport_segments.proofs.AgreeLemmas.{keeps_agreement}
@@ -28,7 +25,6 @@ use Rattle.device_stack.specs.Hearing.{hears_openly, assembles, repeats_segment,
 use Rattle.device_sim.specs.Event.{Hears, outcome_of, device_after, device_replies}
 use Rattle.proof_messages.specs.Asking.{IsLeft}
 use Rattle.proof_messages.specs.Others.{IsNoGet}
-use Rattle.proof_messages.specs.Reporting.{TellsNone}
 use Rattle.proof_messages.specs.Segments.{KeepsPart, KeepsSegment, MakesWhole}
 use Rattle.proof_messages.proofs.Bare.{never_begins}
 use Rattle.proof_messages.proofs.SessionMessages.{left}
@@ -37,19 +33,6 @@ use Rattle.proof_messages.proofs.DeviceReports.{request_none}
 use Rattle.host_keep.proofs.NumbersFound.{same_number}
 
 -- ---- a sound segment is taken
-
-both : (a b : Bool) → a ≡ true → b ≡ true → a && b ≡ true
-both a b e f = rw (e, f) refl
-
-sound_is : (bytes : List ℕ) → IsSound bytes → is_sound bytes ≡ true
-sound_is bytes sound =
-    let segment : is_segment bytes ≡ true = (segment_decides bytes).1 sound.sized.plain.intact.segment in
-    let check : (check_of bytes == crc (covered_of bytes)) ≡ true = (Decides-eqb (check_of bytes) (crc (covered_of bytes))).1 sound.sized.plain.intact.check in
-    let extension : (extension_of bytes == 0) ≡ true = (Decides-eqb (extension_of bytes) 0).1 sound.sized.plain.extension in
-    let some : nat_le 1 (size_of bytes) ≡ true = at_most 1 (size_of bytes) sound.sized.from_one in
-    let most : nat_le (size_of bytes) 512 ≡ true = at_most (size_of bytes) 512 sound.sized.to_most in
-    let inside : nat_le (offset_of bytes + length (payload_of bytes)) (size_of bytes) ≡ true = at_most (offset_of bytes + length (payload_of bytes)) (size_of bytes) sound.inside in
-    both _ _ (both _ _ (both _ _ (both _ _ (both _ _ segment check) extension) some) most) inside
 
 none_missing : (from : ℕ) (places : List (Option ℕ)) → first_missing from places ≡ None → places ≡ map Some (present places)
 none_missing from [] e = refl
@@ -122,10 +105,6 @@ kept_part device message segment id first part agrees e = record {
   kept = ap (λ (n : ℕ). Partial n (places_after device.reassembly segment)) part.session;
   agrees = still_agrees message segment id device.reassembly first part agrees e;
 }
-
--- what is answered of segments alone is no report
-abbrev TellNone : List (List ℕ) → Type 0
-TellNone replies = AllByRecursion TellsNone replies
 
 assembled : (device : State) (message segment : List ℕ) (id : ℕ) → IsPart message id segment → Agrees message id device.reassembly
     → KeepsSegment message id device (assembles (active device) segment (taken_at device.reassembly segment)).device (assembles (active device) segment (taken_at device.reassembly segment)).replies

@@ -81,9 +81,6 @@ mute_on past (e ∷ told) mute none =
 
 -- ---- dead hops
 
-hop_of : ℕ → ℕ → Hop
-hop_of from to = record { from = from; to = to }
-
 abbrev hop_listed : Option (ℕ × ℕ) → List Hop
 hop_listed None = []
 hop_listed (Some hop) = record { from = hop.0; to = hop.1 } ∷ []

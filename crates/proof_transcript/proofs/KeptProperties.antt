@@ -1,11 +1,10 @@
 -- How many properties of a node a host would keep with those of an order is what the transcript shows.
-use Rattle.std.proofs.Common.{◌≡◌, ◌⊎◌, ℕ, zero, suc, ◌==◌, ◌||◌, Bool, true, false, cond, if◌then◌else◌, is_some, unwrap_or, inl, inr, List, [], ◌∷◌, ◌++◌, All, Option, Some, None, refl, sym, ap, subst, ◌∙◌}
+use Rattle.std.proofs.Common.{◌≡◌, ◌⊎◌, ℕ, zero, suc, ◌==◌, ◌||◌, Bool, true, false, if◌then◌else◌, is_some, unwrap_or, inl, inr, List, [], ◌∷◌, ◌++◌, All, Option, Some, None, refl, sym, ap, subst, ◌∙◌}
 use Rattle.std.specs.Prelude.{IsTrue}
-use Rattle.std.specs.List.{AllByRecursion, IsDistinct, flat_map}
-use Rattle.std.specs.Set.{distinct_count, is_member, unique_keys}
+use Rattle.std.specs.List.{AllByRecursion, flat_map}
+use Rattle.std.specs.Set.{distinct_count}
 use Rattle.std.specs.FinMap as finmap
 use Rattle.std.proofs.lemmas.Bool.{eqb-true, or_right as or_later, or_cases as either_of, or_left as or_sooner}
-use Rattle.std.proofs.lemmas.List.Folds.{list_any-append}
 use Rattle.std.proofs.lemmas.List.Elements.{All-head, All-tail}
 use Rattle.zw_base.specs.PropertyOrder.{same_property}
 use Rattle.zw_base.specs.declared.order.Order.{Order}
@@ -33,39 +32,10 @@ use Rattle.proof_spoken.specs.proof_once.ByTable.{IsTable}
 use Rattle.proof_spoken.specs.proof_once.Tied.{settings_taken}
 use Rattle.proof_transcript.proofs.StoredPlaces.{IsSet, KeepsNoMore, append_among}
 use Rattle.supervision.proofs.OnceLemmas.{All-slice_get as at_place}
-use Rattle.host_model.proofs.Counts.{none_is, count-alike as alike, either_more as more_or}
+use Rattle.host_model.proofs.Counts.{count-alike as alike}
 use Rattle.host_model.proofs.Legal.{among-stored as among_stored}
 
 -- ---- counting
-
-abbrev once : List Property → List Property
-once l = unique_keys same_property l
-
-among_once : (l : List Property) (q : Property) → is_member same_property (once l) q ≡ is_member same_property l q
-among_once [] q = refl
-among_once (p ∷ l) q = by (is_member same_property l p) (same_property q p) refl refl (among_once l q)
-  where
-    by : (known same : Bool) → is_member same_property l p ≡ known → same_property q p ≡ same → is_member same_property (once l) q ≡ is_member same_property l q
-        → is_member same_property (cond known (once l) (p ∷ once l)) q ≡ (same || is_member same_property l q)
-    by true true e f rest = rest ∙ ap (λ (x : Property). is_member same_property l x) (one_property q p f) ∙ e
-    by true false e f rest = rest
-    by false true e f rest = ap (λ (b : Bool). b || is_member same_property (once l) q) f
-    by false false e f rest = ap (λ (b : Bool). b || is_member same_property (once l) q) f ∙ rest
-
-distinct_once : (l : List Property) → IsDistinct same_property (once l)
-unfolding IsDistinct
-distinct_once [] = tt
-distinct_once (p ∷ l) = by (is_member same_property l p) refl (distinct_once l)
-  where
-    by : (known : Bool) → is_member same_property l p ≡ known → IsDistinct same_property (once l) → IsDistinct same_property (cond known (once l) (p ∷ once l))
-    by true e rest = rest
-    by false e rest = (none_is p (once l) (among_once l p ∙ e), rest)
-
-beside : (more xs ys : List Property) → ((q : Property) → is_member same_property xs q ≡ true → is_member same_property ys q ≡ true) → (q : Property)
-    → is_member same_property (more ++ xs) q ≡ true → is_member same_property (more ++ ys) q ≡ true
-beside more xs ys all q there =
-    list_any-append (same_property q) more ys
-    ∙ more_or (is_member same_property more q) (is_member same_property xs q) (is_member same_property ys q) (all q) (sym (list_any-append (same_property q) more xs) ∙ there)
 
 -- ---- the store
 

@@ -16,7 +16,6 @@ use Rattle.zw_text.specs.declared.entry.Ended.TheVariants.{Cancelled}
 use Rattle.value_store.specs.Values.{held_of}
 use Rattle.value_store.specs.ValueText.{values_text}
 use Rattle.zw_text.specs.declared.entry.Refusal.{Refusal}
-use Rattle.zw_text.specs.declared.entry.Refusal.TheVariants.{KeeperFault as keeper_fault}
 use Rattle.host_orders.specs.declared.refused.Refused.{Refused}
 use Rattle.host_orders.specs.declared.refused.Refused.TheVariants.{NotJoined, NotInterviewed, Unsupported, BadValue, Secured, QueueFull, KeeperFault}
 use Rattle.host_orders.specs.Classes.{lists, class_of}
@@ -54,8 +53,7 @@ use Rattle.world_step.specs.Scene.{scene_of}
 use Rattle.world_step.proofs.Scenes.{ran_hosted, nothing_goes, quiet_goes, stopped_hosted, stopped_still}
 use Rattle.zw_world.specs.Effects.{Answers, IsAsked}
 use Rattle.zw_world.proofs.Scenes.{ran_refuses, quiet_run, none_more, did_as}
-use Rattle.host_core.proofs.Refusing.{IsNothing, given, rose_entered, by_rule}
-
+use Rattle.host_core.proofs.Refusing.{IsNothing, rose_entered, by_rule}
 -- ---- which rules are no fault of the keeper
 
 abbrev pub is_fault : Option Refused → Bool
@@ -237,9 +235,6 @@ refused_done line these entered keys host host' o o' ds r r' before all f g same
       (subst (λ (x : HostParts). Run (refuses line entered ∷ []) (scene_of keys host o ds (shelf_of r f) before) (scene_of keys x o' ds (shelf_of r g) all)) (sym same)
       (ran_refuses line entered keys host o o' ds r before all f g may goes rose falls)),
 )
-
-given_is : (entered : Refusal) → Some keeper_fault ≡ Some entered → entered ≡ keeper_fault
-given_is entered is = sym (ap given is)
 
 -- a node joins: the host, and then the air and the chip
 pub joins : (node : ℕ) (keys : Keys) (host host' : HostParts) (o o' : OuterState) (ds : List State) (r r' : Option (List (List ℕ))) (before : List Entry) (f g : ℕ)
