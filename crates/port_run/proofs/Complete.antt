@@ -4,7 +4,7 @@ use Rattle.std.specs.Prelude.{Option, Some, None, slice_index_or}
 use Rattle.std.specs.Io.KnownBytes.{Consumes}
 use Rattle.zw_words.specs.declared.fault.LineFault.{LineFault}
 use Rattle.s0_crypto.specs.declared.key_pair.Keys.{Keys}
-use Rattle.s0_crypto.specs.Sealing.{keys_of}
+use Rattle.host_core.specs.Network.{keys_of}
 use Rattle.host_core.specs.declared.opening.OpenFault.TheVariants as opening
 use Rattle.run_lines.specs.Run.{IsShort}
 use Rattle.run_lines.specs.declared.status.Status.{Status}

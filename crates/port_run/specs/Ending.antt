@@ -7,7 +7,7 @@ use Rattle.host_keep.specs.Keeping.{OptAdds, Shelf}
 use Rattle.host_keep.specs.Legal.{IsFirstBad as IsFirstBadRecord}
 use Rattle.host_model.specs.State.{HostState, HostParts, command_at}
 use Rattle.s0_crypto.specs.declared.key_pair.Keys.{Keys}
-use Rattle.s0_crypto.specs.Sealing.{keys_of}
+use Rattle.host_core.specs.Network.{keys_of}
 use Rattle.host_core.specs.Opening.{Opens}
 use Rattle.host_core.specs.Orders.{outcome_at}
 use Rattle.host_core.specs.declared.opening.OpenFault.{OpenFault}

@@ -3,7 +3,7 @@
 ghost use Rattle.std.specs.Prelude.{◌≡◌, [], ◌<◌, ◌≤◌, ◌^◌, ℕ, List as Items, length, IfOk, OnOk, IfErr, IsErrOf, MatchResult};
 ghost use Rattle.run_lines.specs.declared.reader.TheConstants.{MAX_INPUT};
 ghost use Rattle.zw_base.specs.Faults.{Rose};
-ghost use Rattle.s0_crypto.specs.Sealing.{keys_of};
+ghost use Rattle.host_core.specs.Network.{keys_of};
 ghost use Rattle.host_core.specs.declared.opening.OpenFault.TheVariants.{KeeperFault as no_keeper};
 ghost use Rattle.port_run.specs.Lines.{texts_of};
 ghost use Rattle.port_run.specs.Steps.{place, Step};

@@ -6,7 +6,7 @@ ghost use Rattle.zw_text.specs.declared.line.ReplayLine.{ReplayLine};
 ghost use Rattle.zw_text.specs.declared.entry.Entry.{Entry};
 ghost use Rattle.s0_crypto.specs.declared.key_pair.Keys.{Keys};
 ghost use Rattle.host_keep.specs.Keeping.{Shelf};
-ghost use Rattle.s0_crypto.specs.Sealing.{keys_of};
+ghost use Rattle.host_core.specs.Network.{keys_of};
 ghost use Rattle.run_lines.specs.Lines.{AllRan, TextLine};
 ghost use Rattle.run_replay.specs.Machine.{first_replay, lone_of};
 ghost use Rattle.run_replay.specs.Replay.{LineRan, Point, point_of};

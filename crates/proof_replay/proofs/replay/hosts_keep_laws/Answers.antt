@@ -8,7 +8,7 @@ use Rattle.proof_requests.specs.proof_alone.Phases.{Phase, Resting}
 use Rattle.proof_requests.specs.proof_alone.Runs.{Run, Told, ToldWhole}
 use Rattle.proof_asking.specs.proof_known.Noted.{NotesAtOnce, NotesInTurn}
 use Rattle.s0_crypto.specs.Sealing.{keys_of as device_keys}
-use Rattle.s0_crypto.specs.Sealing.{keys_of}
+use Rattle.host_core.specs.Network.{keys_of}
 use Rattle.proof_replay.proofs.replay.hosts_keep_laws.Goals as goal
 
 -- host and device have the same keys of a network key

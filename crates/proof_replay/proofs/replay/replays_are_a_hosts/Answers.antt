@@ -1,7 +1,7 @@
 -- One line after another, from the host at its beginning.
 use Rattle.std.proofs.Common.{◌≡◌, ℕ, List, [], ◌++◌, false, refl, ap, ◌∙◌, append_assoc}
 use Rattle.std.specs.Prelude.{Option, Some, None}
-use Rattle.s0_crypto.specs.Sealing.{keys_of}
+use Rattle.host_core.specs.Network.{keys_of}
 use Rattle.host_keep.specs.Keeping.{OptAdds}
 use Rattle.host_model.proofs.EventLists.{none_added}
 use Rattle.world_model.specs.State.{with_texts}

@@ -1,7 +1,7 @@
 -- The texts are lines as they are said, and these are a run of a host alone that began without records.
 use Rattle.std.proofs.Common.{ℕ, List, true, refl, sym, subst}
 use Rattle.std.specs.Prelude.{Option}
-use Rattle.s0_crypto.specs.Sealing.{keys_of}
+use Rattle.host_core.specs.Network.{keys_of}
 use Rattle.host_keep.specs.Keeping.{OptAdds}
 use Rattle.run_replay.specs.Machine.{Lone, first_replay, lone_of}
 use Rattle.run_replay.specs.Replay.{point_of}
