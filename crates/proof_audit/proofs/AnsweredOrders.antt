@@ -41,6 +41,7 @@ use Rattle.air_frames.specs.declared.ages.Refusal.TheVariants as air
 use Rattle.audit_books.specs.Asking.{actuator_by, is_setting, kind_at}
 use Rattle.proof_host.proofs.Lists.{each-weaker}
 use Rattle.proof_audit.specs.Books.{AreAsked, IsAsked, IsOfItsKind, MayBeAsked}
+use Rattle.proof_headline.proofs.Unasked.{first_none as first-none}
 
 -- ---- refusals
 
@@ -96,10 +97,6 @@ refused-accepts line [] command node all may = may
 refused-accepts line (refusal ∷ more) command node all may = subst IsRefused may all.0
 
 -- ---- an order that no rule refuses
-
-first-none : (first : Option HostRefusal) (more : List (Option HostRefusal)) → first_some (first ∷ more) ≡ None → (first ≡ None) × (first_some more ≡ None)
-first-none None more e = (refl, e)
-first-none (Some refused) more e = absurd cc
 
 rule-none : (refused : Option HostRefusal) (properties : ℕ) → refusal_or refused properties ≡ None → refused ≡ None
 rule-none None properties e = refl

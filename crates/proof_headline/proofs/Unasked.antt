@@ -49,7 +49,7 @@ use Rattle.proof_headline.proofs.Succeeding.{owned}
 
 -- ---- what an order needs
 
-first_none : (first : Option Refused) (more : List (Option Refused)) → first_some (first ∷ more) ≡ None → (first ≡ None) × (first_some more ≡ None)
+pub first_none : (first : Option Refused) (more : List (Option Refused)) → first_some (first ∷ more) ≡ None → (first ≡ None) × (first_some more ≡ None)
 first_none None more e = (refl, e)
 first_none (Some refused) more e = absurd cc
 
