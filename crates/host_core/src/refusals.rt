@@ -9,7 +9,7 @@ use host_orders::Refused;
 use zw_base::NoMemory;
 use zw_text::Refusal;
 
-/// What is entered of a refusal; an allocation failure is none.
+/// What is entered of a refusal; an allocation failure is no refusal.
 pub fn refusal_of(refused: Refused) -> Result<Refusal, NoMemory>
     ensures ok { IfOk result (λ refusal. shown refused ≡ Some refusal) }
     ensures err { OnErr result (refused ≡ Refused.NoMemory) }
