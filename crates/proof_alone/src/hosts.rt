@@ -15,7 +15,7 @@ ghost use Rattle.proof_line.specs.world_lines.Whole.{AreWhole};
 ghost use Rattle.proof_alone.specs.State.{HostMachine, first_alone};
 ghost use Rattle.proof_alone.specs.Phases.{Phase, Resting};
 ghost use Rattle.proof_alone.specs.Reading.{Anything, HostKnows, IsFine, ReadsMarked};
-ghost use Rattle.proof_alone.specs.Runs.{Knowledge, Run, Told, ToldWhole};
+ghost use Rattle.proof_alone.specs.Runs.{Run, Told, ToldWhole};
 
 use proof_line::marks_go_on;
 use proof_line::serial::{hosts_write_well, units_are_judged_whole};
@@ -43,14 +43,14 @@ pub fn lines_are_a_hosts()
 }
 
 /// The walk by which it is so: at each phase of a line the machine is read as a host alone that such a run has led to, where both sides of the line are at rest as
-/// they tick, and write frames that the format carries. So what is known of each step of the runs of a host alone is known of the host of the machine there.
+/// they tick, and write frames that the format carries. So what is known at each step of such runs is known of the
+/// host of the machine there.
 pub fn machines_are_read_as_hosts()
     ensures walk { (start : HostMachine) → WalkWhere IsFine Anything (ReadsMarked start) }
     ensures first { (keys : Keys) (records : Option (List (List ℕ))) (devices : List State) →
         ReadsMarked (first_alone keys records) Between [] (first_machine keys records devices) }
-    ensures known { (start : HostMachine) (Know : Knowledge) →
-        ((here : Phase) (told : List Entry) (m : HostMachine) → Run start here told m → Know here told m) →
-        (here : sim.Phase) (past : List Entry) (m : Machine) → ReadsMarked start here past m → HostKnows Know here past m }
+    ensures runs { (start : HostMachine) (here : sim.Phase) (past : List Entry) (m : Machine) → ReadsMarked start here past m →
+        HostKnows (Run start) here past m }
 {
     marks_go_on();
 }
