@@ -16,7 +16,8 @@ use Rattle.value_store.specs.Values.{has_value, held_at, if_valued, key_cmp, lis
 use Rattle.value_store.specs.Entries.{Entries, IsInOrder}
 use Rattle.value_store.proofs.Keys.{key_total}
 use Rattle.value_store.proofs.Sorted.{and_left, and_right, below_at, find_absent}
-use Rattle.value_store.proofs.Reserved.{is_less, same_key, tie}
+use Rattle.value_store.proofs.Reserved.{same_key, tie}
+use Rattle.value_store.proofs.Sorted.{is_less}
 
 -- the list of a node's properties says of each what is found, where it has a value
 pub listed-find : (es : Entries) (n : ℕ) (q : Property) → IsInOrder es → listed_of (filter_map (held_at n) es) q ≡ if_valued (find key_cmp (n, q) es)
