@@ -44,7 +44,12 @@ pub trait Sink {
         ensures uncounted { OnOk result (faults self.new ≡ faults self.old) };
 }
 
-/// Where drawn bytes come from. It never fails, and nothing is claimed of its bytes.
+/// Where drawn bytes come from. It never fails, and nothing is claimed of its bytes but what it says that it may draw.
 pub trait Draw {
-    fn next(&mut self) -> [u8; 8];
+    /// From the first, these bytes may be drawn, and the last is then left.
+    ghost draws: { Self → Items ℕ → Self → Type 0 };
+
+    /// Draws the next bytes.
+    fn next(&mut self) -> [u8; 8]
+        ensures { draws self.old result self.new };
 }
