@@ -1,11 +1,12 @@
 //! Lines that are read, run and answered.
 
-ghost use Rattle.std.specs.Prelude.{◌≡◌, ◌≤◌, [], None, length, OnOk, IfErr, IsErrOf};
+ghost use Rattle.std.specs.Prelude.{◌≡◌, ◌≤◌, ◌⊎◌, [], None, length, OnOk, IfErr, IsErrOf};
 ghost use Rattle.std.specs.Io.KnownBytes.{Appends};
 ghost use Rattle.zw_base.specs.Faults.{Rose};
 ghost use Rattle.run_lines.specs.Machine.{borrowed};
 ghost use Rattle.run_lines.specs.Run.{LinesRan};
 ghost use Rattle.run_lines.specs.Text.{TextRan, TextFails, end_of, end_at};
+ghost use Rattle.run_lines.specs.Writing.{text_of};
 
 use crate::writing::write_pieces;
 use crate::{LineReader, Machine, Next};
@@ -133,6 +134,8 @@ fn run_text<A, B, C, M: Machine<A, B, C>, K: Sink>(
     ensures ready { M.ready first.new }
     ensures never_falls { K.faults sink.old ≤ K.faults sink.new }
     ensures failed { IsErrOf result TextFault.Write → Rose (K.faults sink.old) (K.faults sink.new) }
+    ensures told { IsErrOf result TextFault.NoMemory → Rose (K.faults sink.old) (K.faults sink.new)
+        ⊎ Appends (K.written sink.old) (K.written sink.new) (text_of pieces.new.items) }
 {
     match machine.run_line(first, second, third, text, pieces) {
         Ok(()) => match write_pieces(sink, pieces.as_slice()) {
