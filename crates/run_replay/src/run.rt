@@ -37,5 +37,5 @@ pub fn run_replay<S: Source, K: Sink, D: Draw, P: Keeper>(
         return Status::NoMemory;
     };
     let mut machine = ReplayMachine::new(alloc, replay);
-    run_scenario(alloc, source, sink, &mut machine, &mut (), draw, keeper)
+    run_scenario(alloc, source, sink, &mut machine, draw, keeper)
 }
