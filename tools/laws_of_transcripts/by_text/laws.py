@@ -99,7 +99,7 @@ def test_of(path, wants, heeds, key):
 
 
 DEPTH, STACK = 200000, 1 << 29
-LINKS = ("HearsInTime", "TicksInTime", "CollidesAsTold", "WritesThere")
+LINKS = ("HearsInTime", "FindsRoom", "TicksInTime", "CollidesAsTold", "WritesThere")
 
 
 def ended(entries):

@@ -40,8 +40,8 @@ clears : ClearsLine true plain_exchange
 unfolding computing keeps_link
 clears = record {
   links = record {
-    chip = keeps_link Chip whole (acts_of Chip whole) refl refl refl refl refl;
-    host = keeps_link Host whole (acts_of Host whole) refl refl refl refl refl;
+    chip = keeps_link Chip whole (acts_of Chip whole) refl refl refl refl refl refl;
+    host = keeps_link Host whole (acts_of Host whole) refl refl refl refl refl refl;
   };
   each = tt;
   only = refl;

@@ -41,21 +41,21 @@ returns-clause-cut c = cut_links
 pub returns-clause-acknowledged : goal.returns-clause-acknowledged
 unfolding reckoning
 returns-clause-acknowledged c = record {
-  chip = keeps_link Chip (ended true acknowledged) (acts_of Chip (ended true acknowledged)) refl refl refl refl refl;
-  host = keeps_link Host (ended true acknowledged) (acts_of Host (ended true acknowledged)) refl refl refl refl refl;
+  chip = keeps_link Chip (ended true acknowledged) (acts_of Chip (ended true acknowledged)) refl refl refl refl refl refl;
+  host = keeps_link Host (ended true acknowledged) (acts_of Host (ended true acknowledged)) refl refl refl refl refl refl;
 }
 
 pub returns-clause-copied : goal.returns-clause-copied
 unfolding reckoning
 returns-clause-copied c = record {
-  chip = keeps_link Chip (ended false (copied_in (16 ∷ 42 ∷ 78 ∷ []))) (acts_of Chip (ended false (copied_in (16 ∷ 42 ∷ 78 ∷ [])))) refl refl refl refl refl;
-  host = keeps_link Host (ended false (copied_in (16 ∷ 42 ∷ 78 ∷ []))) (acts_of Host (ended false (copied_in (16 ∷ 42 ∷ 78 ∷ [])))) refl refl refl refl refl;
+  chip = keeps_link Chip (ended false (copied_in (16 ∷ 42 ∷ 78 ∷ []))) (acts_of Chip (ended false (copied_in (16 ∷ 42 ∷ 78 ∷ [])))) refl refl refl refl refl refl;
+  host = keeps_link Host (ended false (copied_in (16 ∷ 42 ∷ 78 ∷ []))) (acts_of Host (ended false (copied_in (16 ∷ 42 ∷ 78 ∷ [])))) refl refl refl refl refl refl;
 }
 
 -- the host hears in the tick after the stall what came before
 pub returns-clause-refused : goal.returns-clause-refused
 unfolding reckoning
 returns-clause-refused c = record {
-  chip = keeps_link Chip refused_restart ([] ∷ (submitted calling_back ∷ []) ∷ [] ∷ [] ∷ [] ∷ []) refl refl refl refl refl;
-  host = keeps_link Host refused_restart ([] ∷ [] ∷ [] ∷ [] ∷ (ticked ∷ heard (Good (Framed calling_back)) ∷ []) ∷ []) refl refl refl refl refl;
+  chip = keeps_link Chip refused_restart ([] ∷ (submitted calling_back ∷ []) ∷ [] ∷ [] ∷ [] ∷ []) refl refl refl refl refl refl;
+  host = keeps_link Host refused_restart ([] ∷ [] ∷ [] ∷ [] ∷ (ticked ∷ heard (Good (Framed calling_back)) ∷ []) ∷ []) refl refl refl refl refl refl;
 }

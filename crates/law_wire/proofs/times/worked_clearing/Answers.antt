@@ -22,8 +22,8 @@ pub returns-clause-both : goal.returns-clause-both
 unfolding reckoning keeps_link
 returns-clause-both c = record {
   links = record {
-    chip = keeps_link Chip both_cleared chip_acts refl refl refl refl refl;
-    host = keeps_link Host both_cleared host_acts refl refl refl refl refl;
+    chip = keeps_link Chip both_cleared chip_acts refl refl refl refl refl refl;
+    host = keeps_link Host both_cleared host_acts refl refl refl refl refl refl;
   };
   each = (refl, tt);
   only = refl;
@@ -33,8 +33,8 @@ pub returns-clause-in_part : goal.returns-clause-in_part
 unfolding reckoning keeps_link
 returns-clause-in_part c = record {
   links = record {
-    chip = keeps_link Chip cleared_in_part chip_acts refl refl refl refl refl;
-    host = keeps_link Host cleared_in_part host_acts refl refl refl refl refl;
+    chip = keeps_link Chip cleared_in_part chip_acts refl refl refl refl refl refl;
+    host = keeps_link Host cleared_in_part host_acts refl refl refl refl refl refl;
   };
   each = ((Cleared Chip 7 ∷ [], refl), tt);
   only = refl;
