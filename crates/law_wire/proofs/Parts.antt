@@ -11,7 +11,7 @@ use Rattle.zw_text.specs.declared.entry.Entry.{Entry}
 use Rattle.law_transcript.specs.Lists.{EachAfter}
 use Rattle.law_transcript.proofs.Deciding.{first_of, second_of}
 use Rattle.law_wire.specs.Serial.{SerialEvent, serial_events}
-use Rattle.law_wire.specs.Links.{Moment, moments_of, joined, steps_in, other, since_start, is_stalled, text_of, WriteLast, unit_by, WritesThere, arrivals_of, AreFirst, HearsInTime, FindsRoom, TicksInTime, CollidesAsTold, Obeys, lives, KeepsLink}
+use Rattle.law_wire.specs.Links.{Moment, moments_of, joined, steps_in, other, since_start, is_stalled, text_of, WriteLast, unit_by, WritesThere, arrivals_of, AreFirst, HearsInTime, TicksInTime, CollidesAsTold, Obeys, lives, KeepsLink}
 use Rattle.law_wire.proofs.Silence.{texts, texts_append}
 
 -- ---- as many parts as there are events
@@ -41,7 +41,6 @@ fill side transcript link =
       obeys = subst (λ (parts : List (List Step)). AllByRecursion Obeys (lives side (moments_of events parts))) same link.obeys;
       writes = subst (λ (parts : List (List Step)). AllByRecursion (WritesThere side) (moments_of events parts)) same link.writes;
       hears = subst (λ (parts : List (List Step)). EachAfter (HearsInTime side) [] (moments_of events parts)) same link.hears;
-      room = subst (λ (parts : List (List Step)). EachAfter (FindsRoom side) [] (moments_of events parts)) same link.room;
       ticks = subst (λ (parts : List (List Step)). EachAfter (TicksInTime side) [] (moments_of events parts)) same link.ticks;
       collides = subst (λ (parts : List (List Step)). EachAfter (CollidesAsTold side) [] (moments_of events parts)) same link.collides;
     }

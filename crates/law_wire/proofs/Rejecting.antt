@@ -10,7 +10,7 @@ use Rattle.law_transcript.specs.Lists.{EachAfter}
 use Rattle.law_transcript.specs.Worked.{bytes, the_switch}
 use Rattle.law_wire.specs.Answering.{IsIdleAfter, steps_up_to, waiting, ServesHost}
 use Rattle.law_wire.specs.Asked.{course_of}
-use Rattle.law_wire.specs.Links.{Moment, Obeys, moments_of, joined, steps_in, AreFirst, CollidesAsTold, is_let_in, KeepsLink}
+use Rattle.law_wire.specs.Links.{Moment, Obeys, moments_of, joined, steps_in, AreFirst, CollidesAsTold, FindsRoom, is_let_in, KeepsLink}
 use Rattle.law_wire.specs.Serial.{SerialEvent, serial_events, ended}
 use Rattle.law_wire.specs.Serial.SerialEvent.{Writes}
 use Rattle.law_wire.specs.WorkedLinks.{unanswered, refused_by_host, copied_in, overrun_alone}
@@ -66,14 +66,12 @@ none_dropped (suc count) = refl
 false_true : false ≡ true → ⊥
 false_true same = cc
 
-pub no_overrun : KeepsLink Chip overrun_alone → ⊥
-unfolding reckoning fill
-no_overrun given =
-    let link = fill Chip overrun_alone given in
-    let first : List Step = first_part given.parts in
-    false_true
-    (subst (λ (units : List (List ℕ)). is_let_in Chip units (Writes Host (bytes (codes "01090013020225022501E6")) [] (bytes (codes "01090013020225022501E6") ∷ [])) ≡ true)
-    (none_dropped (length (items_of first))) link.room.0)
+pub no_overrun : (parts : List (List Step)) → length parts ≡ 1 → EachAfter (FindsRoom Chip) [] (moments_of (serial_events overrun_alone) parts) → ⊥
+unfolding reckoning
+no_overrun [] one room = absurd (omega (arith, one))
+no_overrun (first ∷ parts) one room =
+    let get : List ℕ = bytes (codes "01090013020225022501E6") in
+    false_true (subst (λ (units : List (List ℕ)). is_let_in Chip units (Writes Host get [] (get ∷ [])) ≡ true) (none_dropped (length (items_of first))) room.0)
 
 -- ---- copies
 

@@ -250,18 +250,19 @@ lives Host moments = between_restarts [] moments
 lives Chip moments = moments ∷ []
 
 -- a side obeyed: there are steps of it, up to each event of the serial line, that obey the rules, in which it wrote just its units, and heard, ticked and
--- collided when it has to; and just the units of the other side found no room that have none by what it had not heard
+-- collided when it has to
 pub record KeepsLink (side : Side) (transcript : List Entry) : Type 0 where
   pub parts : List (List Step)
   pub each : length parts ≡ length (serial_events transcript)
   pub obeys : AllByRecursion Obeys (lives side (moments_of (serial_events transcript) parts))
   pub writes : AllByRecursion (WritesThere side) (moments_of (serial_events transcript) parts)
   pub hears : EachAfter (HearsInTime side) [] (moments_of (serial_events transcript) parts)
-  pub room : EachAfter (FindsRoom side) [] (moments_of (serial_events transcript) parts)
   pub ticks : EachAfter (TicksInTime side) [] (moments_of (serial_events transcript) parts)
   pub collides : EachAfter (CollidesAsTold side) [] (moments_of (serial_events transcript) parts)
 
--- both sides obeyed; of a whole run, up to its end
+-- both sides obeyed; of a whole run, up to its end. And of the units to each side just those found no room that had none by what it had not heard.
 pub record KeepsLinks (whole : Bool) (transcript : List Entry) : Type 0 where
   pub chip : KeepsLink Chip (ended whole transcript)
   pub host : KeepsLink Host (ended whole transcript)
+  pub up : EachAfter (FindsRoom Chip) [] (moments_of (serial_events (ended whole transcript)) chip.parts)
+  pub down : EachAfter (FindsRoom Host) [] (moments_of (serial_events (ended whole transcript)) host.parts)

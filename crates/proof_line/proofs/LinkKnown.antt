@@ -13,11 +13,12 @@ use Rattle.zw_words.specs.declared.side.Side.{Side}
 use Rattle.zw_words.specs.declared.side.Side.TheVariants.{Host, Chip}
 use Rattle.zw_text.specs.declared.entry.Entry.{Entry}
 use Rattle.zw_text.specs.declared.line.Line.{Line}
+use Rattle.law_wire.specs.law_transcript.Lists.{EachAfter}
 use Rattle.law_wire.specs.law_transcript.Restarts.{is_restart}
 use Rattle.law_wire.specs.Clearing.{lost_by}
 use Rattle.law_wire.specs.Serial.{SerialEvent, arriving_of, lacking_of, serial_events}
 use Rattle.law_wire.specs.Serial.SerialEvent.{Line_begins, Tick_begins, Writes}
-use Rattle.law_wire.specs.Links.{HasTicked, KeepsLink, LeavesFew, Moment, Round, WriteLast, arrivals_of, ends_round, most_left, stall_by, MayDo, Obeys, WritesThere, arrival_of, clock_in, has_room, is_let_in, is_stalled, joined, moments_of, other, round_of, steps_in, texts_of, unit_by}
+use Rattle.law_wire.specs.Links.{FindsRoom, HasTicked, KeepsLink, LeavesFew, Moment, Round, WriteLast, arrivals_of, ends_round, most_left, stall_by, MayDo, Obeys, WritesThere, arrival_of, clock_in, has_room, is_let_in, is_stalled, joined, moments_of, other, round_of, steps_in, texts_of, unit_by}
 use Rattle.proof_line.specs.Links.{Does, Hears, IsAt, IsMute, KeepsSoFar, KnowsEvents, KnowsLink, LinkNow, MayEnd, MayEndNow, MayHear, MayStep, TakesTexts, begun_line, begun_tick, life_of, most_of, round_steps, stalls_in, stepped, with_arriving}
 use Rattle.proof_line.proofs.Moments.{arrivals_one, moments_one, round_one}
 use Rattle.proof_line.proofs.Serials.{beside_serials, unit_serials}
@@ -43,10 +44,15 @@ keeps_link side past now knows = record {
   obeys = knows.keeps.obeys;
   writes = knows.keeps.writes;
   hears = knows.keeps.hears;
-  room = knows.keeps.room;
   ticks = knows.keeps.ticks;
   collides = knows.keeps.collides;
 }
+
+-- and just the units of the other side found no room that had none
+pub keeps_room : (side : Side) (past : List Entry) (now : LinkNow) (knows : KnowsLink side past now)
+    → EachAfter (FindsRoom side) [] (moments_of (serial_events past) (keeps_link side past now knows).parts)
+unfolding keeps_link
+keeps_room side past now knows = knows.keeps.room
 
 -- and with these steps the bytes that each restart lost are those
 pub keeps_lost : (side : Side) (past : List Entry) (now : LinkNow) (knows : KnowsLink side past now) → lost_by side past (keeps_link side past now knows).parts ≡ now.lost

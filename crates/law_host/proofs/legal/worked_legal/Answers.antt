@@ -44,7 +44,7 @@ answered = (tt, (inl refl, (tt, (tt, (inl refl, (tt, (inl refl, (tt, (refl, (tt,
 -- nothing came and nothing was written
 silent : KeepsLink Host (ended true lines)
 unfolding computing
-silent = keeps_link Host (ended true lines) (acts_of Host (ended true lines)) refl refl refl refl refl refl
+silent = keeps_link Host (ended true lines) (acts_of Host (ended true lines)) refl refl refl refl refl
 
 refuses : IsHostLegal [] heeds first_start true lines None
 unfolding computing
@@ -96,7 +96,7 @@ once = every 3 (λ node. CarriesOnce node plain_heard) (
 
 linked : KeepsLink Host (ended true plain_heard)
 unfolding computing
-linked = keeps_link Host (ended true plain_heard) (acts_of Host (ended true plain_heard)) refl refl refl refl refl refl
+linked = keeps_link Host (ended true plain_heard) (acts_of Host (ended true plain_heard)) refl refl refl refl refl
 
 unfoldable exchanges : IsHostLegal [] goes_by first_start true plain_heard None
 unfolding computing

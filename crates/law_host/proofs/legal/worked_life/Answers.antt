@@ -103,7 +103,7 @@ once = every 6 (λ node. CarriesOnce node all) (
 
 linked : KeepsLink Host (ended true next_session)
 unfolding computing
-linked = keeps_link Host (ended true next_session) (acts_of Host (ended true next_session)) refl refl refl refl refl refl
+linked = keeps_link Host (ended true next_session) (acts_of Host (ended true next_session)) refl refl refl refl refl
 
 legal : IsHostLegal [] heeds after_life true next_session None
 unfolding computing

@@ -81,7 +81,7 @@ once = every 3 (λ node. CarriesOnce node all) (idle 0 refl, (idle 1 refl, (reco
 
 linked : KeepsLink Host (ended true session_resumed)
 unfolding computing
-linked = keeps_link Host (ended true session_resumed) (acts_of Host (ended true session_resumed)) refl refl refl refl refl refl
+linked = keeps_link Host (ended true session_resumed) (acts_of Host (ended true session_resumed)) refl refl refl refl refl
 
 legal : IsHostLegal [] heeds after_open_life true session_resumed None
 unfolding computing

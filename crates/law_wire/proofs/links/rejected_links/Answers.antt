@@ -103,4 +103,5 @@ returns-clause-fourth_late c = λ law. fourth_late law.chip
 -- ---- a unit without room
 
 pub returns-clause-overrun : goal.returns-clause-overrun
-returns-clause-overrun c = λ law. no_overrun law.chip
+unfolding reckoning
+returns-clause-overrun c = λ law. no_overrun law.chip.parts law.chip.each law.up

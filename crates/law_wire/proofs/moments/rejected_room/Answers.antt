@@ -1,4 +1,4 @@
-use Rattle.std.proofs.Common.{◌≡◌, Bool, true, false}
+use Rattle.std.proofs.Common.{◌≡◌, true, false}
 use Rattle.law_wire.proofs.moments.rejected_room.Goals as goal
 
 false_true : false ≡ true → ⊥
