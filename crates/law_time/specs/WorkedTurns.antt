@@ -266,6 +266,9 @@ keeper_asks = by_chip (codes "0108000400650298404C")
 abbrev pub nonce_for_keeper : Entry
 nonce_for_keeper = by_host (codes "01110013650A988001B8E0ADA0F13D902501A6")
 
+abbrev pub both_frames : List ℕ
+both_frames = codes "chip 010D00498465070400003180846C000108000400650298404C"
+
 -- it is known, and asks for a nonce, in one line of bytes, or in one read: with the units where they are judged, and with all of them first
 abbrev pub asked_at_once : List ℕ → List Entry
 asked_at_once words =

@@ -48,6 +48,7 @@ ghost use Rattle.law_time.specs.WorkedTurns.{
   asked_after_abort,
   asked_after_unkept,
   asked_over_refused,
+  both_frames,
   asked_without_abort,
   discovered,
   first_resent,
@@ -191,7 +192,7 @@ pub fn worked_turns()
     ensures following_interview { SendsInTurn (heeds_of (the_switch ∷ [])) asked_after_interview }
     ensures as_chip_writes { SendsInTurn (heeds_of (the_switch ∷ the_sensor ∷ [])) told_as_chip_writes }
     ensures after_restart { SendsInTurn (heeds_of (the_keeper ∷ [])) told_after_restart }
-    ensures in_one_line { SendsInTurn (heeds_of (the_keeper ∷ [])) (told_after_report (asked_at_once (codes "chip 010D00498465070400003180846C000108000400650298404C"))) }
+    ensures in_one_line { SendsInTurn (heeds_of (the_keeper ∷ [])) (told_after_report (asked_at_once both_frames)) }
     ensures in_one_read { SendsInTurn (heeds_of (the_keeper ∷ [])) (told_after_report (asked_at_once (codes "chip"))) }
     ensures as_heard { SendsInTurn (heeds_of (the_keeper ∷ [])) (told_after_report (asked_as_heard (codes "chip"))) }
 {}

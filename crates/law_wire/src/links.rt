@@ -60,9 +60,10 @@ pub fn worked_service()
     ensures cut { ServesHost true (the_plug ∷ []) long_message }
 {}
 
-/// An answer of either side to a frame that never came breaks the law of links; so does a second frame of either side while its first waits, an answer of
-/// the host to what came before it restarted, a frame of the chip that the host does not answer or answers CAN, the second, the third or the fourth
-/// copy that comes a tick too early or too late, and a unit that finds no room though nothing is on its way. A frame that waits while the link is idle breaks the law of the chip.
+/// An answer of either side to a frame that never came breaks the law of links; so does a second frame of either side while its first waits, an
+/// answer of the host to what came before it restarted, a frame of the chip that the host does not answer or answers CAN, the second, the third or
+/// the fourth copy that comes a tick too early or too late, and a unit that finds no room though nothing is on its way. A frame that waits while the
+/// link is idle breaks the law of the chip.
 pub fn rejected_links()
     ensures nothing { KeepsLinks false answered_nothing → ⊥ }
     ensures kept { ServesHost true (the_switch ∷ []) kept_to_itself → ⊥ }
