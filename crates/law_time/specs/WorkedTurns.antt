@@ -266,13 +266,20 @@ keeper_asks = by_chip (codes "0108000400650298404C")
 abbrev pub nonce_for_keeper : Entry
 nonce_for_keeper = by_host (codes "01110013650A988001B8E0ADA0F13D902501A6")
 
--- it is known, and asks for a nonce, in one line of bytes, or in one read
+abbrev pub both_frames : List ℕ
+both_frames = codes "chip 010D00498465070400003180846C000108000400650298404C"
+
+-- it is known, and asks for a nonce, in one line of bytes, or in one read: with the units where they are judged, and with all of them first
 abbrev pub asked_at_once : List ℕ → List Entry
 asked_at_once words =
     awake_in_interview ++ Said words ∷ keeper_known ∷ host_acknowledges ∷ Interviewed 101 ∷ keeper_asks ∷ host_acknowledges ∷ []
 
+abbrev pub asked_as_heard : List ℕ → List Entry
+asked_as_heard words =
+    awake_in_interview ++ Said words ∷ keeper_known ∷ keeper_asks ∷ host_acknowledges ∷ Interviewed 101 ∷ host_acknowledges ∷ []
+
 -- so it is given the nonce, and told then that there is no more
-abbrev pub told_after_report : List ℕ → List Entry
-told_after_report words =
-    asked_at_once words ++ nonce_for_keeper ∷ Said (codes "chip 060104011301E8010500130100E8") ∷ chip_acknowledges ∷ taken ∷ host_acknowledges ∷
-    delivered ∷ host_acknowledges ∷ by_host (codes "0109001365028408250229") ∷ []
+abbrev pub told_after_report : List Entry → List Entry
+told_after_report past =
+    past ++ nonce_for_keeper ∷ Said (codes "chip 060104011301E8010500130100E8") ∷ chip_acknowledges ∷ taken ∷ delivered ∷ host_acknowledges ∷
+    host_acknowledges ∷ by_host (codes "0109001365028408250229") ∷ []

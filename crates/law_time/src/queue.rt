@@ -43,9 +43,12 @@ ghost use Rattle.law_time.specs.WorkedTurns.{
   again_by_restart,
   again_by_waking,
   again_in_time,
+  asked_as_heard,
+  asked_at_once,
   asked_after_abort,
   asked_after_unkept,
   asked_over_refused,
+  both_frames,
   asked_without_abort,
   discovered,
   first_resent,
@@ -189,8 +192,9 @@ pub fn worked_turns()
     ensures following_interview { SendsInTurn (heeds_of (the_switch ∷ [])) asked_after_interview }
     ensures as_chip_writes { SendsInTurn (heeds_of (the_switch ∷ the_sensor ∷ [])) told_as_chip_writes }
     ensures after_restart { SendsInTurn (heeds_of (the_keeper ∷ [])) told_after_restart }
-    ensures in_one_line { SendsInTurn (heeds_of (the_keeper ∷ [])) (told_after_report (codes "chip 010D00498465070400003180846C000108000400650298404C")) }
-    ensures in_one_read { SendsInTurn (heeds_of (the_keeper ∷ [])) (told_after_report (codes "chip")) }
+    ensures in_one_line { SendsInTurn (heeds_of (the_keeper ∷ [])) (told_after_report (asked_at_once both_frames)) }
+    ensures in_one_read { SendsInTurn (heeds_of (the_keeper ∷ [])) (told_after_report (asked_at_once (codes "chip"))) }
+    ensures as_heard { SendsInTurn (heeds_of (the_keeper ∷ [])) (told_after_report (asked_as_heard (codes "chip"))) }
 {}
 
 /// Each of these breaks one part of the law: a line refused that has just room, or for fewer than 64 that wait, or let in that has none; a
@@ -256,6 +260,7 @@ pub fn rejected_turns()
     ensures unsupported_session { SendsInTurn (heeds_of (the_switch ∷ [])) (sent_when_ended endings.NoSupport) → ⊥ }
     ensures again_as_chip_writes { SendsInTurn (heeds_of (the_switch ∷ the_sensor ∷ [])) told_again_as_chip_writes → ⊥ }
     ensures aborted_early { SendsInTurn (heeds_of (the_switch ∷ [])) aborted_early → ⊥ }
-    ensures before_nonce { SendsInTurn (heeds_of (the_keeper ∷ [])) told_before_report → ⊥ }
+    ensures before_nonce { SendsInTurn (heeds_of (the_keeper ∷ [])) (told_before_report (asked_at_once (codes "chip"))) → ⊥ }
+    ensures before_nonce_heard { SendsInTurn (heeds_of (the_keeper ∷ [])) (told_before_report (asked_as_heard (codes "chip"))) → ⊥ }
     ensures in_two_lines { SendsInTurn (heeds_of (the_keeper ∷ [])) reported_before_told → ⊥ }
 {}

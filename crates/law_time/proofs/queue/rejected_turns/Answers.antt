@@ -1,9 +1,10 @@
 use Rattle.law_time.specs.Heeds.{heeds_of}
-use Rattle.std.proofs.Common.{[], ◌∷◌, refl}
+use Rattle.std.proofs.Common.{[], ◌∷◌, codes, refl}
 use Rattle.law_time.specs.Choice.{may_send}
 use Rattle.law_time.specs.WrongBetween.{told_again_as_chip_writes}
 use Rattle.law_time.specs.WrongQueue.{aborted_unasked, sent_before_abort, sent_before_report}
 use Rattle.law_time.specs.WrongRequests.{sent_out_of_turn, sent_unasked}
+use Rattle.law_time.specs.WorkedTurns.{asked_as_heard, asked_at_once}
 use Rattle.law_time.specs.WorkedWaits.{the_keeper}
 use Rattle.law_time.specs.WrongWaits.{told_while_waiting}
 use Rattle.zw_text.specs.declared.entry.Ended.TheVariants as endings
@@ -172,7 +173,11 @@ returns-clause-again_as_chip_writes c = broken (may_send (heeds_of (the_switch �
 
 pub returns-clause-before_nonce : goal.returns-clause-before_nonce
 unfolding computing
-returns-clause-before_nonce c = broken (may_send (heeds_of (the_keeper ∷ []))) told_before_report refl
+returns-clause-before_nonce c = broken (may_send (heeds_of (the_keeper ∷ []))) (told_before_report (asked_at_once (codes "chip"))) refl
+
+pub returns-clause-before_nonce_heard : goal.returns-clause-before_nonce_heard
+unfolding computing
+returns-clause-before_nonce_heard c = broken (may_send (heeds_of (the_keeper ∷ []))) (told_before_report (asked_as_heard (codes "chip"))) refl
 
 pub returns-clause-in_two_lines : goal.returns-clause-in_two_lines
 unfolding computing
