@@ -150,7 +150,7 @@ before_awake (Node_ticks node) n w = by (node == n)
     by false = refl
 before_awake event n w = refl
 
-event_awake : (h : HostState) (event : HostEvent) (told : List Entry) → AreTold (outs h event) told → length h.nodes ≡ 233 → (n : ℕ) → 1 ≤ n → n ≤ 232
+pub event_awake : (h : HostState) (event : HostEvent) (told : List Entry) → AreTold (outs h event) told → length h.nodes ≡ 233 → (n : ℕ) → 1 ≤ n → n ≤ 232
     → (node_of (after h event) n).awake ≡ last_or (node_of h n).awake (wakings n told)
 event_awake h event told are places n from to =
     let within : n < length h.nodes = omega (arith, places, to) in

@@ -15,5 +15,10 @@ mod Doings
 mod SeriesTold
 mod SeriesGoes
 mod SeriesTie
+mod Payloads
+mod Carried
+mod Requested
+mod Wrote
+mod Slept
 pub use Rattle.proof_work.proofs.Times
 pub use Rattle.proof_work.proofs.HostNotes

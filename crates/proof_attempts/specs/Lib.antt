@@ -4,4 +4,6 @@ pub mod Working
 pub mod Series
 pub mod Kept
 pub mod Waiting
+pub mod Carried
+pub mod Slept
 pub use Rattle.proof_work.specs.proof_walk as proof_walk

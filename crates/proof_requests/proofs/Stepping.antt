@@ -263,7 +263,7 @@ node_beside : (event : HostEvent) → IsNodeTick event → IsBeside event
 node_beside (Node_ticks n) is = tt
 node_beside event is = absurd is
 
-node_notes : (h : HostState) (event : HostEvent) → IsNodeTick event → AllByRecursion IsNote (outs h event)
+pub node_notes : (h : HostState) (event : HostEvent) → IsNodeTick event → AllByRecursion IsNote (outs h event)
 node_notes h (Node_ticks n) is = noted_notes (attempt_entries n (tick_end (node_of h n)) (open_command (node_of h n)))
 node_notes h event is = absurd is
 
@@ -323,7 +323,7 @@ sleep_beside : (full : Bool) (n : ℕ) → IsBeside (if full then Drops_no_more 
 sleep_beside true n = tt
 sleep_beside false n = tt
 
-sleep_notes : (h : HostState) (full : Bool) (n : ℕ) → AllByRecursion IsNote (outs h (if full then Drops_no_more n else Queues_no_more n))
+pub sleep_notes : (h : HostState) (full : Bool) (n : ℕ) → AllByRecursion IsNote (outs h (if full then Drops_no_more n else Queues_no_more n))
 sleep_notes h true n = (tt, tt)
 sleep_notes h false n = tt
 
@@ -345,7 +345,7 @@ written_tie past told m purpose event does frames free read time is tie =
     (submits_tie past told m.clock m.state.requests.last_id m.came (doing_of m.state) purpose frames free.free_line free.none_under_way read time is tie)
 
 -- which events a pump may submit
-abbrev IsSubmission : HostEvent → Type 0
+abbrev pub IsSubmission : HostEvent → Type 0
 IsSubmission Submits_abort = Unit {0}
 IsSubmission Submits_front = Unit {0}
 IsSubmission (Starts n plan more payload) = Unit {0}
@@ -355,7 +355,7 @@ IsSubmission (Begins n session command) = Unit {0}
 IsSubmission (Begin_unkept n) = Unit {0}
 IsSubmission event = ⊥
 
-submissions : SubmittedAre IsSubmission
+pub submissions : SubmittedAre IsSubmission
 submissions = record {
   abort = tt;
   front = tt;

@@ -89,7 +89,7 @@ pub noted_notes : (told : List Entry) → AllByRecursion IsNote (noted told)
 noted_notes [] = tt
 noted_notes (e ∷ told) = (tt, noted_notes told)
 
-event_hosts : (h : HostState) (event : HostEvent) → NoteOuts (outs h event)
+pub event_hosts : (h : HostState) (event : HostEvent) → NoteOuts (outs h event)
 event_hosts h event = subst NoteOuts (append-nil (outs h event)) (all_outs_note h (event ∷ []))
 
 pub event_quiet : (h : HostState) (event : HostEvent) (told : List Entry) → AllByRecursion IsNote (outs h event) → AreTold (outs h event) told → AllByRecursion IsQuiet told
@@ -211,12 +211,12 @@ request_ticks_tie past told before now came h next is tie =
 -- ---- the line's tick
 
 -- told of a host that writes a frame, and of what it notes behind it
-record IsWritten (text : List ℕ) (told : List Entry) : Type 0 where
-  rest : List Entry
-  are : told ≡ entry.Written Host text ∷ rest
-  quiet : AllByRecursion IsQuiet rest
+pub record IsWritten (text : List ℕ) (told : List Entry) : Type 0 where
+  pub rest : List Entry
+  pub are : told ≡ entry.Written Host text ∷ rest
+  pub quiet : AllByRecursion IsQuiet rest
 
-written_told : (f : FrameParts) (notes : List Entry) (told : List Entry) → NoteOuts (noted notes) → AreTold (Write (Framed f) ∷ noted notes) told → IsWritten (unit_text (Framed f)) told
+pub written_told : (f : FrameParts) (notes : List Entry) (told : List Entry) → NoteOuts (noted notes) → AreTold (Write (Framed f) ∷ noted notes) told → IsWritten (unit_text (Framed f)) told
 written_told f notes told hosts (marks, rest, is, all, more) = record {
   rest = marks ++ rest;
   are = is;
@@ -224,10 +224,10 @@ written_told f notes told hosts (marks, rest, is, all, more) = record {
 }
 
 -- what is written at it, by the side of the line
-abbrev line_outs : HostState → Turn → List HostOut
+abbrev pub line_outs : HostState → Turn → List HostOut
 line_outs h turn = copy_out (copy_due turn) ++ noted (failing_entries (gives_up turn (turn_ticked turn)) (line_ticked h))
 
-quiet_line : (h : HostState) (turn : Turn) (told : List Entry) → copies_now turn ≡ false → NoteOuts (line_outs h turn) → AreTold (line_outs h turn) told → AllByRecursion IsQuiet told
+pub quiet_line : (h : HostState) (turn : Turn) (told : List Entry) → copies_now turn ≡ false → NoteOuts (line_outs h turn) → AreTold (line_outs h turn) told → AllByRecursion IsQuiet told
 quiet_line h Idle told none hosts is = quiet_told (line_outs h Idle) told (noted_notes (failing_entries false (line_ticked h))) hosts is
 quiet_line h (Copied f copies ticks) told none hosts is =
     quiet_told (line_outs h (Copied f copies ticks)) told (noted_notes (failing_entries (gives_up (Copied f copies ticks) (turn_ticked (Copied f copies ticks))) (line_ticked h))) hosts is
@@ -239,7 +239,7 @@ quiet_line h (Paused f copies ticks) told none hosts is = by (ticks + 1 == pause
     by true none hosts is = absurd (let bad : true ≡ false = none in cc)
     by false none hosts is = quiet_told [] told tt tt is
 
-copy_line : (h : HostState) (f : FrameParts) (copies ticks : ℕ) (told : List Entry) → (ticks + 1 == pause_after copies) ≡ true → AreTold (line_outs h (Paused f copies ticks)) told
+pub copy_line : (h : HostState) (f : FrameParts) (copies ticks : ℕ) (told : List Entry) → (ticks + 1 == pause_after copies) ≡ true → AreTold (line_outs h (Paused f copies ticks)) told
     → IsWritten (unit_text (Framed f)) told
 copy_line h f copies ticks told now is = by (ticks + 1 == pause_after copies) now is
   where
@@ -259,7 +259,7 @@ and_not : (a b : Bool) → b ≡ true → (a && not b) ≡ false
 and_not true b is = ap not is
 and_not false b is = refl
 
-is_old : (past : List Entry) (before : ℕ) (came : List LineUnit) (f : FrameParts) (copies ticks : ℕ) → AreFrames came → IsPaused (standing_of (asked past)) before (acknowledged past) came f copies
+pub is_old : (past : List Entry) (before : ℕ) (came : List LineUnit) (f : FrameParts) (copies ticks : ℕ) → AreFrames came → IsPaused (standing_of (asked past)) before (acknowledged past) came f copies
     → is_new (asked past) (unit_text (Framed f)) ≡ false
 is_old past before came f copies ticks frames line =
     and_not (is_data (unit_text (Framed f))) (is_copy (asked past) (unit_text (Framed f)))
@@ -332,12 +332,12 @@ and_full false b c is = refl
 and_other : (a b c : Bool) → a ≡ false → (a && b && c) ≡ false
 and_other a b c is = ap (λ (x : Bool). x && b && c) is
 
-turn_idle : (turn : Turn) → is_busy turn ≡ false → turn ≡ Idle
+pub turn_idle : (turn : Turn) → is_busy turn ≡ false → turn ≡ Idle
 turn_idle Idle free = refl
 turn_idle (Copied f copies ticks) free = absurd (let bad : true ≡ false = free in cc)
 turn_idle (Paused f copies ticks) free = absurd (let bad : true ≡ false = free in cc)
 
-is_fresh : (past : List Entry) (now : ℕ) (came : List LineUnit) (d : Doing) (f : FrameParts) → is_busy d.turn ≡ false → TieAsked past now now came d → is_new (asked past) (unit_text (Framed f)) ≡ true
+pub is_fresh : (past : List Entry) (now : ℕ) (came : List LineUnit) (d : Doing) (f : FrameParts) → is_busy d.turn ≡ false → TieAsked past now now came d → is_new (asked past) (unit_text (Framed f)) ≡ true
 is_fresh past now came d f free tie = ap not (by tie)
   where
     line_of_idle : (s : Standing) (count : ℕ) → TieLine s now count came d.turn → TieLine s now count came Idle
