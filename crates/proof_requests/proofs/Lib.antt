@@ -20,9 +20,12 @@ mod Ending
 mod Grounds
 mod Brought
 mod Listening
+mod EndsHere
+mod EndsLate
+mod Untold
+mod EndsTold
 mod Questions
-mod Answered
-mod Answering
+mod Interviews
 pub use Rattle.proof_waking.proofs.Coming
 pub use Rattle.proof_waking.proofs.Hosting
 pub use Rattle.proof_waking.proofs.Stamps
