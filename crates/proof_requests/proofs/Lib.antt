@@ -20,9 +20,12 @@ pub mod Ending
 mod Grounds
 mod Brought
 mod Listening
+pub mod EndsHere
+pub mod EndsLate
+pub mod Untold
+pub mod EndsTold
 pub mod Questions
-pub mod Answered
-mod Answering
+mod Interviews
 pub use Rattle.proof_waking.proofs.Coming
 pub use Rattle.proof_waking.proofs.Hosting
 pub use Rattle.proof_waking.proofs.Stamps

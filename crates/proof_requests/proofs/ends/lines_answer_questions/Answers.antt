@@ -4,7 +4,7 @@ use Rattle.world_model.specs.State.{first_machine}
 use Rattle.world_lines.specs.Spoken.{transcript_of}
 use Rattle.proof_waking.specs.law_host.Heard.{heard_by_host}
 use Rattle.proof_waking.specs.proof_alone.State.{first_alone}
-use Rattle.proof_requests.proofs.asking.lines_answer_questions.Goals as goal
+use Rattle.proof_requests.proofs.ends.lines_answer_questions.Goals as goal
 
 pub returns-clause-lines : goal.returns-clause-lines
 returns-clause-lines c = λ keys devices lines are.
