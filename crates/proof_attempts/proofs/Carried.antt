@@ -157,12 +157,12 @@ event_asks h (Drops_no_more n) may adds has = has.asks
 event_asks h Submits_abort may adds has = record { under_way = tt; queue = has.asks.queue }
 event_asks h Submits_front may adds has = front_well h.requests h.requests.queue has.asks.queue has.asks
 event_asks h (Starts n plan more payload) may adds has =
-    record { under_way = subst IsOther (sym may.1.payload_is) (starts_other may.1.command may.1.session); queue = has.asks.queue }
+    record { under_way = (served_is_node h n may.0.next, subst IsOther (sym may.1.payload_is) (starts_other may.1.command may.1.session)); queue = has.asks.queue }
 event_asks h (Gives_text n payload) may adds has =
     let is = served_is_node h n may.0.next in
-    record { under_way = text_given h n payload may.1 (has.texts n is.0 is.1); queue = has.asks.queue }
+    record { under_way = (is, text_given h n payload may.1 (has.texts n is.0 is.1)); queue = has.asks.queue }
 event_asks h (Gives_segment n more payload) may adds has =
-    record { under_way = open_other h (node_of h n) (open_session (node_of h n).book) (node_of h n).next_segment payload may.2; queue = has.asks.queue }
+    record { under_way = (served_is_node h n may.0.next, open_other h (node_of h n) (open_session (node_of h n).book) (node_of h n).next_segment payload may.2); queue = has.asks.queue }
 event_asks h (Begins n session command) may adds has = has.asks
 event_asks h (Begin_unkept n) may adds has = has.asks
 

@@ -20,5 +20,7 @@ mod Carried
 mod Requested
 mod Wrote
 mod Slept
+mod Owing
+mod Late
 pub use Rattle.proof_work.proofs.Times
 pub use Rattle.proof_work.proofs.HostNotes

@@ -24,7 +24,7 @@ use Rattle.host_node.specs.State.{NodeState}
 use Rattle.host_node.specs.Steps.{after_no_more, after_sleep, asleep}
 use Rattle.host_model.specs.State.{HostState, node_of}
 use Rattle.host_model.specs.After.{after, failing_if, gives_up, line_ticked, request_does, requests_do}
-use Rattle.host_model.specs.Events.{HostEvent, Hears, Requests_do, Interviews, Interview_unkept, Line_ticks, Submits_abort, Submits_front, Starts, Gives_text, Gives_segment}
+use Rattle.host_model.specs.Events.{HostEvent, Queues, Hears, Requests_do, Interviews, Interview_unkept, Line_ticks, Submits_abort, Submits_front, Starts, Gives_text, Gives_segment}
 use Rattle.proof_work.specs.Doing.{IsTold}
 use Rattle.proof_requests.specs.Asking.{Doing as DoingOfHost, doing_of}
 use Rattle.proof_requests.proofs.Doing.{asks_of, beside_same, end_if_asks}
@@ -88,6 +88,7 @@ doing_keeps h g same = keeps_all h.requests g.requests (ap (λ (d : DoingOfHost)
 
 pub event_keeps : (h : HostState) (event : HostEvent) → Unsubmitted event → KeepsRequest h.requests (after h event).requests
 event_keeps h (Hears item) un = keeps_all h.requests h.requests refl refl
+event_keeps h (Queues task) un = keeps_all h.requests (after h (Queues task)).requests refl refl
 event_keeps h (Requests_do event moment) un = request_keeps h event moment un
 event_keeps h (Interviews n listens classes update) un = told_keeps h.requests (Updates update) tt
 event_keeps h (Interview_unkept n update) un = told_keeps h.requests (Updates update) tt
@@ -176,6 +177,7 @@ module _ (h : HostState) (n : ℕ) (u : UnderWay) (is : h.requests.under_way ≡
 
   did_sleeps : (event : HostEvent) → Unsubmitted event → (after h event).requests.under_way ≡ None → SleepsOrListens (does_at n (node_of h n) (did h event))
   did_sleeps (Hears item) un none = absurd (still_under_way h.requests.under_way u is none)
+  did_sleeps (Queues task) un none = absurd (still_under_way h.requests.under_way u is none)
   did_sleeps (Requests_do event moment) un none = end_sleeps n (node_of h n) (end_at h.requests event) u moment purpose (told_ends h.requests event un u is (none_by h event moment none))
   did_sleeps (Interviews k listens classes update) un none = absurd (update_not update none)
   did_sleeps (Interview_unkept k update) un none = absurd (update_not update none)

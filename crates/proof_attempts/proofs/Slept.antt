@@ -78,11 +78,11 @@ use Rattle.proof_attempts.proofs.Wrote.Wrote.{Quietly, Again, Anew}
 
 -- ---- which nodes a request tells
 
-or_none : (b : Bool) → (b || false) ≡ b
+pub or_none : (b : Bool) → (b || false) ≡ b
 or_none true = refl
 or_none false = refl
 
-abbrev told_by : List Request → List ℕ
+abbrev pub told_by : List Request → List ℕ
 told_by requests = flat_map node_told (flat_map sending_of requests)
 
 other_none : (n : ℕ) (payload : List ℕ) → IsOther payload → told_by (request_of (Attempt n false payload) 0 ∷ []) ≡ []
@@ -93,7 +93,7 @@ purpose_tells (Housekeeping (NoMore n)) id well = refl
 purpose_tells (Housekeeping (Plain n payload)) id well = other_none n payload well
 purpose_tells (Housekeeping (Segment n payload)) id well = other_none n payload well
 purpose_tells (Housekeeping task) id well = refl
-purpose_tells (Attempt n more payload) id well = other_none n payload well
+purpose_tells (Attempt n more payload) id well = other_none n payload well.1
 purpose_tells Abort id well = refl
 
 told_purpose : (n : ℕ) (p : Purpose) → list_any (λ one. one == n) (nodes_of p) ≡ true → p ≡ Housekeeping (NoMore n)
@@ -102,7 +102,7 @@ told_purpose n (Housekeeping task) is = absurd (let bad : false ≡ true = is in
 told_purpose n (Attempt k more payload) is = absurd (let bad : false ≡ true = is in cc)
 told_purpose n Abort is = absurd (let bad : false ≡ true = is in cc)
 
-purpose_told : (n : ℕ) (u : UnderWay) → u.purpose ≡ Housekeeping (NoMore n) → told_at n (Some u) ≡ 1
+pub purpose_told : (n : ℕ) (u : UnderWay) → u.purpose ≡ Housekeeping (NoMore n) → told_at n (Some u) ≡ 1
 purpose_told n u is = ap (λ (p : Purpose). told_for n p) is ∙ ap one_if (eq-eqb n n refl)
 
 pub frame_tells : (past : List Entry) (requests : RequestsState) (u : UnderWay) → requests.under_way ≡ Some u → UnderWayWell requests.under_way
@@ -111,7 +111,7 @@ frame_tells past requests u is well request = ap told_by request ∙ purpose_tel
 
 -- ---- how often it slept
 
-slept_more : (n : ℕ) (some more : List Entry) → has_slept n (some ++ more) ≡ (has_slept n some || has_slept n more)
+pub slept_more : (n : ℕ) (some more : List Entry) → has_slept n (some ++ more) ≡ (has_slept n some || has_slept n more)
 slept_more n some more = ap (λ (l : List Bool). list_any not l) (shown-append (waking_at n) some more) ∙ list_any-append not (wakings n some) (wakings n more)
 
 -- no node wakes by it; none falls asleep, or was interviewed
@@ -119,7 +119,7 @@ abbrev NoneWakes : Entry → Type 0
 NoneWakes (entry.Awake node) = ⊥
 NoneWakes e = Unit {0}
 
-abbrev NoneSleeps : Entry → Type 0
+abbrev pub NoneSleeps : Entry → Type 0
 NoneSleeps (entry.Asleep node) = ⊥
 NoneSleeps e = Unit {0}
 
@@ -127,7 +127,7 @@ abbrev NoInterview : Entry → Type 0
 NoInterview (entry.Interviewed node) = ⊥
 NoInterview e = Unit {0}
 
-none_slept : (n : ℕ) (told : List Entry) → AllByRecursion NoneSleeps told → has_slept n told ≡ false
+pub none_slept : (n : ℕ) (told : List Entry) → AllByRecursion NoneSleeps told → has_slept n told ≡ false
 none_slept n [] all = refl
 none_slept n (entry.Asleep node ∷ told) all = absurd all.0
 none_slept n (entry.Awake node ∷ told) all = by (node == n) (none_slept n told all.1)
@@ -137,7 +137,7 @@ none_slept n (entry.Awake node ∷ told) all = by (node == n) (none_slept n told
     by false rest = rest
 none_slept n (e ∷ told) all = none_slept n told all.1
 
-mark_wakes : (e : Entry) → IsOfUnit e → NoneSleeps e
+pub mark_wakes : (e : Entry) → IsOfUnit e → NoneSleeps e
 mark_wakes (entry.Asleep node) mark = absurd mark
 mark_wakes e mark = tt
 
@@ -246,13 +246,13 @@ fresh [] all = refl
 fresh (entry.Refused refusal ∷ told) all = absurd all.0
 fresh (e ∷ told) all = refl
 
-abbrev On : List Entry → List Entry → Type 0
+abbrev pub On : List Entry → List Entry → Type 0
 On past told = asked (past ++ told) ≡ with_entries (asked past) told
 
-on_frame : (past told : List Entry) → On past told → (asked (past ++ told)).frame ≡ (asked past).frame
+pub on_frame : (past told : List Entry) → On past told → (asked (past ++ told)).frame ≡ (asked past).frame
 on_frame past told on = ap (λ (a : TheAsked). a.frame) on
 
-on_slept : (n : ℕ) (past told : List Entry) → On past told → has_slept n (asked (past ++ told)).following ≡ (has_slept n (asked past).following || has_slept n told)
+pub on_slept : (n : ℕ) (past told : List Entry) → On past told → has_slept n (asked (past ++ told)).following ≡ (has_slept n (asked past).following || has_slept n told)
 on_slept n past told on = ap (λ (a : TheAsked). has_slept n a.following) on ∙ slept_more n (asked past).following told
 
 again_on : (past : List Entry) (unit : List ℕ) (rest : List Entry) → is_new (asked past) unit ≡ false → AllByRecursion IsQuiet rest → On past (entry.Written Host unit ∷ rest)
@@ -261,7 +261,7 @@ again_on past unit rest old quiet =
     ∙ ap (λ (a : TheAsked). with_entries a rest) (asked_copy past unit old)
     ∙ ap (λ (l : List Entry). record (asked past) { following = l }) (append_assoc (asked past).following (entry.Written Host unit ∷ []) rest)
 
-new_asked : (past : List Entry) (unit : List ℕ) (marks : List Entry) → is_new (asked past) unit ≡ true → AllByRecursion IsOfUnit marks
+pub new_asked : (past : List Entry) (unit : List ℕ) (marks : List Entry) → is_new (asked past) unit ≡ true → AllByRecursion IsOfUnit marks
     → asked (past ++ entry.Written Host unit ∷ marks) ≡ record { frame = unit; before = past; following = marks }
 new_asked past unit marks new all =
     ap asked (sym (append_assoc past (entry.Written Host unit ∷ []) marks)) ∙ quiet_on (past ++ entry.Written Host unit ∷ []) marks (marks_quiet marks all)
@@ -299,7 +299,7 @@ record At (past : List Entry) (h : HostState) : Type 0 where
   hears : (n : ℕ) → n ≤ 232 → listens n past ≡ (node_of h n).listens
   well : UnderWayWell h.requests.under_way
 
-under_request : (past : List Entry) (now : ℕ) (came : List LineUnit) (h : HostState) (u : UnderWay) → h.requests.under_way ≡ Some u → TieAsked past now now came (doing_of h)
+pub under_request : (past : List Entry) (now : ℕ) (came : List LineUnit) (h : HostState) (u : UnderWay) → h.requests.under_way ≡ Some u → TieAsked past now now came (doing_of h)
     → request_last past ≡ request_of u.purpose h.requests.last_id ∷ []
 under_request past now came h u is (inl none) = absurd (let nothing = none.none in let bad : None ≡ Some u = sym nothing ∙ is in cc)
 under_request past now came h u is (inr (was, asks)) =
@@ -312,7 +312,7 @@ purpose_nodes (Attempt n more payload) well = tt
 purpose_nodes Abort well = tt
 
 -- it tells this node
-tells_it : (past : List Entry) (requests : RequestsState) (n : ℕ) (u : UnderWay) → requests.under_way ≡ Some u → UnderWayWell requests.under_way
+pub tells_it : (past : List Entry) (requests : RequestsState) (n : ℕ) (u : UnderWay) → requests.under_way ≡ Some u → UnderWayWell requests.under_way
     → request_last past ≡ request_of u.purpose requests.last_id ∷ [] → is_told n (asked past).frame ≡ true → u.purpose ≡ Housekeeping (NoMore n)
 tells_it past requests n u is well request told =
     told_purpose n u.purpose (ap (λ (l : List ℕ). list_any (λ one. one == n) l) (sym (frame_tells past requests u is well request)) ∙ told)
@@ -423,15 +423,15 @@ module _ (tells : (h : HostState) (n : ℕ) → HostWork h → 1 ≤ times_told 
   does_slept here next past told m event may ground later tie (Quietly un quiet) =
       let others = by_else here next m.state event may.0 in
       on_tie past told m.state event (quiet_on past told quiet) un may.1.0 may.2 (at_of here past m others.0 ground) (at_of next (past ++ told) (done m event) others.1 later) tie
-  does_slept here next past told m event may ground later tie (Again unit rest un is old quiet) =
+  does_slept here next past told m event may ground later tie (Again f rest un is old quiet) =
       let others = by_else here next m.state event may.0 in
-      on_tie past told m.state event (subst (λ (l : List Entry). On past l) (sym is) (again_on past unit rest old quiet)) un may.1.0 may.2 (at_of here past m others.0 ground)
+      on_tie past told m.state event (subst (λ (l : List Entry). On past l) (sym is) (again_on past (unit_text (Framed f)) rest old quiet)) un may.1.0 may.2 (at_of here past m others.0 ground)
       (at_of next (past ++ told) (done m event) others.1 later) tie
-  does_slept here next past told m event may ground later tie (Anew purpose unit marks here_is free is new all now) =
+  does_slept here next past told m event may ground later tie (Anew purpose f marks here_is free is new all now) =
       let others = by_else here next m.state event may.0 in
       let asks = next_tied next (past ++ told) (done m event) (submits_to here next m.state event here_is may.0) later.1.1 in
       subst (λ (l : List Entry). TieSlept (past ++ l) (after m.state event).requests) (sym is)
-      (new_tie past unit marks m.clock m.came (after m.state event) purpose new all now (at_of next (past ++ told) (done m event) others.1 later).well
+      (new_tie past (unit_text (Framed f)) marks m.clock m.came (after m.state event) purpose new all now (at_of next (past ++ told) (done m event) others.1 later).well
       (subst (λ (l : List Entry). TieAsked (past ++ l) m.clock m.clock m.came (doing_of (after m.state event))) is asks))
 
   -- ---- entries of others, lines and items

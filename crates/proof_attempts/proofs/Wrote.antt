@@ -53,9 +53,10 @@ use Rattle.proof_requests.proofs.Walking.{copy_line, event_hosts, event_quiet, i
 -- became of it.
 pub data Wrote (here : Phase) (past told : List Entry) (h : HostState) (event : HostEvent) : Type 0 where
   Quietly : Unsubmitted event → AllByRecursion IsQuiet told → Wrote here past told h event
-  Again : (unit : List ℕ) (rest : List Entry) → Unsubmitted event → told ≡ entry.Written Host unit ∷ rest → is_new (asked past) unit ≡ false → AllByRecursion IsQuiet rest →
+  Again : (f : FrameParts) (rest : List Entry) → Unsubmitted event → told ≡ entry.Written Host (unit_text (Framed f)) ∷ rest → is_new (asked past) (unit_text (Framed f)) ≡ false → AllByRecursion IsQuiet rest →
       Wrote here past told h event
-  Anew : (purpose : Purpose) (unit : List ℕ) (marks : List Entry) → here ≡ Submitting → IsFree h → told ≡ entry.Written Host unit ∷ marks → is_new (asked past) unit ≡ true →
+  Anew : (purpose : Purpose) (f : FrameParts) (marks : List Entry) → here ≡ Submitting → IsFree h → told ≡ entry.Written Host (unit_text (Framed f)) ∷ marks →
+      is_new (asked past) (unit_text (Framed f)) ≡ true →
       AllByRecursion IsOfUnit marks → (after h event).requests.under_way ≡ Some (record { purpose = purpose; progress = Submitted }) → Wrote here past told h event
 
 -- ---- the line's tick
@@ -78,7 +79,7 @@ module _ (here : Phase) (past told : List Entry) (m : HostMachine) (before : ℕ
   line_by (Paused f copies ticks) is are hosts = by (ticks + 1 == pause_after copies) refl
     where
       by : (b : Bool) → (ticks + 1 == pause_after copies) ≡ b → Wrote here past told m.state Line_ticks
-      by true due = let wrote = copy_line m.state f copies ticks told due are in Again (unit_text (Framed f)) wrote.rest tt wrote.are (paused_old f copies ticks is) wrote.quiet
+      by true due = let wrote = copy_line m.state f copies ticks told due are in Again f wrote.rest tt wrote.are (paused_old f copies ticks is) wrote.quiet
       by false due = Quietly tt (quiet_line m.state (Paused f copies ticks) told due hosts are)
 
   line_writes : AreTold (outs m.state Line_ticks) told → Wrote here past told m.state Line_ticks
@@ -94,7 +95,7 @@ written_new past told m purpose event free tie now (marks, rest, is, all, none) 
     let unit : List ℕ = unit_text (Framed f) in
     let are : told ≡ entry.Written Host unit ∷ marks
     = is ∙ ap (λ (l : List Entry). entry.Written Host unit ∷ (marks ++ l)) none ∙ ap (λ (l : List Entry). entry.Written Host unit ∷ l) (append-nil marks) in
-    Anew purpose unit marks refl free are (is_fresh past m.clock m.came (doing_of m.state) f free.free_line tie) all now
+    Anew purpose f marks refl free are (is_fresh past m.clock m.came (doing_of m.state) f free.free_line tie) all now
 
 front_now : (h : HostState) (queue : List Task) → h.requests.queue ≡ queue → (queue ≡ [] → ⊥)
     → (after h Submits_front).requests.under_way ≡ Some (record { purpose = task_purpose h.requests.queue; progress = Submitted })

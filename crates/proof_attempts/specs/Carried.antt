@@ -16,12 +16,12 @@ use Rattle.proof_attempts.specs.Since.{TieOf}
 abbrev pub IsOther : List ℕ → Type 0
 IsOther payload = bytes_eq payload no_more_information ≡ false
 
--- one to a node, or another message
+-- one to a node, or another message, that of an attempt to a node
 abbrev pub CarriesWell : Purpose → Type 0
 CarriesWell (Housekeeping (NoMore n)) = IsNode n
 CarriesWell (Housekeeping (Plain n payload)) = IsOther payload
 CarriesWell (Housekeeping (Segment n payload)) = IsOther payload
-CarriesWell (Attempt n more payload) = IsOther payload
+CarriesWell (Attempt n more payload) = IsNode n × IsOther payload
 CarriesWell purpose = Unit {0}
 
 abbrev pub UnderWayWell : Option UnderWay → Type 0

@@ -6,4 +6,5 @@ pub mod Kept
 pub mod Waiting
 pub mod Carried
 pub mod Slept
+pub mod Asleep
 pub use Rattle.proof_work.specs.proof_walk as proof_walk
