@@ -22,5 +22,6 @@ mod Wrote
 mod Slept
 mod Owing
 mod Late
+mod Sleeping
 pub use Rattle.proof_work.proofs.Times
 pub use Rattle.proof_work.proofs.HostNotes
