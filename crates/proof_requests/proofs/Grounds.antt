@@ -44,4 +44,4 @@ asked_so brings host =
 pub first_so : (keys : Keys) → KnowsTables Resting [] (first_alone keys (Some [])) → KnowsJudged Resting [] (first_alone keys (Some []))
     → both_know Ground KnowsAsked Resting [] (first_alone keys (Some []))
 first_so keys tables judged =
-    (((((tables, first_clock (first_alone keys (Some [])) refl refl refl), judged), tt), (tt, tt)), first_asked (first_alone keys (Some [])) refl)
+    (((((tables, first_clock (first_alone keys (Some [])) refl refl refl), judged), tt), ((tt, refl), tt)), first_asked (first_alone keys (Some [])) refl)

@@ -31,9 +31,9 @@ use Rattle.proof_waking.specs.proof_alone.Steps.{IsAskedBy, Step, Tells, Comes, 
 use Rattle.proof_waking.specs.proof_alone.Phases.{Phase, Resting, Asked, Risen, Ticking, Open, Behind, Sleeping, Submitting, May, Turns}
 use Rattle.proof_waking.specs.proof_alone.Runs.{WalkOver, both_know}
 use Rattle.proof_waking.specs.Judged.{KnowsJudged}
-use Rattle.proof_requests.specs.Walking.{AddAt, AddsWell, KnowsCame, KnowsHost, KnowsQueue}
+use Rattle.proof_requests.specs.Walking.{AddAt, AddsWell, AreRead, KnowsCame, KnowsHost, KnowsQueue}
 use Rattle.proof_requests.proofs.Doing.{asks_of}
-use Rattle.proof_requests.proofs.Queued.{AreRead, PayloadsBring, behind_adds, event_read, own_adds, wanting_is_node}
+use Rattle.proof_requests.proofs.Queued.{PayloadsBring, behind_adds, event_read, own_adds, wanting_is_node}
 
 -- ---- what a line asks for
 
@@ -134,7 +134,7 @@ module _ (brings : PayloadsBring) where
   step_goes here next past m (Refuses refusal) may ground known = at_phase next Open m.state may.4 tt known.0
   step_goes here next past m (Shows node) may ground known = at_phase next Open m.state may.2 tt known.0
   step_goes here next past m (Restarts state) may ground known =
-      at_phase next Open state may.2 tt (subst AreRead (sym (ap (λ (p : Side × RequestsState). p.1.queue) (opened_asks m.keys m.records state ground.0.0.0.told may.1))) tt)
+      at_phase next Open state may.2 tt (subst AreRead (sym (ap (λ (p : Side × RequestsState). p.1.queue) (opened_asks m.keys m.records state ground.0.0.0.told may.1))) (tt, refl))
   step_goes here next past m (Begins_tick left) may ground known = at_phase next Risen m.state may.2 tt known.0
   step_goes here next past m Numbers may ground known = at_phase next here m.state may.1 known.1 known.0
   step_goes here next past m (Judges item rest behind told) may ground known =

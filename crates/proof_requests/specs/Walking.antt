@@ -15,6 +15,7 @@ use Rattle.law_transcript.specs.Units.{request_in}
 use Rattle.law_time.specs.Requests.{asked}
 use Rattle.host_requests.specs.Events.{RequestsEvent}
 use Rattle.host_requests.specs.Events.RequestsEvent.{IsSent, Fails, Responds, CallsBack, Updates, Ticks}
+use Rattle.host_requests.specs.Facts.{ArePaired, due_second}
 use Rattle.host_requests.specs.Frames.{frame_of, request_of, task_request}
 use Rattle.host_requests.specs.State.{next_id}
 use Rattle.host_requests.specs.declared.task.Task.{Task}
@@ -93,8 +94,15 @@ abbrev pub AddAt : Phase → Type 0
 AddAt (Behind left) = AllByRecursion AddsWell left
 AddAt here = Unit {0}
 
+-- the tasks of an interview stand in pairs, but that the first one's may be gone
+abbrev pub IsPaired : List Task → Type 0
+IsPaired queue = ArePaired (due_second queue) queue
+
+abbrev pub AreRead : List Task → Type 0
+AreRead queue = AllByRecursion CanBeRead queue × IsPaired queue
+
 abbrev pub KnowsQueue : Knowledge
-KnowsQueue here past m = AllByRecursion CanBeRead m.state.requests.queue × AddAt here
+KnowsQueue here past m = AreRead m.state.requests.queue × AddAt here
 
 abbrev pub KnowsHost : Knowledge
 KnowsHost = both_know (both_know KnowsTables KnowsClock) KnowsJudged
