@@ -106,7 +106,7 @@ module _ (course : Course) where
   none_at past (entry.Written by_host unit) no_ack = refl
   none_at past e no_ack = refl
 
-  none_asked : (told past : List Entry) → AllByRecursion IsNoAck told → shown_after (asked_at course) past told ≡ []
+  pub none_asked : (told past : List Entry) → AllByRecursion IsNoAck told → shown_after (asked_at course) past told ≡ []
   none_asked [] past none = refl
   none_asked (e ∷ told) past none = ap₂ (λ (a b : List Asked). a ++ b) (none_at past e none.0) (none_asked told (past ++ e ∷ []) none.1)
 

@@ -16,11 +16,16 @@ mod Taking
 mod Turning
 mod Standing
 mod Replying
+mod Tallying
+mod Numbering
+mod Owing
 mod Answered
 mod Requesting
 mod Passing
+mod Settling
 mod Payloads
 mod Judged
+mod Tallied
 mod Bringing
 mod Going
 mod Homing
