@@ -26,6 +26,7 @@ mod Settling
 mod Payloads
 mod Judged
 mod Tallied
+mod Giving
 mod Bringing
 mod Going
 mod Homing

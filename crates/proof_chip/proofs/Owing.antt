@@ -68,7 +68,7 @@ drop_one : {A : Type 0} (count : ℕ) (xs : List A) → drop count (drop 1 xs) �
 drop_one {A} count [] = drop_none {A = A} count
 drop_one count (x ∷ xs) = refl
 
-infos_without : (due : List Due) → infos_in (without_no_route due) ≡ infos_in due
+pub infos_without : (due : List Due) → infos_in (without_no_route due) ≡ infos_in due
 infos_without [] = refl
 infos_without (no_route_due ∷ due) = refl
 infos_without (Info node ∷ due) = ap (λ (n : ℕ). n + 1) (infos_without due)
