@@ -27,6 +27,7 @@ mod Payloads
 mod Judged
 mod Tallied
 mod Giving
+mod Stamped
 mod Bringing
 mod Going
 mod Homing
