@@ -28,6 +28,7 @@ mod Judged
 mod Tallied
 mod Giving
 mod Stamped
+mod Hearing
 mod Bringing
 mod Going
 mod Homing
