@@ -29,6 +29,7 @@ mod Tallied
 mod Giving
 mod Stamped
 mod Hearing
+mod Finishing
 mod Bringing
 mod Going
 mod Homing
