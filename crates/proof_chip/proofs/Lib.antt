@@ -30,6 +30,7 @@ mod Giving
 mod Stamped
 mod Hearing
 mod Finishing
+mod Arriving
 mod Bringing
 mod Going
 mod Homing
