@@ -19,10 +19,10 @@ use Rattle.outside_model.specs.State.{OuterState, Outcome, and_then, silent}
 use Rattle.outside_model.specs.Chip.{chip_does}
 use Rattle.outside_model.specs.Results.{call_back, leading, no_routes, owes_call}
 use Rattle.proof_line.proofs.ChipAccounts.{call_account, calls_account, no_routes_account, steps_by}
-use Rattle.proof_traffic.specs.Facts.{flying_in, one_if}
-use Rattle.proof_traffic.specs.OnAir.{on_air}
-use Rattle.proof_traffic.specs.OutsideTraffic.{flags}
-use Rattle.proof_walk.proofs.Times.{does_chip, does_time}
+use Rattle.proof_line.specs.proof_traffic.Facts.{flying_in, one_if}
+use Rattle.proof_line.specs.proof_traffic.OnAir.{on_air}
+use Rattle.proof_line.specs.proof_traffic.OutsideTraffic.{flags}
+use Rattle.proof_air.proofs.Times.{does_chip, does_time}
 use Rattle.proof_chip.specs.Tally.{AreNumbered, Outlook, TallyBefore, TallySo, infos_in, numbers_from, outlook, owed}
 use Rattle.proof_chip.proofs.Giving.{Rests, done_rests, map_t}
 use Rattle.proof_chip.proofs.Numbering.{Ends, arrived, over, with_number}

@@ -27,10 +27,10 @@ use Rattle.outside_model.specs.State.{OuterState, Outcome, each, silent, with_ch
 use Rattle.outside_model.specs.Chip.{chip_does, put_out}
 use Rattle.outside_model.specs.Results.{gives, no_route, owes_call, profile_for}
 use Rattle.proof_line.proofs.ChipAccounts.{call_if, due_account, steps_by}
-use Rattle.proof_traffic.specs.Facts.{flying_in, one_if}
-use Rattle.proof_traffic.specs.OnAir.{on_air}
-use Rattle.proof_traffic.specs.OutsideTraffic.{flags, outward}
-use Rattle.proof_walk.proofs.Times.{does_chip, does_time}
+use Rattle.proof_line.specs.proof_traffic.Facts.{flying_in, one_if}
+use Rattle.proof_line.specs.proof_traffic.OnAir.{on_air}
+use Rattle.proof_line.specs.proof_traffic.OutsideTraffic.{flags, outward}
+use Rattle.proof_air.proofs.Times.{does_chip, does_time}
 use Rattle.proof_chip.specs.Tally.{AreNumbered, Counting, Lacks, Outlook, TallyBefore, TallySo, infos_in, numbers_from, outlook, owed}
 use Rattle.proof_chip.proofs.Numbering.{numbers_home}
 use Rattle.proof_chip.proofs.Owing.{last_flies, no_route_quiet, quiet_call, without_call, without_due, infos_without}

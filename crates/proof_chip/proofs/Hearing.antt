@@ -30,10 +30,10 @@ use Rattle.outside_model.specs.Chip.{chip_does}
 use Rattle.outside_model.specs.Air.{deals}
 use Rattle.proof_air.specs.Carrying.{IsHome}
 use Rattle.proof_line.proofs.ChipAccounts.{all_account, heard_account, steps_by}
-use Rattle.proof_traffic.specs.Facts.{one_if}
-use Rattle.proof_traffic.specs.OnAir.{on_air}
-use Rattle.proof_traffic.specs.OutsideTraffic.{flags}
-use Rattle.proof_walk.proofs.Times.{does_chip, does_time}
+use Rattle.proof_line.specs.proof_traffic.Facts.{one_if}
+use Rattle.proof_line.specs.proof_traffic.OnAir.{on_air}
+use Rattle.proof_line.specs.proof_traffic.OutsideTraffic.{flags}
+use Rattle.proof_air.proofs.Times.{does_chip, does_time}
 use Rattle.proof_chip.specs.Tally.{Counting, Outlook, TallyBefore, TallyNow, TallySo, infos_in, numbers_from, outlook}
 use Rattle.proof_chip.proofs.Giving.{Rests, queued_rests}
 use Rattle.proof_chip.proofs.Growing.{serves_aside}

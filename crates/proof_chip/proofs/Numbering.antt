@@ -6,7 +6,7 @@ use Rattle.air_frames.specs.declared.frame.Heading.{Heading}
 use Rattle.air_frames.specs.declared.frame.Heading.TheVariants.{Outward, Homeward}
 use Rattle.air_frames.specs.Flown.{Flown}
 use Rattle.law_wire.specs.Asked.{Sending}
-use Rattle.proof_traffic.specs.OutsideTraffic.{one_outward, outward}
+use Rattle.proof_line.specs.proof_traffic.OutsideTraffic.{one_outward, outward}
 use Rattle.proof_chip.specs.Tally.{AreNumbered, Lacks, number_of, numbers_from}
 
 -- ---- numbers

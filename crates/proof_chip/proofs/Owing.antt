@@ -14,8 +14,8 @@ use Rattle.outside_model.specs.declared.waits.Due.TheVariants.{Info, NoRoute as 
 use Rattle.outside_model.specs.State.{OuterState, Outcome, and_then, each, silent, with_chip}
 use Rattle.outside_model.specs.Chip.{chip_does, put_out}
 use Rattle.outside_model.specs.Results.{call_back, leading, no_route, no_routes, owes_call, without_no_route}
-use Rattle.proof_traffic.specs.Facts.{flying_in}
-use Rattle.proof_traffic.specs.OutsideTraffic.{flags}
+use Rattle.proof_line.specs.proof_traffic.Facts.{flying_in}
+use Rattle.proof_line.specs.proof_traffic.OutsideTraffic.{flags}
 use Rattle.proof_chip.specs.Tally.{infos_in}
 
 abbrev pub without_call : OuterState → OuterState

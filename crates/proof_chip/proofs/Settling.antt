@@ -18,7 +18,7 @@ use Rattle.chip_functions.specs.declared.request.Request.{Request}
 use Rattle.chip_functions.specs.declared.request.Request.TheVariants.{RequestNodeInfo}
 use Rattle.chip_functions.specs.declared.notice.TransmitStatus.TheVariants.{NoRoute}
 use Rattle.outside_model.specs.Devices.{State}
-use Rattle.proof_walk.proofs.Untimed.{IsUntimed}
+use Rattle.proof_air.proofs.Untimed.{IsUntimed}
 use Rattle.proof_air.proofs.Fated.{same_fates}
 use Rattle.proof_air.proofs.Fateless.{IsFateless}
 use Rattle.proof_air.proofs.SentBefore.{same_clock}

@@ -7,7 +7,7 @@ use Rattle.zw_text.specs.declared.entry.Entry.TheVariants as entry
 use Rattle.outside_model.specs.Devices.{State}
 use Rattle.outside_model.specs.State.{OuterState, Outcome}
 use Rattle.outside_model.specs.Events.{has_entered, stamp, ticked_entry}
-use Rattle.proof_walk.specs.Outside.{awaits_number}
+use Rattle.proof_air.specs.proof_walk.Outside.{awaits_number}
 use Rattle.proof_chip.specs.Tally.{Counting, Outlook, TallyBefore, TallyNow, TallySo, outlook}
 use Rattle.proof_chip.proofs.Tallied.{AreApart, Stays, apart_t, before_number_t, before_stays, now_number_t, now_stays}
 

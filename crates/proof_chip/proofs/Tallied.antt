@@ -26,7 +26,7 @@ use Rattle.outside_model.specs.State.{OuterState, Outcome, each, silent, tells, 
 use Rattle.outside_model.specs.Chip.{chip_does, put_out}
 use Rattle.outside_model.specs.Results.{call_back, forgets, no_route, no_routes, owes_call}
 use Rattle.proof_line.proofs.ChipAccounts.{call_account, call_if, forget_if, forgets_account, no_route_account, no_routes_account, steps_by}
-use Rattle.proof_walk.proofs.Times.{does_chip}
+use Rattle.proof_air.proofs.Times.{does_chip}
 use Rattle.proof_chip.specs.Serving.{GoesOn, Serves}
 use Rattle.proof_chip.specs.Tally.{Counting, Outlook, TallyBefore, TallyNow, TallySo}
 use Rattle.proof_chip.proofs.Growing.{serves_aside, serves_event, told as put_by}

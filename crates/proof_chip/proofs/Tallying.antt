@@ -33,9 +33,9 @@ use Rattle.proof_chip.proofs.Passing.{IsOther, others_no_ack}
 use Rattle.proof_chip.proofs.Airing.{same_last}
 use Rattle.proof_chip.proofs.Picking.{shown_both}
 use Rattle.proof_chip.proofs.Replying.{none_filtered}
-use Rattle.proof_traffic.specs.Facts.{one_if}
+use Rattle.proof_line.specs.proof_traffic.Facts.{one_if}
 use Rattle.proof_chip.proofs.Posting.{Fate, Falls, Stays, fate_of}
-use Rattle.proof_walk.proofs.Untimed.{IsUntimed}
+use Rattle.proof_air.proofs.Untimed.{IsUntimed}
 use Rattle.proof_chip.proofs.Settling.{AreIdle, IsIdle, IsNoTick, all_between, asked_still, between, due_still, given_still, idle_clock, idle_due, idle_fates, idle_others, idle_settled, informed_same, none_above, none_between, number_due, settled_all, settled_some, total_both, total_still}
 use Rattle.proof_chip.proofs.Telling.{IsAside, drops_later}
 

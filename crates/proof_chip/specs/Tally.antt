@@ -21,9 +21,9 @@ use Rattle.outside_model.specs.declared.waits.Due.{Due}
 use Rattle.outside_model.specs.declared.waits.Due.TheVariants.{Info, NoRoute as no_route_due}
 use Rattle.outside_model.specs.Devices.{State}
 use Rattle.outside_model.specs.State.{OuterState}
-use Rattle.proof_traffic.specs.Facts.{one_if}
-use Rattle.proof_traffic.specs.OnAir.{on_air}
-use Rattle.proof_traffic.specs.OutsideTraffic.{flags}
+use Rattle.proof_line.specs.proof_traffic.Facts.{one_if}
+use Rattle.proof_line.specs.proof_traffic.OnAir.{on_air}
+use Rattle.proof_line.specs.proof_traffic.OutsideTraffic.{flags}
 use Rattle.proof_chip.specs.Serving.{GoesOn, Serves}
 
 -- ---- of what is outside the host
