@@ -48,7 +48,7 @@ use Rattle.proof_chip.proofs.Passing.{IsOther}
 abbrev pub NotHome : AirState → Type 0
 NotHome air = is_joined air controller ≡ false
 
-other_node : (air : AirState) (node : ℕ) → NotHome air → is_joined air node ≡ true → (node == controller) ≡ false
+pub other_node : (air : AirState) (node : ℕ) → NotHome air → is_joined air node ≡ true → (node == controller) ≡ false
 other_node air node home joins = by (node == controller) refl
   where
     by : (b : Bool) → (node == controller) ≡ b → b ≡ false

@@ -186,7 +186,7 @@ module _ (course : Course) where
       ∙ ap (λ (l : List Asked). sending_after (last_sending course past) l) (append-nil (asked_at course past answer))
 
   -- the requests of the frame that is answered
-  asked_here : (past : List Entry) (f : FrameParts) → slice_get course.passed (acks past) ≡ Some f
+  pub asked_here : (past : List Entry) (f : FrameParts) → slice_get course.passed (acks past) ≡ Some f
       → asked_at course past answer ≡ map (λ (request : Request). record { request = request; past = past }) (listed_of (asked_of f))
   asked_here past f passed =
       ap (λ (o : Option FrameParts). map (λ (request : Request). record { request = request; past = past }) (flat_map requests_of (listed o))) passed

@@ -23,7 +23,7 @@ use Rattle.proof_line.specs.proof_traffic.Facts.{flying_in, one_if}
 use Rattle.proof_line.specs.proof_traffic.OnAir.{on_air}
 use Rattle.proof_line.specs.proof_traffic.OutsideTraffic.{flags}
 use Rattle.proof_air.proofs.Times.{does_chip, does_time}
-use Rattle.proof_chip.specs.Tally.{AreNumbered, Outlook, TallyBefore, TallySo, infos_in, numbers_from, outlook, owed}
+use Rattle.proof_chip.specs.Tally.{AreNumbered, AreOwn, Outlook, TallyBefore, TallySo, infos_in, numbers_from, outlook, owed}
 use Rattle.proof_chip.proofs.Giving.{Rests, done_rests, map_t}
 use Rattle.proof_chip.proofs.Numbering.{Ends, arrived, over, with_number}
 use Rattle.proof_chip.proofs.Owing.{Quieted, Splits, call_quiet, last_flies, no_routes_quiet, quiet_call, quieted, splits, without_call}
@@ -90,6 +90,9 @@ module _ (devices : List State) (v : Outlook) (left number : ℕ) (numbers : Lis
       (subst (λ (l : List ℕ). AreNumbered v.sending v.by_frame l sendings) sees.own was) in
       (got.many, subst (λ (l : List ℕ). AreNumbered later.sending later.by_frame l sendings) (sym looks.rest) got.numbered)
 
+  own_then : (o : OuterState) → Sees o → (later : Outlook) → Looks later → (all : List Entry) → AreOwn all v.numbers → AreOwn all later.numbers
+  own_then o sees later looks all was = subst (λ (l : List ℕ). AreOwn all l) (sym looks.rest) (subst (λ (l : List ℕ). AreOwn all l) sees.own was).1
+
   module _ (o : OuterState) (done : TransmitStatus) (sees : Sees o) (above : AllByRecursion (λ (n : ℕ). number < n) numbers) (behind : List Call) (split : Splits o.calls behind) where
     abbrev lead : ℕ
     lead = leading o.calls
@@ -127,7 +130,7 @@ module _ (devices : List State) (v : Outlook) (left number : ℕ) (numbers : Lis
           (map_t devices (Still 0) (TallyBefore devices later true left false 0)
           (λ count course all was.
           before_next devices course all v later true true false left 0 count 0 count looks.clock (omega (arith, owes)) (λ many is. is ∙ sym owes)
-          (numbered_then o sees later looks above ends (last_sending course all) was.numbered).1 was)
+          (numbered_then o sees later looks above ends (last_sending course all) was.numbered).1 (own_then o sees later looks) was)
           ((did ++ steps_by (no_routes_account lead o)) ++ steps_by (call_account p done)) ((past ++ (no_routes lead o).entries) ++ (call_back p done).entries) (call_back p done).outer.chip.state.port
           (quiet_call_t devices false (Still 0) (before_stays devices v true left false 0) (did ++ steps_by (no_routes_account lead o)) (past ++ (no_routes lead o).entries) p done some
           (quiet_routes_t devices false (Still 0) (before_stays devices v true left false 0) lead did past o few so)));
@@ -184,7 +187,7 @@ module _ (devices : List State) (v : Outlook) (left number : ℕ) (numbers : Lis
           (λ count course all now was. let more = before_above devices course all v left 1 count was in omega (arith, more))
           (λ count course all was.
           before_next devices course all v later true true false left 1 count 0 (count + 1) looks.clock (omega (arith, owes)) (λ many is. is ∙ sym owes)
-          (numbered_then o sees later looks above ends (last_sending course all) was.numbered).1 was)
+          (numbered_then o sees later looks above ends (last_sending course all) was.numbered).1 (own_then o sees later looks) was)
           (quiet_routes_t devices false (Still 1) (before_stays devices v true left false 1) lead did past o few so));
     }
       where

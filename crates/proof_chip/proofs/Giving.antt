@@ -31,7 +31,7 @@ use Rattle.proof_line.specs.proof_traffic.Facts.{flying_in, one_if}
 use Rattle.proof_line.specs.proof_traffic.OnAir.{on_air}
 use Rattle.proof_line.specs.proof_traffic.OutsideTraffic.{flags, outward}
 use Rattle.proof_air.proofs.Times.{does_chip, does_time}
-use Rattle.proof_chip.specs.Tally.{AreNumbered, Counting, Lacks, Outlook, TallyBefore, TallySo, infos_in, numbers_from, outlook, owed}
+use Rattle.proof_chip.specs.Tally.{AreNumbered, AreOwn, Counting, Lacks, Outlook, TallyBefore, TallySo, infos_in, numbers_from, outlook, owed}
 use Rattle.proof_chip.proofs.Numbering.{numbers_home}
 use Rattle.proof_chip.proofs.Owing.{last_flies, no_route_quiet, quiet_call, without_call, without_due, infos_without}
 use Rattle.proof_chip.proofs.Quieting.{IsUnanswered}
@@ -88,6 +88,9 @@ numbered_as v later same sendings was =
     (subst (λ (b : Bool). AreNumbered v.sending b later.numbers sendings) (sym same.by_frame)
     (subst (λ (l : List ℕ). AreNumbered v.sending v.by_frame l sendings) (sym same.numbers) was))
 
+own_as : (v later : Outlook) → Turns v later → (all : List Entry) → AreOwn all v.numbers → AreOwn all later.numbers
+own_as v later same all was = subst (λ (l : List ℕ). AreOwn all l) (sym same.numbers) was
+
 pub owed_as : (v later : Outlook) → Turns v later → (more : ℕ) → v.infos ≡ later.infos + more → owed v ≡ owed later + more
 owed_as v later same more infos =
     let flag : one_if (later.sending && not later.by_frame) ≡ one_if (v.sending && not v.by_frame) = ap₂ (λ (a b : Bool). one_if (a && not b)) same.sending same.by_frame in
@@ -120,9 +123,9 @@ module _ (devices : List State) where
   -- of what is owed so much was given
   less : (v later : Outlook) (awaits : Bool) (more : ℕ) → later.clock ≡ v.clock → owed v ≡ owed later + more
       → ((sendings : List Sending) → AreNumbered v.sending v.by_frame v.numbers sendings → AreNumbered later.sending later.by_frame later.numbers sendings)
-      → (count : ℕ) (course : Course) (past : List Entry) → Before v awaits count course past → Before later awaits (count + more) course past
-  less v later awaits more clock owes numbered count course past was =
-      before_next devices course past v later false false awaits 0 0 count 0 (count + more) clock (omega (arith, owes)) (λ all few. omega (arith, few, owes)) (numbered (last_sending course past) was.numbered) was
+      → ((all : List Entry) → AreOwn all v.numbers → AreOwn all later.numbers) → (count : ℕ) (course : Course) (past : List Entry) → Before v awaits count course past → Before later awaits (count + more) course past
+  less v later awaits more clock owes numbered own count course past was =
+      before_next devices course past v later false false awaits 0 0 count 0 (count + more) clock (omega (arith, owes)) (λ all few. omega (arith, few, owes)) (numbered (last_sending course past) was.numbered) own was
 
   none_more : (v : Outlook) (awaits : Bool) (count : ℕ) (course : Course) (past : List Entry) → Before v awaits (count + 0) course past → Before v awaits count course past
   none_more v awaits count course past was = subst (λ (n : ℕ). Before v awaits n course past) (plus_none count) was
@@ -164,7 +167,7 @@ module _ (devices : List State) where
         let owes = owed_as v later same 1 infos in
         post_t devices awaits (Before v awaits) (Before later awaits) (before_stays devices v false 0 awaits 0) did past p event _ (informed_answers (collides o.chip.state) node (profile_for o.air devices node route)) refl unentered
         (λ count course all now was. above v (owed later) owes awaits count course all now was)
-        (λ count course all was. less v later awaits 1 same.clock owes (numbered_as v later same) count course all was) so
+        (λ count course all was. less v later awaits 1 same.clock owes (numbered_as v later same) (own_as v later same) count course all was) so
 
     -- one without a route, for a SendData that was aborted
     aborted_t : (due : List Due) → o.due ≡ no_route_due ∷ due → 0 < o.chip.state.aborted → TallySo (Before v awaits) did past o.chip.state.port
@@ -177,7 +180,7 @@ module _ (devices : List State) where
         let same : Turns v later = subst (λ (p : OuterState). Turns v (outlook p)) (sym at) (record { sending = refl; by_frame = by; numbers = refl; clock = refl }) in
         let infos : v.infos ≡ later.infos + 0 = sym (infos_without o.due) ∙ ap (λ (p : OuterState). infos_in p.due) (sym at) ∙ plus_none later.infos in
         map_t (Before v awaits) (Before later awaits)
-        (λ count course all was. none_more later awaits count course all (less v later awaits 0 same.clock (owed_as v later same 0 infos) (numbered_as v later same) count course all was))
+        (λ count course all was. none_more later awaits count course all (less v later awaits 0 same.clock (owed_as v later same 0 infos) (numbered_as v later same) (own_as v later same) count course all was))
         (did ++ steps_by (due_account o devices (no_route_due ∷ due) route)) (past ++ (no_route o).entries) (no_route o).outer.chip.state.port
         (quiet_route_t devices awaits (Before v awaits) (before_stays devices v false 0 awaits 0) did past o some so)
       where
@@ -209,7 +212,7 @@ module _ (devices : List State) where
             let infos : v.infos ≡ later.infos + 0 = sym (infos_without o.due) ∙ plus_none later.infos in
             none_so devices (Before later awaits) did past o.chip.state.port
             (map_t (Before v awaits) (Before later awaits)
-            (λ count course all was. none_more later awaits count course all (less v later awaits 0 refl (owed_as v later same 0 infos) (numbered_as v later same) count course all was)) did past o.chip.state.port so)
+            (λ count course all was. none_more later awaits count course all (less v later awaits 0 refl (owed_as v later same 0 infos) (numbered_as v later same) (own_as v later same) count course all was)) did past o.chip.state.port so)
 
     -- that of the SendData under way
     own_t : (due : List Due) → o.due ≡ no_route_due ∷ due → o.chip.state.aborted ≡ 0 → (parts : SendingParts) → o.chip.state.sending ≡ Some parts → (awaits ≡ true → (no_route o).entries ≡ [])
@@ -237,7 +240,7 @@ module _ (devices : List State) where
         λ sendings was. subst (λ (b : Bool). AreNumbered b later.by_frame later.numbers sendings) (sym over) (none_numbered later.numbers numbers later.by_frame sendings) in
         own_call_t devices awaits (Before v awaits) (Before later awaits) (before_stays devices v false 0 awaits 0) did past (without_due o) no_route_status parts none own unentered
         (λ count course all now was. above v (owed later) owes_one awaits count course all now was)
-        (λ count course all was. less v later awaits 1 clock owes_one numbered count course all was) so
+        (λ count course all was. less v later awaits 1 clock owes_one numbered (λ all was. subst (λ (l : List ℕ). AreOwn all l) (sym numbers) tt) count course all was) so
       where
         owes : owes_call o.chip.state ≡ true
         owes = ap₂ (λ (n : ℕ) (x : Option SendingParts). owes_call (record o.chip.state { aborted = n; sending = x })) none own

@@ -212,5 +212,5 @@ module _ (devices : List State) where
       (heard_t (λ coming. TallyBefore devices v true left false coming) (λ coming. before_stays devices v true left false coming)
       (λ count course all was. let more = before_above devices course all v left 1 count was in omega (arith, more))
       (λ count course all was.
-      before_next devices course all v v true true false left 1 count 0 (count + 1) refl (omega arith) (λ many is. is) was.numbered was) did there past o number node payload
+      before_next devices course all v v true true false left 1 count 0 (count + 1) refl (omega arith) (λ many is. is) was.numbered (λ all own. own) was) did there past o number node payload
       (home_t v left did past o.chip.state.port number node payload is other home so))

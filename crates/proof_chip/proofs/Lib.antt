@@ -31,18 +31,24 @@ mod Stamped
 mod Hearing
 mod Finishing
 mod Arriving
+mod Totals
+mod Replied
+mod Leaving
 mod Bringing
 mod Going
 mod Homing
 mod Acting
 mod Keeping
 mod Judges
+mod Items
 mod Mild
 pub mod Airs
 mod Members
 mod Grounds
 mod Served
+mod Landed
 mod Calling
+mod Steady
 mod CallWalk
 pub use Rattle.proof_line.proofs.HeldRecords
 pub use Rattle.proof_line.proofs.FactsKept

@@ -79,7 +79,7 @@ module _ (devices : List State) (Asks : List Entry → Entry → Type 0) (beside
 
 -- ---- the law
 
-goes_none : (course : Course) → GoesOn course course
+pub goes_none : (course : Course) → GoesOn course course
 goes_none course = record { frames = []; flags = []; passed = sym (append-nil course.passed); firsts = sym (append-nil course.firsts) }
 
 module _ (devices : List State) (did : List Step) (here : Phase) (past : List Entry) (m : Machine) (known : KnowAir devices did here past m) where

@@ -1,7 +1,8 @@
 -- What entries that tell neither a line, a tick, a fate nor an answer leave as it is: the clock, which results have come, what was asked, how it ended, and what the chip has for the host.
-use Rattle.std.proofs.Common.{◌≡◌, ◌≤◌, ◌<◌, ℕ, zero, suc, ◌+◌, ◌-◌, ◌==◌, ◌&&◌, ◌||◌, not, nat_le, nat_lt, Bool, true, false, if◌then◌else◌, List, [], ◌∷◌, ◌++◌, filter, length, refl, ap, ap₂, ◌∙◌, append-nil, leb-true, ltb-true, le-leb, eq-eqb, ne_eqb, arith}
-use Rattle.std.proofs.lemmas.Bool.{lt-ltb}
-use Rattle.std.specs.Prelude.{None, slice_get}
+use Rattle.std.proofs.Common.{◌≡◌, ◌≤◌, ◌<◌, ◌⊎◌, ℕ, zero, suc, ◌+◌, ◌-◌, ◌==◌, ◌&&◌, ◌||◌, not, nat_le, nat_lt, Bool, true, false, if◌then◌else◌, inl, inr, List, [], ◌∷◌, ◌++◌, filter, length, refl, sym, ap, ap₂, ◌∙◌, append-nil, leb-true, ltb-true, le-leb, eq-eqb, ne_eqb, arith}
+use Rattle.std.proofs.lemmas.Bool.{cases_lt, lt-ltb}
+use Rattle.std.specs.Prelude.{Option, None, slice_get}
+use Rattle.circular_buffer.proofs.Places.{slice_get-append_right}
 use Rattle.std.specs.List.{AllByRecursion, list_any}
 use Rattle.zw_base.proofs.Each.{all-weaker}
 use Rattle.zw_text.specs.declared.entry.Entry.{Entry}
@@ -22,7 +23,8 @@ use Rattle.proof_air.proofs.Untimed.{IsUntimed}
 use Rattle.proof_air.proofs.Fated.{same_fates}
 use Rattle.proof_air.proofs.Fateless.{IsFateless}
 use Rattle.proof_air.proofs.SentBefore.{same_clock}
-use Rattle.proof_chip.specs.Tally.{total}
+use Rattle.proof_chip.specs.Tally.{AreOwn, total}
+use Rattle.proof_chip.proofs.Agreeing.{get_left}
 use Rattle.proof_chip.proofs.Airing.{IsNoAck, none_asked, same_last}
 use Rattle.proof_chip.proofs.Answered.{GivesNone, given_quietly}
 use Rattle.proof_chip.proofs.Passing.{IsOther, others_no_ack}
@@ -41,7 +43,7 @@ idle_untimed (entry.Said words) idle = absurd idle.0
 idle_untimed (entry.Time tick) idle = absurd idle.0
 idle_untimed e idle = tt
 
-idle_fateless : (e : Entry) → IsIdle e → IsFateless e
+pub idle_fateless : (e : Entry) → IsIdle e → IsFateless e
 idle_fateless (entry.Heard frame) idle = absurd idle.0
 idle_fateless (entry.Lost frame) idle = absurd idle.0
 idle_fateless (entry.Unheard frame) idle = absurd idle.0
@@ -51,7 +53,7 @@ abbrev pub IsNoTick : Entry → Type 0
 IsNoTick (entry.Time tick) = ⊥
 IsNoTick e = Unit {0}
 
-idle_no_tick : (e : Entry) → IsIdle e → IsNoTick e
+pub idle_no_tick : (e : Entry) → IsIdle e → IsNoTick e
 idle_no_tick (entry.Time tick) idle = absurd idle.0
 idle_no_tick e idle = tt
 
@@ -146,7 +148,7 @@ all_between from to (one ∷ all) within =
 abbrev outward_in : List AirFrame → ℕ → Bool
 outward_in all number = list_any (λ (frame : AirFrame). frame.sender == controller) (listed (if nat_lt 0 number then slice_get all (number - 1) else None))
 
-abbrev IsDevices : AirFrame → Type 0
+abbrev pub IsDevices : AirFrame → Type 0
 IsDevices frame = (frame.sender == controller) ≡ false
 
 devices_later : (all more : List AirFrame) (at : ℕ) → AllByRecursion IsDevices more
@@ -157,18 +159,68 @@ devices_later [] [] at none = refl
 devices_later [] (frame ∷ more) zero none = ap (λ (b : Bool). b || false) none.0
 devices_later [] (frame ∷ more) (suc at) none = devices_later [] more at none.1
 
-frames_devices : (told : List Entry) → AllByRecursion IsOther told → AllByRecursion IsDevices (frames told)
+pub frames_devices : (told : List Entry) → AllByRecursion IsOther told → AllByRecursion IsDevices (frames told)
 frames_devices [] others = tt
 frames_devices (entry.Air frame sender receiver repeaters payload ∷ told) others = (others.0, frames_devices told others.1)
 frames_devices (e ∷ told) others = frames_devices told others.1
 
-pub outward_still : (past told : List Entry) → AllByRecursion IsOther told → (number : ℕ) → is_outward (past ++ told) number ≡ is_outward past number
-outward_still past told others number = ap (λ (all : List AirFrame). outward_in all number) (shown-append frame_at past told) ∙ by (nat_lt 0 number)
+pub outward_by : (past told : List Entry) → AllByRecursion IsDevices (frames told) → (number : ℕ) → is_outward (past ++ told) number ≡ is_outward past number
+outward_by past told devices number = ap (λ (all : List AirFrame). outward_in all number) (shown-append frame_at past told) ∙ by (nat_lt 0 number)
   where
     by : (b : Bool) → list_any (λ (frame : AirFrame). frame.sender == controller) (listed (if b then slice_get (frames past ++ frames told) (number - 1) else None))
         ≡ list_any (λ (frame : AirFrame). frame.sender == controller) (listed (if b then slice_get (frames past) (number - 1) else None))
-    by true = devices_later (frames past) (frames told) (number - 1) (frames_devices told others)
+    by true = devices_later (frames past) (frames told) (number - 1) devices
     by false = refl
+
+pub outward_still : (past told : List Entry) → AllByRecursion IsOther told → (number : ℕ) → is_outward (past ++ told) number ≡ is_outward past number
+outward_still past told others number = outward_by past told (frames_devices told others) number
+
+-- one stays so
+get_beyond : {A : Type 0} (xs : List A) (at : ℕ) → length xs ≤ at → slice_get xs at ≡ None
+get_beyond [] at beyond = refl
+get_beyond (x ∷ xs) zero beyond = absurd (omega (arith, beyond))
+get_beyond (x ∷ xs) (suc at) beyond = get_beyond xs at (omega (arith, beyond))
+
+abbrev pub own : Option AirFrame → Bool
+own found = list_any (λ (frame : AirFrame). frame.sender == controller) (listed found)
+
+outward_stays : (past told : List Entry) (number : ℕ) → is_outward past number ≡ true → is_outward (past ++ told) number ≡ true
+outward_stays past told number is = ap (λ (all : List AirFrame). outward_in all number) (shown-append frame_at past told) ∙ by (nat_lt 0 number) (cases_lt (number - 1) (length (frames past))) is
+  where
+    by : (b : Bool) → (number - 1 < length (frames past)) ⊎ (length (frames past) ≤ number - 1) → own (if b then slice_get (frames past) (number - 1) else None) ≡ true
+        → own (if b then slice_get (frames past ++ frames told) (number - 1) else None) ≡ true
+    by false place found = found
+    by true (inl below) found = ap own (get_left (frames past) (frames told) (number - 1) below) ∙ found
+    by true (inr far) found = absurd (let no : false ≡ true = sym (ap own (get_beyond (frames past) (number - 1) far)) ∙ found in cc)
+
+pub own_later : (past told : List Entry) (numbers : List ℕ) → AreOwn past numbers → AreOwn (past ++ told) numbers
+own_later past told numbers are = all-weaker (λ (n : ℕ). is_outward past n ≡ true) (λ (n : ℕ). is_outward (past ++ told) n ≡ true) (λ n is. outward_stays past told n is) numbers are
+
+-- ---- at a number
+
+abbrev found_in : List AirFrame → ℕ → Option AirFrame
+found_in all number = if nat_lt 0 number then slice_get all (number - 1) else None
+
+at_number : (all : List AirFrame) (at : ℕ) → found_in all (at + 1) ≡ slice_get all at
+at_number all at =
+    ap (λ (b : Bool). if b then slice_get all (at + 1 - 1) else None) (lt-ltb 0 (at + 1) (omega arith)) ∙ ap (λ (n : ℕ). slice_get all n) (one_less at)
+  where
+    one_less : (n : ℕ) → n + 1 - 1 ≡ n
+    one_less n = omega arith
+
+-- the next one is none yet
+pub outward_next : (past : List Entry) → is_outward past (length (frames past) + 1) ≡ false
+outward_next past = ap own (at_number (frames past) (length (frames past)) ∙ get_beyond (frames past) (length (frames past)) (omega arith))
+
+-- and is the controller's once it went on the air
+pub outward_sent : (past : List Entry) (number node : ℕ) (repeaters payload : List ℕ) → is_outward (past ++ entry.Air number 1 node repeaters payload ∷ []) (length (frames past) + 1) ≡ true
+outward_sent past number node repeaters payload =
+    let sent : List AirFrame = frames (entry.Air number 1 node repeaters payload ∷ []) in
+    ap own (ap (λ (l : List AirFrame). found_in l (length (frames past) + 1)) (shown-append frame_at past (entry.Air number 1 node repeaters payload ∷ []))
+    ∙ (at_number (frames past ++ sent) (length (frames past)) ∙ slice_get-append_right (frames past) sent (length (frames past)) 0 (plus_none (length (frames past)))))
+  where
+    plus_none : (n : ℕ) → n ≡ n + 0
+    plus_none n = omega arith
 
 -- ---- results
 

@@ -11,11 +11,11 @@ use Rattle.proof_air.specs.proof_walk.Outside.{awaits_number}
 use Rattle.proof_chip.specs.Tally.{Counting, Outlook, TallyBefore, TallyNow, TallySo, outlook}
 use Rattle.proof_chip.proofs.Tallied.{AreApart, Stays, apart_t, before_number_t, before_stays, now_number_t, now_stays}
 
-no_more : (b c : Bool) → (b && not (b || c)) ≡ false
+pub no_more : (b c : Bool) → (b && not (b || c)) ≡ false
 no_more true c = refl
 no_more false c = refl
 
-entered_outlook : (p : OuterState) (told : List Entry) → outlook (has_entered p told) ≡ outlook p
+pub entered_outlook : (p : OuterState) (told : List Entry) → outlook (has_entered p told) ≡ outlook p
 entered_outlook p [] = refl
 entered_outlook p (first ∷ told) = refl
 

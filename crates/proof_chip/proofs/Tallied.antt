@@ -116,7 +116,7 @@ module _ (devices : List State) where
 
   -- ---- an event of the chip that answers no frame
 
-  chip_t : (Before After : Counting) (did : List Step) (past : List Entry) (o : OuterState) (event : ChipEvent)
+  pub chip_t : (Before After : Counting) (did : List Step) (past : List Entry) (o : OuterState) (event : ChipEvent)
       → ((frames : List FrameParts) (serves : Serves did frames past o.chip.state.port) (later : Course) → GoesOn (course_of (did ++ link_steps o.chip.state event)) later → Before (length frames) later past
       → After (length (frames ++ posts o.chip.state event)) later (past ++ put_by did frames past o event serves))
       → TallySo Before did past o.chip.state.port → TallySo After (did ++ link_steps o.chip.state event) (past ++ (chip_does o event).entries) (chip_does o event).outer.chip.state.port

@@ -24,9 +24,10 @@ use Rattle.outside_model.specs.Devices.{State}
 use Rattle.outside_model.specs.State.{OuterState}
 use Rattle.proof_host.proofs.Lists.{each-append, each-anywhere}
 use Rattle.proof_air.proofs.Fated.{same_fates}
+use Rattle.proof_air.proofs.Fateless.{IsFateless}
 use Rattle.proof_air.proofs.SentBefore.{number_clock, same_clock}
 use Rattle.proof_chip.specs.Serving.{GoesOn, Serves}
-use Rattle.proof_chip.specs.Tally.{AreEnough, AreNumbered, IsBefore, IsIn, IsWithin, Outlook, TallyBefore, TallyNow, Timed, many_of, owed, total}
+use Rattle.proof_chip.specs.Tally.{AreEnough, AreNumbered, AreOwn, IsBefore, IsIn, IsWithin, Outlook, TallyBefore, TallyNow, Timed, many_of, owed, total}
 use Rattle.proof_chip.proofs.Growing.{told, told_drops}
 use Rattle.proof_chip.proofs.Ordering.{event_waits}
 use Rattle.proof_chip.proofs.Passing.{IsOther, others_no_ack}
@@ -36,7 +37,7 @@ use Rattle.proof_chip.proofs.Replying.{none_filtered}
 use Rattle.proof_line.specs.proof_traffic.Facts.{one_if}
 use Rattle.proof_chip.proofs.Posting.{Fate, Falls, Stays, fate_of}
 use Rattle.proof_air.proofs.Untimed.{IsUntimed}
-use Rattle.proof_chip.proofs.Settling.{AreIdle, IsIdle, IsNoTick, all_between, asked_still, between, due_still, given_still, idle_clock, idle_due, idle_fates, idle_others, idle_settled, informed_same, none_above, none_between, number_due, settled_all, settled_some, total_both, total_still}
+use Rattle.proof_chip.proofs.Settling.{AreIdle, IsIdle, IsNoTick, all_between, asked_still, between, due_still, given_still, idle_clock, idle_due, idle_fates, idle_others, idle_settled, informed_same, none_above, none_between, number_due, own_later, settled_all, settled_some, total_both, total_still}
 use Rattle.proof_chip.proofs.Telling.{IsAside, drops_later}
 
 -- ---- time
@@ -59,7 +60,7 @@ timed_still clock left past told idle timed = record {
 plus_none : (n : ℕ) → n + 0 ≡ n
 plus_none n = omega arith
 
-settled_now : (clock : ℕ) (past : List Entry) → Timed clock 0 false past → settled_clock past ≡ clock
+pub settled_now : (clock : ℕ) (past : List Entry) → Timed clock 0 false past → settled_clock past ≡ clock
 settled_now clock past timed = settled_all past (sym (plus_none (length (first_fates past))) ∙ timed.fates refl) ∙ timed.now refl
 
 settled_left : (clock left : ℕ) (past : List Entry) → Timed clock (suc left) false past → settled_clock past ≡ clock - 1
@@ -67,6 +68,17 @@ settled_left clock left past timed = settled_some past left (timed.fates refl) �
 
 settled_was : (clock left : ℕ) (past : List Entry) → Timed clock left true past → settled_clock past < clock
 settled_was clock left past timed = let is = settled_all past (timed.landed refl) in let below = timed.was refl in omega (arith, is, below)
+
+-- through entries that tell neither a time nor a fate
+pub timed_through : (clock left : ℕ) (past told : List Entry) → AllByRecursion IsUntimed told → AllByRecursion IsFateless told → AllByRecursion IsNoTick told → Timed clock left false past
+    → Timed clock left false (past ++ told)
+timed_through clock left past told untimed fateless no_tick timed = record {
+  now = λ is. same_clock past told untimed ∙ timed.now refl;
+  was = λ is. not_so is;
+  fates = λ is. ap (λ (l : List ℕ). length l + left) (same_fates past told fateless) ∙ (timed.fates refl ∙ sym (due_still past told no_tick));
+  landed = λ is. not_so is;
+  sent = λ is. not_so is;
+}
 
 -- with the number of the tick
 timed_number : (clock left : ℕ) (past : List Entry) → Timed clock left true past → Timed clock left false (past ++ entry.Time clock ∷ [])
@@ -102,7 +114,7 @@ parts_given make handlers ended results =
     ∙ ap (λ (n : ℕ). n + length results) (length-append handlers (map make ended) ∙ ap (λ (n : ℕ). length handlers + n) (length-map ended make))
 
 -- nothing can be asked before a tick and from it on
-none_within : (course : Course) (past : List Entry) (from to : ℕ) → to ≤ from → (all : List Asked) → AllByRecursion (IsWithin from to) all → total course past all ≡ 0
+pub none_within : (course : Course) (past : List Entry) (from to : ℕ) → to ≤ from → (all : List Asked) → AllByRecursion (IsWithin from to) all → total course past all ≡ 0
 none_within course past from to above [] within = refl
 none_within course past from to above (one ∷ all) within = absurd (let first = within.0.0 in let last = within.0.1 in omega (arith, above, first, last))
 
@@ -210,6 +222,7 @@ module _ (devices : List State) (course : Course) (past : List Entry) where
       record {
         waits = each-append (MayWait devices course) [] past told was.waits waits;
         numbered = subst (λ (l : List Sending). AreNumbered v.sending v.by_frame v.numbers l) (sym (same_last course past told (others_no_ack told others))) was.numbered;
+        own = own_later past told v.numbers was.own;
         timed = timed_still v.clock 0 past told idle was.timed;
         old = was.old;
         silent = was.silent;
@@ -218,6 +231,7 @@ module _ (devices : List State) (course : Course) (past : List Entry) where
         settled = subst (λ (n : ℕ). AllByRecursion (IsBefore n) was.old) (sym (idle_settled past told idle)) was.settled;
         unsettled = subst (λ (n : ℕ). AllByRecursion (IsWithin n v.clock) was.silent) (sym (idle_settled past told idle)) was.unsettled;
         new = was.new;
+        informs = was.informs;
         owes = total_still course past told others was.here ∙ was.owes;
         many = ap₂ (λ (m n : ℕ). m + n) (ap length (given_still devices course past told idle)) (total_still course past told others was.silent) ∙ was.many;
       }
@@ -230,6 +244,7 @@ module _ (devices : List State) (course : Course) (past : List Entry) where
       record {
         waits = each-append (MayWait devices course) [] past told was.waits waits;
         numbered = subst (λ (l : List Sending). AreNumbered v.sending v.by_frame v.numbers l) (sym (same_last course past told (others_no_ack told others))) was.numbered;
+        own = own_later past told v.numbers was.own;
         timed = timed_still v.clock left past told idle was.timed;
         begun = was.begun;
         old = was.old;
@@ -279,6 +294,7 @@ module _ (devices : List State) (course : Course) (past : List Entry) where
       record {
         waits = each-append (MayWait devices course) [] past (e ∷ []) was.waits (few (omega (arith, many)), tt);
         numbered = subst (λ (l : List Sending). AreNumbered v.sending v.by_frame v.numbers l) (sym (same_last course past (e ∷ []) (tt, tt))) was.numbered;
+        own = own_later past (e ∷ []) v.numbers was.own;
         timed = timed;
         old = was.old ++ was.silent;
         silent = [];
@@ -290,6 +306,7 @@ module _ (devices : List State) (course : Course) (past : List Entry) where
             (all-weaker (IsWithin from v.clock) (IsBefore v.clock) (λ one is. is.1) was.silent was.unsettled));
         unsettled = tt;
         new = was.new;
+        informs = was.informs;
         owes = total_still course past (e ∷ []) (tt, tt) was.here ∙ was.owes;
         many = omega (arith, grown, more, many);
       }
@@ -322,6 +339,7 @@ module _ (devices : List State) (course : Course) (past : List Entry) where
       record {
         waits = each-append (MayWait devices course) [] past (e ∷ []) was.waits (few (before_given v arriving 0 count true before was), tt);
         numbered = subst (λ (l : List Sending). AreNumbered v.sending v.by_frame v.numbers l) (sym (same_last course past (e ∷ []) (tt, tt))) was.numbered;
+        own = own_later past (e ∷ []) v.numbers was.own;
         timed = timed;
         begun = was.begun;
         old = was.old ++ (was.silent ++ was.last);
@@ -363,6 +381,7 @@ module _ (devices : List State) (course : Course) (past : List Entry) where
       record {
         waits = each-append (MayWait devices course) [] past (e ∷ []) was.waits (few (before_given v true (suc left) count true before was), tt);
         numbered = subst (λ (l : List Sending). AreNumbered v.sending v.by_frame v.numbers l) (sym (same_last course past (e ∷ []) (tt, tt))) was.numbered;
+        own = own_later past (e ∷ []) v.numbers was.own;
         timed = timed;
         begun = was.begun;
         old = was.old ++ was.silent;
@@ -437,6 +456,7 @@ module _ (devices : List State) (course : Course) (past : List Entry) where
       record {
         waits = each-append (MayWait devices course) [] past (e ∷ []) was.waits (fate_waits e fate (few (before_given v true 1 count false (let begun = was.begun in omega (arith, at, begun)) was)), tt);
         numbered = numbered_one v.sending v.by_frame v.numbers e fate was.numbered;
+        own = own_later past (e ∷ []) v.numbers was.own;
         timed = timed;
         begun = was.begun;
         old = was.old ++ (was.silent ++ was.last);
@@ -475,6 +495,7 @@ module _ (devices : List State) (course : Course) (past : List Entry) where
       record {
         waits = each-append (MayWait devices course) [] past (e ∷ []) was.waits (fate_waits e fate (few (before_given v true (suc (suc left)) count false below was)), tt);
         numbered = numbered_one v.sending v.by_frame v.numbers e fate was.numbered;
+        own = own_later past (e ∷ []) v.numbers was.own;
         timed = timed;
         begun = was.begun;
         old = was.old;
@@ -511,6 +532,7 @@ module _ (devices : List State) (course : Course) (past : List Entry) where
       record {
         waits = each-append (MayWait devices course) [] past (e ∷ []) was.waits (fate_waits e fate (few (omega (arith, many))), tt);
         numbered = numbered_one v.sending v.by_frame v.numbers e fate was.numbered;
+        own = own_later past (e ∷ []) v.numbers was.own;
         timed = timed;
         old = was.old;
         silent = was.silent;
@@ -519,6 +541,7 @@ module _ (devices : List State) (course : Course) (past : List Entry) where
         settled = subst (λ (n : ℕ). AllByRecursion (IsBefore n) was.old) (sym same) was.settled;
         unsettled = subst (λ (n : ℕ). AllByRecursion (IsWithin n v.clock) was.silent) (sym same) was.unsettled;
         new = was.new;
+        informs = was.informs;
         owes = here ∙ was.owes;
         many = omega (arith, grown, own, more, many, silent);
       }
@@ -551,6 +574,7 @@ module _ (devices : List State) (course : Course) (past : List Entry) where
       record {
         waits = each-append (MayWait devices course) [] past (e ∷ []) was.waits (few (omega (arith, many)), tt);
         numbered = subst (λ (l : List Sending). AreNumbered v.sending v.by_frame v.numbers l) (sym (same_last course past (e ∷ []) (tt, tt))) was.numbered;
+        own = own_later past (e ∷ []) v.numbers was.own;
         timed = timed;
         old = was.old ++ was.silent;
         silent = [];
@@ -562,6 +586,7 @@ module _ (devices : List State) (course : Course) (past : List Entry) where
             (all-weaker (IsWithin from v.clock) (IsBefore v.clock) (λ one is. is.1) was.silent was.unsettled));
         unsettled = tt;
         new = was.new;
+        informs = was.informs;
         owes = total_still course past (e ∷ []) (tt, tt) was.here ∙ was.owes;
         many = omega (arith, grown, more, many);
       }
@@ -583,6 +608,7 @@ module _ (devices : List State) (course : Course) (past : List Entry) where
     numbered = subst (λ (b : Bool). AreNumbered b later.by_frame later.numbers last) (sym sending)
         (subst (λ (b : Bool). AreNumbered v.sending b later.numbers last) (sym by_frame)
         (subst (λ (l : List ℕ). AreNumbered v.sending v.by_frame l last) (sym numbers) was.numbered));
+    own = subst (λ (l : List ℕ). AreOwn past l) (sym numbers) was.own;
     timed = record {
       now = λ is. not_now is;
       was = λ is. by awaits was.timed;
@@ -620,11 +646,15 @@ module _ (devices : List State) (course : Course) (past : List Entry) where
       above true timed = let below = settled_was v.clock 0 past timed in omega (arith, below)
       above false timed = let is = settled_now v.clock past timed in omega (arith, is)
 
+  no_infos : (m n : ℕ) → m + n ≡ 0 → 0 ≡ m
+  no_infos m n none = omega (arith, none)
+
   -- all results have come
   pub before_over : (v : Outlook) (arriving awaits : Bool) (count : ℕ) → owed v ≡ 0 → TallyBefore devices v arriving 0 awaits 0 count course past → TallyNow devices v awaits 0 count course past
   before_over v arriving awaits count none was = record {
     waits = was.waits;
     numbered = was.numbered;
+    own = was.own;
     timed = was.timed;
     old = was.old;
     silent = was.silent ++ was.last;
@@ -635,6 +665,7 @@ module _ (devices : List State) (course : Course) (past : List Entry) where
         (all-weaker _ (IsWithin (settled_clock past) v.clock) (λ one is. (is.0, let below = is.1 in omega (arith, below))) was.silent was.unsettled)
         (all-weaker _ (IsWithin (settled_clock past) v.clock) (λ one is. (is.0, let at = is.1 in omega (arith, at))) was.last was.new);
     new = tt;
+    informs = no_infos v.infos (one_if (v.sending && not v.by_frame)) none;
     owes = sym none;
     many = let many = was.many in let both = total_both course past was.silent was.last in omega (arith, many, both, none);
   }
@@ -692,6 +723,7 @@ module _ (devices : List State) (course : Course) (past : List Entry) where
   now_count v awaits coming count left more same was = record {
     waits = was.waits;
     numbered = was.numbered;
+    own = was.own;
     timed = was.timed;
     old = was.old;
     silent = was.silent;
@@ -700,6 +732,7 @@ module _ (devices : List State) (course : Course) (past : List Entry) where
     settled = was.settled;
     unsettled = was.unsettled;
     new = was.new;
+    informs = was.informs;
     owes = was.owes;
     many = was.many ∙ sym same;
   }
@@ -707,10 +740,12 @@ module _ (devices : List State) (course : Course) (past : List Entry) where
   -- what is outside has changed, and of what is owed so much was given
   pub before_next : (v later : Outlook) (arriving now awaits : Bool) (left coming count still more : ℕ) → later.clock ≡ v.clock → (owed later + still) + more ≡ (owed v + coming) + count
       → ((all : ℕ) → AreEnough arriving all (owed v) → AreEnough now all (owed later)) → AreNumbered later.sending later.by_frame later.numbers (last_sending course past)
-      → TallyBefore devices v arriving left awaits coming count course past → TallyBefore devices later now left awaits still more course past
-  before_next v later arriving now awaits left coming count still more clock owes enough numbered was = record {
+      → ((all : List Entry) → AreOwn all v.numbers → AreOwn all later.numbers) → TallyBefore devices v arriving left awaits coming count course past
+      → TallyBefore devices later now left awaits still more course past
+  before_next v later arriving now awaits left coming count still more clock owes enough numbered own was = record {
     waits = was.waits;
     numbered = numbered;
+    own = own past was.own;
     timed = subst (λ (n : ℕ). Timed n left awaits past) (sym clock) was.timed;
     begun = subst (λ (n : ℕ). 0 < n) (sym clock) was.begun;
     old = was.old;

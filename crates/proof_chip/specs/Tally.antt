@@ -14,9 +14,11 @@ use Rattle.zw_text.specs.Transcript.{frames}
 use Rattle.law_transcript.specs.Lists.{EachAfter, last_or}
 use Rattle.law_transcript.specs.Fates.{first_fates, flying}
 use Rattle.law_wire.specs.Asked.{Asked, Course, Sending, asked, clock_of, course_of, last_sending}
-use Rattle.law_wire.specs.Results.{ended_without, settled_clock}
+use Rattle.law_wire.specs.Results.{ended_without, is_outward, settled_clock}
 use Rattle.law_wire.specs.Given.{given, information_of}
 use Rattle.law_wire.specs.Answering.{MayWait}
+use Rattle.chip_functions.specs.declared.request.Request.{Request}
+use Rattle.chip_functions.specs.declared.request.Request.TheVariants.{RequestNodeInfo}
 use Rattle.outside_model.specs.declared.waits.Due.{Due}
 use Rattle.outside_model.specs.declared.waits.Due.TheVariants.{Info, NoRoute as no_route_due}
 use Rattle.outside_model.specs.Devices.{State}
@@ -73,6 +75,10 @@ AreNumbered false by_frame numbers sendings = AllByRecursion (λ (one : Sending)
 AreNumbered true true numbers sendings = (one : Sending) × (sendings ≡ one ∷ []) × (before : List ℕ) × (numbers ≡ before ++ one.frame ∷ [])
 AreNumbered true false numbers sendings = (one : Sending) × (sendings ≡ one ∷ []) × Lacks numbers one.frame
 
+-- the numbers are of frames that the transcript has of the controller
+abbrev pub AreOwn : List Entry → List ℕ → Type 0
+AreOwn past numbers = AllByRecursion (λ (n : ℕ). is_outward past n ≡ true) numbers
+
 -- ---- time
 
 -- so many fates are to come in the running tick, whose number may still be entered
@@ -93,6 +99,15 @@ abbrev pub total : Course → List Entry → List Asked → ℕ
 total course past [] = 0
 total course past (one ∷ more) = many_of course past one + total course past more
 
+-- so many informations are asked for
+abbrev pub informed : Request → ℕ
+informed (RequestNodeInfo node) = 1
+informed request = 0
+
+abbrev pub infos_asked : List Asked → ℕ
+infos_asked [] = 0
+infos_asked (one ∷ more) = informed one.request + infos_asked more
+
 -- asked in a tick before this one, in one from the first to before the second, or in the tick of that clock
 abbrev pub IsBefore : ℕ → Asked → Type 0
 IsBefore clock one = clock_of one.past < clock
@@ -110,6 +125,7 @@ IsIn clock one = clock_of one.past ≡ clock
 pub record TallyNow (devices : List State) (v : Outlook) (awaits : Bool) (coming count : ℕ) (course : Course) (past : List Entry) : Type 0 where
   pub waits : EachAfter (MayWait devices course) [] past
   pub numbered : AreNumbered v.sending v.by_frame v.numbers (last_sending course past)
+  pub own : AreOwn past v.numbers
   pub timed : Timed v.clock 0 awaits past
   pub old : List Asked
   pub silent : List Asked
@@ -118,6 +134,7 @@ pub record TallyNow (devices : List State) (v : Outlook) (awaits : Bool) (coming
   pub settled : AllByRecursion (IsBefore (settled_clock past)) old
   pub unsettled : AllByRecursion (IsWithin (settled_clock past) v.clock) silent
   pub new : AllByRecursion (IsIn v.clock) here
+  pub informs : infos_asked here ≡ v.infos
   pub owes : total course past here ≡ owed v
   pub many : length (given devices course past) + total course past silent ≡ count + coming
 
@@ -131,6 +148,7 @@ AreEnough false all left = left ≤ all
 pub record TallyBefore (devices : List State) (v : Outlook) (arriving : Bool) (left : ℕ) (awaits : Bool) (coming count : ℕ) (course : Course) (past : List Entry) : Type 0 where
   pub waits : EachAfter (MayWait devices course) [] past
   pub numbered : AreNumbered v.sending v.by_frame v.numbers (last_sending course past)
+  pub own : AreOwn past v.numbers
   pub timed : Timed v.clock left awaits past
   pub begun : 0 < v.clock
   pub old : List Asked
