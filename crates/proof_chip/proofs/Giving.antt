@@ -139,7 +139,7 @@ module _ (devices : List State) where
   above v more owes false count course past is was = let many = give_above devices course past v false count was in omega (arith, many, owes)
 
   -- while no frame of the chip is on the air
-  module _ (o : OuterState) (route : Option Route) (calm : flying_in (flags o.calls) ≡ 0) (each_call : length o.calls ≡ o.chip.state.aborted + one_if (is_some o.chip.state.sending))
+  module _ (there : List State) (o : OuterState) (route : Option Route) (calm : flying_in (flags o.calls) ≡ 0) (each_call : length o.calls ≡ o.chip.state.aborted + one_if (is_some o.chip.state.sending))
       (clear : outward (on_air o.air.frames) ≡ 0) (awaits : Bool) (did : List Step) (past : List Entry) where
     abbrev v : Outlook
     v = outlook o
@@ -148,14 +148,14 @@ module _ (devices : List State) where
     informed_answers true node profile = tt
     informed_answers false node profile = tt
 
-    pub info_t : (node : ℕ) (due : List Due) → o.due ≡ Info node ∷ due → (awaits ≡ true → (gives o devices (Info node ∷ due) route).entries ≡ []) → TallySo (Before v awaits) did past o.chip.state.port
-        → TallySo (Before (outlook (gives o devices (Info node ∷ due) route).outer) awaits) (did ++ steps_by (due_account o devices (Info node ∷ due) route))
-        (past ++ (gives o devices (Info node ∷ due) route).entries) (gives o devices (Info node ∷ due) route).outer.chip.state.port
+    pub info_t : (node : ℕ) (due : List Due) → o.due ≡ Info node ∷ due → (awaits ≡ true → (gives o there (Info node ∷ due) route).entries ≡ []) → TallySo (Before v awaits) did past o.chip.state.port
+        → TallySo (Before (outlook (gives o there (Info node ∷ due) route).outer) awaits) (did ++ steps_by (due_account o there (Info node ∷ due) route))
+        (past ++ (gives o there (Info node ∷ due) route).entries) (gives o there (Info node ∷ due) route).outer.chip.state.port
     info_t node due is unentered so =
         let p : OuterState = record o { due = due } in
-        let event : ChipEvent = Informed node (profile_for o.air devices node route) in
+        let event : ChipEvent = Informed node (profile_for o.air there node route) in
         let x : Outcome = chip_does p event in
-        let rests = informed_rests p node (profile_for o.air devices node route) in
+        let rests = informed_rests p node (profile_for o.air there node route) in
         let later : Outlook = outlook x.outer in
         let same : Turns v later = record {
           sending = ap (λ (s : ChipState). is_some s.sending) (does_chip p event);
@@ -165,13 +165,13 @@ module _ (devices : List State) where
         } in
         let infos : v.infos ≡ later.infos + 1 = ap infos_in is ∙ ap (λ (l : List Due). infos_in l + 1) (sym rests.due) in
         let owes = owed_as v later same 1 infos in
-        post_t devices awaits (Before v awaits) (Before later awaits) (before_stays devices v false 0 awaits 0) did past p event _ (informed_answers (collides o.chip.state) node (profile_for o.air devices node route)) refl unentered
+        post_t devices awaits (Before v awaits) (Before later awaits) (before_stays devices v false 0 awaits 0) did past p event _ (informed_answers (collides o.chip.state) node (profile_for o.air there node route)) refl unentered
         (λ count course all now was. above v (owed later) owes awaits count course all now was)
         (λ count course all was. less v later awaits 1 same.clock owes (numbered_as v later same) (own_as v later same) count course all was) so
 
     -- one without a route, for a SendData that was aborted
     aborted_t : (due : List Due) → o.due ≡ no_route_due ∷ due → 0 < o.chip.state.aborted → TallySo (Before v awaits) did past o.chip.state.port
-        → TallySo (Before (outlook (no_route o).outer) awaits) (did ++ steps_by (due_account o devices (no_route_due ∷ due) route)) (past ++ (no_route o).entries) (no_route o).outer.chip.state.port
+        → TallySo (Before (outlook (no_route o).outer) awaits) (did ++ steps_by (due_account o there (no_route_due ∷ due) route)) (past ++ (no_route o).entries) (no_route o).outer.chip.state.port
     aborted_t due is some so =
         let later : Outlook = outlook (no_route o).outer in
         let q : OuterState = quiet_call (without_due o) in
@@ -181,7 +181,7 @@ module _ (devices : List State) where
         let infos : v.infos ≡ later.infos + 0 = sym (infos_without o.due) ∙ ap (λ (p : OuterState). infos_in p.due) (sym at) ∙ plus_none later.infos in
         map_t (Before v awaits) (Before later awaits)
         (λ count course all was. none_more later awaits count course all (less v later awaits 0 same.clock (owed_as v later same 0 infos) (numbered_as v later same) (own_as v later same) count course all was))
-        (did ++ steps_by (due_account o devices (no_route_due ∷ due) route)) (past ++ (no_route o).entries) (no_route o).outer.chip.state.port
+        (did ++ steps_by (due_account o there (no_route_due ∷ due) route)) (past ++ (no_route o).entries) (no_route o).outer.chip.state.port
         (quiet_route_t devices awaits (Before v awaits) (before_stays devices v false 0 awaits 0) did past o some so)
       where
         plus_none : (n : ℕ) → n ≡ n + 0
@@ -189,7 +189,7 @@ module _ (devices : List State) where
 
     -- where none is under way either
     idle_t : (due : List Due) → o.due ≡ no_route_due ∷ due → o.chip.state.aborted ≡ 0 → o.chip.state.sending ≡ None → TallySo (Before v awaits) did past o.chip.state.port
-        → TallySo (Before (outlook (no_route o).outer) awaits) (did ++ steps_by (due_account o devices (no_route_due ∷ due) route)) (past ++ (no_route o).entries) (no_route o).outer.chip.state.port
+        → TallySo (Before (outlook (no_route o).outer) awaits) (did ++ steps_by (due_account o there (no_route_due ∷ due) route)) (past ++ (no_route o).entries) (no_route o).outer.chip.state.port
     idle_t due is none own so = by (owes_call o.chip.state) refl
       where
         plus_none : (n : ℕ) → n ≡ n + 0
@@ -217,7 +217,7 @@ module _ (devices : List State) where
     -- that of the SendData under way
     own_t : (due : List Due) → o.due ≡ no_route_due ∷ due → o.chip.state.aborted ≡ 0 → (parts : SendingParts) → o.chip.state.sending ≡ Some parts → (awaits ≡ true → (no_route o).entries ≡ [])
         → TallySo (Before v awaits) did past o.chip.state.port
-        → TallySo (Before (outlook (no_route o).outer) awaits) (did ++ steps_by (due_account o devices (no_route_due ∷ due) route)) (past ++ (no_route o).entries) (no_route o).outer.chip.state.port
+        → TallySo (Before (outlook (no_route o).outer) awaits) (did ++ steps_by (due_account o there (no_route_due ∷ due) route)) (past ++ (no_route o).entries) (no_route o).outer.chip.state.port
     own_t due is none parts own unentered so =
         let p : OuterState = without_call (without_due o) in
         let y : Outcome = chip_does p (Done no_route_status) in
@@ -245,15 +245,15 @@ module _ (devices : List State) where
         owes : owes_call o.chip.state ≡ true
         owes = ap₂ (λ (n : ℕ) (x : Option SendingParts). owes_call (record o.chip.state { aborted = n; sending = x })) none own
 
-    pub gives_t : (due : List Due) → o.due ≡ due → (awaits ≡ true → (gives o devices due route).entries ≡ []) → TallySo (Before v awaits) did past o.chip.state.port
-        → TallySo (Before (outlook (gives o devices due route).outer) awaits) (did ++ steps_by (due_account o devices due route)) (past ++ (gives o devices due route).entries)
-        (gives o devices due route).outer.chip.state.port
+    pub gives_t : (due : List Due) → o.due ≡ due → (awaits ≡ true → (gives o there due route).entries ≡ []) → TallySo (Before v awaits) did past o.chip.state.port
+        → TallySo (Before (outlook (gives o there due route).outer) awaits) (did ++ steps_by (due_account o there due route)) (past ++ (gives o there due route).entries)
+        (gives o there due route).outer.chip.state.port
     gives_t [] is unentered so = none_so devices (Before v awaits) did past o.chip.state.port so
     gives_t (Info node ∷ due) is unentered so = info_t node due is unentered so
     gives_t (no_route_due ∷ due) is unentered so = by o.chip.state.aborted refl o.chip.state.sending refl
       where
         by : (n : ℕ) → o.chip.state.aborted ≡ n → (x : Option SendingParts) → o.chip.state.sending ≡ x
-            → TallySo (Before (outlook (no_route o).outer) awaits) (did ++ steps_by (due_account o devices (no_route_due ∷ due) route)) (past ++ (no_route o).entries) (no_route o).outer.chip.state.port
+            → TallySo (Before (outlook (no_route o).outer) awaits) (did ++ steps_by (due_account o there (no_route_due ∷ due) route)) (past ++ (no_route o).entries) (no_route o).outer.chip.state.port
         by zero none None own = idle_t due is none own so
         by zero none (Some parts) own = own_t due is none parts own unentered so
         by (suc n) some x own = aborted_t due is (omega (arith, some)) so

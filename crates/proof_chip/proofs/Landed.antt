@@ -67,8 +67,8 @@ use Rattle.proof_chip.proofs.Calling.{flying}
 use Rattle.proof_chip.proofs.Finishing.{Sees}
 use Rattle.proof_chip.proofs.Hearing.{hears_again_t, hears_home_t}
 use Rattle.proof_chip.proofs.Numbering.{numbers_above, numbers_many}
-use Rattle.proof_chip.proofs.Served.{goes_none}
 use Rattle.proof_chip.proofs.Settling.{own}
+use Rattle.proof_chip.proofs.Standing.{goes_none}
 use Rattle.proof_chip.proofs.Steady.{Stays, answers_stay, homes_numbers, stays_looks}
 use Rattle.proof_chip.proofs.Tallied.{AreApart, apart_t, none_so, now_stays}
 use Rattle.proof_chip.proofs.Tallying.{IsFate}
@@ -190,8 +190,8 @@ module _ (devices : List State) (laws : Laws) (past : List Entry) (w : Outside) 
   abbrev v : Outlook
   v = outlook w.outer
 
-  abbrev number : ℕ
-  number = w.outer.air.frames.landed + 1
+  abbrev its_number : ℕ
+  its_number = w.outer.air.frames.landed + 1
 
   fly : Fly tie.log (flight ∷ flights) w.outer.air.frames
   fly = subst (λ (fs : List Flown). Fly tie.log fs w.outer.air.frames) on (flying tie.log w.outer.air.frames tie.kept)
@@ -224,49 +224,49 @@ module _ (devices : List State) (laws : Laws) (past : List Entry) (w : Outside) 
         numbers =
             ap (λ (fs : FramesState). numbers_from (fs.landed + 1) (on_air fs)) is
             ∙ (ap (λ (fs : List Flown). numbers_from (w.outer.air.frames.landed + 1 + 1) fs) (sym are)
-            ∙ sym (ap (λ (fs : List Flown). numbers_from (w.outer.air.frames.landed + 1) fs) on ∙ ap (λ (h : Heading). number_of h number ++ numbers_from (number + 1) flights) heads));
+            ∙ sym (ap (λ (fs : List Flown). numbers_from (w.outer.air.frames.landed + 1) fs) on ∙ ap (λ (h : Heading). number_of h its_number ++ numbers_from (its_number + 1) flights) heads));
       }) refl refl
 
-  not_outward : flight.heading ≡ Homeward → is_outward here number ≡ false
-  not_outward heads = same_outward here past same number ∙ subst (λ (n : ℕ). is_outward past n ≡ false) (plus_one w.outer.air.frames.landed) (home_at past w tie w.outer.air.frames.landed flight stands heads)
+  not_outward : flight.heading ≡ Homeward → is_outward here its_number ≡ false
+  not_outward heads = same_outward here past same its_number ∙ subst (λ (n : ℕ). is_outward past n ≡ false) (plus_one w.outer.air.frames.landed) (home_at past w tie w.outer.air.frames.landed flight stands heads)
 
-  home_lost : (m : Mesh) → m.air.frames ≡ landing w.outer.air.frames → flight.heading ≡ Homeward → Ends m (tells.Lost number ∷ [])
+  home_lost : (m : Mesh) → m.air.frames ≡ landing w.outer.air.frames → flight.heading ≡ Homeward → Ends m (tells.Lost its_number ∷ [])
   home_lost m is heads =
-      subst (λ (u : Outlook). TallySo (TallyBefore devices u true left false 0) (did ++ []) (here ++ entry.Lost number ∷ []) w.outer.chip.state.port) (sym (home_looks m.air is heads))
-      (subst (λ (l : List Step). TallySo (TallyBefore devices v true left false 0) l (here ++ entry.Lost number ∷ []) w.outer.chip.state.port) (sym (append-nil did))
-      (lost_home_t devices v did here left number (entry.Lost number) w.outer.chip.state.port tt refl (lost_brings_none here number (not_outward heads)) so))
+      subst (λ (u : Outlook). TallySo (TallyBefore devices u true left false 0) (did ++ []) (here ++ entry.Lost its_number ∷ []) w.outer.chip.state.port) (sym (home_looks m.air is heads))
+      (subst (λ (l : List Step). TallySo (TallyBefore devices v true left false 0) l (here ++ entry.Lost its_number ∷ []) w.outer.chip.state.port) (sym (append-nil did))
+      (lost_home_t devices v did here left its_number (entry.Lost its_number) w.outer.chip.state.port tt refl (lost_brings_none here its_number (not_outward heads)) so))
 
-  home_unheard : (m : Mesh) → m.air.frames ≡ landing w.outer.air.frames → flight.heading ≡ Homeward → Ends m (tells.Unheard number ∷ [])
+  home_unheard : (m : Mesh) → m.air.frames ≡ landing w.outer.air.frames → flight.heading ≡ Homeward → Ends m (tells.Unheard its_number ∷ [])
   home_unheard m is heads =
-      subst (λ (u : Outlook). TallySo (TallyBefore devices u true left false 0) (did ++ []) (here ++ entry.Unheard number ∷ []) w.outer.chip.state.port) (sym (home_looks m.air is heads))
-      (subst (λ (l : List Step). TallySo (TallyBefore devices v true left false 0) l (here ++ entry.Unheard number ∷ []) w.outer.chip.state.port) (sym (append-nil did))
-      (lost_home_t devices v did here left number (entry.Unheard number) w.outer.chip.state.port tt refl (unheard_brings_none here number (not_outward heads)) so))
+      subst (λ (u : Outlook). TallySo (TallyBefore devices u true left false 0) (did ++ []) (here ++ entry.Unheard its_number ∷ []) w.outer.chip.state.port) (sym (home_looks m.air is heads))
+      (subst (λ (l : List Step). TallySo (TallyBefore devices v true left false 0) l (here ++ entry.Unheard its_number ∷ []) w.outer.chip.state.port) (sym (append-nil did))
+      (lost_home_t devices v did here left its_number (entry.Unheard its_number) w.outer.chip.state.port tt refl (unheard_brings_none here its_number (not_outward heads)) so))
 
-  home_heard : (m : Mesh) → m.air.frames ≡ landing w.outer.air.frames → flight.heading ≡ Homeward → Ends m (tells.Heard number ∷ tells.ToChip number flight.node flight.payload ∷ [])
+  home_heard : (m : Mesh) → m.air.frames ≡ landing w.outer.air.frames → flight.heading ≡ Homeward → Ends m (tells.Heard its_number ∷ tells.ToChip its_number flight.node flight.payload ∷ [])
   home_heard m is heads =
-      hears_home_t devices m.devices (with_air m.air) left did here number flight.node flight.payload apart (not_outward heads) (same_home here past same number flight.node flight.payload (next_home past w tie flight next heads))
+      hears_home_t devices m.devices (with_air m.air) left did here its_number flight.node flight.payload apart (not_outward heads) (same_home here past same its_number flight.node flight.payload (next_home past w tie flight next heads))
       (subst (λ (u : Outlook). TallySo (TallyBefore devices u true (suc left) false 0) did here w.outer.chip.state.port) (sym (home_looks m.air is heads)) so)
 
   -- ---- a frame of the controller
 
   abbrev numbers : List ℕ
-  numbers = numbers_from (number + 1) flights
+  numbers = numbers_from (its_number + 1) flights
 
-  own_numbers : flight.heading ≡ Outward → v.numbers ≡ number ∷ numbers
-  own_numbers heads = ap (λ (fs : List Flown). numbers_from number fs) on ∙ ap (λ (h : Heading). number_of h number ++ numbers) heads
+  own_numbers : flight.heading ≡ Outward → v.numbers ≡ its_number ∷ numbers
+  own_numbers heads = ap (λ (fs : List Flown). numbers_from its_number fs) on ∙ ap (λ (h : Heading). number_of h its_number ++ numbers) heads
 
-  is_own : flight.heading ≡ Outward → is_outward here number ≡ true
+  is_own : flight.heading ≡ Outward → is_outward here its_number ≡ true
   is_own heads =
       let (given_frames, serves, are) = so in
       let own_all : AreOwn here v.numbers = (are (course_of did) (goes_none (course_of did))).own in
       (subst (λ (l : List ℕ). AreOwn here l) (own_numbers heads) own_all).0
 
-  none_handles : flight.heading ≡ Outward → handlers_at here (entry.Heard number) ≡ []
+  none_handles : flight.heading ≡ Outward → handlers_at here (entry.Heard its_number) ≡ []
   none_handles heads =
-      same_handlers here past same number
+      same_handlers here past same its_number
       ∙ subst (λ (n : ℕ). handlers_at past (entry.Heard n) ≡ []) (plus_one w.outer.air.frames.landed) (none_at past w tie w.outer.air.frames.landed flight stands heads)
 
-  sees : (air : AirState) → air.frames.landed ≡ number → numbers_from (number + 1) (on_air air.frames) ≡ numbers → flight.heading ≡ Outward → Sees devices v left number numbers (with_air air)
+  sees : (air : AirState) → air.frames.landed ≡ its_number → numbers_from (its_number + 1) (on_air air.frames) ≡ numbers → flight.heading ≡ Outward → Sees devices v left its_number numbers (with_air air)
   sees air at are heads = record {
     sending = refl;
     by_frame = refl;
@@ -276,36 +276,36 @@ module _ (devices : List State) (laws : Laws) (past : List Entry) (w : Outside) 
     rest = sym are ∙ ap (λ (n : ℕ). numbers_from (n + 1) (on_air air.frames)) (sym at);
     each_call = waits.each;
     flies =
-        sym waits.await.frames ∙ (ap outward on ∙ (ap (λ (h : Heading). one_outward h + outward flights) heads ∙ one_plus (outward flights) (length numbers) (numbers_many (number + 1) flights)));
+        sym waits.await.frames ∙ (ap outward on ∙ (ap (λ (h : Heading). one_outward h + outward flights) heads ∙ one_plus (outward flights) (length numbers) (numbers_many (its_number + 1) flights)));
   }
     where
       one_plus : (m n : ℕ) → n ≡ m → 1 + m ≡ suc n
       one_plus m n is = omega (arith, is)
 
-  above : AllByRecursion (λ (n : ℕ). number < n) numbers
-  above = all-weaker (λ (n : ℕ). number + 1 ≤ n) (λ (n : ℕ). number < n) (λ n is. omega (arith, is)) numbers (numbers_above (number + 1) flights)
+  above : AllByRecursion (λ (n : ℕ). its_number < n) numbers
+  above = all-weaker (λ (n : ℕ). its_number + 1 ≤ n) (λ (n : ℕ). its_number < n) (λ n is. omega (arith, is)) numbers (numbers_above (its_number + 1) flights)
 
-  landed_numbers : (air : AirState) → air.frames ≡ landing w.outer.air.frames → (air.frames.landed ≡ number) × (numbers_from (number + 1) (on_air air.frames) ≡ numbers)
+  landed_numbers : (air : AirState) → air.frames ≡ landing w.outer.air.frames → (air.frames.landed ≡ its_number) × (numbers_from (its_number + 1) (on_air air.frames) ≡ numbers)
   unfolding landing
   landed_numbers air is =
       let are : flights ≡ on_air (landing w.outer.air.frames) = flights_are tie.log flights (landing w.outer.air.frames) (laws.air.lands tie.log flight flights w.outer.air.frames fly) in
-      (ap (λ (fs : FramesState). fs.landed) is, ap (λ (fs : FramesState). numbers_from (number + 1) (on_air fs)) is ∙ ap (λ (fs : List Flown). numbers_from (number + 1) fs) (sym are))
+      (ap (λ (fs : FramesState). fs.landed) is, ap (λ (fs : FramesState). numbers_from (its_number + 1) (on_air fs)) is ∙ ap (λ (fs : List Flown). numbers_from (its_number + 1) fs) (sym are))
 
-  own_lost : (m : Mesh) → m.air.frames ≡ landing w.outer.air.frames → (status : ℕ) (dead : Option (ℕ × ℕ)) → flight.heading ≡ Outward → Ends m (tells.Lost number ∷ tells.Done number status dead ∷ [])
+  own_lost : (m : Mesh) → m.air.frames ≡ landing w.outer.air.frames → (status : ℕ) (dead : Option (ℕ × ℕ)) → flight.heading ≡ Outward → Ends m (tells.Lost its_number ∷ tells.Done its_number status dead ∷ [])
   own_lost m is status dead heads =
       let at = landed_numbers m.air is in
-      own_arrives_t devices v left number numbers m.devices (with_air m.air) (entry.Lost number) tt [] tt status dead (sees m.air at.0 at.1 heads) above did here refl (lost_brings here number (is_own heads)) so
+      own_arrives_t devices v left its_number numbers m.devices (with_air m.air) (entry.Lost its_number) tt [] tt status dead (sees m.air at.0 at.1 heads) above did here refl (lost_brings here its_number (is_own heads)) so
 
-  own_unheard : (m : Mesh) → m.air.frames ≡ landing w.outer.air.frames → (status : ℕ) (dead : Option (ℕ × ℕ)) → flight.heading ≡ Outward → Ends m (tells.Unheard number ∷ tells.Done number status dead ∷ [])
+  own_unheard : (m : Mesh) → m.air.frames ≡ landing w.outer.air.frames → (status : ℕ) (dead : Option (ℕ × ℕ)) → flight.heading ≡ Outward → Ends m (tells.Unheard its_number ∷ tells.Done its_number status dead ∷ [])
   own_unheard m is status dead heads =
       let at = landed_numbers m.air is in
-      own_arrives_t devices v left number numbers m.devices (with_air m.air) (entry.Unheard number) tt [] tt status dead (sees m.air at.0 at.1 heads) above did here refl (unheard_brings here number (is_own heads)) so
+      own_arrives_t devices v left its_number numbers m.devices (with_air m.air) (entry.Unheard its_number) tt [] tt status dead (sees m.air at.0 at.1 heads) above did here refl (unheard_brings here its_number (is_own heads)) so
 
-  lost_by : (m : Mesh) → m.air.frames ≡ landing w.outer.air.frames → (status : ℕ) (dead : Option (ℕ × ℕ)) (heading : Heading) → flight.heading ≡ heading → Ends m (tells.Lost number ∷ done_of heading number status dead)
+  lost_by : (m : Mesh) → m.air.frames ≡ landing w.outer.air.frames → (status : ℕ) (dead : Option (ℕ × ℕ)) (heading : Heading) → flight.heading ≡ heading → Ends m (tells.Lost its_number ∷ done_of heading its_number status dead)
   lost_by m is status dead Outward heads = own_lost m is status dead heads
   lost_by m is status dead Homeward heads = home_lost m is heads
 
-  unheard_by : (m : Mesh) → m.air.frames ≡ landing w.outer.air.frames → (status : ℕ) (dead : Option (ℕ × ℕ)) (heading : Heading) → flight.heading ≡ heading → Ends m (tells.Unheard number ∷ done_of heading number status dead)
+  unheard_by : (m : Mesh) → m.air.frames ≡ landing w.outer.air.frames → (status : ℕ) (dead : Option (ℕ × ℕ)) (heading : Heading) → flight.heading ≡ heading → Ends m (tells.Unheard its_number ∷ done_of heading its_number status dead)
   unheard_by m is status dead Outward heads = own_unheard m is status dead heads
   unheard_by m is status dead Homeward heads = home_unheard m is heads
 
@@ -315,18 +315,18 @@ module _ (devices : List State) (laws : Laws) (past : List Entry) (w : Outside) 
 
   heard_by : (place : ℕ) (found : Option State) → slice_get w.devices place ≡ found → (slice_get w.devices place ≡ None → ⊥) → (drawn : List ℕ) (route : Option Route) → flight.heading ≡ Outward
       → (let m : Mesh = heard_at base place found flight.node route (Hears flight.payload drawn) in
-      (m.air.frames.landed ≡ number) × (numbers_from (number + 1) (on_air m.air.frames) ≡ numbers))
-      → Ends (heard_at base place found flight.node route (Hears flight.payload drawn)) (outs_at base found number flight.node route (Hears flight.payload drawn) ++ tells.Done number (status_of w.outer.air) None ∷ [])
+      (m.air.frames.landed ≡ its_number) × (numbers_from (its_number + 1) (on_air m.air.frames) ≡ numbers))
+      → Ends (heard_at base place found flight.node route (Hears flight.payload drawn)) (outs_at base found its_number flight.node route (Hears flight.payload drawn) ++ tells.Done its_number (status_of w.outer.air) None ∷ [])
   heard_by place None is some drawn route heads at = absurd (some is)
   heard_by place (Some device) is some drawn route heads at =
       let event : DeviceEvent = Hears flight.payload drawn in
       let m : Mesh = heard_at base place (Some device) flight.node route event in
-      own_arrives_t devices v left number numbers m.devices (with_air m.air) (entry.Heard number) tt (done_by base.air flight.node route device event) (done_plain base.air flight.node route device event tie.home)
-      (status_of w.outer.air) None (sees m.air at.0 at.1 heads) above did here (ap (λ (b : Bool). if b then [] else number ∷ []) apart) (heard_brings here number apart (is_own heads) (none_handles heads)) so
+      own_arrives_t devices v left its_number numbers m.devices (with_air m.air) (entry.Heard its_number) tt (done_by base.air flight.node route device event) (done_plain base.air flight.node route device event tie.home)
+      (status_of w.outer.air) None (sees m.air at.0 at.1 heads) above did here (ap (λ (b : Bool). if b then [] else its_number ∷ []) apart) (heard_brings here its_number apart (is_own heads) (none_handles heads)) so
 
   by_fate : (x : Fate) (drawn : List ℕ) (route : Option Route) → fate_of w.outer.air.network w.devices flight ≡ x
-      → (let m : Mesh = arriving_as (mesh_of w) flight x drawn route in (m.air.frames.landed ≡ number) × (numbers_from (number + 1) (on_air m.air.frames) ≡ numbers))
-      → Ends (arriving_as (mesh_of w) flight x drawn route) (arrival_outs_as (mesh_of w) number flight x drawn route)
+      → (let m : Mesh = arriving_as (mesh_of w) flight x drawn route in (m.air.frames.landed ≡ its_number) × (numbers_from (its_number + 1) (on_air m.air.frames) ≡ numbers))
+      → Ends (arriving_as (mesh_of w) flight x drawn route) (arrival_outs_as (mesh_of w) its_number flight x drawn route)
   by_fate fate.Lost drawn route is at = lost_by (arriving_as (mesh_of w) flight fate.Lost drawn route) refl 1 None flight.heading refl
   by_fate (fate.Dead from to) drawn route is at = unheard_by (arriving_as (mesh_of w) flight (fate.Dead from to) drawn route) refl 1 (Some (from, to)) flight.heading refl
   by_fate fate.Missed drawn route is at = unheard_by (arriving_as (mesh_of w) flight fate.Missed drawn route) refl 1 None flight.heading refl
@@ -337,15 +337,15 @@ module _ (devices : List State) (laws : Laws) (past : List Entry) (w : Outside) 
       heard_by place (slice_get w.devices place) refl (λ none. none_listens w.devices (place_of flight.node w.devices) place out.1 none) drawn route out.0 at
 
   arrives_by : (found : Option Flown) (drawn : List ℕ) (route : Option Route) → found ≡ Some flight
-      → (let m : Mesh = arriving (mesh_of w) found drawn route in (m.air.frames.landed ≡ number) × (numbers_from (number + 1) (on_air m.air.frames) ≡ numbers))
+      → (let m : Mesh = arriving (mesh_of w) found drawn route in (m.air.frames.landed ≡ its_number) × (numbers_from (its_number + 1) (on_air m.air.frames) ≡ numbers))
       → Ends (arriving (mesh_of w) found drawn route) (arrival_outs (mesh_of w) found drawn route)
   arrives_by None drawn route is at = absurd cc
   arrives_by (Some one) drawn route is at =
       let same_one : flight ≡ one = cc in
-      subst (λ (f : Flown). Ends (arriving_as (mesh_of w) f (fate_of w.outer.air.network w.devices f) drawn route) (arrival_outs_as (mesh_of w) number f (fate_of w.outer.air.network w.devices f) drawn route)) same_one
+      subst (λ (f : Flown). Ends (arriving_as (mesh_of w) f (fate_of w.outer.air.network w.devices f) drawn route) (arrival_outs_as (mesh_of w) its_number f (fate_of w.outer.air.network w.devices f) drawn route)) same_one
       (by_fate (fate_of w.outer.air.network w.devices flight) drawn route refl
-      (subst (λ (f : Flown). (arriving_as (mesh_of w) f (fate_of w.outer.air.network w.devices f) drawn route).air.frames.landed ≡ number) (sym same_one) at.0,
-      subst (λ (f : Flown). numbers_from (number + 1) (on_air (arriving_as (mesh_of w) f (fate_of w.outer.air.network w.devices f) drawn route).air.frames) ≡ numbers) (sym same_one) at.1))
+      (subst (λ (f : Flown). (arriving_as (mesh_of w) f (fate_of w.outer.air.network w.devices f) drawn route).air.frames.landed ≡ its_number) (sym same_one) at.0,
+      subst (λ (f : Flown). numbers_from (its_number + 1) (on_air (arriving_as (mesh_of w) f (fate_of w.outer.air.network w.devices f) drawn route).air.frames) ≡ numbers) (sym same_one) at.1))
 
   -- all of it
   pub arrives_tally : (drawn : List ℕ) (route : Option Route) → (happens_outside w (Arrives drawn route)).outer.air.frames.landed ≡ w.outer.air.frames.landed + 1
@@ -356,10 +356,10 @@ module _ (devices : List State) (laws : Laws) (past : List Entry) (w : Outside) 
       let air_is : (happens_outside w (Arrives drawn route)).outer.air ≡ (arriving (mesh_of w) (next_of w.outer.air.frames) drawn route).air = arrived_air w drawn route in
       let home : Homes tie.log flights (happens_outside w (Arrives drawn route)).outer.air.frames = arrives_home laws.air tie.log flight flights w drawn route fly in
       let frames_now : FramesState = (happens_outside w (Arrives drawn route)).outer.air.frames in
-      let are : numbers_from (number + 1) (on_air frames_now) ≡ numbers =
-      ap (λ (fs : List Flown). numbers_from (number + 1) fs) (sym (flights_are (tie.log ++ home.more) (flights ++ home.home) frames_now home.fly)) ∙ homes_numbers (number + 1) flights home.home home.none_outward in
+      let are : numbers_from (its_number + 1) (on_air frames_now) ≡ numbers =
+      ap (λ (fs : List Flown). numbers_from (its_number + 1) fs) (sym (flights_are (tie.log ++ home.more) (flights ++ home.home) frames_now home.fly)) ∙ homes_numbers (its_number + 1) flights home.home home.none_outward in
       arrives_by (next_of w.outer.air.frames) drawn route next
-      (sym (ap (λ (a : AirState). a.frames.landed) air_is) ∙ lands, ap (λ (a : AirState). numbers_from (number + 1) (on_air a.frames)) (sym air_is) ∙ are)
+      (sym (ap (λ (a : AirState). a.frames.landed) air_is) ∙ lands, ap (λ (a : AirState). numbers_from (its_number + 1) (on_air a.frames)) (sym air_is) ∙ are)
 
 -- ---- a frame is heard again
 

@@ -47,6 +47,7 @@ mod Members
 mod Grounds
 mod Served
 mod Landed
+mod Tallies
 mod Calling
 mod Steady
 mod CallWalk

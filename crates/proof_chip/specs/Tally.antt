@@ -1,6 +1,6 @@
 -- How many frames the chip has for the host, by the transcript and by what it was given (this project's own rule): results that come in a tick without an entry are counted at the next
 -- line or tick that has one, and in a tick those that are still to be given are counted with its last fate.
-use Rattle.std.specs.Prelude.{◌≡◌, ◌≤◌, ◌<◌, ℕ, ◌+◌, ◌&&◌, not, Bool, true, false, List, [], ◌∷◌, ◌++◌, length}
+use Rattle.std.specs.Prelude.{◌≡◌, ◌≤◌, ◌<◌, ℕ, ◌+◌, ◌-◌, ◌&&◌, not, Bool, true, false, List, [], ◌∷◌, ◌++◌, length}
 use Rattle.std.specs.Option.{is_some}
 use Rattle.std.specs.List.{AllByRecursion}
 use Rattle.air_frames.specs.declared.frame.Heading.{Heading}
@@ -23,6 +23,10 @@ use Rattle.outside_model.specs.declared.waits.Due.{Due}
 use Rattle.outside_model.specs.declared.waits.Due.TheVariants.{Info, NoRoute as no_route_due}
 use Rattle.outside_model.specs.Devices.{State}
 use Rattle.outside_model.specs.State.{OuterState}
+use Rattle.outside_model.specs.Events.{OuterEvent, Begins_line, Begins_tick, Host_writes, Host_takes, Host_notes, Host_begins, Chip_takes, Arrives, Gives}
+use Rattle.world_model.specs.State.{Machine}
+use Rattle.proof_air.specs.proof_walk.Outside.{CoversOuter, awaits_number}
+use Rattle.proof_air.specs.proof_walk.Phases.{Phase, Said_line, Doing, Ticked, Arriving, Giving}
 use Rattle.proof_line.specs.proof_traffic.Facts.{one_if}
 use Rattle.proof_line.specs.proof_traffic.OnAir.{on_air}
 use Rattle.proof_line.specs.proof_traffic.OutsideTraffic.{flags}
@@ -171,3 +175,32 @@ Counting = ℕ → Course → List Entry → Type 0
 abbrev pub TallySo : Counting → List Step → List Entry → PortState → Type 0
 TallySo Are did past port =
     (given_frames : List FrameParts) × Serves did given_frames past port × ((later : Course) → GoesOn (course_of did) later → Are (length given_frames) later past)
+
+-- ---- at each phase of a line
+
+abbrev pub TallyAt : List State → Phase → OuterState → Counting
+TallyAt devices (Said_line line) o = TallyNow devices (outlook o) false 0
+TallyAt devices (Ticked ticks) o = TallyBefore devices (outlook o) true (o.air.frames.sent - o.air.frames.landed) (awaits_number o) 0
+TallyAt devices (Arriving left ticks) o = TallyBefore devices (outlook o) true left (awaits_number o) 0
+TallyAt devices (Giving results ticks) o = TallyBefore devices (outlook o) false 0 (awaits_number o) 0
+TallyAt devices here o = TallyNow devices (outlook o) (awaits_number o) 0
+
+-- an event of the effect of a line: neither a line nor a tick begins, the chip takes nothing, and no frame arrives
+abbrev pub IsOfLine : OuterEvent → Type 0
+IsOfLine Begins_line = ⊥
+IsOfLine Begins_tick = ⊥
+IsOfLine (Host_writes unit) = ⊥
+IsOfLine (Host_takes count) = ⊥
+IsOfLine (Host_notes note) = ⊥
+IsOfLine (Host_begins node sessions) = ⊥
+IsOfLine (Chip_takes count rest ways) = ⊥
+IsOfLine (Arrives drawn route) = ⊥
+IsOfLine (Gives route) = ⊥
+IsOfLine event = Unit {0}
+
+abbrev pub LeavesLine : Phase → Type 0
+LeavesLine (Doing line left) = AllByRecursion (CoversOuter IsOfLine) left
+LeavesLine here = Unit {0}
+
+abbrev pub KnowTally : List State → List Step → Phase → List Entry → Machine → Type 0
+KnowTally devices did here past m = TallySo (TallyAt devices here m.outside.outer) did past m.outside.outer.chip.state.port × LeavesLine here
