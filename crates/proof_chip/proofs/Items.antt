@@ -1,11 +1,11 @@
 -- The count of the frames for the host goes on with each item that the chip judges, and with all that it takes at once.
-use Rattle.std.proofs.Common.{◌≡◌, ◌≢◌, ◌<◌, ◌≤◌, ◌⊎◌, ℕ, suc, ◌+◌, ◌-◌, ◌==◌, ◌&&◌, ◌||◌, not, nat_le, nat_lt, Bool, true, false, if◌then◌else◌, inl, inr, List, [], ◌∷◌, ◌++◌, length, map, refl, sym, ap, ap₂, ◌∙◌, subst, append-nil, append_assoc, length-append, arith}
+use Rattle.std.proofs.Common.{◌≡◌, ◌<◌, ◌≤◌, ◌⊎◌, ℕ, ◌+◌, ◌-◌, ◌&&◌, ◌||◌, not, nat_le, nat_lt, Bool, true, false, if◌then◌else◌, inl, inr, List, [], ◌∷◌, ◌++◌, length, map, refl, sym, ap, ap₂, ◌∙◌, subst, append-nil, append_assoc, length-append, arith}
 use Rattle.std.proofs.lemmas.Bool.{cases_lt}
-use Rattle.std.proofs.lemmas.List.{get_or_past, length-map}
-use Rattle.std.specs.Prelude.{Option, Some, None, slice_get, slice_index_or}
+use Rattle.std.proofs.lemmas.List.{get_or_past}
+use Rattle.std.specs.Prelude.{Option, Some, None, slice_get}
 use Rattle.std.specs.Option.{is_some}
 use Rattle.std.specs.List.{AllByRecursion}
-use Rattle.zw_base.proofs.Each.{all-append, all-both, all-weaker}
+use Rattle.zw_base.proofs.Each.{all-append, all-weaker}
 use Rattle.serial_frame.specs.Frame.{FrameParts}
 use Rattle.serial_frame.specs.Stream.{Rest}
 use Rattle.serial_frame.specs.declared.item.Item.{Item}
@@ -18,24 +18,22 @@ use Rattle.route_table.specs.declared.route.Route.{Route}
 use Rattle.air_frames.specs.declared.frame.Departure.{Departure}
 use Rattle.air_frames.specs.declared.frame.Heading.TheVariants.{Outward}
 use Rattle.air_frames.specs.Flown.{Flown}
-use Rattle.air_frames.specs.Frames.{FramesState, putting}
+use Rattle.air_frames.specs.Frames.{putting}
 use Rattle.air_frames.specs.History.{Mark, Goes as goes_mark}
 use Rattle.chip_functions.specs.declared.request.Request.{Request}
 use Rattle.chip_functions.specs.declared.request.Request.TheVariants.{GetInitData, GetCapabilities, SendData, GetVersion, SendDataAbort, MemoryGetId, GetNodeProtocolInfo, AddNode, RequestNodeInfo, IsFailedNode, GetRoutingInfo}
 use Rattle.chip_sim.specs.Nodes.{is_marked}
 use Rattle.chip_sim.specs.State.{ChipState}
-use Rattle.chip_sim.specs.Waiting.{PortState, next_at}
+use Rattle.chip_sim.specs.Waiting.{next_at}
 use Rattle.chip_sim.specs.Answers.{is_idle, takes as takes_of}
-use Rattle.chip_sim.specs.Requests.{answer_outs, asked as asked_of, given_if, heard, judged_frame, judged_outs, passed, performed, reply_to, requested, requested_outs, stopped}
+use Rattle.chip_sim.specs.Requests.{answer_outs, asked as asked_of, given_if, heard, judged_frame, judged_outs, passed, reply_to, requested, stopped}
 use Rattle.chip_sim.specs.Did.{MayAll, judged_all}
-use Rattle.chip_sim.specs.Events.{ChipEvent, Judged, May, after, collides, outs}
+use Rattle.chip_sim.specs.Events.{ChipEvent, Judged, after, collides, outs}
 use Rattle.chip_sim.specs.Link.{link_steps}
 use Rattle.chip_sim.specs.Rules.{judged_posts, listed as listed_of, over, posts}
 use Rattle.chip_sim.specs.declared.out.ChipOut.{ChipOut}
-use Rattle.chip_sim.specs.declared.out.ChipOut.TheVariants.{Write}
 use Rattle.chip_sim.specs.declared.out.Sending.{Sending as SendingParts}
-use Rattle.serial_frame.specs.declared.unit.Unit.TheVariants.{Ack}
-use Rattle.mesh_sim.specs.Air.{AirState, departing, no_route}
+use Rattle.mesh_sim.specs.Air.{AirState, departing}
 use Rattle.zw_words.specs.declared.side.Side.TheVariants.{Chip as by_chip}
 use Rattle.zw_text.specs.declared.entry.Entry.{Entry}
 use Rattle.zw_text.specs.declared.entry.Entry.TheVariants as entry
@@ -55,7 +53,6 @@ use Rattle.outside_model.specs.Chip.{MayTake, chip_does, put_out}
 use Rattle.outside_model.specs.Events.{Chip_takes, entries, happens, has_entered, outcome, stamp, ticked_entry}
 use Rattle.proof_air.specs.proof_walk.Outside.{awaits_number}
 use Rattle.proof_air.proofs.Times.{each_keeps, does_chip, does_time, time_of}
-use Rattle.proof_line.specs.proof_traffic.Facts.{one_if}
 use Rattle.proof_line.specs.proof_traffic.Flights.{Fly, flown_now}
 use Rattle.proof_line.specs.proof_traffic.OnAir.{on_air}
 use Rattle.proof_line.specs.proof_traffic.OutsideTraffic.{flags, of_frame}
@@ -63,15 +60,15 @@ use Rattle.proof_line.proofs.Flights.{flights_are}
 use Rattle.proof_line.proofs.Parts.{Laws}
 use Rattle.proof_chip.specs.Serving.{GoesOn, Serves}
 use Rattle.proof_chip.specs.Sending.{Agrees, AirSo, AreNow, AreSending, ItemsSo, TieAir}
-use Rattle.proof_chip.specs.Tally.{Counting, Outlook, TallyNow, TallySo, infos_in, numbers_from, outlook}
+use Rattle.proof_chip.specs.Tally.{Outlook, TallyNow, TallySo, infos_in, numbers_from, outlook}
 use Rattle.proof_chip.proofs.Airing.{IsMore, IsNoAck, answer, last_answered}
 use Rattle.proof_chip.proofs.Going.{apart_goes}
-use Rattle.proof_chip.proofs.Growing.{start, told}
+use Rattle.proof_chip.proofs.Growing.{told}
 use Rattle.proof_chip.proofs.Giving.{Rests, Turns}
 use Rattle.proof_chip.proofs.Judged.{decided, goes_back, judged_nodes, none_passed, passed_at}
 use Rattle.proof_chip.proofs.Judges.{both_none, item_keeps, items_of, items_same, silent_item}
 use Rattle.proof_chip.proofs.Keeping.{number_apart}
-use Rattle.proof_chip.proofs.Leaving.{Airs, AreLeaving, LeavesAll, LeavesSo, LeavesTaken, Quiet, Shows, answer_leaves, each_rests, leaves_air, leaving_frames, rests_both, shows_of, written_leaves}
+use Rattle.proof_chip.proofs.Leaving.{Airs, LeavesAll, LeavesSo, LeavesTaken, Quiet, Shows, answer_leaves, each_rests, leaves_air, leaving_frames, rests_both, shows_of, written_leaves}
 use Rattle.proof_chip.proofs.Answered.{answered_outs}
 use Rattle.proof_chip.proofs.Numbering.{numbers_below, numbers_both}
 use Rattle.proof_chip.proofs.Passing.{more_other, others_no_ack}
@@ -83,7 +80,7 @@ use Rattle.proof_chip.proofs.Requesting.{answered_waits}
 use Rattle.proof_chip.proofs.Settling.{AreIdle, IsIdle}
 use Rattle.proof_chip.proofs.Stamped.{no_more}
 use Rattle.proof_chip.proofs.Taking.{takes_same}
-use Rattle.proof_chip.proofs.Tallied.{both_so, chip_t, none_so, now_number_t, now_stays, quiet_t}
+use Rattle.proof_chip.proofs.Tallied.{chip_t, none_so, now_number_t, now_stays, quiet_t}
 use Rattle.proof_chip.proofs.Tallying.{now_above}
 
 -- ---- entries

@@ -1,8 +1,7 @@
 -- The count of the frames for the host goes on where the next frame on the air arrives, and where a frame is heard again.
-use Rattle.std.proofs.Common.{◌≡◌, ◌≢◌, ◌<◌, ◌≤◌, ℕ, zero, suc, ◌+◌, ◌-◌, ◌==◌, ◌&&◌, ◌||◌, not, nat_le, nat_lt, Bool, true, false, if◌then◌else◌, List, [], ◌∷◌, ◌++◌, length, refl, sym, ap, ap₂, ◌∙◌, subst, append-nil, append_assoc, ne_eqb, eqb-true, arith}
+use Rattle.std.proofs.Common.{◌≡◌, ◌≢◌, ◌<◌, ◌≤◌, ℕ, zero, suc, ◌+◌, ◌-◌, ◌==◌, ◌&&◌, ◌||◌, nat_le, nat_lt, Bool, true, false, if◌then◌else◌, List, [], ◌∷◌, ◌++◌, length, refl, sym, ap, ◌∙◌, subst, append-nil, ne_eqb, arith}
 use Rattle.std.specs.Prelude.{Option, Some, None, option_map, slice_get}
-use Rattle.std.specs.Option.{is_some}
-use Rattle.std.specs.List.{AllByRecursion, flat_map, list_any}
+use Rattle.std.specs.List.{AllByRecursion, flat_map}
 use Rattle.zw_base.proofs.Each.{all-append, all-weaker}
 use Rattle.serial_link.specs.Rules.{Step}
 use Rattle.route_table.specs.declared.route.Route.{Route}
@@ -22,24 +21,21 @@ use Rattle.mesh_sim.specs.declared.fate.Fate.TheVariants as fate
 use Rattle.mesh_sim.specs.Air.{AirState, departing, is_joined}
 use Rattle.mesh_sim.specs.Fates.{Mesh, awake_at, dead_hop_of, fate_of, is_awake, listener_of, place_of}
 use Rattle.mesh_sim.specs.Routes.{backwards}
-use Rattle.mesh_sim.specs.Steps.{acknowledged, air_hearing, answers, answers_if, arrival_outs, arrival_outs_as, arriving, arriving_as, changed, done_of, heard_again, heard_at, landed, mesh_after, mesh_outs, outs_again, outs_at, outs_hearing, repeat_outs, repeat_outs_by, repeating, repeating_by, status_of}
+use Rattle.mesh_sim.specs.Steps.{acknowledged, answers, answers_if, arrival_outs, arrival_outs_as, arriving, arriving_as, changed, done_of, heard_again, heard_at, landed, mesh_after, mesh_outs, outs_again, outs_at, repeat_outs, repeat_outs_by, repeating, repeating_by, status_of}
 use Rattle.mesh_sim.specs.Steps as mesh
 use Rattle.zw_text.specs.declared.entry.Entry.{Entry}
 use Rattle.zw_text.specs.declared.entry.Entry.TheVariants as entry
-use Rattle.zw_text.specs.Transcript.{AirFrame, frame_at, frames}
-use Rattle.zw_text.proofs.Views.{shown-append}
+use Rattle.zw_text.specs.Transcript.{AirFrame, frames}
 use Rattle.law_transcript.specs.Carrying.{homeward}
-use Rattle.law_transcript.specs.Fates.{first_fate}
-use Rattle.law_transcript.specs.Lists.{last_or, listed}
+use Rattle.law_transcript.specs.Lists.{listed}
 use Rattle.law_transcript.specs.Nodes.{controller}
-use Rattle.law_transcript.specs.Repeats.{frame_of}
 use Rattle.law_transcript.specs.Restarts.{repeats as answers_repeat}
 use Rattle.law_wire.specs.Asked.{course_of}
 use Rattle.law_wire.specs.Results.{is_outward}
 use Rattle.chip_functions.specs.declared.notice.Notice.TheVariants as notices
-use Rattle.law_wire.specs.Given.{Frame, Given, handler_of, handlers_at, notice_frame}
+use Rattle.law_wire.specs.Given.{Frame, handler_of, handlers_at, notice_frame}
 use Rattle.outside_model.specs.Devices.{State}
-use Rattle.outside_model.specs.State.{OuterState, Outcome, Outside, each}
+use Rattle.outside_model.specs.State.{OuterState, Outside, each}
 use Rattle.outside_model.specs.Air.{deals}
 use Rattle.outside_model.specs.Events.{Arrives, mesh_of, repeats, steps, happens as happens_outside}
 use Rattle.proof_device.proofs.ChangesOutside.{fate_home, fate_out}
@@ -48,10 +44,9 @@ use Rattle.proof_air.specs.Carrying.{IsHome}
 use Rattle.proof_air.specs.Logs.{IsApart, Tie, plain}
 use Rattle.proof_air.proofs.Counting.{at_its_place, departure}
 use Rattle.proof_air.proofs.Homes.{again_home, again_stands, next_home, next_stands, shown_so, went_so}
-use Rattle.proof_line.specs.proof_traffic.Facts.{flying_in, one_if}
 use Rattle.proof_line.specs.proof_traffic.Flights.{Fly}
 use Rattle.proof_line.specs.proof_traffic.OnAir.{on_air}
-use Rattle.proof_line.specs.proof_traffic.OutsideTraffic.{flags, one_outward, outward}
+use Rattle.proof_line.specs.proof_traffic.OutsideTraffic.{one_outward, outward}
 use Rattle.proof_line.proofs.Arrivals.{NoNexting}
 use Rattle.proof_line.proofs.ArrivedFrames.{Homes, arrives_home}
 use Rattle.proof_line.proofs.ChipAccounts.{all_account, repeat_steps, steps_account, steps_by}
@@ -59,19 +54,17 @@ use Rattle.proof_line.proofs.ChipNotices.{arrived_air}
 use Rattle.proof_line.proofs.Flights.{flights_are}
 use Rattle.proof_line.proofs.Parts.{Laws}
 use Rattle.proof_chip.specs.Calling.{Waits}
-use Rattle.proof_chip.specs.Serving.{GoesOn}
-use Rattle.proof_chip.specs.Tally.{AreOwn, Outlook, TallyBefore, TallyNow, TallySo, infos_in, number_of, numbers_from, outlook}
+use Rattle.proof_chip.specs.Tally.{AreOwn, Outlook, TallyBefore, TallyNow, TallySo, number_of, numbers_from, outlook}
 use Rattle.proof_chip.proofs.Acting.{NotHome, other_node}
-use Rattle.proof_chip.proofs.Arriving.{ArePlain, BringsOwn, again_device_t, heard_brings, lost_brings, lost_brings_none, lost_home_t, own_arrives_t, plain_rests, unheard_brings, unheard_brings_none}
+use Rattle.proof_chip.proofs.Arriving.{ArePlain, again_device_t, heard_brings, lost_brings, lost_brings_none, lost_home_t, own_arrives_t, plain_rests, unheard_brings, unheard_brings_none}
 use Rattle.proof_chip.proofs.Calling.{flying}
 use Rattle.proof_chip.proofs.Finishing.{Sees}
 use Rattle.proof_chip.proofs.Hearing.{hears_again_t, hears_home_t}
 use Rattle.proof_chip.proofs.Numbering.{numbers_above, numbers_many}
 use Rattle.proof_chip.proofs.Settling.{own}
 use Rattle.proof_chip.proofs.Standing.{goes_none}
-use Rattle.proof_chip.proofs.Steady.{Stays, answers_stay, homes_numbers, stays_looks}
+use Rattle.proof_chip.proofs.Steady.{answers_stay, homes_numbers, stays_looks}
 use Rattle.proof_chip.proofs.Tallied.{AreApart, apart_t, none_so, now_stays}
-use Rattle.proof_chip.proofs.Tallying.{IsFate}
 
 -- ---- what a device does
 
@@ -343,9 +336,10 @@ module _ (devices : List State) (laws : Laws) (past : List Entry) (w : Outside) 
   arrives_by (Some one) drawn route is at =
       let same_one : flight ≡ one = cc in
       subst (λ (f : Flown). Ends (arriving_as (mesh_of w) f (fate_of w.outer.air.network w.devices f) drawn route) (arrival_outs_as (mesh_of w) its_number f (fate_of w.outer.air.network w.devices f) drawn route)) same_one
-      (by_fate (fate_of w.outer.air.network w.devices flight) drawn route refl
-      (subst (λ (f : Flown). (arriving_as (mesh_of w) f (fate_of w.outer.air.network w.devices f) drawn route).air.frames.landed ≡ its_number) (sym same_one) at.0,
-      subst (λ (f : Flown). numbers_from (its_number + 1) (on_air (arriving_as (mesh_of w) f (fate_of w.outer.air.network w.devices f) drawn route).air.frames) ≡ numbers) (sym same_one) at.1))
+      (by_fate (fate_of w.outer.air.network w.devices flight) drawn route refl (
+        subst (λ (f : Flown). (arriving_as (mesh_of w) f (fate_of w.outer.air.network w.devices f) drawn route).air.frames.landed ≡ its_number) (sym same_one) at.0,
+        subst (λ (f : Flown). numbers_from (its_number + 1) (on_air (arriving_as (mesh_of w) f (fate_of w.outer.air.network w.devices f) drawn route).air.frames) ≡ numbers) (sym same_one) at.1,
+      ))
 
   -- all of it
   pub arrives_tally : (drawn : List ℕ) (route : Option Route) → (happens_outside w (Arrives drawn route)).outer.air.frames.landed ≡ w.outer.air.frames.landed + 1
@@ -362,7 +356,6 @@ module _ (devices : List State) (laws : Laws) (past : List Entry) (w : Outside) 
       (sym (ap (λ (a : AirState). a.frames.landed) air_is) ∙ lands, ap (λ (a : AirState). numbers_from (its_number + 1) (on_air a.frames)) (sym air_is) ∙ are)
 
 -- ---- a frame is heard again
-
 
 refusal_apart : (w : Outside) (refused : RepeatRefusal) (step : mesh.AirStep) → AreApart (repeats w (Some refused) step).entries
 refusal_apart w NeverSent step = ((tt, (tt, tt)), tt)

@@ -1,15 +1,14 @@
 -- What the outputs of the chip leave of what it waits for: units and drops leave all of it, and those that a request makes add what it asks for.
-use Rattle.std.proofs.Common.{◌≡◌, ℕ, ◌+◌, ◌&&◌, not, Bool, true, false, if◌then◌else◌, List, [], ◌∷◌, ◌++◌, refl, sym, ap, ap₂, ◌∙◌, subst, append-nil, append_assoc}
+use Rattle.std.proofs.Common.{◌≡◌, ℕ, ◌+◌, Bool, true, false, if◌then◌else◌, List, [], ◌∷◌, ◌++◌, refl, sym, ap, ap₂, ◌∙◌, subst, append-nil, append_assoc}
 use Rattle.std.specs.Prelude.{Option, Some, None}
 use Rattle.std.specs.List.{AllByRecursion}
-use Rattle.zw_base.proofs.Each.{all-append, all-weaker}
+use Rattle.zw_base.proofs.Each.{all-append}
 use Rattle.serial_frame.specs.Frame.{FrameParts}
 use Rattle.serial_frame.specs.Items.{unit_text}
 use Rattle.serial_frame.specs.declared.item.Item.{Item}
 use Rattle.serial_frame.specs.declared.item.Item.TheVariants.{Good, Refused}
 use Rattle.serial_frame.specs.declared.item.Refusal.TheVariants.{Stray, BadLength, BadSum, BadKind, Aborted}
 use Rattle.serial_frame.specs.declared.unit.Unit.TheVariants.{Ack, Nak, Can, Framed}
-use Rattle.serial_link.specs.State.{copy_due}
 use Rattle.serial_link.specs.declared.turn.Turn.{Turn}
 use Rattle.serial_link.specs.declared.turn.Turn.TheVariants.{Idle, Copied, Paused}
 use Rattle.serial_pipes.specs.State.{mark_for}
@@ -17,7 +16,7 @@ use Rattle.serial_pipes.specs.Events.{told_by}
 use Rattle.route_table.specs.declared.route.Route.{Route}
 use Rattle.chip_functions.specs.declared.request.Request.{Request}
 use Rattle.chip_functions.specs.declared.request.Request.TheVariants.{GetInitData, GetCapabilities, SendData, GetVersion, SendDataAbort, MemoryGetId, GetNodeProtocolInfo, AddNode, RequestNodeInfo, IsFailedNode, GetRoutingInfo}
-use Rattle.chip_sim.specs.Waiting.{PortState, is_full, queued_outs_at, served_outs, ticked, ticked_outs, written}
+use Rattle.chip_sim.specs.Waiting.{PortState, is_full, queued_outs_at, written}
 use Rattle.chip_sim.specs.State.{ChipState}
 use Rattle.chip_sim.specs.Answers.{takes as takes_of}
 use Rattle.chip_sim.specs.Requests.{answer_outs, given_outs, performed_outs, reply_to, requested_outs, sent}

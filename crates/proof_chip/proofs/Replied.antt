@@ -1,11 +1,8 @@
 -- The count of the frames for the host goes on with the answer to a frame: it grows by what the request gives, and what is owed by what it asks for.
-use Rattle.std.proofs.Common.{◌≡◌, ◌<◌, ◌≤◌, ℕ, zero, suc, ◌+◌, ◌-◌, ◌==◌, ◌&&◌, not, nat_le, nat_lt, Bool, true, false, if◌then◌else◌, List, [], ◌∷◌, ◌++◌, map, filter, length, refl, sym, ap, ap₂, ◌∙◌, subst, append-nil, append_assoc, length-append, arith}
-use Rattle.std.proofs.lemmas.Bool.{lt-ltb}
-use Rattle.std.proofs.lemmas.List.{length-map}
+use Rattle.std.proofs.Common.{◌≡◌, ◌<◌, ℕ, ◌+◌, ◌-◌, ◌==◌, ◌&&◌, not, Bool, true, false, if◌then◌else◌, List, [], ◌∷◌, ◌++◌, map, length, refl, sym, ap, ap₂, ◌∙◌, subst, append-nil, append_assoc, length-append, arith}
 use Rattle.std.specs.Prelude.{Option, Some, None, slice_get}
 use Rattle.std.specs.Option.{is_some}
-use Rattle.std.specs.List.{AllByRecursion, flat_map, list_any}
-use Rattle.circular_buffer.proofs.Places.{slice_get-append_right}
+use Rattle.std.specs.List.{AllByRecursion}
 use Rattle.zw_base.proofs.Each.{all-append, all-right, all-weaker}
 use Rattle.serial_frame.specs.Frame.{FrameParts}
 use Rattle.chip_functions.specs.declared.request.Request.{Request}
@@ -15,11 +12,9 @@ use Rattle.chip_sim.specs.Rules.{listed as listed_of}
 use Rattle.chip_sim.specs.declared.out.Sending.{Sending as SendingParts}
 use Rattle.zw_text.specs.declared.entry.Entry.{Entry}
 use Rattle.zw_text.specs.declared.entry.Entry.TheVariants as entry
-use Rattle.zw_text.specs.Transcript.{AirFrame, frame_at, frames}
-use Rattle.zw_text.proofs.Views.{shown-append}
-use Rattle.law_transcript.specs.Lists.{EachAfter, listed}
-use Rattle.law_transcript.specs.Nodes.{controller}
-use Rattle.law_wire.specs.Asked.{Asked, Course, Sending, acks, asked, asked_at, clock_of, in_tick, last_sending, sending_after, sending_by, sending_of, takes}
+use Rattle.zw_text.specs.Transcript.{frames}
+use Rattle.law_transcript.specs.Lists.{EachAfter}
+use Rattle.law_wire.specs.Asked.{Asked, Course, Sending, acks, asked, asked_at, clock_of, in_tick, last_sending, sending_after, sending_of, takes}
 use Rattle.law_wire.specs.Results.{is_outward, settled_clock}
 use Rattle.law_wire.specs.Given.{Given, given, given_at}
 use Rattle.law_wire.specs.Answering.{MayWait}
@@ -29,7 +24,7 @@ use Rattle.proof_air.proofs.Fateless.{IsFateless}
 use Rattle.proof_air.proofs.Untimed.{IsUntimed}
 use Rattle.proof_line.specs.proof_traffic.Facts.{one_if}
 use Rattle.proof_chip.specs.Sending.{AreSending}
-use Rattle.proof_chip.specs.Tally.{AreNumbered, AreOwn, IsBefore, IsIn, IsWithin, Lacks, Outlook, TallyNow, Timed, informed, infos_asked, owed, total}
+use Rattle.proof_chip.specs.Tally.{AreNumbered, AreOwn, IsBefore, IsIn, IsWithin, Outlook, TallyNow, Timed, informed, infos_asked, owed}
 use Rattle.proof_chip.proofs.Airing.{IsNoAck, answer, asked_here, last_answered, none_asked, same_last, taken_before}
 use Rattle.proof_chip.proofs.Answered.{GivesNone, given_answered, given_quietly}
 use Rattle.proof_chip.proofs.Giving.{Turns, numbered_as}
@@ -38,7 +33,7 @@ use Rattle.proof_chip.proofs.Passing.{others_no_ack}
 use Rattle.proof_chip.proofs.Picking.{shown_both}
 use Rattle.proof_chip.proofs.Settling.{AreIdle, IsIdle, IsNoTick, asked_still, frames_devices, idle_fateless, idle_no_tick, idle_others, idle_untimed, outward_by, outward_next, outward_sent, own_later}
 use Rattle.proof_chip.proofs.Tallying.{none_within, settled_now, timed_through}
-use Rattle.proof_chip.proofs.Totals.{IsApartFrom, WasAsked, elsewhere, ends_one, ends_out, infos_both, total_is, totals, totals_both, totals_none, totals_same, was_asked, with_frame}
+use Rattle.proof_chip.proofs.Totals.{IsApartFrom, WasAsked, elsewhere, ends_one, infos_both, total_is, totals, totals_both, totals_none, totals_same, was_asked, with_frame}
 
 -- ---- the SendData under way
 

@@ -1,6 +1,6 @@
 -- Both links and what goes on the air are known by the same steps of the chip's link, at each phase of a line; so the law of what goes on the air holds by the course of a link that keeps the
 -- rules.
-use Rattle.std.proofs.Common.{◌≡◌, true, false, List, [], ◌∷◌, ◌++◌, sym, subst, append-nil}
+use Rattle.std.proofs.Common.{◌≡◌, true, false, List, [], ◌∷◌, ◌++◌, sym, subst}
 use Rattle.std.specs.Prelude.{None}
 use Rattle.serial_link.specs.Rules.{Step}
 use Rattle.chip_sim.specs.Link.{link_units}
@@ -40,7 +40,6 @@ use Rattle.proof_chip.specs.Knowing.{AnyEntry}
 use Rattle.proof_chip.specs.Bringing.{BringsInOrder}
 use Rattle.proof_chip.specs.Sending.{GroundAir, KnowAir}
 use Rattle.proof_chip.specs.Served.{AirsByLink, KnowBeside, KnowServing}
-use Rattle.proof_chip.specs.Serving.{GoesOn}
 use Rattle.proof_chip.specs.Tally.{KnowTally}
 use Rattle.proof_chip.proofs.Airs.{event_goes, said_goes, turn_goes}
 use Rattle.proof_chip.proofs.Grounds.{agrees_of}

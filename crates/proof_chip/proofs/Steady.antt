@@ -1,23 +1,21 @@
 -- Events outside the host at which no frame arrives or is heard again, no result comes and the chip takes nothing: what they tell tells nothing of the chip, and what is outside looks as before.
-use Rattle.std.proofs.Common.{◌≡◌, ℕ, zero, suc, ◌+◌, ◌-◌, ◌==◌, ◌&&◌, not, nat_le, Bool, true, false, if◌then◌else◌, List, [], ◌∷◌, ◌++◌, length, refl, sym, ap, ap₂, ◌∙◌, subst, append-nil}
+use Rattle.std.proofs.Common.{◌≡◌, ℕ, ◌+◌, ◌-◌, ◌==◌, ◌&&◌, not, nat_le, Bool, true, false, List, [], ◌∷◌, ◌++◌, length, refl, sym, ap, ap₂, ◌∙◌, append-nil}
 use Rattle.std.specs.Prelude.{Option, Some, None, option_map, slice_get}
 use Rattle.std.specs.Option.{is_some}
-use Rattle.std.specs.List.{AllByRecursion, flat_map}
-use Rattle.zw_base.proofs.Each.{all-append, all-both, all-weaker}
+use Rattle.std.specs.List.{flat_map}
+use Rattle.zw_base.proofs.Each.{all-append, all-weaker}
 use Rattle.serial_frame.specs.Items.{unit_text}
 use Rattle.serial_frame.specs.Stream.{after_tick}
 use Rattle.serial_link.specs.State.{copy_due}
 use Rattle.serial_pipes.specs.State.{mark_for}
-use Rattle.serial_pipes.specs.Events.{told_by}
 use Rattle.route_table.specs.declared.route.Route.{Route}
 use Rattle.device_sim.specs.State.{State}
 use Rattle.device_sim.specs.Event.{DeviceEvent, Ticks, Wakes, Sets, device_replies}
 use Rattle.air_frames.specs.Flown.{Flown}
-use Rattle.air_frames.specs.Frames.{FramesState, peer_of}
+use Rattle.air_frames.specs.Frames.{peer_of}
 use Rattle.chip_sim.specs.State.{ChipState}
 use Rattle.chip_sim.specs.Waiting.{next_at, ticked}
 use Rattle.chip_sim.specs.Events.{Ticked, after, outs}
-use Rattle.chip_sim.specs.declared.out.ChipOut.{ChipOut}
 use Rattle.mesh_sim.specs.Air.{AirState, departing, is_joined}
 use Rattle.air_frames.specs.declared.frame.Heading.TheVariants.{Homeward}
 use Rattle.mesh_sim.specs.Fates.{place_of}
@@ -34,9 +32,9 @@ use Rattle.outside_model.specs.State.{OuterState, Outside, each, with_chip}
 use Rattle.outside_model.specs.Chip.{chip_does, put_out}
 use Rattle.outside_model.specs.Results.{device_at}
 use Rattle.outside_model.specs.Air.{sent_entries}
-use Rattle.outside_model.specs.Devices.{acts, acts_at, acts_by_hand, changes_entries, new_changes, shown_entries}
+use Rattle.outside_model.specs.Devices.{acts_at, acts_by_hand, changes_entries, new_changes}
 use Rattle.outside_model.specs.Nodes.{all_pairs}
-use Rattle.outside_model.specs.Events.{OuterEvent, Begins_line, Begins_tick, Host_writes, Host_takes, Host_notes, Host_begins, Chip_takes, Arrives, Gives, Device_ticks, Chip_ticks, Repeats, Wakes_device, Sets_device, Shows, Joins, Discovers, Links, Loses, Loses_acks, Marks_loss, Marks_change, Clears_pipe, Collides_next, Stalls, Cuts, begins, outcome}
+use Rattle.outside_model.specs.Events.{OuterEvent, Begins_line, Begins_tick, Host_writes, Host_takes, Host_notes, Host_begins, Chip_takes, Arrives, Gives, Device_ticks, Chip_ticks, Repeats, Wakes_device, Sets_device, Shows, Joins, Discovers, Marks_loss, Marks_change, Clears_pipe, Collides_next, begins, outcome}
 use Rattle.proof_device.proofs.Entered.{IsChange, IsCleared, IsMark, IsShown, all_cleared, all_shown, changes_entered, told_by_marks}
 use Rattle.proof_air.specs.proof_walk.Outside.{IsNote, awaits_number, nothing}
 use Rattle.proof_air.specs.Logs.{Tie}

@@ -1,9 +1,8 @@
 -- The count of the frames for the host goes on with each event where it may come, and with each part of a line that begins.
-use Rattle.std.proofs.Common.{◌≡◌, ◌≤◌, ◌<◌, ◌⊎◌, ℕ, zero, suc, ◌+◌, ◌-◌, ◌&&◌, ◌||◌, not, Bool, true, false, if◌then◌else◌, inl, inr, List, [], ◌∷◌, ◌++◌, length, refl, sym, ap, ap₂, ◌∙◌, subst, append-nil, append_assoc, length-append, arith}
-use Rattle.std.specs.Prelude.{Option, Some, None, slice_get}
+use Rattle.std.proofs.Common.{◌≡◌, ◌⊎◌, ℕ, zero, suc, ◌+◌, ◌-◌, ◌&&◌, not, Bool, true, false, if◌then◌else◌, inl, inr, List, [], ◌∷◌, ◌++◌, length, refl, sym, ap, ◌∙◌, subst, append-nil, append_assoc, arith}
+use Rattle.std.specs.Prelude.{Option, None}
 use Rattle.std.specs.Option.{is_some}
 use Rattle.std.specs.List.{AllByRecursion}
-use Rattle.serial_frame.specs.Frame.{FrameParts}
 use Rattle.serial_frame.specs.Stream.{Rest, after_tick}
 use Rattle.serial_frame.specs.declared.item.Item.{Item}
 use Rattle.serial_link.specs.Rules.{SideObeys, Step}
@@ -30,7 +29,6 @@ use Rattle.law_transcript.specs.Restarts.{is_repeat, repeats as answers_repeat}
 use Rattle.law_transcript.specs.Lists.{EachAfter}
 use Rattle.law_wire.specs.Asked.{Course, clock_of, course_of}
 use Rattle.law_wire.specs.Answering.{MayWait}
-use Rattle.law_wire.specs.Given.{given}
 use Rattle.host_model.specs.State.{HostState}
 use Rattle.host_model.specs.Events.{HostEvent, Accepts, Cancels}
 use Rattle.host_model.specs.Outs.{answers}
@@ -40,15 +38,15 @@ use Rattle.outside_model.specs.Devices.{State}
 use Rattle.outside_model.specs.State.{OuterState, Outcome, Outside, first_outer}
 use Rattle.outside_model.specs.Chip.{chip_does}
 use Rattle.outside_model.specs.Results.{gives}
-use Rattle.outside_model.specs.Events.{OuterEvent, Begins_line, Begins_tick, Chip_takes, Arrives, Gives, Chip_ticks, Repeats, Collides_next, Host_begins, Host_notes, Host_writes, Device_ticks, Wakes_device, Sets_device, Shows, Joins, Discovers, Links, Loses, Loses_acks, Marks_loss, Marks_change, Clears_pipe, Stalls, Cuts, Host_takes as host_takes, has_entered, outcome, stamp, steps, ticked_entry, May as MayOutside, entries as entries_outside, happens as happens_outside}
+use Rattle.outside_model.specs.Events.{OuterEvent, Begins_line, Begins_tick, Chip_takes, Arrives, Gives, Chip_ticks, Repeats, Collides_next, Host_begins, Host_notes, Host_writes, Device_ticks, Host_takes as host_takes, has_entered, outcome, stamp, steps, ticked_entry, May as MayOutside, entries as entries_outside, happens as happens_outside}
 use Rattle.outside_model.specs.Events as outer
 use Rattle.world_model.specs.State.{Machine, first_machine}
 use Rattle.world_model.specs.Events.{Event, Outside_does, Host_does, Host_takes, Decoder_ticks, Refuses, Shows_values, Restarts, May, entries, happens}
 use Rattle.proof_host.proofs.Lists.{each-append}
 use Rattle.proof_air.specs.proof_walk.ByLine.{CoversLine}
-use Rattle.proof_air.specs.proof_walk.Outside.{CoversAnswer, CoversHost, CoversOuter, IsHostNote, IsNote, awaits_number, nothing}
+use Rattle.proof_air.specs.proof_walk.Outside.{CoversAnswer, CoversHost, CoversOuter, awaits_number, nothing}
 use Rattle.proof_air.specs.proof_walk.Phases.{Phase, Between, Said_line, Begun, Doing, To_tick, Ticked, Arriving, Giving, Ticking_devices, Ticking_chip, Ticking_decoder, Ticking_host, Sleeping, Submitting, Moving, Moved, Goes, Turns}
-use Rattle.proof_air.specs.Landing.{KnowLanding, Landed, Landing, LandsNone, Opened, Repeating, Saying, TieSent}
+use Rattle.proof_air.specs.Landing.{KnowLanding, Landed}
 use Rattle.proof_air.specs.Logs.{Tie, log_of}
 use Rattle.proof_air.proofs.ByLine.{effect_covered}
 use Rattle.proof_air.proofs.Counting.{frames_sent}
@@ -58,21 +56,21 @@ use Rattle.proof_air.proofs.Logs.{plain_sent}
 use Rattle.proof_air.proofs.HostNotes.{is_note}
 use Rattle.proof_air.proofs.Machines.{machine_goes}
 use Rattle.proof_air.proofs.Times.{outcome_time, same_number}
-use Rattle.proof_line.specs.proof_traffic.Facts.{flying_in, one_if}
+use Rattle.proof_line.specs.proof_traffic.Facts.{one_if}
 use Rattle.proof_line.specs.proof_traffic.OnAir.{on_air}
-use Rattle.proof_line.specs.proof_traffic.OutsideTraffic.{flags, outward}
+use Rattle.proof_line.specs.proof_traffic.OutsideTraffic.{outward}
 use Rattle.proof_line.proofs.Arrivals.{NoNexting}
 use Rattle.proof_line.proofs.ChipAccounts.{event_steps, gives_account, outer_steps, steps_account, steps_by}
 use Rattle.proof_line.proofs.Parts.{Laws}
-use Rattle.proof_chip.specs.Calling.{AreGiven, AreLanding, KnowCalls, Waits}
+use Rattle.proof_chip.specs.Calling.{AreLanding, KnowCalls, Waits}
 use Rattle.proof_chip.specs.Sending.{Agrees, AirSo, AreNow, GroundAir, KnowAir}
-use Rattle.proof_chip.specs.Serving.{GoesOn, Serves}
-use Rattle.proof_chip.specs.Tally.{Counting, IsOfLine, KnowTally, LeavesLine, Outlook, TallyAt, TallyBefore, TallyNow, TallySo, infos_in, outlook, owed}
+use Rattle.proof_chip.specs.Serving.{GoesOn}
+use Rattle.proof_chip.specs.Tally.{IsOfLine, KnowTally, Outlook, TallyAt, TallyBefore, TallyNow, TallySo, infos_in, outlook}
 use Rattle.proof_chip.proofs.Calling.{flying}
 use Rattle.proof_chip.proofs.Ending.{serves_none}
 use Rattle.proof_chip.proofs.Giving.{gives_t, map_t}
 use Rattle.proof_chip.proofs.Growing.{serves_aside}
-use Rattle.proof_chip.proofs.Items.{Puts, takes_tally}
+use Rattle.proof_chip.proofs.Items.{takes_tally}
 use Rattle.proof_chip.proofs.Landed.{arrives_tally, repeats_tally}
 use Rattle.proof_chip.proofs.Quieting.{IsUnanswered}
 use Rattle.proof_chip.proofs.Stamped.{aside_now_t, entered_outlook, no_more, stamp_t}
@@ -459,9 +457,11 @@ module _ (devices : List State) (laws : Laws) (none : NoNexting) (Ground : Phase
   tally_event (Giving (suc left) ticks) next past m event (route, event_is, next_is) may ground airs known =
       goes_to next (Giving left ticks) event (Outside_does (Gives route)) past m event_is next_is (gives_here left ticks past m route ground known.0, tt)
   tally_event (Ticking_devices place (suc count) ticks) next past m event (drawn, route, event_is, next_is) may ground airs known =
-      goes_to next (Ticking_devices (place + 1) count ticks) event (Outside_does (Device_ticks place drawn route)) past m event_is next_is
-      (outside_now past m (Device_ticks place drawn route)
-      (still_goes devices laws none did past m.outside (law.history (Ticking_devices place (suc count) ticks) past m ground) (Device_ticks place drawn route) tt tt known.0), tt)
+      goes_to next (Ticking_devices (place + 1) count ticks) event (Outside_does (Device_ticks place drawn route)) past m event_is next_is (
+        outside_now past m (Device_ticks place drawn route)
+            (still_goes devices laws none did past m.outside (law.history (Ticking_devices place (suc count) ticks) past m ground) (Device_ticks place drawn route) tt tt known.0),
+        tt,
+      )
   tally_event (Ticking_chip ticks) next past m event (event_is, next_is) may ground airs known =
       goes_to next (Ticking_decoder ticks) event (Outside_does Chip_ticks) past m event_is next_is
       (outside_now past m Chip_ticks (ticks_go devices laws none did past m.outside (law.history (Ticking_chip ticks) past m ground) known.0), tt)
@@ -475,10 +475,12 @@ module _ (devices : List State) (laws : Laws) (none : NoNexting) (Ground : Phase
       goes_to next (Submitting passes ticks) event (Host_does asked) past m event_is next_is (host_now past m (Host_does asked) tt (subst (May m) event_is may) known.0, tt)
   tally_event (Moving passes ticks) next past m event (rest, ways, event_is, next_is) may ground airs known =
       let count : ℕ = length m.outside.outer.to_chip.bytes in
-      goes_to next (Moved true passes ticks) event (Outside_does (Chip_takes count rest ways)) past m event_is next_is
-      (outside_now past m (Chip_takes count rest ways)
-      (takes_go devices laws none did past m.outside (law.history (Moving passes ticks) past m ground) count rest ways (may_outside m (Chip_takes count rest ways) (subst (May m) event_is may))
-      (law.agrees passes ticks past m ground) airs.0 known.0), tt)
+      goes_to next (Moved true passes ticks) event (Outside_does (Chip_takes count rest ways)) past m event_is next_is (
+        outside_now past m (Chip_takes count rest ways)
+            (takes_go devices laws none did past m.outside (law.history (Moving passes ticks) past m ground) count rest ways (may_outside m (Chip_takes count rest ways) (subst (May m) event_is may))
+            (law.agrees passes ticks past m ground) airs.0 known.0),
+        tt,
+      )
   tally_event (Moved has_moved passes ticks) next past m event (rest, items, done, event_is, next_is) may ground airs known =
       goes_to next (Sleeping passes ticks) event (Host_takes _ rest items done) past m event_is next_is (host_now past m (Host_takes _ rest items done) tt (subst (May m) event_is may) known.0, tt)
   tally_event here next past m event goes may ground airs known = absurd goes

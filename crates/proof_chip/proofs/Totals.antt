@@ -1,9 +1,8 @@
 -- How many results what was asked still has, where another SendData is under way than before: none for one that was taken at another answer.
-use Rattle.std.proofs.Common.{◌≡◌, ◌<◌, ◌≤◌, ℕ, ◌+◌, ◌-◌, ◌==◌, ◌&&◌, not, nat_lt, Bool, true, false, if◌then◌else◌, List, [], ◌∷◌, ◌++◌, map, filter, length, refl, sym, ap, ap₂, ◌∙◌, subst, append-nil, append_assoc, length-append, eq-eqb, ne_eqb, arith}
-use Rattle.std.specs.Prelude.{None, slice_get}
-use Rattle.std.proofs.lemmas.List.{length-map}
-use Rattle.std.specs.List.{AllByRecursion, flat_map, list_any}
-use Rattle.zw_base.proofs.Each.{all-append, all-right, all-weaker}
+use Rattle.std.proofs.Common.{◌≡◌, ◌<◌, ℕ, ◌+◌, ◌-◌, ◌==◌, ◌&&◌, not, Bool, true, false, if◌then◌else◌, List, [], ◌∷◌, ◌++◌, map, filter, length, refl, ap, ap₂, ◌∙◌, subst, append_assoc, eq-eqb, ne_eqb, arith}
+use Rattle.std.specs.Prelude.{slice_get}
+use Rattle.std.specs.List.{AllByRecursion, flat_map}
+use Rattle.zw_base.proofs.Each.{all-append}
 use Rattle.chip_functions.specs.declared.request.Request.{Request}
 use Rattle.chip_functions.specs.declared.request.Request.TheVariants.{RequestNodeInfo}
 use Rattle.chip_functions.specs.declared.notice.TransmitStatus.TheVariants.{NoRoute}
@@ -12,7 +11,7 @@ use Rattle.zw_text.specs.declared.entry.Entry.{Entry}
 use Rattle.zw_text.specs.declared.entry.Entry.TheVariants as entry
 use Rattle.law_transcript.specs.Lists.{listed, shown_after}
 use Rattle.law_wire.specs.Asked.{Asked, Course, Sending, acks, asked, asked_at, is_ack, last_sending, requests_of}
-use Rattle.law_wire.specs.Results.{Called, ended_by, is_outward}
+use Rattle.law_wire.specs.Results.{ended_by, is_outward}
 use Rattle.law_wire.specs.Given.{information_of}
 use Rattle.proof_chip.specs.Tally.{informed, infos_asked, total}
 use Rattle.proof_chip.proofs.Agreeing.{acks_more}
