@@ -34,7 +34,8 @@ use Rattle.proof_chip.proofs.Finishing.{Finishes, Sees, calls_t}
 use Rattle.proof_chip.proofs.Growing.{serves_aside}
 use Rattle.proof_chip.proofs.Numbering.{with_number}
 use Rattle.proof_chip.proofs.Standing.{few_stand}
-use Rattle.proof_chip.proofs.Tallied.{AreApart, IsApart, apart_t, before_stays, both_so, forgets_t, now_stays}
+use Rattle.proof_chip.proofs.Asides.{AreUnrelated, IsUnrelated}
+use Rattle.proof_chip.proofs.Tallied.{apart_t, before_stays, both_so, forgets_t, now_stays}
 use Rattle.proof_chip.proofs.Tallying.{IsFate, before_lands, now_again}
 use Rattle.proof_chip.proofs.Telling.{IsAside}
 
@@ -81,7 +82,7 @@ IsPlain event = ⊥
 abbrev pub ArePlain : List AirEvent → Type 0
 ArePlain events = AllByRecursion IsPlain events
 
-change_idle : (e : Entry) → IsChange e → IsApart e
+change_idle : (e : Entry) → IsChange e → IsUnrelated e
 change_idle (entry.Dev node by setting) change = (tt, (tt, tt))
 change_idle e change = absurd change
 
@@ -147,7 +148,7 @@ module _ (devices : List State) (v : Outlook) (left number : ℕ) (numbers : Lis
 
   -- entries of it, and then the rest
   plain_by : (there : List State) (coming : ℕ) (o : OuterState) (events : List AirEvent) → EndsIn coming (each (deals there) o events) (steps_by (all_account there events o)) o.chip.state.port
-      → (told : List Entry) → AreApart told → (did : List Step) (past : List Entry) → TallySo (Still coming) did past o.chip.state.port
+      → (told : List Entry) → AreUnrelated told → (did : List Step) (past : List Entry) → TallySo (Still coming) did past o.chip.state.port
       → TallySo (TallyBefore devices (outlook (each (deals there) o events).outer) true left false 0) (did ++ steps_by (all_account there events o)) (past ++ (told ++ (each (deals there) o events).entries))
       (each (deals there) o events).outer.chip.state.port
   plain_by there coming o events goes told apart did past so =
@@ -163,7 +164,7 @@ module _ (devices : List State) (v : Outlook) (left number : ℕ) (numbers : Lis
       plain_by there coming o (plain ++ rest) (plain_t there coming o rest goes plain are.1) (deals there o (tells_of.Sent at from to route payload)).entries ((tt, (tt, are.0)), tt) did past so
   plain_t there coming o rest goes (tells_of.Changed node at ∷ plain) are did past so =
       plain_by there coming o (plain ++ rest) (plain_t there coming o rest goes plain are.1) (deals there o (tells_of.Changed node at)).entries
-      (let change = change_at (device_at there (place_of node there)) at in all-weaker IsChange IsApart change_idle (change_entries node change) (change_entered node change)) did past so
+      (let change = change_at (device_at there (place_of node there)) at in all-weaker IsChange IsUnrelated change_idle (change_entries node change) (change_entered node change)) did past so
   plain_t there coming o rest goes (tells_of.Heard at ∷ plain) are did past so = absurd are.0
   plain_t there coming o rest goes (tells_of.Lost at ∷ plain) are did past so = absurd are.0
   plain_t there coming o rest goes (tells_of.Unheard at ∷ plain) are did past so = absurd are.0
@@ -231,12 +232,12 @@ module _ (there : List State) (o : OuterState) where
   plain_rests (tells_of.ToChip at from payload ∷ plain) are = absurd are.0
   plain_rests (tells_of.Done at status dead ∷ plain) are = absurd are.0
 
-  pub plain_apart : (plain : List AirEvent) → ArePlain plain → AreApart (each (deals there) o plain).entries
+  pub plain_apart : (plain : List AirEvent) → ArePlain plain → AreUnrelated (each (deals there) o plain).entries
   plain_apart [] are = tt
   plain_apart (tells_of.Sent at from to route payload ∷ plain) are = ((tt, (tt, are.0)), plain_apart plain are.1)
   plain_apart (tells_of.Changed node at ∷ plain) are =
       let change = change_at (device_at there (place_of node there)) at in
-      all-append IsApart (change_entries node change) (each (deals there) o plain).entries (all-weaker IsChange IsApart change_idle (change_entries node change) (change_entered node change)) (plain_apart plain are.1)
+      all-append IsUnrelated (change_entries node change) (each (deals there) o plain).entries (all-weaker IsChange IsUnrelated change_idle (change_entries node change) (change_entered node change)) (plain_apart plain are.1)
   plain_apart (tells_of.Heard at ∷ plain) are = absurd are.0
   plain_apart (tells_of.Lost at ∷ plain) are = absurd are.0
   plain_apart (tells_of.Unheard at ∷ plain) are = absurd are.0

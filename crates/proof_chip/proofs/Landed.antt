@@ -55,7 +55,6 @@ use Rattle.proof_line.proofs.Flights.{flights_are}
 use Rattle.proof_line.proofs.Parts.{Laws}
 use Rattle.proof_chip.specs.Calling.{Waits}
 use Rattle.proof_chip.specs.Tally.{AreOwn, Outlook, TallyBefore, TallyNow, TallySo, number_of, numbers_from, outlook}
-use Rattle.proof_chip.proofs.Acting.{NotHome, other_node}
 use Rattle.proof_chip.proofs.Arriving.{ArePlain, again_device_t, heard_brings, lost_brings, lost_brings_none, lost_home_t, own_arrives_t, plain_rests, unheard_brings, unheard_brings_none}
 use Rattle.proof_chip.proofs.Calling.{flying}
 use Rattle.proof_chip.proofs.Finishing.{Sees}
@@ -64,7 +63,8 @@ use Rattle.proof_chip.proofs.Numbering.{numbers_above, numbers_many}
 use Rattle.proof_chip.proofs.Settling.{own}
 use Rattle.proof_chip.proofs.Standing.{goes_none}
 use Rattle.proof_chip.proofs.Steady.{answers_stay, homes_numbers, stays_looks}
-use Rattle.proof_chip.proofs.Tallied.{AreApart, apart_t, none_so, now_stays}
+use Rattle.proof_chip.proofs.Asides.{AreUnrelated, NotHome, other_node}
+use Rattle.proof_chip.proofs.Tallied.{apart_t, none_so, now_stays}
 
 -- ---- what a device does
 
@@ -357,7 +357,7 @@ module _ (devices : List State) (laws : Laws) (past : List Entry) (w : Outside) 
 
 -- ---- a frame is heard again
 
-refusal_apart : (w : Outside) (refused : RepeatRefusal) (step : mesh.AirStep) → AreApart (repeats w (Some refused) step).entries
+refusal_apart : (w : Outside) (refused : RepeatRefusal) (step : mesh.AirStep) → AreUnrelated (repeats w (Some refused) step).entries
 refusal_apart w NeverSent step = ((tt, (tt, tt)), tt)
 refusal_apart w Forgotten step = ((tt, (tt, tt)), tt)
 refusal_apart w (Stale later) step = ((tt, (tt, tt)), tt)

@@ -25,6 +25,7 @@ mod Passing
 mod Settling
 mod Payloads
 mod Judged
+mod Asides
 mod Tallied
 mod Giving
 mod Stamped

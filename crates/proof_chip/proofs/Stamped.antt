@@ -9,7 +9,8 @@ use Rattle.outside_model.specs.State.{OuterState, Outcome}
 use Rattle.outside_model.specs.Events.{has_entered, stamp, ticked_entry}
 use Rattle.proof_air.specs.proof_walk.Outside.{awaits_number}
 use Rattle.proof_chip.specs.Tally.{Counting, Outlook, TallyBefore, TallyNow, TallySo, outlook}
-use Rattle.proof_chip.proofs.Tallied.{AreApart, Stays, apart_t, before_number_t, before_stays, now_number_t, now_stays}
+use Rattle.proof_chip.proofs.Asides.{AreUnrelated}
+use Rattle.proof_chip.proofs.Tallied.{Stays, apart_t, before_number_t, before_stays, now_number_t, now_stays}
 
 pub no_more : (b c : Bool) → (b && not (b || c)) ≡ false
 no_more true c = refl
@@ -36,7 +37,7 @@ module _ (Before After : Bool → Counting) (p : OuterState) (did now : List Ste
       (subst (λ (l : List Entry). TallySo (After false) now l p.chip.state.port) (append_assoc past (ticked_entry p) (first ∷ told))
       (makes false (past ++ ticked_entry p) (ticked_entry p) refl (λ is. absurd (let no : false ≡ true = is in cc)) (numbers so)))
 
-module _ (devices : List State) (o : OuterState) (x : Outcome) (did : List Step) (past : List Entry) (apart : AreApart x.entries) (side : x.outer.chip.state.port.side ≡ o.chip.state.port.side)
+module _ (devices : List State) (o : OuterState) (x : Outcome) (did : List Step) (past : List Entry) (apart : AreUnrelated x.entries) (side : x.outer.chip.state.port.side ≡ o.chip.state.port.side)
     (waiting : x.outer.chip.state.port.waiting ≡ o.chip.state.port.waiting) (same : outlook x.outer ≡ outlook o) (awaits : awaits_number x.outer ≡ awaits_number o) where
   -- ---- an event that tells nothing of the chip
 

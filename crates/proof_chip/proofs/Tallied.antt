@@ -29,6 +29,7 @@ use Rattle.proof_line.proofs.ChipAccounts.{call_account, call_if, forget_if, for
 use Rattle.proof_air.proofs.Times.{does_chip}
 use Rattle.proof_chip.specs.Serving.{GoesOn, Serves}
 use Rattle.proof_chip.specs.Tally.{Counting, Outlook, TallyBefore, TallyNow, TallySo}
+use Rattle.proof_chip.proofs.Asides.{AreUnrelated, IsUnrelated}
 use Rattle.proof_chip.proofs.Growing.{serves_aside, serves_event, told as put_by}
 use Rattle.proof_chip.proofs.Judged.{goes_back}
 use Rattle.proof_chip.proofs.Owing.{not_none, owes_some, no_route_quiet, call_quiet, without_call, without_due}
@@ -57,12 +58,6 @@ chip_idle o event none =
     let puts = outs o.chip.state event in
     all-both IsPut IsOther IsIdle put_idle (each put_out p puts).entries (puts_put puts p) (puts_other puts p (event_none o.chip.state event none))
 
-abbrev pub IsApart : Entry → Type 0
-IsApart e = IsAside e × IsIdle e
-
-abbrev pub AreApart : List Entry → Type 0
-AreApart told = AllByRecursion IsApart told
-
 module _ (devices : List State) where
   -- ---- what stays through such entries; while the number of the tick is still to be entered, none are
   abbrev pub Stays : Bool → Counting → Type 0
@@ -82,12 +77,12 @@ module _ (devices : List State) where
 
   -- ---- entries that tell nothing of the chip
 
-  pub apart_t : (awaits : Bool) (Are : Counting) → Stays awaits Are → (did : List Step) (past told : List Entry) (port later : PortState) → (awaits ≡ true → told ≡ []) → AreApart told → later.side ≡ port.side
+  pub apart_t : (awaits : Bool) (Are : Counting) → Stays awaits Are → (did : List Step) (past told : List Entry) (port later : PortState) → (awaits ≡ true → told ≡ []) → AreUnrelated told → later.side ≡ port.side
       → later.waiting ≡ port.waiting → TallySo Are did past port → TallySo Are did (past ++ told) later
   apart_t awaits Are stays did past told port later silent apart side waiting (frames, serves, are) = (
     frames,
-    serves_aside did frames past told port later (all-weaker IsApart IsAside (λ e is. is.0) told apart) side waiting serves,
-    λ course goes. stays (length frames) course past told silent (all-weaker IsApart IsIdle (λ e is. is.1) told apart) (apart_waits devices course past told apart) (are course goes),
+    serves_aside did frames past told port later (all-weaker IsUnrelated IsAside (λ e is. is.0) told apart) side waiting serves,
+    λ course goes. stays (length frames) course past told silent (all-weaker IsUnrelated IsIdle (λ e is. is.1) told apart) (apart_waits devices course past told apart) (are course goes),
   )
 
   -- the number of the tick

@@ -66,6 +66,7 @@ use Rattle.proof_chip.specs.Calling.{AreLanding, KnowCalls, Waits}
 use Rattle.proof_chip.specs.Sending.{Agrees, AirSo, AreNow, GroundAir, KnowAir}
 use Rattle.proof_chip.specs.Serving.{GoesOn}
 use Rattle.proof_chip.specs.Tally.{IsOfLine, KnowTally, Outlook, TallyAt, TallyBefore, TallyNow, TallySo, infos_in, outlook}
+use Rattle.proof_chip.proofs.Asides.{IsHosts, IsSteady, IsStill, hosts_apart, still_apart, still_port}
 use Rattle.proof_chip.proofs.Calling.{flying}
 use Rattle.proof_chip.proofs.Ending.{serves_none}
 use Rattle.proof_chip.proofs.Giving.{gives_t, map_t}
@@ -75,7 +76,7 @@ use Rattle.proof_chip.proofs.Landed.{arrives_tally, repeats_tally}
 use Rattle.proof_chip.proofs.Quieting.{IsUnanswered}
 use Rattle.proof_chip.proofs.Stamped.{aside_now_t, entered_outlook, no_more, stamp_t}
 use Rattle.proof_chip.proofs.Standing.{few_stand}
-use Rattle.proof_chip.proofs.Steady.{IsHosts, IsSteady, IsStill, hosts_apart, hosts_await, hosts_chip, hosts_look, steady_awaits, steady_looks, still_apart, still_port}
+use Rattle.proof_chip.proofs.Steady.{hosts_await, hosts_chip, hosts_look, steady_awaits, steady_looks}
 use Rattle.proof_chip.proofs.Tallied.{before_number_t, none_so, now_number_t, now_stays, quiet_t}
 use Rattle.proof_chip.proofs.Tallying.{before_next, before_over, now_said, now_ticks}
 
