@@ -24,7 +24,8 @@ use Rattle.proof_line.specs.proof_traffic.OnAir.{on_air}
 use Rattle.proof_line.specs.proof_traffic.OutsideTraffic.{flags}
 use Rattle.proof_air.proofs.Times.{does_chip, does_time}
 use Rattle.proof_chip.specs.Tally.{AreNumbered, AreOwn, Outlook, TallyBefore, TallySo, infos_in, numbers_from, outlook, owed}
-use Rattle.proof_chip.proofs.Giving.{Rests, done_rests, map_t}
+use Rattle.proof_chip.proofs.Giving.{done_rests, map_t}
+use Rattle.proof_chip.proofs.Resting.{Rests}
 use Rattle.proof_chip.proofs.Numbering.{Ends, arrived, over, with_number}
 use Rattle.proof_chip.proofs.Owing.{Quieted, Splits, call_quiet, last_flies, no_routes_quiet, quiet_call, quieted, splits, without_call}
 use Rattle.proof_chip.proofs.Tallied.{before_stays, both_so, own_call_t, quiet_call_t, quiet_routes_t}

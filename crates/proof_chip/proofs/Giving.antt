@@ -2,17 +2,13 @@
 use Rattle.std.proofs.Common.{◌≡◌, ◌<◌, ℕ, zero, suc, ◌+◌, ◌-◌, ◌==◌, ◌&&◌, not, Bool, true, false, if◌then◌else◌, List, [], ◌∷◌, ◌++◌, length, drop, refl, sym, ap, ap₂, ◌∙◌, subst, arith}
 use Rattle.std.specs.Prelude.{Option, Some, None}
 use Rattle.std.specs.Option.{is_some}
-use Rattle.serial_frame.specs.Frame.{FrameParts}
 use Rattle.serial_link.specs.Rules.{Step}
-use Rattle.serial_link.specs.declared.turn.Turn.{Turn}
-use Rattle.serial_link.specs.declared.turn.Turn.TheVariants.{Idle, Copied, Paused}
 use Rattle.route_table.specs.declared.route.Route.{Route}
 use Rattle.chip_functions.specs.declared.notice.TransmitStatus.{TransmitStatus}
 use Rattle.chip_functions.specs.declared.notice.TransmitStatus.TheVariants.{NoRoute as no_route_status}
-use Rattle.chip_sim.specs.Waiting.{PortState, is_full, queued_outs_at}
+use Rattle.chip_sim.specs.Waiting.{PortState}
 use Rattle.chip_sim.specs.State.{ChipState}
 use Rattle.chip_sim.specs.Events.{ChipEvent, Done, Informed, after, collides, ended, ended_outs}
-use Rattle.chip_sim.specs.declared.out.ChipOut.TheVariants.{Full}
 use Rattle.chip_sim.specs.declared.out.Sending.{Sending as SendingParts}
 use Rattle.mesh_sim.specs.Air.{AirState}
 use Rattle.zw_text.specs.declared.entry.Entry.{Entry}
@@ -35,28 +31,15 @@ use Rattle.proof_chip.specs.Tally.{AreNumbered, AreOwn, Counting, Lacks, Outlook
 use Rattle.proof_chip.proofs.Numbering.{numbers_home}
 use Rattle.proof_chip.proofs.Owing.{last_flies, no_route_quiet, quiet_call, without_call, without_due, infos_without}
 use Rattle.proof_chip.proofs.Quieting.{IsUnanswered}
+use Rattle.proof_chip.proofs.Resting.{AreLeaving, Rests, each_rests, queued_leaves}
 use Rattle.proof_chip.proofs.Tallied.{before_stays, own_call_t, none_so, post_t, quiet_route_t}
 use Rattle.proof_chip.proofs.Tallying.{before_next, give_above}
 
 -- ---- what an event of the chip leaves as it is
 
-pub record Rests (o p : OuterState) : Type 0 where
-  pub calls : p.calls ≡ o.calls
-  pub due : p.due ≡ o.due
-  pub air : p.air ≡ o.air
-
-full_rests : (b : Bool) (o : OuterState) → Rests o (each put_out o (if b then Full ∷ [] else [])).outer
-full_rests true o = record { calls = refl; due = refl; air = refl }
-full_rests false o = record { calls = refl; due = refl; air = refl }
-
-pub queued_rests : (turn : Turn) (port : PortState) (f : FrameParts) (o : OuterState) → Rests o (each put_out o (queued_outs_at turn port f)).outer
-queued_rests Idle port f o = record { calls = refl; due = refl; air = refl }
-queued_rests (Copied g copies ticks) port f o = full_rests (is_full port.waiting) o
-queued_rests (Paused g copies ticks) port f o = full_rests (is_full port.waiting) o
-
-ended_rests : (sending : Option SendingParts) (s : ChipState) (status : TransmitStatus) (o : OuterState) → Rests o (each put_out o (ended_outs sending s status)).outer
-ended_rests None s status o = record { calls = refl; due = refl; air = refl }
-ended_rests (Some parts) s status o = queued_rests s.port.side.turn s.port _ o
+ended_leaves : (sending : Option SendingParts) (s : ChipState) (status : TransmitStatus) → AreLeaving (ended_outs sending s status)
+ended_leaves None s status = tt
+ended_leaves (Some parts) s status = queued_leaves s.port.side.turn s.port _
 
 pub done_rests : (o : OuterState) (status : TransmitStatus) → Rests o (chip_does o (Done status)).outer
 unfolding chip_does
@@ -65,14 +48,14 @@ done_rests o status = by (o.chip.state.aborted == 0)
     by : (b : Bool) → Rests o (each put_out (with_chip o (if b then ended o.chip.state.sending o.chip.state status else record o.chip.state { aborted = o.chip.state.aborted - 1 }))
         (if b then ended_outs o.chip.state.sending o.chip.state status else [])).outer
     by true =
-        let got = ended_rests o.chip.state.sending o.chip.state status (with_chip o (ended o.chip.state.sending o.chip.state status)) in
+        let got = each_rests (ended_outs o.chip.state.sending o.chip.state status) (with_chip o (ended o.chip.state.sending o.chip.state status)) (ended_leaves o.chip.state.sending o.chip.state status) in
         record { calls = got.calls; due = got.due; air = got.air }
     by false = record { calls = refl; due = refl; air = refl }
 
 informed_rests : (o : OuterState) (node : ℕ) (profile : _) → Rests o (chip_does o (Informed node profile)).outer
 unfolding chip_does
 informed_rests o node profile =
-    let got = queued_rests o.chip.state.port.side.turn o.chip.state.port _ (with_chip o (after o.chip.state (Informed node profile))) in record { calls = got.calls; due = got.due; air = got.air }
+    let got = each_rests _ (with_chip o (after o.chip.state (Informed node profile))) (queued_leaves o.chip.state.port.side.turn o.chip.state.port _) in record { calls = got.calls; due = got.due; air = got.air }
 
 -- ---- how it looks then
 

@@ -7,7 +7,6 @@ use Rattle.serial_link.specs.Rules.{Step}
 use Rattle.chip_sim.specs.Waiting.{PortState}
 use Rattle.chip_sim.specs.State.{ChipState}
 use Rattle.chip_sim.specs.Events.{Heard as chip_hears, after, collides}
-use Rattle.mesh_sim.specs.Air.{AirState}
 use Rattle.mesh_sim.specs.declared.event.AirEvent.TheVariants as tells
 use Rattle.zw_text.specs.declared.entry.Entry.{Entry}
 use Rattle.zw_text.specs.declared.entry.Entry.TheVariants as entry
@@ -15,15 +14,13 @@ use Rattle.zw_text.specs.Transcript.{AirFrame}
 use Rattle.law_transcript.specs.Carrying.{homeward}
 use Rattle.law_transcript.specs.Units.{Carried}
 use Rattle.law_transcript.specs.Fates.{first_fate}
-use Rattle.law_transcript.specs.Lists.{last_or, listed}
+use Rattle.law_transcript.specs.Lists.{listed}
 use Rattle.law_transcript.specs.Nodes.{controller}
 use Rattle.law_transcript.specs.Repeats.{frame_of}
 use Rattle.law_transcript.specs.Restarts.{repeats}
 use Rattle.law_wire.specs.Asked.{Course, Sending, last_sending}
 use Rattle.law_wire.specs.Results.{Called, ended_at, ended_by, is_outward, sent_as, status_heard}
 use Rattle.law_wire.specs.Given.{Given, given, handler_of, handlers_at}
-use Rattle.outside_model.specs.declared.waits.Call.{Call}
-use Rattle.outside_model.specs.declared.waits.Due.{Due}
 use Rattle.outside_model.specs.Devices.{State}
 use Rattle.outside_model.specs.State.{OuterState, Outcome, each, silent, with_chip}
 use Rattle.outside_model.specs.Chip.{chip_does}
@@ -31,13 +28,11 @@ use Rattle.outside_model.specs.Air.{deals}
 use Rattle.proof_air.specs.Carrying.{IsHome}
 use Rattle.proof_line.proofs.ChipAccounts.{all_account, heard_account, steps_by}
 use Rattle.proof_line.specs.proof_traffic.Facts.{one_if}
-use Rattle.proof_line.specs.proof_traffic.OnAir.{on_air}
-use Rattle.proof_line.specs.proof_traffic.OutsideTraffic.{flags}
 use Rattle.proof_air.proofs.Times.{does_chip, does_time}
-use Rattle.proof_chip.specs.Tally.{Counting, Outlook, TallyBefore, TallyNow, TallySo, infos_in, numbers_from, outlook}
-use Rattle.proof_chip.proofs.Giving.{Rests, queued_rests}
+use Rattle.proof_chip.specs.Tally.{Counting, Outlook, TallyBefore, TallyNow, TallySo, outlook}
 use Rattle.proof_chip.proofs.Growing.{serves_aside}
 use Rattle.proof_chip.proofs.Quieting.{IsUnanswered}
+use Rattle.proof_chip.proofs.Resting.{Rests, each_rests, queued_leaves, rests_look}
 use Rattle.proof_chip.proofs.Standing.{few_stand}
 use Rattle.proof_chip.proofs.Tallied.{Stays, before_stays, none_so, now_stays, post_t}
 use Rattle.proof_chip.proofs.Tallying.{before_above, before_lands, before_next, now_above, now_again, now_count}
@@ -92,27 +87,15 @@ again_fate past number is = ap (λ (b : Bool). if b then [] else number ∷ []) 
 
 -- ---- outside the host
 
-abbrev outlook_by : ChipState → List Call → AirState → List Due → ℕ → Outlook
-outlook_by s calls air due clock = record {
-  sending = is_some s.sending;
-  by_frame = last_or false (flags calls);
-  numbers = numbers_from (air.frames.landed + 1) (on_air air.frames);
-  infos = infos_in due;
-  clock = clock;
-}
-
 heard_rests : (o : OuterState) (node : ℕ) (payload : List ℕ) → Rests o (chip_does o (chip_hears node payload)).outer
 unfolding chip_does
 heard_rests o node payload =
-    let got = queued_rests o.chip.state.port.side.turn o.chip.state.port _ (with_chip o (after o.chip.state (chip_hears node payload))) in record { calls = got.calls; due = got.due; air = got.air }
+    let got = each_rests _ (with_chip o (after o.chip.state (chip_hears node payload))) (queued_leaves o.chip.state.port.side.turn o.chip.state.port _) in record { calls = got.calls; due = got.due; air = got.air }
 
 heard_outlook : (o : OuterState) (node : ℕ) (payload : List ℕ) → outlook (chip_does o (chip_hears node payload)).outer ≡ outlook o
 heard_outlook o node payload =
-    let p : OuterState = (chip_does o (chip_hears node payload)).outer in
-    let rests = heard_rests o node payload in
-    ap (λ (s : ChipState). outlook_by s p.calls p.air p.due p.clock) (does_chip o (chip_hears node payload))
-    ∙ ap₂ (λ (calls : List Call) (air : AirState). outlook_by o.chip.state calls air p.due p.clock) rests.calls rests.air
-    ∙ ap₂ (λ (due : List Due) (clock : ℕ). outlook_by o.chip.state o.calls o.air due clock) rests.due (ap (λ (t : Bool × Bool × ℕ). t.2) (does_time o (chip_hears node payload)))
+    rests_look o (chip_does o (chip_hears node payload)).outer (heard_rests o node payload) (ap (λ (s : ChipState). is_some s.sending) (does_chip o (chip_hears node payload)))
+    (ap (λ (t : Bool × Bool × ℕ). t.2) (does_time o (chip_hears node payload)))
 
 pub comes_outlook : (b : Bool) (o : OuterState) (node : ℕ) (payload : List ℕ) → outlook (if b then chip_does o (chip_hears node payload) else silent o).outer ≡ outlook o
 comes_outlook true o node payload = heard_outlook o node payload

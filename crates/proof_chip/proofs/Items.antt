@@ -64,11 +64,12 @@ use Rattle.proof_chip.specs.Tally.{Outlook, TallyNow, TallySo, infos_in, numbers
 use Rattle.proof_chip.proofs.Airing.{IsMore, IsNoAck, answer, last_answered}
 use Rattle.proof_chip.proofs.Going.{apart_goes}
 use Rattle.proof_chip.proofs.Growing.{told}
-use Rattle.proof_chip.proofs.Giving.{Rests, Turns}
+use Rattle.proof_chip.proofs.Giving.{Turns}
 use Rattle.proof_chip.proofs.Judged.{decided, goes_back, judged_nodes, none_passed, passed_at}
 use Rattle.proof_chip.proofs.Judges.{both_none, item_keeps, items_of, items_same, silent_item}
 use Rattle.proof_chip.proofs.Keeping.{number_apart}
-use Rattle.proof_chip.proofs.Leaving.{Airs, LeavesAll, LeavesSo, LeavesTaken, Quiet, Shows, answer_leaves, each_rests, leaves_air, leaving_frames, rests_both, shows_of, written_leaves}
+use Rattle.proof_chip.proofs.Leaving.{Airs, LeavesSo, LeavesTaken, Quiet, Shows, leaves_air, leaving_frames, shows_of}
+use Rattle.proof_chip.proofs.Resting.{LeavesAll, Rests, answer_leaves, each_rests, rests_both, rests_look, written_leaves}
 use Rattle.proof_chip.proofs.Answered.{answered_outs}
 use Rattle.proof_chip.proofs.Numbering.{numbers_below, numbers_both}
 use Rattle.proof_chip.proofs.Passing.{more_other, others_no_ack}
@@ -102,21 +103,6 @@ more_frames (e ∷ told) more = more_frames told more.1
 
 -- ---- how it looks
 
-abbrev look_by : Bool → List Call → AirState → List Due → ℕ → Outlook
-look_by sending calls air due clock = record {
-  sending = sending;
-  by_frame = last_or false (flags calls);
-  numbers = numbers_from (air.frames.landed + 1) (on_air air.frames);
-  infos = infos_in due;
-  clock = clock;
-}
-
-pub looks_same : (o p : OuterState) → Rests o p → is_some p.chip.state.sending ≡ is_some o.chip.state.sending → p.clock ≡ o.clock → outlook p ≡ outlook o
-looks_same o p rests sending clock =
-    ap₂ (λ (b : Bool) (calls : List Call). look_by b calls p.air p.due p.clock) sending rests.calls
-    ∙ (ap₂ (λ (air : AirState) (due : List Due). look_by (is_some o.chip.state.sending) o.calls air due p.clock) rests.air rests.due
-    ∙ ap (λ (n : ℕ). look_by (is_some o.chip.state.sending) o.calls o.air o.due n) clock)
-
 does_clock : (o : OuterState) (e : ChipEvent) → (chip_does o e).outer.clock ≡ o.clock
 does_clock o e = ap (λ (t : Bool × Bool × ℕ). t.2) (does_time o e)
 
@@ -139,7 +125,7 @@ quiet_looks : (o : OuterState) (item : Item) (route : Option Route) → IsUnansw
 quiet_looks o item route none =
     let e : ChipEvent = Judged item route in
     let p : OuterState = (chip_does o e).outer in
-    looks_same o p (quiet_rests o item route none)
+    rests_look o p (quiet_rests o item route none)
     (ap (λ (s : ChipState). is_some s.sending) (does_chip o e)
     ∙ ap (λ (passes : Option FrameParts). is_some (judged_frame passes (heard o.chip.state item)).sending) (none_passed (collides o.chip.state) item route none))
     (does_clock o e)

@@ -62,7 +62,8 @@ use Rattle.proof_chip.proofs.Hearing.{hears_again_t, hears_home_t}
 use Rattle.proof_chip.proofs.Numbering.{numbers_above, numbers_many}
 use Rattle.proof_chip.proofs.Settling.{own}
 use Rattle.proof_chip.proofs.Standing.{goes_none}
-use Rattle.proof_chip.proofs.Steady.{answers_stay, homes_numbers, stays_looks}
+use Rattle.proof_chip.proofs.Resting.{stays_looks}
+use Rattle.proof_chip.proofs.Steady.{answers_stay, homes_numbers}
 use Rattle.proof_chip.proofs.Asides.{AreUnrelated, NotHome, other_node}
 use Rattle.proof_chip.proofs.Tallied.{apart_t, none_so, now_stays}
 

@@ -3,23 +3,16 @@ use Rattle.std.proofs.Common.{◌≡◌, ℕ, ◌+◌, Bool, true, false, if◌t
 use Rattle.std.specs.Prelude.{Option, Some, None}
 use Rattle.std.specs.List.{AllByRecursion}
 use Rattle.zw_base.proofs.Each.{all-append}
-use Rattle.serial_frame.specs.Frame.{FrameParts}
 use Rattle.serial_frame.specs.Items.{unit_text}
-use Rattle.serial_frame.specs.declared.item.Item.{Item}
-use Rattle.serial_frame.specs.declared.item.Item.TheVariants.{Good, Refused}
-use Rattle.serial_frame.specs.declared.item.Refusal.TheVariants.{Stray, BadLength, BadSum, BadKind, Aborted}
-use Rattle.serial_frame.specs.declared.unit.Unit.TheVariants.{Ack, Nak, Can, Framed}
-use Rattle.serial_link.specs.declared.turn.Turn.{Turn}
-use Rattle.serial_link.specs.declared.turn.Turn.TheVariants.{Idle, Copied, Paused}
+use Rattle.serial_frame.specs.declared.unit.Unit.TheVariants.{Ack}
 use Rattle.serial_pipes.specs.State.{mark_for}
 use Rattle.serial_pipes.specs.Events.{told_by}
 use Rattle.route_table.specs.declared.route.Route.{Route}
 use Rattle.chip_functions.specs.declared.request.Request.{Request}
 use Rattle.chip_functions.specs.declared.request.Request.TheVariants.{GetInitData, GetCapabilities, SendData, GetVersion, SendDataAbort, MemoryGetId, GetNodeProtocolInfo, AddNode, RequestNodeInfo, IsFailedNode, GetRoutingInfo}
-use Rattle.chip_sim.specs.Waiting.{PortState, is_full, queued_outs_at, written}
 use Rattle.chip_sim.specs.State.{ChipState}
 use Rattle.chip_sim.specs.Answers.{takes as takes_of}
-use Rattle.chip_sim.specs.Requests.{answer_outs, given_outs, performed_outs, reply_to, requested_outs, sent}
+use Rattle.chip_sim.specs.Requests.{given_outs, performed_outs, reply_to, requested_outs, sent}
 use Rattle.chip_sim.specs.declared.out.ChipOut.{ChipOut}
 use Rattle.chip_sim.specs.declared.out.ChipOut.TheVariants.{Write, OnAir, NoRoute, AskInfo, Full}
 use Rattle.mesh_sim.specs.Air.{AirState, departing}
@@ -38,67 +31,13 @@ use Rattle.outside_model.specs.Chip.{put_out, shown_via}
 use Rattle.proof_device.proofs.Entered.{IsMark, told_by_marks}
 use Rattle.proof_line.proofs.Mild.{each-append}
 use Rattle.proof_chip.proofs.Airing.{IsMore, answer}
-use Rattle.proof_chip.proofs.Giving.{Rests}
+use Rattle.proof_chip.proofs.Resting.{AreLeaving, LeavesAll, Rests, each_rests, given_leaves}
 use Rattle.proof_chip.proofs.Quieting.{given_quiet, marks_more, puts_more}
 use Rattle.proof_chip.proofs.Telling.{puts_both}
 
 -- ---- units and drops
 
-abbrev pub LeavesAll : ChipOut → Type 0
-LeavesAll (Write unit) = Unit {0}
-LeavesAll Full = Unit {0}
-LeavesAll out = ⊥
-
-abbrev pub AreLeaving : List ChipOut → Type 0
-AreLeaving puts = AllByRecursion LeavesAll puts
-
-pub rests_none : (o : OuterState) → Rests o o
-rests_none o = record { calls = refl; due = refl; air = refl }
-
-pub rests_both : (o p q : OuterState) → Rests o p → Rests p q → Rests o q
-rests_both o p q first later = record { calls = later.calls ∙ first.calls; due = later.due ∙ first.due; air = later.air ∙ first.air }
-
-put_rests : (out : ChipOut) (o : OuterState) → LeavesAll out → Rests o (put_out o out).outer
-put_rests (Write unit) o leaves = record { calls = refl; due = refl; air = refl }
-put_rests Full o leaves = record { calls = refl; due = refl; air = refl }
-put_rests (OnAir to route payload) o leaves = absurd leaves
-put_rests NoRoute o leaves = absurd leaves
-put_rests (AskInfo node) o leaves = absurd leaves
-
-pub each_rests : (puts : List ChipOut) (o : OuterState) → AreLeaving puts → Rests o (each put_out o puts).outer
-each_rests [] o leaves = rests_none o
-each_rests (out ∷ puts) o leaves = rests_both o (put_out o out).outer (each put_out o (out ∷ puts)).outer (put_rests out o leaves.0) (each_rests puts (put_out o out).outer leaves.1)
-
-full_leaves : (b : Bool) → AreLeaving (if b then Full ∷ [] else [])
-full_leaves true = (tt, tt)
-full_leaves false = tt
-
-queued_leaves : (turn : Turn) (port : PortState) (f : FrameParts) → AreLeaving (queued_outs_at turn port f)
-queued_leaves Idle port f = (tt, tt)
-queued_leaves (Copied g copies ticks) port f = full_leaves (is_full port.waiting)
-queued_leaves (Paused g copies ticks) port f = full_leaves (is_full port.waiting)
-
-given_leaves : (s : ChipState) (o : Option FrameParts) → AreLeaving (given_outs s o)
-given_leaves s None = tt
-given_leaves s (Some f) = queued_leaves s.port.side.turn s.port f
-
-pub written_leaves : (next : Option FrameParts) → AreLeaving (written next)
-written_leaves None = tt
-written_leaves (Some f) = (tt, tt)
-
-pub answer_leaves : (b : Bool) (item : Item) → AreLeaving (answer_outs b item)
-answer_leaves b (Good Ack) = tt
-answer_leaves b (Good Nak) = tt
-answer_leaves b (Good Can) = tt
-answer_leaves true (Good (Framed f)) = (tt, tt)
-answer_leaves false (Good (Framed f)) = (tt, tt)
-answer_leaves b (Refused (Stray x)) = tt
-answer_leaves b (Refused (BadLength n)) = tt
-answer_leaves b (Refused (BadSum want got)) = (tt, tt)
-answer_leaves b (Refused (BadKind x)) = (tt, tt)
-answer_leaves b (Refused Aborted) = tt
-
--- and put no frame on the air
+-- they put no frame on the air
 mark_frames : (told : List Entry) → AllByRecursion IsMark told → frames told ≡ []
 mark_frames [] marks = refl
 mark_frames (entry.Dropped side ∷ told) marks = mark_frames told marks.1

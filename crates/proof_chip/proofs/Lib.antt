@@ -27,6 +27,7 @@ mod Payloads
 mod Judged
 mod Asides
 mod Tallied
+mod Resting
 mod Giving
 mod Stamped
 mod Hearing

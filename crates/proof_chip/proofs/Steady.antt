@@ -19,9 +19,6 @@ use Rattle.mesh_sim.specs.Routes.{backwards}
 use Rattle.mesh_sim.specs.Steps.{answered_if}
 use Rattle.zw_words.specs.declared.side.Side.TheVariants.{Host as by_host, Chip as by_chip}
 use Rattle.zw_text.specs.declared.entry.Entry.{Entry}
-use Rattle.law_transcript.specs.Lists.{last_or}
-use Rattle.outside_model.specs.declared.waits.Call.{Call}
-use Rattle.outside_model.specs.declared.waits.Due.{Due}
 use Rattle.outside_model.specs.State.{OuterState, Outside, each, with_chip}
 use Rattle.outside_model.specs.Chip.{chip_does, put_out}
 use Rattle.outside_model.specs.Devices.{acts_at, acts_by_hand}
@@ -32,38 +29,19 @@ use Rattle.proof_air.specs.Logs.{Tie}
 use Rattle.proof_air.proofs.Fateless.{answered_if_landed}
 use Rattle.proof_air.proofs.Times.{IsWithin, outcome_time}
 use Rattle.proof_line.specs.proof_traffic.OnAir.{on_air}
-use Rattle.proof_line.specs.proof_traffic.OutsideTraffic.{flags, outward}
+use Rattle.proof_line.specs.proof_traffic.OutsideTraffic.{outward}
 use Rattle.proof_line.proofs.Arrivals.{Homes, NoNexting}
 use Rattle.proof_line.proofs.Flights.{flights_are}
 use Rattle.proof_line.proofs.Parts.{Laws}
 use Rattle.proof_chip.specs.Sending.{IsMild}
-use Rattle.proof_chip.specs.Tally.{Outlook, infos_in, numbers_from, outlook}
+use Rattle.proof_chip.specs.Tally.{numbers_from, outlook}
 use Rattle.proof_chip.proofs.Asides.{IsHosts, IsSteady}
 use Rattle.proof_chip.proofs.Calling.{homes}
-use Rattle.proof_chip.proofs.Giving.{Rests}
-use Rattle.proof_chip.proofs.Leaving.{LeavesAll, each_rests, written_leaves}
+use Rattle.proof_chip.proofs.Resting.{LeavesAll, Stays, each_rests, rests_stay, stays_looks, written_leaves}
 use Rattle.proof_chip.proofs.Mild.{outcome_sending}
 use Rattle.proof_chip.proofs.Numbering.{numbers_both, numbers_home}
 
 -- ---- how it looks
-
--- what the chip waits for, and the numbers of its frames on the air
-pub record Stays (o p : OuterState) : Type 0 where
-  pub calls : p.calls ≡ o.calls
-  pub due : p.due ≡ o.due
-  pub numbers : numbers_from (p.air.frames.landed + 1) (on_air p.air.frames) ≡ numbers_from (o.air.frames.landed + 1) (on_air o.air.frames)
-
-abbrev look_by : Bool → List Call → List ℕ → List Due → ℕ → Outlook
-look_by sending calls numbers due clock = record { sending = sending; by_frame = last_or false (flags calls); numbers = numbers; infos = infos_in due; clock = clock }
-
-pub stays_looks : (o p : OuterState) → Stays o p → is_some p.chip.state.sending ≡ is_some o.chip.state.sending → p.clock ≡ o.clock → outlook p ≡ outlook o
-stays_looks o p stays sending clock =
-    ap₂ (λ (b : Bool) (calls : List Call). look_by b calls (outlook p).numbers p.due p.clock) sending stays.calls
-    ∙ (ap₂ (λ (numbers : List ℕ) (due : List Due). look_by (is_some o.chip.state.sending) o.calls numbers due p.clock) stays.numbers stays.due
-    ∙ ap (λ (n : ℕ). look_by (is_some o.chip.state.sending) o.calls (outlook o).numbers o.due n) clock)
-
-rests_stay : (o p : OuterState) → Rests o p → Stays o p
-rests_stay o p rests = record { calls = rests.calls; due = rests.due; numbers = ap (λ (a : AirState). numbers_from (a.frames.landed + 1) (on_air a.frames)) rests.air }
 
 -- frames of devices are on the air behind the others
 pub homes_numbers : (landed : ℕ) (flights home : List Flown) → outward home ≡ 0 → numbers_from landed (flights ++ home) ≡ numbers_from landed flights
