@@ -18,3 +18,9 @@ pub mod Links
 pub mod Ending
 pub mod Payloads
 pub mod Sending
+pub mod Awaiting
+pub mod Judging
+pub mod Pending
+pub mod Requested
+pub mod Begun
+pub mod Tying

@@ -6,4 +6,6 @@ pub mod Resting
 pub mod Sending
 pub mod Calls
 pub mod Networks
+pub mod Awaited
+pub mod Tied
 pub mod Undisturbed
