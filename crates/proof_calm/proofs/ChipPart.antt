@@ -62,7 +62,7 @@ taken o rest = record o { to_chip = way.after o.to_chip (Takes (length o.to_chip
 pub empty : (o : OuterState) (rest : Rest) → (taken o rest).to_chip.bytes ≡ []
 empty o rest = drop_all (length o.to_chip.bytes) o.to_chip.bytes (omega arith)
 
-marks_of : (o : OuterState) (rest : Rest) → HasNoMarks o → HasNoMarks (taken o rest)
+pub marks_of : (o : OuterState) (rest : Rest) → HasNoMarks o → HasNoMarks (taken o rest)
 marks_of o rest none = record { to_chip = none.to_chip; to_host = none.to_host; frames = none.frames; acknowledgements = none.acknowledgements; link = none.link; moves = none.moves }
 
 -- what is so once it has judged them, where it took a payload to send

@@ -71,17 +71,19 @@ goes_on s step u progress is on = ap (λ (o : Option UnderWay). next_from s step
 pub record Stays (u : UnderWay) (h : HostState) (events : List HostEvent) : Type 0 where
   pub progress : Progress
   pub fresh : IsFresh u.progress → IsFresh progress
+  pub answered : is_answered u.progress ≡ true → is_answered progress ≡ true
   pub kept_is : kept (after_all h events) ≡ (h.side, Some (record { purpose = u.purpose; progress = progress }), h.requests.owes, h.requests.last_id)
 
 told_stays : (h : HostState) (event : RequestsEvent) (events : List HostEvent) (step : UnderWay → Next) (u : UnderWay) (progress : Progress) → events ≡ told_requests event
-    → after_request h.requests event ≡ next_from h.requests step h.requests.under_way → h.requests.under_way ≡ Some u → step u ≡ next.GoesOn progress → (IsFresh u.progress → IsFresh progress) → Stays u h events
-told_stays h event events step u progress are is under_way on fresh =
-    record { progress = progress; fresh = fresh; kept_is = told_kept h event events are ∙ ap (kept_with h) (is ∙ goes_on h.requests step u progress under_way on) }
+    → after_request h.requests event ≡ next_from h.requests step h.requests.under_way → h.requests.under_way ≡ Some u → step u ≡ next.GoesOn progress → (IsFresh u.progress → IsFresh progress)
+    → (is_answered u.progress ≡ true → is_answered progress ≡ true) → Stays u h events
+told_stays h event events step u progress are is under_way on fresh answered =
+    record { progress = progress; fresh = fresh; answered = answered; kept_is = told_kept h event events are ∙ ap (kept_with h) (is ∙ goes_on h.requests step u progress under_way on) }
 
 -- where nothing of it changes
 same_stays : (u : UnderWay) (h : HostState) (events : List HostEvent) → h.requests.under_way ≡ Some u → kept (after_all h events) ≡ kept h → Stays u h events
 same_stays u h events under_way same =
-    record { progress = u.progress; fresh = λ fresh. fresh; kept_is = same ∙ ap (λ (o : Option UnderWay). (h.side, o, h.requests.owes, h.requests.last_id)) under_way }
+    record { progress = u.progress; fresh = λ fresh. fresh; answered = λ answered. answered; kept_is = same ∙ ap (λ (o : Option UnderWay). (h.side, o, h.requests.owes, h.requests.last_id)) under_way }
 
 pub stays_on : (u : UnderWay) (h : HostState) (events : List HostEvent) → Stays u h events → GoesOn u (after_all h events)
 stays_on u h events stays = record { progress = stays.progress; under_way = ap (λ (k : OfHost). k.1) stays.kept_is }
@@ -101,16 +103,16 @@ acknowledged_on (Housekeeping task) sends = refl
 acknowledged_on (Attempt n more payload) sends = refl
 acknowledged_on Abort sends = absurd (not_same sends)
 
-on_by : (progress : Progress) (purpose : Purpose) → function_of purpose ≡ SEND_DATA → (later : Progress) × (sent_from purpose progress ≡ next.GoesOn later) × (IsFresh progress → IsFresh later)
-on_by Submitted purpose sends = (Sent response_ticks, acknowledged_on purpose sends, λ fresh. refl)
-on_by (Sent left) purpose sends = (Sent left, refl, λ fresh. fresh)
-on_by (Answered sent left) purpose sends = (Answered true left, refl, λ fresh. fresh)
+on_by : (progress : Progress) (purpose : Purpose) → function_of purpose ≡ SEND_DATA → (later : Progress) × (sent_from purpose progress ≡ next.GoesOn later) × (IsFresh progress → IsFresh later) × (is_answered progress ≡ true → is_answered later ≡ true)
+on_by Submitted purpose sends = (Sent response_ticks, acknowledged_on purpose sends, λ fresh. refl, λ answered. answered)
+on_by (Sent left) purpose sends = (Sent left, refl, λ fresh. fresh, λ answered. answered)
+on_by (Answered sent left) purpose sends = (Answered true left, refl, λ fresh. fresh, λ answered. refl)
 
 pub ack_stays : (h : HostState) (u : UnderWay) (turn : Turn) (events : List HostEvent) → IsSending u h → IsFollowed h turn (Good Ack) events → Stays u h events
 ack_stays h u turn events sending followed = by (is_busy turn) followed
   where
     by : (busy : Bool) → events ≡ told_if busy IsSent → Stays u h events
-    by true are = let on = on_by u.progress u.purpose sending.sends in told_stays h IsSent events at_sent u on.0 are refl sending.under_way on.1 on.2
+    by true are = let on = on_by u.progress u.purpose sending.sends in told_stays h IsSent events at_sent u on.0 are refl sending.under_way on.1 on.2 on.3
     by false are = same_stays u h events sending.under_way (ap (λ (l : List HostEvent). kept (after_all h l)) are)
 
 pub ack_none : (h : HostState) (turn : Turn) (events : List HostEvent) → h.requests.under_way ≡ None → IsFollowed h turn (Good Ack) events → kept (after_all h events) ≡ kept h
@@ -122,13 +124,13 @@ ack_none h turn events none followed = by (is_busy turn) followed
 
 -- ---- the answer that it was taken
 
-answers_on : (u : UnderWay) → function_of u.purpose ≡ SEND_DATA → (later : Progress) × (at_response (SendDataAnswer 1) u ≡ next.GoesOn later) × (IsFresh u.progress → IsFresh later)
-answers_on u sends = by (is_answered u.progress) (function_of u.purpose) sends
+answers_on : (u : UnderWay) → function_of u.purpose ≡ SEND_DATA → (later : Progress) × (at_response (SendDataAnswer 1) u ≡ next.GoesOn later) × (IsFresh u.progress → IsFresh later) × (is_answered later ≡ true)
+answers_on u sends = by (is_answered u.progress) refl (function_of u.purpose) sends
   where
-    by : (b : Bool) (function : ℕ) → function ≡ SEND_DATA
-        → (later : Progress) × ((if b || not (SEND_DATA == function) then next.GoesOn u.progress else judged (SendDataAnswer 1) u) ≡ next.GoesOn later) × (IsFresh u.progress → IsFresh later)
-    by true function is = (u.progress, refl, λ fresh. fresh)
-    by false function is = (Answered (is_sent u.progress) notice_ticks, ap (λ (f : ℕ). if not (SEND_DATA == f) then next.GoesOn u.progress else judged (SendDataAnswer 1) u) is, λ fresh. refl)
+    by : (b : Bool) → is_answered u.progress ≡ b → (function : ℕ) → function ≡ SEND_DATA
+        → (later : Progress) × ((if b || not (SEND_DATA == function) then next.GoesOn u.progress else judged (SendDataAnswer 1) u) ≡ next.GoesOn later) × (IsFresh u.progress → IsFresh later) × (is_answered later ≡ true)
+    by true answered function is = (u.progress, refl, λ fresh. fresh, answered)
+    by false answered function is = (Answered (is_sent u.progress) notice_ticks, ap (λ (f : ℕ). if not (SEND_DATA == f) then next.GoesOn u.progress else judged (SendDataAnswer 1) u) is, λ fresh. refl, refl)
 
 answers_are : (h : HostState) (events : List HostEvent) → FrameFollows h answer_taken events → events ≡ told_requests (Responds (SendDataAnswer 1))
 answers_are h events is =
@@ -138,7 +140,11 @@ answers_are h events is =
 pub answer_stays : (h : HostState) (u : UnderWay) (events : List HostEvent) → IsSending u h → FrameFollows h answer_taken events → Stays u h events
 answer_stays h u events sending is =
     let on = answers_on u sending.sends in
-    told_stays h (Responds (SendDataAnswer 1)) events (at_response (SendDataAnswer 1)) u on.0 (answers_are h events is) refl sending.under_way on.1 on.2
+    told_stays h (Responds (SendDataAnswer 1)) events (at_response (SendDataAnswer 1)) u on.0 (answers_are h events is) refl sending.under_way on.1 on.2 (λ answered. on.3)
+
+pub then_answered : (h : HostState) (u : UnderWay) (events : List HostEvent) (sending : IsSending u h) (is : FrameFollows h answer_taken events) → is_answered (answer_stays h u events sending is).progress ≡ true
+unfolding answer_stays answers_on told_stays
+then_answered h u events sending is = (answers_on u sending.sends).3
 
 pub answer_none : (h : HostState) (events : List HostEvent) → h.requests.under_way ≡ None → FrameFollows h answer_taken events → kept (after_all h events) ≡ kept h
 answer_none h events none is = told_none h (Responds (SendDataAnswer 1)) events (at_response (SendDataAnswer 1)) (answers_are h events is) refl none
@@ -246,7 +252,7 @@ update_leaves h u update events sending is =
     let none : interviewed_by h.requests update ≡ None = ap (λ (o : Option UnderWay). interviewed_from h.requests.first update o) sending.under_way ∙ none_ends update h.requests.first u not in
     let are = told_of_none update events (subst (λ (o : Option ℕ). InterviewEvents update o events) none is) in
     let on : at_update h.requests.first update u ≡ next.GoesOn u.progress = ap (λ (b : Bool). if b then next.Ends (AtUpdate update h.requests.first) else next.GoesOn u.progress) not in
-    told_stays h (Updates update) events (at_update h.requests.first update) u u.progress are refl sending.under_way on (λ fresh. fresh)
+    told_stays h (Updates update) events (at_update h.requests.first update) u u.progress are refl sending.under_way on (λ fresh. fresh) (λ answered. answered)
 
 read_leaves : (h : HostState) (u : UnderWay) (events : List HostEvent) → IsSending u h → (r : Reading Update) → NoticeEvents h (read_as (λ x. ApplicationUpdate x) r >>= λ x. Ok x.0) events → Stays u h events
 read_leaves h u events sending (Ok x) is = update_leaves h u x.0 events sending is

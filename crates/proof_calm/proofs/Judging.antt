@@ -1,8 +1,9 @@
 -- The host judges what is on its way to it: the request under way ends at its call, and goes on at every other frame.
-use Rattle.std.proofs.Common.{◌≡◌, Bool, true, false, List, [], ◌∷◌, ◌++◌, refl, sym, ap, ◌∙◌, subst}
-use Rattle.std.specs.Prelude.{Some, None}
+use Rattle.std.proofs.Common.{◌≡◌, Bool, true, false, inl, inr, List, [], ◌∷◌, ◌++◌, refl, sym, ap, ◌∙◌, subst}
+use Rattle.std.specs.Prelude.{◌⊎◌, Some, None}
 use Rattle.std.specs.List.{AllByRecursion}
 use Rattle.serial_frame.specs.Frame.{FrameParts}
+use Rattle.serial_frame.specs.declared.frame.Kind.TheVariants.{Request as of_request, Response as of_response}
 use Rattle.serial_frame.specs.declared.item.Item.TheVariants.{Good}
 use Rattle.serial_frame.specs.declared.unit.Unit.{Unit as LineUnit}
 use Rattle.serial_frame.specs.declared.unit.Unit.TheVariants.{Ack, Nak, Can, Framed}
@@ -10,6 +11,7 @@ use Rattle.serial_link.specs.declared.turn.Turn.{Turn}
 use Rattle.chip_functions.specs.declared.notice.Notice.TheVariants.{SendData}
 use Rattle.chip_sim.specs.Answers.{notice_frame}
 use Rattle.chip_sim.specs.State.{ChipState}
+use Rattle.host_requests.specs.Next.{is_answered}
 use Rattle.host_requests.specs.declared.under_way.Progress.{Progress}
 use Rattle.host_requests.specs.declared.under_way.UnderWay.{UnderWay}
 use Rattle.host_model.specs.State.{HostState}
@@ -18,11 +20,11 @@ use Rattle.host_model.specs.After.{after}
 use Rattle.host_model.specs.Did.{after_all}
 use Rattle.host_model.specs.Taking.{IsFollowed, IsJudged, AreJudged}
 use Rattle.proof_serial.proofs.EventLists.{after_all-append}
-use Rattle.proof_calm.specs.Calls.{FrameFollows, IsSending}
+use Rattle.proof_calm.specs.Calls.{FrameFollows, IsSending, answer_taken}
 use Rattle.proof_calm.specs.Passes.{IsPlain, frames_in}
-use Rattle.proof_calm.specs.Tied.{LeavesIt, Answers, Brings, Informs, LeaveIt, IsFresh, IsFreshUnless, Ends, IsOf, IsCalled, Tied, Nowhere, On_way, At_chip, Called, Tie}
+use Rattle.proof_calm.specs.Tied.{HasAnswer, LeavesIt, Answers, Brings, Informs, LeaveIt, IsFresh, IsFreshUnless, Ends, IsOf, IsCalled, Tied, Nowhere, On_way, At_chip, Called, Tie}
 use Rattle.proof_calm.proofs.Following.{kept}
-use Rattle.proof_calm.proofs.Ending.{OfHost, Stays, ack_stays, ack_none, answer_stays, answer_none, call_ends, handler_stays, handler_kept, update_stays, update_none}
+use Rattle.proof_calm.proofs.Ending.{then_answered, OfHost, Stays, ack_stays, ack_none, answer_stays, answer_none, call_ends, handler_stays, handler_kept, update_stays, update_none}
 use Rattle.proof_calm.proofs.Reading.{goods}
 
 -- ---- both ends, where the host is so
@@ -42,6 +44,14 @@ frame_stays : (u : UnderWay) (h : HostState) (frame : FrameParts) (events : List
 frame_stays u h frame events sending (Answers is) follows = answer_stays h u events sending (subst (λ (f : FrameParts). FrameFollows h f events) is follows)
 frame_stays u h frame events sending (Brings n payload is) follows = handler_stays h u n payload events sending (subst (λ (f : FrameParts). FrameFollows h f events) is follows)
 frame_stays u h frame events sending (Informs update is) follows = update_stays h u update events sending (subst (λ (f : FrameParts). FrameFollows h f events) is follows)
+
+-- the answer answers it
+frame_answers : (u : UnderWay) (h : HostState) (frame : FrameParts) (events : List HostEvent) (sending : IsSending u h) (leaves : LeavesIt frame) (follows : FrameFollows h frame events) → frame ≡ answer_taken
+    → is_answered (frame_stays u h frame events sending leaves follows).progress ≡ true
+unfolding frame_stays
+frame_answers u h frame events sending (Answers is) follows same = then_answered h u events sending (subst (λ (f : FrameParts). FrameFollows h f events) is follows)
+frame_answers u h frame events sending (Brings n payload is) follows same = absurd (let no : of_request ≡ of_response = ap (λ (f : FrameParts). f.kind) (sym is ∙ same) in cc)
+frame_answers u h frame events sending (Informs update is) follows same = absurd (let no : of_request ≡ of_response = ap (λ (f : FrameParts). f.kind) (sym is ∙ same) in cc)
 
 frame_none : (h : HostState) (frame : FrameParts) (events : List HostEvent) → h.requests.under_way ≡ None → LeavesIt frame → FrameFollows h frame events → kept (after_all h events) ≡ kept h
 frame_none h frame events none (Answers is) follows = answer_none h events none (subst (λ (f : FrameParts). FrameFollows h f events) is follows)
@@ -94,6 +104,12 @@ module _ (counted : Bool) (s : ChipState) (asking : List FrameParts) where
           (Called (staying u h events on) (stays_of u h events on of) (fresh_unless counted u.progress on.progress on.fresh fresh)
           (record { idle = is.idle; before = before; status = is.status; behind = is.behind; are = later; before_leave = leave.1; behind_leave = is.behind_leave; nothing = is.nothing }))
 
+      -- the answer is the first of these, or one of those behind it
+      answers : (u : UnderWay) (of : IsOf u (ends_by (kept h) s)) (leaves : LeavesIt frame) → (is_answered u.progress ≡ true) ⊎ HasAnswer (frame ∷ rest) → (is_answered (stays u of leaves).progress ≡ true) ⊎ HasAnswer rest
+      answers u of leaves (inl answered) = inl ((stays u of leaves).answered answered)
+      answers u of leaves (inr (inr behind)) = inr behind
+      answers u of leaves (inr (inl is)) = inl (frame_answers u h frame events (record { under_way = of.under_way; sends = of.sends }) leaves follows is)
+
       by : Tied counted (ends_by (kept h) s) (frame ∷ rest) asking → TieBy counted (kept (after_all h events)) s rest asking
       by (Nowhere is) =
           tie_kept counted (kept h) (kept (after_all h events)) s rest asking (frame_none h frame events is.none is.leave.0 follows)
@@ -105,7 +121,8 @@ module _ (counted : Bool) (s : ChipState) (asking : List FrameParts) where
       by (At_chip u of fresh is) =
           let on = stays u of is.leave.0 in
           stays_tied u h events rest on tie.paid
-          (At_chip (staying u h events on) (stays_of u h events on of) (on.fresh fresh) (record { node = is.node; is_sent = is.is_sent; leave = is.leave.1; nothing = is.nothing }))
+          (At_chip (staying u h events on) (stays_of u h events on of) (on.fresh fresh)
+          (record { node = is.node; is_sending = is.is_sending; answered = answers u of is.leave.0 is.answered; leave = is.leave.1; nothing = is.nothing }))
       by (Called u of fresh is) = called u of fresh is is.before is.are is.before_leave
 
   -- ---- an acknowledgement
@@ -116,6 +133,10 @@ module _ (counted : Bool) (s : ChipState) (asking : List FrameParts) where
     where
       stays : (u : UnderWay) → IsOf u (ends_by (kept h) s) → Stays u h events
       stays u of = ack_stays h u turn events (record { under_way = of.under_way; sends = of.sends }) followed
+
+      answers : (u : UnderWay) (of : IsOf u (ends_by (kept h) s)) → (is_answered u.progress ≡ true) ⊎ HasAnswer pending → (is_answered (stays u of).progress ≡ true) ⊎ HasAnswer pending
+      answers u of (inl answered) = inl ((stays u of).answered answered)
+      answers u of (inr has) = inr has
 
       by : Tied counted (ends_by (kept h) s) pending asking → TieBy counted (kept (after_all h events)) s pending asking
       by (Nowhere is) =
@@ -128,7 +149,8 @@ module _ (counted : Bool) (s : ChipState) (asking : List FrameParts) where
       by (At_chip u of fresh is) =
           let on = stays u of in
           stays_tied u h events pending on tie.paid
-          (At_chip (staying u h events on) (stays_of u h events on of) (on.fresh fresh) (record { node = is.node; is_sent = is.is_sent; leave = is.leave; nothing = is.nothing }))
+          (At_chip (staying u h events on) (stays_of u h events on of) (on.fresh fresh) 
+          (record { node = is.node; is_sending = is.is_sending; answered = answers u of is.answered; leave = is.leave; nothing = is.nothing }))
       by (Called u of fresh is) =
           let on = stays u of in
           stays_tied u h events pending on tie.paid

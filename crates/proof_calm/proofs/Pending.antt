@@ -1,8 +1,10 @@
 -- What the chip is given in a tick stands behind what it has for the host: its call ends the payload that it sends.
-use Rattle.std.proofs.Common.{◌≡◌, ◌≤◌, ℕ, ◌-◌, ◌==◌, Bool, true, false, if◌then◌else◌, List, [], ◌∷◌, ◌++◌, length, refl, sym, ap, ◌∙◌, subst, arith, append_assoc}
+use Rattle.std.proofs.Common.{◌≡◌, ◌≤◌, ℕ, ◌-◌, ◌==◌, Bool, true, false, if◌then◌else◌, inl, inr, List, [], ◌∷◌, ◌++◌, length, refl, sym, ap, ◌∙◌, subst, arith, append_assoc}
 use Rattle.std.proofs.lemmas.List.{length_push}
-use Rattle.std.specs.Prelude.{Option, Some, None}
+use Rattle.std.specs.Prelude.{◌⊎◌, Option, Some, None}
 use Rattle.zw_base.proofs.Each.{all-append}
+use Rattle.host_requests.specs.Next.{is_answered}
+use Rattle.proof_calm.specs.Calls.{answer_taken}
 use Rattle.serial_frame.specs.Frame.{FrameParts}
 use Rattle.serial_link.specs.State.{turn_ticked}
 use Rattle.serial_link.specs.declared.turn.Turn.{Turn}
@@ -28,7 +30,7 @@ use Rattle.outside_model.specs.Results.{gives}
 use Rattle.proof_device.proofs.Results.{IsGiven, Gives as ResultsGo, ends_go, gives_go, to_chip_goes}
 use Rattle.proof_work.proofs.Times.{does_chip}
 use Rattle.proof_calm.specs.Resting.{HasFor, Nothing, First}
-use Rattle.proof_calm.specs.Tied.{on_line, unheard, unheard_by, LeavesIt, Brings, Informs, Ends, Tied, Nowhere, On_way, At_chip, Called}
+use Rattle.proof_calm.specs.Tied.{HasAnswer, on_line, unheard, unheard_by, LeavesIt, Brings, Informs, Ends, Tied, Nowhere, On_way, At_chip, Called}
 use Rattle.proof_calm.proofs.Ending.{OfHost}
 use Rattle.proof_calm.proofs.Judging.{ends_by, TieBy}
 
@@ -106,13 +108,26 @@ has_room waiting few = grind (arith, few)
 
 -- ---- one more for the host
 
+has_before : (pending more : List FrameParts) → HasAnswer pending → HasAnswer (pending ++ more)
+has_before [] more has = absurd has
+has_before (frame ∷ pending) more (inl is) = inl is
+has_before (frame ∷ pending) more (inr has) = inr (has_before pending more has)
+
+pub has_last : (pending : List FrameParts) → HasAnswer (pending ++ answer_taken ∷ [])
+has_last [] = inl refl
+has_last (frame ∷ pending) = inr (has_last pending)
+
 pub tied_more : (counted : Bool) (e : Ends) (pending asking : List FrameParts) (frame : FrameParts) → LeavesIt frame → Tied counted e pending asking → Tied counted e (pending ++ frame ∷ []) asking
 tied_more counted e pending asking frame leaves (Nowhere is) =
     Nowhere (record { none = is.none; idle = is.idle; leave = all-append LeavesIt pending (frame ∷ []) is.leave (leaves, tt); nothing = is.nothing })
 tied_more counted e pending asking frame leaves (On_way u of fresh is) =
     On_way u of fresh (record { idle = is.idle; leave = all-append LeavesIt pending (frame ∷ []) is.leave (leaves, tt); asked = is.asked; asks = is.asks; from = is.from; to = is.to })
 tied_more counted e pending asking frame leaves (At_chip u of fresh is) =
-    At_chip u of fresh (record { node = is.node; is_sent = is.is_sent; leave = all-append LeavesIt pending (frame ∷ []) is.leave (leaves, tt); nothing = is.nothing })
+    At_chip u of fresh (record { node = is.node; is_sending = is.is_sending; answered = answers is.answered; leave = all-append LeavesIt pending (frame ∷ []) is.leave (leaves, tt); nothing = is.nothing })
+  where
+    answers : (is_answered u.progress ≡ true) ⊎ HasAnswer pending → (is_answered u.progress ≡ true) ⊎ HasAnswer (pending ++ frame ∷ [])
+    answers (inl answered) = inl answered
+    answers (inr has) = inr (has_before pending (frame ∷ []) has)
 tied_more counted e pending asking frame leaves (Called u of fresh is) =
     Called u of fresh (record {
       idle = is.idle;
@@ -181,7 +196,7 @@ module _ (k : OfHost) where
           by (On_way u of fresh at) = absurd (let no : Some sent ≡ None = sym is ∙ at.idle in cc)
           by (Called u of fresh at) = absurd (let no : Some sent ≡ None = sym is ∙ at.idle in cc)
           by (At_chip u of fresh at) =
-              let same : sent ≡ record { node = at.node; callback_id = k.3 } = let both : Some sent ≡ Some (record { node = at.node; callback_id = k.3 }) = sym is ∙ at.is_sent in cc in
+              let same : sent ≡ record { node = at.node; callback_id = k.3 } = let both : Some sent ≡ Some (record { node = at.node; callback_id = k.3 }) = sym is ∙ at.is_sending in cc in
               Called u (record { under_way = of.under_way; sends = of.sends }) fresh (record {
                 idle = refl;
                 before = line_of s.port;
@@ -244,6 +259,18 @@ module _ (k : OfHost) where
 
 abbrev counted_from : Turn → List FrameParts → ℕ → List FrameParts
 counted_from t waiting collisions = line_of (served_at (turn_ticked t) waiting (record { turn = turn_ticked t; collisions = collisions }))
+
+served_few : (t : Turn) (port : PortState) → length (served_at t port.waiting (record { turn = t; collisions = port.side.collisions })).waiting ≤ length port.waiting
+served_few t port = by t port.waiting
+  where
+    by : (u : Turn) (waiting : List FrameParts) → length (served_at u waiting (record { turn = u; collisions = port.side.collisions })).waiting ≤ length waiting
+    by Idle [] = omega arith
+    by Idle (frame ∷ waiting) = omega arith
+    by (Copied f copies ticks) waiting = omega arith
+    by (Paused f copies ticks) waiting = omega arith
+
+pub counted_few : (port : PortState) → length (served (ticked port)).waiting ≤ length port.waiting
+counted_few port = served_few (turn_ticked port.side.turn) port
 
 pub counted_line : (o : OuterState) → HasFor 0 o → line_of (served (ticked o.chip.state.port)) ≡ line_of o.chip.state.port
 counted_line o (Nothing at) =

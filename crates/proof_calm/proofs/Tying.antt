@@ -15,6 +15,8 @@ use Rattle.serial_link.specs.declared.turn.Turn.{Turn}
 use Rattle.serial_link.specs.declared.turn.Turn.TheVariants.{Idle}
 use Rattle.serial_pipes.specs.State.{WayState}
 use Rattle.route_table.specs.declared.route.Route.{Route}
+use Rattle.chip_functions.specs.declared.notice.Notice.TheVariants.{SendData}
+use Rattle.chip_sim.specs.Answers.{notice_frame}
 use Rattle.chip_sim.specs.Did.{after_all as after_chip, judged_all}
 use Rattle.chip_sim.specs.Events.{Ticked as chip_ticked, after as after_chip_event}
 use Rattle.chip_sim.specs.State.{ChipState, ChipParts}
@@ -56,10 +58,11 @@ use Rattle.proof_calm.specs.Awaited.{AwaitsAt, AwaitsNone}
 use Rattle.proof_calm.specs.Passes.{OnLine, TakesEach, chip_taken, frames_in, IsPlain}
 use Rattle.proof_calm.specs.Resting.{CanMove, HasFor, IsEffect, IsGiven, KnowLine, LineAt, LineRests, Stands}
 use Rattle.proof_calm.specs.Settling.{Line as TheLine, Free, Asks, Heard, Heard_asks, Sent, Sent_asks, HasMoved, IsDone, IsServed}
-use Rattle.proof_calm.specs.Tied.{on_line, unheard, unheard_by, IsFresh, Ends, Tied, Nowhere, On_way, At_chip, Called, TieOf, IsNodeTick, TickLeft, All, Request, Nodes, TiedInTick, TieAt, KnowTied, HasRoomFor, IsOrderly}
+use Rattle.proof_calm.specs.Tied.{RequestRests, IsTied, RoomAt, ends_of, on_line, unheard, unheard_by, IsFresh, Ends, Tied, Nowhere, On_way, At_chip, Called, TieOf, IsNodeTick, TickLeft, All, Request, Nodes, TiedInTick, TieAt, KnowTied, IsOrderly}
 use Rattle.proof_calm.proofs.Awaiting.{Outsides, event_awaits, turn_awaits, sends_nothing}
 use Rattle.proof_calm.proofs.Begun.{Ids, next_tied}
 use Rattle.proof_calm.proofs.ChipPart.{entered_state}
+use Rattle.proof_calm.proofs.Counting.{machine_arrives, machine_gives, machine_ticks}
 use Rattle.proof_calm.proofs.Ending.{OfHost, goes_on, kept_with}
 use Rattle.proof_calm.proofs.Following.{apart_kept, end_if_kept, kept}
 use Rattle.proof_calm.proofs.HostTurns.{host_turns}
@@ -70,9 +73,30 @@ use Rattle.proof_calm.proofs.Pending.{ChipTied, counted_line, gives_step, has_ke
 use Rattle.proof_calm.proofs.Quiet.{quiet_both, said_quiet}
 use Rattle.proof_calm.proofs.Reading.{goods}
 use Rattle.proof_calm.proofs.Requested.{moved_frames, moved_line, none_tied, part_tied, taken_state}
+use Rattle.proof_calm.specs.Sending.{SendsFew}
+use Rattle.proof_calm.specs.Undisturbed.{HasNone, IsTaken}
+use Rattle.proof_calm.proofs.Sending.{awaits_few}
 use Rattle.proof_calm.proofs.Submitting.{written}
 use Rattle.proof_calm.proofs.Unmarked.{nothing_asked}
 use Rattle.proof_calm.proofs.Walking.{Pumped, line_walk}
+use Rattle.host_requests.specs.Next.{is_answered, is_sent, notice_ticks}
+use Rattle.host_node.specs.State.{is_false}
+use Rattle.host_model.specs.After.{is_busy}
+use Rattle.host_model.specs.May.{May as MayHost}
+use Rattle.host_model.proofs.Submitted.{next_is as next_is_so}
+use Rattle.outside_model.specs.declared.waits.Call.{Call}
+use Rattle.outside_model.specs.declared.waits.Call.TheVariants.{OfFrame, NoRoute as no_route_call}
+use Rattle.proof_waking.specs.proof_traffic.Facts.{one_if}
+use Rattle.proof_waking.specs.proof_traffic.OutsideTraffic.{of_frame}
+use Rattle.proof_work.specs.Doing.{IsDone as IsDoneBy}
+use Rattle.proof_work.specs.Line.{HasOnLine, IsNoItem, IsOnLine}
+use Rattle.proof_traffic.proofs.Calm.{enters_calm}
+use Rattle.proof_calm.specs.Marks.{IsUnmarked}
+use Rattle.proof_calm.specs.Routed.{IsOfFrame, IsRouted}
+use Rattle.proof_calm.specs.Tied.{HasAnswer, HasRoom}
+use Rattle.proof_calm.proofs.Pending.{counted_few}
+use Rattle.proof_calm.proofs.Requested.{Judges}
+use Rattle.proof_calm.proofs.Routed.{arrives_routed, calm_routed, counts_routed, cut_routed, device_routed, gives_routed, line_routed, show_routed, takes_routed, tick_routed, wake_routed}
 
 -- ---- as it is counted
 
@@ -89,16 +113,16 @@ counted_later : (counted : Bool) (m : Machine) (asking : List FrameParts) → Ti
 counted_later true m asking tie = tie
 counted_later false m asking tie = tie_later m asking tie
 
+not_empty : (before : List FrameParts) (call : FrameParts) (behind : List FrameParts) → before ++ call ∷ behind ≡ [] → ⊥
+not_empty [] call behind is_none = cc
+not_empty (one ∷ before) call behind is_none = cc
+
 -- where the host has judged all, no call is on its way to it
 tied_rests : (e : Ends) (pending asking : List FrameParts) → pending ≡ [] → Tied true e pending asking → Tied false e pending asking
 tied_rests e pending asking none (Nowhere is) = Nowhere is
 tied_rests e pending asking none (On_way u of fresh is) = On_way u of fresh is
 tied_rests e pending asking none (At_chip u of fresh is) = At_chip u of fresh is
 tied_rests e pending asking none (Called u of fresh is) = absurd (not_empty is.before _ is.behind (sym is.are ∙ none))
-  where
-    not_empty : (before : List FrameParts) (call : FrameParts) (behind : List FrameParts) → before ++ call ∷ behind ≡ [] → ⊥
-    not_empty [] call behind is_none = cc
-    not_empty (one ∷ before) call behind is_none = cc
 
 -- ---- where both ends stay
 
@@ -199,14 +223,14 @@ few_in : (m : Machine) (event : OuterEvent) → length (happens m (Outside_does 
 unfolding happens
 few_in m event few = subst (λ (s : ChipState). length s.port.waiting ≤ 31) (entered_state (outcome m.outside event).outer (outcome m.outside event).entries) few
 
-arrives_tied : (m : Machine) (drawn : List ℕ) (route : Option Route) → HasRoomFor m (Arrives drawn route) → IsGiven 0 m → IsGiven 0 (happens m (Outside_does (Arrives drawn route))) → TieOf false m []
+arrives_tied : (m : Machine) (drawn : List ℕ) (route : Option Route) → length (happens m (Outside_does (Arrives drawn route))).outside.outer.chip.state.port.waiting ≤ 31 → IsGiven 0 m → IsGiven 0 (happens m (Outside_does (Arrives drawn route))) → TieOf false m []
     → TieOf false (happens m (Outside_does (Arrives drawn route))) []
 unfolding outcome
 arrives_tied m drawn route few given later tie =
     given_tied 0 m (Arrives drawn route) later.has
     (steps_step (kept m.host.state) m.outside (mesh.Arrives drawn route) (few_in m (Arrives drawn route) few) (chip_tied 0 m given.has tie)).tie
 
-gives_tied : (m : Machine) (route : Option Route) → HasRoomFor m (Gives route) → IsGiven 0 m → IsGiven 0 (happens m (Outside_does (Gives route))) → TieOf false m [] → TieOf false (happens m (Outside_does (Gives route))) []
+gives_tied : (m : Machine) (route : Option Route) → length (happens m (Outside_does (Gives route))).outside.outer.chip.state.port.waiting ≤ 31 → IsGiven 0 m → IsGiven 0 (happens m (Outside_does (Gives route))) → TieOf false m [] → TieOf false (happens m (Outside_does (Gives route))) []
 unfolding outcome
 gives_tied m route few given later tie =
     given_tied 0 m (Gives route) later.has
@@ -240,7 +264,7 @@ request_counts h s pending idle tie = tie_kept true (kept_with h r) (kept (after
 
     by : Tied false (ends_by (kept h) s) pending [] → TieBy true (kept_with h r) s pending []
     by (On_way u of fresh is) = absurd (let no = is.asked in cc)
-    by (At_chip u of fresh is) = absurd (let no : Some (record { node = is.node; callback_id = h.requests.last_id }) ≡ None = sym is.is_sent ∙ idle in cc)
+    by (At_chip u of fresh is) = absurd (let no : Some (record { node = is.node; callback_id = h.requests.last_id }) ≡ None = sym is.is_sending ∙ idle in cc)
     by (Nowhere is) =
         tie_kept true (kept h) (kept_with h r) s pending [] (ap (λ (o : Option UnderWay). kept_with h (next_from h.requests at_tick o)) is.none)
         (record { paid = tie.paid; tied = Nowhere (record { none = is.none; idle = is.idle; leave = is.leave; nothing = is.nothing }) })
@@ -344,11 +368,11 @@ rests_tied m line tie =
 -- ---- the chip's part of a pass
 
 part_served : (passes : ℕ) (m : Machine) (rest : Rest) (ways : List (Item × Option Route)) → May m (Outside_does (Chip_takes (length m.outside.outer.to_chip.bytes) rest ways)) → IsDone m ⊎ CanMove passes m
-    → TieOf true m (on_line m.host.state.side.turn)
-    → TakesEach m.outside.outer.chip.state ways × TieBy true (kept m.host.state) (after_chip m.outside.outer.chip.state (judged_all ways)) (line_of (after_chip m.outside.outer.chip.state (judged_all ways)).port) []
+    → HasRoom m.outside.outer.chip.state → TieOf true m (on_line m.host.state.side.turn)
+    → TakesEach m.outside.outer.chip.state ways × Judges (kept m.host.state) m.outside.outer.chip.state (after_chip m.outside.outer.chip.state (judged_all ways))
 unfolding May MayOutside
-part_served passes m rest ways may (inr can) tie = part_tied m can.live.line rest ways can.moves may tie
-part_served passes m rest ways may (inl done) tie =
+part_served passes m rest ways may (inr can) room tie = part_tied m can.live.line rest ways can.moves may room tie
+part_served passes m rest ways may (inl done) room tie =
     let o : OuterState = m.outside.outer in
     let at = done.line.at_chip in
     let there : TieOf true m [] = subst (TieOf true m) (asking_none m done.line.at_host.turn_is) tie in
@@ -356,6 +380,18 @@ part_served passes m rest ways may (inl done) tie =
     let lines : unheard o ≡ line_of o.chip.state.port =
     ap (λ (bs : List ℕ). unheard_by bs o.chip.state.port) at.down_bytes ∙ sym (ap (λ (t : Turn). on_line t ++ o.chip.state.port.waiting) at.turn_is) in
     none_tied (kept m.host.state) o.chip.state ways fed.0 (subst (λ (fs : List FrameParts). TieBy true (kept m.host.state) o.chip.state fs []) lines there)
+
+part_unmarked : (passes : ℕ) (m : Machine) → IsDone m ⊎ CanMove passes m → IsUnmarked m
+part_unmarked passes m (inl done) = done.line.unmarked
+part_unmarked passes m (inr can) = by can.live.line
+  where
+    by : TheLine m → IsUnmarked m
+    by (Free line) = line.unmarked
+    by (Asks asked fits line) = line.unmarked
+    by (Heard frame ticks frames line) = line.unmarked
+    by (Heard_asks asked frame ticks frames fits line) = line.unmarked
+    by (Sent frame ticks frames line) = line.unmarked
+    by (Sent_asks asked frame ticks frames fits line) = line.unmarked
 
 rests_line : (m : Machine) → LineRests m → unheard m.outside.outer ≡ line_of m.outside.outer.chip.state.port
 rests_line m line = rests_unheard m line ∙ sym (ap (λ (t : Turn). on_line t ++ m.outside.outer.chip.state.port.waiting) line.at_chip.turn_is ∙ line.at_chip.waiting)
@@ -385,18 +421,10 @@ still_turn m (Asks asked fits line) none = absurd (none_up (Framed asked) [] (sy
 still_turn m (Heard_asks asked frame ticks frames fits line) none = absurd (none_up Ack (Framed asked ∷ []) (sym line.at_chip.up_bytes ∙ none))
 still_turn m (Sent_asks asked frame ticks frames fits line) none = absurd (none_up (Framed asked) [] (sym line.at_chip.up_bytes ∙ none))
 
-not_stalled : (m : Machine) (line : TheLine m) → is_stalled m.outside.outer ≡ false
-not_stalled m (Free line) = line.unmarked.moves
-not_stalled m (Asks asked fits line) = line.unmarked.moves
-not_stalled m (Heard frame ticks frames line) = line.unmarked.moves
-not_stalled m (Heard_asks asked frame ticks frames fits line) = line.unmarked.moves
-not_stalled m (Sent frame ticks frames line) = line.unmarked.moves
-not_stalled m (Sent_asks asked frame ticks frames fits line) = line.unmarked.moves
-
 moving_turn : (passes : ℕ) (m : Machine) → IsStill (is_stalled m.outside.outer) m.outside.outer.to_chip.bytes → IsDone m ⊎ CanMove passes m → m.host.state.side.turn ≡ Idle
 moving_turn passes m still (inl done) = done.line.at_host.turn_is
 moving_turn passes m (inr none) (inr can) = still_turn m can.live.line none
-moving_turn passes m (inl stalled) (inr can) = absurd (let no : false ≡ true = sym (not_stalled m can.live.line) ∙ stalled in cc)
+moving_turn passes m (inl stalled) (inr can) = absurd (let no : false ≡ true = sym (part_unmarked passes m (inr can)).moves ∙ stalled in cc)
 
 -- ---- the host's part of a pass
 
@@ -453,6 +481,239 @@ effect_served m (Outside_does event) is orderly = absurd is
 effect_served m (Host_does event) is orderly = absurd is
 effect_served m event is orderly = absurd is
 
+-- ---- the chip's room
+
+room_as : (next to : Phase) (m : Machine) (event is : Event) → event ≡ is → next ≡ to → RoomAt to (happens m is) → RoomAt next (happens m event)
+room_as next to m event is event_is next_is room = subst (λ (e : Event). RoomAt next (happens m e)) (sym event_is) (subst (λ (q : Phase). RoomAt q (happens m is)) (sym next_is) room)
+
+arrived_room : (waits more frames due less : ℕ) → waits + (suc frames + due) ≤ 31 → more ≤ waits + 1 → less ≤ due → more + (frames + less) ≤ 31
+arrived_room waits more frames due less room one no_more = omega (arith, room, one, no_more)
+
+given_room : (waits more results : ℕ) → waits + suc results ≤ 31 → more ≤ waits + 1 → more + results ≤ 31
+given_room waits more results room one = omega (arith, room, one)
+
+pump_room : (passes ticks : ℕ) (m : Machine) → HasRoom m.outside.outer.chip.state → RoomAt (after_pump passes ticks) m
+pump_room zero ticks m room = tt
+pump_room (suc passes) ticks m room = room
+
+few_as : (m n : Machine) → n.outside.outer.chip.state ≡ m.outside.outer.chip.state → length m.outside.outer.chip.state.port.waiting ≤ 31 → length n.outside.outer.chip.state.port.waiting ≤ 31
+few_as m n same few = subst (λ (s : ChipState). length s.port.waiting ≤ 31) (sym same) few
+
+room_of : (m n : Machine) → n.outside.outer.chip.state ≡ m.outside.outer.chip.state → HasRoom m.outside.outer.chip.state → HasRoom n.outside.outer.chip.state
+room_of m n same room = subst HasRoom (sym same) room
+
+still_chip : (m : Machine) (event : OuterEvent) → (outcome m.outside event).outer.chip.state ≡ m.outside.outer.chip.state → (happens m (Outside_does event)).outside.outer.chip.state ≡ m.outside.outer.chip.state
+unfolding happens
+still_chip m event same = entered_state (outcome m.outside event).outer (outcome m.outside event).entries ∙ same
+
+device_chip : (m : Machine) (place : ℕ) (drawn : List ℕ) (route : Option Route) → (happens m (Outside_does (Device_ticks place drawn route))).outside.outer.chip.state ≡ m.outside.outer.chip.state
+unfolding outcome
+device_chip m place drawn route = still_chip m (Device_ticks place drawn route) (acts_chip m.outside.outer (slice_get m.outside.devices place) (Ticks drawn) route).0
+
+chip_few : (m : Machine) → length m.outside.outer.chip.state.port.waiting ≤ 31 → length (happens m (Outside_does Chip_ticks)).outside.outer.chip.state.port.waiting ≤ 31
+unfolding happens outcome
+chip_few m few =
+    let at : OuterState = record m.outside.outer { chip = record { decoder = after_tick m.outside.outer.chip.decoder; state = m.outside.outer.chip.state } } in
+    let less = counted_few m.outside.outer.chip.state.port in
+    subst (λ (s : ChipState). length s.port.waiting ≤ 31) (sym (entered_state _ _ ∙ does_chip at chip_ticked)) (omega (arith, less, few))
+
+decoder_few : (m : Machine) → length m.outside.outer.chip.state.port.waiting ≤ 31 → length (happens m Decoder_ticks).outside.outer.chip.state.port.waiting ≤ 31
+unfolding happens
+decoder_few m few = few
+
+module _ (air : Airs) where
+  event_room : (here next : Phase) (m : Machine) (event : Event) → Goes here m event next → May m event → IsOrderly m event → LineAt here m → RoomAt here m → TieAt here m → RoomAt next (happens m event)
+  event_room (Said_line line) next m event (is, to) may orderly line_at room tie = room_as next (Begun line) m event (Outside_does Begins_line) is to tt
+  event_room (Doing line (first ∷ left)) next m event (is, to) may orderly line_at room tie = room_as next (Doing line left) m event first is to tt
+  event_room (To_tick (suc ticks)) next m event (is, to) may orderly line_at room tie =
+      let few = subst (IsOrderly m) is orderly in
+      let none : length m.outside.outer.chip.state.port.waiting ≡ 0 = ap (λ (fs : List FrameParts). length fs) line_at.at_chip.waiting in
+      room_as next (Ticked ticks) m event (Outside_does Begins_tick) is to (machine_ticks m (omega (arith, few, none)))
+  event_room (Arriving (suc frames) ticks) next m event (drawn, route, is, to) may orderly line_at room tie =
+      let more = machine_arrives m drawn route in
+      room_as next (Arriving frames ticks) m event (Outside_does (Arrives drawn route)) is to
+      (arrived_room (length m.outside.outer.chip.state.port.waiting) _ frames (length m.outside.outer.due) _ room more.chip more.due)
+  event_room (Giving (suc results) ticks) next m event (route, is, to) may orderly line_at room tie =
+      room_as next (Giving results ticks) m event (Outside_does (Gives route)) is to (given_room (length m.outside.outer.chip.state.port.waiting) _ results room (machine_gives m route))
+  event_room (Ticking_devices place (suc count) ticks) next m event (drawn, route, is, to) may orderly line_at room tie =
+      room_as next (Ticking_devices (place + 1) count ticks) m event (Outside_does (Device_ticks place drawn route)) is to (few_as m (happens m (Outside_does (Device_ticks place drawn route))) (device_chip m place drawn route) room)
+  event_room (Ticking_chip ticks) next m event (is, to) may orderly line_at room tie = room_as next (Ticking_decoder ticks) m event (Outside_does Chip_ticks) is to (chip_few m room)
+  event_room (Ticking_decoder ticks) next m event (is, to) may orderly line_at room tie = room_as next (Ticking_host (tick_events m.host.state) ticks) m event Decoder_ticks is to (decoder_few m room)
+  event_room (Ticking_host (first ∷ events) ticks) next m event (is, to) may orderly line_at room tie =
+      room_as next (Ticking_host events ticks) m event (Host_does first) is to (few_as m (happens m (Host_does first)) (does_calm air m first).chip room)
+  event_room (Sleeping passes ticks) next m event (node, wants, is, to) may orderly line_at room tie =
+      room_as next (Sleeping passes ticks) m event (Host_does (no_more_event m.host.state node)) is to (room_of m (happens m (Host_does (no_more_event m.host.state node))) (does_calm air m (no_more_event m.host.state node)).chip room)
+  event_room (Submitting passes ticks) next m event (asked, next_is, is, to) may orderly line_at room tie =
+      room_as next (Submitting passes ticks) m event (Host_does asked) is to (room_of m (happens m (Host_does asked)) (does_calm air m asked).chip room)
+  event_room (Moving passes ticks) next m event (rest, ways, is, to) may orderly line_at room tie =
+      let e : Event = Outside_does (Chip_takes (length m.outside.outer.to_chip.bytes) rest ways) in
+      let may_it : May m e = subst (May m) is may in
+      let fewer = (part_served passes m rest ways may_it line_at room tie).1.fewer in
+      room_as next (Moved true passes ticks) m event e is to
+      (subst HasRoom (sym (taken_state m rest ways may_it)) (λ idle. let less = fewer idle in let most = room less.0 in let few = less.1 in omega (arith, most, few)))
+  event_room (Moved b passes ticks) next m event (rest, items, done, is, to) may orderly line_at room tie =
+      room_as next (Sleeping passes ticks) m event (Host_takes (length m.outside.outer.to_host.bytes) rest items done) is to
+      (room_of m (happens m (Host_takes (length m.outside.outer.to_host.bytes) rest items done)) (takes_calm air m (length m.outside.outer.to_host.bytes) rest items done).chip room)
+  event_room here next m event goes may orderly line_at room tie = absurd goes
+
+room_to : (is next : Phase) (m : Machine) → next ≡ is → RoomAt is m → RoomAt next m
+room_to is next m same room = subst (λ (q : Phase). RoomAt q m) (sym same) room
+
+rests_room : (m : Machine) → LineRests m → HasRoom m.outside.outer.chip.state
+rests_room m line idle = let none : length m.outside.outer.chip.state.port.waiting ≡ 0 = ap (λ (fs : List FrameParts). length fs) line.at_chip.waiting in omega (arith, none)
+
+turn_room : (here next : Phase) (m : Machine) → Turns here m next → LineAt here m → RoomAt here m → RoomAt next m
+turn_room (Begun line) next m (inl (events, is, same)) line_at room = room_to (Doing line events) next m same tt
+turn_room (Begun line) next m (inr (ticks, is, same)) line_at room = room_to (To_tick ticks) next m same tt
+turn_room (Doing line []) next m same line_at room = room_to (Sleeping 64 0) next m same (rests_room m line_at.1)
+turn_room (To_tick zero) next m same line_at room = room_to Between next m same tt
+turn_room (Ticked ticks) next m same line_at room = room_to (Arriving _ ticks) next m same room
+turn_room (Arriving zero ticks) next m same line_at room = room_to (Giving _ ticks) next m same (omega (arith, room))
+turn_room (Giving zero ticks) next m same line_at room = room_to (Ticking_devices 0 _ ticks) next m same (omega (arith, room))
+turn_room (Ticking_devices place zero ticks) next m same line_at room = room_to (Ticking_chip ticks) next m same room
+turn_room (Ticking_host [] ticks) next m same line_at room = room_to (Sleeping 64 ticks) next m same (λ idle. room)
+turn_room (Sleeping passes ticks) next m (none, same) line_at room = room_to (Submitting passes ticks) next m same room
+turn_room (Submitting passes ticks) next m (pumped, same) line_at room = room_to (after_pump passes ticks) next m same (pump_room passes ticks m room)
+turn_room (Moving passes ticks) next m (still, same) line_at room = room_to (Moved false passes ticks) next m same room
+turn_room (Moved b passes ticks) next m (still, same) line_at room = room_to (Sleeping (passes_after b passes) ticks) next m same room
+turn_room here next m turns line_at room = absurd turns
+
+-- ---- the chip's calls
+
+module _ (air : Airs) where
+  does_routed : (m : Machine) (event : HostEvent) → IsRouted m.outside.outer → IsRouted (happens m (Host_does event)).outside.outer
+  does_routed m event routed = calm_routed m.outside.outer (happens m (Host_does event)).outside.outer (does_calm air m event) routed
+
+  effect_routed : (m : Machine) (event : Event) → IsEffect event → IsRouted m.outside.outer → IsRouted (happens m event).outside.outer
+  unfolding happens
+  effect_routed m (Outside_does (Wakes_device node route)) is routed = wake_routed m node route routed
+  effect_routed m (Outside_does (Shows node)) is routed = show_routed m node routed
+  effect_routed m (Outside_does (Cuts size)) is routed = cut_routed m size routed
+  effect_routed m (Host_does (Accepts order carriage)) is routed = does_routed m (Accepts order carriage) routed
+  effect_routed m (Refuses line refusal) is routed = calm_routed m.outside.outer (happens m (Refuses line refusal)).outside.outer (enters_calm air m _) routed
+  effect_routed m (Shows_values node) is routed = calm_routed m.outside.outer (happens m (Shows_values node)).outside.outer (enters_calm air m _) routed
+  effect_routed m (Outside_does event) is routed = absurd is
+  effect_routed m (Host_does event) is routed = absurd is
+  effect_routed m event is routed = absurd is
+
+  decoder_routed : (m : Machine) → IsRouted m.outside.outer → IsRouted (happens m Decoder_ticks).outside.outer
+  unfolding happens
+  decoder_routed m routed = routed
+
+  as_routed : (m : Machine) (event is : Event) → event ≡ is → IsRouted (happens m is).outside.outer → IsRouted (happens m event).outside.outer
+  as_routed m event is same routed = subst (λ (e : Event). IsRouted (happens m e).outside.outer) (sym same) routed
+
+  routed_on : (here next : Phase) (m : Machine) (event : Event) → Goes here m event next → IsOrderly m event → IsServed m event → LineAt here m → IsRouted m.outside.outer → IsRouted (happens m event).outside.outer
+  routed_on (Said_line line) next m event (is, to) orderly served line_at routed = as_routed m event (Outside_does Begins_line) is (line_routed m routed)
+  routed_on (Doing line (first ∷ left)) next m event (is, to) orderly served line_at routed = as_routed m event first is (effect_routed m first line_at.0.0 routed)
+  routed_on (To_tick (suc ticks)) next m event (is, to) orderly served line_at routed = as_routed m event (Outside_does Begins_tick) is (tick_routed m routed)
+  routed_on (Arriving (suc frames) ticks) next m event (drawn, route, is, to) orderly served line_at routed = as_routed m event (Outside_does (Arrives drawn route)) is (arrives_routed m drawn route routed)
+  routed_on (Giving (suc results) ticks) next m event (route, is, to) orderly served line_at routed = as_routed m event (Outside_does (Gives route)) is (gives_routed m route routed)
+  routed_on (Ticking_devices place (suc count) ticks) next m event (drawn, route, is, to) orderly served line_at routed =
+      as_routed m event (Outside_does (Device_ticks place drawn route)) is (device_routed m place drawn route routed)
+  routed_on (Ticking_chip ticks) next m event (is, to) orderly served line_at routed = as_routed m event (Outside_does Chip_ticks) is (counts_routed m routed)
+  routed_on (Ticking_decoder ticks) next m event (is, to) orderly served line_at routed = as_routed m event Decoder_ticks is (decoder_routed m routed)
+  routed_on (Ticking_host (first ∷ events) ticks) next m event (is, to) orderly served line_at routed = as_routed m event (Host_does first) is (does_routed m first routed)
+  routed_on (Sleeping passes ticks) next m event (node, wants, is, to) orderly served line_at routed =
+      as_routed m event (Host_does (no_more_event m.host.state node)) is (does_routed m (no_more_event m.host.state node) routed)
+  routed_on (Submitting passes ticks) next m event (asked, next_is, is, to) orderly served line_at routed = as_routed m event (Host_does asked) is (does_routed m asked routed)
+  routed_on (Moving passes ticks) next m event (rest, ways, is, to) orderly served line_at routed =
+      as_routed m event (Outside_does (Chip_takes (length m.outside.outer.to_chip.bytes) rest ways)) is
+      (takes_routed m rest ways (part_unmarked passes m line_at) (subst (IsServed m) is served) (subst (IsOrderly m) is orderly) routed)
+  routed_on (Moved b passes ticks) next m event (rest, items, done, is, to) orderly served line_at routed =
+      as_routed m event (Host_takes (length m.outside.outer.to_host.bytes) rest items done) is
+      (calm_routed m.outside.outer (happens m (Host_takes (length m.outside.outer.to_host.bytes) rest items done)).outside.outer (takes_calm air m (length m.outside.outer.to_host.bytes) rest items done) routed)
+  routed_on here next m event goes orderly served line_at routed = absurd goes
+
+-- ---- the frame of the request is on the line until it is acknowledged
+
+-- what is proved of a host
+pub record StaysOnLine : Type 0 where
+  pub each : (h : HostState) (event : HostEvent) → HasOnLine h → IsDoneBy event → IsNoItem event → MayHost h event → HasOnLine (after_host h event)
+  pub items : (h : HostState) (items : List Item) (events : List HostEvent) → HasOnLine h → AreJudged h items events → HasOnLine (after_all_host h events)
+
+module _ (stays : StaysOnLine) where
+  on_line_as : (m : Machine) (event is : Event) → event ≡ is → HasOnLine (happens m is).host.state → HasOnLine (happens m event).host.state
+  on_line_as m event is same on = subst (λ (e : Event). HasOnLine (happens m e).host.state) (sym same) on
+
+  outer_lines : (m : Machine) (event : OuterEvent) → HasOnLine m.host.state → HasOnLine (happens m (Outside_does event)).host.state
+  unfolding happens
+  outer_lines m event on = on
+
+  decoder_lines : (m : Machine) → HasOnLine m.host.state → HasOnLine (happens m Decoder_ticks).host.state
+  unfolding happens
+  decoder_lines m on = on
+
+  does_lines : (m : Machine) (event : HostEvent) → IsDoneBy event → IsNoItem event → May m (Host_does event) → HasOnLine m.host.state → HasOnLine (happens m (Host_does event)).host.state
+  unfolding happens May
+  does_lines m event done no_item may on = stays.each m.host.state event on done no_item may.0
+
+  takes_lines : (m : Machine) (count : ℕ) (rest : Rest) (items : List Item) (events : List HostEvent) → May m (Host_takes count rest items events) → HasOnLine m.host.state
+      → HasOnLine (happens m (Host_takes count rest items events)).host.state
+  unfolding happens May
+  takes_lines m count rest items events may on = stays.items m.host.state items events on may.judged
+
+  effect_lines : (m : Machine) (event : Event) → IsEffect event → May m event → HasOnLine m.host.state → HasOnLine (happens m event).host.state
+  unfolding happens
+  effect_lines m (Outside_does (Wakes_device node route)) is may on = on
+  effect_lines m (Outside_does (Shows node)) is may on = on
+  effect_lines m (Outside_does (Cuts size)) is may on = on
+  effect_lines m (Host_does (Accepts order carriage)) is may on = does_lines m (Accepts order carriage) tt tt may on
+  effect_lines m (Refuses line refusal) is may on = on
+  effect_lines m (Shows_values node) is may on = on
+  effect_lines m (Outside_does event) is may on = absurd is
+  effect_lines m (Host_does event) is may on = absurd is
+  effect_lines m event is may on = absurd is
+
+  host_lines : (m : Machine) (first : HostEvent) (events : List HostEvent) → TiedInTick (first ∷ events) m → May m (Host_does first) → HasOnLine m.host.state → HasOnLine (happens m (Host_does first)).host.state
+  host_lines m first events at may on = by at.left
+    where
+      as_first : (is : HostEvent) → first ≡ is → IsDoneBy is → IsNoItem is → HasOnLine (happens m (Host_does first)).host.state
+      as_first is same done no_item = does_lines m first (subst IsDoneBy (sym same) done) (subst IsNoItem (sym same) no_item) may on
+
+      node_is : (event : HostEvent) → IsNodeTick event → IsDoneBy event × IsNoItem event
+      node_is (Node_ticks n) is = (tt, tt)
+      node_is event is = absurd is
+
+      by : TickLeft at.counted (first ∷ events) → HasOnLine (happens m (Host_does first)).host.state
+      by (All nodes are is none) = let one : first ≡ Line_ticks = cc in as_first Line_ticks one tt tt
+      by (Request nodes are is none) = let one : first ≡ Requests_do request_ticks BeforeItsTick = cc in as_first (Requests_do request_ticks BeforeItsTick) one tt tt
+      by (Nodes are done) = let is = node_is first are.0 in does_lines m first is.0 is.1 may on
+
+  abbrev IsPlainEvent : HostEvent → Type 0
+  IsPlainEvent event = IsDoneBy event × IsNoItem event
+
+  next_plain : (h : HostState) (event : HostEvent) → IsNext h event → IsPlainEvent event
+  next_plain h event is =
+      next_is_so IsPlainEvent
+      (record { abort = (tt, tt); front = (tt, tt); starts = λ n plan more payload. (tt, tt); text = λ n payload. (tt, tt); segment = λ n more payload. (tt, tt); begins = λ n session command. (tt, tt); unkept = λ n. (tt, tt) })
+      h event is
+
+  more_plain : (h : HostState) (n : ℕ) → IsPlainEvent (no_more_event h n)
+  more_plain h n = no_more_is IsPlainEvent (record { queues = λ node. (tt, tt); drops = λ node. (tt, tt) }) h n
+
+  lines_on : (here next : Phase) (m : Machine) (event : Event) → Goes here m event next → May m event → LineAt here m → TieAt here m → HasOnLine m.host.state → HasOnLine (happens m event).host.state
+  lines_on (Said_line line) next m event (is, to) may line_at tie on = on_line_as m event (Outside_does Begins_line) is (outer_lines m Begins_line on)
+  lines_on (Doing line (first ∷ left)) next m event (is, to) may line_at tie on = on_line_as m event first is (effect_lines m first line_at.0.0 (subst (May m) is may) on)
+  lines_on (To_tick (suc ticks)) next m event (is, to) may line_at tie on = on_line_as m event (Outside_does Begins_tick) is (outer_lines m Begins_tick on)
+  lines_on (Arriving (suc frames) ticks) next m event (drawn, route, is, to) may line_at tie on = on_line_as m event (Outside_does (Arrives drawn route)) is (outer_lines m (Arrives drawn route) on)
+  lines_on (Giving (suc results) ticks) next m event (route, is, to) may line_at tie on = on_line_as m event (Outside_does (Gives route)) is (outer_lines m (Gives route) on)
+  lines_on (Ticking_devices place (suc count) ticks) next m event (drawn, route, is, to) may line_at tie on =
+      on_line_as m event (Outside_does (Device_ticks place drawn route)) is (outer_lines m (Device_ticks place drawn route) on)
+  lines_on (Ticking_chip ticks) next m event (is, to) may line_at tie on = on_line_as m event (Outside_does Chip_ticks) is (outer_lines m Chip_ticks on)
+  lines_on (Ticking_decoder ticks) next m event (is, to) may line_at tie on = on_line_as m event Decoder_ticks is (decoder_lines m on)
+  lines_on (Ticking_host (first ∷ events) ticks) next m event (is, to) may line_at tie on = on_line_as m event (Host_does first) is (host_lines m first events tie (subst (May m) is may) on)
+  lines_on (Sleeping passes ticks) next m event (node, wants, is, to) may line_at tie on =
+      let plain = more_plain m.host.state node in
+      on_line_as m event (Host_does (no_more_event m.host.state node)) is (does_lines m (no_more_event m.host.state node) plain.0 plain.1 (subst (May m) is may) on)
+  lines_on (Submitting passes ticks) next m event (asked, next_is, is, to) may line_at tie on =
+      let plain = next_plain m.host.state asked next_is in on_line_as m event (Host_does asked) is (does_lines m asked plain.0 plain.1 (subst (May m) is may) on)
+  lines_on (Moving passes ticks) next m event (rest, ways, is, to) may line_at tie on =
+      on_line_as m event (Outside_does (Chip_takes (length m.outside.outer.to_chip.bytes) rest ways)) is (outer_lines m (Chip_takes (length m.outside.outer.to_chip.bytes) rest ways) on)
+  lines_on (Moved b passes ticks) next m event (rest, items, done, is, to) may line_at tie on =
+      on_line_as m event (Host_takes (length m.outside.outer.to_host.bytes) rest items done) is (takes_lines m (length m.outside.outer.to_host.bytes) rest items done (subst (May m) is may) on)
+  lines_on here next m event goes may line_at tie on = absurd goes
+
 -- ---- events
 
 module _ (laws : Outsides) (ids : Ids) where
@@ -465,58 +726,64 @@ module _ (laws : Outsides) (ids : Ids) where
   served_as : (m : Machine) (event is : Event) → event ≡ is → IsServed m is → IsServed m event
   served_as m event is same served = subst (IsServed m) (sym same) served
 
-  event_served : (here next : Phase) (m : Machine) (event : Event) → Goes here m event next → May m event → IsOrderly m event → LineAt here m → TieAt here m → IsServed m event
-  event_served (Said_line line) next m event (is, to) may orderly line_at tie = served_as m event (Outside_does Begins_line) is tt
-  event_served (Doing line (first ∷ left)) next m event (is, to) may orderly line_at tie = served_as m event first is (effect_served m first line_at.0.0 (orderly_is m event first is orderly))
-  event_served (To_tick (suc ticks)) next m event (is, to) may orderly line_at tie = served_as m event (Outside_does Begins_tick) is tt
-  event_served (Arriving (suc frames) ticks) next m event (drawn, route, is, to) may orderly line_at tie = served_as m event (Outside_does (Arrives drawn route)) is tt
-  event_served (Giving (suc results) ticks) next m event (route, is, to) may orderly line_at tie = served_as m event (Outside_does (Gives route)) is tt
-  event_served (Ticking_devices place (suc count) ticks) next m event (drawn, route, is, to) may orderly line_at tie = served_as m event (Outside_does (Device_ticks place drawn route)) is tt
-  event_served (Ticking_chip ticks) next m event (is, to) may orderly line_at tie = served_as m event (Outside_does Chip_ticks) is tt
-  event_served (Ticking_decoder ticks) next m event (is, to) may orderly line_at tie = served_as m event Decoder_ticks is (orderly_is m event Decoder_ticks is orderly)
-  event_served (Ticking_host (first ∷ events) ticks) next m event (is, to) may orderly line_at tie = served_as m event (Host_does first) is (orderly_is m event (Host_does first) is orderly).0
-  event_served (Sleeping passes ticks) next m event (node, wants, is, to) may orderly line_at tie =
+  event_served : (here next : Phase) (m : Machine) (event : Event) → Goes here m event next → May m event → IsOrderly m event → LineAt here m → RoomAt here m → TieAt here m → IsServed m event
+  event_served (Said_line line) next m event (is, to) may orderly line_at room tie = served_as m event (Outside_does Begins_line) is tt
+  event_served (Doing line (first ∷ left)) next m event (is, to) may orderly line_at room tie = served_as m event first is (effect_served m first line_at.0.0 (orderly_is m event first is orderly))
+  event_served (To_tick (suc ticks)) next m event (is, to) may orderly line_at room tie = served_as m event (Outside_does Begins_tick) is tt
+  event_served (Arriving (suc frames) ticks) next m event (drawn, route, is, to) may orderly line_at room tie = served_as m event (Outside_does (Arrives drawn route)) is tt
+  event_served (Giving (suc results) ticks) next m event (route, is, to) may orderly line_at room tie = served_as m event (Outside_does (Gives route)) is tt
+  event_served (Ticking_devices place (suc count) ticks) next m event (drawn, route, is, to) may orderly line_at room tie = served_as m event (Outside_does (Device_ticks place drawn route)) is tt
+  event_served (Ticking_chip ticks) next m event (is, to) may orderly line_at room tie = served_as m event (Outside_does Chip_ticks) is tt
+  event_served (Ticking_decoder ticks) next m event (is, to) may orderly line_at room tie = served_as m event Decoder_ticks is (orderly_is m event Decoder_ticks is orderly)
+  event_served (Ticking_host (first ∷ events) ticks) next m event (is, to) may orderly line_at room tie = served_as m event (Host_does first) is (orderly_is m event (Host_does first) is orderly).0
+  event_served (Sleeping passes ticks) next m event (node, wants, is, to) may orderly line_at room tie =
       served_as m event (Host_does (no_more_event m.host.state node)) is (orderly_is m event (Host_does (no_more_event m.host.state node)) is orderly).0
-  event_served (Submitting passes ticks) next m event (asked, next_is, is, to) may orderly line_at tie = served_as m event (Host_does asked) is (orderly_is m event (Host_does asked) is orderly).0
-  event_served (Moving passes ticks) next m event (rest, ways, is, to) may orderly line_at tie =
-      served_as m event (Outside_does (Chip_takes (length m.outside.outer.to_chip.bytes) rest ways)) is (part_served passes m rest ways (may_is m event _ is may) line_at tie).0
-  event_served (Moved b passes ticks) next m event (rest, items, done, is, to) may orderly line_at tie =
+  event_served (Submitting passes ticks) next m event (asked, next_is, is, to) may orderly line_at room tie = served_as m event (Host_does asked) is (orderly_is m event (Host_does asked) is orderly).0
+  event_served (Moving passes ticks) next m event (rest, ways, is, to) may orderly line_at room tie =
+      served_as m event (Outside_does (Chip_takes (length m.outside.outer.to_chip.bytes) rest ways)) is (part_served passes m rest ways (may_is m event _ is may) line_at room tie).0
+  event_served (Moved b passes ticks) next m event (rest, items, done, is, to) may orderly line_at room tie =
       served_as m event (Host_takes (length m.outside.outer.to_host.bytes) rest items done) is (orderly_is m event (Host_takes (length m.outside.outer.to_host.bytes) rest items done) is orderly)
-  event_served here next m event goes may orderly line_at tie = absurd goes
+  event_served here next m event goes may orderly line_at room tie = absurd goes
 
   -- the event is this one, and leads there
   abbrev Leads : Phase → Machine → Event → Type 0
-  Leads next m event = LineAt next (happens m event) → TieAt next (happens m event)
+  Leads next m event = LineAt next (happens m event) → RoomAt next (happens m event) → TieAt next (happens m event)
 
   as_is : (next to : Phase) (m : Machine) (event is : Event) → event ≡ is → next ≡ to → Leads to m is → Leads next m event
   as_is next to m event is event_is next_is leads = subst (λ (e : Event). Leads next m e) (sym event_is) (subst (λ (q : Phase). Leads q m is) (sym next_is) leads)
 
-  event_ties : (here next : Phase) (m : Machine) (event : Event) → Goes here m event next → May m event → IsOrderly m event → LineAt here m → AwaitsAt here m → TieAt here m → Leads next m event
-  event_ties (Said_line line) next m event (is, to) may orderly line_at awaits tie = as_is next (Begun line) m event (Outside_does Begins_line) is to (λ later. line_tied m tie)
-  event_ties (Doing line (first ∷ left)) next m event (is, to) may orderly line_at awaits tie = as_is next (Doing line left) m event first is to (λ later. effect_tied laws.air m first line_at.0.0 tie)
-  event_ties (To_tick (suc ticks)) next m event (is, to) may orderly line_at awaits tie = as_is next (Ticked ticks) m event (Outside_does Begins_tick) is to (λ later. tick_tied m tie)
-  event_ties (Arriving (suc frames) ticks) next m event (drawn, route, is, to) may orderly line_at awaits tie =
-      as_is next (Arriving frames ticks) m event (Outside_does (Arrives drawn route)) is to (λ later. arrives_tied m drawn route (orderly_is m event _ is orderly) line_at later tie)
-  event_ties (Giving (suc results) ticks) next m event (route, is, to) may orderly line_at awaits tie =
-      as_is next (Giving results ticks) m event (Outside_does (Gives route)) is to (λ later. gives_tied m route (orderly_is m event _ is orderly) line_at later tie)
-  event_ties (Ticking_devices place (suc count) ticks) next m event (drawn, route, is, to) may orderly line_at awaits tie =
-      as_is next (Ticking_devices (place + 1) count ticks) m event (Outside_does (Device_ticks place drawn route)) is to (λ later. device_tied m place drawn route tie)
-  event_ties (Ticking_chip ticks) next m event (is, to) may orderly line_at awaits tie = as_is next (Ticking_decoder ticks) m event (Outside_does Chip_ticks) is to (λ later. counts_tied m line_at later tie)
-  event_ties (Ticking_decoder ticks) next m event (is, to) may orderly line_at awaits tie =
-      as_is next (Ticking_host (tick_events m.host.state) ticks) m event Decoder_ticks is to (λ later. decoder_tied m tie)
-  event_ties (Ticking_host (first ∷ events) ticks) next m event (is, to) may orderly line_at awaits tie =
-      as_is next (Ticking_host events ticks) m event (Host_does first) is to (λ later. host_tied laws.air m first events line_at.1 awaits tie)
-  event_ties (Sleeping passes ticks) next m event (node, wants, is, to) may orderly line_at awaits tie =
-      as_is next (Sleeping passes ticks) m event (Host_does (no_more_event m.host.state node)) is to (λ later. no_more_tied laws.air m node tie)
-  event_ties (Submitting passes ticks) next m event (asked, next_is, is, to) may orderly line_at awaits tie =
-      as_is next (Submitting passes ticks) m event (Host_does asked) is to (λ later. asks_tied laws.air ids m asked next_is (may_is m event _ is may) (orderly_is m event _ is orderly) tie)
-  event_ties (Moving passes ticks) next m event (rest, ways, is, to) may orderly line_at awaits tie =
+  few_arrive : (waits frames due : ℕ) → waits + (frames + due) ≤ 31 → waits ≤ 31
+  few_arrive waits frames due few = omega (arith, few)
+
+  few_given : (waits results : ℕ) → waits + results ≤ 31 → waits ≤ 31
+  few_given waits results few = omega (arith, few)
+
+  event_ties : (here next : Phase) (m : Machine) (event : Event) → Goes here m event next → May m event → IsOrderly m event → LineAt here m → AwaitsAt here m → RoomAt here m → TieAt here m → Leads next m event
+  event_ties (Said_line line) next m event (is, to) may orderly line_at awaits has tie = as_is next (Begun line) m event (Outside_does Begins_line) is to (λ later room. line_tied m tie)
+  event_ties (Doing line (first ∷ left)) next m event (is, to) may orderly line_at awaits has tie = as_is next (Doing line left) m event first is to (λ later room. effect_tied laws.air m first line_at.0.0 tie)
+  event_ties (To_tick (suc ticks)) next m event (is, to) may orderly line_at awaits has tie = as_is next (Ticked ticks) m event (Outside_does Begins_tick) is to (λ later room. tick_tied m tie)
+  event_ties (Arriving (suc frames) ticks) next m event (drawn, route, is, to) may orderly line_at awaits has tie =
+      as_is next (Arriving frames ticks) m event (Outside_does (Arrives drawn route)) is to (λ later room. arrives_tied m drawn route (few_arrive _ frames _ room) line_at later tie)
+  event_ties (Giving (suc results) ticks) next m event (route, is, to) may orderly line_at awaits has tie =
+      as_is next (Giving results ticks) m event (Outside_does (Gives route)) is to (λ later room. gives_tied m route (few_given _ results room) line_at later tie)
+  event_ties (Ticking_devices place (suc count) ticks) next m event (drawn, route, is, to) may orderly line_at awaits has tie =
+      as_is next (Ticking_devices (place + 1) count ticks) m event (Outside_does (Device_ticks place drawn route)) is to (λ later room. device_tied m place drawn route tie)
+  event_ties (Ticking_chip ticks) next m event (is, to) may orderly line_at awaits has tie = as_is next (Ticking_decoder ticks) m event (Outside_does Chip_ticks) is to (λ later room. counts_tied m line_at later tie)
+  event_ties (Ticking_decoder ticks) next m event (is, to) may orderly line_at awaits has tie =
+      as_is next (Ticking_host (tick_events m.host.state) ticks) m event Decoder_ticks is to (λ later room. decoder_tied m tie)
+  event_ties (Ticking_host (first ∷ events) ticks) next m event (is, to) may orderly line_at awaits has tie =
+      as_is next (Ticking_host events ticks) m event (Host_does first) is to (λ later room. host_tied laws.air m first events line_at.1 awaits tie)
+  event_ties (Sleeping passes ticks) next m event (node, wants, is, to) may orderly line_at awaits has tie =
+      as_is next (Sleeping passes ticks) m event (Host_does (no_more_event m.host.state node)) is to (λ later room. no_more_tied laws.air m node tie)
+  event_ties (Submitting passes ticks) next m event (asked, next_is, is, to) may orderly line_at awaits has tie =
+      as_is next (Submitting passes ticks) m event (Host_does asked) is to (λ later room. asks_tied laws.air ids m asked next_is (may_is m event _ is may) (orderly_is m event _ is orderly) tie)
+  event_ties (Moving passes ticks) next m event (rest, ways, is, to) may orderly line_at awaits has tie =
       as_is next (Moved true passes ticks) m event (Outside_does (Chip_takes (length m.outside.outer.to_chip.bytes) rest ways)) is to
-      (λ later. part_tied_on passes m rest ways (may_is m event _ is may) later (part_served passes m rest ways (may_is m event _ is may) line_at tie).1)
-  event_ties (Moved b passes ticks) next m event (rest, items, done, is, to) may orderly line_at awaits tie =
+      (λ later room. part_tied_on passes m rest ways (may_is m event _ is may) later (part_served passes m rest ways (may_is m event _ is may) line_at has tie).1.tied)
+  event_ties (Moved b passes ticks) next m event (rest, items, done, is, to) may orderly line_at awaits has tie =
       as_is next (Sleeping passes ticks) m event (Host_takes (length m.outside.outer.to_host.bytes) rest items done) is to
-      (λ later. judged_tied laws.air b passes m rest items done (may_is m event _ is may) line_at tie)
-  event_ties here next m event goes may orderly line_at awaits tie = absurd goes
+      (λ later room. judged_tied laws.air b passes m rest items done (may_is m event _ is may) line_at tie)
+  event_ties here next m event goes may orderly line_at awaits has tie = absurd goes
 
   -- ---- parts that begin
 
@@ -549,7 +816,7 @@ module _ (laws : Outsides) (ids : Ids) where
 
   -- ---- the walk
 
-  module _ (pumps : Pumped) where
+  module _ (pumps : Pumped) (stays : StaysOnLine) where
     lines : WalkWhere IsServed AsksNothing KnowLine
     lines = line_walk laws.air pumps
 
@@ -557,17 +824,68 @@ module _ (laws : Outsides) (ids : Ids) where
     tied_walk = record {
       said = λ past m words line read known. (
         tt,
-        λ quiet. let both = quiet_both past (entry.Said words ∷ []) quiet in let here = known both.0 in ((said_quiet words line read both.1, here.0), here.1, here.2),
+        λ quiet. let both = quiet_both past (entry.Said words ∷ []) quiet in let here = known both.0 in ((said_quiet words line read both.1, here.0), here.1, tt, here.3, here.4, here.5),
       );
       event = λ here next past m event goes may orderly known. (
         nothing_asked past (entries m event),
         λ quiet.
             let at = known (quiet_both past (entries m event) quiet).0 in
-            let later : LineAt next (happens m event) = (lines.event here next past m event goes may (event_served here next m event goes may orderly at.0 at.2) (λ said. at.0)).1 quiet in
-            (later, event_awaits laws here next m event goes may at.0 at.1, event_ties here next m event goes may orderly at.0 at.1 at.2 later),
+            let served : IsServed m event = event_served here next m event goes may orderly at.0 at.2 at.5 in
+            let later : LineAt next (happens m event) = (lines.event here next past m event goes may served (λ said. at.0)).1 quiet in
+            let room : RoomAt next (happens m event) = event_room laws.air here next m event goes may orderly at.0 at.2 at.5 in
+            (later, event_awaits laws here next m event goes may at.0 at.1, room, routed_on laws.air here next m event goes orderly served at.0 at.3, lines_on stays here next m event goes may at.0 at.5 at.4, event_ties here next m event goes may orderly at.0 at.1 at.2 at.5 later room),
       );
       turn = λ here next past m turns known quiet.
           let at = known quiet in
           let later : LineAt next m = lines.turn here next past m turns (λ said. at.0) quiet in
-          (later, turn_awaits laws here next m turns at.1, turn_ties here next m turns at.0 later at.2);
+          (later, turn_awaits laws here next m turns at.1, turn_room here next m turns at.0 at.2, at.3, at.4, turn_ties here next m turns at.0 later at.5);
     }
+
+-- ---- between lines
+
+-- it was answered, and acknowledged
+fresh_answered : (progress : Progress) → IsFresh progress → is_answered progress ≡ true → is_busy Idle ≡ is_false (is_sent progress) → progress ≡ Answered true notice_ticks
+fresh_answered Submitted fresh answered sent = absurd cc
+fresh_answered (sent_for left) fresh answered sent = absurd cc
+fresh_answered (Answered true left) fresh answered sent = ap (λ (n : ℕ). Answered true n) fresh
+fresh_answered (Answered false left) fresh answered sent = absurd cc
+
+pub request_rests : (m : Machine) → IsTied m → RequestRests m
+request_rests m is = record { none_due = is.routed.none_due; paid = is.tie.paid; request = by is.tie.tied (awaits_few m is.awaits is.rests) }
+  where
+    h : HostState
+    h = m.host.state
+
+    s : ChipState
+    s = m.outside.outer.chip.state
+
+    none_left : unheard m.outside.outer ≡ []
+    none_left = rests_unheard m is.rests
+
+    call_is : (call : Call) → IsOfFrame call → call ≡ OfFrame
+    call_is OfFrame of_frame = refl
+    call_is no_route_call of_frame = absurd of_frame
+
+    answers : (u : UnderWay) → (is_answered u.progress ≡ true) ⊎ HasAnswer (unheard m.outside.outer) → is_answered u.progress ≡ true
+    answers u (inl answered) = answered
+    answers u (inr has) = absurd (subst HasAnswer none_left has)
+
+    by : Tied false (ends_of h s) (unheard m.outside.outer) [] → SendsFew m → HasNone m ⊎ IsTaken m
+    by (On_way u of fresh at) few = absurd (let no = at.asked in cc)
+    by (Called u of fresh at) few = absurd (not_empty at.before (notice_frame (SendData h.requests.last_id at.status)) at.behind (sym at.are ∙ none_left))
+    by (Nowhere at) (inl nothing) = inl (record { no_request = at.none; sends = nothing })
+    by (Nowhere at) (inr one) = absurd (let no : is_some s.sending ≡ false = ap (λ (o : Option Sending). is_some o) at.idle in let yes = one.sending in cc)
+    by (At_chip u of fresh at) (inl nothing) = absurd (let yes : is_some s.sending ≡ true = ap (λ (o : Option Sending). is_some o) at.is_sending in let no = nothing.not_sending in cc)
+    by (At_chip u of fresh at) (inr one) =
+        let call : one.call ≡ OfFrame = call_is one.call (subst (AllByRecursion IsOfFrame) one.one_call is.routed.of_frames).0 in
+        let line : IsOnLine (Some u) Idle = subst (λ (t : Turn). IsOnLine (Some u) t) is.rests.at_host.turn_is (subst (λ (o : Option UnderWay). IsOnLine o h.side.turn) of.under_way is.on_line) in
+        let progress : u.progress ≡ Answered true notice_ticks = fresh_answered u.progress fresh (answers u at.answered) line in
+        inr (record {
+          purpose = u.purpose;
+          under_way = of.under_way ∙ ap (λ (p : Progress). Some (record { purpose = u.purpose; progress = p })) progress;
+          sends = of.sends;
+          node = at.node;
+          sending = at.is_sending;
+          one_call = one.one_call ∙ ap (λ (c : Call). c ∷ []) call;
+          one_flies = one.flies ∙ ap (λ (c : Call). one_if (of_frame c)) call;
+        })

@@ -7,5 +7,6 @@ pub mod Sending
 pub mod Calls
 pub mod Networks
 pub mod Awaited
-pub mod Tied
+pub mod Routed
 pub mod Undisturbed
+pub mod Tied

@@ -1,6 +1,7 @@
 -- Where the request of the host is, at each phase of quiet lines and ticks (this project's own rule): on its way to the chip, sent by it, or ended by its one call.
-use Rattle.std.specs.Prelude.{◌≡◌, ℕ, ◌≤◌, Bool, true, false, List, [], ◌∷◌, ◌++◌, length, Option, Some, None}
+use Rattle.std.specs.Prelude.{◌≡◌, ◌⊎◌, ℕ, ◌+◌, ◌-◌, ◌≤◌, Bool, true, false, List, [], ◌∷◌, ◌++◌, length, Option, Some, None}
 use Rattle.std.specs.List.{AllByRecursion}
+use Rattle.std.specs.Option.{is_some}
 use Rattle.zw_text.specs.declared.entry.Entry.{Entry}
 use Rattle.serial_frame.specs.Frame.{FrameParts}
 use Rattle.serial_link.specs.declared.turn.Turn.{Turn}
@@ -17,7 +18,7 @@ use Rattle.chip_sim.specs.Waiting.{PortState}
 use Rattle.chip_sim.specs.declared.out.Sending.{Sending}
 use Rattle.host_requests.specs.Events.RequestsEvent.{Ticks}
 use Rattle.host_requests.specs.Frames.{frame_of, function_of, request_of, send}
-use Rattle.host_requests.specs.Next.{notice_ticks, response_ticks}
+use Rattle.host_requests.specs.Next.{is_answered, notice_ticks, response_ticks}
 use Rattle.host_requests.specs.State.{next_id}
 use Rattle.host_requests.specs.declared.task.Purpose.{Purpose}
 use Rattle.host_requests.specs.declared.task.Purpose.TheVariants.{Attempt}
@@ -28,16 +29,19 @@ use Rattle.host_node.specs.declared.attempt.Moment.TheVariants.{BeforeItsTick}
 use Rattle.host_model.specs.After.{task_purpose}
 use Rattle.host_model.specs.Events.{HostEvent, Line_ticks, Requests_do, Node_ticks, Submits_front, Starts, Gives_text, Gives_segment}
 use Rattle.host_model.specs.State.{HostState}
-use Rattle.outside_model.specs.Events.{OuterEvent, Arrives, Gives}
+use Rattle.outside_model.specs.Events.{OuterEvent, Begins_tick, Chip_takes}
 use Rattle.outside_model.specs.State.{OuterState}
-use Rattle.world_model.specs.Events.{Event, Outside_does, Host_does, happens}
+use Rattle.world_model.specs.Events.{Event, Outside_does, Host_does}
 use Rattle.world_model.specs.State.{Machine}
 use Rattle.proof_serial.specs.Line.{WritesWell}
-use Rattle.proof_work.specs.proof_walk.Phases.{Phase, Ticking_host, Sleeping, Submitting, Moving, Moved}
+use Rattle.proof_work.specs.Line.{HasOnLine}
+use Rattle.proof_work.specs.proof_walk.Phases.{Phase, Ticked, Arriving, Giving, Ticking_devices, Ticking_chip, Ticking_decoder, Ticking_host, Sleeping, Submitting, Moving, Moved}
 use Rattle.proof_calm.specs.Awaited.{Awaits, AwaitsAt}
 use Rattle.proof_calm.specs.Calls.{answer_taken}
 use Rattle.proof_calm.specs.Quiet.{AreQuiet}
 use Rattle.proof_calm.specs.Resting.{LineAt, LineRests}
+use Rattle.proof_calm.specs.Routed.{HaveRoutes, IsRouted}
+use Rattle.proof_calm.specs.Undisturbed.{HasNone, IsTaken}
 
 -- ---- frames of the chip
 
@@ -117,10 +121,16 @@ pub record IsOnWay (u : UnderWay) (e : Ends) (pending asking : List FrameParts) 
   pub from : 1 ≤ e.last_id
   pub to : e.last_id ≤ 255
 
--- the chip sends its payload
-pub record IsAtChip (e : Ends) (pending asking : List FrameParts) : Type 0 where
+-- the chip's answer that it was taken is among these
+abbrev pub HasAnswer : List FrameParts → Type 0
+HasAnswer [] = ⊥
+HasAnswer (frame ∷ frames) = (frame ≡ answer_taken) ⊎ HasAnswer frames
+
+-- the chip sends its payload, and has answered it, or will
+pub record IsAtChip (u : UnderWay) (e : Ends) (pending asking : List FrameParts) : Type 0 where
   pub node : ℕ
-  pub is_sent : e.sending ≡ Some (record { node = node; callback_id = e.last_id })
+  pub is_sending : e.sending ≡ Some (record { node = node; callback_id = e.last_id })
+  pub answered : (is_answered u.progress ≡ true) ⊎ HasAnswer pending
   pub leave : LeaveIt pending
   pub nothing : asking ≡ []
 
@@ -139,7 +149,7 @@ pub record IsCalled (e : Ends) (pending asking : List FrameParts) : Type 0 where
 pub data Tied (counted : Bool) (e : Ends) (pending asking : List FrameParts) : Type 0 where
   Nowhere : IsNowhere e pending asking → Tied counted e pending asking
   On_way : (u : UnderWay) → IsOf u e → IsFresh u.progress → IsOnWay u e pending asking → Tied counted e pending asking
-  At_chip : (u : UnderWay) → IsOf u e → IsFresh u.progress → IsAtChip e pending asking → Tied counted e pending asking
+  At_chip : (u : UnderWay) → IsOf u e → IsFresh u.progress → IsAtChip u e pending asking → Tied counted e pending asking
   Called : (u : UnderWay) → IsOf u e → IsFreshUnless counted u.progress → IsCalled e pending asking → Tied counted e pending asking
 
 -- and the host owes no abort
@@ -177,14 +187,47 @@ TieAt (Moving passes ticks) m = TieOf true m (on_line m.host.state.side.turn)
 TieAt (Moved has_moved passes ticks) m = TieOf true m []
 TieAt here m = TieOf false m []
 
+-- the chip has room for the answer to a payload that it may take
+abbrev pub HasRoom : ChipState → Type 0
+HasRoom s = is_some s.sending ≡ false → length s.port.waiting ≤ 31
+
+-- and for what is still to come to it in a tick: for each frame that arrives and each result a frame at most, so that none is dropped
+abbrev pub waits_for_host : Machine → ℕ
+waits_for_host m = length m.outside.outer.chip.state.port.waiting
+
+abbrev pub to_arrive : Machine → ℕ
+to_arrive m = m.outside.outer.air.frames.sent - m.outside.outer.air.frames.landed
+
+abbrev pub RoomAt : Phase → Machine → Type 0
+RoomAt (Ticked ticks) m = waits_for_host m + (to_arrive m + length m.outside.outer.due) ≤ 31
+RoomAt (Arriving frames ticks) m = waits_for_host m + (frames + length m.outside.outer.due) ≤ 31
+RoomAt (Giving results ticks) m = waits_for_host m + results ≤ 31
+RoomAt (Ticking_devices place count ticks) m = waits_for_host m ≤ 31
+RoomAt (Ticking_chip ticks) m = waits_for_host m ≤ 31
+RoomAt (Ticking_decoder ticks) m = waits_for_host m ≤ 31
+RoomAt (Ticking_host events ticks) m = waits_for_host m ≤ 31
+RoomAt (Sleeping passes ticks) m = HasRoom m.outside.outer.chip.state
+RoomAt (Submitting passes ticks) m = HasRoom m.outside.outer.chip.state
+RoomAt (Moving passes ticks) m = HasRoom m.outside.outer.chip.state
+RoomAt (Moved has_moved passes ticks) m = HasRoom m.outside.outer.chip.state
+RoomAt here m = Unit {0}
+
 abbrev pub KnowTied : Phase → List Entry → Machine → Type 0
-KnowTied here past m = AreQuiet past → LineAt here m × AwaitsAt here m × TieAt here m
+KnowTied here past m = AreQuiet past → LineAt here m × AwaitsAt here m × RoomAt here m × IsRouted m.outside.outer × HasOnLine m.host.state × TieAt here m
 
 -- between lines
 pub record IsTied (m : Machine) : Type 0 where
   pub rests : LineRests m
   pub awaits : Awaits m
+  pub routed : IsRouted m.outside.outer
+  pub on_line : HasOnLine m.host.state
   pub tie : TieOf false m []
+
+-- no result is due and no abort owed; and no request is under way, or one that the chip took
+pub record RequestRests (m : Machine) : Type 0 where
+  pub none_due : m.outside.outer.due ≡ []
+  pub paid : m.host.state.requests.owes ≡ false
+  pub request : HasNone m ⊎ IsTaken m
 
 -- ---- what is assumed of events
 
@@ -196,14 +239,14 @@ AsksAt joined h (Gives_text n payload) = AsksToSend joined (Attempt n false payl
 AsksAt joined h (Gives_segment n more payload) = AsksToSend joined (Attempt n more payload) (next_id h.requests.last_id)
 AsksAt joined h event = Unit {0}
 
--- at most 31 frames wait at the chip where it has heard of a frame or a result
-abbrev pub HasRoomFor : Machine → OuterEvent → Type 0
-HasRoomFor m (Arrives drawn route) = length (happens m (Outside_does (Arrives drawn route))).outside.outer.chip.state.port.waiting ≤ 31
-HasRoomFor m (Gives route) = length (happens m (Outside_does (Gives route))).outside.outer.chip.state.port.waiting ≤ 31
-HasRoomFor m event = Unit {0}
+-- as a tick begins, at most 31 frames are on the air and results due; and each payload that the chip takes has a route
+abbrev pub IsOrderlyOutside : Machine → OuterEvent → Type 0
+IsOrderlyOutside m Begins_tick = to_arrive m + length m.outside.outer.due ≤ 31
+IsOrderlyOutside m (Chip_takes count rest ways) = HaveRoutes ways
+IsOrderlyOutside m event = Unit {0}
 
 -- and each frame that the host writes fits the line
 abbrev pub IsOrderly : Machine → Event → Type 0
-IsOrderly m (Outside_does event) = HasRoomFor m event
+IsOrderly m (Outside_does event) = IsOrderlyOutside m event
 IsOrderly m (Host_does event) = WritesWell m (Host_does event) × AsksAt m.outside.outer.chip.state.joined m.host.state event
 IsOrderly m event = WritesWell m event

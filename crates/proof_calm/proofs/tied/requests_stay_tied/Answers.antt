@@ -10,7 +10,7 @@ use Rattle.proof_calm.specs.Tied.{IsOrderly, KnowTied, Nowhere}
 use Rattle.proof_calm.proofs.Awaiting.{Outsides}
 use Rattle.proof_calm.proofs.Begun.{Ids}
 use Rattle.proof_calm.proofs.Walking.{Pumped}
-use Rattle.proof_calm.proofs.Tying.{tied_walk}
+use Rattle.proof_calm.proofs.Tying.{StaysOnLine, tied_walk, request_rests}
 use Rattle.proof_calm.proofs.tied.requests_stay_tied.Goals as goal
 
 pub returns-clause-first : goal.returns-clause-first
@@ -18,11 +18,13 @@ unfolding first_outer
 returns-clause-first c = λ keys records devices nodes. record {
   rests = c.the_line_rests.ensures.first keys records devices;
   awaits = record { course = no_traffic; log = []; follows = follows_on_air no_traffic [] [] first_outer c.outsides_make_requests.ensures.first; each_call = refl; nodes = nodes };
+  routed = record { none_due = refl; of_frames = tt };
+  on_line = c.requests_stay_on_the_line.ensures.first keys;
   tie = record { paid = refl; tied = Nowhere (record { none = refl; idle = refl; leave = tt; nothing = refl }) };
 }
 
 pub returns-clause-walk : goal.returns-clause-walk
-returns-clause-walk c = tied_walk outsides ids pumps
+returns-clause-walk c = tied_walk outsides ids pumps stays
   where
     airs : Airs
     airs = record {
@@ -39,10 +41,16 @@ returns-clause-walk c = tied_walk outsides ids pumps
     ids : Ids
     ids = record { from_one = c.callback_ids.ensures.from_one; to_max = c.callback_ids.ensures.to_max }
 
+    stays : StaysOnLine
+    stays = record { each = c.requests_stay_on_the_line.ensures.each; items = c.requests_stay_on_the_line.ensures.items }
+
     pumps : Pumped
     pumps = record { told = c.turns_of_a_pump_leave_nothing.ensures.told; submits = c.turns_of_a_pump_leave_nothing.ensures.submits }
 
 pub returns-clause-lines : goal.returns-clause-lines
 returns-clause-lines c = λ m lines are whole orderly quiet is.
-    let at = where_whole IsOrderly AsksNothing KnowTied (returns-clause-walk c) [] m lines are whole orderly (λ said. (is.rests, is.awaits, is.tie)) quiet in
-    record { rests = at.0; awaits = at.1; tie = at.2 }
+    let at = where_whole IsOrderly AsksNothing KnowTied (returns-clause-walk c) [] m lines are whole orderly (λ said. (is.rests, is.awaits, tt, is.routed, is.on_line, is.tie)) quiet in
+    record { rests = at.0; awaits = at.1; routed = at.3; on_line = at.4; tie = at.5 }
+
+pub returns-clause-rests : goal.returns-clause-rests
+returns-clause-rests c = λ m is. request_rests m is
