@@ -16,7 +16,7 @@
 //! `Telling` the entries, `Walking` and `Stepping` the walk, and `Ending` what follows. Of its ground `Came` has the units that came,
 //! `Spelled` requests as they are read, `Queued` and `Queueing` those that wait, and `Grounds` all of it. `Brought` has what an interview is told,
 //! and `Listening` what it says. `EndsHere` has what a frame that is judged ends, `EndsLate` waits and the line, `Untold` entries that tell of no end, and
-//! `EndsTold` the walk over them; `Questions` and `Interviews` read their laws off it. `Numbers` is the walk over requests and their ids.
+//! `EndsTold` the walk over them; `Questions` and `Interviews` read their laws off it. `Numbering` is the walk over requests and their ids.
 #![tactic(auto)]
 
 mod asking;

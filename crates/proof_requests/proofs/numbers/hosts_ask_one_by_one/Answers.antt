@@ -6,7 +6,7 @@ use Rattle.proof_waking.specs.proof_alone.Runs.{both_know}
 use Rattle.proof_waking.proofs.Running.{over, run_keeps}
 use Rattle.proof_requests.specs.Numbers.{KnowsIds, MaySend}
 use Rattle.proof_requests.specs.Walking.{Ground, KnowsAsked}
-use Rattle.proof_requests.proofs.Numbers.{both_kept, numbers_walk}
+use Rattle.proof_requests.proofs.Numbering.{both_kept, numbers_walk}
 use Rattle.proof_requests.proofs.numbers.hosts_ask_one_by_one.Goals as goal
 
 pub returns : goal.returns

@@ -47,7 +47,7 @@ use Rattle.host_node.specs.declared.attempt.Moment.TheVariants.{BeforeItsTick}
 use Rattle.host_model.specs.State.{HostState, first_host}
 use Rattle.host_model.specs.After.{after, gives_up, is_full}
 use Rattle.host_model.specs.Did.{MayAll}
-use Rattle.host_model.specs.Events.{HostEvent, Accepts, Cancels, Hears, Requests_do, Interviews, Interview_unkept, Line_ticks, Node_ticks, Queues_no_more, Drops_no_more, Submits_abort, Submits_front, Starts, Gives_text, Gives_segment, Begins, Begin_unkept}
+use Rattle.host_model.specs.Events.{HostEvent, Accepts, Cancels, Hears, Requests_do, Interviews, Interview_unkept, Line_ticks, Queues, Queues_interview, Node_ticks, Queues_no_more, Drops_no_more, Submits_abort, Submits_front, Starts, Gives_text, Gives_segment, Begins, Begin_unkept}
 use Rattle.host_model.specs.May.{IsFree}
 use Rattle.host_model.specs.Outs.{answer_to, answers, outs}
 use Rattle.host_model.specs.Pumping.{IsNext}
@@ -238,6 +238,8 @@ note_id h (Requests_do event moment) notes hears =
 note_id h (Interviews n listens classes update) notes hears = same_after (doing_of h) (doing_of (after h (Interviews n listens classes update))) _ (updates_does h update)
 note_id h (Interview_unkept n update) notes hears = same_after (doing_of h) (doing_of (after h (Interview_unkept n update))) _ (updates_does h update)
 note_id h Line_ticks notes hears = line_id h
+note_id h (Queues task) notes hears = refl
+note_id h (Queues_interview n) notes hears = refl
 note_id h Submits_abort notes hears = absurd notes.0
 note_id h Submits_front notes hears = absurd notes.0
 note_id h (Starts n plan more payload) notes hears = absurd notes.0
