@@ -57,8 +57,10 @@ use Rattle.proof_waking.specs.Judged.{IsOfRequest, KnowsJudged, TieFrames}
 use Rattle.proof_waking.proofs.Followed.{MayFollow, frame_all}
 use Rattle.proof_waking.proofs.Parts.{IsNote, follow_notes}
 use Rattle.proof_requests.specs.Standing.{prior_of}
+use Rattle.proof_requests.specs.Carrying.{CarriesSo}
 use Rattle.proof_requests.specs.Asking.{AsksNothing, Doing, FollowsFirst, TieAsked, doing_of}
 use Rattle.proof_requests.specs.Walking.{AreRead, AsksBefore, Ground, HalfTick, IsNodeTick, IsPaired, IsRead, IsTied, KnowsAsked, KnowsTick, ReadsAs}
+use Rattle.proof_requests.proofs.Carried.{open_none, start_none}
 use Rattle.proof_requests.proofs.Doing.{IsBeside, beside_same, same_asks}
 use Rattle.proof_requests.proofs.OnLine.{IsAnswer}
 use Rattle.proof_requests.proofs.Queued.{PayloadsBring, served_is_node}
@@ -266,7 +268,7 @@ node_beside : (event : HostEvent) → IsNodeTick event → IsBeside event
 node_beside (Node_ticks n) is = tt
 node_beside event is = absurd is
 
-node_notes : (h : HostState) (event : HostEvent) → IsNodeTick event → AllByRecursion IsNote (outs h event)
+pub node_notes : (h : HostState) (event : HostEvent) → IsNodeTick event → AllByRecursion IsNote (outs h event)
 node_notes h (Node_ticks n) is = noted_notes (attempt_entries n (tick_end (node_of h n)) (open_command (node_of h n)))
 node_notes h event is = absurd is
 
@@ -326,7 +328,7 @@ sleep_beside : (full : Bool) (n : ℕ) → IsBeside (if full then Drops_no_more 
 sleep_beside true n = tt
 sleep_beside false n = tt
 
-sleep_notes : (h : HostState) (full : Bool) (n : ℕ) → AllByRecursion IsNote (outs h (if full then Drops_no_more n else Queues_no_more n))
+pub sleep_notes : (h : HostState) (full : Bool) (n : ℕ) → AllByRecursion IsNote (outs h (if full then Drops_no_more n else Queues_no_more n))
 sleep_notes h true n = (tt, tt)
 sleep_notes h false n = tt
 
@@ -341,14 +343,14 @@ free_of : (h : HostState) (event : HostEvent) → IsNext h event → IsFree h
 free_of h event next = next.0
 
 written_tie : (past told : List Entry) (m : HostMachine) (purpose : Purpose) (event : HostEvent) → doing_of (after m.state event) ≡ submitted_doing purpose m.state.requests.last_id m.state.requests.first
-    → AreFrames m.came → IsFree m.state → FollowsFirst (prior_of past) purpose → ReadsAs m.state purpose → ((e : Entry) (more : List Entry) → told ≡ e ∷ more → clock past ≡ m.clock)
+    → AreFrames m.came → IsFree m.state → FollowsFirst (prior_of past) purpose → CarriesSo purpose → ReadsAs m.state purpose → ((e : Entry) (more : List Entry) → told ≡ e ∷ more → clock past ≡ m.clock)
     → AreTold (Write (Framed (frame_of purpose (next_id m.state.requests.last_id))) ∷ []) told → IsTied past m → IsTied (past ++ told) (done m event)
-written_tie past told m purpose event does frames free follows read time is tie =
+written_tie past told m purpose event does frames free follows carries read time is tie =
     same_doing (past ++ told) m.clock m.clock m.came (submitted_doing purpose m.state.requests.last_id m.state.requests.first) (doing_of (after m.state event)) does
-    (submits_tie past told m.clock m.state.requests.last_id m.came (doing_of m.state) purpose frames free.free_line free.none_under_way follows read time is tie)
+    (submits_tie past told m.clock m.state.requests.last_id m.came (doing_of m.state) purpose frames free.free_line free.none_under_way follows carries read time is tie)
 
 -- which events a pump may submit
-abbrev IsSubmission : HostEvent → Type 0
+abbrev pub IsSubmission : HostEvent → Type 0
 IsSubmission Submits_abort = Unit {0}
 IsSubmission Submits_front = Unit {0}
 IsSubmission (Starts n plan more payload) = Unit {0}
@@ -358,7 +360,7 @@ IsSubmission (Begins n session command) = Unit {0}
 IsSubmission (Begin_unkept n) = Unit {0}
 IsSubmission event = ⊥
 
-submissions : SubmittedAre IsSubmission
+pub submissions : SubmittedAre IsSubmission
 submissions = record {
   abort = tt;
   front = tt;
@@ -412,6 +414,11 @@ part_read : (h : HostState) (n : ℕ) (more : Bool) (payload : List ℕ) → nex
 part_read h n more payload next some =
     read_again (Attempt n more payload) (next_id h.requests.last_id) (served_is_node h n next, some, id_from h.requests.last_id, id_to h.requests.last_id)
 
+-- and carries what it is for
+front_carries : (queue : List Task) → AllByRecursion (λ task. CarriesSo (Housekeeping task)) queue → CarriesSo (task_purpose queue)
+front_carries [] all = tt
+front_carries (task ∷ rest) all = all.0
+
 front_is_read : (h : HostState) (queue : List Task) → AreRead queue → ReadsAs h (task_purpose queue)
 front_is_read h [] are = read_again Abort (next_id h.requests.last_id) tt
 front_is_read h (task ∷ rest) are = read_again (Housekeeping task) (next_id h.requests.last_id) (are.0.0 (next_id h.requests.last_id) (id_from h.requests.last_id) (id_to h.requests.last_id))
@@ -428,19 +435,19 @@ event_is_read brings h event facts may are = tt
 submit_does : PayloadsBring → (past : List Entry) (m : HostMachine) (event : HostEvent) (told : List Entry) → IsSubmission event → IsNext m.state event → MayAll m.state (event ∷ []) → AreTold (outs m.state event) told
     → IsNumbered m told → Ground Submitting past m → IsTied past m → IsTied (past ++ told) (done m event)
 submit_does brings past m Submits_abort told sub next may is numbered ground tie =
-    written_tie past told m Abort Submits_abort (abort_does m.state (owing_undue past m.clock m.came (doing_of m.state) (free_of m.state Submits_abort next).none_under_way (owes_is m.state.requests.owes may.0.1) tie)) ground.0.1 (free_of m.state Submits_abort next) tt (event_is_read brings m.state Submits_abort ground.0.0.0.0.0.facts.host may.0 ground.1.0) (time_told Submitting past told m ground numbered) is tie
+    written_tie past told m Abort Submits_abort (abort_does m.state (owing_undue past m.clock m.came (doing_of m.state) (free_of m.state Submits_abort next).none_under_way (owes_is m.state.requests.owes may.0.1) tie)) ground.0.1 (free_of m.state Submits_abort next) tt tt (event_is_read brings m.state Submits_abort ground.0.0.0.0.0.facts.host may.0 ground.1.0) (time_told Submitting past told m ground numbered) is tie
 submit_does brings past m Submits_front told sub next may is numbered ground tie =
-    written_tie past told m (task_purpose m.state.requests.queue) Submits_front (front_does m.state m.state.requests.queue refl ground.1.0.1 may.0.2 may.0.1) ground.0.1 (free_of m.state Submits_front next) (front_after past m m.state.requests.queue refl tie)
+    written_tie past told m (task_purpose m.state.requests.queue) Submits_front (front_does m.state m.state.requests.queue refl ground.1.0.1 may.0.2 may.0.1) ground.0.1 (free_of m.state Submits_front next) (front_after past m m.state.requests.queue refl tie) (front_carries m.state.requests.queue ground.1.0.2)
     (event_is_read brings m.state Submits_front ground.0.0.0.0.0.facts.host may.0 ground.1.0) (time_told Submitting past told m ground numbered) is tie
 submit_does brings past m (Starts n plan more payload) told sub next may is numbered ground tie =
     written_tie past told m (Attempt n more payload) (Starts n plan more payload) (part_does m.state (Attempt n more payload) (doing_of (after m.state (Starts n plan more payload))) refl may.0.0.paid (ap due_second may.0.0.no_task)) ground.0.1
-    (free_of m.state (Starts n plan more payload) next) tt (event_is_read brings m.state (Starts n plan more payload) ground.0.0.0.0.0.facts.host may.0 ground.1.0) (time_told Submitting past told m ground numbered) is tie
+    (free_of m.state (Starts n plan more payload) next) tt (start_none m.state n plan more payload may.0.1) (event_is_read brings m.state (Starts n plan more payload) ground.0.0.0.0.0.facts.host may.0 ground.1.0) (time_told Submitting past told m ground numbered) is tie
 submit_does brings past m (Gives_text n payload) told sub next may is numbered ground tie =
     written_tie past told m (Attempt n false payload) (Gives_text n payload) (part_does m.state (Attempt n false payload) (doing_of (after m.state (Gives_text n payload))) refl may.0.0.paid (ap due_second may.0.0.no_task)) ground.0.1
-    (free_of m.state (Gives_text n payload) next) tt (event_is_read brings m.state (Gives_text n payload) ground.0.0.0.0.0.facts.host may.0 ground.1.0) (time_told Submitting past told m ground numbered) is tie
+    (free_of m.state (Gives_text n payload) next) tt ((ground.1.2 n (served_is_node m.state n may.0.0.next)).text payload may.0.1) (event_is_read brings m.state (Gives_text n payload) ground.0.0.0.0.0.facts.host may.0 ground.1.0) (time_told Submitting past told m ground numbered) is tie
 submit_does brings past m (Gives_segment n more payload) told sub next may is numbered ground tie =
     written_tie past told m (Attempt n more payload) (Gives_segment n more payload) (part_does m.state (Attempt n more payload) (doing_of (after m.state (Gives_segment n more payload))) refl may.0.0.paid (ap due_second may.0.0.no_task)) ground.0.1
-    (free_of m.state (Gives_segment n more payload) next) tt (event_is_read brings m.state (Gives_segment n more payload) ground.0.0.0.0.0.facts.host may.0 ground.1.0) (time_told Submitting past told m ground numbered) is tie
+    (free_of m.state (Gives_segment n more payload) next) tt (open_none m.state (node_of m.state n) (open_session (node_of m.state n).book) (node_of m.state n).next_segment payload may.0.2) (event_is_read brings m.state (Gives_segment n more payload) ground.0.0.0.0.0.facts.host may.0 ground.1.0) (time_told Submitting past told m ground numbered) is tie
 submit_does brings past m (Begins n session command) told sub next may is numbered ground tie = beside_goes past m (Begins n session command) told tt (tt, tt) is tie
 submit_does brings past m (Begin_unkept n) told sub next may is numbered ground tie = beside_goes past m (Begin_unkept n) told tt (tt, tt) is tie
 submit_does brings past m event told sub next may is numbered ground tie = absurd sub

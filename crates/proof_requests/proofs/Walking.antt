@@ -54,6 +54,7 @@ use Rattle.proof_waking.specs.Judged.{TieFrames, frames_of}
 use Rattle.proof_waking.proofs.Apart.{acknowledged_frames}
 use Rattle.proof_waking.proofs.Parts.{IsNote}
 use Rattle.proof_requests.specs.Standing.{Prior, brought_before, brought_of, prior_of, Standing, first_standing, owes_abort_in, responses_in, silence_in, standing_of, with_answer, with_copy}
+use Rattle.proof_requests.specs.Carrying.{CarriesSo}
 use Rattle.proof_requests.specs.Asking.{FollowsFirst, IsDue, Leaving, AsksNothing, AsksSo, Doing, IsPaused, TieAsked, TieLine, TieUnderWay, WasAsked, doing_after, doing_from, doing_of, frames_among, to_come}
 use Rattle.proof_requests.specs.Saying.{frame_next}
 use Rattle.proof_requests.proofs.Ending.{over_so}
@@ -94,7 +95,7 @@ pub noted_notes : (told : List Entry) → AllByRecursion IsNote (noted told)
 noted_notes [] = tt
 noted_notes (e ∷ told) = (tt, noted_notes told)
 
-event_hosts : (h : HostState) (event : HostEvent) → NoteOuts (outs h event)
+pub event_hosts : (h : HostState) (event : HostEvent) → NoteOuts (outs h event)
 event_hosts h event = subst NoteOuts (append-nil (outs h event)) (all_outs_note h (event ∷ []))
 
 pub event_quiet : (h : HostState) (event : HostEvent) (told : List Entry) → AllByRecursion IsNote (outs h event) → AreTold (outs h event) told → AllByRecursion IsQuiet told
@@ -216,12 +217,12 @@ request_ticks_tie past told before now came h next is tie =
 -- ---- the line's tick
 
 -- told of a host that writes a frame, and of what it notes behind it
-record IsWritten (text : List ℕ) (told : List Entry) : Type 0 where
-  rest : List Entry
-  are : told ≡ entry.Written Host text ∷ rest
-  quiet : AllByRecursion IsQuiet rest
+pub record IsWritten (text : List ℕ) (told : List Entry) : Type 0 where
+  pub rest : List Entry
+  pub are : told ≡ entry.Written Host text ∷ rest
+  pub quiet : AllByRecursion IsQuiet rest
 
-written_told : (f : FrameParts) (notes : List Entry) (told : List Entry) → NoteOuts (noted notes) → AreTold (Write (Framed f) ∷ noted notes) told → IsWritten (unit_text (Framed f)) told
+pub written_told : (f : FrameParts) (notes : List Entry) (told : List Entry) → NoteOuts (noted notes) → AreTold (Write (Framed f) ∷ noted notes) told → IsWritten (unit_text (Framed f)) told
 written_told f notes told hosts (marks, rest, is, all, more) = record {
   rest = marks ++ rest;
   are = is;
@@ -232,7 +233,7 @@ written_told f notes told hosts (marks, rest, is, all, more) = record {
 abbrev pub line_outs : HostState → Turn → List HostOut
 line_outs h turn = copy_out (copy_due turn) ++ noted (failing_entries (gives_up turn (turn_ticked turn)) (line_ticked h))
 
-quiet_line : (h : HostState) (turn : Turn) (told : List Entry) → copies_now turn ≡ false → NoteOuts (line_outs h turn) → AreTold (line_outs h turn) told → AllByRecursion IsQuiet told
+pub quiet_line : (h : HostState) (turn : Turn) (told : List Entry) → copies_now turn ≡ false → NoteOuts (line_outs h turn) → AreTold (line_outs h turn) told → AllByRecursion IsQuiet told
 quiet_line h Idle told none hosts is = quiet_told (line_outs h Idle) told (noted_notes (failing_entries false (line_ticked h))) hosts is
 quiet_line h (Copied f copies ticks) told none hosts is =
     quiet_told (line_outs h (Copied f copies ticks)) told (noted_notes (failing_entries (gives_up (Copied f copies ticks) (turn_ticked (Copied f copies ticks))) (line_ticked h))) hosts is
@@ -244,7 +245,7 @@ quiet_line h (Paused f copies ticks) told none hosts is = by (ticks + 1 == pause
     by true none hosts is = absurd (let bad : true ≡ false = none in cc)
     by false none hosts is = quiet_told [] told tt tt is
 
-copy_line : (h : HostState) (f : FrameParts) (copies ticks : ℕ) (told : List Entry) → (ticks + 1 == pause_after copies) ≡ true → AreTold (line_outs h (Paused f copies ticks)) told
+pub copy_line : (h : HostState) (f : FrameParts) (copies ticks : ℕ) (told : List Entry) → (ticks + 1 == pause_after copies) ≡ true → AreTold (line_outs h (Paused f copies ticks)) told
     → IsWritten (unit_text (Framed f)) told
 copy_line h f copies ticks told now is = by (ticks + 1 == pause_after copies) now is
   where
@@ -264,7 +265,7 @@ and_not : (a b : Bool) → b ≡ true → (a && not b) ≡ false
 and_not true b is = ap not is
 and_not false b is = refl
 
-is_old : (past : List Entry) (before : ℕ) (came : List LineUnit) (f : FrameParts) (copies ticks : ℕ) → AreFrames came → IsPaused (standing_of (asked past)) before (acknowledged past) came f copies
+pub is_old : (past : List Entry) (before : ℕ) (came : List LineUnit) (f : FrameParts) (copies ticks : ℕ) → AreFrames came → IsPaused (standing_of (asked past)) before (acknowledged past) came f copies
     → is_new (asked past) (unit_text (Framed f)) ≡ false
 is_old past before came f copies ticks frames line =
     and_not (is_data (unit_text (Framed f))) (is_copy (asked past) (unit_text (Framed f)))
@@ -337,12 +338,12 @@ and_full false b c is = refl
 and_other : (a b c : Bool) → a ≡ false → (a && b && c) ≡ false
 and_other a b c is = ap (λ (x : Bool). x && b && c) is
 
-turn_idle : (turn : Turn) → is_busy turn ≡ false → turn ≡ Idle
+pub turn_idle : (turn : Turn) → is_busy turn ≡ false → turn ≡ Idle
 turn_idle Idle free = refl
 turn_idle (Copied f copies ticks) free = absurd (let bad : true ≡ false = free in cc)
 turn_idle (Paused f copies ticks) free = absurd (let bad : true ≡ false = free in cc)
 
-is_fresh : (past : List Entry) (now : ℕ) (came : List LineUnit) (d : Doing) (f : FrameParts) → is_busy d.turn ≡ false → TieAsked past now now came d → is_new (asked past) (unit_text (Framed f)) ≡ true
+pub is_fresh : (past : List Entry) (now : ℕ) (came : List LineUnit) (d : Doing) (f : FrameParts) → is_busy d.turn ≡ false → TieAsked past now now came d → is_new (asked past) (unit_text (Framed f)) ≡ true
 is_fresh past now came d f free tie = ap not (by tie)
   where
     line_of_idle : (s : Standing) (count : ℕ) → TieLine s now count came d.turn → TieLine s now count came Idle
@@ -419,10 +420,10 @@ owing_undue past now came d none owes (inr (was, asks)) = by d.due refl
         (sym (owed d.under_way none asks.under_way) ∙ owed_none (standing_of (asked past)) now n (subst (IsDue (asked past).frame) is asks.due)) owes)
 
 pub submits_tie : (past told : List Entry) (now last : ℕ) (came : List LineUnit) (d : Doing) (purpose : Purpose) → AreFrames came → is_busy d.turn ≡ false → d.under_way ≡ None
-    → FollowsFirst (prior_of past) purpose
+    → FollowsFirst (prior_of past) purpose → CarriesSo purpose
     → request_in (unit_text (Framed (frame_of purpose (next_id last)))) ≡ request_of purpose (next_id last) ∷ [] → ((e : Entry) (more : List Entry) → told ≡ e ∷ more → clock past ≡ now)
     → AreTold (Write (Framed (frame_of purpose (next_id last))) ∷ []) told → TieAsked past now now came d → TieAsked (past ++ told) now now came (submitted_doing purpose last d.leaving.first)
-submits_tie past told now last came d purpose frames free none follows read time is tie =
+submits_tie past told now last came d purpose frames free none follows carries read time is tie =
     let f : FrameParts = frame_of purpose (next_id last) in
     let unit : List ℕ = unit_text (Framed f) in
     let wrote = written_told f [] told tt is in
@@ -432,7 +433,7 @@ submits_tie past told now last came d purpose frames free none follows read time
     let asks : AsksSo (first_standing unit now (prior_of past)) now now (acknowledged past) came after_it =
     subst (Begun purpose (id_after last purpose) now (acknowledged past) (prior_of past) came) (sym (request_kept purpose last))
     (submitted_moves purpose (id_after last purpose) now (acknowledged past) (prior_of past) came frames
-    (subst (λ (q : Request). request_in (unit_text (Framed (request_frame q))) ≡ q ∷ []) (request_kept purpose last) read) follows) in
+    (subst (λ (q : Request). request_in (unit_text (Framed (request_frame q))) ≡ q ∷ []) (request_kept purpose last) read) follows carries) in
     let first : TieAsked (past ++ e ∷ []) now now came after_it =
     tie_new past unit now now came after_it (data_acknowledges_none unit refl) refl (is_fresh past now came d f free tie)
     (subst (λ (n : ℕ). AsksSo (first_standing unit n (prior_of past)) now now (acknowledged past) came after_it) (sym at) asks) in
