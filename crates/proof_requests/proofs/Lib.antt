@@ -21,6 +21,7 @@ pub mod Ending
 mod Grounds
 mod Brought
 mod Listening
+pub mod EndsDone
 pub mod EndsHere
 pub mod EndsLate
 pub mod Untold
