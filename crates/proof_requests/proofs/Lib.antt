@@ -11,6 +11,7 @@ mod Moving
 mod Events
 pub mod Telling
 pub mod Spelled
+pub mod Carried
 mod Came
 pub mod Queued
 pub mod Queueing
@@ -20,6 +21,7 @@ pub mod Ending
 mod Grounds
 mod Brought
 mod Listening
+pub mod EndsDone
 pub mod EndsHere
 pub mod EndsLate
 pub mod Untold

@@ -58,8 +58,10 @@ use Rattle.proof_waking.specs.Judged.{IsOfRequest, KnowsJudged, TieFrames}
 use Rattle.proof_waking.proofs.Followed.{MayFollow, frame_all}
 use Rattle.proof_waking.proofs.Parts.{IsNote, follow_notes}
 use Rattle.proof_requests.specs.Standing.{prior_of}
+use Rattle.proof_requests.specs.Carrying.{CarriesSo}
 use Rattle.proof_requests.specs.Asking.{AsksNothing, Doing, FollowsFirst, TieAsked, doing_of}
 use Rattle.proof_requests.specs.Walking.{AreRead, AsksBefore, Ground, HalfTick, IsNodeTick, IsPaired, IsRead, IsTied, KnowsAsked, KnowsTick, ReadsAs}
+use Rattle.proof_requests.proofs.Carried.{open_none, start_none}
 use Rattle.proof_requests.proofs.Doing.{IsBeside, beside_same, same_asks}
 use Rattle.proof_requests.proofs.OnLine.{IsAnswer}
 use Rattle.proof_requests.proofs.Queued.{PayloadsBring, served_is_node}
@@ -342,11 +344,11 @@ free_of : (h : HostState) (event : HostEvent) → IsNext h event → IsFree h
 free_of h event next = next.0
 
 written_tie : (past told : List Entry) (m : HostMachine) (purpose : Purpose) (event : HostEvent) → doing_of (after m.state event) ≡ submitted_doing purpose m.state.requests.last_id m.state.requests.first
-    → AreFrames m.came → IsFree m.state → FollowsFirst (prior_of past) purpose → ReadsAs m.state purpose → ((e : Entry) (more : List Entry) → told ≡ e ∷ more → clock past ≡ m.clock)
+    → AreFrames m.came → IsFree m.state → FollowsFirst (prior_of past) purpose → CarriesSo purpose → ReadsAs m.state purpose → ((e : Entry) (more : List Entry) → told ≡ e ∷ more → clock past ≡ m.clock)
     → AreTold (Write (Framed (frame_of purpose (next_id m.state.requests.last_id))) ∷ []) told → IsTied past m → IsTied (past ++ told) (done m event)
-written_tie past told m purpose event does frames free follows read time is tie =
+written_tie past told m purpose event does frames free follows carries read time is tie =
     same_doing (past ++ told) m.clock m.clock m.came (submitted_doing purpose m.state.requests.last_id m.state.requests.first) (doing_of (after m.state event)) does
-    (submits_tie past told m.clock m.state.requests.last_id m.came (doing_of m.state) purpose frames free.free_line free.none_under_way follows read time is tie)
+    (submits_tie past told m.clock m.state.requests.last_id m.came (doing_of m.state) purpose frames free.free_line free.none_under_way follows carries read time is tie)
 
 -- which events a pump may submit
 abbrev pub IsSubmission : HostEvent → Type 0
@@ -413,6 +415,11 @@ part_read : (h : HostState) (n : ℕ) (more : Bool) (payload : List ℕ) → nex
 part_read h n more payload next some =
     read_again (Attempt n more payload) (next_id h.requests.last_id) (served_is_node h n next, some, id_from h.requests.last_id, id_to h.requests.last_id)
 
+-- and carries what it is for
+front_carries : (queue : List Task) → AllByRecursion (λ task. CarriesSo (Housekeeping task)) queue → CarriesSo (task_purpose queue)
+front_carries [] all = tt
+front_carries (task ∷ rest) all = all.0
+
 front_is_read : (h : HostState) (queue : List Task) → AreRead queue → ReadsAs h (task_purpose queue)
 front_is_read h [] are = read_again Abort (next_id h.requests.last_id) tt
 front_is_read h (task ∷ rest) are = read_again (Housekeeping task) (next_id h.requests.last_id) (are.0.0 (next_id h.requests.last_id) (id_from h.requests.last_id) (id_to h.requests.last_id))
@@ -432,6 +439,7 @@ pub record Submits (past : List Entry) (h : HostState) (event : HostEvent) : Typ
   pub does : doing_of (after h event) ≡ submitted_doing purpose h.requests.last_id h.requests.first
   pub puts : outs h event ≡ Write (Framed (frame_of purpose (next_id h.requests.last_id))) ∷ []
   pub follows : FollowsFirst (prior_of past) purpose
+  pub carries : CarriesSo purpose
   pub read : ReadsAs h purpose
 
 abbrev pub IsBeginning : HostEvent → Type 0
@@ -445,8 +453,9 @@ module _ (brings : PayloadsBring) (past : List Entry) (m : HostMachine) (ground 
 
   -- a part of an attempt
   part_submits : (event : HostEvent) (n : ℕ) (more : Bool) (payload : List ℕ) → outs m.state event ≡ Write (Framed (frame_of (Attempt n more payload) (next_id m.state.requests.last_id))) ∷ []
-      → doing_of (after m.state event) ≡ submitted_doing (Attempt n more payload) m.state.requests.last_id m.state.requests.first → ReadsAs m.state (Attempt n more payload) → Submits past m.state event
-  part_submits event n more payload puts does read = record { purpose = Attempt n more payload; does = does; puts = puts; follows = tt; read = read }
+      → doing_of (after m.state event) ≡ submitted_doing (Attempt n more payload) m.state.requests.last_id m.state.requests.first → CarriesSo (Attempt n more payload) → ReadsAs m.state (Attempt n more payload)
+      → Submits past m.state event
+  part_submits event n more payload puts does carries read = record { purpose = Attempt n more payload; does = does; puts = puts; follows = tt; carries = carries; read = read }
 
   submits_so : (event : HostEvent) → IsSubmission event → IsNext m.state event → MayAll m.state (event ∷ []) → Submits past m.state event ⊎ IsBeginning event
   submits_so Submits_abort sub next may =
@@ -455,6 +464,7 @@ module _ (brings : PayloadsBring) (past : List Entry) (m : HostMachine) (ground 
         does = abort_does m.state (owing_undue past m.clock m.came (doing_of m.state) (free_of m.state Submits_abort next).none_under_way (owes_is m.state.requests.owes may.0.1) tie);
         puts = refl;
         follows = tt;
+        carries = tt;
         read = read_so Submits_abort may.0;
       })
   submits_so Submits_front sub next may =
@@ -463,17 +473,21 @@ module _ (brings : PayloadsBring) (past : List Entry) (m : HostMachine) (ground 
         does = front_does m.state m.state.requests.queue refl ground.1.0.1 may.0.2 may.0.1;
         puts = refl;
         follows = front_after past m m.state.requests.queue refl tie;
+        carries = front_carries m.state.requests.queue ground.1.0.2;
         read = read_so Submits_front may.0;
       })
   submits_so (Starts n plan more payload) sub next may =
       inl (part_submits (Starts n plan more payload) n more payload refl
-      (part_does m.state (Attempt n more payload) (doing_of (after m.state (Starts n plan more payload))) refl may.0.0.paid (ap due_second may.0.0.no_task)) (read_so (Starts n plan more payload) may.0))
+      (part_does m.state (Attempt n more payload) (doing_of (after m.state (Starts n plan more payload))) refl may.0.0.paid (ap due_second may.0.0.no_task))
+      (start_none m.state n plan more payload may.0.1) (read_so (Starts n plan more payload) may.0))
   submits_so (Gives_text n payload) sub next may =
       inl (part_submits (Gives_text n payload) n false payload refl
-      (part_does m.state (Attempt n false payload) (doing_of (after m.state (Gives_text n payload))) refl may.0.0.paid (ap due_second may.0.0.no_task)) (read_so (Gives_text n payload) may.0))
+      (part_does m.state (Attempt n false payload) (doing_of (after m.state (Gives_text n payload))) refl may.0.0.paid (ap due_second may.0.0.no_task))
+      ((ground.1.2 n (served_is_node m.state n may.0.0.next)).text payload may.0.1) (read_so (Gives_text n payload) may.0))
   submits_so (Gives_segment n more payload) sub next may =
       inl (part_submits (Gives_segment n more payload) n more payload refl
-      (part_does m.state (Attempt n more payload) (doing_of (after m.state (Gives_segment n more payload))) refl may.0.0.paid (ap due_second may.0.0.no_task)) (read_so (Gives_segment n more payload) may.0))
+      (part_does m.state (Attempt n more payload) (doing_of (after m.state (Gives_segment n more payload))) refl may.0.0.paid (ap due_second may.0.0.no_task))
+      (open_none m.state (node_of m.state n) (open_session (node_of m.state n).book) (node_of m.state n).next_segment payload may.0.2) (read_so (Gives_segment n more payload) may.0))
   submits_so (Begins n session command) sub next may = inr tt
   submits_so (Begin_unkept n) sub next may = inr tt
   submits_so event sub next may = absurd sub
@@ -497,7 +511,7 @@ submit_does brings past m event told next may is numbered ground tie = by (submi
   where
     by : Submits past m.state event ⊎ IsBeginning event → IsTied (past ++ told) (done m event)
     by (inl s) =
-        written_tie past told m s.purpose event s.does ground.0.1 (free_of m.state event next) s.follows s.read (time_told Submitting past told m ground numbered)
+        written_tie past told m s.purpose event s.does ground.0.1 (free_of m.state event next) s.follows s.carries s.read (time_told Submitting past told m ground numbered)
         (subst (λ (l : List HostOut). AreTold l told) s.puts is) tie
     by (inr begins) = beside_goes past m event told (beginning_beside event begins) (beginning_notes m.state event begins) is tie
 

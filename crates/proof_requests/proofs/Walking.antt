@@ -54,6 +54,7 @@ use Rattle.proof_waking.specs.Judged.{TieFrames, frames_of}
 use Rattle.proof_waking.proofs.Apart.{acknowledged_frames}
 use Rattle.proof_waking.proofs.Parts.{IsNote}
 use Rattle.proof_requests.specs.Standing.{Prior, brought_before, brought_of, prior_of, Standing, first_standing, owes_abort_in, responses_in, silence_in, standing_of, with_answer, with_copy}
+use Rattle.proof_requests.specs.Carrying.{CarriesSo}
 use Rattle.proof_requests.specs.Asking.{FollowsFirst, IsDue, Leaving, AsksNothing, AsksSo, Doing, IsPaused, TieAsked, TieLine, TieUnderWay, WasAsked, doing_after, doing_from, doing_of, frames_among, to_come}
 use Rattle.proof_requests.specs.Saying.{frame_next}
 use Rattle.proof_requests.proofs.Ending.{over_so}
@@ -419,10 +420,10 @@ owing_undue past now came d none owes (inr (was, asks)) = by d.due refl
         (sym (owed d.under_way none asks.under_way) ∙ owed_none (standing_of (asked past)) now n (subst (IsDue (asked past).frame) is asks.due)) owes)
 
 pub submits_tie : (past told : List Entry) (now last : ℕ) (came : List LineUnit) (d : Doing) (purpose : Purpose) → AreFrames came → is_busy d.turn ≡ false → d.under_way ≡ None
-    → FollowsFirst (prior_of past) purpose
+    → FollowsFirst (prior_of past) purpose → CarriesSo purpose
     → request_in (unit_text (Framed (frame_of purpose (next_id last)))) ≡ request_of purpose (next_id last) ∷ [] → ((e : Entry) (more : List Entry) → told ≡ e ∷ more → clock past ≡ now)
     → AreTold (Write (Framed (frame_of purpose (next_id last))) ∷ []) told → TieAsked past now now came d → TieAsked (past ++ told) now now came (submitted_doing purpose last d.leaving.first)
-submits_tie past told now last came d purpose frames free none follows read time is tie =
+submits_tie past told now last came d purpose frames free none follows carries read time is tie =
     let f : FrameParts = frame_of purpose (next_id last) in
     let unit : List ℕ = unit_text (Framed f) in
     let wrote = written_told f told is in
@@ -432,7 +433,7 @@ submits_tie past told now last came d purpose frames free none follows read time
     let asks : AsksSo (first_standing unit now (prior_of past)) now now (acknowledged past) came after_it =
     subst (Begun purpose (id_after last purpose) now (acknowledged past) (prior_of past) came) (sym (request_kept purpose last))
     (submitted_moves purpose (id_after last purpose) now (acknowledged past) (prior_of past) came frames
-    (subst (λ (q : Request). request_in (unit_text (Framed (request_frame q))) ≡ q ∷ []) (request_kept purpose last) read) follows) in
+    (subst (λ (q : Request). request_in (unit_text (Framed (request_frame q))) ≡ q ∷ []) (request_kept purpose last) read) follows carries) in
     let first : TieAsked (past ++ e ∷ []) now now came after_it =
     tie_new past unit now now came after_it (data_acknowledges_none unit refl) refl (is_fresh past now came d f free tie)
     (subst (λ (n : ℕ). AsksSo (first_standing unit n (prior_of past)) now now (acknowledged past) came after_it) (sym at) asks) in

@@ -1,4 +1,5 @@
 pub mod Standing
+pub mod Carrying
 pub mod Asking
 pub mod Effects
 pub mod Saying
