@@ -97,6 +97,10 @@ kept_as_told keys whole heard told held agrees laws = record {
   wakes = laws.wakes;
   holds = laws.holds;
   questions = laws.questions;
+  interviews = laws.interviews;
+  says_done = laws.says_done;
+  one_by_one = laws.one_by_one;
+  numbered = laws.numbered;
   ticks = laws.ticks;
   sends = laws.sends;
 }
