@@ -1,6 +1,6 @@
 -- What a run of `sim` or `generate` keeps true (this project's own): its story is the lines that were run, each with the events of the machine that it
 -- was, and the laws are of this story.
-use Rattle.std.specs.Prelude.{◌≡◌, ◌⊎◌, ℕ, Bool, true, List, [], ◌∷◌, ◌++◌, map, Option, Some, Ok}
+use Rattle.std.specs.Prelude.{◌≡◌, ◌⊎◌, ℕ, Bool, true, false, List, [], ◌∷◌, ◌++◌, map, Option, Some, Ok}
 use Rattle.std.specs.List.{AllByRecursion, list_any}
 use Rattle.zw_text.specs.Line.{line_at}
 use Rattle.zw_text.specs.declared.line.Line.{Line}
@@ -45,7 +45,8 @@ use Rattle.law_time.specs.Choice.{NumbersCallbacks, SendsOneByOne}
 use Rattle.law_time.specs.Errands.{SaysHowDone}
 use Rattle.law_time.specs.Interviews.{EndsInterviews}
 use Rattle.law_time.specs.Questions.{AnswersQuestions}
-use Rattle.law_time.specs.Waking.{WakesAsTold}
+use Rattle.law_time.specs.Holds.{HoldsAsAsked}
+use Rattle.law_time.specs.Waking.{FallsAsleep, WakesAsTold}
 use Rattle.law_host.specs.Heard.{heard_by_host}
 use Rattle.law_host.specs.HostLegal.{ShowsValues}
 use Rattle.proof_chip.specs.Served.{AirsByLink}
@@ -379,6 +380,13 @@ ClearsNothingElse key old new = AlwaysOf key old new (λ story. (whole : Bool) �
 abbrev pub WakesNodes : List ℕ → Around → Around → Type 0
 WakesNodes key old new = AlwaysOf key old new (λ story. TellsAtRestarts old story → WakesAsTold (transcript key old story))
 
+-- one that does not listen falls asleep where its third attempt or its No More Information has ended, and is held awake where the report that ends its session asks so; both wherever that is
+abbrev pub SendsToSleep : List ℕ → Around → Around → Type 0
+SendsToSleep key old new = AlwaysOf key old new (λ story. TellsAtRestarts old story → FallsAsleep false (transcript key old story))
+
+abbrev pub HoldsNodes : List ℕ → Around → Around → Type 0
+HoldsNodes key old new = AlwaysOf key old new (λ story. TellsAtRestarts old story → HoldsAsAsked (transcript key old story))
+
 -- the neighbours of a node, and whether it has failed, stand where the first response to the last request was judged, and wherever it was
 abbrev pub TellsWhatIsAsked : List ℕ → Around → Around → Type 0
 TellsWhatIsAsked key old new = AlwaysOf key old new (λ story. TellsAtRestarts old story → AnswersQuestions (transcript key old story))
@@ -453,6 +461,8 @@ pub record KeepsHostLaws (key : List ℕ) (old new : Around) : Type 0 where
   pub records : KeepsWhatIsShown key old new
   pub sends : SendsAsDue key old new
   pub wakes : WakesNodes key old new
+  pub sleeps : SendsToSleep key old new
+  pub holds : HoldsNodes key old new
   pub questions : TellsWhatIsAsked key old new
   pub interviews : EndsEachInterview key old new
   pub says_done : TellsHowDone key old new

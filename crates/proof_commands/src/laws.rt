@@ -23,6 +23,7 @@ ghost use Rattle.proof_commands.specs.Laws.{
   HasHeadline,
   HasWholeHeadline,
   HearsAsHosts,
+  HoldsNodes,
   KeepsAir,
   KeepsBothLinks,
   KeepsDevices,
@@ -43,6 +44,7 @@ ghost use Rattle.proof_commands.specs.Laws.{
   ReportsAfterChange,
   RoutesFrames,
   SendsAsDue,
+  SendsToSleep,
   ShowsChanges,
   ShowsKeptDevices,
   ShowsStoredValues,
@@ -79,6 +81,7 @@ use proof_devices::routes::{
 };
 use proof_devices::{devices_did, lines_meet_what_is_due, lines_repeat_what_is_asked};
 use proof_host::{asides_keep_facts, laws_follow};
+use proof_replay::attempts::{lines_fall_asleep_as_told, lines_hold_as_asked};
 use proof_replay::errands::lines_say_how_done;
 use proof_replay::known::waking::lines_wake_as_told;
 use proof_replay::lines_that_ran_are_heard;
@@ -262,12 +265,16 @@ fn stories_send_what_is_due()
     lines_send_what_is_due();
 }
 
-/// Nodes count as awake as they told in lines that were said.
+/// Nodes count as awake as they told in lines that were said, fall asleep and are held.
 fn stories_wake_as_told()
-    ensures { (key : List ℕ) (old new : Around) → WakesNodes key old new }
+    ensures wakes { (key : List ℕ) (old new : Around) → WakesNodes key old new }
+    ensures sleeps { (key : List ℕ) (old new : Around) → SendsToSleep key old new }
+    ensures holds { (key : List ℕ) (old new : Around) → HoldsNodes key old new }
 {
     lines_are_read_as_said();
     lines_wake_as_told();
+    lines_fall_asleep_as_told();
+    lines_hold_as_asked();
 }
 
 /// Questions are answered, and ends of interviews and of what lines asked for are told, in lines that were said.

@@ -95,6 +95,7 @@ kept_as_told keys whole heard told held agrees laws = record {
   at_once = laws.at_once;
   in_turn = laws.in_turn;
   wakes = laws.wakes;
+  sleeps = laws.sleeps;
   holds = laws.holds;
   questions = laws.questions;
   interviews = laws.interviews;

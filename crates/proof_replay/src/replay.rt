@@ -22,7 +22,7 @@ use proof_asking::known::waking::hosts_wake_as_told;
 use proof_asking::known::{
     hosts_do_as_is_said, hosts_note_at_once, hosts_note_values_in_turn, hosts_note_what_was_told,
 };
-use proof_attempts::hosts_hold_as_asked;
+use proof_attempts::{hosts_fall_asleep_as_told, hosts_hold_as_asked};
 use proof_errands::hosts_say_how_done;
 use proof_requests::alone::{hosts_keep_their_tables, hosts_tell_time};
 use proof_requests::{hosts_answer_questions, hosts_ask_one_by_one, hosts_end_interviews};
@@ -47,6 +47,7 @@ pub fn hosts_keep_laws()
     hosts_note_values_in_turn();
     hosts_tell_time();
     hosts_wake_as_told();
+    hosts_fall_asleep_as_told();
     hosts_hold_as_asked();
     hosts_send_what_is_due();
     hosts_answer_questions();

@@ -33,6 +33,7 @@ returns c = λ keys whole here heard m run rests fine. record {
       by_whole (λ (b : Bool) (l : List Entry). NotesInTurn b l) (first_alone keys (Some [])) (c.hosts_note_values_in_turn.ensures.whole keys (Some []))
       (c.hosts_note_values_in_turn.ensures.told keys (Some [])) whole here heard m run rests;
   wakes = c.hosts_wake_as_told.ensures keys (Some []) heard (here, m, run);
+  sleeps = c.hosts_fall_asleep_as_told.ensures.told keys heard (here, m, run);
   holds = c.hosts_hold_as_asked.ensures keys heard (here, m, run);
   questions = c.hosts_answer_questions.ensures keys heard (here, m, run);
   interviews = c.hosts_end_interviews.ensures keys heard (here, m, run);
