@@ -1,17 +1,14 @@
 -- What is known of a link goes on with steps, units and events of the serial line, and in the end is the law.
 use Rattle.std.proofs.Common.{◌≡◌, ◌≤◌, ℕ, ◌+◌, ◌-◌, ◌&&◌, not, nat_lt, Bool, true, false, if◌then◌else◌, List, [], ◌∷◌, ◌++◌, map, length, refl, sym, ap, ◌∙◌, subst, append-nil, append_assoc, length-append, arith}
-use Rattle.std.specs.List.{flat_map, list_any}
+use Rattle.std.specs.List.{AllByRecursion, flat_map, list_any}
 use Rattle.zw_base.proofs.Each.{all-append}
-use Rattle.serial_frame.specs.Items.{unit_text}
-use Rattle.serial_frame.specs.declared.unit.Unit.{Unit as LineUnit}
 use Rattle.serial_link.specs.State.{Side as LinkSide}
 use Rattle.serial_link.specs.declared.turn.Turn.TheVariants.{Idle}
 use Rattle.serial_link.specs.Rules.{Step, SideObeys, Event, heard, ticked, submitted, asked, item_of, ticks_of}
-use Rattle.serial_pipes.specs.State.{WayState}
-use Rattle.serial_pipes.specs.Events.{told}
 use Rattle.zw_words.specs.declared.side.Side.{Side}
 use Rattle.zw_words.specs.declared.side.Side.TheVariants.{Host, Chip}
 use Rattle.zw_text.specs.declared.entry.Entry.{Entry}
+use Rattle.zw_text.specs.declared.entry.Entry.TheVariants as entry
 use Rattle.zw_text.specs.declared.line.Line.{Line}
 use Rattle.law_wire.specs.law_transcript.Restarts.{is_restart}
 use Rattle.law_wire.specs.Clearing.{lost_by}
@@ -19,10 +16,10 @@ use Rattle.law_wire.specs.Serial.{SerialEvent, arriving_of, serial_events}
 use Rattle.law_wire.specs.Serial.SerialEvent.{Line_begins, Tick_begins, Writes}
 use Rattle.law_wire.specs.Links.{HasTicked, KeepsLink, LeavesFew, Moment, Round, WriteLast, arrivals_of, ends_round, most_left, stall_by, MayDo, Obeys, WritesThere, arrival_of, clock_in, is_stalled, joined, moments_of, other, round_of, steps_in, texts_of, unit_by}
 use Rattle.proof_line.specs.Links.{Does, Hears, IsAt, IsMute, KeepsSoFar, KnowsEvents, KnowsLink, LinkNow, MayEnd, MayEndNow, MayHear, MayStep, TakesTexts, begun_line, begun_tick, life_of, most_of, round_steps, stalls_in, stepped, with_arriving}
+use Rattle.proof_walk.proofs.Entered.{IsMark}
 use Rattle.proof_line.proofs.Moments.{arrivals_one, moments_one, round_one}
-use Rattle.proof_line.proofs.Serials.{beside_serials, unit_serials}
+use Rattle.proof_line.proofs.Serials.{beside_serials, written_serials}
 use Rattle.proof_line.proofs.Standing.{same_itself}
-use Rattle.proof_line.proofs.Arriving.{marks_of}
 use Rattle.proof_line.proofs.Tellings.{IsBeside}
 use Rattle.proof_line.proofs.LinkSteps.{asks_by, clock_one, does_more, does_on, ends_part, hears_next, hears_on, hears_same, life_same, lost_same, mute_last, round_same, stalls_one, unit_may_end, writes_last}
 
@@ -297,34 +294,35 @@ other_arrival : (side : Side) (unit : List ℕ) (arriving : List (List ℕ)) →
 other_arrival Host unit arriving = (refl, refl)
 other_arrival Chip unit arriving = (refl, refl)
 
--- a unit that a step of the side writes
-pub write_known : (side : Side) (past : List Entry) (now : LinkNow) (new : LinkSide) (left : List (List ℕ)) (step : Step) (way : WayState) (unit : LineUnit) → KnowsLink side past now
-    → MayStep side now step new → MayHear now (item_of step.event) left → texts_of step ≡ unit_text unit ∷ [] → KnowsLink side (past ++ told side way unit) (stepped now step new left)
-write_known side past now new left step way unit knows goes hears is =
+-- a unit that a step of the side writes, with what became of it
+pub written_known : (side : Side) (past : List Entry) (now : LinkNow) (new : LinkSide) (left : List (List ℕ)) (step : Step) (unit : List ℕ) (marks : List Entry) → AllByRecursion IsMark marks
+    → KnowsLink side past now → MayStep side now step new → MayHear now (item_of step.event) left → texts_of step ≡ unit ∷ []
+    → KnowsLink side (past ++ entry.Written side unit ∷ marks) (stepped now step new left)
+written_known side past now new left step unit marks are knows goes hears is =
     let events : List SerialEvent = serial_events past in
-    let arriving : List (List ℕ) = arriving_of side (unit_text unit) (marks_of side way unit) in
-    let event : SerialEvent = Writes side (unit_text unit) arriving in
+    let arriving : List (List ℕ) = arriving_of side unit marks in
+    let event : SerialEvent = Writes side unit arriving in
     let later : LinkNow = stepped now step new left in
     let got =
-    unit_ends side events now knows side (unit_text unit) arriving (knows.steps ++ step ∷ []) later (step_does side events now knows new step goes)
+    unit_ends side events now knows side unit arriving (knows.steps ++ step ∷ []) later (step_does side events now knows new step goes)
     (step_hears side events now knows step left hears) (at_step side (moments_of events knows.parts) knows.steps now step new left knows.at)
-    (subst (λ (b : Bool). WriteLast (knows.steps ++ step ∷ []) (if b then unit_text unit ∷ [] else [])) (sym (same_itself side)) (writes_last knows.steps step (unit_text unit ∷ []) knows.mute is)) in
-    subst (λ (l : List SerialEvent). KnowsEvents side l later) (sym (unit_serials side way unit past).0)
+    (subst (λ (b : Bool). WriteLast (knows.steps ++ step ∷ []) (if b then unit ∷ [] else [])) (sym (same_itself side)) (writes_last knows.steps step (unit ∷ []) knows.mute is)) in
+    subst (λ (l : List SerialEvent). KnowsEvents side l later) (sym (written_serials side unit marks past are).0)
     (none_arriving side (events ++ event ∷ []) later
-    (subst (λ (l : List (List ℕ)). KnowsEvents side (events ++ event ∷ []) (with_arriving later l)) (own_arrival side (unit_text unit) arriving) got))
+    (subst (λ (l : List (List ℕ)). KnowsEvents side (events ++ event ∷ []) (with_arriving later l)) (own_arrival side unit arriving) got))
 
 -- a unit that the other side writes
-pub other_known : (side : Side) (past : List Entry) (now : LinkNow) (way : WayState) (unit : LineUnit) → KnowsLink side past now
-    → KnowsLink side (past ++ told (other side) way unit) (with_arriving now (arriving_of (other side) (unit_text unit) (marks_of (other side) way unit)))
-other_known side past now way unit knows =
+pub other_known : (side : Side) (past : List Entry) (now : LinkNow) (unit : List ℕ) (marks : List Entry) → AllByRecursion IsMark marks → KnowsLink side past now
+    → KnowsLink side (past ++ entry.Written (other side) unit ∷ marks) (with_arriving now (arriving_of (other side) unit marks))
+other_known side past now unit marks are knows =
     let events : List SerialEvent = serial_events past in
-    let arriving : List (List ℕ) = arriving_of (other side) (unit_text unit) (marks_of (other side) way unit) in
-    let event : SerialEvent = Writes (other side) (unit_text unit) arriving in
-    let both = other_arrival side (unit_text unit) arriving in
+    let arriving : List (List ℕ) = arriving_of (other side) unit marks in
+    let event : SerialEvent = Writes (other side) unit arriving in
+    let both = other_arrival side unit arriving in
     let got =
-    unit_ends side events now knows (other side) (unit_text unit) arriving knows.steps now knows.does knows.hears knows.at
+    unit_ends side events now knows (other side) unit arriving knows.steps now knows.does knows.hears knows.at
     (subst (λ (l : List (List ℕ)). WriteLast knows.steps l) (sym both.1) (mute_last knows.steps knows.mute)) in
-    subst (λ (l : List SerialEvent). KnowsEvents side l (with_arriving now arriving)) (sym (unit_serials (other side) way unit past).0)
+    subst (λ (l : List SerialEvent). KnowsEvents side l (with_arriving now arriving)) (sym (written_serials (other side) unit marks past are).0)
     (subst (λ (l : List (List ℕ)). KnowsEvents side (events ++ event ∷ []) (with_arriving now l)) both.0 got)
 
 -- an entry beside the line

@@ -15,16 +15,18 @@ use Rattle.serial_pipes.specs.Events.{told, after, Writes}
 use Rattle.chip_sim.specs.Link.{link_unit, link_units}
 use Rattle.zw_words.specs.declared.side.Side.{Side}
 use Rattle.zw_text.specs.declared.entry.Entry.{Entry}
+use Rattle.zw_text.specs.declared.entry.Entry.TheVariants as entry
 use Rattle.law_wire.specs.Serial.{arriving_of, serial_events}
 use Rattle.law_wire.specs.Links.{other, text_of, texts_of}
+use Rattle.proof_walk.proofs.Entered.{told_by_marks}
 use Rattle.proof_world.specs.proof_serial.Way.{items_of as way_items, written_all}
 use Rattle.proof_world.proofs.EndedItems.{feeds_all}
 use Rattle.proof_world.proofs.Ways.{carries_more}
 use Rattle.proof_line.specs.Arrivals.{AreTexts}
 use Rattle.proof_line.specs.Links.{Brings, IsOne, KnowsLink, LinkNow, MayGo, MayHear, TakesTexts, gone, stepped, with_arriving}
 use Rattle.proof_line.proofs.Arriving.{none_carries, flat, items_arrive, joins_by, marks_of, texts_both}
-use Rattle.proof_line.proofs.Tellings.{IsBeside, Tells}
-use Rattle.proof_line.proofs.LinkKnown.{beside_known, other_known, relinked, step_known, write_known}
+use Rattle.proof_line.proofs.Tellings.{IsBeside, Tells, TellsSome}
+use Rattle.proof_line.proofs.LinkKnown.{beside_known, other_known, relinked, step_known, written_known}
 
 -- ---- entries beside the line
 
@@ -74,13 +76,13 @@ one_before side past now step steps next new mid left knows =
     subst (λ (l : List Step). KnowsLink side past (record now { life = now.life ++ step ∷ steps; round = l; link = new; coming = left })) (append_assoc now.round (step ∷ []) steps)
     (subst (λ (l : List Step). KnowsLink side past (record now { life = l; round = (now.round ++ step ∷ []) ++ steps; link = new; coming = left })) (append_assoc now.life (step ∷ []) steps) knows)
 
-pub steps_known : (steps : List Step) (side : Side) (past : List Entry) (now : LinkNow) (new : LinkSide) (left : List (List ℕ)) (way : WayState) (entries : List Entry) → KnowsLink side past now
-    → MayGo side now steps new → MayHear now (items_of steps) left → Tells IsBeside side way (link_units steps) entries → KnowsLink side (past ++ entries) (gone now steps new left)
-steps_known [] side past now new left way entries knows go hears tells = no_more side (past ++ entries) now new left go hears.0 (besides_known side past now entries tells knows)
-steps_known (step ∷ steps) side past now new left way entries knows (next, may, one, more) hears tells =
+pub steps_known : (steps : List Step) (side : Side) (past : List Entry) (now : LinkNow) (new : LinkSide) (left : List (List ℕ)) (entries : List Entry) → KnowsLink side past now
+    → MayGo side now steps new → MayHear now (items_of steps) left → TellsSome IsBeside side (link_units steps) entries → KnowsLink side (past ++ entries) (gone now steps new left)
+steps_known [] side past now new left entries knows go hears tells = no_more side (past ++ entries) now new left go hears.0 (besides_known side past now entries tells knows)
+steps_known (step ∷ steps) side past now new left entries knows (next, may, one, more) hears tells =
     by one
-    (λ known. steps_known steps side past (stepped now step next mid) new left way entries known go later)
-    (λ unit before rest known. steps_known steps side ((past ++ before) ++ told side way unit) (stepped now step next mid) new left (after way (Writes unit)) rest known go later)
+    (λ known. steps_known steps side past (stepped now step next mid) new left entries known go later)
+    (λ unit before marks rest known. steps_known steps side ((past ++ before) ++ entry.Written side (unit_text unit) ∷ marks) (stepped now step next mid) new left rest known go later)
   where
     split : (mid : List (List ℕ)) × TakesTexts (item_of step.event) now.coming mid × TakesTexts (items_of steps) mid left
     split = takes_split (item_of step.event) (items_of steps) now.coming left hears.0
@@ -104,21 +106,24 @@ steps_known (step ∷ steps) side past now new left way entries knows (next, may
     texts units is = text_is step.outs ∙ ap (λ (l : List LineUnit). map (λ (unit : LineUnit). unit_text unit) l) is
 
     by : IsOne (flat_map link_unit step.outs)
-        → (KnowsLink side past (stepped now step next mid) → Tells IsBeside side way (link_units steps) entries → KnowsLink side (past ++ entries) (gone (stepped now step next mid) steps new left))
-        → ((unit : LineUnit) (before rest : List Entry) → KnowsLink side ((past ++ before) ++ told side way unit) (stepped now step next mid) → Tells IsBeside side (after way (Writes unit)) (link_units steps) rest
-        → KnowsLink side (((past ++ before) ++ told side way unit) ++ rest) (gone (stepped now step next mid) steps new left))
+        → (KnowsLink side past (stepped now step next mid) → TellsSome IsBeside side (link_units steps) entries → KnowsLink side (past ++ entries) (gone (stepped now step next mid) steps new left))
+        → ((unit : LineUnit) (before marks rest : List Entry) → KnowsLink side ((past ++ before) ++ entry.Written side (unit_text unit) ∷ marks) (stepped now step next mid)
+        → TellsSome IsBeside side (link_units steps) rest
+        → KnowsLink side (((past ++ before) ++ entry.Written side (unit_text unit) ∷ marks) ++ rest) (gone (stepped now step next mid) steps new left))
         → KnowsLink side (past ++ entries) (gone now (step ∷ steps) new left)
     by (inl none) mute writes =
         one_before side (past ++ entries) now step steps next new mid left
         (mute (step_known side (serial_events past) now knows next step mid may first (texts [] none))
-        (subst (λ (l : List LineUnit). Tells IsBeside side way l entries) (parted ∙ ap (λ (l : List LineUnit). l ++ link_units steps) none) tells))
+        (subst (λ (l : List LineUnit). TellsSome IsBeside side l entries) (parted ∙ ap (λ (l : List LineUnit). l ++ link_units steps) none) tells))
     by (inr (unit, is)) mute writes =
-        let (before, rest, are, beside, others) = subst (λ (l : List LineUnit). Tells IsBeside side way l entries) (parted ∙ ap (λ (l : List LineUnit). l ++ link_units steps) is) tells in
-        let wrote = write_known side (past ++ before) now next mid step way unit (besides_known side past now before beside knows) may first (texts (unit ∷ []) is) in
+        let (before, marks, rest, are, beside, marked, others) =
+        subst (λ (l : List LineUnit). TellsSome IsBeside side l entries) (parted ∙ ap (λ (l : List LineUnit). l ++ link_units steps) is) tells in
+        let one : List Entry = entry.Written side (unit_text unit) ∷ marks in
+        let wrote = written_known side (past ++ before) now next mid step (unit_text unit) marks marked (besides_known side past now before beside knows) may first (texts (unit ∷ []) is) in
         one_before side (past ++ entries) now step steps next new mid left
         (subst (λ (l : List Entry). KnowsLink side l (gone (stepped now step next mid) steps new left))
-        (append_assoc (past ++ before) (told side way unit) rest ∙ append_assoc past before (told side way unit ++ rest) ∙ ap (λ (l : List Entry). past ++ l) (sym are))
-        (writes unit before rest wrote others))
+        (append_assoc (past ++ before) one rest ∙ append_assoc past before (one ++ rest) ∙ ap (λ (l : List Entry). past ++ l) (sym are))
+        (writes unit before marks rest wrote others))
 
 -- ---- units of the other side
 
@@ -149,7 +154,9 @@ pub others_known : (units : List LineUnit) (side : Side) (past : List Entry) (no
 others_known [] side past now way entries knows tells = nothing_arrives side (past ++ entries) now (besides_known side past now entries tells knows)
 others_known (unit ∷ units) side past now way entries knows (before, rest, are, beside, others) =
     let here : List (List ℕ) = arriving_of (other side) (unit_text unit) (marks_of (other side) way unit) in
-    let wrote = other_known side (past ++ before) now way unit (besides_known side past now before beside knows) in
+    let wrote =
+    other_known side (past ++ before) now (unit_text unit) (marks_of (other side) way unit) (told_by_marks (other side) way.bytes (mark_for way.marks unit) (unit_text unit))
+    (besides_known side past now before beside knows) in
     let all = others_known units side ((past ++ before) ++ told (other side) way unit) (with_arriving now here) (after way (Writes unit)) rest wrote others in
     both_arrive side (past ++ entries) now here (arriving_all (other side) (after way (Writes unit)) units)
     (subst (λ (l : List Entry). KnowsLink side l (with_arriving (with_arriving now here) (arriving_all (other side) (after way (Writes unit)) units)))

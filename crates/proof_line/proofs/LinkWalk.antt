@@ -246,7 +246,7 @@ first_keeps : (side : Side) → KeepsSoFar side []
 first_keeps Host = record { obeys = (no_steps, tt); writes = tt; hears = tt; ticks = tt; collides = tt }
 first_keeps Chip = record { obeys = (no_steps, tt); writes = tt; hears = tt; ticks = tt; collides = tt }
 
-abbrev first_now : LinkSide → LinkNow
+abbrev pub first_now : LinkSide → LinkNow
 first_now link = record { is_tick = false; brought = 0; clock = 0; until = 0; life = []; round = []; link = link; coming = []; lost = [] }
 
 below_none : (time : ℕ) → false ≡ nat_lt time 0
@@ -256,7 +256,7 @@ below_none time = by (nat_lt time 0) refl
     by true is = absurd (let none : time < 0 = ltb-true time 0 is in omega (arith, none))
     by false is = refl
 
-first_link : (side : Side) (link : LinkSide) → SideObeys [] link → KnowsLink side [] (first_now link)
+pub first_link : (side : Side) (link : LinkSide) → SideObeys [] link → KnowsLink side [] (first_now link)
 first_link Host link obeys = record {
   parts = [];
   steps = [];

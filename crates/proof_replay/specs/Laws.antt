@@ -1,5 +1,6 @@
 -- What a host keeps true over all that it heard, whatever that was (this project's own rule).
 use Rattle.std.specs.Prelude.{◌≡◌, ℕ, Bool, true, List, [], Option, Some}
+use Rattle.zw_words.specs.declared.side.Side.TheVariants.{Host}
 use Rattle.zw_text.specs.declared.line.ReplayLine.{ReplayLine}
 use Rattle.zw_text.specs.declared.entry.Entry.{Entry}
 use Rattle.s0_crypto.specs.declared.key_pair.Keys.{Keys}
@@ -8,6 +9,8 @@ use Rattle.host_keep.specs.Keeping.{OptAdds}
 use Rattle.law_transcript.specs.Lists.{EachAfter}
 use Rattle.law_transcript.specs.Payloads.{SendsWhatIsDue}
 use Rattle.proof_requests.specs.law_host.Heard.{listing_heard}
+use Rattle.law_wire.specs.Links.{KeepsLink}
+use Rattle.law_wire.specs.Serial.{ended}
 use Rattle.law_time.specs.Holds.{HoldsAsAsked}
 use Rattle.law_time.specs.Questions.{AnswersQuestions}
 use Rattle.law_time.specs.Waking.{WakesAsTold}
@@ -45,7 +48,7 @@ pub record HostsKeepLaws (keys : Keys) (whole : Bool) (heard : List Entry) (reco
   pub sends : (key : List ℕ) → keys ≡ keys_of key → SendsWhatIsDue listing_heard key heard
 
 -- A run of a host alone that began without records tells this, and ends at rest; none of its lines is for others; and the keeper holds what it held and the records
--- of that run, where it tells them.
+-- of that run, where it tells them. The host's link kept the rules of the line.
 pub record IsHeardAlone (keys : Keys) (before after : Option (List (List ℕ))) (heard : List Entry) : Type 0 where
   pub last : HostMachine
   pub added : List (List ℕ)
@@ -53,9 +56,10 @@ pub record IsHeardAlone (keys : Keys) (before after : Option (List (List ℕ))) 
   pub for_host : AreForHost heard
   pub tells : last.records ≡ Some added
   pub adds : OptAdds before after added
+  pub link : KeepsLink Host (ended true heard)
 
--- Lines were run whole, and this transcript tells them. Over what the host heard of them, with the units that came, it keeps these laws, and the records are those that
--- were added to what the keeper had.
+-- Lines were run whole, and this transcript tells them. Over what the host heard of them, with what came, it keeps these laws, and its link the rules of the line; and the
+-- records are those that were added to what the keeper had.
 pub record HearsLines (keys : Keys) (lines : List (TextLine ReplayLine)) (old new : Lone) (transcript : List Entry) : Type 0 where
   pub story : List Replayed
   pub said : AreSaid lines story
@@ -64,3 +68,4 @@ pub record HearsLines (keys : Keys) (lines : List (TextLine ReplayLine)) (old ne
   pub added : List (List ℕ)
   pub adds : OptAdds old.records new.records added
   pub keeps : HostsKeepLaws keys true (heard_of old story) (Some added)
+  pub link : KeepsLink Host (ended true (heard_of old story))
