@@ -1,5 +1,5 @@
 -- One line after another, from the host at its beginning.
-use Rattle.std.proofs.Common.{◌≡◌, ℕ, List, [], ◌++◌, false, refl, ap, ◌∙◌, append_assoc}
+use Rattle.std.proofs.Common.{◌≡◌, ℕ, List, [], ◌++◌, false, true, refl, ap, ◌∙◌, append_assoc}
 use Rattle.std.specs.Prelude.{Option, Some, None}
 use Rattle.host_core.specs.Network.{keys_of}
 use Rattle.host_keep.specs.Keeping.{OptAdds}
