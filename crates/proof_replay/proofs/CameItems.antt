@@ -1,10 +1,9 @@
 -- The items that end in bytes are those that came, by all bytes of each, and what is refused answers no frame.
-use Rattle.std.proofs.Common.{◌≡◌, ℕ, ◌+◌, Bool, true, false, List, [], ◌∷◌, ◌++◌, drop, length, take, refl, sym, ap, ap₂, ◌∙◌, subst, append_assoc, length-append, arith}
+use Rattle.std.proofs.Common.{◌≡◌, ℕ, ◌+◌, Bool, true, false, List, [], ◌∷◌, ◌++◌, drop, length, take, refl, sym, ap, ap₂, ◌∙◌, length-append}
 use Rattle.std.proofs.lemmas.Slice.Eq.{bytes_eq-Decides}
 use Rattle.std.specs.Prelude.{◌≢◌, ◌||◌, bytes_eq}
-use Rattle.serial_frame.specs.Frame.{framed}
 use Rattle.serial_frame.specs.declared.unit.TheConstants.{ACK, NAK, CAN}
-use Rattle.serial_frame.specs.Items.{ItemText, RefusedText, unit_text}
+use Rattle.serial_frame.specs.Items.{ItemText, RefusedText}
 use Rattle.serial_frame.specs.Stream.{Reads}
 use Rattle.serial_frame.specs.declared.item.Item.{Item}
 use Rattle.serial_frame.specs.declared.item.Item.TheVariants.{Good, Refused}

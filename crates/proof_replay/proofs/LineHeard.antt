@@ -5,12 +5,10 @@ use Rattle.std.proofs.lemmas.Bool.{ltb-true}
 use Rattle.std.proofs.lemmas.Grind.{flat_map-append}
 use Rattle.std.proofs.lemmas.List.{map-append}
 use Rattle.zw_base.proofs.Each.{all-append}
-use Rattle.serial_frame.specs.Items.{ItemText, unit_text}
 use Rattle.serial_frame.specs.declared.item.Item.{Item}
 use Rattle.serial_frame.specs.declared.item.Item.TheVariants.{Good, Refused as refused_item}
 use Rattle.serial_frame.specs.declared.unit.Unit.{Unit as LineUnit}
-use Rattle.serial_link.specs.State.{Side as LinkSide}
-use Rattle.serial_link.specs.Rules.{Step, SideObeys, item_of, items_of, ticks_of}
+use Rattle.serial_link.specs.Rules.{Step, item_of, items_of, ticks_of}
 use Rattle.serial_link.proofs.Counting.{ticks_of-append}
 use Rattle.s0_crypto.specs.declared.key_pair.Keys.{Keys}
 use Rattle.chip_sim.specs.Link.{link_units}
@@ -24,7 +22,7 @@ use Rattle.zw_text.specs.declared.entry.Refusal.{Refusal}
 use Rattle.zw_text.specs.Transcript.{line_of}
 use Rattle.law_transcript.specs.Restarts.{ticks_asked}
 use Rattle.law_wire.specs.Links.{KeepsLink}
-use Rattle.law_wire.specs.Serial.{SerialEvent, arriving_of, beginning_of, done_line, ended, serial_events, serial_events_from, ticks_up_to}
+use Rattle.law_wire.specs.Serial.{SerialEvent, beginning_of, done_line, ended, serial_events, ticks_up_to}
 use Rattle.law_wire.specs.Serial.SerialEvent.{Line_begins, Tick_begins}
 use Rattle.host_keep.specs.declared.record.Record.{Record}
 use Rattle.host_model.specs.State.{HostState, first_host}
@@ -53,7 +51,7 @@ use Rattle.proof_line.proofs.Untimed.{AreUntimed, IsUntimed}
 use Rattle.proof_line.specs.proof_walk.Outside.{IsHostNote}
 use Rattle.proof_line.specs.Arrivals.{AreTexts}
 use Rattle.proof_line.specs.Pipes.{HearsNothing}
-use Rattle.proof_line.specs.Links.{KnowsEvents, KnowsLink, LinkNow, MayEndNow, MayHear, TakesTexts, TicksNot, begun_line, begun_tick, due_from, gone, tick_told, told_from, with_arriving}
+use Rattle.proof_line.specs.Links.{KnowsEvents, KnowsLink, LinkNow, MayEndNow, TakesTexts, TicksNot, begun_line, begun_tick, due_from, gone, tick_told, told_from, with_arriving}
 use Rattle.proof_line.specs.proof_traffic.Links.{KeepsItsLink, host_link_steps, host_link_steps_all}
 use Rattle.proof_line.proofs.Hosting.{next_apart, next_nothing}
 use Rattle.proof_line.proofs.HostTelling.{answers_beside, beside_note, judged_items, judged_ticks}

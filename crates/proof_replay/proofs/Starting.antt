@@ -98,6 +98,7 @@ kept_as_told keys whole heard told held agrees laws = record {
     records_kept = λ is. told_kept told held heard (agrees is) (laws.said.records_kept is);
   };
   notes = laws.notes;
+  opens = laws.opens;
   at_once = laws.at_once;
   in_turn = laws.in_turn;
   wakes = laws.wakes;
