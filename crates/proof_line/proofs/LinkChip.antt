@@ -1,5 +1,5 @@
 -- The chip at the line: what is known of both links goes on with its events, and with all items that it judges, one after another.
-use Rattle.std.proofs.Common.{length, take, false, nat_lt, ◌≡◌, ℕ, ◌+◌, true, List, [], ◌∷◌, ◌++◌, map, refl, sym, ap, ◌∙◌, subst, append-nil, append_assoc, arith}
+use Rattle.std.proofs.Common.{length, take, Bool, false, nat_lt, ◌≡◌, ℕ, ◌+◌, true, List, [], ◌∷◌, ◌++◌, map, refl, sym, ap, ◌∙◌, subst, append-nil, append_assoc, arith}
 use Rattle.std.specs.Prelude.{Option}
 use Rattle.std.specs.List.{AllByRecursion}
 use Rattle.zw_base.proofs.Each.{all-append}
@@ -35,7 +35,7 @@ use Rattle.proof_line.proofs.LinkTold.{arriving_all, brings_taken, none_first, o
 use Rattle.proof_line.proofs.LinkGoes.{chip_goes}
 use Rattle.proof_line.proofs.LinkCourse.{mute_of}
 
-pub obeyed : (side : Side) (events : List SerialEvent) (now : LinkNow) → KnowsEvents side events now → SideObeys now.life now.link
+pub obeyed : {piped : Bool} (side : Side) (events : List SerialEvent) (now : LinkNow) → KnowsEvents piped side events now → SideObeys now.life now.link
 obeyed side events now knows = subst (λ (l : List Step). SideObeys l now.link) knows.at.life knows.does.obeys
 
 -- ---- one event
@@ -52,9 +52,9 @@ chip_event_known o e past now left knows link waits may hears =
     (tells_some IsBeside Chip o.to_host (chip_units (outs s e)) (chip_does o e).entries (does_tell o e).told))
 
 -- and of the host's: what arrives of the units that the chip writes
-pub chip_event_arrives : (o : OuterState) (e : ChipEvent) (past : List Entry) (now : LinkNow) → KnowsLink Host past now
+pub chip_event_arrives : (o : OuterState) (e : ChipEvent) (past : List Entry) (now : LinkNow) → Brings o.to_host now.coming → KnowsLink Host past now
     → KnowsLink Host (past ++ (chip_does o e).entries) (with_arriving now (arriving_all Chip o.to_host (chip_units (outs o.chip.state e))))
-chip_event_arrives o e past now knows = others_known (chip_units (outs o.chip.state e)) Host past now o.to_host (chip_does o e).entries knows (does_tell o e).told
+chip_event_arrives o e past now way knows = others_known (chip_units (outs o.chip.state e)) Host past now o.to_host (chip_does o e).entries way.bytes knows (does_tell o e).told
 
 -- where nothing is told nothing was written
 pub does_mute : (o : OuterState) (e : ChipEvent) → (chip_does o e).entries ≡ [] → AllByRecursion IsMute (link_steps o.chip.state e)

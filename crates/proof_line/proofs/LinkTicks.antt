@@ -63,7 +63,7 @@ Then did Known past m event = Cuts did (past ++ entries m event) × Known (past 
 ticks_on : (side : Side) (timed all : List Entry) (now : LinkNow) → KnowsLink side timed now → MayEndNow side now → serial_events timed ++ Tick_begins ∷ [] ≡ serial_events all
     → KnowsLink side all (begun_tick now)
 ticks_on side timed all now knows may serials =
-    subst (λ (l : List SerialEvent). KnowsEvents side l (begun_tick now)) serials (tick_known side (serial_events timed) now knows may)
+    subst (λ (l : List SerialEvent). KnowsEvents true side l (begun_tick now)) serials (tick_known side (serial_events timed) now knows may)
 
 pub begins_tick : {did : List Step} (past : List Entry) (m : Machine) → Cuts did past → LinksEnded did past m → Then did (InTick did 0 0) past m (Outside_does Begins_tick)
 unfolding happens entries outcome devices_after

@@ -40,7 +40,7 @@ use Rattle.proof_traffic.specs.Links.{KeepsItsLink, host_link_steps}
 use Rattle.proof_walk.specs.Phases.{Phase, Between, Said_line, Begun, Doing, To_tick, Ticked, Arriving, Giving, Ticking_devices, Ticking_chip, Ticking_decoder, Ticking_host, Sleeping, Submitting, Moving, Moved, Turns, Goes}
 use Rattle.proof_walk.specs.Time.{KnowTime, MayCount}
 use Rattle.proof_walk.specs.Walk.{Walk, WalkWhere}
-use Rattle.proof_line.specs.Links.{AtLine, KeepsSoFar, KnowsLink, LinkNow, MayEndNow, due_from, most_of}
+use Rattle.proof_line.specs.Links.{AtLine, KeepsSoFar, KnowsSide, LinkNow, MayEndNow, due_from, most_of}
 use Rattle.proof_line.specs.Linked.{Cuts, IsOrderly, KnowCuts, KnowLinks, KnowsBoth, LinksBegun, LinksDone, LinksLeft, HaveTickedOnce, InTick, Round}
 use Rattle.proof_line.proofs.LinkKnown.{no_steps}
 use Rattle.proof_line.proofs.LinkTold.{brings_none}
@@ -256,7 +256,7 @@ below_none time = by (nat_lt time 0) refl
     by true is = absurd (let none : time < 0 = ltb-true time 0 is in omega (arith, none))
     by false is = refl
 
-pub first_link : (side : Side) (link : LinkSide) → SideObeys [] link → KnowsLink side [] (first_now link)
+pub first_link : {piped : Bool} (side : Side) (link : LinkSide) → SideObeys [] link → KnowsSide piped side [] (first_now link)
 first_link Host link obeys = record {
   parts = [];
   steps = [];
@@ -266,6 +266,7 @@ first_link Host link obeys = record {
   mute = tt;
   hears = record { earlier = []; parts = refl; texts = tt; still = λ stalls. refl };
   at = record { is_tick = refl; brought = refl; clock = refl; until = below_none; life = refl; round = refl; lost = refl };
+  room = λ in_pipe. tt;
 }
 first_link Chip link obeys = record {
   parts = [];
@@ -276,6 +277,7 @@ first_link Chip link obeys = record {
   mute = tt;
   hears = record { earlier = []; parts = refl; texts = tt; still = λ stalls. refl };
   at = record { is_tick = refl; brought = refl; clock = refl; until = below_none; life = refl; round = refl; lost = refl };
+  room = λ in_pipe. tt;
 }
 
 idle_obeys : SideObeys [] (record { turn = Idle; collisions = 0 })

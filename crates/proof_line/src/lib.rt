@@ -7,8 +7,8 @@
 //! `lines_clear_nowhere_else` and `ticks_are_told`.
 //! The definitions are in `specs/`: `Collisions`, `Marks`, `Pipes`, `Rooms` and `Times` (what is known of each at each phase of a line), `Arrivals`
 //! (what arrives of the units of a side since the host started), `Links` (what is known of the link of a side between two events of the line) and `Linked`
-//! (what is known of both at each phase). From these two follow `lines_keep_links` and `lines_clear_the_line`: both sides keep the rules of the line, and
-//! just what was on its way is told at a restart.
+//! (what is known of both at each phase). From these two follow `lines_keep_links` and `lines_clear_the_line`: both sides keep the rules of the line,
+//! just the units find no room that had none, and just what was on its way is told at a restart.
 #![tactic(auto)]
 
 mod links;

@@ -17,8 +17,8 @@ use proof_world::lines_keep_and_ask_well;
 use proof_world::serial::hosts_write_well;
 
 /// Over any lines from the first on, the last of which an allocation failure may have cut short, over a keeper that tells its records and has none at
-/// first, both sides keep the rules of the serial line in time, and with links that do so just what was on its way is told at each restart that is not
-/// refused, and nowhere else. Where all lines were run whole it is so up to the end of the last one.
+/// first, both sides keep the rules of the serial line in time, and with links that do so just the units find no room that had none, and just what was
+/// on its way is told at each restart that is not refused, and nowhere else. Where all lines were run whole it is so up to the end of the last one.
 pub fn lines_clear_the_line()
     ensures cut { (keys : Keys) (devices : List State) (lines : List Spoken) →
         AreDone (first_machine keys (Some []) devices) lines →
@@ -34,7 +34,7 @@ pub fn lines_clear_the_line()
     lines_clear_nowhere_else();
 }
 
-/// So both sides keep the rules of the serial line.
+/// So both sides keep the rules of the serial line, and just the units find no room that had none.
 pub fn lines_keep_links()
     ensures cut { (keys : Keys) (devices : List State) (lines : List Spoken) →
         AreDone (first_machine keys (Some []) devices) lines →

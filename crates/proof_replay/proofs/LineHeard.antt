@@ -51,13 +51,13 @@ use Rattle.proof_line.proofs.Untimed.{AreUntimed, IsUntimed}
 use Rattle.proof_line.specs.proof_walk.Outside.{IsHostNote}
 use Rattle.proof_line.specs.Arrivals.{AreTexts}
 use Rattle.proof_line.specs.Pipes.{HearsNothing}
-use Rattle.proof_line.specs.Links.{KnowsEvents, KnowsLink, LinkNow, MayEndNow, TakesTexts, TicksNot, begun_line, begun_tick, due_from, gone, tick_told, told_from, with_arriving}
+use Rattle.proof_line.specs.Links.{KnowsEvents, KnowsSide, LinkNow, MayEndNow, TakesTexts, TicksNot, begun_line, begun_tick, due_from, gone, tick_told, told_from, with_arriving}
 use Rattle.proof_line.specs.proof_traffic.Links.{KeepsItsLink, host_link_steps, host_link_steps_all}
 use Rattle.proof_line.proofs.Hosting.{next_apart, next_nothing}
 use Rattle.proof_line.proofs.HostTelling.{answers_beside, beside_note, judged_items, judged_ticks}
 use Rattle.proof_line.proofs.LinkBegins.{AreOrdinary, IsOrdinary, ordinary_begins, ordinary_on}
 use Rattle.proof_line.proofs.LinkHost.{all_keep, all_quiet, host_known, host_tick_known}
-use Rattle.proof_line.proofs.LinkKnown.{keeps_link, other_known, tick_known}
+use Rattle.proof_line.proofs.LinkKnown.{came_known, keeps_link, tick_known}
 use Rattle.proof_line.proofs.LinkLines.{TellsNone, host_restarts, restarted, says}
 use Rattle.proof_line.proofs.LinkTime.{tick_serials, timed_serials}
 use Rattle.proof_line.proofs.LinkTold.{besides_known}
@@ -215,15 +215,18 @@ pub record Comes (now later : LinkNow) (texts : List (List ℕ)) : Type 0 where
   pub is_tick : later.is_tick ≡ now.is_tick
   pub until : later.until ≡ now.until
 
-one_comes : (item : Item) (text : List ℕ) (past : List Entry) (now : LinkNow) → KnowsLink Host past now → KnowsLink Host (past ++ came_as item text) (with_arriving now (text ∷ []))
-one_comes (Good unit) text past now knows = other_known Host past now text [] tt knows
-one_comes (refused_item refusal) text past now knows = other_known Host past now text (entry.Garbled Chip text ∷ []) (tt, tt) knows
+unpiped : {A : Type 0} → false ≡ true → A
+unpiped bad = absurd cc
 
-all_come : (items : List Item) (texts : List (List ℕ)) (past : List Entry) (now : LinkNow) → AreTexts items texts → KnowsLink Host past now
-    → (later : LinkNow) × KnowsLink Host (past ++ came_so items texts) later × Comes now later texts
+one_comes : (item : Item) (text : List ℕ) (past : List Entry) (now : LinkNow) → KnowsSide false Host past now → KnowsSide false Host (past ++ came_as item text) (with_arriving now (text ∷ []))
+one_comes (Good unit) text past now knows = came_known Host past now text [] tt unpiped knows
+one_comes (refused_item refusal) text past now knows = came_known Host past now text (entry.Garbled Chip text ∷ []) (tt, tt) unpiped knows
+
+all_come : (items : List Item) (texts : List (List ℕ)) (past : List Entry) (now : LinkNow) → AreTexts items texts → KnowsSide false Host past now
+    → (later : LinkNow) × KnowsSide false Host (past ++ came_so items texts) later × Comes now later texts
 all_come [] [] past now are knows = (
   now,
-  subst (λ (l : List Entry). KnowsLink Host l now) (sym (append-nil past)) knows,
+  subst (λ (l : List Entry). KnowsSide false Host l now) (sym (append-nil past)) knows,
   record { coming = sym (append-nil now.coming); life = refl; round = refl; is_tick = refl; until = refl },
 )
 all_come [] (text ∷ texts) past now are knows = absurd are
@@ -232,7 +235,7 @@ all_come (item ∷ items) (text ∷ texts) past now are knows =
     let next : LinkNow = with_arriving now (text ∷ []) in
     let (later, known, comes) = all_come items texts (past ++ came_as item text) next are.1 (one_comes item text past now knows) in (
       later,
-      subst (λ (l : List Entry). KnowsLink Host l later) (append_assoc past (came_as item text) (came_so items texts)) known,
+      subst (λ (l : List Entry). KnowsSide false Host l later) (append_assoc past (came_as item text) (came_so items texts)) known,
       record {
         coming = comes.coming ∙ append_assoc now.coming (text ∷ []) texts;
         life = comes.life;
@@ -278,7 +281,7 @@ module _ (obey : HostsObey) where
   -- ---- events
 
   -- they hear all that came
-  ran_line : (events : List HostEvent) (h : HostState) (past : List Entry) (clock left : ℕ) (now : LinkNow) → KnowsLink Host past now → KeepsItsLink now.life h → now.until ≡ 0
+  ran_line : (events : List HostEvent) (h : HostState) (past : List Entry) (clock left : ℕ) (now : LinkNow) → KnowsSide false Host past now → KeepsItsLink now.life h → now.until ≡ 0
       → (now.is_tick ≡ true → ticks_of now.round ≡ 1) → tick_told past ≡ clock → due_from 0 past ≡ clock + left → MayAll h events → AllByRecursion TicksNot events
       → TakesTexts (items_of (host_link_steps_all h events)) now.coming [] → KnowsLine (past ++ entries_of (outs_all h events)) clock left (after_all h events)
   ran_line events h past clock left now knows keeps moves ticked time due may apart takes =
@@ -402,7 +405,7 @@ module _ (obey : HostsObey) where
         let asks : ticks_asked (line_of (entry.Said words)) ≡ count = ap ticks_asked read ∙ plus_none count in
         record {
           now = k.now;
-          knows = subst (λ (l : List SerialEvent). KnowsEvents Host l k.now) (sym serials) k.knows;
+          knows = subst (λ (l : List SerialEvent). KnowsEvents false Host l k.now) (sym serials) k.knows;
           keeps = k.keeps;
           heard = k.heard;
           moves = k.moves;
@@ -424,7 +427,7 @@ module _ (obey : HostsObey) where
         ap (λ (l : List SerialEvent). l ++ Line_begins (lines.Restart ∷ []) ∷ []) (numbered awaits past clock k.time) ∙ sym said.serials in
         record {
           now = restarted k.now [] state.side;
-          knows = subst (λ (l : List SerialEvent). KnowsEvents Host l (restarted k.now [] state.side)) serials
+          knows = subst (λ (l : List SerialEvent). KnowsEvents false Host l (restarted k.now [] state.side)) serials
               (host_restarts (serial_events timed_past) k.now state.side keeps.obeys (ends_now timed_past clock 0 h k) k.knows);
           keeps = keeps;
           heard = refl;
@@ -481,9 +484,9 @@ module _ (obey : HostsObey) where
       now : LinkNow
       now = begun_tick k.now
 
-      known : KnowsLink Host begun now
+      known : KnowsSide false Host begun now
       known =
-          subst (λ (l : List SerialEvent). KnowsEvents Host l now) (next_serials awaits past clock k.time rests.behind)
+          subst (λ (l : List SerialEvent). KnowsEvents false Host l now) (next_serials awaits past clock k.time rests.behind)
           (tick_known Host (serial_events (past ++ number_at awaits clock)) k.now k.knows (ends_now (past ++ number_at awaits clock) clock (suc left) h k))
 
       due : due_from 0 begun ≡ (clock + 1) + left

@@ -9,13 +9,13 @@ use Rattle.zw_text.specs.Transcript.{line_of}
 use Rattle.law_wire.specs.Links.{KeepsLink}
 use Rattle.host_model.specs.State.{HostState}
 use Rattle.proof_line.specs.proof_traffic.Links.{KeepsItsLink}
-use Rattle.proof_line.specs.Links.{KnowsLink, LinkNow, due_from, tick_told}
+use Rattle.proof_line.specs.Links.{KnowsSide, LinkNow, due_from, tick_told}
 use Rattle.proof_requests.specs.proof_alone.Phases.{Phase, Asked, Resting}
 
--- No bytes are stalled, and in a tick its link ticked once. So many ticks have begun, and lines have asked for so many more.
+-- What it hears comes through no pipe; no bytes are stalled, and in a tick its link ticked once. So many ticks have begun, and lines have asked for so many more.
 pub record KnowsLine (past : List Entry) (clock left : ℕ) (h : HostState) : Type 0 where
   pub now : LinkNow
-  pub knows : KnowsLink Host past now
+  pub knows : KnowsSide false Host past now
   pub keeps : KeepsItsLink now.life h
   pub heard : now.coming ≡ []
   pub moves : now.until ≡ 0
