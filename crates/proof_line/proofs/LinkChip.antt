@@ -31,7 +31,8 @@ use Rattle.proof_walk.proofs.Times.{does_chip}
 use Rattle.proof_line.specs.Links.{Brings, IsMute, KnowsEvents, KnowsLink, LinkNow, MayHear, MayOfChip, gone, with_arriving}
 use Rattle.proof_line.proofs.Tellings.{IsBeside, Tells, TellsSome, tells_none, tells_some}
 use Rattle.proof_line.proofs.ChipTelling.{does_tell}
-use Rattle.proof_line.proofs.LinkTold.{arriving_all, brings_taken, none_first, others_known, steps_known, takes_split}
+use Rattle.proof_line.proofs.LinkTold.{arriving_all, brings_taken, others_known, steps_known, takes_split}
+use Rattle.proof_walk.proofs.Moving.{both_none as none_first}
 use Rattle.proof_line.proofs.LinkGoes.{chip_goes}
 use Rattle.proof_line.proofs.LinkCourse.{mute_of}
 

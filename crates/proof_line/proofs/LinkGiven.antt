@@ -49,7 +49,8 @@ use Rattle.proof_line.proofs.Colliding.{discovers_port, joins_port}
 use Rattle.proof_line.proofs.ChipTelling.{IsArriving, beside_air, does_tell, given_back}
 use Rattle.proof_line.proofs.ChipAccounts.{Account, Still, Both, Later, Does, Forgotten as ForgottenLink, Of_air, In_air, at_account, at_none, gives_account, outer_steps, repeat_steps, steps_account, steps_by}
 use Rattle.proof_line.proofs.LinkTime.{Apart, tells_apart}
-use Rattle.proof_line.proofs.LinkTold.{arriving_all, besides_known, brings_more, none_first}
+use Rattle.proof_line.proofs.LinkTold.{arriving_all, besides_known, brings_more}
+use Rattle.proof_walk.proofs.Moving.{both_none as none_first}
 use Rattle.proof_line.proofs.LinkChip.{chip_event_arrives, chip_event_known, does_mute, submits_hear_none, submits_tick_none}
 use Rattle.proof_line.proofs.Tellings.{IsBeside}
 

@@ -26,6 +26,7 @@ use Rattle.proof_line.specs.Links.{Brings, IsOne, KnowsLink, KnowsSide, LinkNow,
 use Rattle.proof_line.proofs.Arriving.{none_carries, flat, items_arrive, joins_by, marks_of, texts_both}
 use Rattle.proof_line.proofs.Tellings.{IsBeside, Tells, TellsSome}
 use Rattle.proof_line.proofs.LinkKnown.{beside_known, other_known, relinked, step_known, written_known}
+use Rattle.proof_walk.proofs.Moving.{both_none as none_first}
 
 -- ---- entries beside the line
 
@@ -49,10 +50,6 @@ pub takes_split : (xs ys : List Item) (coming left : List (List ℕ)) → TakesT
 takes_split [] ys coming left takes = (coming, refl, takes)
 takes_split (x ∷ xs) ys [] left takes = absurd takes
 takes_split (x ∷ xs) ys (text ∷ coming) left takes = let rest = takes_split xs ys coming left takes.1 in (rest.0, (takes.0, rest.1), rest.2)
-
-pub none_first : {A : Type 0} (xs ys : List A) → xs ++ ys ≡ [] → (xs ≡ []) × (ys ≡ [])
-none_first [] ys is = (refl, is)
-none_first (x ∷ xs) ys is = absurd (let none : x ∷ (xs ++ ys) ≡ [] = is in cc)
 
 -- what is on its way does not matter to what a link may do
 go_same : (side : Side) (now : LinkNow) (steps : List Step) (new : LinkSide) (coming : List (List ℕ)) → MayGo side now steps new → MayGo side (record now { coming = coming }) steps new

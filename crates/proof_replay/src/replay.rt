@@ -25,7 +25,7 @@ use proof_asking::known::{
 use proof_attempts::hosts_hold_as_asked;
 use proof_requests::alone::traffic::hosts_obey_the_line;
 use proof_requests::alone::{hosts_keep_their_tables, hosts_tell_time};
-use proof_requests::{hosts_answer_questions, hosts_listen_as_told};
+use proof_requests::hosts_answer_questions;
 
 /// Of any lines that are run whole, over any bytes and any keeper, what the host of `replay` heard is told by a run of a host alone that began without
 /// records and ends at rest. No line reads the records, so those of that run are added to what the keeper had.
@@ -49,7 +49,6 @@ pub fn hosts_keep_laws()
     hosts_note_values_in_turn();
     hosts_tell_time();
     hosts_wake_as_told();
-    hosts_listen_as_told();
     hosts_hold_as_asked();
     hosts_send_what_is_due();
     hosts_answer_questions();

@@ -3,7 +3,7 @@ use Rattle.std.proofs.Common.{◌≡◌, Bool, true, false, ℕ, List, [], ◌�
 use Rattle.std.specs.Prelude.{Option, Some, None, drop, take}
 use Rattle.std.proofs.Math.Seq.{take-append_seam}
 use Rattle.std.specs.List.{AllByRecursion}
-use Rattle.device_kinds.specs.Sealing.{keys_of, sealed_text, unsealed_at}
+use Rattle.s0_crypto.specs.Sealing.{keys_of, sealed_text, unsealed_at}
 use Rattle.host_heard.specs.Telling.{heard_at}
 use Rattle.zw_text.specs.declared.entry.Entry.{Entry}
 use Rattle.law_host.specs.Following.{ended_whole}
