@@ -24,6 +24,7 @@ use proof_asking::known::{
 };
 use proof_attempts::{hosts_fall_asleep_as_told, hosts_hold_as_asked};
 use proof_errands::hosts_say_how_done;
+use proof_requests::alone::traffic::hosts_obey_the_line;
 use proof_requests::alone::{hosts_keep_their_tables, hosts_tell_time};
 use proof_requests::{hosts_answer_questions, hosts_ask_one_by_one, hosts_end_interviews};
 
@@ -33,7 +34,9 @@ pub fn replays_are_a_hosts()
     ensures { (key : List ℕ) (records : Option (List (List ℕ))) (lines : List Replayed) → AreReplayed (lone_of (first_replay key) records) lines →
         IsHeardAlone (keys_of key) records (lone_after (lone_of (first_replay key) records) lines).records
         (heard_of (lone_of (first_replay key) records) lines) }
-{}
+{
+    hosts_obey_the_line();
+}
 
 /// A host alone that begins without records keeps these laws, over a keeper that tells its records, where no line is refused that is for others.
 pub fn hosts_keep_laws()

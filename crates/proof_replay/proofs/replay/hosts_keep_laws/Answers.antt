@@ -26,7 +26,8 @@ pub returns : goal.returns
 returns c = λ keys whole here heard m run rests fine. record {
   orders = c.hosts_keep_their_tables.ensures.laws keys heard (here, m, run);
   said = c.hosts_do_as_is_said.ensures keys whole here heard m run rests fine;
-  notes = c.hosts_note_what_was_told.ensures keys heard (here, m, run);
+  notes = c.hosts_note_what_was_told.ensures.told keys heard (here, m, run);
+  opens = c.hosts_note_what_was_told.ensures.opened keys heard (here, m, run);
   at_once =
       by_whole (λ (b : Bool) (l : List Entry). NotesAtOnce b l) (first_alone keys (Some [])) (c.hosts_note_at_once.ensures.whole keys) (c.hosts_note_at_once.ensures.told keys) whole here heard m run rests;
   in_turn =
