@@ -109,6 +109,7 @@ kept_as_told keys whole heard told held agrees laws = record {
   says_done = laws.says_done;
   one_by_one = laws.one_by_one;
   numbered = laws.numbered;
+  begins = laws.begins;
   ticks = laws.ticks;
   sends = laws.sends;
 }

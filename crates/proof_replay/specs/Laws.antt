@@ -7,7 +7,7 @@ use Rattle.s0_crypto.specs.declared.key_pair.Keys.{Keys}
 use Rattle.host_core.specs.Network.{keys_of}
 use Rattle.host_keep.specs.Keeping.{OptAdds}
 use Rattle.law_transcript.specs.Lists.{EachAfter}
-use Rattle.law_transcript.specs.Payloads.{SendsWhatIsDue}
+use Rattle.law_transcript.specs.Payloads.{BeginsWithUnit, SendsWhatIsDue}
 use Rattle.proof_requests.specs.law_host.Heard.{listing_heard}
 use Rattle.law_time.specs.Choice.{NumbersCallbacks, SendsOneByOne}
 use Rattle.law_time.specs.Errands.{SaysHowDone}
@@ -38,6 +38,7 @@ use Rattle.proof_replay.specs.Heard.{AreReplayed, AreSaid, Replayed, heard_of, t
 -- The answers to questions stand where the first response to the last request was judged, and wherever it was.
 -- An interview is said to have succeeded or failed where its request ended so, and wherever a frame ended it; and so it is said how a Set or Get that a line asked for ended.
 -- A request that is new is sent, and a session begins, only where the last request is over; and each message has the callback id after that of the last one.
+-- Directly after a session that begins stands the unit that asks to send to its node.
 -- The number of a tick is above those before it, and lines have asked for so many ticks.
 -- Each payload that it asks its chip to send is a message of the last session of its node, by what the node listed, a nonce or a question for one, lets the node sleep, or was
 -- asked for by a line; where its keys are those of a network key, by what nodes told openly or sealed with that key.
@@ -56,6 +57,7 @@ pub record HostsKeepLaws (keys : Keys) (whole : Bool) (heard : List Entry) (reco
   pub says_done : (key : List ℕ) → keys ≡ keys_of key → SaysHowDone listing_heard heard
   pub one_by_one : SendsOneByOne heard
   pub numbered : NumbersCallbacks heard
+  pub begins : BeginsWithUnit (ended whole heard)
   pub ticks : EachAfter MayCount [] heard
   pub sends : (key : List ℕ) → keys ≡ keys_of key → SendsWhatIsDue listing_heard key heard
 

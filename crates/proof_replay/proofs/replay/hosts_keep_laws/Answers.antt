@@ -6,6 +6,8 @@ use Rattle.zw_text.specs.declared.entry.Entry.{Entry}
 use Rattle.proof_requests.specs.proof_alone.State.{HostMachine, first_alone}
 use Rattle.proof_requests.specs.proof_alone.Phases.{Phase, Resting}
 use Rattle.proof_requests.specs.proof_alone.Runs.{Run, Told, ToldWhole}
+use Rattle.law_transcript.specs.Payloads.{BeginsWithUnit}
+use Rattle.law_wire.specs.Serial.{ended}
 use Rattle.proof_asking.specs.proof_known.Noted.{NotesAtOnce, NotesInTurn}
 use Rattle.s0_crypto.specs.Sealing.{keys_of as device_keys}
 use Rattle.host_core.specs.Network.{keys_of}
@@ -39,8 +41,11 @@ returns c = λ keys whole here heard m run rests fine. record {
   questions = c.hosts_answer_questions.ensures keys heard (here, m, run);
   interviews = c.hosts_end_interviews.ensures keys heard (here, m, run);
   says_done = λ key same. c.hosts_say_how_done.ensures key heard (subst (λ (k : Keys). Told (first_alone k (Some [])) heard) (same ∙ same_keys key) (here, m, run));
-  one_by_one = (c.hosts_ask_one_by_one.ensures keys heard (here, m, run)).0;
-  numbered = (c.hosts_ask_one_by_one.ensures keys heard (here, m, run)).1;
+  one_by_one = (c.hosts_ask_one_by_one.ensures.told keys heard (here, m, run)).0;
+  numbered = (c.hosts_ask_one_by_one.ensures.told keys heard (here, m, run)).1;
+  begins =
+      by_whole (λ (b : Bool) (l : List Entry). BeginsWithUnit (ended b l)) (first_alone keys (Some [])) (c.hosts_ask_one_by_one.ensures.whole keys)
+      (λ (l : List Entry) told. (c.hosts_ask_one_by_one.ensures.told keys l told).2) whole here heard m run rests;
   ticks = c.hosts_tell_time.ensures.counts keys (Some []) heard (here, m, run);
   sends = λ key same. c.hosts_send_what_is_due.ensures.told key heard (subst (λ (k : Keys). Told (first_alone k (Some [])) heard) (same ∙ same_keys key) (here, m, run));
 }
