@@ -18,6 +18,7 @@ use Rattle.mesh_sim.specs.Air.{AirState, is_joined, departing}
 use Rattle.mesh_sim.specs.Fates.{Mesh, HearsWithin, fate_of, listener_of}
 use Rattle.air_frames.specs.declared.ages.Refusal.{Refusal}
 use Rattle.mesh_sim.specs.Steps.{AirStep, Arrives, Repeats, mesh_after, mesh_outs, MayHappen, mesh_after_all, mesh_outs_all, MayAllHappen, Did, Stops, IsCut, IsArrival, IsRepeatOf, HasHeard, HasPerhaps, Comes, done_of, outs_at, landed, acknowledged, status_of, answered, answered_if, air_hearing, outs_hearing, heard_at, arriving, arriving_as, arrival_outs, arrival_outs_as, MayArrive, MayArriveIf, repeating, repeating_by, repeat_outs, repeat_outs_by, MayRepeat, MayRepeatBy, MayHearAgain, heard_again, outs_again, ComesAgain, IsHeardAgain, IsHeardPerhaps}
+
 abbrev pub States : Type 0
 States = List State
 

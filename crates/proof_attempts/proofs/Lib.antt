@@ -23,5 +23,6 @@ mod Slept
 mod Owing
 mod Late
 mod Sleeping
+mod Asleep
 pub use Rattle.proof_work.proofs.Times
 pub use Rattle.proof_work.proofs.HostNotes

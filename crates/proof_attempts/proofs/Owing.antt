@@ -70,7 +70,7 @@ marks_may past (e ∷ marks) all = (mark_may past e all.0, marks_may (past ++ e 
 abbrev pub Rested : List Entry → Type 0
 Rested past = (is_directly_after past ≡ false) × (owes_sleep_to_given_up past ≡ false)
 
-either_false : (a b : Bool) → a ≡ false → b ≡ false → (a || b) ≡ false
+pub either_false : (a b : Bool) → a ≡ false → b ≡ false → (a || b) ≡ false
 either_false false b first second = second
 either_false true b first second = absurd (let bad : true ≡ false = first in cc)
 

@@ -291,6 +291,70 @@ calm past told s t on same id awake uninterviewed tie = record {
   each = λ n from to. calm_each n past told s t on same awake uninterviewed (tie.each n from to);
 }
 
+-- ---- entries of others, lines and items
+
+loose_fresh : (told : List Entry) → AllByRecursion IsLoose told → begins_refused told ≡ false
+loose_fresh told all = fresh told (all-weaker IsLoose IsWordless loose_wordless told all)
+
+loose_goes : (e : Entry) → IsLoose e → GoesOn e
+loose_goes (entry.Said words) loose = absurd loose
+loose_goes (entry.Written Host unit) loose = absurd loose
+loose_goes e loose = tt
+
+loose_awake : (e : Entry) → IsLoose e → NoneSleeps e
+loose_awake (entry.Asleep node) loose = absurd loose
+loose_awake e loose = tt
+
+loose_uninterviewed : (e : Entry) → IsLoose e → NoInterview e
+loose_uninterviewed (entry.Interviewed node) loose = absurd loose
+loose_uninterviewed e loose = tt
+
+-- what answers a line, and an item
+abbrev IsCalm : Entry → Type 0
+IsCalm e = GoesOn e × (NoneSleeps e × NoInterview e)
+
+answers_calm : (h : HostState) (event : HostEvent) → AllByRecursion IsCalm (answers h event)
+answers_calm h (Accepts order carriage) = ((tt, (tt, tt)), tt)
+answers_calm h (Cancels command) = ((tt, (tt, tt)), tt)
+answers_calm h event = tt
+
+mark_calm : (e : Entry) → IsOfUnit e → IsCalm e
+mark_calm (entry.Dropped Host) mark = (tt, (tt, tt))
+mark_calm (entry.Garbled Host unit) mark = (tt, (tt, tt))
+mark_calm (entry.Overrun Host) mark = (tt, (tt, tt))
+mark_calm e mark = absurd mark
+
+one_calm : (unit : LineUnit) (told : List Entry) → is_data (unit_text unit) ≡ false → AreTold (Write unit ∷ []) told → AllByRecursion IsCalm told
+one_calm unit told none (marks, rest, is, all, more) =
+    subst (AllByRecursion IsCalm) (sym is)
+    ((none, (tt, tt)), all-append IsCalm marks rest (all-weaker IsOfUnit IsCalm mark_calm marks all) (subst (AllByRecursion IsCalm) (sym more) tt))
+
+nothing_calm : (told : List Entry) → told ≡ [] → AllByRecursion IsCalm told
+nothing_calm told is = subst (AllByRecursion IsCalm) (sym is) tt
+
+item_calm : (item : Item) (told : List Entry) → AreTold (answer_to item) told → AllByRecursion IsCalm told
+item_calm (Good (Framed f)) told are = one_calm Ack told refl are
+item_calm (Good Ack) told are = nothing_calm told are
+item_calm (Good Nak) told are = nothing_calm told are
+item_calm (Good Can) told are = nothing_calm told are
+item_calm (refused_item (BadSum want got)) told are = one_calm Nak told refl are
+item_calm (refused_item (BadKind x)) told are = one_calm Nak told refl are
+item_calm (refused_item (Stray x)) told are = nothing_calm told are
+item_calm (refused_item (BadLength n)) told are = nothing_calm told are
+item_calm (refused_item Aborted) told are = nothing_calm told are
+
+calm_told : (past told : List Entry) (s t : RequestsState) → AllByRecursion IsWordless told → t.under_way ≡ s.under_way → t.last_id ≡ s.last_id → AllByRecursion IsCalm told → TieSlept past s
+    → TieSlept (past ++ told) t
+calm_told past told s t wordless same id all tie =
+    calm past told s t (asked_on past told (fresh told wordless) (all-weaker IsCalm GoesOn (λ e is. is.0) told all)) same id (all-weaker IsCalm NoneSleeps (λ e is. is.1.0) told all)
+    (all-weaker IsCalm NoInterview (λ e is. is.1.1) told all) tie
+
+-- what answers an item goes on with the last request, and no node sleeps by it
+pub item_on : (past : List Entry) (item : Item) (told : List Entry) → AllByRecursion IsWordless told → AreTold (answer_to item) told → On past told × AllByRecursion NoneSleeps told
+item_on past item told wordless are =
+    let all = item_calm item told are in
+    (asked_on past told (fresh told wordless) (all-weaker IsCalm GoesOn (λ e is. is.0) told all), all-weaker IsCalm NoneSleeps (λ e is. is.1.0) told all)
+
 -- ---- an event
 
 -- what is known of the host, and of its transcript
@@ -434,68 +498,11 @@ module _ (tells : (h : HostState) (n : ℕ) → HostWork h → 1 ≤ times_told 
       (new_tie past (unit_text (Framed f)) marks m.clock m.came (after m.state event) purpose new all now (at_of next (past ++ told) (done m event) others.1 later).well
       (subst (λ (l : List Entry). TieAsked (past ++ l) m.clock m.clock m.came (doing_of (after m.state event))) is asks))
 
-  -- ---- entries of others, lines and items
-
-  loose_fresh : (told : List Entry) → AllByRecursion IsLoose told → begins_refused told ≡ false
-  loose_fresh told all = fresh told (all-weaker IsLoose IsWordless loose_wordless told all)
-
-  loose_goes : (e : Entry) → IsLoose e → GoesOn e
-  loose_goes (entry.Said words) loose = absurd loose
-  loose_goes (entry.Written Host unit) loose = absurd loose
-  loose_goes e loose = tt
-
-  loose_awake : (e : Entry) → IsLoose e → NoneSleeps e
-  loose_awake (entry.Asleep node) loose = absurd loose
-  loose_awake e loose = tt
-
-  loose_uninterviewed : (e : Entry) → IsLoose e → NoInterview e
-  loose_uninterviewed (entry.Interviewed node) loose = absurd loose
-  loose_uninterviewed e loose = tt
-
-  -- what answers a line, and an item
-  abbrev IsCalm : Entry → Type 0
-  IsCalm e = GoesOn e × (NoneSleeps e × NoInterview e)
-
-  answers_calm : (h : HostState) (event : HostEvent) → AllByRecursion IsCalm (answers h event)
-  answers_calm h (Accepts order carriage) = ((tt, (tt, tt)), tt)
-  answers_calm h (Cancels command) = ((tt, (tt, tt)), tt)
-  answers_calm h event = tt
-
-  mark_calm : (e : Entry) → IsOfUnit e → IsCalm e
-  mark_calm (entry.Dropped Host) mark = (tt, (tt, tt))
-  mark_calm (entry.Garbled Host unit) mark = (tt, (tt, tt))
-  mark_calm (entry.Overrun Host) mark = (tt, (tt, tt))
-  mark_calm e mark = absurd mark
-
-  one_calm : (unit : LineUnit) (told : List Entry) → is_data (unit_text unit) ≡ false → AreTold (Write unit ∷ []) told → AllByRecursion IsCalm told
-  one_calm unit told none (marks, rest, is, all, more) =
-      subst (AllByRecursion IsCalm) (sym is)
-      ((none, (tt, tt)), all-append IsCalm marks rest (all-weaker IsOfUnit IsCalm mark_calm marks all) (subst (AllByRecursion IsCalm) (sym more) tt))
-
-  nothing_calm : (told : List Entry) → told ≡ [] → AllByRecursion IsCalm told
-  nothing_calm told is = subst (AllByRecursion IsCalm) (sym is) tt
-
-  item_calm : (item : Item) (told : List Entry) → AreTold (answer_to item) told → AllByRecursion IsCalm told
-  item_calm (Good (Framed f)) told are = one_calm Ack told refl are
-  item_calm (Good Ack) told are = nothing_calm told are
-  item_calm (Good Nak) told are = nothing_calm told are
-  item_calm (Good Can) told are = nothing_calm told are
-  item_calm (refused_item (BadSum want got)) told are = one_calm Nak told refl are
-  item_calm (refused_item (BadKind x)) told are = one_calm Nak told refl are
-  item_calm (refused_item (Stray x)) told are = nothing_calm told are
-  item_calm (refused_item (BadLength n)) told are = nothing_calm told are
-  item_calm (refused_item Aborted) told are = nothing_calm told are
-
-  calm_told : (past told : List Entry) (s t : RequestsState) → AllByRecursion IsWordless told → t.under_way ≡ s.under_way → t.last_id ≡ s.last_id → AllByRecursion IsCalm told → TieSlept past s
-      → TieSlept (past ++ told) t
-  calm_told past told s t wordless same id all tie =
-      calm past told s t (asked_on past told (fresh told wordless) (all-weaker IsCalm GoesOn (λ e is. is.0) told all)) same id (all-weaker IsCalm NoneSleeps (λ e is. is.1.0) told all)
-      (all-weaker IsCalm NoInterview (λ e is. is.1.1) told all) tie
+  -- ---- a host that starts
 
   none_told : (n : ℕ) → is_told n [] ≡ false
   none_told n = refl
 
-  -- a host that starts
   anew_tie : (before : List Entry) (words : List ℕ) (keys : Keys) (records : Option (List (List ℕ))) (state : HostState) → IsSome records → OpensFrom keys records state
       → is_restart (line_of (entry.Said words)) ≡ true → TieSlept (before ++ entry.Said words ∷ []) state.requests
   anew_tie before words keys records state told opens anew =

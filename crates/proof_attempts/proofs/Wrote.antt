@@ -65,7 +65,7 @@ idle_not : (turn : Turn) (f : FrameParts) (copies ticks : ℕ) → turn ≡ Idle
 idle_not turn f copies ticks idle paused = cc
 
 module _ (here : Phase) (past told : List Entry) (m : HostMachine) (before : ℕ) (frames : AreFrames m.came) (tie : TieAsked past before before m.came (doing_of m.state)) where
-  paused_old : (f : FrameParts) (copies ticks : ℕ) → m.state.side.turn ≡ Paused f copies ticks → is_new (asked past) (unit_text (Framed f)) ≡ false
+  pub paused_old : (f : FrameParts) (copies ticks : ℕ) → m.state.side.turn ≡ Paused f copies ticks → is_new (asked past) (unit_text (Framed f)) ≡ false
   paused_old f copies ticks is = by tie
     where
       by : TieAsked past before before m.came (doing_of m.state) → is_new (asked past) (unit_text (Framed f)) ≡ false
@@ -120,7 +120,7 @@ submit_writes past told m event sub next may are tie = absurd sub
 
 -- ---- at each phase
 
-first_same : (first these : HostEvent) (left others : List HostEvent) → first ∷ left ≡ these ∷ others → first ≡ these
+pub first_same : (first these : HostEvent) (left others : List HostEvent) → first ∷ left ≡ these ∷ others → first ≡ these
 first_same first these left others is = cc
 
 as_wrote : (here : Phase) (past told : List Entry) (h : HostState) (event these : HostEvent) → event ≡ these → Wrote here past told h these → Wrote here past told h event

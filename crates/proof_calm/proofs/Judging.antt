@@ -149,7 +149,7 @@ module _ (counted : Bool) (s : ChipState) (asking : List FrameParts) where
       by (At_chip u of fresh is) =
           let on = stays u of in
           stays_tied u h events pending on tie.paid
-          (At_chip (staying u h events on) (stays_of u h events on of) (on.fresh fresh) 
+          (At_chip (staying u h events on) (stays_of u h events on of) (on.fresh fresh)
           (record { node = is.node; is_sending = is.is_sending; answered = answers u of is.answered; leave = is.leave; nothing = is.nothing }))
       by (Called u of fresh is) =
           let on = stays u of in

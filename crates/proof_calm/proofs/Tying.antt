@@ -412,6 +412,7 @@ part_tied_on passes m rest ways may later tie =
     let chip = taken_state m rest ways may in
     tie_as true [] n (kept m.host.state) (after_chip m.outside.outer.chip.state (judged_all ways)) (line_of (after_chip m.outside.outer.chip.state (judged_all ways)).port) (host_same m rest ways) chip
     (moved_lines true passes n later ∙ ap (λ (s : ChipState). line_of s.port) chip) tie
+
 -- no byte moves to the chip
 still_turn : (m : Machine) (line : TheLine m) → m.outside.outer.to_chip.bytes ≡ [] → m.host.state.side.turn ≡ Idle
 still_turn m (Free line) none = line.at_host.turn_is

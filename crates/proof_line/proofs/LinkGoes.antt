@@ -32,6 +32,7 @@ use Rattle.zw_words.specs.declared.side.Side.{Side}
 use Rattle.zw_words.specs.declared.side.Side.TheVariants.{Host, Chip}
 use Rattle.law_wire.specs.Links.{MayDo, MayDoInTick, end_quietly, is_quiet_tick}
 use Rattle.proof_line.specs.Links.{IsOne, LinkNow, MayGo, MayOfChip, MayStep, stepped}
+
 -- ---- each step writes at most one unit
 
 none_ended : (copies : ℕ) → flat_map link_unit (outs_ended copies) ≡ []

@@ -5,6 +5,7 @@ use Rattle.transport_segments.specs.Segment.{segment_text}
 use Rattle.transport_segments.specs.Parts.{slice_at}
 use Rattle.transport_segments.specs.Runs.{IsPart}
 use Rattle.transport_segments.proofs.PartLemmas.{part_at}
+
 pub is_part : (message : List ℕ) (session place : ℕ) → 1 ≤ length message → length message ≤ 512 → 39 * place < length message
     → IsPart message (session % 16) (segment_text (session % 16) (length message) (39 * place) (slice_at message place))
 is_part message session place some most within =

@@ -54,6 +54,7 @@ use Rattle.world_step.proofs.Scenes.{ran_hosted, nothing_goes, quiet_goes, stopp
 use Rattle.zw_world.specs.Effects.{Answers, IsAsked}
 use Rattle.zw_world.proofs.Scenes.{ran_refuses, quiet_run, none_more, did_as}
 use Rattle.host_core.proofs.Refusing.{IsNothing, rose_entered, by_rule}
+
 -- ---- which rules are no fault of the keeper
 
 abbrev pub is_fault : Option Refused → Bool

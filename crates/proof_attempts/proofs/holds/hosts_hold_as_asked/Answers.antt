@@ -16,7 +16,7 @@ use Rattle.proof_attempts.proofs.holds.hosts_hold_as_asked.Goals as goal
 
 pub returns : goal.returns
 returns c = λ keys told run.
-    law_along keys KnowsHeard KnowsUnowed
+    (law_along keys KnowsHeard KnowsUnowed
     (λ here told m run. (
       (
         (run_keeps MayStand KnowsTables c.hosts_keep_their_tables.ensures.walk [] run (c.hosts_keep_their_tables.ensures.first keys)).1,
@@ -24,4 +24,4 @@ returns c = λ keys told run.
       ),
       c.hosts_listen_as_told.ensures.run keys here told m run,
     ))
-    (Allows may_hold) (kept_walk (λ past e. Unit {0})) refl run.0 told run.1 run.2
+    (Allows may_hold) (kept_walk (λ past e. Unit {0})) refl run.0 told run.1 run.2).0
