@@ -4,4 +4,7 @@ pub mod Working
 pub mod Series
 pub mod Kept
 pub mod Waiting
+pub mod Carried
+pub mod Slept
+pub mod Asleep
 pub use Rattle.proof_work.specs.proof_walk as proof_walk

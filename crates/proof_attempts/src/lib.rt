@@ -1,8 +1,8 @@
 //! Which nodes a host counts as awake, its work, and the series of its attempts, by its transcript.
 //!
 //! A host alone (`proof_alone`) tells where a node wakes and falls asleep. So each node counts as awake by its transcript as it does in the host
-//! (`hosts_count_awake`), and is held as long as by it, where each node listens by it as there (`hosts_hold_as_told`); then one is held where the report that
-//! ends its session asks so, and wherever it does (`hosts_hold_as_asked`). Its work is in order at each step, and where it rests nothing that is due lacks
+//! (`hosts_count_awake`); and since each listens by it as there (`proof_requests`), it is held as long as by it (`hosts_hold_as_told`), where the report that
+//! ends its session asks so, and wherever it does (`hosts_hold_as_asked`, `lines_hold_as_asked`). Its work is in order at each step, and where it rests nothing that is due lacks
 //! its request (`hosts_work_in_order`, `hosts_know_their_work`); a node that is told that there is no more for it waits for no other attempts with a command
 //! (`hosts_tell_those_that_wait_for_nothing`). The last session of a node is open by the transcript as in the host (`hosts_show_open_sessions`); a series of
 //! attempts grows by entries (`series_grow_by_entries`) as it goes in the host (`series_go_with_nodes`, `series_go_with_ticks`), so each series runs by the
@@ -16,14 +16,16 @@
 
 mod holds;
 mod series;
+mod sleep;
 mod waking;
 mod work;
 
-pub use holds::hosts_hold_as_asked;
+pub use holds::{hosts_hold_as_asked, lines_hold_as_asked};
 pub use series::{
     hosts_run_series_as_told, hosts_show_open_sessions, series_go_with_nodes, series_go_with_ticks,
     series_grow_by_entries,
 };
+pub use sleep::{hosts_fall_asleep_as_told, hosts_tell_of_sleep, lines_fall_asleep_as_told};
 pub use waking::{hosts_count_awake, hosts_hold_as_told};
 pub use work::{
     hosts_know_their_work, hosts_tell_those_that_wait_for_nothing, hosts_work_in_order,

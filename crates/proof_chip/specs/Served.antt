@@ -1,8 +1,10 @@
 -- What is known of the chip at each phase of a line beside both links and all that other walks tell, and what follows of a whole run (this project's own rule).
-use Rattle.std.specs.Prelude.{Bool, List}
+use Rattle.std.specs.Prelude.{Bool, true, false, List, []}
 use Rattle.serial_link.specs.Rules.{Step}
 use Rattle.zw_words.specs.declared.side.Side.TheVariants.{Chip}
 use Rattle.zw_text.specs.declared.entry.Entry.{Entry}
+use Rattle.zw_text.specs.declared.entry.Entry.TheVariants.{Said}
+use Rattle.law_wire.specs.Answering.{DropsWhenFull, MayStay}
 use Rattle.law_wire.specs.Asked.{course_of}
 use Rattle.law_wire.specs.Links.{KeepsLink, joined}
 use Rattle.law_wire.specs.Serial.{ended}
@@ -20,6 +22,7 @@ use Rattle.proof_chip.specs.Bringing.{BringsInOrder}
 use Rattle.proof_chip.specs.Calling.{KnowCalls}
 use Rattle.proof_chip.specs.Knowing.{KnownNodes}
 use Rattle.proof_chip.specs.Sending.{KnowAir}
+use Rattle.proof_chip.specs.Tally.{KnowTally}
 
 abbrev pub KnowMembers : Phase → List Entry → Machine → Type 0
 KnowMembers here past m = KnownNodes past m
@@ -28,14 +31,22 @@ KnowMembers here past m = KnownNodes past m
 abbrev pub KnowBeside : List State → Phase → List Entry → Machine → Type 0
 KnowBeside devices = both_know (both_know (both_know (both_know (both_know KnowHistory KnowTime) KnowLanding) (KnowNetworks devices)) KnowMembers) KnowCalls
 
--- by the same steps of the chip's link both links are known, and what goes on the air
+-- by the same steps of the chip's link both links are known, what goes on the air, and how many frames the chip has for the host
 abbrev pub KnowServing : List State → Phase → List Entry → Machine → Type 0
-KnowServing devices here past m = KnowBeside devices here past m × ((did : List Step) × KnowCuts did here past m × KnowAir devices did here past m)
+KnowServing devices here past m = KnowBeside devices here past m × ((did : List Step) × KnowCuts did here past m × KnowAir devices did here past m × KnowTally devices did here past m)
 
 -- ---- of a run
 
--- the chip's link keeps the rules, and by what that link did the controller puts on the air just what it takes, and the chip brings the host what was heard in order
+-- where a whole run is over none waits unless the chip's link is busy, as at the beginning of a further line
+abbrev pub MayRest : Bool → List State → List (List Step) → List Entry → Type 0
+MayRest true devices parts transcript = MayStay devices parts transcript (Said [])
+MayRest false devices parts transcript = Unit {0}
+
+-- the chip's link keeps the rules, and by what that link did the controller puts on the air just what it takes, the chip brings the host what was heard in order, and it drops a frame only
+-- where 32 wait; and where a run is over, none waits unless the link is busy
 pub record AirsByLink (whole : Bool) (devices : List State) (transcript : List Entry) : Type 0 where
   pub link : KeepsLink Chip (ended whole transcript)
   pub airs : AirsWhatIsTaken devices (course_of (joined link.parts)) (ended whole transcript)
   pub brings : BringsInOrder (course_of (joined link.parts)) transcript
+  pub drops : DropsWhenFull devices (course_of (joined link.parts)) (ended whole transcript)
+  pub rests : MayRest whole devices link.parts transcript

@@ -11,8 +11,8 @@ use Rattle.serial_link.specs.Rules.{SideObeys, Step}
 use Rattle.proof_walk.specs.outside_model.State.{OuterState}
 use Rattle.proof_line.specs.Pipes.{ClearsNowhereElse}
 use Rattle.proof_line.specs.Links.{AtLine, KnowsLink, LinkNow}
-use Rattle.proof_line.specs.Linked.{Cuts}
-use Rattle.proof_line.proofs.LinkKnown.{keeps_link, keeps_lost, keeps_parts}
+use Rattle.proof_line.specs.Linked.{ArePartsOf, Cuts}
+use Rattle.proof_line.proofs.LinkKnown.{keeps_link, keeps_lost, keeps_parts, keeps_room}
 use Rattle.proof_line.proofs.LinkCourse.{course_mute}
 use Rattle.proof_line.proofs.LinkChip.{obeyed}
 
@@ -25,12 +25,17 @@ cuts_of past up down chip host told =
     let chip_lost : up.lost ≡ lost_by Chip past (keeps_link Chip past up chip).parts = sym (keeps_lost Chip past up chip) in
     let host_lost : down.lost ≡ lost_by Host past (keeps_link Host past down host).parts = sym (keeps_lost Host past down host) in
     record {
-      links = record { chip = of_chip; host = of_host };
+      links = record { chip = of_chip; host = of_host; up = keeps_room Chip past up chip; down = keeps_room Host past down host };
       each = subst (λ (l : List ℕ). AreTold (clears past) (to_clear (lost_by Chip past of_chip.parts) l)) host_lost (subst (λ (l : List ℕ). AreTold (clears past) (to_clear l down.lost)) chip_lost told);
       course =
           let life : up.life ≡ joined of_chip.parts ++ chip.steps = keeps_parts past up chip in
           sym (ap course_of life ∙ course_mute (joined of_chip.parts) chip.steps up.link (subst (λ (l : List Step). SideObeys l up.link) life (obeyed Chip (serial_events past) up chip)) chip.mute);
     }
+
+pub parts_of : (past : List Entry) (up down : LinkNow) (chip : KnowsLink Chip past up) (host : KnowsLink Host past down) (told : AreTold (clears past) (to_clear up.lost down.lost))
+    → ArePartsOf up.life (cuts_of past up down chip host told).links.chip.parts
+unfolding cuts_of
+parts_of past up down chip host told = record { since = chip.steps; is = keeps_parts past up chip; mute = chip.mute }
 
 one_told : (over : Bool) (entries due : List Entry) → entries ≡ due → IsTold over entries due
 one_told true entries due is = is
@@ -53,6 +58,11 @@ line_cuts past o up down line = cuts_of past up down line.chip line.host (all_to
 pub cuts_as : (did now : List Step) (past : List Entry) → course_of did ≡ course_of now → Cuts did past → Cuts now past
 cuts_as did now past same cuts = record { links = cuts.links; each = cuts.each; course = cuts.course ∙ same }
 
+pub parts_as : (did now : List Step) (past : List Entry) (same : course_of did ≡ course_of now) (cuts : Cuts did past) → ArePartsOf now cuts.links.chip.parts
+    → ArePartsOf now (cuts_as did now past same cuts).links.chip.parts
+unfolding cuts_as
+parts_as did now past same cuts are = are
+
 -- and of the last restart a prefix
 pub some_told : (there : List Cleared_there) (dues : List (List Entry)) (told more : List Entry) → map (λ (one : Cleared_there). one.entries) there ≡ dues
     → AreTold (there ++ record { entries = told; is_over = false } ∷ []) (dues ++ (told ++ more) ∷ [])
@@ -70,4 +80,8 @@ pub cut_clears : {did : List Step} (past : List Entry) → Cuts did past → Cle
 cut_clears past cuts only = record { links = cuts.links; each = cuts.each; only = only }
 
 pub whole_clears : {did : List Step} (past : List Entry) → Cuts did (past ++ Said [] ∷ []) → ClearsNowhereElse true past → ClearsLine true past
-whole_clears past cuts only = record { links = record { chip = cuts.links.chip; host = cuts.links.host }; each = cuts.each; only = only }
+whole_clears past cuts only = record {
+  links = record { chip = cuts.links.chip; host = cuts.links.host; up = cuts.links.up; down = cuts.links.down };
+  each = cuts.each;
+  only = only;
+}

@@ -1,4 +1,6 @@
 mod Putting
+mod LineHeard
+mod CameItems
 mod Replaying
 mod Ran
 mod Serving

@@ -28,6 +28,7 @@ pub mod Untold
 pub mod EndsTold
 pub mod Questions
 mod Interviews
+mod Numbering
 pub use Rattle.proof_waking.proofs.Coming
 pub use Rattle.proof_waking.proofs.Hosting
 pub use Rattle.proof_waking.proofs.Stamps
