@@ -1,7 +1,7 @@
 //! How a Set or Get that a line asked for ended, as a host alone and all lines say it.
 
 ghost use Rattle.std.specs.Prelude.{Some, List, [], ℕ};
-ghost use Rattle.device_kinds.specs.Sealing.{keys_of};
+ghost use Rattle.s0_crypto.specs.Sealing.{keys_of};
 ghost use Rattle.device_sim.specs.State.{State};
 ghost use Rattle.zw_text.specs.declared.entry.Entry.{Entry};
 ghost use Rattle.law_transcript.specs.Lists.{EachAfter};

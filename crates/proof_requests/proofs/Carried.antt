@@ -13,7 +13,7 @@ use Rattle.s0_crypto.specs.declared.ends.SealEnds.{SealEnds}
 use Rattle.s0_crypto.specs.declared.key_pair.Keys.{Keys}
 use Rattle.transport_segments.specs.Parts.{slice_at}
 use Rattle.transport_segments.specs.Segment.{segment_header, segment_text}
-use Rattle.device_kinds.specs.Sealing.{sealed_text}
+use Rattle.s0_crypto.specs.Sealing.{sealed_text}
 use Rattle.host_orders.specs.Errands.{get_command, get_text, gettable_of, plain_plan, plain_text, send_text, sendable_of}
 use Rattle.host_orders.specs.Messages.{value_message}
 use Rattle.host_orders.specs.Wrapping.{ends_of, form_of, message_of}

@@ -15,7 +15,7 @@ use Rattle.supervision.specs.Host.{command_at as command_of_session}
 use Rattle.host_keep.specs.declared.final_status.FinalStatus.{FinalStatus}
 use Rattle.host_keep.specs.declared.record.Record.{Record}
 use Rattle.host_keep.specs.declared.record.Record.TheVariants.{Final}
-use Rattle.device_kinds.proofs.SealingLemmas.{sealed_is}
+use Rattle.s0_crypto.proofs.SealingLemmas.{sealed_is}
 use Rattle.host_orders.specs.Refusals.{classes_of}
 use Rattle.host_node.specs.State.{SealsText, ends_to}
 use Rattle.host_node.specs.declared.attempt.Plan.TheVariants.{Sealed}

@@ -1,6 +1,6 @@
 -- Lines are told by a host alone, and so is what is heard of them.
 use Rattle.std.specs.Prelude.{Some, []}
-use Rattle.device_kinds.specs.Sealing.{keys_of}
+use Rattle.s0_crypto.specs.Sealing.{keys_of}
 use Rattle.law_transcript.specs.Nodes.{always, listing_of}
 use Rattle.world_model.specs.State.{first_machine}
 use Rattle.world_lines.specs.Spoken.{transcript_of}
