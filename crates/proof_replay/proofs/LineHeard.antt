@@ -520,9 +520,11 @@ module _ (obey : HostsObey) where
           }
 
       alone : AllByRecursion IsAlone later
-      alone =
-          ((tt, tt), all-append IsAlone (map Node_ticks (ticking_nodes (after_all h first_ticks))) pumped (nodes_alone (ticking_nodes (after_all h first_ticks)))
-          (pumps_alone pumped (after_all h (tick_events h)) pumps))
+      alone = (
+        (tt, tt),
+        all-append IsAlone (map Node_ticks (ticking_nodes (after_all h first_ticks))) pumped (nodes_alone (ticking_nodes (after_all h first_ticks)))
+            (pumps_alone pumped (after_all h (tick_events h)) pumps),
+      )
 
       all : KnowsLine (begun ++ entries_of (outs_all h (tick_events h ++ pumped))) (clock + 1) left (after_all h (tick_events h ++ pumped))
       all =

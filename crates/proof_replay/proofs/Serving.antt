@@ -304,8 +304,7 @@ module _ (start : HostMachine) (keys : Keys) (Beside : Option (List (List ℕ)) 
       (added pumped.events both.mid new both.first both.rest pumped.did) in
       let pumps : pump_events (after_all h (tick_events h)) pumped.events = subst (λ (s : HostState). pump_events s pumped.events) first.state pumped.are in
       let (awaits', there) =
-      tick_one start keys Beside grows obey before (lone_at old clock) pumped.events 0 pumps did.may
-      (
+      tick_one start keys Beside grows obey before (lone_at old clock) pumped.events 0 pumps did.may (
         false,
         (
           held,
