@@ -20,7 +20,9 @@ use Rattle.chip_functions.specs.Field.{IsNode}
 use Rattle.chip_functions.specs.declared.fault.BodyFault.{BodyFault}
 use Rattle.chip_functions.specs.declared.notice.Update.{Update}
 use Rattle.chip_functions.specs.declared.notice.Update.TheVariants.{Received, RequestFailed}
+use Rattle.chip_functions.specs.declared.notice.TransmitStatus.{TransmitStatus}
 use Rattle.chip_functions.specs.declared.request.Request.{Request}
+use Rattle.chip_functions.specs.declared.response.Response.{Response}
 use Rattle.chip_functions.specs.declared.request.Request.TheVariants.{SendDataAbort}
 use Rattle.chip_functions.specs.Request.{request_of as read_request}
 use Rattle.zw_words.specs.declared.side.Side.TheVariants.{Host, Chip}
@@ -29,7 +31,7 @@ use Rattle.zw_text.specs.declared.entry.Entry.{Entry}
 use Rattle.zw_text.specs.declared.entry.Entry.TheVariants as entry
 use Rattle.law_transcript.specs.Lists.{EachAfter}
 use Rattle.law_transcript.specs.Units.{body_in, function_in, is_frame, read_well}
-use Rattle.law_time.specs.Ends.{ending, has_ended, is_abort, is_abort_frame, is_answered_here, is_before_failing, is_called_back, is_called_back_badly, is_ended_by_frame, is_ended_here, is_ending_here, is_given_up, is_refused_here, calls_back, refuses}
+use Rattle.law_time.specs.Ends.{ending, has_ended, is_abort, is_abort_frame, is_answered_here, is_before_failing, is_called_back, is_called_back_badly, is_ended_by_frame, is_ended_here, is_ending_here, is_given_up, is_refused_here, is_silent, calls_back, refuses}
 use Rattle.law_time.specs.Interviews.{listens}
 use Rattle.law_time.specs.Judged.{acknowledged, directly_step, is_directly_after, is_following, judged_here, notices_here}
 use Rattle.law_time.specs.Moments.{Allows, clock, now_at}
@@ -37,7 +39,7 @@ use Rattle.law_time.specs.Requests.{Judging, are_none, asked, is_response_to, re
 use Rattle.law_time.specs.Waking.{counts_awake, given_up_at, has_slept, is_awake_sleeper, is_still_awake, is_told, may_sleep, moves_on, nodes_told, owes_no_sleep, owes_sleep, owes_sleep_to_given_up, owes_sleep_to_told}
 use Rattle.host_requests.specs.Events.{RequestsEvent, interviewed_by, interviewed_from}
 use Rattle.host_requests.specs.Events.RequestsEvent.{CallsBack, Fails, IsSent, Responds, Ticks as request_ticks, Updates}
-use Rattle.host_requests.specs.Next.{at_callback, at_response, at_sent, at_tick, at_update, end_from, end_of, purpose_ends_at_update}
+use Rattle.host_requests.specs.Next.{at_callback, at_response, at_sent, at_tick, at_update, end_from, end_of, purpose_ends_at_update, sent_from}
 use Rattle.host_requests.specs.State.{RequestsState}
 use Rattle.host_requests.specs.declared.end.How.{How}
 use Rattle.host_requests.specs.declared.end.How.TheVariants.{LinkFailed}
@@ -46,6 +48,8 @@ use Rattle.host_requests.specs.declared.next.Next.TheVariants.{Ends, GoesOn}
 use Rattle.host_requests.specs.declared.task.Purpose.{Purpose}
 use Rattle.host_requests.specs.declared.task.Purpose.TheVariants.{Housekeeping, Attempt, Abort}
 use Rattle.host_requests.specs.declared.task.Task.TheVariants.{NoMore}
+use Rattle.host_requests.specs.declared.under_way.Progress.{Progress}
+use Rattle.host_requests.specs.declared.under_way.Progress.TheVariants.{Submitted, Sent, Answered}
 use Rattle.host_requests.specs.declared.under_way.UnderWay.{UnderWay}
 use Rattle.host_keep.specs.declared.final_status.FinalStatus.{FinalStatus}
 use Rattle.host_keep.specs.declared.final_status.FinalStatus.TheVariants as final
@@ -73,7 +77,7 @@ use Rattle.proof_waking.specs.proof_alone.Runs.{WalkOver, both_know}
 use Rattle.proof_waking.specs.Judged.{IsOfRequest, KnowsJudged, TieFrames}
 use Rattle.proof_waking.proofs.Followed.{MayFollow, frame_all}
 use Rattle.proof_requests.specs.Asking.{Doing, TieAsked, TieUnderWay, doing_of}
-use Rattle.proof_requests.specs.Ends.{ByFrame, ByLine, EndsBy, EndsFrom, EndsHere, EndsNone, GivenUp, KnowsEnds, LineEnds, TellsNoEnd, next_at}
+use Rattle.proof_requests.specs.Ends.{AreToldOf, ByFrame, ByLine, EndsBy, EndsFrom, EndsHere, EndsNone, GivenUp, KnowsEnds, LineEnds, TellsNoEnd, next_at}
 use Rattle.proof_requests.specs.Standing.{failing_in, standing_of, wait_in}
 use Rattle.proof_requests.specs.Saying.{frame_next}
 use Rattle.proof_work.specs.Work.{told_at}
@@ -94,6 +98,7 @@ use Rattle.proof_attempts.proofs.KeptAwake.{noted_told}
 use Rattle.proof_attempts.proofs.Lasting.{numbered_else, rest_of}
 use Rattle.proof_attempts.proofs.Late.{unended_at}
 use Rattle.proof_attempts.proofs.Owing.{ArePlain, Goes, either_false, IsCalm, IsPlain, IsStill, Law, calm_may, first_go, given_none, mark_still, marks_may, may_stand, nothing_go, one_rested, owes_by, plain_go, untold}
+use Rattle.proof_attempts.proofs.Requested.{Unsubmitted}
 use Rattle.proof_attempts.proofs.Sleeping.{Known, attempt_go, ended_so, purpose_go, tick_so}
 use Rattle.proof_attempts.proofs.Slept.{NoneSleeps, On, frame_tells, item_on, none_slept, on_frame, on_slept, or_none, purpose_told, tells_it, told_by}
 use Rattle.proof_attempts.proofs.Wrote.{Wrote, first_same, paused_old, writes}
@@ -588,3 +593,275 @@ module _ (first : HostEvent) (left : List HostEvent) (past told : List Entry) (m
       let request_is : event ≡ Requests_do request_ticks BeforeItsTick = is ∙ first_same first (Requests_do request_ticks BeforeItsTick) left nodes these in
       silent_go nodes these (subst (λ (e : HostEvent). AreTold (outs m.state e) told) request_is are)
   tick_go event is are (inr (inr (all, known))) = node_go event (subst IsNodeTick (sym is) all.0) (subst TicksNode (sym is) ground.1.1.0) are
+
+-- ---- behind an item
+
+-- an event that leaves the request, and at which no sleep is told
+abbrev IsQuietly : HostEvent → Type 0
+IsQuietly event = IsBeside event × TellsNoSleep event
+
+quietly_of : (unit : List ℕ) (event : HostEvent) → MayFollow unit event → TellsNoEnd event → IsQuietly event
+quietly_of unit (Hears item) follows none = absurd none
+quietly_of unit (Requests_do event moment) follows none = absurd none
+quietly_of unit (Interviews n listens classes update) follows none = absurd none
+quietly_of unit (Interview_unkept n update) follows none = absurd none
+quietly_of unit Line_ticks follows none = absurd none
+quietly_of unit (Queues task) follows none = absurd follows
+quietly_of unit (Node_ticks n) follows none = absurd follows
+quietly_of unit Submits_abort follows none = absurd follows
+quietly_of unit Submits_front follows none = absurd follows
+quietly_of unit (Starts n plan more payload) follows none = absurd follows
+quietly_of unit (Gives_text n payload) follows none = absurd follows
+quietly_of unit (Gives_segment n more payload) follows none = absurd follows
+quietly_of unit event follows none = (tt, tt)
+
+all_quietly : (unit : List ℕ) (left : List HostEvent) → AllByRecursion (MayFollow unit) left → AllByRecursion TellsNoEnd left → AllByRecursion IsQuietly left
+all_quietly unit [] follow none = tt
+all_quietly unit (event ∷ left) follow none = (quietly_of unit event follow.0 none.0, all_quietly unit left follow.1 none.1)
+
+not_of_request : (event : HostEvent) → IsOfRequest event → TellsNoEnd event → ⊥
+not_of_request (Requests_do event moment) requests none = none
+not_of_request event requests none = requests
+
+none_requests : (left : List HostEvent) → AllByRecursion IsOfRequest left → AllByRecursion TellsNoEnd left → AllByRecursion IsQuietly left
+none_requests [] requests none = tt
+none_requests (event ∷ left) requests none = absurd (not_of_request event requests.0 none.0)
+
+behind_quietly : (left : List HostEvent) (past : List Entry) (m : HostMachine) → KnowsJudged (Behind left) past m → AllByRecursion TellsNoEnd left → AllByRecursion IsQuietly left
+behind_quietly left past m (frames, inl behind) none =
+    let unit : List ℕ = unit_text (Framed behind.frame.frame) in
+    all_quietly unit left (all-right (MayFollow unit) behind.frame.gone left (frame_all behind.frame.first behind.frame.frame (behind.frame.gone ++ left) behind.frame.followed)) none
+behind_quietly left past m (frames, inr (requests, settled)) none = none_requests left requests none
+
+beside_all : (h : HostState) (left : List HostEvent) → AllByRecursion IsQuietly left → doing_of (after_all h left) ≡ doing_of h
+beside_all h [] all = refl
+beside_all h (event ∷ left) all = beside_all (after h event) left all.1 ∙ beside_same h event all.0.0
+
+-- which task a purpose that tells is
+nobody_by : (p : Purpose) → ((n : ℕ) → p ≡ Housekeeping (NoMore n) → ⊥) → nodes_of p ≡ []
+nobody_by (Housekeeping (NoMore n)) none = absurd (none n refl)
+nobody_by (Housekeeping task) none = refl
+nobody_by (Attempt n more payload) none = refl
+nobody_by Abort none = refl
+
+-- an interview that ends well ends no request that tells
+untold_update : (first : Option ℕ) (update : Update) (u : UnderWay) (n capability : ℕ) → u.purpose ≡ Housekeeping (NoMore n) → interviewed_from first update (Some u) ≡ Some capability → ⊥
+untold_update first RequestFailed u n capability is brought = let bad = brought in cc
+untold_update first (Received from basic generic specific classes) u n capability is brought =
+    let none : (if purpose_ends_at_update (Received from basic generic specific classes) u.purpose then first else None) ≡ None
+    = ap (λ (p : Purpose). if purpose_ends_at_update (Received from basic generic specific classes) p then first else None) is in
+    let bad : None ≡ Some capability = sym none ∙ brought in cc
+
+-- the frame of one that tells is acknowledged, and it goes on
+sent_goes : (n : ℕ) (progress : Progress) (how : How) → sent_from (Housekeeping (NoMore n)) progress ≡ Ends how → ⊥
+sent_goes n Submitted how is = let bad = is in cc
+sent_goes n (Sent left) how is = let bad = is in cc
+sent_goes n (Answered sent left) how is = let bad = is in cc
+
+sent_ends_none : (u : UnderWay) (n : ℕ) (how : How) → u.purpose ≡ Housekeeping (NoMore n) → at_sent u ≡ Ends how → ⊥
+sent_ends_none u n how is ends = sent_goes n u.progress how (subst (λ (p : Purpose). sent_from p u.progress ≡ Ends how) is ends)
+
+given_up_so : (past : List Entry) (now id n : ℕ) (purpose : Purpose) → clock past ≡ now → GivenUp past now id purpose → is_ended_here past ≡ true
+given_up_so past now id n purpose time it =
+    or_right (is_ended_by_frame past || is_silent past) (is_given_up past)
+    (ap (λ (l : List ℕ). list_any (λ tick. tick == clock past) l) it.gives_up ∙ ap (λ (b : Bool). b || false) (eq-eqb now (clock past) (sym time)))
+
+module _ (first : HostEvent) (left : List HostEvent) (past told : List Entry) (m : HostMachine) (ground : KnowsSleep (Behind (first ∷ left)) past m) (none : OwesNone past) (numbered : IsNumbered m told)
+    (are : AreTold (outs m.state first) told) where
+  tie_behind : TieSlept past m.state.requests
+  tie_behind = slept (Behind (first ∷ left)) past m ground tt
+
+  well_behind : UnderWayWell m.state.requests.under_way
+  well_behind = well (Behind (first ∷ left)) past m ground tt
+
+  known_behind : Known past m.state
+  known_behind = known_of (Behind (first ∷ left)) past m ground tt
+
+  time_behind : (e : Entry) (more : List Entry) → told ≡ e ∷ more → clock past ≡ m.clock
+  time_behind e more is = time_told (Behind (first ∷ left)) past told m (requested (Behind (first ∷ left)) past m ground) numbered e more is
+
+  told_at_first : (event : HostEvent) → first ≡ event → AreTold (outs m.state event) told
+  told_at_first event is = subst (λ (e : HostEvent). AreTold (outs m.state e) told) is are
+
+  -- nothing of a request
+  apart_go : AllByRecursion TellsNoEnd (first ∷ left) → Goes past told
+  apart_go all =
+      let quietly = behind_quietly (first ∷ left) past m (requested (Behind (first ∷ left)) past m ground).0.0.1 all in
+      let tie : TieAsked past m.clock m.clock m.came (doing_of m.state) =
+      subst (TieAsked past m.clock m.clock m.came) (beside_all m.state (first ∷ left) quietly) (asks_of (Behind (first ∷ left)) past m ground) in
+      else_go past told m.state first quietly.0.1 are
+      (quiet_by past m.state.requests tie_behind none (λ u is. inl (ends_none past (unended_by past m.clock m.clock m.came (doing_of m.state) u is tie)))) none
+
+  abbrev ByEvent : (UnderWay → Next) → Type 0
+  ByEvent next = EndsFrom past m.state.requests.last_id next m.state.requests.under_way
+
+  ends_by : (next : UnderWay → Next) → ByEvent next → EndsSo past told m.state tie_behind well_behind none next
+  ends_by next ends u how under same n purpose e more told_is =
+      as_told past m.state.requests.last_id n how u.purpose purpose
+      (subst (EndsBy past m.state.requests.last_id u) same (subst (EndsFrom past m.state.requests.last_id next) under ends))
+
+  responds_go : (r : Response) → first ≡ Requests_do (Responds r) BetweenTicks → ByEvent (at_response r) → Goes past told
+  responds_go r is ends =
+      end_go past told m.state tie_behind well_behind none (requests_do m.state (Responds r)) (requests_known past m.state _ known_behind) (at_response r) (ends_by (at_response r) ends)
+      m.state.requests.under_way refl (noted_told (request_entries m.state (Responds r)) told (told_at_first (Requests_do (Responds r) BetweenTicks) is))
+
+  calls_go : (id : ℕ) (status : TransmitStatus) → first ≡ Requests_do (CallsBack id status) BetweenTicks → ByEvent (at_callback m.state.requests.last_id id status) → Goes past told
+  calls_go id status is ends =
+      end_go past told m.state tie_behind well_behind none (requests_do m.state (CallsBack id status)) (requests_known past m.state _ known_behind) (at_callback m.state.requests.last_id id status)
+      (ends_by (at_callback m.state.requests.last_id id status) ends) m.state.requests.under_way refl
+      (noted_told (request_entries m.state (CallsBack id status)) told (told_at_first (Requests_do (CallsBack id status) BetweenTicks) is))
+
+  updates_go : (update : Update) → first ≡ Requests_do (Updates update) BetweenTicks → ByEvent (at_update m.state.requests.first update) → Goes past told
+  updates_go update is ends =
+      end_go past told m.state tie_behind well_behind none (requests_do m.state (Updates update)) (requests_known past m.state _ known_behind) (at_update m.state.requests.first update)
+      (ends_by (at_update m.state.requests.first update) ends) m.state.requests.under_way refl
+      (noted_told (request_entries m.state (Updates update)) told (told_at_first (Requests_do (Updates update) BetweenTicks) is))
+
+  -- an interview ends
+  interview_go : (event : HostEvent) (update : Update) (capability : ℕ) → first ≡ event → TellsNoSleep event → interviewed_by m.state.requests update ≡ Some capability → Goes past told
+  interview_go event update capability is tells brought =
+      else_go past told m.state event tells (told_at_first event is)
+      (quiet_by past m.state.requests tie_behind none (λ u under.
+      inr (tells_so (Behind (first ∷ left)) past m ground tt u under
+      ∙ nobody_by u.purpose (λ n purpose. untold_update m.state.requests.first update u n capability purpose
+      (subst (λ (o : Option UnderWay). interviewed_from m.state.requests.first update o ≡ Some capability) under brought))))) none
+
+  informed_go : (update : Update) (brought : Option ℕ) → interviewed_by m.state.requests update ≡ brought → InterviewEvents update brought (first ∷ left) → ByEvent (at_update m.state.requests.first update)
+      → Goes past told
+  informed_go (Received n basic generic specific classes) (Some capability) is (inl these) ends =
+      interview_go _ (Received n basic generic specific classes) capability (first_same first _ left [] these) tt is
+  informed_go (Received n basic generic specific classes) (Some capability) is (inr these) ends =
+      interview_go _ (Received n basic generic specific classes) capability (first_same first _ left [] these) tt is
+  informed_go RequestFailed (Some capability) is these ends = absurd (let bad : first ∷ left ≡ [] = these in cc)
+  informed_go (Received n basic generic specific classes) None is these ends = updates_go (Received n basic generic specific classes) (first_same first _ left [] these) ends
+  informed_go RequestFailed None is these ends = updates_go RequestFailed (first_same first _ left [] these) ends
+
+  framed_go : (event : RequestsEvent) → AreToldOf m.state event (first ∷ left) → EndsFrom past m.state.requests.last_id (next_at m.state.requests event) m.state.requests.under_way → Goes past told
+  framed_go (Responds r) these ends = responds_go r (first_same first _ left [] these) ends
+  framed_go (CallsBack id status) these ends = calls_go id status (first_same first _ left [] these) ends
+  framed_go (Updates update) these ends = informed_go update (interviewed_by m.state.requests update) refl these ends
+  framed_go event these ends = absurd these
+
+  -- the line tells
+  fails_so : (o : Option UnderWay) → m.state.requests.under_way ≡ o → LineEnds past m.clock m.state.requests.last_id Fails o → EndsSo past told m.state tie_behind well_behind none (λ u. Ends LinkFailed)
+  fails_so None is ends u how under same n purpose e more told_is = absurd (let bad : None ≡ Some u = sym is ∙ under in cc)
+  fails_so (Some v) is ends u how under same n purpose e more told_is = given_up_so past m.clock m.state.requests.last_id n v.purpose (time_behind e more told_is) ends
+
+  lined_go : (event : RequestsEvent) → first ∷ left ≡ told_requests event → LineEnds past m.clock m.state.requests.last_id event m.state.requests.under_way → Goes past told
+  lined_go IsSent these ends =
+      end_go past told m.state tie_behind well_behind none (requests_do m.state IsSent) (requests_known past m.state _ known_behind) at_sent
+      (λ u how under same n purpose e more told_is. absurd (sent_ends_none u n how purpose same)) m.state.requests.under_way refl
+      (noted_told (request_entries m.state IsSent) told (told_at_first (Requests_do IsSent BetweenTicks) (first_same first _ left [] these)))
+  lined_go Fails these ends =
+      end_go past told m.state tie_behind well_behind none (requests_do m.state Fails) (requests_known past m.state _ known_behind) (λ u. Ends LinkFailed)
+      (fails_so m.state.requests.under_way refl ends) m.state.requests.under_way refl
+      (noted_told (request_entries m.state Fails) told (told_at_first (Requests_do Fails BetweenTicks) (first_same first _ left [] these)))
+  lined_go event these ends = absurd ends
+
+  behind_go : KnowsEnds (Behind (first ∷ left)) past m → Goes past told
+  behind_go (inl (all, owes)) = apart_go all
+  behind_go (inr (inl by_frame)) = framed_go by_frame.event by_frame.told by_frame.ends
+  behind_go (inr (inr by_line)) = lined_go by_line.event by_line.told by_line.ends
+
+-- ---- in a pump
+
+sleeper_quiet : (full : Bool) (n : ℕ) → TellsNoSleep (if full then Drops_no_more n else Queues_no_more n)
+sleeper_quiet true n = tt
+sleeper_quiet false n = tt
+
+begins_quiet : (event : HostEvent) → IsSubmission event → Unsubmitted event → TellsNoSleep event
+begins_quiet (Begins n session command) sub un = tt
+begins_quiet (Begin_unkept n) sub un = tt
+begins_quiet Submits_abort sub un = absurd un
+begins_quiet Submits_front sub un = absurd un
+begins_quiet (Starts n plan more payload) sub un = absurd un
+begins_quiet (Gives_text n payload) sub un = absurd un
+begins_quiet (Gives_segment n more payload) sub un = absurd un
+begins_quiet event sub un = absurd sub
+
+submit_go : (past told : List Entry) (m : HostMachine) (event : HostEvent) → IsSubmission event → AreTold (outs m.state event) told → KnowsSleep Submitting past m → OwesNone past
+    → Wrote Submitting past told m.state event → Goes past told
+submit_go past told m event sub are ground none (Quietly un quiet) = else_go past told m.state event (begins_quiet event sub un) are (quiet_else Submitting past m tt ground none) none
+submit_go past told m event sub are ground none (Again f rest un is old quiet) = else_go past told m.state event (begins_quiet event sub un) are (quiet_else Submitting past m tt ground none) none
+submit_go past told m event sub are ground none (Anew purpose f marks here_is free is new all now) =
+    let e : Entry = entry.Written Host (unit_text (Framed f)) in
+    let still = still_none past (now_at past e) m.state.requests (slept Submitting past m ground tt)
+    (λ u under. absurd (let idle = free.none_under_way in let bad : None ≡ Some u = sym idle ∙ under in cc)) in
+    subst (Goes past) (sym is)
+    (first_go past e marks (may_stand past e (quiet_else Submitting past m tt ground none) (and_right (moves_on past e) (is_still_awake past (now_at past e)) still))
+    (one_rested past e (λ b. refl) refl) (all-weaker IsOfUnit IsStill mark_still marks all))
+
+-- ---- each step
+
+does_sleep : (here next : Phase) (past told : List Entry) (m : HostMachine) (event : HostEvent) → May here m (Does event told) next → KnowsSleep here past m → OwesNone past → Goes past told
+does_sleep (Ticking (first ∷ left)) next past told m event may ground none = tick_go first left past told m ground none may.3 event may.0.0 may.2 (asks_of (Ticking (first ∷ left)) past m ground)
+does_sleep (Behind (first ∷ left)) next past told m event may ground none =
+    behind_go first left past told m ground none may.3 (subst (λ (e : HostEvent). AreTold (outs m.state e) told) may.0.0 may.2) ground.0.1
+does_sleep Sleeping next past told m event may ground none =
+    let (node, wants, is, to_is) = may.0 in
+    else_go past told m.state event (subst TellsNoSleep (sym is) (sleeper_quiet (is_full m.state) node)) may.2 (quiet_else Sleeping past m tt ground none) none
+does_sleep Submitting next past told m event may ground none =
+    submit_go past told m event (next_is IsSubmission submissions m.state event may.0.0) may.2 ground none
+    (writes Submitting next past told m event may (requested Submitting past m ground) (asks_of Submitting past m ground))
+does_sleep here next past told m event may ground none = absurd may.0
+
+others_plain : (e : Entry) → IsOfOthers e → IsPlain e
+others_plain (entry.Air frame sender receiver repeaters payload) others = (tt, λ b. refl)
+others_plain (entry.Heard frame) others = (tt, λ b. refl)
+others_plain (entry.Lost frame) others = (tt, λ b. refl)
+others_plain (entry.Unheard frame) others = (tt, λ b. refl)
+others_plain (entry.Dev node by setting) others = (tt, λ b. refl)
+others_plain (entry.Device node setting) others = (tt, λ b. refl)
+others_plain (entry.Forget first second) others = (tt, λ b. refl)
+others_plain entry.ChipFull others = (tt, λ b. refl)
+others_plain (entry.Cleared side count) others = (tt, λ b. refl)
+others_plain e others = absurd others
+
+missed_plain : (text : List ℕ) (marks : List Entry) → DidNotCome marks → ArePlain (entry.Written Chip text ∷ marks)
+missed_plain text (entry.Dropped Chip ∷ []) did = ((tt, λ b. refl), ((tt, λ b. refl), tt))
+missed_plain text (entry.Overrun Chip ∷ []) did = ((tt, λ b. refl), ((tt, λ b. refl), tt))
+missed_plain text (entry.Garbled Chip unit ∷ []) did = ((tt, λ b. refl), ((tt, λ b. refl), tt))
+missed_plain text (entry.Garbled Chip unit ∷ entry.Overrun Chip ∷ []) did = ((tt, λ b. refl), ((tt, λ b. refl), ((tt, λ b. refl), tt)))
+missed_plain text marks did = absurd did
+
+answers_plain : (h : HostState) (event : HostEvent) → ArePlain (answers h event)
+answers_plain h (Accepts order carriage) = ((tt, λ b. refl), tt)
+answers_plain h (Cancels command) = ((tt, λ b. refl), tt)
+answers_plain h event = tt
+
+step_sleep : (here next : Phase) (past : List Entry) (m : HostMachine) (one : Step) → May here m one next → KnowsSleep here past m → OwesNone past → Goes past (entries m one)
+step_sleep here next past m (Tells e) may ground none = plain_go past (e ∷ []) (others_plain e may.1, tt) (quiet_else here past m (between_elsewhere here may.0) ground none) none
+step_sleep here next past m (Comes unit) may ground none =
+    plain_go past (entries m (Comes unit)) ((tt, λ b. refl), tt) (quiet_else here past m (between_elsewhere here may.0) ground none) none
+step_sleep here next past m (Misses text marks) may ground none =
+    plain_go past (entry.Written Chip text ∷ marks) (missed_plain text marks may.1) (quiet_else here past m (between_elsewhere here may.0) ground none) none
+step_sleep here next past m (Says words line) may ground none = said_go here past m words may.0 may.1 ground none
+step_sleep here next past m (Says_nothing words) may ground none = said_go here past m words may.0 may.1 ground none
+step_sleep here next past m (Asks event) may ground none = plain_go past (answers m.state event) (answers_plain m.state event) (quiet_asked here may.0 past m may.1 ground none) none
+step_sleep here next past m (Refuses refusal) may ground none = plain_go past (entry.Refused refusal ∷ []) ((tt, λ b. refl), tt) (quiet_asked here may.0 past m may.1 ground none) none
+step_sleep here next past m (Shows node) may ground none = plain_go past (shown_values m.state node ∷ []) ((tt, λ b. refl), tt) (quiet_asked here _ past m may.0 ground none) none
+step_sleep here next past m (Restarts state) may ground none = nothing_go past [] refl none
+step_sleep here next past m (Begins_tick left) may ground none = nothing_go past [] refl none
+step_sleep here next past m Numbers may ground none = number_go here past m may.0 ground none
+step_sleep here next past m (Judges item rest behind told) may ground none =
+    judges_go past m item rest behind told may.1 (subst (λ (p : Phase). KnowsSleep p past m) may.0 ground) none
+step_sleep here next past m (Does event told) may ground none = does_sleep here next past told m event may ground none
+
+pub sleep_walk : (First : List Entry → Entry → Type 0) → WalkOver KnowsSleep First (Allows may_sleep) KnowsSlept
+sleep_walk First = record {
+  step = λ here next past m one may ground stand known. step_sleep here next past m one may ground known;
+  turn = λ here next past m turns ground known. known;
+}
+
+pub first_sleep : OwesNone []
+first_sleep = (λ directly. absurd (let bad : false ≡ true = directly in cc), refl)
+
+-- at rest, with no tick of the line to come, no node owes its sleep
+pub rests_asleep : (past : List Entry) (m : HostMachine) → m.left ≡ 0 → KnowsSleep Resting past m → OwesNone past → owes_no_sleep past (entry.Said []) ≡ true
+rests_asleep past m left ground none =
+    let time = (work_of Resting past m ground).0.0.1 in
+    let now : now_at past (entry.Said []) ≡ m.clock = let all = time.asked in omega (arith, all, left) in
+    let still = still_none past m.clock m.state.requests (slept Resting past m ground tt)
+    (unended_at past m.clock m.came m.state (requested Resting past m ground).0.1 (asks_of Resting past m ground)) in
+    and_from (not (owes_sleep past)) (not (is_still_awake past (now_at past (entry.Said [])))) (ap not (quiet_else Resting past m tt ground none))
+    (ap not (ap (λ (n : ℕ). is_still_awake past n) now ∙ still))

@@ -16,6 +16,7 @@
 
 mod holds;
 mod series;
+mod sleep;
 mod waking;
 mod work;
 
@@ -24,6 +25,7 @@ pub use series::{
     hosts_run_series_as_told, hosts_show_open_sessions, series_go_with_nodes, series_go_with_ticks,
     series_grow_by_entries,
 };
+pub use sleep::{hosts_fall_asleep_as_told, hosts_tell_of_sleep, lines_fall_asleep_as_told};
 pub use waking::{hosts_count_awake, hosts_hold_as_told};
 pub use work::{
     hosts_know_their_work, hosts_tell_those_that_wait_for_nothing, hosts_work_in_order,

@@ -41,7 +41,7 @@ use Rattle.proof_walk.specs.Phases.{Phase, Between, Said_line, Begun, Doing, To_
 use Rattle.proof_walk.specs.Time.{KnowTime, MayCount}
 use Rattle.proof_walk.specs.Walk.{Walk, WalkWhere}
 use Rattle.proof_line.specs.Links.{AtLine, KeepsSoFar, KnowsSide, LinkNow, MayEndNow, due_from, most_of}
-use Rattle.proof_line.specs.Linked.{Anything, Cuts, IsOrderly, KnowAll, KnowCuts, KnowLinks, KnowsBoth, LinksBegun, LinksDone, LinksLeft, HaveTickedOnce, InTick, Round}
+use Rattle.proof_line.specs.Linked.{Anything, ArePartsOf, Cuts, IsOrderly, KnowAll, KnowCuts, KnowLinks, KnowsBoth, LinksBegun, LinksDone, LinksLeft, HaveTickedOnce, InTick, Round}
 use Rattle.proof_line.proofs.LinkKnown.{no_steps}
 use Rattle.proof_line.proofs.LinkTold.{brings_none}
 use Rattle.proof_line.proofs.ChipAccounts.{event_steps, outer_steps}
@@ -52,7 +52,7 @@ use Rattle.proof_line.proofs.LinkBegins.{begins_line}
 use Rattle.proof_line.proofs.LinkEffects.{effect_plain}
 use Rattle.proof_line.proofs.LinkPlain.{plain_done, plain_goes, then_more}
 use Rattle.proof_line.proofs.LinkRestarts.{restart_done, restart_goes}
-use Rattle.proof_line.proofs.LinkOnes.{collide_goes, due_is, ended_cuts, one_done, stall_goes, ticks_begun, words_cut}
+use Rattle.proof_line.proofs.LinkOnes.{collide_goes, due_is, ended_cuts, ended_parts as parts_ended, one_done, stall_goes, ticks_begun, words_cut}
 
 -- ---- all entries may stand
 
@@ -81,6 +81,11 @@ said_knows past m words line read time (cuts, (is_tick, (up, down, both, may))) 
 -- at the end of a whole run
 pub ended_known : {did : List Step} (past : List Entry) (m : Machine) → KnowTime Between past m → KnowCuts did Between past m → Cuts did (past ++ Said [] ∷ [])
 ended_known past m time (cuts, (is_tick, (up, down, both, may))) = ended_cuts past m is_tick up down both may (due_now past m time)
+
+pub ended_parts : {did : List Step} (past : List Entry) (m : Machine) (time : KnowTime Between past m) (known : KnowCuts did Between past m)
+    → ArePartsOf did (ended_known past m time known).links.chip.parts
+unfolding ended_known
+ended_parts past m time (cuts, (is_tick, (up, down, both, may))) = parts_ended past m is_tick up down both may (due_now past m time)
 
 -- ---- phases
 

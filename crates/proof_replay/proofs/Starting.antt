@@ -103,8 +103,13 @@ kept_as_told keys whole heard told held agrees laws = record {
   at_once = laws.at_once;
   in_turn = laws.in_turn;
   wakes = laws.wakes;
+  sleeps = laws.sleeps;
   holds = laws.holds;
   questions = laws.questions;
+  interviews = laws.interviews;
+  says_done = laws.says_done;
+  one_by_one = laws.one_by_one;
+  numbered = laws.numbered;
   ticks = laws.ticks;
   sends = laws.sends;
 }

@@ -1,5 +1,5 @@
 -- What a host keeps true over all that it heard, whatever that was (this project's own rule).
-use Rattle.std.specs.Prelude.{◌≡◌, ℕ, Bool, true, List, [], ◌++◌, Option, Some, IfSome}
+use Rattle.std.specs.Prelude.{◌≡◌, ℕ, Bool, true, false, List, [], ◌++◌, Option, Some, IfSome}
 use Rattle.zw_words.specs.declared.side.Side.TheVariants.{Host}
 use Rattle.zw_text.specs.declared.line.ReplayLine.{ReplayLine}
 use Rattle.zw_text.specs.declared.entry.Entry.{Entry}
@@ -15,11 +15,14 @@ use Rattle.law_transcript.specs.Sessions.{MayBegin}
 use Rattle.law_transcript.specs.Stores.{StoresConfirmed}
 use Rattle.proof_requests.specs.law_host.Heard.{listing_heard}
 use Rattle.proof_requests.specs.law_host.HostLegal.{ShowsValues}
+use Rattle.law_time.specs.Choice.{NumbersCallbacks, SendsOneByOne}
+use Rattle.law_time.specs.Errands.{SaysHowDone}
 use Rattle.law_wire.specs.Links.{KeepsLink}
 use Rattle.law_wire.specs.Serial.{ended}
 use Rattle.law_time.specs.Holds.{HoldsAsAsked}
+use Rattle.law_time.specs.Interviews.{EndsInterviews}
 use Rattle.law_time.specs.Questions.{AnswersQuestions}
-use Rattle.law_time.specs.Waking.{WakesAsTold}
+use Rattle.law_time.specs.Waking.{FallsAsleep, WakesAsTold}
 use Rattle.run_lines.specs.Lines.{TextLine}
 use Rattle.run_replay.specs.Machine.{Lone}
 use Rattle.proof_host.specs.Laws.{HostLaws}
@@ -36,8 +39,11 @@ use Rattle.proof_replay.specs.Heard.{AreReplayed, AreSaid, Replayed, heard_of, t
 -- A command ends, and values, old reports and what cannot be read are noted, only where a payload of the node was judged that tells it; what is sealed, in what it opens to.
 -- What cannot be read, a value and that a node is awake are noted at once, where a payload has them first; and all values that are told openly, in order.
 -- A node is taken to be awake where it tells so, and wherever it does.
+-- One that does not listen falls asleep where its third attempt or its No More Information has ended, and wherever one of them has.
 -- It is held awake where the report that ends its session may ask so, and wherever it does.
 -- The answers to questions stand where the first response to the last request was judged, and wherever it was.
+-- An interview is said to have succeeded or failed where its request ended so, and wherever a frame ended it; and so it is said how a Set or Get that a line asked for ended.
+-- A request that is new is sent, and a session begins, only where the last request is over; and each message has the callback id after that of the last one.
 -- The number of a tick is above those before it, and lines have asked for so many ticks.
 -- Each payload that it asks its chip to send is a message of the last session of its node, by what the node listed, a nonce or a question for one, lets the node sleep, or was
 -- asked for by a line; where its keys are those of a network key, by what nodes told openly or sealed with that key.
@@ -49,8 +55,13 @@ pub record HostsKeepLaws (keys : Keys) (whole : Bool) (heard : List Entry) (reco
   pub at_once : NotesAtOnce whole heard
   pub in_turn : NotesInTurn whole heard
   pub wakes : WakesAsTold heard
+  pub sleeps : FallsAsleep false heard
   pub holds : HoldsAsAsked heard
   pub questions : AnswersQuestions heard
+  pub interviews : EndsInterviews heard
+  pub says_done : (key : List ℕ) → keys ≡ keys_of key → SaysHowDone listing_heard heard
+  pub one_by_one : SendsOneByOne heard
+  pub numbered : NumbersCallbacks heard
   pub ticks : EachAfter MayCount [] heard
   pub sends : (key : List ℕ) → keys ≡ keys_of key → SendsWhatIsDue listing_heard key heard
 

@@ -34,8 +34,13 @@ returns c = λ keys whole here heard m run rests fine. record {
       by_whole (λ (b : Bool) (l : List Entry). NotesInTurn b l) (first_alone keys (Some [])) (c.hosts_note_values_in_turn.ensures.whole keys (Some []))
       (c.hosts_note_values_in_turn.ensures.told keys (Some [])) whole here heard m run rests;
   wakes = c.hosts_wake_as_told.ensures keys (Some []) heard (here, m, run);
+  sleeps = c.hosts_fall_asleep_as_told.ensures.told keys heard (here, m, run);
   holds = c.hosts_hold_as_asked.ensures keys heard (here, m, run);
   questions = c.hosts_answer_questions.ensures keys heard (here, m, run);
+  interviews = c.hosts_end_interviews.ensures keys heard (here, m, run);
+  says_done = λ key same. c.hosts_say_how_done.ensures key heard (subst (λ (k : Keys). Told (first_alone k (Some [])) heard) (same ∙ same_keys key) (here, m, run));
+  one_by_one = (c.hosts_ask_one_by_one.ensures keys heard (here, m, run)).0;
+  numbered = (c.hosts_ask_one_by_one.ensures keys heard (here, m, run)).1;
   ticks = c.hosts_tell_time.ensures.counts keys (Some []) heard (here, m, run);
   sends = λ key same. c.hosts_send_what_is_due.ensures.told key heard (subst (λ (k : Keys). Told (first_alone k (Some [])) heard) (same ∙ same_keys key) (here, m, run));
 }
