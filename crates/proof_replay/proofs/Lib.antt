@@ -5,5 +5,6 @@ mod Replaying
 mod Ran
 mod Serving
 mod Words
+mod From
 mod Starting
 mod Orderly

@@ -30,7 +30,7 @@ use Rattle.proof_requests.specs.proof_alone.Runs.{Run}
 use Rattle.proof_asking.specs.proof_known.Known.{AreSaidToHost}
 use Rattle.proof_replay.specs.Heard.{came_of}
 use Rattle.proof_replay.specs.Linked.{LineRests}
-use Rattle.proof_replay.specs.Laws.{HostsKeepLaws}
+use Rattle.proof_replay.specs.Laws.{HostsKeepLaws, KeepsFrom}
 
 -- ---- words
 
@@ -140,11 +140,12 @@ pub record HaveHeard (keys : Keys) (number : ℕ) (told : Option (List (List ℕ
   pub holds : Holds number told held
   pub said : AreSaidToHost past
 
--- From its start a host did these steps and heard this, and over what hosts have heard by now these laws hold, and their links kept the rules. Where it came to rest, and its keeper tells
--- its records, hosts have heard all that when the next one starts.
+-- From its start a host did these steps and heard this, and over what hosts have heard by now these laws hold, and their links kept the rules. What it heard itself keeps laws
+-- from what stood before, up to its start. Where it came to rest, and its keeper tells its records, hosts have heard all that when the next one starts.
 pub record HearsMore (keys : Keys) (past : List Entry) (clock : ℕ) (whole : Bool) (steps : List Step) (old new : Place) : Type 0 where
   pub heard : List Entry
   pub hears : HearsRun clock steps old new heard
   pub keeps : HostsKeepLaws keys whole (past ++ Said restart_word ∷ heard) new.shelf.records
   pub link : KeepsLink Host (ended whole (past ++ Said restart_word ∷ heard))
+  pub from : KeepsFrom keys (past ++ Said restart_word ∷ []) whole heard new.shelf.records
   pub next : whole ≡ true → (many : ℕ) → IsSome new.shelf.records → HaveHeard keys many new.shelf.records (past ++ Said restart_word ∷ heard)

@@ -1,14 +1,20 @@
 -- What a host keeps true over all that it heard, whatever that was (this project's own rule).
-use Rattle.std.specs.Prelude.{◌≡◌, ℕ, Bool, true, false, List, [], Option, Some}
+use Rattle.std.specs.Prelude.{◌≡◌, ℕ, Bool, true, false, List, [], ◌++◌, Option, Some, IfSome}
 use Rattle.zw_words.specs.declared.side.Side.TheVariants.{Host}
 use Rattle.zw_text.specs.declared.line.ReplayLine.{ReplayLine}
 use Rattle.zw_text.specs.declared.entry.Entry.{Entry}
 use Rattle.s0_crypto.specs.declared.key_pair.Keys.{Keys}
 use Rattle.host_core.specs.Network.{keys_of}
 use Rattle.host_keep.specs.Keeping.{OptAdds}
+use Rattle.law_transcript.specs.Answers.{AnswersAfter, MayCancel, refusals_by_host}
 use Rattle.law_transcript.specs.Lists.{EachAfter}
-use Rattle.law_transcript.specs.Payloads.{BeginsWithUnit, SendsWhatIsDue}
+use Rattle.law_transcript.specs.Once.{CarriesOnce}
+use Rattle.law_transcript.specs.Payloads.{BeginsWithUnit, MayRequest, SendsWhatIsDue}
+use Rattle.law_transcript.specs.Records.{KeepsRecords}
+use Rattle.law_transcript.specs.Sessions.{MayBegin}
+use Rattle.law_transcript.specs.Stores.{StoresConfirmed}
 use Rattle.proof_requests.specs.law_host.Heard.{listing_heard}
+use Rattle.proof_requests.specs.law_host.HostLegal.{ShowsValues}
 use Rattle.law_time.specs.Choice.{NumbersCallbacks, SendsOneByOne}
 use Rattle.law_time.specs.Errands.{SaysHowDone}
 use Rattle.law_wire.specs.Links.{KeepsLink}
@@ -60,6 +66,18 @@ pub record HostsKeepLaws (keys : Keys) (whole : Bool) (heard : List Entry) (reco
   pub begins : BeginsWithUnit (ended whole heard)
   pub ticks : EachAfter MayCount [] heard
   pub sends : (key : List ℕ) → keys ≡ keys_of key → SendsWhatIsDue listing_heard key heard
+
+-- Of a host that starts with records, after what stood before: the fields of `IsHostLegal` that are proved of it, but for its link, whose rules are kept over all that
+-- stood. It goes by what nodes listed in their interviews, and by the whole of what it heard; where its keys are those of a network key, this key.
+pub record KeepsFrom (keys : Keys) (before : List Entry) (whole : Bool) (heard : List Entry) (records : Option (List (List ℕ))) : Type 0 where
+  pub answers : AnswersAfter before whole listing_heard (refusals_by_host listing_heard) heard
+  pub cancels : EachAfter MayCancel before heard
+  pub sessions : EachAfter MayBegin before heard
+  pub carries : (node : ℕ) → CarriesOnce node (before ++ heard)
+  pub stores : StoresConfirmed whole listing_heard (before ++ heard)
+  pub values : EachAfter (ShowsValues listing_heard) before (ended whole heard)
+  pub sends : (key : List ℕ) → keys ≡ keys_of key → EachAfter (MayRequest listing_heard key) before heard
+  pub records_kept : whole ≡ true → IfSome records (KeepsRecords (before ++ heard))
 
 -- A run of a host alone that began without records tells this, and ends at rest; none of its lines is for others; and the keeper holds what it held and the records
 -- of that run, where it tells them. The host's link kept the rules of the line.
