@@ -18,3 +18,12 @@ pub mod Links
 pub mod Ending
 pub mod Payloads
 pub mod Sending
+pub mod Awaiting
+pub mod Said
+pub mod Counting
+pub mod Routed
+pub mod Judging
+pub mod Pending
+pub mod Requested
+pub mod Begun
+pub mod Tying

@@ -19,6 +19,7 @@ mod members;
 mod passes;
 mod resting;
 mod taking;
+mod tied;
 mod under_way;
 
 pub use calls::the_chip_sends_one;
@@ -27,4 +28,5 @@ pub use members::quiet_lines_leave_the_network;
 pub use passes::each_pass_brings_a_frame;
 pub use resting::the_line_rests;
 pub use taking::the_chip_takes_payloads;
+pub use tied::requests_stay_tied;
 pub use under_way::calls_end_requests;

@@ -1,9 +1,9 @@
 -- What devices and the air do puts no frame of the controller on the air, since node 1 has not joined; so what is known of the law of what goes on the air goes on.
-use Rattle.std.proofs.Common.{◌≡◌, ℕ, zero, suc, ◌+◌, ◌-◌, ◌==◌, ◌&&◌, nat_le, Bool, true, false, if◌then◌else◌, inl, inr, List, [], ◌∷◌, ◌++◌, length, refl, sym, ap, ◌∙◌, subst, append-nil, append_assoc, eqb-true}
+use Rattle.std.proofs.Common.{◌≡◌, ℕ, zero, suc, ◌+◌, ◌-◌, ◌==◌, ◌&&◌, nat_le, Bool, true, false, if◌then◌else◌, inl, inr, List, [], ◌∷◌, ◌++◌, length, refl, sym, ap, ◌∙◌, subst, append-nil, append_assoc}
 use Rattle.std.proofs.lemmas.Bool.{leb-true}
 use Rattle.std.specs.Prelude.{Option, Some, None, option_map, slice_get, slice_set}
-use Rattle.std.specs.List.{AllByRecursion, flat_map}
-use Rattle.zw_base.proofs.Each.{all-append, all-weaker}
+use Rattle.std.specs.List.{AllByRecursion}
+use Rattle.zw_base.proofs.Each.{all-append}
 use Rattle.serial_link.specs.Rules.{Step}
 use Rattle.chip_sim.specs.Events.{Heard as chip_hears, collides}
 use Rattle.route_table.specs.declared.route.Route.{Route}
@@ -28,10 +28,9 @@ use Rattle.law_transcript.specs.Nodes.{controller}
 use Rattle.law_wire.specs.Asked.{Sending}
 use Rattle.outside_model.specs.State.{OuterState, Outcome, Outside, outside, each, silent}
 use Rattle.outside_model.specs.Chip.{chip_does}
-use Rattle.outside_model.specs.Air.{deals, sent_entries}
-use Rattle.outside_model.specs.Devices.{acts, changes_entries, new_changes}
+use Rattle.outside_model.specs.Air.{deals}
+use Rattle.outside_model.specs.Devices.{acts}
 use Rattle.outside_model.specs.Events.{mesh_of, steps}
-use Rattle.proof_device.proofs.Entered.{IsChange, changes_entered}
 use Rattle.proof_air.specs.proof_walk.Outside.{Comes, IsHearing}
 use Rattle.proof_air.specs.Carrying.{IsHome}
 use Rattle.proof_air.proofs.Judging.{both_true}
@@ -39,39 +38,11 @@ use Rattle.proof_line.proofs.ChipAccounts.{all_account, all_results, heard_accou
 use Rattle.proof_chip.specs.Knowing.{AnyEntry}
 use Rattle.proof_chip.specs.Sending.{AirSo, ComingSo, KnowsAir}
 use Rattle.proof_chip.proofs.Bringing.{some_heard}
-use Rattle.proof_chip.proofs.Going.{AreApart, IsApart, IsNotOwn, account_goes, apart_goes, change_apart, chip_so, deals_other, heard_so, less_so}
+use Rattle.proof_chip.proofs.Asides.{NotHome, at_apart, other_node}
+use Rattle.proof_chip.proofs.Going.{IsNotOwn, account_goes, apart_goes, apart_weaker, chip_so, deals_other, heard_so, less_so}
 use Rattle.proof_chip.proofs.Homing.{IsBrought}
 use Rattle.proof_chip.proofs.Quieting.{IsUnanswered}
 use Rattle.proof_chip.proofs.Passing.{IsOther}
-
--- the controller has not joined the air
-abbrev pub NotHome : AirState → Type 0
-NotHome air = is_joined air controller ≡ false
-
-other_node : (air : AirState) (node : ℕ) → NotHome air → is_joined air node ≡ true → (node == controller) ≡ false
-other_node air node home joins = by (node == controller) refl
-  where
-    by : (b : Bool) → (node == controller) ≡ b → b ≡ false
-    by false is = refl
-    by true is = let both : false ≡ true = sym home ∙ ap (λ (n : ℕ). is_joined air n) (sym (eqb-true node controller is)) ∙ joins in cc
-
--- ---- devices
-
-answers_apart : (air : AirState) (node : ℕ) (way : Option Route) (replies : List (List ℕ)) → (node == controller) ≡ false → AreApart (flat_map sent_entries (answers air node way replies))
-answers_apart air node way [] other = tt
-answers_apart air node way (reply ∷ replies) other = ((tt, other), answers_apart (departing air node Homeward way reply) node way replies other)
-
-sends_apart : (joined : Bool) (air : AirState) (node : ℕ) (way : Option Route) (replies : List (List ℕ)) → (joined ≡ true → (node == controller) ≡ false)
-    → AreApart (flat_map sent_entries (answers_if joined air node way replies))
-sends_apart true air node way replies other = answers_apart air node way replies (other refl)
-sends_apart false air node way replies other = tt
-
-acts_apart : (o : OuterState) (device : State) (event : DeviceEvent) (route : Option Route) → NotHome o.air → AreApart (acts o device event route).entries
-acts_apart o device event route home =
-    all-append IsApart (changes_entries device.node (new_changes device event))
-    (flat_map sent_entries (answers_if (is_joined o.air device.node) o.air device.node (option_map backwards route) (device_replies device event)))
-    (all-weaker IsChange IsApart change_apart _ (changes_entered device.node (new_changes device event)))
-    (sends_apart (is_joined o.air device.node) o.air device.node (option_map backwards route) (device_replies device event) (other_node o.air device.node home))
 
 -- ---- what the air tells
 
@@ -169,7 +140,7 @@ module _ (devices : List State) (Are : List Sending → Type 0) where
       → Comes AnyEntry (KnowsAir devices Are did) w (acts w.outer device event route) (slice_set w.devices place (device_after device event)) (KnowsAir devices Are did)
   acts_go did w place device event route home =
       apart_goes devices Are did w (outside (acts w.outer device event route).outer (slice_set w.devices place (device_after device event))) (acts w.outer device event route).entries
-      (acts_apart w.outer device event route home) refl
+      (apart_weaker (acts w.outer device event route).entries (at_apart w.outer (Some device) event route home)) refl
 
   abbrev AllGo : List State → List AirEvent → OuterState → List Step → List Entry → Type 0
   AllGo there events o did past =

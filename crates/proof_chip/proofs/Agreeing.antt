@@ -23,7 +23,7 @@ use Rattle.law_wire.specs.Given.{Given, Frame, callback_of, given, given_at, han
 
 -- ---- lists
 
-get_left : {A : Type 0} (xs ys : List A) (at : ℕ) → at < length xs → slice_get (xs ++ ys) at ≡ slice_get xs at
+pub get_left : {A : Type 0} (xs ys : List A) (at : ℕ) → at < length xs → slice_get (xs ++ ys) at ≡ slice_get xs at
 get_left [] ys at below = absurd (omega (arith, below))
 get_left (x ∷ xs) ys zero below = refl
 get_left (x ∷ xs) ys (suc at) below = get_left xs ys at (omega (arith, below))

@@ -106,7 +106,7 @@ module _ (course : Course) where
   none_at past (entry.Written by_host unit) no_ack = refl
   none_at past e no_ack = refl
 
-  none_asked : (told past : List Entry) → AllByRecursion IsNoAck told → shown_after (asked_at course) past told ≡ []
+  pub none_asked : (told past : List Entry) → AllByRecursion IsNoAck told → shown_after (asked_at course) past told ≡ []
   none_asked [] past none = refl
   none_asked (e ∷ told) past none = ap₂ (λ (a b : List Asked). a ++ b) (none_at past e none.0) (none_asked told (past ++ e ∷ []) none.1)
 
@@ -186,7 +186,7 @@ module _ (course : Course) where
       ∙ ap (λ (l : List Asked). sending_after (last_sending course past) l) (append-nil (asked_at course past answer))
 
   -- the requests of the frame that is answered
-  asked_here : (past : List Entry) (f : FrameParts) → slice_get course.passed (acks past) ≡ Some f
+  pub asked_here : (past : List Entry) (f : FrameParts) → slice_get course.passed (acks past) ≡ Some f
       → asked_at course past answer ≡ map (λ (request : Request). record { request = request; past = past }) (listed_of (asked_of f))
   asked_here past f passed =
       ap (λ (o : Option FrameParts). map (λ (request : Request). record { request = request; past = past }) (flat_map requests_of (listed o))) passed

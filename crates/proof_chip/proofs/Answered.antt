@@ -40,41 +40,39 @@ use Rattle.proof_chip.proofs.Replying.{none_filtered, settled_same}
 
 -- ---- entries at which nothing is given
 
--- what the chip puts out, but for the answer to a good frame
+-- neither words of a line, the number of a tick, a fate nor the answer to a good frame
 abbrev pub GivesNone : Entry → Type 0
+GivesNone (entry.Said words) = ⊥
+GivesNone (entry.Time tick) = ⊥
+GivesNone (entry.Heard frame) = ⊥
+GivesNone (entry.Lost frame) = ⊥
+GivesNone (entry.Unheard frame) = ⊥
 GivesNone (entry.Written by_chip unit) = is_ack unit ≡ false
-GivesNone (entry.Dropped side) = Unit {0}
-GivesNone (entry.Garbled side unit) = Unit {0}
-GivesNone (entry.Overrun side) = Unit {0}
-GivesNone (entry.Air frame sender receiver repeaters payload) = Unit {0}
-GivesNone entry.ChipFull = Unit {0}
-GivesNone e = ⊥
+GivesNone e = Unit {0}
 
 still_settled : (past : List Entry) (e : Entry) → GivesNone e → settled_clock (past ++ e ∷ []) ≡ settled_clock past
-still_settled past (entry.Written by_chip unit) none = settled_same past (entry.Written by_chip unit) tt refl (λ all. refl)
-still_settled past (entry.Dropped side) none = settled_same past (entry.Dropped side) tt refl (λ all. refl)
-still_settled past (entry.Garbled side unit) none = settled_same past (entry.Garbled side unit) tt refl (λ all. refl)
-still_settled past (entry.Overrun side) none = settled_same past (entry.Overrun side) tt refl (λ all. refl)
-still_settled past (entry.Air frame sender receiver repeaters payload) none = settled_same past (entry.Air frame sender receiver repeaters payload) tt refl (λ all. refl)
-still_settled past entry.ChipFull none = settled_same past entry.ChipFull tt refl (λ all. refl)
-still_settled past e none = absurd none
+still_settled past (entry.Said words) none = absurd none
+still_settled past (entry.Time tick) none = absurd none
+still_settled past (entry.Heard frame) none = absurd none
+still_settled past (entry.Lost frame) none = absurd none
+still_settled past (entry.Unheard frame) none = absurd none
+still_settled past e none = settled_same past e tt refl (λ all. refl)
 
 module _ (devices : List State) (course : Course) where
   none_due : (past : List Entry) (e : Entry) → GivesNone e → came_due course past e ≡ []
   none_due past e none = none_filtered (settled_clock past) (settled_clock (past ++ e ∷ [])) (still_settled past e none) (asked course past)
 
   none_at : (past : List Entry) (e : Entry) → GivesNone e → given_at devices course past e ≡ []
+  none_at past (entry.Said words) none = absurd none
+  none_at past (entry.Time tick) none = absurd none
+  none_at past (entry.Heard frame) none = absurd none
+  none_at past (entry.Lost frame) none = absurd none
+  none_at past (entry.Unheard frame) none = absurd none
   none_at past (entry.Written by_chip unit) none =
       ap₂ (λ (requests : List Request) (due : List Asked). ((map (λ (response : Response). Frame (response_frame response)) (flat_map (response_to devices course past) requests) ++ [])
       ++ map callback_of (flat_map (aborted_by course past) requests)) ++ flat_map (results_of course past (entry.Written by_chip unit)) due)
       (ap (λ (b : Bool). if b then flat_map requests_of (listed (slice_get course.passed (acks past))) else []) none) (none_due past (entry.Written by_chip unit) none)
-  none_at past (entry.Dropped side) none = ap (λ (due : List Asked). flat_map (results_of course past (entry.Dropped side)) due) (none_due past (entry.Dropped side) none)
-  none_at past (entry.Garbled side unit) none = ap (λ (due : List Asked). flat_map (results_of course past (entry.Garbled side unit)) due) (none_due past (entry.Garbled side unit) none)
-  none_at past (entry.Overrun side) none = ap (λ (due : List Asked). flat_map (results_of course past (entry.Overrun side)) due) (none_due past (entry.Overrun side) none)
-  none_at past (entry.Air frame sender receiver repeaters payload) none =
-      ap (λ (due : List Asked). flat_map (results_of course past (entry.Air frame sender receiver repeaters payload)) due) (none_due past (entry.Air frame sender receiver repeaters payload) none)
-  none_at past entry.ChipFull none = ap (λ (due : List Asked). flat_map (results_of course past entry.ChipFull) due) (none_due past entry.ChipFull none)
-  none_at past e none = absurd none
+  none_at past e none = ap (λ (due : List Asked). flat_map (results_of course past e) due) (none_due past e none)
 
   none_given : (told past : List Entry) → AllByRecursion GivesNone told → shown_after (given_at devices course) past told ≡ []
   none_given [] past none = refl

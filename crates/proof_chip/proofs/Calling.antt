@@ -224,7 +224,7 @@ module _ (laws : Laws) (none : NoNexting) (past : List Entry) (w : Outside) (tie
   placed node (inl below) joins = subst (λ (n : ℕ). node < n) tie.air below
   placed node (inr far) joins = let out : false ≡ true = sym (get_or_past w.outer.air.joined node false far) ∙ joins in absurd cc
 
-  homes : (node : ℕ) (way : Option Route) (replies : List (List ℕ)) → Homes tie.log flights (answered_if (is_joined w.outer.air node) w.outer.air node way replies).frames
+  pub homes : (node : ℕ) (way : Option Route) (replies : List (List ℕ)) → Homes tie.log flights (answered_if (is_joined w.outer.air node) w.outer.air node way replies).frames
   homes node way replies = by (is_joined w.outer.air node) (placed node (cases_lt node (length w.outer.air.joined)))
     where
       by : (b : Bool) → (b ≡ true → node < 233) → Homes tie.log flights (answered_if b w.outer.air node way replies).frames

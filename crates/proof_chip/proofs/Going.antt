@@ -6,10 +6,7 @@ use Rattle.std.specs.List.{AllByRecursion}
 use Rattle.zw_base.proofs.Each.{all-append, all-both, all-left, all-right, all-weaker}
 use Rattle.serial_frame.specs.Frame.{FrameParts}
 use Rattle.serial_frame.specs.Stream.{after_tick}
-use Rattle.serial_frame.specs.Items.{unit_text}
-use Rattle.serial_frame.specs.declared.unit.Unit.{Unit as LineUnit}
-use Rattle.serial_pipes.specs.State.{WayState, mark_for}
-use Rattle.serial_pipes.specs.Events.{told, told_by}
+use Rattle.serial_pipes.specs.Events.{told}
 use Rattle.route_table.specs.declared.route.Route.{Route}
 use Rattle.chip_sim.specs.Waiting.{PortState}
 use Rattle.chip_sim.specs.State.{ChipState}
@@ -19,7 +16,6 @@ use Rattle.chip_sim.specs.Rules.{posts}
 use Rattle.mesh_sim.specs.Fates.{place_of}
 use Rattle.mesh_sim.specs.declared.event.AirEvent.{AirEvent}
 use Rattle.mesh_sim.specs.declared.event.AirEvent.TheVariants as air_event
-use Rattle.zw_words.specs.declared.side.Side.TheVariants.{Host as by_host, Chip as by_chip}
 use Rattle.zw_text.specs.declared.entry.Entry.{Entry}
 use Rattle.zw_text.specs.declared.entry.Entry.TheVariants as entry
 use Rattle.law_transcript.specs.Nodes.{controller}
@@ -28,18 +24,17 @@ use Rattle.law_transcript.specs.Units.{Carried}
 use Rattle.law_transcript.specs.Carrying.{homeward}
 use Rattle.law_wire.specs.Asked.{Course, Sending}
 use Rattle.law_wire.specs.Taking.{MayAir}
-use Rattle.outside_model.specs.Devices.{State, shown_entries}
+use Rattle.outside_model.specs.Devices.{State}
 use Rattle.serial_link.specs.Rules.{Step}
 use Rattle.outside_model.specs.State.{OuterState, Outcome, Outside, and_then, outside, silent, tells, with_chip}
 use Rattle.outside_model.specs.Chip.{chip_does, chip_ticks}
 use Rattle.outside_model.specs.Results.{device_at, gives}
-use Rattle.outside_model.specs.Nodes.{listens_at}
 use Rattle.outside_model.specs.Air.{deals, change_entries, change_at}
-use Rattle.outside_model.specs.Events.{OuterEvent, Host_writes, Host_takes, Host_notes, Shows, Joins, Discovers, Links, Loses, Loses_acks, Marks_loss, Marks_change, Clears_pipe, Collides_next, Stalls, Cuts, outcome}
-use Rattle.proof_device.proofs.Entered.{IsChange, IsCleared, IsMark, IsShown, all_cleared, all_shown, change_entered, told_by_marks}
+use Rattle.outside_model.specs.Events.{OuterEvent, Collides_next, outcome}
+use Rattle.proof_device.proofs.Entered.{IsChange, change_entered}
 use Rattle.proof_device.proofs.Results.{Gives, IsGiven, IsResult, ends_go, gives_go, to_chip_goes}
 use Rattle.proof_host.proofs.Lists.{each-append}
-use Rattle.proof_air.specs.proof_walk.Outside.{Comes, IsNote, IsOfAir, IsSimple, Moves}
+use Rattle.proof_air.specs.proof_walk.Outside.{Comes, IsOfAir, IsSimple, Moves}
 use Rattle.proof_air.proofs.Moving.{moves_both}
 use Rattle.proof_air.proofs.Times.{does_chip}
 use Rattle.proof_chip.specs.Serving.{Serves}
@@ -47,6 +42,7 @@ use Rattle.proof_chip.specs.Knowing.{AnyEntry}
 use Rattle.proof_chip.specs.Bringing.{BringSome}
 use Rattle.proof_chip.specs.Sending.{AirSo, ComingSo, KeepsAir, KnowsAir}
 use Rattle.proof_chip.proofs.Airing.{same_last}
+use Rattle.proof_chip.proofs.Asides.{AreUnrelated, IsUnrelated, change_unrelated, simple_apart, simple_port}
 use Rattle.proof_chip.proofs.Bringing.{HearsNone, brings_aside, brings_event, brings_heard, brings_less, posts_none, some_more}
 use Rattle.proof_chip.proofs.Growing.{serves_aside, serves_event}
 use Rattle.proof_chip.proofs.Judged.{goes_back}
@@ -54,7 +50,7 @@ use Rattle.proof_chip.proofs.Passing.{IsOther, others_no_ack, others_stand, puts
 use Rattle.proof_chip.proofs.Quieting.{IsUnanswered, event_none}
 use Rattle.proof_chip.proofs.Telling.{AreAside, IsAside}
 use Rattle.proof_line.proofs.ChipAccounts.{Account, Still, Both, Later, Does, Forgotten as ForgottenLink, Of_air, In_air, IsOfResults, gives_account, gives_results, steps_by}
-use Rattle.proof_chip.proofs.Walking.{air_aside, any_each, cleared_aside, discovers_port, host_aside, joins_port, shown_aside}
+use Rattle.proof_chip.proofs.Walking.{air_aside, any_each}
 
 -- ---- entries
 
@@ -68,35 +64,8 @@ AreApart told = AllByRecursion IsApart told
 both_apart : (told : List Entry) → AreAside told → AllByRecursion IsOther told → AreApart told
 both_apart told aside other = all-both IsAside IsOther IsApart (λ e one two. (one, two)) told aside other
 
-pub note_apart : (e : Entry) → IsNote e → IsApart e
-note_apart (entry.Written side unit) note = absurd note
-note_apart (entry.Air frame sender receiver repeaters payload) note = absurd note
-note_apart entry.ChipFull note = absurd note
-note_apart e note = (tt, tt)
-
-mark_other : (e : Entry) → IsMark e → IsOther e
-mark_other (entry.Dropped side) mark = tt
-mark_other (entry.Garbled side unit) mark = tt
-mark_other (entry.Overrun side) mark = tt
-mark_other e mark = absurd mark
-
-pub change_apart : (e : Entry) → IsChange e → IsApart e
-change_apart (entry.Dev node by setting) change = (tt, tt)
-change_apart e change = absurd change
-
-cleared_other : (e : Entry) → IsCleared e → IsOther e
-cleared_other (entry.Cleared side count) cleared = tt
-cleared_other e cleared = absurd cleared
-
-shown_other : (e : Entry) → IsShown e → IsOther e
-shown_other (entry.Device node setting) shown = tt
-shown_other (entry.Refused refusal) shown = tt
-shown_other e shown = absurd shown
-
-host_apart : (way : WayState) (unit : LineUnit) → AreApart (told by_host way unit)
-host_apart way unit =
-    both_apart (told by_host way unit) (host_aside way unit)
-    (tt, all-weaker IsMark IsOther mark_other (told_by by_host way.bytes (mark_for way.marks unit) (unit_text unit)) (told_by_marks by_host way.bytes (mark_for way.marks unit) (unit_text unit)))
+pub apart_weaker : (told : List Entry) → AreUnrelated told → AreApart told
+apart_weaker told unrelated = all-weaker IsUnrelated IsApart (λ e is. (is.0, is.1.1)) told unrelated
 
 given_answers : (b : Bool) (event : ChipEvent) → IsGiven event → IsUnanswered b event
 given_answers true event given = tt
@@ -147,7 +116,7 @@ deals_other there o (air_event.Unheard frame) own = (tt, tt)
 deals_other there o (air_event.Sent frame from to route payload) own = (own, tt)
 deals_other there o (air_event.Changed node at) own =
     let change = change_at (device_at there (place_of node there)) at in
-    all-weaker IsChange IsOther (λ e is. (change_apart e is).1) (change_entries node change) (change_entered node change)
+    all-weaker IsChange IsOther (λ e is. (change_unrelated e is).1.1) (change_entries node change) (change_entered node change)
 deals_other there o (air_event.ToChip frame from payload) own = to_chip_goes Others given_other o from payload
 deals_other there o (air_event.Done frame status dead) own = ends_go Others given_other o status dead
 
@@ -267,34 +236,5 @@ module _ (devices : List State) (Are : List Sending → Type 0) where
   -- ---- what lines do, and hosts
 
   pub simple_goes : (did : List Step) (w : Outside) (event : OuterEvent) → IsSimple event → (event ≡ Collides_next → ⊥) → Comes AnyEntry (KnowsAir devices Are did) w (outcome w event) w.devices (KnowsAir devices Are did)
-  unfolding outcome chip_does
-  simple_goes did w (Host_writes unit) simple other =
-      apart_goes did w (outside (outcome w (Host_writes unit)).outer w.devices) (told by_host w.outer.to_chip unit) (host_apart w.outer.to_chip unit) refl
-  simple_goes did w (Host_takes count) simple other = apart_goes did w (outside (outcome w (Host_takes count)).outer w.devices) [] tt refl
-  simple_goes did w (Host_notes note) simple other = apart_goes did w w (note ∷ []) (note_apart note simple.0, tt) refl
-  simple_goes did w (Shows node) simple other =
-      let shown : List Entry = shown_entries node (device_at w.devices (place_of node w.devices)) in
-      let are = all_shown node (device_at w.devices (place_of node w.devices)) in
-      apart_goes did w w shown (both_apart shown (all-weaker IsShown IsAside shown_aside shown are) (all-weaker IsShown IsOther shown_other shown are)) refl
-  simple_goes did w (Joins node) simple other =
-      apart_goes did w (outside (outcome w (Joins node)).outer w.devices) [] tt (joins_port w.outer node (listens_at (device_at w.devices (place_of node w.devices))))
-  simple_goes did w Discovers simple other = apart_goes did w (outside (outcome w Discovers).outer w.devices) [] tt (discovers_port w.outer)
-  simple_goes did w (Links a b live) simple other = apart_goes did w (outside (outcome w (Links a b live)).outer w.devices) [] tt refl
-  simple_goes did w (Loses count) simple other = apart_goes did w (outside (outcome w (Loses count)).outer w.devices) [] tt refl
-  simple_goes did w (Loses_acks count) simple other = apart_goes did w (outside (outcome w (Loses_acks count)).outer w.devices) [] tt refl
-  simple_goes did w (Marks_loss by_host) simple other = apart_goes did w (outside (outcome w (Marks_loss by_host)).outer w.devices) [] tt refl
-  simple_goes did w (Marks_loss by_chip) simple other = apart_goes did w (outside (outcome w (Marks_loss by_chip)).outer w.devices) [] tt refl
-  simple_goes did w (Marks_change by_host garble) simple other = apart_goes did w (outside (outcome w (Marks_change by_host garble)).outer w.devices) [] tt refl
-  simple_goes did w (Marks_change by_chip garble) simple other = apart_goes did w (outside (outcome w (Marks_change by_chip garble)).outer w.devices) [] tt refl
-  simple_goes did w (Clears_pipe by_host) simple other =
-      let cleared : List Entry = (outcome w (Clears_pipe by_host)).entries in
-      apart_goes did w (outside (outcome w (Clears_pipe by_host)).outer w.devices) cleared
-      (both_apart cleared (all-weaker IsCleared IsAside cleared_aside cleared (all_cleared by_host _)) (all-weaker IsCleared IsOther cleared_other cleared (all_cleared by_host _))) refl
-  simple_goes did w (Clears_pipe by_chip) simple other =
-      let cleared : List Entry = (outcome w (Clears_pipe by_chip)).entries in
-      apart_goes did w (outside (outcome w (Clears_pipe by_chip)).outer w.devices) cleared
-      (both_apart cleared (all-weaker IsCleared IsAside cleared_aside cleared (all_cleared by_chip _)) (all-weaker IsCleared IsOther cleared_other cleared (all_cleared by_chip _))) refl
-  simple_goes did w Collides_next simple other = absurd (other refl)
-  simple_goes did w (Stalls ticks) simple other = apart_goes did w (outside (outcome w (Stalls ticks)).outer w.devices) [] tt refl
-  simple_goes did w (Cuts size) simple other = apart_goes did w (outside (outcome w (Cuts size)).outer w.devices) [] tt refl
-  simple_goes did w event simple other = absurd simple
+  simple_goes did w event simple other =
+      apart_goes did w (outside (outcome w event).outer w.devices) (outcome w event).entries (apart_weaker (outcome w event).entries (simple_apart w event simple)) (simple_port w event simple other)

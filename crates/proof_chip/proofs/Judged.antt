@@ -184,6 +184,18 @@ first_passed : (s : ChipState) (f : FrameParts) (way : Option Route) → collide
 first_passed s f way free =
     (flat_map passed_by (outs_of (submits (begun_at s (Judged (Good (Framed f)) way)))), ap (λ (b : Bool). flat_map passed_by ((answer_of b (Good (Framed f)) ++ []) ++ outs_of (submits (begun_at s (Judged (Good (Framed f)) way))))) free)
 
+-- it is the next that a course that goes on has passed up
+pub passed_at : (steps : List Step) (frames : List FrameParts) (past : List Entry) (o : OuterState) → Serves steps frames past o.chip.state.port → (way : Option Route) (f : FrameParts) → collides o.chip.state ≡ false
+    → (later : Course) → GoesOn (course_of (steps ++ link_steps o.chip.state (Judged (Good (Framed f)) way))) later → slice_get later.passed (acks past) ≡ Some f
+passed_at steps frames past o serves way f free later goes =
+    let first = first_passed o.chip.state f way free in
+    let at = serves.passed in
+    let all : later.passed ≡ passed_of steps ++ (f ∷ (first.0 ++ goes.frames)) =
+    goes.passed
+    ∙ ap (λ (l : List FrameParts). l ++ goes.frames) (passed_both steps (link_steps o.chip.state (Judged (Good (Framed f)) way)) ∙ ap (λ (l : List FrameParts). passed_of steps ++ l) first.1)
+    ∙ append_assoc (passed_of steps) (f ∷ first.0) goes.frames in
+    ap (λ (l : List FrameParts). slice_get l (acks past)) all ∙ slice_get-append_right (passed_of steps) (f ∷ (first.0 ++ goes.frames)) (acks past) 0 (omega (arith, at))
+
 -- ---- with one course that goes on
 
 module _ (devices : List State) (steps : List Step) (frames : List FrameParts) (past : List Entry) (o p : OuterState) (serves : Serves steps frames past o.chip.state.port) (ties : TieItems devices steps past o)
@@ -237,14 +249,7 @@ module _ (devices : List State) (steps : List Step) (frames : List FrameParts) (
     under = in_tick (clock_of past) last
 
     passed_here : slice_get later.passed (acks past) ≡ Some f
-    passed_here =
-        let first = first_passed o.chip.state f way free in
-        let at = serves.passed in
-        let all : later.passed ≡ passed_of steps ++ (f ∷ (first.0 ++ goes.frames)) =
-        goes.passed
-        ∙ ap (λ (l : List FrameParts). l ++ goes.frames) (passed_both steps (link_steps o.chip.state e) ∙ ap (λ (l : List FrameParts). passed_of steps ++ l) first.1)
-        ∙ append_assoc (passed_of steps) (f ∷ first.0) goes.frames in
-        ap (λ (l : List FrameParts). slice_get l (acks past)) all ∙ slice_get-append_right (passed_of steps) (f ∷ (first.0 ++ goes.frames)) (acks past) 0 (omega (arith, at))
+    passed_here = passed_at steps frames past o serves way f free later goes
 
     agree : (node : ℕ) (payload : List ℕ) (options id : ℕ) → asked_of f ≡ Some (SendData node payload options id) → takes_of s node payload ≡ takes past under node payload
     agree node payload options id asks =

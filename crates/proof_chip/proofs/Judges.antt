@@ -41,13 +41,13 @@ use Rattle.proof_chip.proofs.Keeping.{number_apart}
 use Rattle.proof_chip.proofs.Quieting.{IsUnanswered}
 
 -- two lists that are none together
-both_none : (xs ys : List Entry) → xs ++ ys ≡ [] → (xs ≡ []) × (ys ≡ [])
+pub both_none : (xs ys : List Entry) → xs ++ ys ≡ [] → (xs ≡ []) × (ys ≡ [])
 both_none [] ys none = (refl, none)
 both_none (x ∷ xs) ys none = absurd cc
 
 module _ (devices : List State) where
   -- one item
-  item_keeps : (did : List Step) (past : List Entry) (o : OuterState) (item : Item) (route : Option Route) → May o.chip.state (Judged item route) → ItemsSo devices did past o
+  pub item_keeps : (did : List Step) (past : List Entry) (o : OuterState) (item : Item) (route : Option Route) → May o.chip.state (Judged item route) → ItemsSo devices did past o
       → ItemsSo devices (did ++ link_steps o.chip.state (Judged item route)) (past ++ (chip_does o (Judged item route)).entries) (chip_does o (Judged item route)).outer
   unfolding chip_does
   item_keeps did past o item route may (frames, serves, brings, ties) =
@@ -110,7 +110,7 @@ module _ (devices : List State) where
 
   -- ---- from what is known at any time, and back
 
-  items_of : (did : List Step) (past : List Entry) (o : OuterState) → Agrees devices past o → AirSo devices (AreNow o) did past o.chip.state.port → ItemsSo devices did past o
+  pub items_of : (did : List Step) (past : List Entry) (o : OuterState) → Agrees devices past o → AirSo devices (AreNow o) did past o.chip.state.port → ItemsSo devices did past o
   items_of did past o agrees (frames, serves, brings, keeps) = (
     frames,
     serves,
@@ -128,7 +128,7 @@ module _ (devices : List State) where
   -- ---- where nothing is entered
 
   -- no frame is answered then
-  silent_item : (o : OuterState) (item : Item) (route : Option Route) → (chip_does o (Judged item route)).entries ≡ [] → IsUnanswered (collides o.chip.state) (Judged item route)
+  pub silent_item : (o : OuterState) (item : Item) (route : Option Route) → (chip_does o (Judged item route)).entries ≡ [] → IsUnanswered (collides o.chip.state) (Judged item route)
   unfolding chip_does
   silent_item o item route none = by (decided (collides o.chip.state) item route)
     where

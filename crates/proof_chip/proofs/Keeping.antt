@@ -33,7 +33,8 @@ use Rattle.proof_air.proofs.Machines.{UnitsAre, answers_keep, any_told, outs_kee
 use Rattle.proof_air.specs.Logs.{Tie}
 use Rattle.proof_chip.specs.Knowing.{AnyEntry}
 use Rattle.proof_chip.specs.Sending.{AirSo, KnowsAir}
-use Rattle.proof_chip.proofs.Acting.{NotHome, acts_go, steps_go}
+use Rattle.proof_chip.proofs.Acting.{acts_go, steps_go}
+use Rattle.proof_chip.proofs.Asides.{NotHome}
 use Rattle.proof_chip.proofs.Homing.{IsBrought, brought_on, step_so}
 use Rattle.proof_line.proofs.ChipAccounts.{event_steps, outer_steps, repeat_steps, steps_account, steps_by}
 use Rattle.proof_chip.proofs.Going.{AreApart, apart_goes, collides_goes, results_go, simple_goes, tick_goes}

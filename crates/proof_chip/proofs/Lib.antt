@@ -16,23 +16,42 @@ mod Taking
 mod Turning
 mod Standing
 mod Replying
+mod Tallying
+mod Numbering
+mod Owing
 mod Answered
 mod Requesting
 mod Passing
+mod Settling
 mod Payloads
 mod Judged
+mod Asides
+mod Tallied
+mod Resting
+mod Giving
+mod Stamped
+mod Hearing
+mod Finishing
+mod Arriving
+mod Totals
+mod Replied
+mod Leaving
 mod Bringing
 mod Going
 mod Homing
 mod Acting
 mod Keeping
 mod Judges
+mod Items
 mod Mild
 pub mod Airs
 mod Members
 mod Grounds
 mod Served
+mod Landed
+mod Tallies
 mod Calling
+mod Steady
 mod CallWalk
 pub use Rattle.proof_line.proofs.HeldRecords
 pub use Rattle.proof_line.proofs.FactsKept

@@ -106,7 +106,7 @@ hand_sending o devices (Some place) event route = at_sending o (slice_get device
 
 -- ---- events outside the host
 
-outcome_sending : (w : Outside) (event : OuterEvent) → IsMild event → (outcome w event).outer.chip.state.sending ≡ w.outer.chip.state.sending
+pub outcome_sending : (w : Outside) (event : OuterEvent) → IsMild event → (outcome w event).outer.chip.state.sending ≡ w.outer.chip.state.sending
 unfolding outcome
 outcome_sending w (Chip_takes count rest ways) mild = absurd mild
 outcome_sending w (Arrives drawn route) mild = absurd mild

@@ -93,6 +93,56 @@ both_are true true = refl
 both_are true false = refl
 both_are false b = refl
 
+-- ---- what is given at an answer
+
+module _ (devices : List State) (course : Course) (past : List Entry) where
+  -- no results come there
+  none_come : came_due course past answer ≡ []
+  none_come = none_filtered (settled_clock past) (settled_clock (past ++ answer ∷ [])) (settled_same past answer tt refl (λ all. refl)) (asked course past)
+
+  asked_alone : (f : FrameParts) → slice_get course.passed (acks past) ≡ Some f → requests_at course past answer ≡ listed_of (asked_of f)
+  asked_alone f is = ap (λ (o : Option FrameParts). flat_map requests_of (listed o)) is ∙ append-nil (requests_of f) ∙ requests_are f
+
+  abbrev given_by : List Request → List Given
+  given_by requests = map (λ (response : Response). Frame (response_frame response)) (flat_map (response_to devices course past) requests) ++ map callback_of (flat_map (aborted_by course past) requests)
+
+  given_is : (f : FrameParts) → slice_get course.passed (acks past) ≡ Some f → given_at devices course past answer ≡ given_by (listed_of (asked_of f))
+  given_is f passed =
+      ap (λ (l : List Asked). ((responses_at devices course past answer ++ []) ++ map callback_of (ended_at course past answer)) ++ flat_map (results_of course past answer) l) none_come
+      ∙ append-nil ((responses_at devices course past answer ++ []) ++ map callback_of (ended_at course past answer))
+      ∙ ap (λ (l : List Given). l ++ map callback_of (ended_at course past answer)) (append-nil (responses_at devices course past answer))
+      ∙ ap given_by (asked_alone f passed)
+
+  -- ---- how many
+
+  many_aborted : (s : ChipState) (o : Option SendingParts) → s.sending ≡ o → AreSending o (under_way course past) → length (given_by (SendDataAbort ∷ [])) ≡ length (listed_of (reply_to s SendDataAbort))
+  many_aborted s None is are =
+      ap (λ (l : List Sending). length (map callback_of (ended_by Fail l ++ []))) are ∙ sym (ap (λ (o : Option SendingParts). length (listed_of (abort_frame o))) is)
+  many_aborted s (Some parts) is (one, alone, node, id) =
+      ap (λ (l : List Sending). length (map callback_of (ended_by Fail l ++ []))) alone ∙ sym (ap (λ (o : Option SendingParts). length (listed_of (abort_frame o))) is)
+
+  many_given : (s : ChipState) → AreSending s.sending (under_way course past) → (request : Request) → length (given_by (request ∷ [])) ≡ length (listed_of (reply_to s request))
+  many_given s under SendDataAbort = many_aborted s s.sending refl under
+  many_given s under GetInitData = refl
+  many_given s under GetCapabilities = refl
+  many_given s under (SendData node payload options id) = refl
+  many_given s under GetVersion = refl
+  many_given s under MemoryGetId = refl
+  many_given s under (GetNodeProtocolInfo node) = refl
+  many_given s under (AddNode mode id) = refl
+  many_given s under (RequestNodeInfo node) = refl
+  many_given s under (IsFailedNode node) = refl
+  many_given s under (GetRoutingInfo node x y z) = refl
+
+  -- as many as the chip gives
+  pub reply_many : (s : ChipState) → AreSending s.sending (under_way course past) → (f : FrameParts) → slice_get course.passed (acks past) ≡ Some f
+      → length (given_at devices course past answer) ≡ length (listed_of (reply_if s (asked_of f)))
+  reply_many s under f passed = ap (λ (l : List Given). length l) (given_is f passed) ∙ by (asked_of f)
+    where
+      by : (o : Option Request) → length (given_by (listed_of o)) ≡ length (listed_of (reply_if s o))
+      by None = refl
+      by (Some request) = many_given s under request
+
 module _ (devices : List State) (course : Course) (past : List Entry) (s : ChipState) (ties : TieNodes devices course past s) (under : AreSending s.sending (under_way course past))
     (agree : (node : ℕ) (payload : List ℕ) → takes_of s node payload ≡ takes past (under_way course past) node payload) where
   -- what the answer to a request gives, by the transcript
@@ -133,26 +183,12 @@ module _ (devices : List State) (course : Course) (past : List Entry) (s : ChipS
 
   -- ---- all that is given at the answer
 
-  -- no results come there
-  none_come : came_due course past answer ≡ []
-  none_come = none_filtered (settled_clock past) (settled_clock (past ++ answer ∷ [])) (settled_same past answer tt refl (λ all. refl)) (asked course past)
-
   pub reply_given : (f : FrameParts) → slice_get course.passed (acks past) ≡ Some f → given_at devices course past answer ≡ as_given (listed_of (reply_if s (asked_of f)))
-  reply_given f passed =
-      ap (λ (l : List Asked). ((responses_at devices course past answer ++ []) ++ map callback_of (ended_at course past answer)) ++ flat_map (results_of course past answer) l) none_come
-      ∙ append-nil ((responses_at devices course past answer ++ []) ++ map callback_of (ended_at course past answer))
-      ∙ ap (λ (l : List Given). l ++ map callback_of (ended_at course past answer)) (append-nil (responses_at devices course past answer))
-      ∙ ap (λ (l : List Request). map (λ (response : Response). Frame (response_frame response)) (flat_map (response_to devices course past) l) ++ map callback_of (flat_map (aborted_by course past) l))
-      (asked_alone f passed)
-      ∙ sym (by (asked_of f))
+  reply_given f passed = given_is devices course past f passed ∙ sym (by (asked_of f))
     where
-      by : (o : Option Request) → as_given (listed_of (reply_if s o))
-          ≡ map (λ (response : Response). Frame (response_frame response)) (flat_map (response_to devices course past) (listed_of o)) ++ map callback_of (flat_map (aborted_by course past) (listed_of o))
+      by : (o : Option Request) → as_given (listed_of (reply_if s o)) ≡ given_by devices course past (listed_of o)
       by None = refl
       by (Some request) =
           replies_same request
           ∙ ap₂ (λ (a : List Response) (b : List Called). map (λ (response : Response). Frame (response_frame response)) a ++ map callback_of b)
           (sym (append-nil (response_to devices course past request))) (sym (append-nil (aborted_by course past request)))
-
-      asked_alone : (g : FrameParts) → slice_get course.passed (acks past) ≡ Some g → requests_at course past answer ≡ listed_of (asked_of g)
-      asked_alone g is = ap (λ (o : Option FrameParts). flat_map requests_of (listed o)) is ∙ append-nil (requests_of g) ∙ requests_are g

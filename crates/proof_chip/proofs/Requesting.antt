@@ -48,8 +48,7 @@ stands rest (first ∷ before) one more is = inr (before, ap (λ (e : Entry). e 
 
 module _ (devices : List State) (steps : List Step) (frames : List FrameParts) (past : List Entry) (o : OuterState) (f : FrameParts) (way : Option Route)
     (serves : Serves steps frames past o.chip.state.port) (later : Course) (goes : GoesOn (course_of (steps ++ link_steps o.chip.state (Judged (Good (Framed f)) way))) later)
-    (free : collides o.chip.state ≡ false) (has : HasGiven devices later frames past)
-    (reply : given_at devices later past answer ≡ as_given (posts o.chip.state (Judged (Good (Framed f)) way))) where
+    (free : collides o.chip.state ≡ false) where
   abbrev e : ChipEvent
   e = Judged (Good (Framed f)) way
 
@@ -62,88 +61,96 @@ module _ (devices : List State) (steps : List Step) (frames : List FrameParts) (
   abbrev grown : List FrameParts
   grown = frames ++ posts s e
 
-  is_answered : IsAnswered past entered
+  pub is_answered : IsAnswered past entered
   is_answered =
       subst (λ (puts : List ChipOut). IsAnswered past (each put_out (start steps frames past o e serves) puts).entries) (sym (answered_outs s f way free))
       (answered_told past (start steps frames past o e serves) (asked_of f) (heard s (Good (Framed f))) way)
 
-  -- what is given so far, by the transcript, once the answer stands
-  given_front : (before rest : List Entry) → is_answered.rest ≡ before ++ rest → given devices later (past ++ answer ∷ before) ≡ given devices later past ++ as_given (posts s e)
-  given_front before rest is =
-      given_answered devices later past before (all-left GivesNone before rest (subst (λ (l : List Entry). AllByRecursion GivesNone l) is is_answered.none))
-      ∙ ap (λ (l : List Given). given devices later past ++ l) reply
+  -- ---- how many wait, where as many were given as the transcript says
 
-  has_front : (before rest : List Entry) → is_answered.rest ≡ before ++ rest → HasGiven devices later grown (past ++ answer ∷ before)
-  has_front before rest is = has_more devices later frames (posts s e) past (past ++ answer ∷ before) (given_front before rest is) has
+  module _ (many : length (given devices later past) ≡ length frames) (reply : length (given_at devices later past answer) ≡ length (posts o.chip.state (Judged (Good (Framed f)) way))) where
+    -- so many are given, by the transcript, once the answer stands
+    many_front : (before rest : List Entry) → is_answered.rest ≡ before ++ rest → length (given devices later (past ++ answer ∷ before)) ≡ length frames + length (posts s e)
+    many_front before rest is =
+        ap (λ (l : List Given). length l) (given_answered devices later past before (all-left GivesNone before rest (subst (λ (l : List Entry). AllByRecursion GivesNone l) is is_answered.none)))
+        ∙ (length-append (given devices later past) (given_at devices later past answer) ∙ ap₂ (λ (m n : ℕ). m + n) many reply)
 
-  pub has_after : HasGiven devices later grown (past ++ entered)
-  has_after = subst (λ (l : List Entry). HasGiven devices later grown (past ++ l)) (sym is_answered.is) (has_front is_answered.rest [] (sym (append-nil is_answered.rest)))
+    few : (front rest : List Entry) (unit : List ℕ) → entered ≡ front ++ entry.Written by_chip unit ∷ rest → is_ack unit ≡ true → length (given devices later (past ++ front)) ≤ length frames
+    few front rest unit is ack = by (stands is_answered.rest front (entry.Written by_chip unit) rest (sym is_answered.is ∙ is))
+      where
+        by : StandsSo is_answered.rest front (entry.Written by_chip unit) rest → length (given devices later (past ++ front)) ≤ length frames
+        by (inl (none, one)) =
+            let same = ap (λ (l : List Entry). length (given devices later (past ++ l))) none ∙ ap (λ (l : List Entry). length (given devices later l)) (append-nil past) in
+            omega (arith, same, many)
+        by (inr (before, first, parts)) =
+            let none = (all-right GivesNone before (entry.Written by_chip unit ∷ rest) (subst (λ (l : List Entry). AllByRecursion GivesNone l) parts is_answered.none)).0 in
+            absurd (let no : true ≡ false = sym ack ∙ none in cc)
 
-  -- the answer is no first copy
-  steps_first : firsts_of (link_steps s e) ≡ false ∷ firsts_of (submits (begun_at s e))
-  steps_first =
-      firsts_both (hear_step ∷ []) (submits (begun_at s e))
-      ∙ ap (λ (b : Bool). (flat_map (is_first (hears (Good (Framed f)))) (answer_of b (Good (Framed f)) ++ []) ++ []) ++ firsts_of (submits (begun_at s e))) free
-    where
-      hear_step : Step
-      hear_step = record { event = hears (Good (Framed f)); outs = answer_of (collides s) (Good (Framed f)) ++ [] }
+    more : (front rest : List Entry) → entered ≡ front ++ entry.ChipFull ∷ rest → length frames < length (given devices later (past ++ front))
+    more front rest is = by (stands is_answered.rest front entry.ChipFull rest (sym is_answered.is ∙ is)) (fate_of s e)
+      where
+        by : StandsSo is_answered.rest front entry.ChipFull rest → Fate s e → length frames < length (given devices later (past ++ front))
+        by (inl (none, one)) fate = absurd cc
+        by (inr (before, first, parts)) (Stays keeps none) =
+            absurd (let all = told_drops steps frames past o e serves ∙ ap (λ (l : List ChipOut). length l) none in
+            let split = ap (λ (l : List Entry). drops l) is ∙ drops_later front (entry.ChipFull ∷ rest) in
+            omega (arith, all, split))
+        by (inr (before, first, parts)) (Falls g one full keeps falls) =
+            let there = many_front before (entry.ChipFull ∷ rest) parts in
+            let same = ap (λ (l : List Entry). length (given devices later (past ++ l))) first in
+            let one_more = ap (λ (l : List FrameParts). length l) one in
+            omega (arith, there, same, one_more)
 
-  not_first : begins_next later past ≡ false
-  not_first =
-      ap₂ (λ (l : List Bool) (at : ℕ). slice_index_or l at false) firsts_are (ap (λ (l : List (List ℕ)). length l) serves.units ∙ sym (as_many steps) ∙ plus_none (length (firsts_of steps)))
-      ∙ get_or-append-add (firsts_of steps) ((false ∷ firsts_of (submits (begun_at s e))) ++ goes.flags) 0 false
-    where
-      plus_none : (n : ℕ) → n ≡ n + 0
-      plus_none n = omega arith
+    pub answered_waits : EachAfter (MayWait devices later) past entered
+    answered_waits = event_waits devices steps frames past o e serves later goes few more
 
-      firsts_are : later.firsts ≡ firsts_of steps ++ ((false ∷ firsts_of (submits (begun_at s e))) ++ goes.flags)
-      firsts_are =
-          goes.firsts
-          ∙ ap (λ (l : List Bool). l ++ goes.flags) (firsts_both steps (link_steps s e) ∙ ap (λ (l : List Bool). firsts_of steps ++ l) steps_first)
-          ∙ append_assoc (firsts_of steps) (false ∷ firsts_of (submits (begun_at s e))) goes.flags
+  -- ---- where just what the transcript says was given
 
-  -- ---- what it writes is in order
+  module _ (has : HasGiven devices later frames past) (reply : given_at devices later past answer ≡ as_given (posts o.chip.state (Judged (Good (Framed f)) way))) where
+    -- what is given so far, by the transcript, once the answer stands
+    given_front : (before rest : List Entry) → is_answered.rest ≡ before ++ rest → given devices later (past ++ answer ∷ before) ≡ given devices later past ++ as_given (posts s e)
+    given_front before rest is =
+        given_answered devices later past before (all-left GivesNone before rest (subst (λ (l : List Entry). AllByRecursion GivesNone l) is is_answered.none))
+        ∙ ap (λ (l : List Given). given devices later past ++ l) reply
 
-  covers : (front rest : List Entry) → entered ≡ front ++ rest → begins_next later (past ++ front) ≡ true → AreOf devices (frame_texts grown) (given devices later (past ++ front))
-  covers [] rest is begins = absurd (let none : true ≡ false = sym begins ∙ ap (λ (l : List Entry). begins_next later l) (append-nil past) ∙ not_first in cc)
-  covers (first ∷ before) rest is begins =
-      let whole : answer ∷ is_answered.rest ≡ first ∷ (before ++ rest) = sym is_answered.is ∙ is in
-      let same : first ≡ answer = cc in
-      let parts : is_answered.rest ≡ before ++ rest = cc in
-      subst (λ (one : Entry). AreOf devices (frame_texts grown) (given devices later (past ++ one ∷ before))) (sym same) (has_front before rest parts).are
+    has_front : (before rest : List Entry) → is_answered.rest ≡ before ++ rest → HasGiven devices later grown (past ++ answer ∷ before)
+    has_front before rest is = has_more devices later frames (posts s e) past (past ++ answer ∷ before) (given_front before rest is) has
 
-  pub answered_answers : EachAfter (MayAnswer devices later) past entered
-  answered_answers = event_answers devices steps frames past o e serves later goes covers
+    pub has_after : HasGiven devices later grown (past ++ entered)
+    has_after = subst (λ (l : List Entry). HasGiven devices later grown (past ++ l)) (sym is_answered.is) (has_front is_answered.rest [] (sym (append-nil is_answered.rest)))
 
-  -- ---- and how many wait
+    -- the answer is no first copy
+    steps_first : firsts_of (link_steps s e) ≡ false ∷ firsts_of (submits (begun_at s e))
+    steps_first =
+        firsts_both (hear_step ∷ []) (submits (begun_at s e))
+        ∙ ap (λ (b : Bool). (flat_map (is_first (hears (Good (Framed f)))) (answer_of b (Good (Framed f)) ++ []) ++ []) ++ firsts_of (submits (begun_at s e))) free
+      where
+        hear_step : Step
+        hear_step = record { event = hears (Good (Framed f)); outs = answer_of (collides s) (Good (Framed f)) ++ [] }
 
-  few : (front rest : List Entry) (unit : List ℕ) → entered ≡ front ++ entry.Written by_chip unit ∷ rest → is_ack unit ≡ true → length (given devices later (past ++ front)) ≤ length frames
-  few front rest unit is ack = by (stands is_answered.rest front (entry.Written by_chip unit) rest (sym is_answered.is ∙ is))
-    where
-      by : StandsSo is_answered.rest front (entry.Written by_chip unit) rest → length (given devices later (past ++ front)) ≤ length frames
-      by (inl (none, one)) =
-          let same = ap (λ (l : List Entry). length (given devices later (past ++ l))) none ∙ ap (λ (l : List Entry). length (given devices later l)) (append-nil past) in
-          let many = has.many in
-          omega (arith, same, many)
-      by (inr (before, first, parts)) =
-          let none = (all-right GivesNone before (entry.Written by_chip unit ∷ rest) (subst (λ (l : List Entry). AllByRecursion GivesNone l) parts is_answered.none)).0 in
-          absurd (let no : true ≡ false = sym ack ∙ none in cc)
+    not_first : begins_next later past ≡ false
+    not_first =
+        ap₂ (λ (l : List Bool) (at : ℕ). slice_index_or l at false) firsts_are (ap (λ (l : List (List ℕ)). length l) serves.units ∙ sym (as_many steps) ∙ plus_none (length (firsts_of steps)))
+        ∙ get_or-append-add (firsts_of steps) ((false ∷ firsts_of (submits (begun_at s e))) ++ goes.flags) 0 false
+      where
+        plus_none : (n : ℕ) → n ≡ n + 0
+        plus_none n = omega arith
 
-  more : (front rest : List Entry) → entered ≡ front ++ entry.ChipFull ∷ rest → length frames < length (given devices later (past ++ front))
-  more front rest is = by (stands is_answered.rest front entry.ChipFull rest (sym is_answered.is ∙ is)) (fate_of s e)
-    where
-      by : StandsSo is_answered.rest front entry.ChipFull rest → Fate s e → length frames < length (given devices later (past ++ front))
-      by (inl (none, one)) fate = absurd cc
-      by (inr (before, first, parts)) (Stays keeps none) =
-          absurd (let all = told_drops steps frames past o e serves ∙ ap (λ (l : List ChipOut). length l) none in
-          let split = ap (λ (l : List Entry). drops l) is ∙ drops_later front (entry.ChipFull ∷ rest) in
-          omega (arith, all, split))
-      by (inr (before, first, parts)) (Falls g one full keeps falls) =
-          let there = (has_front before (entry.ChipFull ∷ rest) parts).many in
-          let same = ap (λ (l : List Entry). length (given devices later (past ++ l))) first in
-          let grows = length-append frames (posts s e) in
-          let one_more = ap (λ (l : List FrameParts). length l) one in
-          omega (arith, there, same, grows, one_more)
+        firsts_are : later.firsts ≡ firsts_of steps ++ ((false ∷ firsts_of (submits (begun_at s e))) ++ goes.flags)
+        firsts_are =
+            goes.firsts
+            ∙ ap (λ (l : List Bool). l ++ goes.flags) (firsts_both steps (link_steps s e) ∙ ap (λ (l : List Bool). firsts_of steps ++ l) steps_first)
+            ∙ append_assoc (firsts_of steps) (false ∷ firsts_of (submits (begun_at s e))) goes.flags
 
-  pub answered_waits : EachAfter (MayWait devices later) past entered
-  answered_waits = event_waits devices steps frames past o e serves later goes few more
+    -- what it writes is in order
+
+    covers : (front rest : List Entry) → entered ≡ front ++ rest → begins_next later (past ++ front) ≡ true → AreOf devices (frame_texts grown) (given devices later (past ++ front))
+    covers [] rest is begins = absurd (let none : true ≡ false = sym begins ∙ ap (λ (l : List Entry). begins_next later l) (append-nil past) ∙ not_first in cc)
+    covers (first ∷ before) rest is begins =
+        let whole : answer ∷ is_answered.rest ≡ first ∷ (before ++ rest) = sym is_answered.is ∙ is in
+        let same : first ≡ answer = cc in
+        let parts : is_answered.rest ≡ before ++ rest = cc in
+        subst (λ (one : Entry). AreOf devices (frame_texts grown) (given devices later (past ++ one ∷ before))) (sym same) (has_front before rest parts).are
+
+    pub answered_answers : EachAfter (MayAnswer devices later) past entered
+    answered_answers = event_answers devices steps frames past o e serves later goes covers

@@ -1,6 +1,6 @@
 -- Both links and what goes on the air are known by the same steps of the chip's link, at each phase of a line; so the law of what goes on the air holds by the course of a link that keeps the
 -- rules.
-use Rattle.std.proofs.Common.{◌≡◌, true, false, List, [], ◌∷◌, ◌++◌, sym, subst, append-nil}
+use Rattle.std.proofs.Common.{◌≡◌, true, false, List, [], ◌∷◌, ◌++◌, sym, subst}
 use Rattle.std.specs.Prelude.{None}
 use Rattle.serial_link.specs.Rules.{Step}
 use Rattle.chip_sim.specs.Link.{link_units}
@@ -9,6 +9,7 @@ use Rattle.zw_text.specs.declared.entry.Entry.{Entry}
 use Rattle.zw_text.specs.declared.entry.Entry.TheVariants.{Said}
 use Rattle.law_transcript.specs.Lists.{EachAfter}
 use Rattle.law_wire.specs.Asked.{Course, course_of}
+use Rattle.law_wire.specs.Answering.{MayWait}
 use Rattle.law_wire.specs.Taking.{MayAir}
 use Rattle.host_keep.specs.declared.record.Record.{Record}
 use Rattle.host_model.specs.Opening.{opened}
@@ -23,22 +24,27 @@ use Rattle.world_model.specs.Events.{entries}
 use Rattle.proof_host.proofs.Lists.{each-append}
 use Rattle.proof_serial.specs.Line.{host_units}
 use Rattle.proof_line.specs.proof_traffic.Links.{KeepsItsLink, host_link_steps}
-use Rattle.proof_air.specs.proof_walk.Phases.{Phase, Between, Giving}
+use Rattle.proof_air.specs.proof_walk.Phases.{Phase, Between, Said_line, Giving}
 use Rattle.proof_air.specs.proof_walk.Walk.{Walk, WalkWhere}
+use Rattle.proof_air.specs.Landing.{KnowLanding}
 use Rattle.proof_air.proofs.Handling.{tie_here}
 use Rattle.proof_routes.specs.Networks.{Tie}
 use Rattle.proof_routes.specs.Knowing.{KnowNetworks}
 use Rattle.proof_line.specs.Linked.{Cuts, IsOrderly}
 use Rattle.proof_line.proofs.ChipAccounts.{event_steps}
+use Rattle.proof_line.proofs.Arrivals.{NoNexting}
+use Rattle.proof_line.proofs.Parts.{Laws}
 use Rattle.proof_line.proofs.LinkWalk.{event_knows, said_knows, turn_knows}
 use Rattle.proof_chip.specs.Calling.{KnowCalls}
 use Rattle.proof_chip.specs.Knowing.{AnyEntry}
 use Rattle.proof_chip.specs.Bringing.{BringsInOrder}
 use Rattle.proof_chip.specs.Sending.{GroundAir, KnowAir}
 use Rattle.proof_chip.specs.Served.{AirsByLink, KnowBeside, KnowServing}
-use Rattle.proof_chip.specs.Serving.{GoesOn}
+use Rattle.proof_chip.specs.Tally.{KnowTally}
 use Rattle.proof_chip.proofs.Airs.{event_goes, said_goes, turn_goes}
 use Rattle.proof_chip.proofs.Grounds.{agrees_of}
+use Rattle.proof_chip.proofs.Standing.{goes_none}
+use Rattle.proof_chip.proofs.Tallies.{at_waits, tally_event, tally_said, tally_turn}
 use Rattle.proof_chip.proofs.Walking.{any_each}
 
 -- ---- the ground
@@ -53,36 +59,60 @@ ground_air devices tie none = record {
 
 -- ---- the walk
 
-module _ (devices : List State) (Asks : List Entry → Entry → Type 0) (beside : Walk Asks (KnowBeside devices)) (law : GroundAir devices (KnowBeside devices))
+module _ (devices : List State) (laws : Laws) (none : NoNexting) (Asks : List Entry → Entry → Type 0) (beside : Walk Asks (KnowBeside devices)) (law : GroundAir devices (KnowBeside devices))
     (each : (h : HostState) (event : HostEvent) (steps : List Step) → KeepsItsLink steps h → MayHost h event → KeepsItsLink (steps ++ host_link_steps h event) (host_after h event))
     (units : (h : HostState) (event : HostEvent) → h.side.collisions ≡ 0 → host_units (host_outs h event) ≡ link_units (host_link_steps h event))
     (opened_keeps : (keys : Keys) (records : List Record) → KeepsItsLink [] (opened keys records)) where
+  landing : (here : Phase) (past : List Entry) (m : Machine) → KnowBeside devices here past m → KnowLanding here past m
+  landing here past m known = known.0.0.0.1
+
+  calls : (here : Phase) (past : List Entry) (m : Machine) → KnowBeside devices here past m → KnowCalls here past m
+  calls here past m known = known.1
+
   pub served_walk : WalkWhere IsOrderly AnyEntry (KnowServing devices)
   served_walk = record {
     said = λ past m words line read known.
-        let (did, cuts, airs) = known.1 in
-        (tt, ((beside.said past m words line read known.0).1, (did, said_knows past m words line read known.0.0.0.0.0.1 cuts, said_goes devices (KnowBeside devices) law did past m words line airs)));
+        let (did, cuts, airs, tally) = known.1 in
+        let now = (beside.said past m words line read known.0).1 in (
+          tt,
+          (
+            now,
+            (
+              did,
+              said_knows past m words line read known.0.0.0.0.0.1 cuts,
+              said_goes devices (KnowBeside devices) law did past m words line airs,
+              tally_said devices laws none (KnowBeside devices) law landing calls did past m words line (landing (Said_line line) (past ++ Said words ∷ []) m now).now tally,
+            ),
+          ),
+        );
     event = λ here next past m event goes may orderly known.
-        let (did, cuts, airs) = known.1 in (
+        let (did, cuts, airs, tally) = known.1 in (
           any_each past (entries m event),
           (
             (beside.event here next past m event goes may known.0).1,
-            (did ++ event_steps m event, event_knows each units opened_keeps here next past m event goes may orderly cuts, event_goes devices (KnowBeside devices) law did here next past m event goes may known.0 airs),
+            (
+              did ++ event_steps m event,
+              event_knows each units opened_keeps here next past m event goes may orderly cuts,
+              event_goes devices (KnowBeside devices) law did here next past m event goes may known.0 airs,
+              tally_event devices laws none (KnowBeside devices) law landing calls did here next past m event goes may known.0 airs tally,
+            ),
           ),
         );
     turn = λ here next past m turns known.
-        let (did, cuts, airs) = known.1 in (
+        let (did, cuts, airs, tally) = known.1 in (
           beside.turn here next past m turns known.0,
-          (did, (cuts.0, turn_knows each units opened_keeps did here next past m turns cuts.1), turn_goes devices (KnowBeside devices) law did here next past m turns known.0 airs),
+          (
+            did,
+            (cuts.0, turn_knows each units opened_keeps did here next past m turns cuts.1),
+            turn_goes devices (KnowBeside devices) law did here next past m turns known.0 airs,
+            tally_turn devices laws none (KnowBeside devices) law landing calls did here next past m turns known.0 tally,
+          ),
         );
   }
 
 -- ---- the law
 
-goes_none : (course : Course) → GoesOn course course
-goes_none course = record { frames = []; flags = []; passed = sym (append-nil course.passed); firsts = sym (append-nil course.firsts) }
-
-module _ (devices : List State) (did : List Step) (here : Phase) (past : List Entry) (m : Machine) (known : KnowAir devices did here past m) where
+module _ (devices : List State) (did : List Step) (here : Phase) (past : List Entry) (m : Machine) (known : KnowAir devices did here past m) (tally : KnowTally devices did here past m) where
   kept : EachAfter (MayAir devices (course_of did)) [] past
   kept = let (frames, serves, brings, keeps) = known.0 in (keeps (course_of did) (goes_none (course_of did))).so
 
@@ -90,19 +120,24 @@ module _ (devices : List State) (did : List Step) (here : Phase) (past : List En
   brought course same =
       let (frames, serves, brings, keeps) = known.0 in subst (λ (c : Course). BringsInOrder c past) (sym same) (brings.turns (course_of did) (goes_none (course_of did)))
 
+  drops_so : (course : Course) → course ≡ course_of did → (all : List Entry) → EachAfter (MayWait devices (course_of did)) [] all → EachAfter (MayWait devices course) [] all
+  drops_so course same all waits = subst (λ (c : Course). EachAfter (MayWait devices c) [] all) (sym same) waits
+
   pub airs_cut : Cuts did past → AirsByLink false devices past
   airs_cut cuts = record {
     link = cuts.links.chip;
     airs = subst (λ (course : Course). EachAfter (MayAir devices course) [] past) (sym cuts.course) kept;
     brings = brought _ cuts.course;
+    drops = drops_so _ cuts.course past (at_waits devices did past m.outside.outer here tally.0 (course_of did) (goes_none (course_of did)));
   }
 
-  pub airs_whole : Cuts did (past ++ Said [] ∷ []) → AirsByLink true devices past
-  airs_whole cuts = record {
+  pub airs_whole : Cuts did (past ++ Said [] ∷ []) → EachAfter (MayWait devices (course_of did)) [] (past ++ Said [] ∷ []) → AirsByLink true devices past
+  airs_whole cuts waits = record {
     link = cuts.links.chip;
     airs =
         let (frames, serves, brings, keeps) = known.0 in
         subst (λ (course : Course). EachAfter (MayAir devices course) [] (past ++ Said [] ∷ [])) (sym cuts.course)
         (each-append (MayAir devices (course_of did)) [] past (Said [] ∷ []) kept ((keeps (course_of did) (goes_none (course_of did))).over, tt));
     brings = brought _ cuts.course;
+    drops = drops_so _ cuts.course (past ++ Said [] ∷ []) waits;
   }

@@ -1,5 +1,5 @@
 -- Where a line or tick begins: if the chip was given no fewer frames than it has for the host by the transcript, at most 32 of these wait, and none where its link is idle.
-use Rattle.std.proofs.Common.{◌≡◌, ◌≤◌, ℕ, List, [], length, sym, ap, ◌∙◌, subst, arith}
+use Rattle.std.proofs.Common.{◌≡◌, ◌≤◌, ℕ, List, [], length, sym, ap, ◌∙◌, subst, append-nil, arith}
 use Rattle.serial_frame.specs.Frame.{FrameParts}
 use Rattle.serial_link.specs.Rules.{Step}
 use Rattle.serial_link.specs.declared.turn.Turn.{Turn}
@@ -15,6 +15,9 @@ use Rattle.proof_chip.proofs.Growing.{many_frames}
 use Rattle.proof_chip.proofs.Picking.{begun_later}
 use Rattle.proof_chip.proofs.Submitting.{as_many}
 use Rattle.proof_chip.proofs.Turning.{idle_alike}
+
+pub goes_none : (course : Course) → GoesOn course course
+goes_none course = record { frames = []; flags = []; passed = sym (append-nil course.passed); firsts = sym (append-nil course.firsts) }
 
 module _ (devices : List State) (steps : List Step) (frames : List FrameParts) (past : List Entry) (port : PortState) (serves : Serves steps frames past port)
     (later : Course) (goes : GoesOn (course_of steps) later) (given_few : length (given devices later past) ≤ length frames) where

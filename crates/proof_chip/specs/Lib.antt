@@ -4,5 +4,6 @@ pub mod WorkedBringing
 pub mod Knowing
 pub mod Sending
 pub mod Calling
+pub mod Tally
 pub mod Served
 pub use Rattle.proof_line.specs.proof_world as proof_world

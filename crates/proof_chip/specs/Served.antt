@@ -3,6 +3,7 @@ use Rattle.std.specs.Prelude.{Bool, List}
 use Rattle.serial_link.specs.Rules.{Step}
 use Rattle.zw_words.specs.declared.side.Side.TheVariants.{Chip}
 use Rattle.zw_text.specs.declared.entry.Entry.{Entry}
+use Rattle.law_wire.specs.Answering.{DropsWhenFull}
 use Rattle.law_wire.specs.Asked.{course_of}
 use Rattle.law_wire.specs.Links.{KeepsLink, joined}
 use Rattle.law_wire.specs.Serial.{ended}
@@ -20,6 +21,7 @@ use Rattle.proof_chip.specs.Bringing.{BringsInOrder}
 use Rattle.proof_chip.specs.Calling.{KnowCalls}
 use Rattle.proof_chip.specs.Knowing.{KnownNodes}
 use Rattle.proof_chip.specs.Sending.{KnowAir}
+use Rattle.proof_chip.specs.Tally.{KnowTally}
 
 abbrev pub KnowMembers : Phase → List Entry → Machine → Type 0
 KnowMembers here past m = KnownNodes past m
@@ -28,14 +30,16 @@ KnowMembers here past m = KnownNodes past m
 abbrev pub KnowBeside : List State → Phase → List Entry → Machine → Type 0
 KnowBeside devices = both_know (both_know (both_know (both_know (both_know KnowHistory KnowTime) KnowLanding) (KnowNetworks devices)) KnowMembers) KnowCalls
 
--- by the same steps of the chip's link both links are known, and what goes on the air
+-- by the same steps of the chip's link both links are known, what goes on the air, and how many frames the chip has for the host
 abbrev pub KnowServing : List State → Phase → List Entry → Machine → Type 0
-KnowServing devices here past m = KnowBeside devices here past m × ((did : List Step) × KnowCuts did here past m × KnowAir devices did here past m)
+KnowServing devices here past m = KnowBeside devices here past m × ((did : List Step) × KnowCuts did here past m × KnowAir devices did here past m × KnowTally devices did here past m)
 
 -- ---- of a run
 
--- the chip's link keeps the rules, and by what that link did the controller puts on the air just what it takes, and the chip brings the host what was heard in order
+-- the chip's link keeps the rules, and by what that link did the controller puts on the air just what it takes, the chip brings the host what was heard in order, and it drops a frame only
+-- where 32 wait
 pub record AirsByLink (whole : Bool) (devices : List State) (transcript : List Entry) : Type 0 where
   pub link : KeepsLink Chip (ended whole transcript)
   pub airs : AirsWhatIsTaken devices (course_of (joined link.parts)) (ended whole transcript)
   pub brings : BringsInOrder (course_of (joined link.parts)) transcript
+  pub drops : DropsWhenFull devices (course_of (joined link.parts)) (ended whole transcript)

@@ -1,5 +1,5 @@
 -- Transcripts in which the chip brings two payloads of node 2, and courses of its link: what the law of their order accepts, and what it rejects.
-use Rattle.std.specs.Prelude.{Bool, true, false, List, [], ◌∷◌, ◌++◌, codes}
+use Rattle.std.specs.Prelude.{Bool, List, [], ◌∷◌, ◌++◌, codes}
 use Rattle.law_transcript.specs.Worked.{bytes}
 use Rattle.zw_words.specs.declared.side.Side.TheVariants.{Chip}
 use Rattle.zw_text.specs.declared.entry.Entry.{Entry}

@@ -12,7 +12,10 @@ ghost use Rattle.proof_chip.specs.Served.{AirsByLink};
 use crate::{calls_go_on, nodes_go_on};
 use proof_air::walk::time_goes_on;
 use proof_air::{history_goes_on, landings_go_on};
-use proof_line::traffic::hosts_obey_the_line;
+use proof_line::traffic::{
+    frames_fly_in_order, hosts_make_requests, hosts_obey_the_line, outsides_make_requests,
+    requests_keep_facts,
+};
 use proof_line::world::lines_keep_and_ask_well;
 use proof_routes::networks_go_on;
 use proof_serial::hosts_write_well;
@@ -21,7 +24,8 @@ use proof_serial::hosts_write_well;
 /// the chip's link keeps the rules of the serial line in time, and by what that link did the controller puts on the air just the frames of the SendData that
 /// are taken: each directly after the answer to its request, unless its node has no way then. Where all lines were run whole it is so up to the end of the
 /// last one. And with each frame that the chip begins to write, the frames that it has begun bring some of what the controller heard before, one each and in
-/// order.
+/// order. It drops a frame for the host only where 32 others wait, and no more than these wait at the beginning of a line or a tick, and wherever one may be
+/// added.
 pub fn chips_air_what_is_taken()
     ensures cut { (keys : Keys) (devices : List State) (lines : List Spoken) →
         AreDone (first_machine keys (Some []) devices) lines →
@@ -37,6 +41,10 @@ pub fn chips_air_what_is_taken()
     networks_go_on();
     nodes_go_on();
     calls_go_on();
+    frames_fly_in_order();
+    requests_keep_facts();
+    hosts_make_requests();
+    outsides_make_requests();
     hosts_obey_the_line();
     hosts_write_well();
     lines_keep_and_ask_well();

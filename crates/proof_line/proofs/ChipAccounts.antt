@@ -1,10 +1,15 @@
 -- Of which events of the chip an outcome outside the host is made, and the steps that the chip's link does at each event of the machine.
-use Rattle.std.proofs.Common.{◌≡◌, ◌&&◌, ℕ, Bool, true, false, if◌then◌else◌, List, [], ◌∷◌, ◌++◌, length, nat_le, refl}
-use Rattle.std.specs.Prelude.{Option, Some, None}
+use Rattle.std.proofs.Common.{◌≡◌, ◌&&◌, ℕ, zero, suc, Bool, true, false, if◌then◌else◌, List, [], ◌∷◌, ◌++◌, length, nat_le, refl}
+use Rattle.std.specs.Prelude.{Option, Some, None, drop}
+use Rattle.std.specs.Option.{unwrap_or}
 use Rattle.std.specs.List.{AllByRecursion}
 use Rattle.zw_base.proofs.Each.{all-weaker}
 use Rattle.serial_link.specs.Rules.{Step}
 use Rattle.route_table.specs.declared.route.Route.{Route}
+use Rattle.route_table.specs.Network.{linked}
+use Rattle.chip_functions.specs.Notice.{status_of}
+use Rattle.chip_functions.specs.declared.notice.TransmitStatus.{TransmitStatus}
+use Rattle.chip_functions.specs.declared.notice.TransmitStatus.TheVariants.{Fail, NoRoute as no_route_status}
 use Rattle.chip_sim.specs.Did.{judged_all}
 use Rattle.chip_sim.specs.Events.{ChipEvent, Collides, Done, Forgets, Heard as chip_hears, Informed, Ticked, after}
 use Rattle.chip_sim.specs.Link.{link_steps}
@@ -22,14 +27,17 @@ use Rattle.proof_walk.specs.mesh_sim.Steps as mesh
 use Rattle.zw_text.specs.declared.entry.Entry.TheVariants as entry
 use Rattle.proof_walk.specs.outside_model.State.{OuterState, Outside, Outcome, each, silent, tells, and_then, with_chip}
 use Rattle.proof_walk.specs.outside_model.Chip.{chip_does}
-use Rattle.proof_walk.specs.outside_model.Results.{device_at, frame_ends, gives}
+use Rattle.proof_walk.specs.outside_model.Results.{call_back, device_at, forgets, frame_ends, gives, leading, no_route, no_routes, owes_call, profile_for, without_no_route}
+use Rattle.proof_walk.specs.outside_model.declared.waits.Call.{Call}
+use Rattle.proof_walk.specs.outside_model.declared.waits.Due.{Due}
+use Rattle.proof_walk.specs.outside_model.declared.waits.Due.TheVariants.{Info, NoRoute as no_route_due}
 use Rattle.proof_walk.specs.outside_model.Air.{change_at, change_entries, deals}
 use Rattle.proof_walk.specs.outside_model.Devices.{acts_at}
 use Rattle.proof_walk.specs.outside_model.Events.{OuterEvent, Arrives, Chip_takes, Chip_ticks, Collides_next, Gives, Repeats, mesh_of, steps}
 use Rattle.proof_walk.specs.world_model.State.{Machine}
 use Rattle.proof_walk.specs.world_model.Events.{Event, Outside_does}
 use Rattle.proof_walk.proofs.Entered.{IsChange, change_entered}
-use Rattle.proof_walk.proofs.Results.{Calls, Gives as GivesSo, IsGiven, IsResult, IsSameChip, due_goes, end_goes}
+use Rattle.proof_walk.proofs.Results.{Gives as GivesSo, IsGiven, IsResult, IsSameChip}
 use Rattle.proof_line.proofs.ChipTelling.{at_goes, change_of_air}
 use Rattle.proof_walk.specs.Outside.{IsOfAir}
 
@@ -64,9 +72,59 @@ accounts = record {
   forgotten = λ o a b. Forgotten o a b;
 }
 
--- ---- of results alone
+-- ---- results
 
--- the chip hears no payload
+abbrev pub same_chip : (o : OuterState) (calls : List Call) (due : List Due) → IsSameChip o (record o { calls = calls; due = due })
+same_chip o calls due = record { chip = refl; to_chip = refl; to_host = refl; air = refl; in_tick = refl; stamped = refl; clock = refl }
+
+abbrev still_so : (o : OuterState) → Account o (silent o)
+still_so o = Still o o (same_chip o o.calls o.due)
+
+abbrev pub call_if : (b : Bool) (o : OuterState) (status : TransmitStatus)
+    → Account o (if b then chip_does (record o { calls = drop 1 o.calls }) (Done status) else silent (record o { calls = drop 1 o.calls }))
+call_if true o status =
+    let p : OuterState = record o { calls = drop 1 o.calls } in Later o p (chip_does p (Done status)) (same_chip o (drop 1 o.calls) o.due) (Does p (Done status) tt)
+call_if false o status = Still o (record o { calls = drop 1 o.calls }) (same_chip o (drop 1 o.calls) o.due)
+
+abbrev pub call_account : (o : OuterState) (status : TransmitStatus) → Account o (call_back o status)
+call_account o status = call_if (owes_call o.chip.state) o status
+
+abbrev pub no_route_account : (o : OuterState) → Account o (no_route o)
+no_route_account o =
+    let p : OuterState = record o { due = without_no_route o.due } in Later o p (no_route o) (same_chip o o.calls (without_no_route o.due)) (call_account p no_route_status)
+
+abbrev pub no_routes_account : (count : ℕ) (o : OuterState) → Account o (no_routes count o)
+no_routes_account zero o = still_so o
+no_routes_account (suc count) o = Both o (no_route o) (λ later. no_routes count later) (no_route_account o) (no_routes_account count (no_route o).outer)
+
+abbrev pub forget_if : (b : Bool) (o : OuterState) (hop : ℕ × ℕ)
+    → Account o (if b then tells (with_chip o (after o.chip.state (Forgets hop.0 hop.1))) (entry.Forget hop.0 hop.1 ∷ []) else silent o)
+forget_if true o hop = Forgotten o hop.0 hop.1
+forget_if false o hop = still_so o
+
+abbrev pub forgets_account : (o : OuterState) (dead : Option (ℕ × ℕ)) → Account o (forgets o dead)
+forgets_account o None = still_so o
+forgets_account o (Some hop) = forget_if (linked o.chip.state.table hop.0 hop.1) o hop
+
+-- a frame of the chip has ended
+abbrev pub calls_account : (o : OuterState) (status : TransmitStatus) → Account o (and_then (no_routes (leading o.calls) o) (λ later. call_back later status))
+calls_account o status =
+    Both o (no_routes (leading o.calls) o) (λ later. call_back later status) (no_routes_account (leading o.calls) o) (call_account (no_routes (leading o.calls) o).outer status)
+
+abbrev pub ends_account : (o : OuterState) (status : ℕ) (dead : Option (ℕ × ℕ)) → Account o (frame_ends o status dead)
+ends_account o status dead =
+    Both o (forgets o dead) (λ forgot. and_then (no_routes (leading forgot.calls) forgot) (λ later. call_back later (unwrap_or (status_of status) Fail))) (forgets_account o dead)
+    (calls_account (forgets o dead).outer (unwrap_or (status_of status) Fail))
+
+-- what is due is given
+abbrev pub due_account : (o : OuterState) (devices : List State) (due : List Due) (route : Option Route) → Account o (gives o devices due route)
+due_account o devices [] route = still_so o
+due_account o devices (no_route_due ∷ due) route = no_route_account o
+due_account o devices (Info node ∷ due) route =
+    let p : OuterState = record o { due = due } in
+    Later o p (gives o devices (Info node ∷ due) route) (same_chip o o.calls due) (Does p (Informed node (profile_for o.air devices node route)) tt)
+
+-- no payload is heard among these
 abbrev pub IsOfResults : {o : OuterState} {x : Outcome} → Account o x → Type 0
 IsOfResults (Still o p is) = Unit {0}
 IsOfResults (Both o first next one later) = IsOfResults one × IsOfResults later
@@ -76,21 +134,35 @@ IsOfResults (Forgotten o a b) = Unit {0}
 IsOfResults (Of_air o x of_air to_host to_chip port) = Unit {0}
 IsOfResults (In_air o air x account) = IsOfResults account
 
-abbrev Results : OuterState → Outcome → Type 0
-Results o x = (account : Account o x) × IsOfResults account
+call_results : (b : Bool) (o : OuterState) (status : TransmitStatus) → IsOfResults (call_if b o status)
+call_results true o status = tt
+call_results false o status = tt
 
-does_result : (o : OuterState) (event : ChipEvent) → IsResult event → Results o (chip_does o event)
-does_result o (Done status) is = (Does o (Done status) tt, tt)
-does_result o (Informed node profile) is = (Does o (Informed node profile) tt, tt)
-does_result o event is = absurd is
+no_route_results : (o : OuterState) → IsOfResults (no_route_account o)
+no_route_results o = call_results (owes_call o.chip.state) (record o { due = without_no_route o.due }) no_route_status
 
-results : Calls Results
-results = record {
-  still = λ o p is. (Still o p is, tt);
-  both = λ o first next one later. let rest = later first.outer in (Both o first next one.0 rest.0, (one.1, rest.1));
-  later = λ o p x is one. (Later o p x is one.0, one.1);
-  result = does_result;
-}
+no_routes_results : (count : ℕ) (o : OuterState) → IsOfResults (no_routes_account count o)
+no_routes_results zero o = tt
+no_routes_results (suc count) o = (no_route_results o, no_routes_results count (no_route o).outer)
+
+forget_results : (b : Bool) (o : OuterState) (hop : ℕ × ℕ) → IsOfResults (forget_if b o hop)
+forget_results true o hop = tt
+forget_results false o hop = tt
+
+forgets_results : (o : OuterState) (dead : Option (ℕ × ℕ)) → IsOfResults (forgets_account o dead)
+forgets_results o None = tt
+forgets_results o (Some hop) = forget_results (linked o.chip.state.table hop.0 hop.1) o hop
+
+ends_results : (o : OuterState) (status : ℕ) (dead : Option (ℕ × ℕ)) → IsOfResults (ends_account o status dead)
+ends_results o status dead =
+    let forgot : OuterState = (forgets o dead).outer in
+    let later : OuterState = (no_routes (leading forgot.calls) forgot).outer in
+    (forgets_results o dead, (no_routes_results (leading forgot.calls) forgot, call_results (owes_call later.chip.state) later (unwrap_or (status_of status) Fail)))
+
+due_results : (o : OuterState) (devices : List State) (due : List Due) (route : Option Route) → IsOfResults (due_account o devices due route)
+due_results o devices [] route = tt
+due_results o devices (no_route_due ∷ due) route = no_route_results o
+due_results o devices (Info node ∷ due) route = tt
 
 -- ---- what the air tells
 
@@ -99,17 +171,10 @@ abbrev pub IsNoPayload : AirEvent → Type 0
 IsNoPayload (air_event.ToChip frame from payload) = ⊥
 IsNoPayload event = Unit {0}
 
-abbrev still_so : (o : OuterState) → Account o (silent o)
-still_so o = Still o o (record { chip = refl; to_chip = refl; to_host = refl; air = refl; in_tick = refl; stamped = refl; clock = refl })
-
 -- the chip hears a payload that has room in a frame
 abbrev pub heard_account : (b : Bool) (o : OuterState) (from : ℕ) (payload : List ℕ) → Account o (if b then chip_does o (chip_hears from payload) else silent o)
 heard_account true o from payload = Does o (chip_hears from payload) tt
 heard_account false o from payload = still_so o
-
--- a frame of the chip has ended
-pub ends_so : (o : OuterState) (status : ℕ) (dead : Option (ℕ × ℕ)) → Results o (frame_ends o status dead)
-ends_so o status dead = end_goes Results results (λ p a b. (Forgotten p a b, tt)) o status dead
 
 module _ (devices : List State) where
   pub changes_told : (node at : ℕ) → AllByRecursion IsOfAir (change_entries node (change_at (device_at devices (place_of node devices)) at))
@@ -123,7 +188,7 @@ module _ (devices : List State) where
   deal_account o (air_event.Sent frame from to route payload) = Of_air o (deals devices o (air_event.Sent frame from to route payload)) (tt, tt) refl refl refl
   deal_account o (air_event.Changed node at) = Of_air o (deals devices o (air_event.Changed node at)) (changes_told node at) refl refl refl
   deal_account o (air_event.ToChip frame from payload) = heard_account (nat_le 1 (length payload) && nat_le (length payload) 46) o from payload
-  deal_account o (air_event.Done frame status dead) = (ends_so o status dead).0
+  deal_account o (air_event.Done frame status dead) = ends_account o status dead
 
   abbrev pub all_account : (events : List AirEvent) (o : OuterState) → Account o (each (deals devices) o events)
   all_account [] o = still_so o
@@ -131,7 +196,7 @@ module _ (devices : List State) where
 
   deal_results : (o : OuterState) (event : AirEvent) → IsNoPayload event → IsOfResults (deal_account o event)
   deal_results o (air_event.ToChip frame from payload) none = absurd none
-  deal_results o (air_event.Done frame status dead) none = (ends_so o status dead).1
+  deal_results o (air_event.Done frame status dead) none = ends_results o status dead
   deal_results o (air_event.Heard frame) none = tt
   deal_results o (air_event.Lost frame) none = tt
   deal_results o (air_event.Unheard frame) none = tt
@@ -148,15 +213,12 @@ steps_account w step =
     In_air w.outer (mesh_after (mesh_of w) step).air (steps w step)
     (all_account (mesh_after (mesh_of w) step).devices (mesh_outs (mesh_of w) step) (record w.outer { air = (mesh_after (mesh_of w) step).air }))
 
-pub gives_so : (w : Outside) (route : Option Route) → Results w.outer (gives w.outer w.devices w.outer.due route)
-gives_so w route = due_goes Results results w.outer w.devices w.outer.due route
-
 unfoldable pub gives_account : (w : Outside) (route : Option Route) → Account w.outer (gives w.outer w.devices w.outer.due route)
-gives_account w route = (gives_so w route).0
+gives_account w route = due_account w.outer w.devices w.outer.due route
 
 pub gives_results : (w : Outside) (route : Option Route) → IsOfResults (gives_account w route)
 unfolding gives_account
-gives_results w route = (gives_so w route).1
+gives_results w route = due_results w.outer w.devices w.outer.due route
 
 pub at_account : (o : OuterState) (found : Option State) (event : DeviceEvent) (route : Option Route) → Account o (acts_at o found event route)
 at_account o found event route = at_goes Account accounts (λ p x of_air to_host to_chip port. Of_air p x of_air to_host to_chip port) (λ p air x account. In_air p air x account) o found event route

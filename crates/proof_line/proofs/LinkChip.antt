@@ -31,7 +31,8 @@ use Rattle.proof_walk.proofs.Times.{does_chip}
 use Rattle.proof_line.specs.Links.{Brings, IsMute, KnowsEvents, KnowsLink, LinkNow, MayHear, MayOfChip, gone, with_arriving}
 use Rattle.proof_line.proofs.Tellings.{IsBeside, Tells, tells_none}
 use Rattle.proof_line.proofs.ChipTelling.{does_tell}
-use Rattle.proof_line.proofs.LinkTold.{arriving_all, brings_taken, none_first, others_known, steps_known, takes_split}
+use Rattle.proof_line.proofs.LinkTold.{arriving_all, brings_taken, others_known, steps_known, takes_split}
+use Rattle.proof_walk.proofs.Moving.{both_none as none_first}
 use Rattle.proof_line.proofs.LinkGoes.{chip_goes}
 use Rattle.proof_line.proofs.LinkCourse.{mute_of}
 
@@ -51,9 +52,9 @@ chip_event_known o e past now left knows link waits may hears =
     (subst (λ (l : List LineUnit). Tells IsBeside Chip o.to_host l (chip_does o e).entries) (units_event s e) (does_tell o e).told)
 
 -- and of the host's: what arrives of the units that the chip writes
-pub chip_event_arrives : (o : OuterState) (e : ChipEvent) (past : List Entry) (now : LinkNow) → KnowsLink Host past now
+pub chip_event_arrives : (o : OuterState) (e : ChipEvent) (past : List Entry) (now : LinkNow) → Brings o.to_host now.coming → KnowsLink Host past now
     → KnowsLink Host (past ++ (chip_does o e).entries) (with_arriving now (arriving_all Chip o.to_host (chip_units (outs o.chip.state e))))
-chip_event_arrives o e past now knows = others_known (chip_units (outs o.chip.state e)) Host past now o.to_host (chip_does o e).entries knows (does_tell o e).told
+chip_event_arrives o e past now way knows = others_known (chip_units (outs o.chip.state e)) Host past now o.to_host (chip_does o e).entries way.bytes knows (does_tell o e).told
 
 -- where nothing is told nothing was written
 pub does_mute : (o : OuterState) (e : ChipEvent) → (chip_does o e).entries ≡ [] → AllByRecursion IsMute (link_steps o.chip.state e)

@@ -1,6 +1,6 @@
 -- What is known of a link goes on with steps, units and events of the serial line, and in the end is the law.
-use Rattle.std.proofs.Common.{◌≡◌, ◌≤◌, ℕ, ◌+◌, ◌-◌, ◌&&◌, not, nat_lt, Bool, true, false, if◌then◌else◌, List, [], ◌∷◌, ◌++◌, map, length, refl, sym, ap, ◌∙◌, subst, append-nil, append_assoc, length-append, arith}
-use Rattle.std.specs.List.{flat_map, list_any}
+use Rattle.std.proofs.Common.{◌≡◌, ◌≤◌, ℕ, ◌+◌, ◌-◌, ◌&&◌, ◌||◌, not, nat_lt, Bool, true, false, if◌then◌else◌, List, [], ◌∷◌, ◌++◌, map, length, refl, sym, ap, ◌∙◌, subst, append-nil, append_assoc, length-append, arith}
+use Rattle.std.specs.List.{flat_map, list_all, list_any}
 use Rattle.zw_base.proofs.Each.{all-append}
 use Rattle.serial_frame.specs.Items.{unit_text}
 use Rattle.serial_frame.specs.declared.unit.Unit.{Unit as LineUnit}
@@ -13,16 +13,17 @@ use Rattle.zw_words.specs.declared.side.Side.{Side}
 use Rattle.zw_words.specs.declared.side.Side.TheVariants.{Host, Chip}
 use Rattle.zw_text.specs.declared.entry.Entry.{Entry}
 use Rattle.zw_text.specs.declared.line.Line.{Line}
+use Rattle.law_wire.specs.law_transcript.Lists.{EachAfter}
 use Rattle.law_wire.specs.law_transcript.Restarts.{is_restart}
 use Rattle.law_wire.specs.Clearing.{lost_by}
-use Rattle.law_wire.specs.Serial.{SerialEvent, arriving_of, serial_events}
+use Rattle.law_wire.specs.Serial.{SerialEvent, arriving_of, lacking_of, serial_events}
 use Rattle.law_wire.specs.Serial.SerialEvent.{Line_begins, Tick_begins, Writes}
-use Rattle.law_wire.specs.Links.{HasTicked, KeepsLink, LeavesFew, Moment, Round, WriteLast, arrivals_of, ends_round, most_left, stall_by, MayDo, Obeys, WritesThere, arrival_of, clock_in, is_stalled, joined, moments_of, other, round_of, steps_in, texts_of, unit_by}
+use Rattle.law_wire.specs.Links.{FindsRoom, HasTicked, KeepsLink, LeavesFew, Moment, Round, WriteLast, arrivals_of, ends_round, most_left, stall_by, MayDo, Obeys, WritesThere, arrival_of, clock_in, has_room, is_let_in, is_stalled, joined, moments_of, other, round_of, steps_in, texts_of, unit_by}
 use Rattle.proof_line.specs.Links.{Does, Hears, IsAt, IsMute, KeepsSoFar, KnowsEvents, KnowsLink, LinkNow, MayEnd, MayEndNow, MayHear, MayStep, TakesTexts, begun_line, begun_tick, life_of, most_of, round_steps, stalls_in, stepped, with_arriving}
 use Rattle.proof_line.proofs.Moments.{arrivals_one, moments_one, round_one}
 use Rattle.proof_line.proofs.Serials.{beside_serials, unit_serials}
 use Rattle.proof_line.proofs.Standing.{same_itself}
-use Rattle.proof_line.proofs.Arriving.{marks_of}
+use Rattle.proof_line.proofs.Arriving.{flat, let_in, marks_of}
 use Rattle.proof_line.proofs.Tellings.{IsBeside}
 use Rattle.proof_line.proofs.LinkSteps.{asks_by, clock_one, does_more, does_on, ends_part, hears_next, hears_on, hears_same, life_same, lost_same, mute_last, round_same, stalls_one, unit_may_end, writes_last}
 
@@ -46,6 +47,12 @@ keeps_link side past now knows = record {
   ticks = knows.keeps.ticks;
   collides = knows.keeps.collides;
 }
+
+-- and just the units of the other side found no room that had none
+pub keeps_room : (side : Side) (past : List Entry) (now : LinkNow) (knows : KnowsLink side past now)
+    → EachAfter (FindsRoom side) [] (moments_of (serial_events past) (keeps_link side past now knows).parts)
+unfolding keeps_link
+keeps_room side past now knows = knows.keeps.room
 
 -- and with these steps the bytes that each restart lost are those
 pub keeps_lost : (side : Side) (past : List Entry) (now : LinkNow) (knows : KnowsLink side past now) → lost_by side past (keeps_link side past now knows).parts ≡ now.lost
@@ -153,19 +160,19 @@ just_known : (side : Side) (events : List SerialEvent) (parts : List (List Step)
 just_known side events parts now same keeps does hears at = record { parts = parts; steps = []; each = same; keeps = keeps; does = does; mute = tt; hears = hears; at = at }
 
 -- no collision is asked for by a unit
-units_ask_none : (side on : Side) (unit : List ℕ) (arriving : List (List ℕ)) → asks_by side (Writes on unit arriving) ≡ 0
-units_ask_none Host on unit arriving = refl
-units_ask_none Chip on unit arriving = refl
+units_ask_none : (side on : Side) (unit : List ℕ) (arriving lacking : List (List ℕ)) → asks_by side (Writes on unit arriving lacking) ≡ 0
+units_ask_none Host on unit arriving lacking = refl
+units_ask_none Chip on unit arriving lacking = refl
 
 -- where a unit is written
-at_unit : (side on : Side) (past : List Moment) (steps : List Step) (now : LinkNow) (unit : List ℕ) (arriving : List (List ℕ)) → IsAt side past steps now
-    → IsAt side (past ++ record { event = Writes on unit arriving; steps = steps } ∷ []) [] (with_arriving now (arrival_of (other side) (Writes on unit arriving)))
-at_unit side on past steps now unit arriving at =
-    let one : Moment = record { event = Writes on unit arriving; steps = steps } in
-    let more : List (List ℕ) = arrival_of (other side) (Writes on unit arriving) in
+at_unit : (side on : Side) (past : List Moment) (steps : List Step) (now : LinkNow) (unit : List ℕ) (arriving lacking : List (List ℕ)) → IsAt side past steps now
+    → IsAt side (past ++ record { event = Writes on unit arriving lacking; steps = steps } ∷ []) [] (with_arriving now (arrival_of (other side) (Writes on unit arriving lacking)))
+at_unit side on past steps now unit arriving lacking at =
+    let one : Moment = record { event = Writes on unit arriving lacking; steps = steps } in
+    let more : List (List ℕ) = arrival_of (other side) (Writes on unit arriving lacking) in
     let all : arrivals_of (other side) (round_of (past ++ one ∷ [])).moments ≡ arrivals_of (other side) (round_of past).moments ++ more
     = ap (λ (r : Round). arrivals_of (other side) r.moments) (round_one past one) ∙ arrivals_one (other side) (round_of past).moments one in
-    let same = round_same past on unit arriving steps in
+    let same = round_same past on unit arriving lacking steps in
     let clock : clock_in (past ++ one ∷ []) ≡ clock_in past + 0 = clock_one past one in
     let before : clock_in past ≡ now.clock = at.clock in
     record {
@@ -188,14 +195,14 @@ module _ (side : Side) (events : List SerialEvent) (now : LinkNow) (knows : Know
 
   -- with these steps at last, of which this link comes, and this is left on its way
   pub event_known : (event : SerialEvent) (steps : List Step) (last : LinkSide) (left : List (List ℕ)) (next : LinkNow) → Does side Before steps last → Hears side Before steps left
-      → WritesThere side (record { event = event; steps = steps }) → MayEnd side Before steps left event
+      → WritesThere side (record { event = event; steps = steps }) → is_let_in side left event ≡ true → MayEnd side Before steps left event
       → Does side (Before ++ record { event = event; steps = steps } ∷ []) [] next.link → Hears side (Before ++ record { event = event; steps = steps } ∷ []) [] next.coming
       → IsAt side (Before ++ record { event = event; steps = steps } ∷ []) [] next → KnowsEvents side (events ++ event ∷ []) next
-  event_known event steps last left next does hears writes may later_does later_hears at =
+  event_known event steps last left next does hears writes room may later_does later_hears at =
       let one : Moment = record { event = event; steps = steps } in
       let is : Before ++ one ∷ [] ≡ moments_of (events ++ event ∷ []) (knows.parts ++ steps ∷ []) = sym (moments_one events knows.parts event steps knows.each) in
       just_known side (events ++ event ∷ []) (knows.parts ++ steps ∷ []) next (one_more events knows.parts event steps knows.each)
-      (subst (λ (l : List Moment). KeepsSoFar side l) is (ends_part side Before one last left no_steps knows.keeps does hears writes may))
+      (subst (λ (l : List Moment). KeepsSoFar side l) is (ends_part side Before one last left no_steps knows.keeps does hears writes room may))
       (subst (λ (l : List Moment). Does side l [] next.link) is later_does)
       (subst (λ (l : List Moment). Hears side l [] next.coming) is later_hears)
       (subst (λ (l : List Moment). IsAt side l [] next) is at)
@@ -233,7 +240,7 @@ module _ (side : Side) (events : List SerialEvent) (now : LinkNow) (knows : Know
       let begins = round_one Before one in
       let clock : clock_in (Before ++ one ∷ []) ≡ clock_in Before + 0 = clock_one Before one in
       let before : clock_in Before ≡ now.clock = knows.at.clock in
-      event_known event steps now.link now.coming next knows.does knows.hears (mute_last steps knows.mute) (may_end event refl may) (does_on side Before one now.link plain none knows.does)
+      event_known event steps now.link now.coming next knows.does knows.hears (mute_last steps knows.mute) refl (may_end event refl may) (does_on side Before one now.link plain none knows.does)
       (subst (λ (l : List (List ℕ)). Hears side (Before ++ one ∷ []) [] l) (append-nil now.coming) (hears_on side Before one now.coming plain knows.hears))
       (record {
         is_tick = ap (λ (r : Round). r.is_tick) begins;
@@ -246,15 +253,16 @@ module _ (side : Side) (events : List SerialEvent) (now : LinkNow) (knows : Know
       })
 
   -- a unit of either side
-  unit_ends : (on : Side) (unit : List ℕ) (arriving : List (List ℕ)) (steps : List Step) (later : LinkNow) → Does side Before steps later.link → Hears side Before steps later.coming
-      → IsAt side Before steps later → WritesThere side (record { event = Writes on unit arriving; steps = steps })
-      → KnowsEvents side (events ++ Writes on unit arriving ∷ []) (with_arriving later (arrival_of (other side) (Writes on unit arriving)))
-  unit_ends on unit arriving steps later does hears at writes =
-      let event : SerialEvent = Writes on unit arriving in
+  unit_ends : (on : Side) (unit : List ℕ) (arriving lacking : List (List ℕ)) (steps : List Step) (later : LinkNow) → Does side Before steps later.link
+      → Hears side Before steps later.coming → IsAt side Before steps later → WritesThere side (record { event = Writes on unit arriving lacking; steps = steps })
+      → is_let_in side later.coming (Writes on unit arriving lacking) ≡ true
+      → KnowsEvents side (events ++ Writes on unit arriving lacking ∷ []) (with_arriving later (arrival_of (other side) (Writes on unit arriving lacking)))
+  unit_ends on unit arriving lacking steps later does hears at writes room =
+      let event : SerialEvent = Writes on unit arriving lacking in
       let one : Moment = record { event = event; steps = steps } in
-      event_known event steps later.link later.coming (with_arriving later (arrival_of (other side) event)) does hears writes (unit_may_end side on Before steps later.coming unit arriving)
-      (does_on side Before one later.link refl (units_ask_none side on unit arriving) does) (hears_on side Before one later.coming refl hears)
-      (at_unit side on Before steps later unit arriving at)
+      event_known event steps later.link later.coming (with_arriving later (arrival_of (other side) event)) does hears writes room (unit_may_end side on Before steps later.coming unit arriving lacking)
+      (does_on side Before one later.link refl (units_ask_none side on unit arriving lacking) does) (hears_on side Before one later.coming refl hears)
+      (at_unit side on Before steps later unit arriving lacking at)
 
   -- a tick
   pub tick_known : MayEndNow side now → KnowsEvents side (events ++ Tick_begins ∷ []) (begun_tick now)
@@ -262,7 +270,7 @@ module _ (side : Side) (events : List SerialEvent) (now : LinkNow) (knows : Know
       let steps : List Step = knows.steps in
       let one : Moment = record { event = Tick_begins; steps = steps } in
       let begins = round_one Before one in
-      event_known Tick_begins steps now.link now.coming (begun_tick now) knows.does knows.hears (mute_last steps knows.mute) (may_end Tick_begins refl may)
+      event_known Tick_begins steps now.link now.coming (begun_tick now) knows.does knows.hears (mute_last steps knows.mute) refl (may_end Tick_begins refl may)
       (does_on side Before one now.link refl (ticks_ask_none side) knows.does)
       (subst (λ (l : List (List ℕ)). Hears side (Before ++ one ∷ []) [] l) (append-nil now.coming) (hears_on side Before one now.coming refl knows.hears))
       (record {
@@ -281,9 +289,9 @@ module _ (side : Side) (events : List SerialEvent) (now : LinkNow) (knows : Know
 
 -- ---- with entries
 
-own_arrival : (side : Side) (unit : List ℕ) (arriving : List (List ℕ)) → arrival_of (other side) (Writes side unit arriving) ≡ []
-own_arrival Host unit arriving = refl
-own_arrival Chip unit arriving = refl
+own_arrival : (side : Side) (unit : List ℕ) (arriving lacking : List (List ℕ)) → arrival_of (other side) (Writes side unit arriving lacking) ≡ []
+own_arrival Host unit arriving lacking = refl
+own_arrival Chip unit arriving lacking = refl
 
 none_arriving : (side : Side) (events : List SerialEvent) (now : LinkNow) → KnowsEvents side events (with_arriving now []) → KnowsEvents side events now
 none_arriving side events now knows =
@@ -293,9 +301,15 @@ none_arriving side events now knows =
     plus_none : now.brought + 0 ≡ now.brought
     plus_none = omega arith
 
-other_arrival : (side : Side) (unit : List ℕ) (arriving : List (List ℕ)) → (arrival_of (other side) (Writes (other side) unit arriving) ≡ arriving) × (unit_by side (Writes (other side) unit arriving) ≡ [])
-other_arrival Host unit arriving = (refl, refl)
-other_arrival Chip unit arriving = (refl, refl)
+other_arrival : (side : Side) (unit : List ℕ) (arriving lacking : List (List ℕ))
+    → (arrival_of (other side) (Writes (other side) unit arriving lacking) ≡ arriving) × (unit_by side (Writes (other side) unit arriving lacking) ≡ [])
+other_arrival Host unit arriving lacking = (refl, refl)
+other_arrival Chip unit arriving lacking = (refl, refl)
+
+-- of its own units a side says nothing
+own_room : (side : Side) (units : List (List ℕ)) (unit : List ℕ) (arriving lacking : List (List ℕ)) → is_let_in side units (Writes side unit arriving lacking) ≡ true
+own_room side units unit arriving lacking =
+    ap (λ (b : Bool). b || (list_all (has_room units) arriving && not (list_any (has_room units) lacking))) (same_itself side)
 
 -- a unit that a step of the side writes
 pub write_known : (side : Side) (past : List Entry) (now : LinkNow) (new : LinkSide) (left : List (List ℕ)) (step : Step) (way : WayState) (unit : LineUnit) → KnowsLink side past now
@@ -303,27 +317,30 @@ pub write_known : (side : Side) (past : List Entry) (now : LinkNow) (new : LinkS
 write_known side past now new left step way unit knows goes hears is =
     let events : List SerialEvent = serial_events past in
     let arriving : List (List ℕ) = arriving_of side (unit_text unit) (marks_of side way unit) in
-    let event : SerialEvent = Writes side (unit_text unit) arriving in
+    let lacking : List (List ℕ) = lacking_of side (unit_text unit) (marks_of side way unit) in
+    let event : SerialEvent = Writes side (unit_text unit) arriving lacking in
     let later : LinkNow = stepped now step new left in
     let got =
-    unit_ends side events now knows side (unit_text unit) arriving (knows.steps ++ step ∷ []) later (step_does side events now knows new step goes)
+    unit_ends side events now knows side (unit_text unit) arriving lacking (knows.steps ++ step ∷ []) later (step_does side events now knows new step goes)
     (step_hears side events now knows step left hears) (at_step side (moments_of events knows.parts) knows.steps now step new left knows.at)
-    (subst (λ (b : Bool). WriteLast (knows.steps ++ step ∷ []) (if b then unit_text unit ∷ [] else [])) (sym (same_itself side)) (writes_last knows.steps step (unit_text unit ∷ []) knows.mute is)) in
+    (subst (λ (b : Bool). WriteLast (knows.steps ++ step ∷ []) (if b then unit_text unit ∷ [] else [])) (sym (same_itself side)) (writes_last knows.steps step (unit_text unit ∷ []) knows.mute is))
+    (own_room side left (unit_text unit) arriving lacking) in
     subst (λ (l : List SerialEvent). KnowsEvents side l later) (sym (unit_serials side way unit past).0)
     (none_arriving side (events ++ event ∷ []) later
-    (subst (λ (l : List (List ℕ)). KnowsEvents side (events ++ event ∷ []) (with_arriving later l)) (own_arrival side (unit_text unit) arriving) got))
+    (subst (λ (l : List (List ℕ)). KnowsEvents side (events ++ event ∷ []) (with_arriving later l)) (own_arrival side (unit_text unit) arriving lacking) got))
 
 -- a unit that the other side writes
-pub other_known : (side : Side) (past : List Entry) (now : LinkNow) (way : WayState) (unit : LineUnit) → KnowsLink side past now
+pub other_known : (side : Side) (past : List Entry) (now : LinkNow) (way : WayState) (unit : LineUnit) → way.bytes ≡ flat now.coming → KnowsLink side past now
     → KnowsLink side (past ++ told (other side) way unit) (with_arriving now (arriving_of (other side) (unit_text unit) (marks_of (other side) way unit)))
-other_known side past now way unit knows =
+other_known side past now way unit bytes knows =
     let events : List SerialEvent = serial_events past in
     let arriving : List (List ℕ) = arriving_of (other side) (unit_text unit) (marks_of (other side) way unit) in
-    let event : SerialEvent = Writes (other side) (unit_text unit) arriving in
-    let both = other_arrival side (unit_text unit) arriving in
+    let lacking : List (List ℕ) = lacking_of (other side) (unit_text unit) (marks_of (other side) way unit) in
+    let event : SerialEvent = Writes (other side) (unit_text unit) arriving lacking in
+    let both = other_arrival side (unit_text unit) arriving lacking in
     let got =
-    unit_ends side events now knows (other side) (unit_text unit) arriving knows.steps now knows.does knows.hears knows.at
-    (subst (λ (l : List (List ℕ)). WriteLast knows.steps l) (sym both.1) (mute_last knows.steps knows.mute)) in
+    unit_ends side events now knows (other side) (unit_text unit) arriving lacking knows.steps now knows.does knows.hears knows.at
+    (subst (λ (l : List (List ℕ)). WriteLast knows.steps l) (sym both.1) (mute_last knows.steps knows.mute)) (let_in side now.coming way unit bytes) in
     subst (λ (l : List SerialEvent). KnowsEvents side l (with_arriving now arriving)) (sym (unit_serials (other side) way unit past).0)
     (subst (λ (l : List (List ℕ)). KnowsEvents side (events ++ event ∷ []) (with_arriving now l)) both.0 got)
 

@@ -12,11 +12,10 @@ use Rattle.zw_text.specs.declared.line.Line.TheVariants as lines
 use Rattle.zw_text.specs.declared.entry.Entry.{Entry}
 use Rattle.zw_text.specs.declared.entry.Entry.TheVariants as entry
 use Rattle.zw_text.specs.Transcript.{line_of}
-use Rattle.law_wire.specs.Clearing.{bytes_in}
 use Rattle.law_wire.specs.law_transcript.Restarts.{ticks_asked}
 use Rattle.law_wire.specs.Serial.{SerialEvent, beginning_of, done_line, serial_events, serial_events_from, ticks_up_to}
 use Rattle.law_wire.specs.Serial.SerialEvent.{Line_begins}
-use Rattle.law_wire.specs.Links.{Moment, Round, stall_by, arrivals_of, clock_in, moments_of, steps_in, texts_of}
+use Rattle.law_wire.specs.Links.{bytes_in, Moment, Round, stall_by, arrivals_of, clock_in, moments_of, steps_in, texts_of}
 use Rattle.proof_line.specs.Links.{Does, Hears, IsAt, KeepsSoFar, KnowsEvents, LinkNow, MayEndNow, begun_line, due_from, stalls_in, tick_told, told_from}
 use Rattle.proof_line.proofs.Moments.{moments_one, round_one, steps_one}
 use Rattle.proof_line.proofs.Serials.{serials_grow, told_grows}
@@ -68,7 +67,7 @@ module _ (events : List SerialEvent) (now : LinkNow) where
       let begins = round_one before one in
       let clock : clock_in (before ++ one ∷ []) ≡ clock_in before + 0 = clock_one before one in
       let was : clock_in before ≡ now.clock = knows.at.clock in
-      event_known Host events now knows Restart knows.steps now.link now.coming (restarted now [] new) knows.does knows.hears (mute_last knows.steps knows.mute)
+      event_known Host events now knows Restart knows.steps now.link now.coming (restarted now [] new) knows.does knows.hears (mute_last knows.steps knows.mute) refl
       (may_end Host events now knows Restart refl may) (does_again before one new refl obeys) (hears_again Host before one refl)
       (record {
         is_tick = ap (λ (r : Round). r.is_tick) begins;
@@ -89,7 +88,7 @@ module _ (events : List SerialEvent) (now : LinkNow) where
       let clock : clock_in (before ++ one ∷ []) ≡ clock_in before + 0 = clock_one before one in
       let was : clock_in before ≡ now.clock = knows.at.clock in
       let life : steps_in (before ++ one ∷ []) ++ [] ≡ steps_in before ++ knows.steps = append-nil (steps_in (before ++ one ∷ [])) ∙ steps_one before one in
-      event_known Chip events now knows Restart knows.steps now.link now.coming (restarted now now.life now.link) knows.does knows.hears (mute_last knows.steps knows.mute)
+      event_known Chip events now knows Restart knows.steps now.link now.coming (restarted now now.life now.link) knows.does knows.hears (mute_last knows.steps knows.mute) refl
       (may_end Chip events now knows Restart refl may)
       (record { obeys = subst (λ (l : List Step). SideObeys l now.link) (sym life) knows.does.obeys; may = tt; asks = sym (asked_next Chip before one) })
       (hears_again Chip before one refl)
@@ -125,7 +124,7 @@ module _ (events : List SerialEvent) (now : LinkNow) where
         steps = step ∷ [];
         each = one_more events knows.parts Collide knows.steps knows.each;
         keeps = subst (λ (l : List Moment). KeepsSoFar Chip l) is_one
-            (ends_part Chip before one now.link now.coming no_steps knows.keeps knows.does knows.hears (mute_last knows.steps knows.mute) (may_end Chip events now knows Collide refl may));
+            (ends_part Chip before one now.link now.coming no_steps knows.keeps knows.does knows.hears (mute_last knows.steps knows.mute) refl (may_end Chip events now knows Collide refl may));
         does = subst (λ (l : List Moment). Does Chip l (step ∷ []) new) is_one
             (does_asked before knows.steps now.link new step knows.does is (subst (λ (l : List Step). SideObeys (l ++ step ∷ []) new) (sym knows.at.life) obeys));
         mute = (quiet, tt);

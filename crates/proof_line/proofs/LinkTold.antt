@@ -25,6 +25,7 @@ use Rattle.proof_line.specs.Links.{Brings, IsOne, KnowsLink, LinkNow, MayGo, May
 use Rattle.proof_line.proofs.Arriving.{none_carries, flat, items_arrive, joins_by, marks_of, texts_both}
 use Rattle.proof_line.proofs.Tellings.{IsBeside, Tells}
 use Rattle.proof_line.proofs.LinkKnown.{beside_known, other_known, relinked, step_known, write_known}
+use Rattle.proof_walk.proofs.Moving.{both_none as none_first}
 
 -- ---- entries beside the line
 
@@ -48,10 +49,6 @@ pub takes_split : (xs ys : List Item) (coming left : List (List ℕ)) → TakesT
 takes_split [] ys coming left takes = (coming, refl, takes)
 takes_split (x ∷ xs) ys [] left takes = absurd takes
 takes_split (x ∷ xs) ys (text ∷ coming) left takes = let rest = takes_split xs ys coming left takes.1 in (rest.0, (takes.0, rest.1), rest.2)
-
-pub none_first : {A : Type 0} (xs ys : List A) → xs ++ ys ≡ [] → (xs ≡ []) × (ys ≡ [])
-none_first [] ys is = (refl, is)
-none_first (x ∷ xs) ys is = absurd (let none : x ∷ (xs ++ ys) ≡ [] = is in cc)
 
 -- what is on its way does not matter to what a link may do
 go_same : (side : Side) (now : LinkNow) (steps : List Step) (new : LinkSide) (coming : List (List ℕ)) → MayGo side now steps new → MayGo side (record now { coming = coming }) steps new
@@ -144,13 +141,21 @@ both_arrive side past now first later knows =
     plus_both : (now.brought + length first) + length later ≡ now.brought + length (first ++ later)
     plus_both = let long : length (first ++ later) ≡ length first + length later = length-append first later in omega (arith, long)
 
-pub others_known : (units : List LineUnit) (side : Side) (past : List Entry) (now : LinkNow) (way : WayState) (entries : List Entry) → KnowsLink side past now
+-- its bytes are added to those of what comes
+joins_more : (side : Side) (way : WayState) (unit : LineUnit) (coming : List (List ℕ)) → way.bytes ≡ flat coming
+    → (after way (Writes unit)).bytes ≡ flat (coming ++ arriving_of side (unit_text unit) (marks_of side way unit))
+joins_more side way unit coming bytes =
+    let here : List (List ℕ) = arriving_of side (unit_text unit) (marks_of side way unit) in
+    joins_by side way unit (mark_for way.marks unit) ∙ ap (λ (l : List ℕ). l ++ flat here) bytes ∙ sym (flat_map-append (λ (text : List ℕ). text) coming here)
+
+pub others_known : (units : List LineUnit) (side : Side) (past : List Entry) (now : LinkNow) (way : WayState) (entries : List Entry) → way.bytes ≡ flat now.coming → KnowsLink side past now
     → Tells IsBeside (other side) way units entries → KnowsLink side (past ++ entries) (with_arriving now (arriving_all (other side) way units))
-others_known [] side past now way entries knows tells = nothing_arrives side (past ++ entries) now (besides_known side past now entries tells knows)
-others_known (unit ∷ units) side past now way entries knows (before, rest, are, beside, others) =
+others_known [] side past now way entries bytes knows tells = nothing_arrives side (past ++ entries) now (besides_known side past now entries tells knows)
+others_known (unit ∷ units) side past now way entries bytes knows (before, rest, are, beside, others) =
     let here : List (List ℕ) = arriving_of (other side) (unit_text unit) (marks_of (other side) way unit) in
-    let wrote = other_known side (past ++ before) now way unit (besides_known side past now before beside knows) in
-    let all = others_known units side ((past ++ before) ++ told (other side) way unit) (with_arriving now here) (after way (Writes unit)) rest wrote others in
+    let wrote = other_known side (past ++ before) now way unit bytes (besides_known side past now before beside knows) in
+    let more : (after way (Writes unit)).bytes ≡ flat (now.coming ++ here) = joins_more (other side) way unit now.coming bytes in
+    let all = others_known units side ((past ++ before) ++ told (other side) way unit) (with_arriving now here) (after way (Writes unit)) rest more wrote others in
     both_arrive side (past ++ entries) now here (arriving_all (other side) (after way (Writes unit)) units)
     (subst (λ (l : List Entry). KnowsLink side l (with_arriving (with_arriving now here) (arriving_all (other side) (after way (Writes unit)) units)))
     (append_assoc (past ++ before) (told (other side) way unit) rest ∙ append_assoc past before (told (other side) way unit ++ rest) ∙ ap (λ (l : List Entry). past ++ l) (sym are)) all)
@@ -167,7 +172,7 @@ brings_more side (unit ∷ units) way coming are brings =
       items = brings.items ++ way_items way unit;
       carries = carries_more no_rest way unit brings.items brings.carries are.0;
       texts = texts_both brings.items (way_items way unit) coming here brings.texts (items_arrive side way unit are.0);
-      bytes = joins_by side way unit (mark_for way.marks unit) ∙ ap (λ (l : List ℕ). l ++ flat here) brings.bytes ∙ sym (flat_map-append (λ (text : List ℕ). text) coming here);
+      bytes = joins_more side way unit coming brings.bytes;
     }))
 
 -- who hears all that is on its way leaves nothing

@@ -41,7 +41,7 @@ use Rattle.proof_walk.specs.Phases.{Phase, Between, Said_line, Begun, Doing, To_
 use Rattle.proof_walk.specs.Time.{KnowTime, MayCount}
 use Rattle.proof_walk.specs.Walk.{Walk, WalkWhere}
 use Rattle.proof_line.specs.Links.{AtLine, KeepsSoFar, KnowsLink, LinkNow, MayEndNow, due_from, most_of}
-use Rattle.proof_line.specs.Linked.{Cuts, IsOrderly, KnowCuts, KnowLinks, KnowsBoth, LinksBegun, LinksDone, LinksLeft, HaveTickedOnce, InTick, Round}
+use Rattle.proof_line.specs.Linked.{Anything, Cuts, IsOrderly, KnowAll, KnowCuts, KnowLinks, KnowsBoth, LinksBegun, LinksDone, LinksLeft, HaveTickedOnce, InTick, Round}
 use Rattle.proof_line.proofs.LinkKnown.{no_steps}
 use Rattle.proof_line.proofs.LinkTold.{brings_none}
 use Rattle.proof_line.proofs.ChipAccounts.{event_steps, outer_steps}
@@ -56,18 +56,11 @@ use Rattle.proof_line.proofs.LinkOnes.{collide_goes, due_is, ended_cuts, one_don
 
 -- ---- all entries may stand
 
-abbrev pub Anything : List Entry → Entry → Type 0
-Anything past entry = Unit {0}
-
 all_stand : (past told : List Entry) → EachAfter Anything past told
 all_stand past [] = tt
 all_stand past (e ∷ told) = (tt, all_stand (past ++ e ∷ []) told)
 
 -- ---- with time
-
--- the chip's link did some steps
-abbrev pub KnowAll : Phase → List Entry → Machine → Type 0
-KnowAll here past m = KnowTime here past m × ((did : List Step) × KnowCuts did here past m)
 
 -- the ticks that lines have asked for have begun
 due_now : (past : List Entry) (m : Machine) → KnowTime Between past m → due_from 0 past ≡ m.outside.outer.clock
@@ -243,8 +236,8 @@ module _ (each : (h : HostState) (event : HostEvent) (steps : List Step) → Kee
 -- ---- at first
 
 first_keeps : (side : Side) → KeepsSoFar side []
-first_keeps Host = record { obeys = (no_steps, tt); writes = tt; hears = tt; ticks = tt; collides = tt }
-first_keeps Chip = record { obeys = (no_steps, tt); writes = tt; hears = tt; ticks = tt; collides = tt }
+first_keeps Host = record { obeys = (no_steps, tt); writes = tt; hears = tt; room = tt; ticks = tt; collides = tt }
+first_keeps Chip = record { obeys = (no_steps, tt); writes = tt; hears = tt; room = tt; ticks = tt; collides = tt }
 
 abbrev first_now : LinkSide → LinkNow
 first_now link = record { is_tick = false; brought = 0; clock = 0; until = 0; life = []; round = []; link = link; coming = []; lost = [] }

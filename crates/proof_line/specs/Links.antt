@@ -23,7 +23,7 @@ use Rattle.law_wire.specs.law_transcript.Lists.{EachAfter, shown_after}
 use Rattle.law_wire.specs.law_transcript.Restarts.{ticks_asked}
 use Rattle.law_wire.specs.Clearing.{Cleared_there, clears, lost_at, to_clear}
 use Rattle.law_wire.specs.Serial.{SerialEvent, serial_events}
-use Rattle.law_wire.specs.Links.{Moment, CollidesAsTold, HasTicked, HearsInTime, LeavesFew, MayDo, Obeys, TicksInTime, WritesThere, arrivals_of, asked_for, clock_in, ends_round, is_stalled, line_in, lives, moments_of, most_left, other, round_of, since_start, stall_by, steps_in, texts_of}
+use Rattle.law_wire.specs.Links.{Moment, CollidesAsTold, FindsRoom, HasTicked, HearsInTime, LeavesFew, MayDo, Obeys, TicksInTime, WritesThere, arrivals_of, asked_for, clock_in, ends_round, is_stalled, line_in, lives, moments_of, most_left, other, round_of, since_start, stall_by, steps_in, texts_of}
 use Rattle.proof_world.specs.proof_serial.Way.{Carries}
 use Rattle.proof_line.specs.Arrivals.{AreTexts}
 
@@ -51,6 +51,7 @@ pub record KeepsSoFar (side : Side) (past : List Moment) : Type 0 where
   pub obeys : AllByRecursion Obeys (lives side past)
   pub writes : AllByRecursion (WritesThere side) past
   pub hears : EachAfter (HearsInTime side) [] past
+  pub room : EachAfter (FindsRoom side) [] past
   pub ticks : EachAfter (TicksInTime side) [] past
   pub collides : EachAfter (CollidesAsTold side) [] past
 

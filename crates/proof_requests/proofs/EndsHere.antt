@@ -368,6 +368,7 @@ module _ (past marks : List Entry) (f : FrameParts) (rest : List LineUnit) (mark
         (record {
           request = ap request_in same_frame ∙ is.request;
           follows = subst (λ (p : Prior). FollowsFirst p u.purpose) (sym later_prior) kept.2;
+          carries = kept.3;
           so = kind_how u is ends f.kind how kept refl (next_is ∙ ends_is);
         })
 

@@ -104,6 +104,7 @@ silent_here past before now came d next time (inr (was, asks)) u is how ends =
         record {
           request = under_way.request;
           follows = kept.2;
+          carries = kept.3;
           so = subst (EndsHow past d.id u.purpose) silent.so (ends_silent past now silent.leaving time silent.now_is);
         }
 
@@ -151,6 +152,7 @@ given_up_here past before now came d next time frames gives (inr (was, asks)) u 
         record {
           request = under_way.request;
           follows = kept.2;
+          carries = kept.3;
           so = ap (λ (l : List ℕ). list_any (λ tick. tick == clock past) l) gone ∙ or_false (now == clock past) ∙ eq-eqb now (clock past) (sym time);
         }
 
@@ -184,5 +186,6 @@ module _ (unit : LineUnit) (text : List ℕ) (denies : is_acknowledgement text �
         framed = was.framed;
         request = under_way.request;
         follows = kept.2;
+        carries = kept.3;
         gives_up = denied_gives (standing_of (asked past)) now (acknowledged past) d.id rest u first d.turn gives asks.line under_way;
       }

@@ -43,7 +43,7 @@ use Rattle.host_requests.specs.declared.end.How.{How}
 use Rattle.host_requests.specs.declared.end.How.TheVariants.{AtCallback, AtResponse, AtUpdate, Refused, Silent, LinkFailed, AbortSent}
 use Rattle.host_requests.specs.declared.next.Next.{Next}
 use Rattle.host_requests.specs.declared.next.Next.TheVariants.{Ends, GoesOn}
-use Rattle.host_requests.specs.declared.task.Task.TheVariants.{Plain, Second, Neighbours, IsFailed}
+use Rattle.host_requests.specs.declared.task.Task.TheVariants.{Plain, Segment, Second, Neighbours, IsFailed}
 use Rattle.host_requests.specs.declared.task.Purpose.{Purpose}
 use Rattle.host_requests.specs.declared.task.Purpose.TheVariants.{Housekeeping, Attempt, Abort}
 use Rattle.host_requests.specs.declared.under_way.Progress.{Progress}
@@ -148,8 +148,9 @@ module _ (past : List Entry) (h : HostState) (id : ℕ) where
       told_one past told rest (entry.InterviewFailed n) are none (one_goes past (entry.InterviewFailed n) tt (how, brings, (id, e)))
   end_goes (Housekeeping (Neighbours n)) how told e brings late is = neighbours_go n how told e late is
   end_goes (Housekeeping (IsFailed n)) how told e brings late is = failed_go n how told e late is
+  end_goes (Housekeeping (Segment n payload)) how told e brings late is = untold_goes (Housekeeping (Segment n payload)) how told e.carries e is
   end_goes (Housekeeping task) how told e brings late is = untold_goes (Housekeeping task) how told tt e is
-  end_goes (Attempt n more payload) how told e brings late is = untold_goes (Attempt n more payload) how told tt e is
+  end_goes (Attempt n more payload) how told e brings late is = untold_goes (Attempt n more payload) how told e.carries e is
   end_goes Abort how told e brings late is = untold_goes Abort how told tt e is
 
   -- at a frame that was judged
@@ -328,6 +329,7 @@ given_so : (past : List Entry) (now id : ℕ) (purpose : Purpose) → clock past
 given_so past now id purpose time gone = record {
   request = gone.request;
   follows = gone.follows;
+  carries = gone.carries;
   so = ap (λ (l : List ℕ). list_any (λ tick. tick == clock past) l) gone.gives_up ∙ or_false (now == clock past) ∙ eq-eqb now (clock past) (sym time);
 }
 
@@ -363,6 +365,7 @@ given_timed past now id tick purpose gone =
       framed = ap (λ (a : TheAsked). is_data a.frame) on ∙ gone.framed;
       request = ap (λ (a : TheAsked). request_in a.frame) on ∙ gone.request;
       follows = subst (λ (a : TheAsked). FollowsFirst (prior_of a.before) purpose) (sym on) gone.follows;
+      carries = gone.carries;
       gives_up = ap giving_up_in (ap standing_of on ∙ stands_aside (asked past) (entry.Time tick ∷ []) gone.framed (tt, tt)) ∙ gone.gives_up;
     }
 

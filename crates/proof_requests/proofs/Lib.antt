@@ -11,6 +11,7 @@ mod Moving
 mod Events
 pub mod Telling
 pub mod Spelled
+pub mod Carried
 mod Came
 pub mod Queued
 pub mod Queueing
@@ -20,12 +21,14 @@ pub mod Ending
 mod Grounds
 mod Brought
 mod Listening
+pub mod EndsDone
 pub mod EndsHere
 pub mod EndsLate
 pub mod Untold
 pub mod EndsTold
 pub mod Questions
 mod Interviews
+mod Numbering
 pub use Rattle.proof_waking.proofs.Coming
 pub use Rattle.proof_waking.proofs.Hosting
 pub use Rattle.proof_waking.proofs.Stamps

@@ -31,6 +31,7 @@ use Rattle.host_requests.specs.declared.under_way.UnderWay.{UnderWay}
 use Rattle.host_model.specs.After.{gives_up}
 use Rattle.proof_waking.specs.proof_alone.Steps.{AreFrames}
 use Rattle.proof_requests.specs.Standing.{Prior, Standing, brought_before, brought_by, ends_now, first_standing, responses_in, sent_in, with_answer, with_copy, with_judging}
+use Rattle.proof_requests.specs.Carrying.{CarriesSo}
 use Rattle.proof_requests.specs.Asking.{FollowsFirst, IsDue, IsKept, Leaving, nothing_left, AsProgress, AsksSo, Doing, EndedByFrame, EndedInSilence, IsCopied, IsPaused, IsSentBy, IsUnderWay, TieLine, TieUnderWay, WasGivenUp, doing_after, doing_from, doing_next, to_come}
 use Rattle.proof_requests.specs.Effects.{AnswerDoes}
 use Rattle.proof_requests.specs.Saying.{FrameSays, frame_next}
@@ -435,11 +436,11 @@ due_then (Attempt n more payload) id frame read = tt
 due_then Abort id frame read = tt
 
 pub submitted_moves : (purpose : Purpose) (id now count : ℕ) (prior : Prior) (came : List LineUnit) → AreFrames came → request_in (unit_text (Framed (frame_of purpose id))) ≡ request_of purpose id ∷ []
-    → FollowsFirst prior purpose
+    → FollowsFirst prior purpose → CarriesSo purpose
     → AsksSo (first_standing (unit_text (Framed (frame_of purpose id))) now prior) now now count came
     (record { turn = Copied (frame_of purpose id) 1 0; under_way = Some (record { purpose = purpose; progress = Submitted }); leaving = record { owes = false; first = brought_before prior }; id = id; due = first_asked purpose })
-submitted_moves purpose id now count prior came frames read follows = record {
+submitted_moves purpose id now count prior came frames read follows carries = record {
   line = line_submitted (frame_of purpose id) now count prior came frames;
-  under_way = (record { frame = refl; request = read; unended = refl; progress = (tt, refl) }, (refl, refl, follows));
+  under_way = (record { frame = refl; request = read; unended = refl; progress = (tt, refl) }, (refl, refl, follows, carries));
   due = due_then purpose id (unit_text (Framed (frame_of purpose id))) read;
 }

@@ -77,7 +77,7 @@ mark_quiet (entry.Garbled Host unit) mark = tt
 mark_quiet (entry.Overrun Host) mark = tt
 mark_quiet e mark = absurd mark
 
-fresh_wordless : (told : List Entry) → AllByRecursion IsWordless told → begins_refused told ≡ false
+pub fresh_wordless : (told : List Entry) → AllByRecursion IsWordless told → begins_refused told ≡ false
 fresh_wordless [] all = refl
 fresh_wordless (entry.Refused refusal ∷ told) all = absurd all.0
 fresh_wordless (e ∷ told) all = refl

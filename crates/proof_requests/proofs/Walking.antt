@@ -54,6 +54,7 @@ use Rattle.proof_waking.specs.Judged.{TieFrames, frames_of}
 use Rattle.proof_waking.proofs.Apart.{acknowledged_frames}
 use Rattle.proof_waking.proofs.Parts.{IsNote}
 use Rattle.proof_requests.specs.Standing.{Prior, brought_before, brought_of, prior_of, Standing, first_standing, owes_abort_in, responses_in, silence_in, standing_of, with_answer, with_copy}
+use Rattle.proof_requests.specs.Carrying.{CarriesSo}
 use Rattle.proof_requests.specs.Asking.{FollowsFirst, IsDue, Leaving, AsksNothing, AsksSo, Doing, IsPaused, TieAsked, TieLine, TieUnderWay, WasAsked, doing_after, doing_from, doing_of, frames_among, to_come}
 use Rattle.proof_requests.specs.Saying.{frame_next}
 use Rattle.proof_requests.proofs.Ending.{over_so}
@@ -215,34 +216,34 @@ request_ticks_tie past told before now came h next is tie =
 
 -- ---- the line's tick
 
--- told of a host that writes a frame, and of what it notes behind it
+-- told of a host that writes a frame, and of what became of it
 pub record IsWritten (text : List ℕ) (told : List Entry) : Type 0 where
   pub rest : List Entry
   pub are : told ≡ entry.Written Host text ∷ rest
+  pub marks : AllByRecursion IsOfUnit rest
   pub quiet : AllByRecursion IsQuiet rest
 
-pub written_told : (f : FrameParts) (notes : List Entry) (told : List Entry) → NoteOuts (noted notes) → AreTold (Write (Framed f) ∷ noted notes) told → IsWritten (unit_text (Framed f)) told
-written_told f notes told hosts (marks, rest, is, all, more) = record {
-  rest = marks ++ rest;
-  are = is;
-  quiet = all-append IsQuiet marks rest (marks_quiet marks all) (quiet_told (noted notes) rest (noted_notes notes) hosts more);
-}
+pub written_told : (f : FrameParts) (told : List Entry) → AreTold (Write (Framed f) ∷ []) told → IsWritten (unit_text (Framed f)) told
+written_told f told (marks, rest, is, all, none) =
+    let became = all-append IsOfUnit marks rest all (subst (AllByRecursion IsOfUnit) (sym none) tt) in
+    record { rest = marks ++ rest; are = is; marks = became; quiet = marks_quiet (marks ++ rest) became }
 
 -- what is written at it, by the side of the line
 abbrev pub line_outs : HostState → Turn → List HostOut
 line_outs h turn = copy_out (copy_due turn) ++ noted (failing_entries (gives_up turn (turn_ticked turn)) (line_ticked h))
 
-pub quiet_line : (h : HostState) (turn : Turn) (told : List Entry) → copies_now turn ≡ false → NoteOuts (line_outs h turn) → AreTold (line_outs h turn) told → AllByRecursion IsQuiet told
-quiet_line h Idle told none hosts is = quiet_told (line_outs h Idle) told (noted_notes (failing_entries false (line_ticked h))) hosts is
-quiet_line h (Copied f copies ticks) told none hosts is =
-    quiet_told (line_outs h (Copied f copies ticks)) told (noted_notes (failing_entries (gives_up (Copied f copies ticks) (turn_ticked (Copied f copies ticks))) (line_ticked h))) hosts is
-quiet_line h (Paused f copies ticks) told none hosts is = by (ticks + 1 == pause_after copies) none hosts is
+pub line_notes : (h : HostState) (turn : Turn) → copies_now turn ≡ false → AllByRecursion IsNote (line_outs h turn)
+line_notes h Idle none = tt
+line_notes h (Copied f copies ticks) none = noted_notes (failing_entries (gives_up (Copied f copies ticks) (turn_ticked (Copied f copies ticks))) (line_ticked h))
+line_notes h (Paused f copies ticks) none = by (ticks + 1 == pause_after copies) none
   where
-    by : (b : Bool) → b ≡ false → NoteOuts (copy_out (if b then Some f else None) ++ noted (failing_entries (gives_up (Paused f copies ticks) (if b then Copied f (copies + 1) 0 else Paused f copies (ticks + 1))) (line_ticked h)))
-        → AreTold (copy_out (if b then Some f else None) ++ noted (failing_entries (gives_up (Paused f copies ticks) (if b then Copied f (copies + 1) 0 else Paused f copies (ticks + 1))) (line_ticked h))) told
-        → AllByRecursion IsQuiet told
-    by true none hosts is = absurd (let bad : true ≡ false = none in cc)
-    by false none hosts is = quiet_told [] told tt tt is
+    by : (b : Bool) → b ≡ false
+        → AllByRecursion IsNote (copy_out (if b then Some f else None) ++ noted (failing_entries (gives_up (Paused f copies ticks) (if b then Copied f (copies + 1) 0 else Paused f copies (ticks + 1))) (line_ticked h)))
+    by true none = absurd (let bad : true ≡ false = none in cc)
+    by false none = tt
+
+pub quiet_line : (h : HostState) (turn : Turn) (told : List Entry) → copies_now turn ≡ false → NoteOuts (line_outs h turn) → AreTold (line_outs h turn) told → AllByRecursion IsQuiet told
+quiet_line h turn told none hosts is = quiet_told (line_outs h turn) told (line_notes h turn none) hosts is
 
 pub copy_line : (h : HostState) (f : FrameParts) (copies ticks : ℕ) (told : List Entry) → (ticks + 1 == pause_after copies) ≡ true → AreTold (line_outs h (Paused f copies ticks)) told
     → IsWritten (unit_text (Framed f)) told
@@ -250,7 +251,7 @@ copy_line h f copies ticks told now is = by (ticks + 1 == pause_after copies) no
   where
     by : (b : Bool) → b ≡ true → AreTold (copy_out (if b then Some f else None) ++ noted (failing_entries (gives_up (Paused f copies ticks) (if b then Copied f (copies + 1) 0 else Paused f copies (ticks + 1))) (line_ticked h))) told
         → IsWritten (unit_text (Framed f)) told
-    by true now is = written_told f [] told tt is
+    by true now is = written_told f told is
     by false now is = absurd (let bad : false ≡ true = now in cc)
 
 -- a copy is no new request
@@ -419,20 +420,20 @@ owing_undue past now came d none owes (inr (was, asks)) = by d.due refl
         (sym (owed d.under_way none asks.under_way) ∙ owed_none (standing_of (asked past)) now n (subst (IsDue (asked past).frame) is asks.due)) owes)
 
 pub submits_tie : (past told : List Entry) (now last : ℕ) (came : List LineUnit) (d : Doing) (purpose : Purpose) → AreFrames came → is_busy d.turn ≡ false → d.under_way ≡ None
-    → FollowsFirst (prior_of past) purpose
+    → FollowsFirst (prior_of past) purpose → CarriesSo purpose
     → request_in (unit_text (Framed (frame_of purpose (next_id last)))) ≡ request_of purpose (next_id last) ∷ [] → ((e : Entry) (more : List Entry) → told ≡ e ∷ more → clock past ≡ now)
     → AreTold (Write (Framed (frame_of purpose (next_id last))) ∷ []) told → TieAsked past now now came d → TieAsked (past ++ told) now now came (submitted_doing purpose last d.leaving.first)
-submits_tie past told now last came d purpose frames free none follows read time is tie =
+submits_tie past told now last came d purpose frames free none follows carries read time is tie =
     let f : FrameParts = frame_of purpose (next_id last) in
     let unit : List ℕ = unit_text (Framed f) in
-    let wrote = written_told f [] told tt is in
+    let wrote = written_told f told is in
     let e : Entry = entry.Written Host unit in
     let after_it : Doing = submitted_doing purpose last (brought_before (prior_of past)) in
     let at : clock (past ++ e ∷ []) ≡ now = clock_same past (e ∷ []) (tt, tt) ∙ time e wrote.rest wrote.are in
     let asks : AsksSo (first_standing unit now (prior_of past)) now now (acknowledged past) came after_it =
     subst (Begun purpose (id_after last purpose) now (acknowledged past) (prior_of past) came) (sym (request_kept purpose last))
     (submitted_moves purpose (id_after last purpose) now (acknowledged past) (prior_of past) came frames
-    (subst (λ (q : Request). request_in (unit_text (Framed (request_frame q))) ≡ q ∷ []) (request_kept purpose last) read) follows) in
+    (subst (λ (q : Request). request_in (unit_text (Framed (request_frame q))) ≡ q ∷ []) (request_kept purpose last) read) follows carries) in
     let first : TieAsked (past ++ e ∷ []) now now came after_it =
     tie_new past unit now now came after_it (data_acknowledges_none unit refl) refl (is_fresh past now came d f free tie)
     (subst (λ (n : ℕ). AsksSo (first_standing unit n (prior_of past)) now now (acknowledged past) came after_it) (sym at) asks) in

@@ -28,6 +28,7 @@ use Rattle.host_requests.specs.declared.under_way.Progress.TheVariants.{Submitte
 use Rattle.host_requests.specs.declared.under_way.UnderWay.{UnderWay}
 use Rattle.host_model.specs.State.{HostState}
 use Rattle.proof_waking.specs.proof_alone.Steps.{AreFrames}
+use Rattle.proof_requests.specs.Carrying.{CarriesSo}
 use Rattle.proof_requests.specs.Standing.{Prior, Standing, brought_before, brought_by, counted, failing_in, first_ending, responses_in, sent_in, standing_of, wait_in}
 
 -- ---- what came and was not judged
@@ -177,9 +178,9 @@ abbrev pub FollowsFirst : Prior → Purpose → Type 0
 FollowsFirst prior (Housekeeping (Second n)) = request_in prior.frame ≡ GetNodeProtocolInfo n ∷ []
 FollowsFirst prior purpose = Unit {0}
 
--- while one is under way no abort is owed, and what the one before it brought is kept
+-- while one is under way no abort is owed, what the one before it brought is kept, and it carries what it is for
 abbrev pub IsKept : Standing → Leaving → Purpose → Type 0
-IsKept s leaving purpose = (leaving.owes ≡ false) × (leaving.first ≡ brought_before s.prior) × FollowsFirst s.prior purpose
+IsKept s leaving purpose = (leaving.owes ≡ false) × (leaving.first ≡ brought_before s.prior) × FollowsFirst s.prior purpose × CarriesSo purpose
 
 -- one that has ended has by the time that the line has counted to
 abbrev pub TieUnderWay : Standing → ℕ → ℕ → ℕ → Turn → ℕ → Leaving → Option UnderWay → Type 0

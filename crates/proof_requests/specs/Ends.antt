@@ -23,9 +23,9 @@ use Rattle.host_requests.specs.declared.end.How.{How}
 use Rattle.host_requests.specs.declared.end.How.TheVariants.{AtCallback, AtResponse, AtUpdate, Refused, Silent, LinkFailed, AbortSent}
 use Rattle.host_requests.specs.declared.next.Next.{Next}
 use Rattle.host_requests.specs.declared.next.Next.TheVariants.{Ends, GoesOn}
-use Rattle.host_requests.specs.declared.task.Task.TheVariants.{Plain, Second, Neighbours, IsFailed}
+use Rattle.host_requests.specs.declared.task.Task.TheVariants.{Plain, Segment, Second, Neighbours, IsFailed}
 use Rattle.host_requests.specs.declared.task.Purpose.{Purpose}
-use Rattle.host_requests.specs.declared.task.Purpose.TheVariants.{Housekeeping, Abort}
+use Rattle.host_requests.specs.declared.task.Purpose.TheVariants.{Housekeeping, Attempt, Abort}
 use Rattle.host_requests.specs.declared.under_way.UnderWay.{UnderWay}
 use Rattle.host_model.specs.State.{HostState}
 use Rattle.host_model.specs.Ends.{done_of}
@@ -33,6 +33,7 @@ use Rattle.host_model.specs.Events.{HostEvent, Hears, Requests_do, Interviews, I
 use Rattle.host_model.specs.Taking.{InterviewEvents, told_requests}
 use Rattle.proof_waking.specs.proof_alone.Phases.{Behind}
 use Rattle.proof_waking.specs.proof_alone.Runs.{Knowledge}
+use Rattle.proof_requests.specs.Carrying.{CarriesSo, is_errand}
 use Rattle.proof_requests.specs.Standing.{brought_before, prior_of}
 use Rattle.proof_requests.specs.Asking.{FollowsFirst}
 
@@ -61,10 +62,11 @@ EndsHow past id purpose Silent = is_silent past ≡ true
 EndsHow past id purpose LinkFailed = is_given_up past ≡ true
 EndsHow past id purpose AbortSent = purpose ≡ Abort
 
--- the last request is that one, and if it is the second of an interview the first of that was before it
+-- the last request is that one, and carries what it is for; and if it is the second of an interview the first of that was before it
 pub record EndsHere (past : List Entry) (id : ℕ) (purpose : Purpose) (how : How) : Type 0 where
   pub request : request_last past ≡ request_of purpose id ∷ []
   pub follows : FollowsFirst (prior_of (asked past).before) purpose
+  pub carries : CarriesSo purpose
   pub so : EndsHow past id purpose how
 
 abbrev pub EndsAs : List Entry → Purpose → How → Type 0
@@ -75,6 +77,7 @@ pub record GivenUp (past : List Entry) (now id : ℕ) (purpose : Purpose) : Type
   pub framed : is_data (asked past).frame ≡ true
   pub request : request_last past ≡ request_of purpose id ∷ []
   pub follows : FollowsFirst (prior_of (asked past).before) purpose
+  pub carries : CarriesSo purpose
   pub gives_up : giving_up (asked past) ≡ now ∷ []
 
 -- ---- by a frame that was judged
@@ -94,12 +97,14 @@ EndsFrom past id next (Some u) = EndsBy past id u (next u)
 
 -- ---- what an end leaves to be told
 
--- the end of a request for this purpose has no entry that says so
+-- the end of a request for this purpose has no entry that says so, and it carries no Set or Get that a line asks for
 abbrev pub IsUntold : Purpose → Type 0
 IsUntold (Housekeeping (Plain n payload)) = ⊥
 IsUntold (Housekeeping (Second n)) = ⊥
 IsUntold (Housekeeping (Neighbours n)) = ⊥
 IsUntold (Housekeeping (IsFailed n)) = ⊥
+IsUntold (Housekeeping (Segment n payload)) = is_errand payload ≡ false
+IsUntold (Attempt n more payload) = is_errand payload ≡ false
 IsUntold purpose = Unit {0}
 
 -- no end is to be told: nothing was judged directly before, or what was ends no request, or one whose end is not told

@@ -16,6 +16,7 @@ ghost use Rattle.proof_requests.specs.Walking.{Ground, KnowsAsked, KnowsIntervie
 use host_keep::texts_give_one_thing;
 use host_model::attempts_have_what_they_give;
 use host_node::a_restart_needs_the_records_alone;
+use proof_messages::hosts_leave_nonces;
 use proof_waking::alone::{hosts_keep_their_tables, hosts_tell_time};
 use proof_waking::hosts_judge_as_told;
 
@@ -33,6 +34,7 @@ pub fn hosts_ask_as_told()
         TellsOfHost told m.clock m.came (doing_of m.state) }
 {
     attempts_have_what_they_give();
+    hosts_leave_nonces();
     hosts_keep_their_tables();
     hosts_tell_time();
     hosts_judge_as_told();

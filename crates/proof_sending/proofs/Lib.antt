@@ -1,5 +1,5 @@
 mod Waiting
-mod Books
+pub mod Books
 mod Parts
 pub mod Reasoned
 mod SentUnits

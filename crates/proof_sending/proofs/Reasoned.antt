@@ -18,8 +18,8 @@ use Rattle.supervision.specs.Host.{open_session}
 use Rattle.s0_crypto.specs.declared.key_pair.Keys.{Keys}
 use Rattle.s0_session.specs.Nonces.{unused}
 use Rattle.chip_functions.specs.Field.{IsNode}
-use Rattle.device_kinds.specs.Sealing.{sealed_text}
-use Rattle.device_kinds.proofs.SealingLemmas.{sealed_is}
+use Rattle.s0_crypto.specs.Sealing.{sealed_text}
+use Rattle.s0_crypto.proofs.SealingLemmas.{sealed_is}
 use Rattle.host_keep.specs.Rows.{IsRecord}
 use Rattle.host_keep.specs.declared.record.Record.{Record}
 use Rattle.host_orders.specs.Wrapping.{message_of}

@@ -10,7 +10,7 @@ use Rattle.supervision.specs.Host.{begun_of, command_at as command_of_session}
 use Rattle.s0_crypto.specs.declared.key_pair.Keys.{Keys}
 use Rattle.s0_session.specs.declared.account.Account.{Account}
 use Rattle.chip_functions.specs.Field.{IsNode}
-use Rattle.device_kinds.specs.Sealing.{sealed_text}
+use Rattle.s0_crypto.specs.Sealing.{sealed_text}
 use Rattle.host_keep.specs.Kept.{Taken}
 use Rattle.host_orders.specs.Wrapping.{form_of, message_of}
 use Rattle.host_orders.specs.declared.carriage.Form.{Form}

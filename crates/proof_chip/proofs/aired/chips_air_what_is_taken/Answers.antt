@@ -3,6 +3,7 @@ use Rattle.std.proofs.Common.{List, []}
 use Rattle.std.specs.Prelude.{Some}
 use Rattle.zw_text.specs.declared.entry.Entry.{Entry}
 use Rattle.law_wire.specs.Arriving.{MayLand}
+use Rattle.law_wire.specs.Asked.{course_of}
 use Rattle.law_wire.specs.Routes.{MayGo}
 use Rattle.outside_model.specs.Devices.{State}
 use Rattle.world_model.specs.State.{Machine, first_machine}
@@ -20,12 +21,33 @@ use Rattle.proof_routes.specs.Knowing.{KnowNetworks}
 use Rattle.proof_line.specs.Linked.{IsOrderly}
 use Rattle.proof_line.proofs.LinkSome.{lines_orderly}
 use Rattle.proof_line.proofs.LinkWalk.{ended_known, links_first}
+use Rattle.proof_line.proofs.Parts.{Laws}
 use Rattle.proof_chip.specs.Calling.{KnowCalls}
 use Rattle.proof_chip.specs.Knowing.{AnyEntry}
 use Rattle.proof_chip.specs.Served.{KnowBeside, KnowMembers, KnowServing}
 use Rattle.proof_chip.proofs.Airs.{air_first}
 use Rattle.proof_chip.proofs.Served.{airs_cut, airs_whole, ground_air, served_walk}
+use Rattle.proof_chip.proofs.Standing.{goes_none}
+use Rattle.proof_chip.proofs.Tallies.{ended_waits, tally_first}
 use Rattle.proof_chip.proofs.aired.chips_air_what_is_taken.Goals as goal
+
+-- what is called
+laws_of : (c : goal.After-lines_keep_and_ask_well) → Laws
+laws_of c = record {
+  air = record {
+    goes = c.frames_fly_in_order.ensures.goes;
+    next = c.frames_fly_in_order.ensures.next;
+    lands = c.frames_fly_in_order.ensures.lands;
+    count = c.frames_fly_in_order.ensures.count;
+    begins = c.frames_fly_in_order.ensures.begins;
+  };
+  keeps = c.requests_keep_facts.ensures.all;
+  pump = c.hosts_make_requests.ensures.pump;
+  judges = c.hosts_make_requests.ensures.items;
+  tick = c.hosts_make_requests.ensures.tick;
+  outer = c.outsides_make_requests.ensures.events;
+  takes = c.outsides_make_requests.ensures.items;
+}
 
 -- one walk over another's ground
 module _ (devices : List State) (history : Walk MayHear KnowHistory) (time : Walk MayCount KnowTime) (landing : WalkOver (both_know KnowHistory KnowTime) MayLand KnowLanding)
@@ -67,7 +89,7 @@ returns-clause-cut c = λ keys devices lines are.
     let obey = c.hosts_obey_the_line.ensures in
     let orderly = lines_orderly (lines_of lines) m events these writes asks.1 in
     let walk =
-    served_walk devices AnyEntry
+    served_walk devices (laws_of c) c.frames_fly_in_order.ensures.none AnyEntry
     (beside_walk devices c.history_goes_on.ensures.walk c.time_goes_on.ensures.walk c.landings_go_on.ensures.walk (c.networks_go_on.ensures.walk devices) c.nodes_go_on.ensures.walk c.calls_go_on.ensures.walk)
     (ground_air devices (c.networks_go_on.ensures.tie devices) c.calls_go_on.ensures.none) obey.each obey.units obey.opened in
     let first : KnowServing devices Between [] m = (
@@ -81,10 +103,10 @@ returns-clause-cut c = λ keys devices lines are.
         ),
         c.calls_go_on.ensures.first keys (Some []) devices,
       ),
-      ([], links_first keys (Some []) devices (obey.first keys), air_first keys (Some []) devices (c.rules_of_histories.ensures.link [] tt)),
+      ([], links_first keys (Some []) devices (obey.first keys), air_first keys (Some []) devices (c.rules_of_histories.ensures.link [] tt), tally_first keys (Some []) devices (c.rules_of_histories.ensures.link [] tt)),
     ) in
     let known = where_lead IsOrderly AnyEntry (KnowServing devices) walk [] m lines are orderly first in
-    airs_cut devices known.1.1.0 known.0 (transcript_of m lines) (after_all m lines) known.1.1.2 known.1.1.1.0
+    airs_cut devices known.1.1.0 known.0 (transcript_of m lines) (after_all m lines) known.1.1.2 known.1.1.3 known.1.1.1.0
 
 pub returns-clause-whole : goal.returns-clause-whole
 returns-clause-whole c = λ keys devices lines are whole.
@@ -97,7 +119,7 @@ returns-clause-whole c = λ keys devices lines are whole.
     let obey = c.hosts_obey_the_line.ensures in
     let orderly = lines_orderly (lines_of lines) m events these writes asks.1 in
     let walk =
-    served_walk devices AnyEntry
+    served_walk devices (laws_of c) c.frames_fly_in_order.ensures.none AnyEntry
     (beside_walk devices c.history_goes_on.ensures.walk c.time_goes_on.ensures.walk c.landings_go_on.ensures.walk (c.networks_go_on.ensures.walk devices) c.nodes_go_on.ensures.walk c.calls_go_on.ensures.walk)
     (ground_air devices (c.networks_go_on.ensures.tie devices) c.calls_go_on.ensures.none) obey.each obey.units obey.opened in
     let first : KnowServing devices Between [] m = (
@@ -111,8 +133,9 @@ returns-clause-whole c = λ keys devices lines are whole.
         ),
         c.calls_go_on.ensures.first keys (Some []) devices,
       ),
-      ([], links_first keys (Some []) devices (obey.first keys), air_first keys (Some []) devices (c.rules_of_histories.ensures.link [] tt)),
+      ([], links_first keys (Some []) devices (obey.first keys), air_first keys (Some []) devices (c.rules_of_histories.ensures.link [] tt), tally_first keys (Some []) devices (c.rules_of_histories.ensures.link [] tt)),
     ) in
     let known = where_whole IsOrderly AnyEntry (KnowServing devices) walk [] m lines are whole orderly first in
-    airs_whole devices known.1.0 Between (transcript_of m lines) (after_all m lines) known.1.2
+    airs_whole devices known.1.0 Between (transcript_of m lines) (after_all m lines) known.1.2 known.1.3
     (ended_known (transcript_of m lines) (after_all m lines) known.0.0.0.0.0.1 known.1.1)
+    (ended_waits devices known.1.0 (transcript_of m lines) (after_all m lines).outside.outer known.1.3.0 (course_of known.1.0) (goes_none (course_of known.1.0)))

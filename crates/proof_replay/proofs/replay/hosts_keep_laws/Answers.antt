@@ -7,7 +7,7 @@ use Rattle.proof_requests.specs.proof_alone.State.{HostMachine, first_alone}
 use Rattle.proof_requests.specs.proof_alone.Phases.{Phase, Resting}
 use Rattle.proof_requests.specs.proof_alone.Runs.{Run, Told, ToldWhole}
 use Rattle.proof_asking.specs.proof_known.Noted.{NotesAtOnce, NotesInTurn}
-use Rattle.device_kinds.specs.Sealing.{keys_of as device_keys}
+use Rattle.s0_crypto.specs.Sealing.{keys_of as device_keys}
 use Rattle.host_core.specs.Network.{keys_of}
 use Rattle.proof_replay.proofs.replay.hosts_keep_laws.Goals as goal
 

@@ -1,20 +1,19 @@
 -- What opens is what the function says, and so is what is sealed.
 use Rattle.std.proofs.Common.{◌≡◌, ℕ, ◌-◌, ◌≤◌, List, ◌∷◌, ◌++◌, length, Bool, true, false, refl, sym, ◌∙◌, ap, arith, length-drop}
-use Rattle.std.specs.Prelude.{Some, None, nat_le, replicate, slice_index, ◌==◌, ◌&&◌}
+use Rattle.std.specs.Prelude.{Some, None, nat_le, slice_index, ◌==◌, ◌&&◌}
 use Rattle.std.specs.Bool.{Decides}
 use Rattle.std.specs.Str.{bytes_eq}
 use Rattle.std.proofs.lemmas.Bool.Decides.{Decides-eqb, Decides-and, Decides-like, nat_tests}
 use Rattle.std.proofs.lemmas.Slice.Eq.{bytes_eq-Decides}
 use Rattle.std.proofs.lemmas.List.{length-take}
-use Rattle.aes_block.specs.Cipher.{aes}
 use Rattle.s0_crypto.specs.declared.key_pair.Keys.{Keys}
 use Rattle.s0_crypto.specs.declared.ends.SealEnds.{SealEnds}
 use Rattle.s0_crypto.specs.Seal.{Seals, code_of}
 use Rattle.s0_crypto.specs.Opening.{nonce_in, code_wanted, code_in, sequence_in, IsGood, IsBadlyCoded, HasOtherSequence}
 use Rattle.s0_crypto.proofs.OpeningLemmas.{good_from_seals, seals_from_parts, header_of}
-use Rattle.device_kinds.specs.Sealing.{keys_of, plain_in, is_good, unsealed_at, sealed_text}
+use Rattle.s0_crypto.specs.Sealing.{plain_in, is_good, unsealed_at, sealed_text}
 
-leb_decides : (a b : ℕ) → Decides (nat_le a b) (a ≤ b)
+pub leb_decides : (a b : ℕ) → Decides (nat_le a b) (a ≤ b)
 leb_decides a b = (λ e. grind (arith, nat_tests), λ h. grind (arith, nat_tests))
 
 good_decides : (keys : Keys) (nonce : List ℕ) (ends : SealEnds) (bytes : List ℕ) → Decides (is_good keys nonce ends bytes) (IsGood keys nonce ends bytes)
@@ -32,7 +31,7 @@ opens_to : (keys : Keys) (nonce : List ℕ) (ends : SealEnds) (bytes : List ℕ)
 unfolding unsealed_at
 opens_to keys nonce ends bytes good = rw ((good_decides keys nonce ends bytes).1 good) refl
 
-is_false : {P : Type 0} (r : Bool) → Decides r P → (¬ P) → r ≡ false
+pub is_false : {P : Type 0} (r : Bool) → Decides r P → (¬ P) → r ≡ false
 is_false true d h = absurd (h (d.0 refl))
 is_false false d h = refl
 
@@ -46,12 +45,6 @@ badly_coded keys nonce ends bytes want got b = stays_shut keys nonce ends bytes 
 
 pub other_sequence : (keys : Keys) (nonce : List ℕ) (ends : SealEnds) (bytes : List ℕ) (byte : ℕ) → HasOtherSequence keys nonce ends bytes byte → None ≡ unsealed_at keys nonce ends bytes
 other_sequence keys nonce ends bytes byte s = stays_shut keys nonce ends bytes (λ g. s.not_zero (s.is_sequence ∙ g.zero))
-
-pub same_keys : (keys : Keys) (key : List ℕ) → keys.encrypt ≡ aes key (replicate 16 0xAA) → keys.code ≡ aes key (replicate 16 0x55) → keys ≡ keys_of key
-unfolding keys_of
-same_keys keys key e k =
-    ap (λ (x : List ℕ). let made : Keys = record { encrypt = x; code = keys.code } in made) e
-    ∙ ap (λ (x : List ℕ). let made : Keys = record { encrypt = aes key (replicate 16 0xAA); code = x } in made) k
 
 pub opened_is : (keys : Keys) (nonce : List ℕ) (ends : SealEnds) (bytes plain : List ℕ) → 20 ≤ length bytes → slice_index bytes 0 ≡ 0x98 → slice_index bytes 1 ≡ 0x81
     → slice_index bytes (length bytes - 9) ≡ slice_index nonce 0 → Seals keys (nonce_in bytes) nonce ends plain bytes

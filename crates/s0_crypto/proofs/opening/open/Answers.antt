@@ -1,15 +1,14 @@
-use Rattle.std.proofs.Common.{◌≡◌, Err, ◌∙◌, ap, arith}
+use Rattle.std.proofs.Common.{Err, ◌∙◌, ap, arith}
 use Rattle.s0_crypto.specs.declared.key_pair.Keys.{Keys}
-use Rattle.device_kinds.specs.Sealing.{keys_of, unsealed_at}
-use Rattle.device_kinds.proofs.SealingLemmas.{same_keys, opened_is, badly_coded, other_sequence}
-use Rattle.device_kinds.proofs.sealing.open.Goals as goal
+use Rattle.s0_crypto.specs.Sealing.{unsealed_at}
+use Rattle.s0_crypto.proofs.SealingLemmas.{opened_is, badly_coded, other_sequence}
+use Rattle.s0_crypto.proofs.opening.open.Goals as goal
 
 pub returns-in-Ok : goal.returns-in-Ok
 returns-in-Ok c =
-    let same : c.keys.result ≡ keys_of c.args.key = same_keys c.keys.result c.args.key c.keys.ensures.encrypt c.keys.ensures.code in
     opened_is c.keys.result c.args.nonce c.args.ends.now c.args.bytes.now c.in-Ok.plain c.requires.long c.requires.class c.requires.command c.requires.named
     c.in-Ok.ensures.opened c.in-Ok.ensures.sealed
-    ∙ ap (λ (k : Keys). unsealed_at k c.args.nonce c.args.ends.now c.args.bytes.now) same
+    ∙ ap (λ (k : Keys). unsealed_at k c.args.nonce c.args.ends.now c.args.bytes.now) c.keys.ensures
 
 pub returns-in-Err-Short : goal.returns-in-Err-Short
 returns-in-Err-Short c =
@@ -17,14 +16,12 @@ returns-in-Err-Short c =
 
 pub returns-in-Err-BadCode : goal.returns-in-Err-BadCode
 returns-in-Err-BadCode c =
-    let same : c.keys.result ≡ keys_of c.args.key = same_keys c.keys.result c.args.key c.keys.ensures.encrypt c.keys.ensures.code in
     badly_coded c.keys.result c.args.nonce c.args.ends.now c.args.bytes.now c.in-Err-BadCode.field-0-0 c.in-Err-BadCode.field-0-1
     ((c.in-Err-BadCode.ensures.bad_code c.in-Err-BadCode.field-0-0 c.in-Err-BadCode.field-0-1).0 (ap Err c.in-Err-BadCode.field-0-is))
-    ∙ ap (λ (k : Keys). unsealed_at k c.args.nonce c.args.ends.now c.args.bytes.now) same
+    ∙ ap (λ (k : Keys). unsealed_at k c.args.nonce c.args.ends.now c.args.bytes.now) c.keys.ensures
 
 pub returns-in-Err-Sequence : goal.returns-in-Err-Sequence
 returns-in-Err-Sequence c =
-    let same : c.keys.result ≡ keys_of c.args.key = same_keys c.keys.result c.args.key c.keys.ensures.encrypt c.keys.ensures.code in
     other_sequence c.keys.result c.args.nonce c.args.ends.now c.args.bytes.now c.in-Err-Sequence.field-0-0
     ((c.in-Err-Sequence.ensures.sequence c.in-Err-Sequence.field-0-0).0 (ap Err c.in-Err-Sequence.field-0-is))
-    ∙ ap (λ (k : Keys). unsealed_at k c.args.nonce c.args.ends.now c.args.bytes.now) same
+    ∙ ap (λ (k : Keys). unsealed_at k c.args.nonce c.args.ends.now c.args.bytes.now) c.keys.ensures

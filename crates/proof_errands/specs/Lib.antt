@@ -1,0 +1,1 @@
+pub use Rattle.proof_requests.specs.law_host as law_host
