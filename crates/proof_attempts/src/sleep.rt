@@ -9,6 +9,7 @@ ghost use Rattle.proof_waking.specs.law_host.Heard.{heard_by_host};
 ghost use Rattle.world_model.specs.State.{first_machine};
 ghost use Rattle.world_lines.specs.Spoken.{Spoken, transcript_of};
 ghost use Rattle.world_lines.specs.Done.{AreDone};
+ghost use Rattle.world_lines.specs.Whole.{AreWhole};
 ghost use Rattle.proof_waking.specs.proof_alone.State.{HostMachine, first_alone};
 ghost use Rattle.proof_waking.specs.proof_alone.Phases.{Resting};
 ghost use Rattle.proof_waking.specs.proof_alone.Runs.{Run, Told};
@@ -45,12 +46,15 @@ pub fn hosts_fall_asleep_as_told()
 }
 
 /// So it is over any lines from the first on, the last of which an allocation failure may have cut short, over a keeper that tells its records and has none at
-/// first; and of what a host heard of them.
+/// first, also in the end where all were run whole; and of what a host heard of them.
 pub fn lines_fall_asleep_as_told()
     ensures lines { (keys : Keys) (devices : List State) (lines : List Spoken) → AreDone (first_machine keys (Some []) devices) lines →
-        FallsAsleep false (transcript_of (first_machine keys (Some []) devices) lines) }
-    ensures heard { (keys : Keys) (devices : List State) (lines : List Spoken) → AreDone (first_machine keys (Some []) devices) lines →
-        FallsAsleep false (heard_by_host (transcript_of (first_machine keys (Some []) devices) lines)) }
+        FallsAsleep false (transcript_of (first_machine keys (Some []) devices) lines)
+        × FallsAsleep false (heard_by_host (transcript_of (first_machine keys (Some []) devices) lines)) }
+    ensures whole { (keys : Keys) (devices : List State) (lines : List Spoken) → AreDone (first_machine keys (Some []) devices) lines →
+        AreWhole (first_machine keys (Some []) devices) lines →
+        FallsAsleep true (transcript_of (first_machine keys (Some []) devices) lines)
+        × FallsAsleep true (heard_by_host (transcript_of (first_machine keys (Some []) devices) lines)) }
 {
     lines_are_a_hosts();
     what_is_heard_is_a_hosts();
