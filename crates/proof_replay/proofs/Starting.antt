@@ -95,13 +95,14 @@ kept_as_told keys whole heard told held agrees laws = record {
   at_once = laws.at_once;
   in_turn = laws.in_turn;
   wakes = laws.wakes;
+  sleeps = laws.sleeps;
   holds = laws.holds;
   questions = laws.questions;
   ticks = laws.ticks;
   sends = laws.sends;
 }
 
-module _ (laws : (keys : Keys) (whole : Bool) (here : Phase) (heard : List Entry) (m : HostMachine) → Run (first_alone keys (Some [])) here heard m → (whole ≡ true → here ≡ Resting)
+module _ (laws : (keys : Keys) (whole : Bool) (here : Phase) (heard : List Entry) (m : HostMachine) → Run (first_alone keys (Some [])) here heard m → (whole ≡ true → (here ≡ Resting) × (m.left ≡ 0))
     → AreForHost heard → HostsKeepLaws keys whole heard m.records)
     (keys : Keys) (number : ℕ) (told : Option (List (List ℕ))) (past : List Entry) (before : HaveHeard keys number told past) (place : Place) (opens : Opens keys number told place.host)
     (adds : OptAdds told place.shelf.records []) where
@@ -142,7 +143,7 @@ module _ (laws : (keys : Keys) (whole : Bool) (here : Phase) (heard : List Entry
         hears = hears;
         keeps =
             kept_as_told keys whole (past ++ Said restart_word ∷ heard) last.shelf.records held (λ is. subst (λ (r : Option (List (List ℕ))). Agrees r held) (records is) agrees)
-            (laws keys whole Resting (past ++ Said restart_word ∷ heard) (host_machine keys held m.host.state [] m.clock 0 awaits) all (λ is. refl)
+            (laws keys whole Resting (past ++ Said restart_word ∷ heard) (host_machine keys held m.host.state [] m.clock 0 awaits) all (λ is. (refl, refl))
             (said_for_host (past ++ Said restart_word ∷ heard) said));
         next = λ is many some. record {
           held = held;

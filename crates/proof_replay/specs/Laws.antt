@@ -10,7 +10,7 @@ use Rattle.law_transcript.specs.Payloads.{SendsWhatIsDue}
 use Rattle.proof_requests.specs.law_host.Heard.{listing_heard}
 use Rattle.law_time.specs.Holds.{HoldsAsAsked}
 use Rattle.law_time.specs.Questions.{AnswersQuestions}
-use Rattle.law_time.specs.Waking.{WakesAsTold}
+use Rattle.law_time.specs.Waking.{FallsAsleep, WakesAsTold}
 use Rattle.run_lines.specs.Lines.{TextLine}
 use Rattle.run_replay.specs.Machine.{Lone}
 use Rattle.proof_host.specs.Laws.{HostLaws}
@@ -27,6 +27,7 @@ use Rattle.proof_replay.specs.Heard.{AreReplayed, AreSaid, Replayed, heard_of, t
 -- A command ends, and values, old reports and what cannot be read are noted, only where a payload of the node was judged that tells it.
 -- What cannot be read, a value and that a node is awake are noted at once, where a payload has them first; and all values that are told openly, in order.
 -- A node is taken to be awake where it tells so, and wherever it does.
+-- It falls asleep where its third attempt, or telling it that there is no more for it, has ended, and wherever one of these has.
 -- It is held awake where the report that ends its session may ask so, and wherever it does.
 -- The answers to questions stand where the first response to the last request was judged, and wherever it was.
 -- The number of a tick is above those before it, and lines have asked for so many ticks.
@@ -39,17 +40,19 @@ pub record HostsKeepLaws (keys : Keys) (whole : Bool) (heard : List Entry) (reco
   pub at_once : NotesAtOnce whole heard
   pub in_turn : NotesInTurn whole heard
   pub wakes : WakesAsTold heard
+  pub sleeps : FallsAsleep whole heard
   pub holds : HoldsAsAsked heard
   pub questions : AnswersQuestions heard
   pub ticks : EachAfter MayCount [] heard
   pub sends : (key : List ℕ) → keys ≡ keys_of key → SendsWhatIsDue listing_heard key heard
 
--- A run of a host alone that began without records tells this, and ends at rest; none of its lines is for others; and the keeper holds what it held and the records
+-- A run of a host alone that began without records tells this, and ends at rest with no tick to come; none of its lines is for others; and the keeper holds what it held and the records
 -- of that run, where it tells them.
 pub record IsHeardAlone (keys : Keys) (before after : Option (List (List ℕ))) (heard : List Entry) : Type 0 where
   pub last : HostMachine
   pub added : List (List ℕ)
   pub run : Run (first_alone keys (Some [])) Resting heard last
+  pub over : last.left ≡ 0
   pub for_host : AreForHost heard
   pub tells : last.records ≡ Some added
   pub adds : OptAdds before after added

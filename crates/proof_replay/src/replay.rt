@@ -22,7 +22,7 @@ use proof_asking::known::waking::hosts_wake_as_told;
 use proof_asking::known::{
     hosts_do_as_is_said, hosts_note_at_once, hosts_note_values_in_turn, hosts_note_what_was_told,
 };
-use proof_attempts::hosts_hold_as_asked;
+use proof_attempts::{hosts_fall_asleep_as_told, hosts_hold_as_asked};
 use proof_requests::alone::{hosts_keep_their_tables, hosts_tell_time};
 use proof_requests::hosts_answer_questions;
 
@@ -37,7 +37,7 @@ pub fn replays_are_a_hosts()
 /// A host alone that begins without records keeps these laws, over a keeper that tells its records, where no line is refused that is for others.
 pub fn hosts_keep_laws()
     ensures { (keys : Keys) (whole : Bool) (here : Phase) (heard : List Entry) (m : HostMachine) → Run (first_alone keys (Some [])) here heard m →
-        (whole ≡ true → here ≡ Resting) → AreForHost heard → HostsKeepLaws keys whole heard m.records }
+        (whole ≡ true → (here ≡ Resting) × (m.left ≡ 0)) → AreForHost heard → HostsKeepLaws keys whole heard m.records }
 {
     hosts_keep_their_tables();
     hosts_do_as_is_said();
@@ -46,6 +46,7 @@ pub fn hosts_keep_laws()
     hosts_note_values_in_turn();
     hosts_tell_time();
     hosts_wake_as_told();
+    hosts_fall_asleep_as_told();
     hosts_hold_as_asked();
     hosts_send_what_is_due();
     hosts_answer_questions();
