@@ -18,8 +18,7 @@ pub returns-clause-whole : goal.returns-clause-whole
 returns-clause-whole c = λ keys devices lines are whole.
     let start = first_alone keys (Some []) in
     let past = transcript_of (first_machine keys (Some []) devices) lines in
-    let (m, run, same, left) = c.lines_are_a_hosts.ensures.keeper keys devices lines are whole in
-    (
+    let (m, run, same, left) = c.lines_are_a_hosts.ensures.keeper keys devices lines are whole in (
       c.hosts_fall_asleep_as_told.ensures.whole keys past m run left,
       c.hosts_fall_asleep_as_told.ensures.whole keys (heard_by_host past) m (c.what_is_heard_is_a_hosts.ensures.run start Resting past m run) left,
     )
