@@ -40,7 +40,7 @@ pub fn replays_are_a_hosts()
 /// A host alone that begins without records keeps these laws, over a keeper that tells its records, where no line is refused that is for others.
 pub fn hosts_keep_laws()
     ensures { (keys : Keys) (whole : Bool) (here : Phase) (heard : List Entry) (m : HostMachine) → Run (first_alone keys (Some [])) here heard m →
-        (whole ≡ true → here ≡ Resting) → AreForHost heard → HostsKeepLaws keys whole heard m.records }
+        (whole ≡ true → (here ≡ Resting) × (m.left ≡ 0)) → AreForHost heard → HostsKeepLaws keys whole heard m.records }
 {
     hosts_keep_their_tables();
     hosts_do_as_is_said();
