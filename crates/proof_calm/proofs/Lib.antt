@@ -26,4 +26,6 @@ pub mod Judging
 pub mod Pending
 pub mod Requested
 pub mod Begun
+pub mod Written
+pub mod Rested
 pub mod Tying

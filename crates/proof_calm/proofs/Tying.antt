@@ -97,6 +97,10 @@ use Rattle.proof_calm.specs.Tied.{HasAnswer, HasRoom}
 use Rattle.proof_calm.proofs.Pending.{counted_few}
 use Rattle.proof_calm.proofs.Requested.{Judges}
 use Rattle.proof_calm.proofs.Routed.{arrives_routed, calm_routed, counts_routed, cut_routed, device_routed, gives_routed, line_routed, show_routed, takes_routed, tick_routed, wake_routed}
+use Rattle.host_model.specs.Pumping.{HasNothing, IsPumped}
+use Rattle.proof_calm.specs.Tied.{PumpedAt}
+use Rattle.proof_calm.proofs.Ticking.{no_more_mute, tick_mute}
+use Rattle.proof_calm.proofs.Written.{mute_well, next_well, takes_well}
 
 -- ---- as it is counted
 
@@ -346,7 +350,7 @@ module _ (air : Airs) where
   unfolding happens May
   asks_tied ids m event next_is may orderly tie =
       does_tied true (on_line (after_host m.host.state event).side.turn) air m event
-      (next_tied ids m.outside.outer.chip.state m.host.state event (unheard m.outside.outer) next_is may.0 orderly.1 tie)
+      (next_tied ids m.outside.outer.chip.state m.host.state event (unheard m.outside.outer) next_is may.0 orderly tie)
 
 -- the line is the host's to use
 rests_turn : (passes : ℕ) (m : Machine) → IsDone m ⊎ Stands passes m → m.host.state.side.turn ≡ Idle
@@ -474,12 +478,54 @@ effect_served : (m : Machine) (event : Event) → IsEffect event → IsOrderly m
 effect_served m (Outside_does (Wakes_device node route)) is orderly = tt
 effect_served m (Outside_does (Shows node)) is orderly = tt
 effect_served m (Outside_does (Cuts size)) is orderly = tt
-effect_served m (Host_does (Accepts order carriage)) is orderly = orderly.0
-effect_served m (Refuses line refusal) is orderly = orderly
-effect_served m (Shows_values node) is orderly = orderly
+effect_served m (Host_does (Accepts order carriage)) is orderly = tt
+effect_served m (Refuses line refusal) is orderly = tt
+effect_served m (Shows_values node) is orderly = tt
 effect_served m (Outside_does event) is orderly = absurd is
 effect_served m (Host_does event) is orderly = absurd is
 effect_served m event is orderly = absurd is
+
+-- ---- the host has pumped
+
+pumped_to : (is next : Phase) (m : Machine) → next ≡ is → PumpedAt is m → PumpedAt next m
+pumped_to is next m same pumped = subst (λ (q : Phase). PumpedAt q m) (sym same) pumped
+
+pumped_on : (here next : Phase) (m : Machine) (event : Event) → Goes here m event next → PumpedAt here m → PumpedAt next (happens m event)
+unfolding happens
+pumped_on (Said_line line) next m event (is, to) pumped = subst (λ (e : Event). PumpedAt next (happens m e)) (sym is) (subst (λ (q : Phase). PumpedAt q (happens m (Outside_does Begins_line))) (sym to) pumped)
+pumped_on (Doing line (first ∷ left)) next m event (is, to) pumped = pumped_to (Doing line left) next (happens m event) to tt
+pumped_on (To_tick (suc ticks)) next m event (is, to) pumped = pumped_to (Ticked ticks) next (happens m event) to tt
+pumped_on (Arriving (suc frames) ticks) next m event (drawn, route, is, to) pumped = pumped_to (Arriving frames ticks) next (happens m event) to tt
+pumped_on (Giving (suc results) ticks) next m event (route, is, to) pumped = pumped_to (Giving results ticks) next (happens m event) to tt
+pumped_on (Ticking_devices place (suc count) ticks) next m event (drawn, route, is, to) pumped = pumped_to (Ticking_devices (place + 1) count ticks) next (happens m event) to tt
+pumped_on (Ticking_chip ticks) next m event (is, to) pumped = pumped_to (Ticking_decoder ticks) next (happens m event) to tt
+pumped_on (Ticking_decoder ticks) next m event (is, to) pumped = pumped_to (Ticking_host (tick_events m.host.state) ticks) next (happens m event) to tt
+pumped_on (Ticking_host (first ∷ events) ticks) next m event (is, to) pumped = pumped_to (Ticking_host events ticks) next (happens m event) to tt
+pumped_on (Sleeping passes ticks) next m event (node, wants, is, to) pumped = pumped_to (Sleeping passes ticks) next (happens m event) to tt
+pumped_on (Submitting passes ticks) next m event (asked, next_is, is, to) pumped = pumped_to (Submitting passes ticks) next (happens m event) to tt
+pumped_on (Moving passes ticks) next m event (rest, ways, is, to) pumped = pumped_to (Moved true passes ticks) next (happens m event) to tt
+pumped_on (Moved b passes ticks) next m event (rest, items, done, is, to) pumped = pumped_to (Sleeping passes ticks) next (happens m event) to tt
+pumped_on here next m event goes pumped = absurd goes
+
+after_pumped : (passes ticks : ℕ) (m : Machine) → IsPumped m.host.state → PumpedAt (after_pump passes ticks) m
+after_pumped zero ticks m pumped = pumped
+after_pumped (suc passes) ticks m pumped = tt
+
+turn_pumped : (here next : Phase) (m : Machine) → Turns here m next → PumpedAt here m → PumpedAt next m
+turn_pumped (Begun line) next m (inl (events, is, same)) pumped = pumped_to (Doing line events) next m same tt
+turn_pumped (Begun line) next m (inr (ticks, is, same)) pumped = pumped_to (To_tick ticks) next m same pumped
+turn_pumped (Doing line []) next m same pumped = pumped_to (Sleeping 64 0) next m same tt
+turn_pumped (To_tick zero) next m same pumped = pumped_to Between next m same pumped
+turn_pumped (Ticked ticks) next m same pumped = pumped_to (Arriving _ ticks) next m same tt
+turn_pumped (Arriving zero ticks) next m same pumped = pumped_to (Giving _ ticks) next m same tt
+turn_pumped (Giving zero ticks) next m same pumped = pumped_to (Ticking_devices 0 _ ticks) next m same tt
+turn_pumped (Ticking_devices place zero ticks) next m same pumped = pumped_to (Ticking_chip ticks) next m same tt
+turn_pumped (Ticking_host [] ticks) next m same pumped = pumped_to (Sleeping 64 ticks) next m same tt
+turn_pumped (Sleeping passes ticks) next m (none, same) pumped = pumped_to (Submitting passes ticks) next m same tt
+turn_pumped (Submitting passes ticks) next m (is, same) pumped = pumped_to (after_pump passes ticks) next m same (after_pumped passes ticks m is)
+turn_pumped (Moving passes ticks) next m (still, same) pumped = pumped_to (Moved false passes ticks) next m same tt
+turn_pumped (Moved b passes ticks) next m (still, same) pumped = pumped_to (Sleeping (passes_after b passes) ticks) next m same tt
+turn_pumped here next m turns pumped = absurd turns
 
 -- ---- the chip's room
 
@@ -734,15 +780,17 @@ module _ (laws : Outsides) (ids : Ids) where
   event_served (Giving (suc results) ticks) next m event (route, is, to) may orderly line_at room tie = served_as m event (Outside_does (Gives route)) is tt
   event_served (Ticking_devices place (suc count) ticks) next m event (drawn, route, is, to) may orderly line_at room tie = served_as m event (Outside_does (Device_ticks place drawn route)) is tt
   event_served (Ticking_chip ticks) next m event (is, to) may orderly line_at room tie = served_as m event (Outside_does Chip_ticks) is tt
-  event_served (Ticking_decoder ticks) next m event (is, to) may orderly line_at room tie = served_as m event Decoder_ticks is (orderly_is m event Decoder_ticks is orderly)
-  event_served (Ticking_host (first ∷ events) ticks) next m event (is, to) may orderly line_at room tie = served_as m event (Host_does first) is (orderly_is m event (Host_does first) is orderly).0
+  event_served (Ticking_decoder ticks) next m event (is, to) may orderly line_at room tie = served_as m event Decoder_ticks is tt
+  event_served (Ticking_host (first ∷ events) ticks) next m event (is, to) may orderly line_at room tie =
+      served_as m event (Host_does first) is (mute_well m first (tick_mute m.host.state first line_at.0.0 line_at.1.at_host.turn_is))
   event_served (Sleeping passes ticks) next m event (node, wants, is, to) may orderly line_at room tie =
-      served_as m event (Host_does (no_more_event m.host.state node)) is (orderly_is m event (Host_does (no_more_event m.host.state node)) is orderly).0
-  event_served (Submitting passes ticks) next m event (asked, next_is, is, to) may orderly line_at room tie = served_as m event (Host_does asked) is (orderly_is m event (Host_does asked) is orderly).0
+      served_as m event (Host_does (no_more_event m.host.state node)) is (mute_well m (no_more_event m.host.state node) (no_more_mute laws.air m.host.state node))
+  event_served (Submitting passes ticks) next m event (asked, next_is, is, to) may orderly line_at room tie =
+      served_as m event (Host_does asked) is (next_well m m.outside.outer.chip.state asked next_is (may_is m event _ is may) (orderly_is m event (Host_does asked) is orderly) tie.paid)
   event_served (Moving passes ticks) next m event (rest, ways, is, to) may orderly line_at room tie =
       served_as m event (Outside_does (Chip_takes (length m.outside.outer.to_chip.bytes) rest ways)) is (part_served passes m rest ways (may_is m event _ is may) line_at room tie).0
   event_served (Moved b passes ticks) next m event (rest, items, done, is, to) may orderly line_at room tie =
-      served_as m event (Host_takes (length m.outside.outer.to_host.bytes) rest items done) is (orderly_is m event (Host_takes (length m.outside.outer.to_host.bytes) rest items done) is orderly)
+      served_as m event (Host_takes (length m.outside.outer.to_host.bytes) rest items done) is (takes_well b passes m rest items done (may_is m event _ is may) line_at)
   event_served here next m event goes may orderly line_at room tie = absurd goes
 
   -- the event is this one, and leads there
@@ -824,21 +872,21 @@ module _ (laws : Outsides) (ids : Ids) where
     tied_walk = record {
       said = λ past m words line read known. (
         tt,
-        λ quiet. let both = quiet_both past (entry.Said words ∷ []) quiet in let here = known both.0 in ((said_quiet words line read both.1, here.0), here.1, tt, here.3, here.4, here.5),
+        λ quiet. let both = quiet_both past (entry.Said words ∷ []) quiet in let here = known both.0 in ((said_quiet words line read both.1, here.0), here.1, tt, here.3, here.4, here.5, here.6),
       );
       event = λ here next past m event goes may orderly known. (
         nothing_asked past (entries m event),
         λ quiet.
             let at = known (quiet_both past (entries m event) quiet).0 in
-            let served : IsServed m event = event_served here next m event goes may orderly at.0 at.2 at.5 in
+            let served : IsServed m event = event_served here next m event goes may orderly at.0 at.2 at.6 in
             let later : LineAt next (happens m event) = (lines.event here next past m event goes may served (λ said. at.0)).1 quiet in
-            let room : RoomAt next (happens m event) = event_room laws.air here next m event goes may orderly at.0 at.2 at.5 in
-            (later, event_awaits laws here next m event goes may at.0 at.1, room, routed_on laws.air here next m event goes orderly served at.0 at.3, lines_on stays here next m event goes may at.0 at.5 at.4, event_ties here next m event goes may orderly at.0 at.1 at.2 at.5 later room),
+            let room : RoomAt next (happens m event) = event_room laws.air here next m event goes may orderly at.0 at.2 at.6 in
+            (later, event_awaits laws here next m event goes may at.0 at.1, room, routed_on laws.air here next m event goes orderly served at.0 at.3, lines_on stays here next m event goes may at.0 at.6 at.4, pumped_on here next m event goes at.5, event_ties here next m event goes may orderly at.0 at.1 at.2 at.6 later room),
       );
       turn = λ here next past m turns known quiet.
           let at = known quiet in
           let later : LineAt next m = lines.turn here next past m turns (λ said. at.0) quiet in
-          (later, turn_awaits laws here next m turns at.1, turn_room here next m turns at.0 at.2, at.3, at.4, turn_ties here next m turns at.0 later at.5);
+          (later, turn_awaits laws here next m turns at.1, turn_room here next m turns at.0 at.2, at.3, at.4, turn_pumped here next m turns at.5, turn_ties here next m turns at.0 later at.6);
     }
 
 -- ---- between lines
@@ -870,10 +918,14 @@ request_rests m is = record { none_due = is.routed.none_due; paid = is.tie.paid;
     answers u (inl answered) = answered
     answers u (inr has) = absurd (subst HasAnswer none_left has)
 
-    by : Tied false (ends_of h s) (unheard m.outside.outer) [] → SendsFew m → HasNone m ⊎ IsTaken m
+    nothing_left : h.requests.under_way ≡ None → IsPumped h → HasNothing h
+    nothing_left none (inl busy) = absurd (busy (record { none_under_way = none; free_line = ap is_busy is.rests.at_host.turn_is }))
+    nothing_left none (inr nothing) = nothing
+
+    by : Tied false (ends_of h s) (unheard m.outside.outer) [] → SendsFew m → (HasNone m × HasNothing h) ⊎ IsTaken m
     by (On_way u of fresh at) few = absurd (let no = at.asked in cc)
     by (Called u of fresh at) few = absurd (not_empty at.before (notice_frame (SendData h.requests.last_id at.status)) at.behind (sym at.are ∙ none_left))
-    by (Nowhere at) (inl nothing) = inl (record { no_request = at.none; sends = nothing })
+    by (Nowhere at) (inl nothing) = inl (record { no_request = at.none; sends = nothing }, nothing_left at.none is.pumped)
     by (Nowhere at) (inr one) = absurd (let no : is_some s.sending ≡ false = ap (λ (o : Option Sending). is_some o) at.idle in let yes = one.sending in cc)
     by (At_chip u of fresh at) (inl nothing) = absurd (let yes : is_some s.sending ≡ true = ap (λ (o : Option Sending). is_some o) at.is_sending in let no = nothing.not_sending in cc)
     by (At_chip u of fresh at) (inr one) =

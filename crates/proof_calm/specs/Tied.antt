@@ -28,14 +28,14 @@ use Rattle.host_requests.specs.declared.under_way.UnderWay.{UnderWay}
 use Rattle.host_node.specs.declared.attempt.Moment.TheVariants.{BeforeItsTick}
 use Rattle.host_model.specs.After.{task_purpose}
 use Rattle.host_model.specs.Events.{HostEvent, Line_ticks, Requests_do, Node_ticks, Submits_front, Starts, Gives_text, Gives_segment}
+use Rattle.host_model.specs.Pumping.{HasNothing, IsPumped}
 use Rattle.host_model.specs.State.{HostState}
 use Rattle.outside_model.specs.Events.{OuterEvent, Begins_tick, Chip_takes}
 use Rattle.outside_model.specs.State.{OuterState}
 use Rattle.world_model.specs.Events.{Event, Outside_does, Host_does}
 use Rattle.world_model.specs.State.{Machine}
-use Rattle.proof_serial.specs.Line.{WritesWell}
 use Rattle.proof_work.specs.Line.{HasOnLine}
-use Rattle.proof_work.specs.proof_walk.Phases.{Phase, Ticked, Arriving, Giving, Ticking_devices, Ticking_chip, Ticking_decoder, Ticking_host, Sleeping, Submitting, Moving, Moved}
+use Rattle.proof_work.specs.proof_walk.Phases.{Phase, Between, Said_line, Begun, To_tick, Ticked, Arriving, Giving, Ticking_devices, Ticking_chip, Ticking_decoder, Ticking_host, Sleeping, Submitting, Moving, Moved}
 use Rattle.proof_calm.specs.Awaited.{Awaits, AwaitsAt}
 use Rattle.proof_calm.specs.Calls.{answer_taken}
 use Rattle.proof_calm.specs.Quiet.{AreQuiet}
@@ -212,8 +212,16 @@ RoomAt (Moving passes ticks) m = HasRoom m.outside.outer.chip.state
 RoomAt (Moved has_moved passes ticks) m = HasRoom m.outside.outer.chip.state
 RoomAt here m = Unit {0}
 
+-- between lines and before each tick, the host has submitted what it can
+abbrev pub PumpedAt : Phase → Machine → Type 0
+PumpedAt Between m = IsPumped m.host.state
+PumpedAt (Said_line line) m = IsPumped m.host.state
+PumpedAt (Begun line) m = IsPumped m.host.state
+PumpedAt (To_tick ticks) m = IsPumped m.host.state
+PumpedAt here m = Unit {0}
+
 abbrev pub KnowTied : Phase → List Entry → Machine → Type 0
-KnowTied here past m = AreQuiet past → LineAt here m × AwaitsAt here m × RoomAt here m × IsRouted m.outside.outer × HasOnLine m.host.state × TieAt here m
+KnowTied here past m = AreQuiet past → LineAt here m × AwaitsAt here m × RoomAt here m × IsRouted m.outside.outer × HasOnLine m.host.state × PumpedAt here m × TieAt here m
 
 -- between lines
 pub record IsTied (m : Machine) : Type 0 where
@@ -221,13 +229,14 @@ pub record IsTied (m : Machine) : Type 0 where
   pub awaits : Awaits m
   pub routed : IsRouted m.outside.outer
   pub on_line : HasOnLine m.host.state
+  pub pumped : IsPumped m.host.state
   pub tie : TieOf false m []
 
--- no result is due and no abort owed; and no request is under way, or one that the chip took
+-- no result is due and no abort owed; and no request is under way and there is nothing to submit, or one is under way that the chip took
 pub record RequestRests (m : Machine) : Type 0 where
   pub none_due : m.outside.outer.due ≡ []
   pub paid : m.host.state.requests.owes ≡ false
-  pub request : HasNone m ⊎ IsTaken m
+  pub request : (HasNone m × HasNothing m.host.state) ⊎ IsTaken m
 
 -- ---- what is assumed of events
 
@@ -245,8 +254,7 @@ IsOrderlyOutside m Begins_tick = to_arrive m + length m.outside.outer.due ≤ 31
 IsOrderlyOutside m (Chip_takes count rest ways) = HaveRoutes ways
 IsOrderlyOutside m event = Unit {0}
 
--- and each frame that the host writes fits the line
 abbrev pub IsOrderly : Machine → Event → Type 0
 IsOrderly m (Outside_does event) = IsOrderlyOutside m event
-IsOrderly m (Host_does event) = WritesWell m (Host_does event) × AsksAt m.outside.outer.chip.state.joined m.host.state event
-IsOrderly m event = WritesWell m event
+IsOrderly m (Host_does event) = AsksAt m.outside.outer.chip.state.joined m.host.state event
+IsOrderly m event = Unit {0}

@@ -17,7 +17,7 @@ ghost use Rattle.proof_calm.specs.Tied.{IsOrderly, IsTied, KnowTied, RequestRest
 use crate::the_line_rests;
 use host_requests::callback_ids;
 use proof_waking::traffic::{frames_fly_in_order, outsides_make_requests};
-use proof_work::{requests_stay_on_the_line, turns_of_a_pump_leave_nothing};
+use proof_work::{hosts_are_tended, requests_stay_on_the_line, turns_of_a_pump_leave_nothing};
 
 /// At first the line rests, no call is to come, and no request is under way. Where each request that the host submits asks to send a payload of 1 to 46 bytes
 /// to a joined node, and at most 31 frames and results come to the chip in a tick, that stays so at each phase of quiet lines and ticks, as far as it goes: the line rests again
@@ -34,6 +34,7 @@ pub fn requests_stay_tied()
     the_line_rests();
     callback_ids();
     frames_fly_in_order();
+    hosts_are_tended();
     outsides_make_requests();
     requests_stay_on_the_line();
     turns_of_a_pump_leave_nothing();
