@@ -28,4 +28,5 @@ pub mod Requested
 pub mod Begun
 pub mod Written
 pub mod Rested
+pub mod Knowing
 pub mod Tying
