@@ -44,14 +44,14 @@ use Rattle.host_model.specs.State.{HostState, node_of, with_node}
 use Rattle.proof_calm.specs.Known.{IsBlank, IsMember, IsPurposeFor, IsRequestFor, IsTaskFor, KnowsMembers}
 
 module _ (joined : List Bool) where
-  abbrev Knows : HostState → Type 0
+  abbrev pub Knows : HostState → Type 0
   Knows h = KnowsMembers joined h
 
-  abbrev AreBlank : List NodeState → Type 0
+  abbrev pub AreBlank : List NodeState → Type 0
   AreBlank nodes = (n : ℕ) → is_marked joined n ≡ false → IsBlank (node_among nodes n)
 
   -- a joined node changes
-  set_blank : (h : HostState) (n : ℕ) (state : NodeState) → is_marked joined n ≡ true → AreBlank h.nodes → AreBlank (with_node h n state).nodes
+  pub set_blank : (h : HostState) (n : ℕ) (state : NodeState) → is_marked joined n ≡ true → AreBlank h.nodes → AreBlank (with_node h n state).nodes
   set_blank h n state member blank m other = elim (cases_eq m n) [
     | inl same ↦ absurd (let no : true ≡ false = sym member ∙ (ap (λ (k : ℕ). is_marked joined k) (sym same) ∙ other) in cc)
     | inr apart ↦ subst IsBlank (sym (get_or-set_other h.nodes n m state (unknown 0) apart)) (blank m other)

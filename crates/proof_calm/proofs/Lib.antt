@@ -29,4 +29,8 @@ pub mod Begun
 pub mod Written
 pub mod Rested
 pub mod Knowing
+pub mod Homing
+pub mod Serving
+pub mod Peopled
+pub mod First
 pub mod Tying

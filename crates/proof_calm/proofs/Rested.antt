@@ -19,7 +19,7 @@ no_part None false none done works = cc
 no_part None true none done works = cc
 no_part (Some bytes) more none done works = cc
 
-all_four : (a b c d : Bool) → (a && b && c && d) ≡ true → (a ≡ true) × (b ≡ true) × (c ≡ true) × (d ≡ true)
+pub all_four : (a b c d : Bool) → (a && b && c && d) ≡ true → (a ≡ true) × (b ≡ true) × (c ≡ true) × (d ≡ true)
 all_four true true true true all = (refl, refl, refl, refl)
 all_four true true true false all = absurd cc
 all_four true true false d all = absurd cc
@@ -45,7 +45,7 @@ rests_idle n rests works = by n.series refl
         let no : is_false true ≡ true = ap is_false (sym blocked) ∙ all.3 in cc
 
 -- which node is next
-range_by : (passes : ℕ → Bool) (a b : ℕ) (o p : Option ℕ) (n : ℕ) → least_above passes a ≡ o → least_above passes b ≡ p → option_or o p ≡ Some n → (1 ≤ n) × (n ≤ 232)
+pub range_by : (passes : ℕ → Bool) (a b : ℕ) (o p : Option ℕ) (n : ℕ) → least_above passes a ≡ o → least_above passes b ≡ p → option_or o p ≡ Some n → (1 ≤ n) × (n ≤ 232)
 range_by passes a b None p n first second is = let f = what_is_least passes b n (second ∙ is) in (omega (arith, f.from), omega (arith, f.to))
 range_by passes a b (Some k) p n first second is = let f = what_is_least passes a n (first ∙ is) in (omega (arith, f.from), omega (arith, f.to))
 

@@ -85,4 +85,3 @@ done_said s status = by (s.aborted == 0)
     by : (b : Bool) → AreSaid (if b then ended_outs s.sending s status else [])
     by true = ended_said s.sending s status
     by false = tt
-

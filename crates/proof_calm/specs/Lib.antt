@@ -9,5 +9,6 @@ pub mod Networks
 pub mod Awaited
 pub mod Routed
 pub mod Known
+pub mod Homeward
 pub mod Undisturbed
 pub mod Tied
