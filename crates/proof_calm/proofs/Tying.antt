@@ -85,6 +85,7 @@ use Rattle.host_model.specs.After.{is_busy}
 use Rattle.host_model.specs.May.{May as MayHost}
 use Rattle.host_model.proofs.Submitted.{next_is as next_is_so}
 use Rattle.outside_model.specs.declared.waits.Call.{Call}
+use Rattle.outside_model.specs.declared.waits.Due.{Due}
 use Rattle.outside_model.specs.declared.waits.Call.TheVariants.{OfFrame, NoRoute as no_route_call}
 use Rattle.proof_waking.specs.proof_traffic.Facts.{one_if}
 use Rattle.proof_waking.specs.proof_traffic.OutsideTraffic.{of_frame}
@@ -573,39 +574,40 @@ unfolding happens
 decoder_few m few = few
 
 module _ (air : Airs) where
-  event_room : (here next : Phase) (m : Machine) (event : Event) → Goes here m event next → May m event → IsOrderly m event → LineAt here m → RoomAt here m → TieAt here m → RoomAt next (happens m event)
-  event_room (Said_line line) next m event (is, to) may orderly line_at room tie = room_as next (Begun line) m event (Outside_does Begins_line) is to tt
-  event_room (Doing line (first ∷ left)) next m event (is, to) may orderly line_at room tie = room_as next (Doing line left) m event first is to tt
-  event_room (To_tick (suc ticks)) next m event (is, to) may orderly line_at room tie =
+  event_room : (here next : Phase) (m : Machine) (event : Event) → Goes here m event next → May m event → IsOrderly m event → LineAt here m → RoomAt here m → TieAt here m → IsRouted m.outside.outer → RoomAt next (happens m event)
+  event_room (Said_line line) next m event (is, to) may orderly line_at room tie routed = room_as next (Begun line) m event (Outside_does Begins_line) is to tt
+  event_room (Doing line (first ∷ left)) next m event (is, to) may orderly line_at room tie routed = room_as next (Doing line left) m event first is to tt
+  event_room (To_tick (suc ticks)) next m event (is, to) may orderly line_at room tie routed =
       let few = subst (IsOrderly m) is orderly in
       let none : length m.outside.outer.chip.state.port.waiting ≡ 0 = ap (λ (fs : List FrameParts). length fs) line_at.at_chip.waiting in
-      room_as next (Ticked ticks) m event (Outside_does Begins_tick) is to (machine_ticks m (omega (arith, few, none)))
-  event_room (Arriving (suc frames) ticks) next m event (drawn, route, is, to) may orderly line_at room tie =
+      let none_due : length m.outside.outer.due ≡ 0 = ap (λ (due : List Due). length due) routed.none_due in
+      room_as next (Ticked ticks) m event (Outside_does Begins_tick) is to (machine_ticks m (omega (arith, few, none, none_due)))
+  event_room (Arriving (suc frames) ticks) next m event (drawn, route, is, to) may orderly line_at room tie routed =
       let more = machine_arrives m drawn route in
       room_as next (Arriving frames ticks) m event (Outside_does (Arrives drawn route)) is to
       (arrived_room (length m.outside.outer.chip.state.port.waiting) _ frames (length m.outside.outer.due) _ room more.chip more.due)
-  event_room (Giving (suc results) ticks) next m event (route, is, to) may orderly line_at room tie =
+  event_room (Giving (suc results) ticks) next m event (route, is, to) may orderly line_at room tie routed =
       room_as next (Giving results ticks) m event (Outside_does (Gives route)) is to (given_room (length m.outside.outer.chip.state.port.waiting) _ results room (machine_gives m route))
-  event_room (Ticking_devices place (suc count) ticks) next m event (drawn, route, is, to) may orderly line_at room tie =
+  event_room (Ticking_devices place (suc count) ticks) next m event (drawn, route, is, to) may orderly line_at room tie routed =
       room_as next (Ticking_devices (place + 1) count ticks) m event (Outside_does (Device_ticks place drawn route)) is to (few_as m (happens m (Outside_does (Device_ticks place drawn route))) (device_chip m place drawn route) room)
-  event_room (Ticking_chip ticks) next m event (is, to) may orderly line_at room tie = room_as next (Ticking_decoder ticks) m event (Outside_does Chip_ticks) is to (chip_few m room)
-  event_room (Ticking_decoder ticks) next m event (is, to) may orderly line_at room tie = room_as next (Ticking_host (tick_events m.host.state) ticks) m event Decoder_ticks is to (decoder_few m room)
-  event_room (Ticking_host (first ∷ events) ticks) next m event (is, to) may orderly line_at room tie =
+  event_room (Ticking_chip ticks) next m event (is, to) may orderly line_at room tie routed = room_as next (Ticking_decoder ticks) m event (Outside_does Chip_ticks) is to (chip_few m room)
+  event_room (Ticking_decoder ticks) next m event (is, to) may orderly line_at room tie routed = room_as next (Ticking_host (tick_events m.host.state) ticks) m event Decoder_ticks is to (decoder_few m room)
+  event_room (Ticking_host (first ∷ events) ticks) next m event (is, to) may orderly line_at room tie routed =
       room_as next (Ticking_host events ticks) m event (Host_does first) is to (few_as m (happens m (Host_does first)) (does_calm air m first).chip room)
-  event_room (Sleeping passes ticks) next m event (node, wants, is, to) may orderly line_at room tie =
+  event_room (Sleeping passes ticks) next m event (node, wants, is, to) may orderly line_at room tie routed =
       room_as next (Sleeping passes ticks) m event (Host_does (no_more_event m.host.state node)) is to (room_of m (happens m (Host_does (no_more_event m.host.state node))) (does_calm air m (no_more_event m.host.state node)).chip room)
-  event_room (Submitting passes ticks) next m event (asked, next_is, is, to) may orderly line_at room tie =
+  event_room (Submitting passes ticks) next m event (asked, next_is, is, to) may orderly line_at room tie routed =
       room_as next (Submitting passes ticks) m event (Host_does asked) is to (room_of m (happens m (Host_does asked)) (does_calm air m asked).chip room)
-  event_room (Moving passes ticks) next m event (rest, ways, is, to) may orderly line_at room tie =
+  event_room (Moving passes ticks) next m event (rest, ways, is, to) may orderly line_at room tie routed =
       let e : Event = Outside_does (Chip_takes (length m.outside.outer.to_chip.bytes) rest ways) in
       let may_it : May m e = subst (May m) is may in
       let fewer = (part_served passes m rest ways may_it line_at room tie).1.fewer in
       room_as next (Moved true passes ticks) m event e is to
       (subst HasRoom (sym (taken_state m rest ways may_it)) (λ idle. let less = fewer idle in let most = room less.0 in let few = less.1 in omega (arith, most, few)))
-  event_room (Moved b passes ticks) next m event (rest, items, done, is, to) may orderly line_at room tie =
+  event_room (Moved b passes ticks) next m event (rest, items, done, is, to) may orderly line_at room tie routed =
       room_as next (Sleeping passes ticks) m event (Host_takes (length m.outside.outer.to_host.bytes) rest items done) is to
       (room_of m (happens m (Host_takes (length m.outside.outer.to_host.bytes) rest items done)) (takes_calm air m (length m.outside.outer.to_host.bytes) rest items done).chip room)
-  event_room here next m event goes may orderly line_at room tie = absurd goes
+  event_room here next m event goes may orderly line_at room tie routed = absurd goes
 
 room_to : (is next : Phase) (m : Machine) → next ≡ is → RoomAt is m → RoomAt next m
 room_to is next m same room = subst (λ (q : Phase). RoomAt q m) (sym same) room
@@ -654,27 +656,27 @@ module _ (air : Airs) where
   as_routed : (m : Machine) (event is : Event) → event ≡ is → IsRouted (happens m is).outside.outer → IsRouted (happens m event).outside.outer
   as_routed m event is same routed = subst (λ (e : Event). IsRouted (happens m e).outside.outer) (sym same) routed
 
-  routed_on : (here next : Phase) (m : Machine) (event : Event) → Goes here m event next → IsOrderly m event → IsServed m event → LineAt here m → IsRouted m.outside.outer → IsRouted (happens m event).outside.outer
-  routed_on (Said_line line) next m event (is, to) orderly served line_at routed = as_routed m event (Outside_does Begins_line) is (line_routed m routed)
-  routed_on (Doing line (first ∷ left)) next m event (is, to) orderly served line_at routed = as_routed m event first is (effect_routed m first line_at.0.0 routed)
-  routed_on (To_tick (suc ticks)) next m event (is, to) orderly served line_at routed = as_routed m event (Outside_does Begins_tick) is (tick_routed m routed)
-  routed_on (Arriving (suc frames) ticks) next m event (drawn, route, is, to) orderly served line_at routed = as_routed m event (Outside_does (Arrives drawn route)) is (arrives_routed m drawn route routed)
-  routed_on (Giving (suc results) ticks) next m event (route, is, to) orderly served line_at routed = as_routed m event (Outside_does (Gives route)) is (gives_routed m route routed)
-  routed_on (Ticking_devices place (suc count) ticks) next m event (drawn, route, is, to) orderly served line_at routed =
+  routed_on : (here next : Phase) (m : Machine) (event : Event) → Goes here m event next → May m event → IsOrderly m event → IsServed m event → LineAt here m → IsRouted m.outside.outer → IsRouted (happens m event).outside.outer
+  routed_on (Said_line line) next m event (is, to) may orderly served line_at routed = as_routed m event (Outside_does Begins_line) is (line_routed m routed)
+  routed_on (Doing line (first ∷ left)) next m event (is, to) may orderly served line_at routed = as_routed m event first is (effect_routed m first line_at.0.0 routed)
+  routed_on (To_tick (suc ticks)) next m event (is, to) may orderly served line_at routed = as_routed m event (Outside_does Begins_tick) is (tick_routed m routed)
+  routed_on (Arriving (suc frames) ticks) next m event (drawn, route, is, to) may orderly served line_at routed = as_routed m event (Outside_does (Arrives drawn route)) is (arrives_routed m drawn route routed)
+  routed_on (Giving (suc results) ticks) next m event (route, is, to) may orderly served line_at routed = as_routed m event (Outside_does (Gives route)) is (gives_routed m route routed)
+  routed_on (Ticking_devices place (suc count) ticks) next m event (drawn, route, is, to) may orderly served line_at routed =
       as_routed m event (Outside_does (Device_ticks place drawn route)) is (device_routed m place drawn route routed)
-  routed_on (Ticking_chip ticks) next m event (is, to) orderly served line_at routed = as_routed m event (Outside_does Chip_ticks) is (counts_routed m routed)
-  routed_on (Ticking_decoder ticks) next m event (is, to) orderly served line_at routed = as_routed m event Decoder_ticks is (decoder_routed m routed)
-  routed_on (Ticking_host (first ∷ events) ticks) next m event (is, to) orderly served line_at routed = as_routed m event (Host_does first) is (does_routed m first routed)
-  routed_on (Sleeping passes ticks) next m event (node, wants, is, to) orderly served line_at routed =
+  routed_on (Ticking_chip ticks) next m event (is, to) may orderly served line_at routed = as_routed m event (Outside_does Chip_ticks) is (counts_routed m routed)
+  routed_on (Ticking_decoder ticks) next m event (is, to) may orderly served line_at routed = as_routed m event Decoder_ticks is (decoder_routed m routed)
+  routed_on (Ticking_host (first ∷ events) ticks) next m event (is, to) may orderly served line_at routed = as_routed m event (Host_does first) is (does_routed m first routed)
+  routed_on (Sleeping passes ticks) next m event (node, wants, is, to) may orderly served line_at routed =
       as_routed m event (Host_does (no_more_event m.host.state node)) is (does_routed m (no_more_event m.host.state node) routed)
-  routed_on (Submitting passes ticks) next m event (asked, next_is, is, to) orderly served line_at routed = as_routed m event (Host_does asked) is (does_routed m asked routed)
-  routed_on (Moving passes ticks) next m event (rest, ways, is, to) orderly served line_at routed =
+  routed_on (Submitting passes ticks) next m event (asked, next_is, is, to) may orderly served line_at routed = as_routed m event (Host_does asked) is (does_routed m asked routed)
+  routed_on (Moving passes ticks) next m event (rest, ways, is, to) may orderly served line_at routed =
       as_routed m event (Outside_does (Chip_takes (length m.outside.outer.to_chip.bytes) rest ways)) is
-      (takes_routed m rest ways (part_unmarked passes m line_at) (subst (IsServed m) is served) (subst (IsOrderly m) is orderly) routed)
-  routed_on (Moved b passes ticks) next m event (rest, items, done, is, to) orderly served line_at routed =
+      (takes_routed m rest ways (part_unmarked passes m line_at) (subst (May m) is may) (subst (IsServed m) is served) (subst (IsOrderly m) is orderly) routed)
+  routed_on (Moved b passes ticks) next m event (rest, items, done, is, to) may orderly served line_at routed =
       as_routed m event (Host_takes (length m.outside.outer.to_host.bytes) rest items done) is
       (calm_routed m.outside.outer (happens m (Host_takes (length m.outside.outer.to_host.bytes) rest items done)).outside.outer (takes_calm air m (length m.outside.outer.to_host.bytes) rest items done) routed)
-  routed_on here next m event goes orderly served line_at routed = absurd goes
+  routed_on here next m event goes may orderly served line_at routed = absurd goes
 
 -- ---- the frame of the request is on the line until it is acknowledged
 
@@ -885,8 +887,8 @@ module _ (laws : Outsides) (ids : Ids) (payloads : Payloads) where
             let at = known (quiet_both past (entries m event) quiet).0 in
             let served : IsServed m event = event_served here next m event goes may orderly at.0 at.2 at.6 at.7 in
             let later : LineAt next (happens m event) = (lines.event here next past m event goes may served (λ said. at.0)).1 quiet in
-            let room : RoomAt next (happens m event) = event_room laws.air here next m event goes may orderly at.0 at.2 at.6 in
-            (later, event_awaits laws here next m event goes may at.0 at.1, room, routed_on laws.air here next m event goes orderly served at.0 at.3, lines_on stays here next m event goes may at.0 at.6 at.4, pumped_on here next m event goes at.5, event_ties here next m event goes may orderly at.0 at.1 at.2 at.6 at.7 later room, peopled_on payloads laws.air facts_kept opened here next m event goes may orderly at.0 at.6 at.7),
+            let room : RoomAt next (happens m event) = event_room laws.air here next m event goes may orderly at.0 at.2 at.6 at.3 in
+            (later, event_awaits laws here next m event goes may at.0 at.1, room, routed_on laws.air here next m event goes may orderly served at.0 at.3, lines_on stays here next m event goes may at.0 at.6 at.4, pumped_on here next m event goes at.5, event_ties here next m event goes may orderly at.0 at.1 at.2 at.6 at.7 later room, peopled_on payloads laws.air facts_kept opened here next m event goes may orderly at.0 at.6 at.7),
       );
       turn = λ here next past m turns known quiet.
           let at = known quiet in

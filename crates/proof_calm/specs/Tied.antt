@@ -44,7 +44,7 @@ use Rattle.proof_calm.specs.Homeward.{SpeaksHome}
 use Rattle.proof_calm.specs.Known.{IsMember, KnowsMembers}
 use Rattle.proof_calm.specs.Quiet.{AreQuiet}
 use Rattle.proof_calm.specs.Resting.{LineAt, LineRests}
-use Rattle.proof_calm.specs.Routed.{HaveRoutes, IsRouted}
+use Rattle.proof_calm.specs.Routed.{IsRouted, Reaches}
 use Rattle.proof_calm.specs.Undisturbed.{HasNone, IsTaken}
 
 -- ---- frames of the chip
@@ -261,10 +261,10 @@ AsksAt joined h (Gives_text n payload) = AsksToSend joined (Attempt n false payl
 AsksAt joined h (Gives_segment n more payload) = AsksToSend joined (Attempt n more payload) (next_id h.requests.last_id)
 AsksAt joined h event = Unit {0}
 
--- as a tick begins, at most 31 frames are on the air and results due; and each payload that the chip takes has a route
+-- as a tick begins, at most 31 frames are on the air; and where the chip takes what is on its way to it, its table has a walk to each joined node
 abbrev pub IsOrderlyOutside : Machine → OuterEvent → Type 0
-IsOrderlyOutside m Begins_tick = to_arrive m + length m.outside.outer.due ≤ 31
-IsOrderlyOutside m (Chip_takes count rest ways) = HaveRoutes ways
+IsOrderlyOutside m Begins_tick = to_arrive m ≤ 31
+IsOrderlyOutside m (Chip_takes count rest ways) = Reaches m.outside.outer.chip.state.table m.outside.outer.chip.state.joined
 IsOrderlyOutside m event = Unit {0}
 
 -- and what the machine says no length of is short
