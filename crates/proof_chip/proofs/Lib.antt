@@ -39,6 +39,7 @@ mod Leaving
 mod Bringing
 mod Going
 mod Homing
+mod Idling
 mod Acting
 mod Keeping
 mod Judges

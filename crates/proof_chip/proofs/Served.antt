@@ -24,13 +24,14 @@ use Rattle.world_model.specs.Events.{entries}
 use Rattle.proof_host.proofs.Lists.{each-append}
 use Rattle.proof_serial.specs.Line.{host_units}
 use Rattle.proof_line.specs.proof_traffic.Links.{KeepsItsLink, host_link_steps}
+use Rattle.proof_air.specs.proof_walk.Outside.{awaits_number}
 use Rattle.proof_air.specs.proof_walk.Phases.{Phase, Between, Said_line, Giving}
 use Rattle.proof_air.specs.proof_walk.Walk.{Walk, WalkWhere}
 use Rattle.proof_air.specs.Landing.{KnowLanding}
 use Rattle.proof_air.proofs.Handling.{tie_here}
 use Rattle.proof_routes.specs.Networks.{Tie}
 use Rattle.proof_routes.specs.Knowing.{KnowNetworks}
-use Rattle.proof_line.specs.Linked.{Cuts, IsOrderly}
+use Rattle.proof_line.specs.Linked.{ArePartsOf, Cuts, IsOrderly}
 use Rattle.proof_line.proofs.ChipAccounts.{event_steps}
 use Rattle.proof_line.proofs.Arrivals.{NoNexting}
 use Rattle.proof_line.proofs.Parts.{Laws}
@@ -40,11 +41,12 @@ use Rattle.proof_chip.specs.Knowing.{AnyEntry}
 use Rattle.proof_chip.specs.Bringing.{BringsInOrder}
 use Rattle.proof_chip.specs.Sending.{GroundAir, KnowAir}
 use Rattle.proof_chip.specs.Served.{AirsByLink, KnowBeside, KnowServing}
-use Rattle.proof_chip.specs.Tally.{KnowTally}
+use Rattle.proof_chip.specs.Tally.{KnowTally, outlook}
 use Rattle.proof_chip.proofs.Airs.{event_goes, said_goes, turn_goes}
 use Rattle.proof_chip.proofs.Grounds.{agrees_of}
+use Rattle.proof_chip.proofs.Idling.{ended_rests}
 use Rattle.proof_chip.proofs.Standing.{goes_none}
-use Rattle.proof_chip.proofs.Tallies.{at_waits, tally_event, tally_said, tally_turn}
+use Rattle.proof_chip.proofs.Tallies.{at_waits, ended_waits, tally_event, tally_said, tally_turn}
 use Rattle.proof_chip.proofs.Walking.{any_each}
 
 -- ---- the ground
@@ -129,15 +131,20 @@ module _ (devices : List State) (did : List Step) (here : Phase) (past : List En
     airs = subst (λ (course : Course). EachAfter (MayAir devices course) [] past) (sym cuts.course) kept;
     brings = brought _ cuts.course;
     drops = drops_so _ cuts.course past (at_waits devices did past m.outside.outer here tally.0 (course_of did) (goes_none (course_of did)));
+    rests = tt;
   }
 
-  pub airs_whole : Cuts did (past ++ Said [] ∷ []) → EachAfter (MayWait devices (course_of did)) [] (past ++ Said [] ∷ []) → AirsByLink true devices past
-  airs_whole cuts waits = record {
+-- where the run is over
+module _ (devices : List State) (did : List Step) (past : List Entry) (m : Machine) (known : KnowAir devices did Between past m) (tally : KnowTally devices did Between past m) where
+  pub airs_whole : (cuts : Cuts did (past ++ Said [] ∷ [])) → ArePartsOf did cuts.links.chip.parts → AirsByLink true devices past
+  airs_whole cuts are = record {
     link = cuts.links.chip;
     airs =
         let (frames, serves, brings, keeps) = known.0 in
         subst (λ (course : Course). EachAfter (MayAir devices course) [] (past ++ Said [] ∷ [])) (sym cuts.course)
-        (each-append (MayAir devices (course_of did)) [] past (Said [] ∷ []) kept ((keeps (course_of did) (goes_none (course_of did))).over, tt));
-    brings = brought _ cuts.course;
-    drops = drops_so _ cuts.course (past ++ Said [] ∷ []) waits;
+        (each-append (MayAir devices (course_of did)) [] past (Said [] ∷ []) (kept devices did Between past m known tally) ((keeps (course_of did) (goes_none (course_of did))).over, tt));
+    brings = brought devices did Between past m known tally _ cuts.course;
+    drops = drops_so devices did Between past m known tally _ cuts.course (past ++ Said [] ∷ [])
+        (ended_waits devices did past m.outside.outer tally.0 (course_of did) (goes_none (course_of did)));
+    rests = ended_rests devices (outlook m.outside.outer) (awaits_number m.outside.outer) did past m.outside.outer.chip.state.port tally.0 cuts.links.chip.parts cuts.links.chip.each are cuts.course;
   }

@@ -1,9 +1,10 @@
 -- What is known of the chip at each phase of a line beside both links and all that other walks tell, and what follows of a whole run (this project's own rule).
-use Rattle.std.specs.Prelude.{Bool, List}
+use Rattle.std.specs.Prelude.{Bool, true, false, List, []}
 use Rattle.serial_link.specs.Rules.{Step}
 use Rattle.zw_words.specs.declared.side.Side.TheVariants.{Chip}
 use Rattle.zw_text.specs.declared.entry.Entry.{Entry}
-use Rattle.law_wire.specs.Answering.{DropsWhenFull}
+use Rattle.zw_text.specs.declared.entry.Entry.TheVariants.{Said}
+use Rattle.law_wire.specs.Answering.{DropsWhenFull, MayStay}
 use Rattle.law_wire.specs.Asked.{course_of}
 use Rattle.law_wire.specs.Links.{KeepsLink, joined}
 use Rattle.law_wire.specs.Serial.{ended}
@@ -36,10 +37,16 @@ KnowServing devices here past m = KnowBeside devices here past m × ((did : List
 
 -- ---- of a run
 
+-- where a whole run is over none waits unless the chip's link is busy, as at the beginning of a further line
+abbrev pub MayRest : Bool → List State → List (List Step) → List Entry → Type 0
+MayRest true devices parts transcript = MayStay devices parts transcript (Said [])
+MayRest false devices parts transcript = Unit {0}
+
 -- the chip's link keeps the rules, and by what that link did the controller puts on the air just what it takes, the chip brings the host what was heard in order, and it drops a frame only
--- where 32 wait
+-- where 32 wait; and where a run is over, none waits unless the link is busy
 pub record AirsByLink (whole : Bool) (devices : List State) (transcript : List Entry) : Type 0 where
   pub link : KeepsLink Chip (ended whole transcript)
   pub airs : AirsWhatIsTaken devices (course_of (joined link.parts)) (ended whole transcript)
   pub brings : BringsInOrder (course_of (joined link.parts)) transcript
   pub drops : DropsWhenFull devices (course_of (joined link.parts)) (ended whole transcript)
+  pub rests : MayRest whole devices link.parts transcript

@@ -3,6 +3,7 @@
 use Rattle.std.specs.Prelude.{◌≡◌, ◌⊎◌, ℕ, Bool, true, false, List, [], ◌∷◌, ◌++◌, Option, IfSome}
 use Rattle.std.specs.List.{AllByRecursion}
 use Rattle.zw_base.specs.declared.property.Property.{Property}
+use Rattle.s0_crypto.specs.declared.key_pair.Keys.{Keys}
 use Rattle.zw_text.specs.declared.line.Line.{Line}
 use Rattle.zw_text.specs.declared.entry.Entry.{Entry}
 use Rattle.zw_text.specs.declared.entry.Entry.TheVariants.{Said}
@@ -78,6 +79,12 @@ KnowsAsked here past m = AsksForNone (line_last past)
 -- the keeper's records cancel the commands that the transcript shows to be taken back, in the same order
 abbrev pub KnowsCancelled : Knowledge
 KnowsCancelled here past m = TellsCancelled past m.records
+
+-- ---- keys
+
+-- its keys are these
+abbrev pub KnowsKeys : Keys → Knowledge
+KnowsKeys keys here past m = (m.keys ≡ keys) × (m.state.keys ≡ keys)
 
 -- ---- answers
 

@@ -28,8 +28,8 @@ use Rattle.proof_walk.specs.world_model.Events.{Outside_does, happens, entries}
 use Rattle.proof_world.specs.proof_serial.Chip.{HasFrames}
 use Rattle.proof_world.specs.proof_serial.Line.{AreAtRest}
 use Rattle.proof_traffic.specs.Links.{KeepsItsLink}
-use Rattle.proof_line.specs.Links.{AtLine, Brings, KnowsEvents, KnowsLink, LinkNow, MayEndNow, begun_line, cleared_in, due_from, stalls_in, tick_told}
-use Rattle.proof_line.specs.Linked.{Cuts, KnowsBoth, LinksBefore, LinksBegun, LinksDone, MayBothEnd}
+use Rattle.proof_line.specs.Links.{AtLine, Brings, KnowsEvents, KnowsLink, KnowsSide, LinkNow, MayEndNow, begun_line, cleared_in, due_from, stalls_in, tick_told}
+use Rattle.proof_line.specs.Linked.{ArePartsOf, Cuts, KnowsBoth, LinksBefore, LinksBegun, LinksDone, MayBothEnd}
 use Rattle.proof_line.proofs.Rooming.{not_awaited}
 use Rattle.proof_line.proofs.Numbering.{ticked_none}
 use Rattle.proof_line.proofs.LinkSteps.{asks_by}
@@ -38,7 +38,7 @@ use Rattle.proof_line.proofs.LinkLines.{Says, chip_is_asked, says, stall_until}
 use Rattle.proof_line.proofs.LinkTime.{cleared_grow, timed_clears, timed_serials}
 use Rattle.proof_line.proofs.LinkChip.{obeyed}
 use Rattle.proof_line.proofs.LinkGiven.{brings_same}
-use Rattle.proof_line.proofs.LinkEnds.{all_told, cuts_of}
+use Rattle.proof_line.proofs.LinkEnds.{all_told, cuts_of, parts_of}
 use Rattle.proof_line.proofs.LinkTicks.{Then, in_round}
 
 -- ---- lines of which the links only know that they begin
@@ -84,7 +84,7 @@ ordinary_stalls (line ∷ next ∷ more) plain now = absurd plain
 
 -- ---- one side
 
-module _ (side : Side) (timed all : List Entry) (now : LinkNow) (knows : KnowsLink side timed now) (may : MayEndNow side now) where
+module _ {piped : Bool} (side : Side) (timed all : List Entry) (now : LinkNow) (knows : KnowsSide piped side timed now) (may : MayEndNow side now) where
   -- what stalls no bytes
   still_stalls : (line : List Line) → ((clock : ℕ) → flat_map (stall_by clock) line ≡ []) → (time : ℕ)
       → list_any (nat_lt time) (stalls_in (moments_of (serial_events timed) knows.parts) ++ flat_map (stall_by (clock_in (moments_of (serial_events timed) knows.parts))) line) ≡ nat_lt time now.until
@@ -92,21 +92,21 @@ module _ (side : Side) (timed all : List Entry) (now : LinkNow) (knows : KnowsLi
       let past : List Moment = moments_of (serial_events timed) knows.parts in
       ap (λ (l : List ℕ). list_any (nat_lt time) (stalls_in past ++ l)) (none (clock_in past)) ∙ ap (λ (l : List ℕ). list_any (nat_lt time) l) (append-nil (stalls_in past)) ∙ knows.at.until time
 
-  pub ordinary_on : (line : List Line) → AreOrdinary line → serial_events all ≡ serial_events timed ++ Line_begins line ∷ [] → KnowsLink side all (begun_line now now.until)
+  pub ordinary_on : (line : List Line) → AreOrdinary line → serial_events all ≡ serial_events timed ++ Line_begins line ∷ [] → KnowsSide piped side all (begun_line now now.until)
   ordinary_on line plain serials =
-      subst (λ (l : List SerialEvent). KnowsEvents side l (begun_line now now.until)) (sym serials)
+      subst (λ (l : List SerialEvent). KnowsEvents piped side l (begun_line now now.until)) (sym serials)
       (line_known side (serial_events timed) now knows line now.until (ordinary_restarts line plain) (ordinary_asks side line plain) (still_stalls line (ordinary_stalls line plain)) may)
 
-  pub collide_on : asks_by side (Line_begins (lines.Collide ∷ [])) ≡ 0 → serial_events all ≡ serial_events timed ++ Line_begins (lines.Collide ∷ []) ∷ [] → KnowsLink side all (begun_line now now.until)
+  pub collide_on : asks_by side (Line_begins (lines.Collide ∷ [])) ≡ 0 → serial_events all ≡ serial_events timed ++ Line_begins (lines.Collide ∷ []) ∷ [] → KnowsSide piped side all (begun_line now now.until)
   collide_on none serials =
-      subst (λ (l : List SerialEvent). KnowsEvents side l (begun_line now now.until)) (sym serials)
+      subst (λ (l : List SerialEvent). KnowsEvents piped side l (begun_line now now.until)) (sym serials)
       (line_known side (serial_events timed) now knows (lines.Collide ∷ []) now.until refl none (still_stalls (lines.Collide ∷ []) (λ clock. refl)) may)
 
-  pub stall_on : (count : ℕ) → serial_events all ≡ serial_events timed ++ Line_begins (lines.Stall count ∷ []) ∷ [] → KnowsLink side all (begun_line now (max now.until (now.clock + count)))
+  pub stall_on : (count : ℕ) → serial_events all ≡ serial_events timed ++ Line_begins (lines.Stall count ∷ []) ∷ [] → KnowsSide piped side all (begun_line now (max now.until (now.clock + count)))
   stall_on count serials =
       let until : ℕ = max now.until (now.clock + count) in
       let past : List Moment = moments_of (serial_events timed) knows.parts in
-      subst (λ (l : List SerialEvent). KnowsEvents side l (begun_line now until)) (sym serials)
+      subst (λ (l : List SerialEvent). KnowsEvents piped side l (begun_line now until)) (sym serials)
       (line_known side (serial_events timed) now knows (lines.Stall count ∷ []) until refl (asks_none side) (stall_until past now.clock now.until count knows.at.clock knows.at.until) may)
     where
       asks_none : (side : Side) → asks_by side (Line_begins (lines.Stall count ∷ [])) ≡ 0
@@ -144,6 +144,11 @@ module _ {did : List Step} (before : List Entry) (first : Machine) (is_tick : Bo
   pub begins_cuts : (tail : List Entry) (later after_it : LinkNow) → Begins tail later after_it → Cuts later.life (before ++ tail)
   begins_cuts tail later after_it begins =
       cuts_of (before ++ tail) later after_it begins.chip begins.host (all_told (clears (before ++ tail)) (to_clear later.lost after_it.lost) (cleared_so tail later after_it begins))
+
+  pub begins_parts : (tail : List Entry) (later after_it : LinkNow) (begins : Begins tail later after_it) → ArePartsOf later.life (begins_cuts tail later after_it begins).links.chip.parts
+  unfolding begins_cuts
+  begins_parts tail later after_it begins =
+      parts_of (before ++ tail) later after_it begins.chip begins.host (all_told (clears (before ++ tail)) (to_clear later.lost after_it.lost) (cleared_so tail later after_it begins))
 
   -- of a machine at which it has begun, and that is at their time
   pub begins_both : (tail : List Entry) (n : Machine) (now : List Step) (later after_it : LinkNow) → later.life ≡ now → Begins tail later after_it → n.outside.outer.in_tick ≡ false → n.outside.outer.clock ≡ o.clock
@@ -226,7 +231,7 @@ module _ {did : List Step} (before : List Entry) (first : Machine) (is_tick : Bo
       let obeys : SideObeys (up.life ++ asked_step ∷ []) asked_side =
       obeys_event s Collides up.life (subst (λ (l : LinkSide). SideObeys up.life l) both.line.link (obeyed Chip (serial_events timed) up both.line.chip)) in
       record {
-        chip = subst (λ (l : List SerialEvent). KnowsEvents Chip l asked_up) (sym serials)
+        chip = subst (λ (l : List SerialEvent). KnowsEvents true Chip l asked_up) (sym serials)
             (chip_is_asked (serial_events timed) up asked_step asked_side refl refl obeys may.0 both.line.chip);
         host = collide_on Host timed (before ++ tail) down both.line.host may.1 refl serials;
         time = said.time;
@@ -239,7 +244,7 @@ module _ {did : List Step} (before : List Entry) (first : Machine) (is_tick : Bo
   pub ticks_said : (tail : List Entry) (count : ℕ) → Says before tail (lines.Tick count ∷ []) o.clock → KnowsLink Chip (before ++ tail) up × KnowsLink Host (before ++ tail) down
   ticks_said tail count said =
       let serials : serial_events (before ++ tail) ≡ serial_events timed = begun_serials tail (lines.Tick count ∷ []) said ∙ append-nil (serial_events timed) in
-      (subst (λ (l : List SerialEvent). KnowsEvents Chip l up) (sym serials) both.line.chip, subst (λ (l : List SerialEvent). KnowsEvents Host l down) (sym serials) both.line.host)
+      (subst (λ (l : List SerialEvent). KnowsEvents true Chip l up) (sym serials) both.line.chip, subst (λ (l : List SerialEvent). KnowsEvents true Host l down) (sym serials) both.line.host)
 
 -- ---- what restarts lost, where the words are those of none
 

@@ -11,7 +11,7 @@ use Rattle.serial_link.specs.Rules.{SideObeys, Step}
 use Rattle.proof_walk.specs.outside_model.State.{OuterState}
 use Rattle.proof_line.specs.Pipes.{ClearsNowhereElse}
 use Rattle.proof_line.specs.Links.{AtLine, KnowsLink, LinkNow}
-use Rattle.proof_line.specs.Linked.{Cuts}
+use Rattle.proof_line.specs.Linked.{ArePartsOf, Cuts}
 use Rattle.proof_line.proofs.LinkKnown.{keeps_link, keeps_lost, keeps_parts, keeps_room}
 use Rattle.proof_line.proofs.LinkCourse.{course_mute}
 use Rattle.proof_line.proofs.LinkChip.{obeyed}
@@ -31,6 +31,11 @@ cuts_of past up down chip host told =
           let life : up.life ≡ joined of_chip.parts ++ chip.steps = keeps_parts past up chip in
           sym (ap course_of life ∙ course_mute (joined of_chip.parts) chip.steps up.link (subst (λ (l : List Step). SideObeys l up.link) life (obeyed Chip (serial_events past) up chip)) chip.mute);
     }
+
+pub parts_of : (past : List Entry) (up down : LinkNow) (chip : KnowsLink Chip past up) (host : KnowsLink Host past down) (told : AreTold (clears past) (to_clear up.lost down.lost))
+    → ArePartsOf up.life (cuts_of past up down chip host told).links.chip.parts
+unfolding cuts_of
+parts_of past up down chip host told = record { since = chip.steps; is = keeps_parts past up chip; mute = chip.mute }
 
 one_told : (over : Bool) (entries due : List Entry) → entries ≡ due → IsTold over entries due
 one_told true entries due is = is
@@ -52,6 +57,11 @@ line_cuts past o up down line = cuts_of past up down line.chip line.host (all_to
 -- with steps that have the same course
 pub cuts_as : (did now : List Step) (past : List Entry) → course_of did ≡ course_of now → Cuts did past → Cuts now past
 cuts_as did now past same cuts = record { links = cuts.links; each = cuts.each; course = cuts.course ∙ same }
+
+pub parts_as : (did now : List Step) (past : List Entry) (same : course_of did ≡ course_of now) (cuts : Cuts did past) → ArePartsOf now cuts.links.chip.parts
+    → ArePartsOf now (cuts_as did now past same cuts).links.chip.parts
+unfolding cuts_as
+parts_as did now past same cuts are = are
 
 -- and of the last restart a prefix
 pub some_told : (there : List Cleared_there) (dues : List (List Entry)) (told more : List Entry) → map (λ (one : Cleared_there). one.entries) there ≡ dues

@@ -96,7 +96,7 @@ lost_serials past told all =
     )
 
 lost_known : (side : Side) (past told : List Entry) (now : LinkNow) → AllByRecursion IsCleared told → KnowsLink side past now → KnowsLink side (past ++ told) now
-lost_known side past told now all knows = subst (λ (l : List SerialEvent). KnowsEvents side l now) (sym (lost_serials past told all).0) knows
+lost_known side past told now all knows = subst (λ (l : List SerialEvent). KnowsEvents true side l now) (sym (lost_serials past told all).0) knows
 
 -- ---- what is told of restarts
 
@@ -181,12 +181,12 @@ module _ {did : List Step} (before : List Entry) (words : List ℕ) (first : Mac
 
   chip_on : KnowsLink Chip all (restarted up up.life up.link)
   chip_on =
-      subst (λ (l : List SerialEvent). KnowsEvents Chip l (restarted up up.life up.link)) (sym serials)
+      subst (λ (l : List SerialEvent). KnowsEvents true Chip l (restarted up up.life up.link)) (sym serials)
       (chip_restarts (serial_events timed) up may.0 both.line.chip)
 
   host_on : (new : LinkSide) → SideObeys [] new → KnowsLink Host all (restarted down [] new)
   host_on new obeys =
-      subst (λ (l : List SerialEvent). KnowsEvents Host l (restarted down [] new)) (sym serials)
+      subst (λ (l : List SerialEvent). KnowsEvents true Host l (restarted down [] new)) (sym serials)
       (host_restarts (serial_events timed) down new obeys may.1 both.line.host)
 
   cleared_before : cleared_in before ≡ to_clear up.lost down.lost

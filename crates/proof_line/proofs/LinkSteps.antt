@@ -17,7 +17,7 @@ use Rattle.law_wire.specs.Marks.{collision_of}
 use Rattle.law_wire.specs.Clearing.{lost_at}
 use Rattle.law_wire.specs.Serial.{SerialEvent}
 use Rattle.law_wire.specs.Serial.SerialEvent.{Line_begins, Writes}
-use Rattle.law_wire.specs.Links.{Moment, Round, AreFirst, CollidesAsTold, FindsRoom, HearsInTime, LeavesFew, MayDo, Obeys, TicksInTime, WriteLast, WritesThere, ahead, arrival_of, arrivals_of, asked_for, bytes_in, clock_in, ends_round, is_let_in, is_stalled, left_ahead, line_in, lives, most_left, other, round_of, since_start, stall_by, steps_in, texts_of, tick_of}
+use Rattle.law_wire.specs.Links.{Moment, Round, AreFirst, CollidesAsTold, HearsInTime, LeavesFew, MayDo, Obeys, TicksInTime, WriteLast, WritesThere, ahead, arrival_of, arrivals_of, asked_for, bytes_in, clock_in, ends_round, is_stalled, left_ahead, line_in, lives, most_left, other, round_of, since_start, stall_by, steps_in, texts_of, tick_of}
 use Rattle.proof_walk.proofs.Lists.{each-append}
 use Rattle.proof_line.specs.Arrivals.{AreTexts}
 use Rattle.proof_line.specs.Links.{Does, Hears, IsMute, KeepsSoFar, MayEnd, life_of, life_steps, round_steps, stalls_in}
@@ -147,15 +147,14 @@ lives_end Host past one link empty all obeys = all_lives past one empty all (lin
 lives_end Chip past one link empty all obeys = ((link, subst (λ (l : List Step). SideObeys l link) (sym (steps_one past one)) obeys), tt)
 
 pub ends_part : (side : Side) (past : List Moment) (one : Moment) (link : LinkSide) (coming : List (List ℕ)) → Obeys [] → KeepsSoFar side past → Does side past one.steps link
-    → Hears side past one.steps coming → WritesThere side one → is_let_in side coming one.event ≡ true → MayEnd side past one.steps coming one.event → KeepsSoFar side (past ++ one ∷ [])
-ends_part side past one link coming empty keeps does hears writes room may =
+    → Hears side past one.steps coming → WritesThere side one → MayEnd side past one.steps coming one.event → KeepsSoFar side (past ++ one ∷ [])
+ends_part side past one link coming empty keeps does hears writes may =
     let now = hears_now side past one.steps coming hears in
     record {
       obeys = lives_end side past one link empty keeps.obeys does.obeys;
       writes = all-append (WritesThere side) past (one ∷ []) keeps.writes (writes, tt);
       hears = each-append (HearsInTime side) [] past (one ∷ []) keeps.hears
           ((now.0, subst (λ (l : List (List ℕ)). LeavesFew (ends_round one.event && not (is_stalled past)) (length l) (most_left side past)) (sym now.1) may.few), tt);
-      room = each-append (FindsRoom side) [] past (one ∷ []) keeps.room (subst (λ (l : List (List ℕ)). is_let_in side l one.event ≡ true) (sym now.1) room, tt);
       ticks = each-append (TicksInTime side) [] past (one ∷ []) keeps.ticks ((does.may, may.ticked), tt);
       collides = each-append (CollidesAsTold side) [] past (one ∷ []) keeps.collides (does.asks, tt);
     }

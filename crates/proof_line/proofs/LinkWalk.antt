@@ -40,8 +40,8 @@ use Rattle.proof_traffic.specs.Links.{KeepsItsLink, host_link_steps}
 use Rattle.proof_walk.specs.Phases.{Phase, Between, Said_line, Begun, Doing, To_tick, Ticked, Arriving, Giving, Ticking_devices, Ticking_chip, Ticking_decoder, Ticking_host, Sleeping, Submitting, Moving, Moved, Turns, Goes}
 use Rattle.proof_walk.specs.Time.{KnowTime, MayCount}
 use Rattle.proof_walk.specs.Walk.{Walk, WalkWhere}
-use Rattle.proof_line.specs.Links.{AtLine, KeepsSoFar, KnowsLink, LinkNow, MayEndNow, due_from, most_of}
-use Rattle.proof_line.specs.Linked.{Anything, Cuts, IsOrderly, KnowAll, KnowCuts, KnowLinks, KnowsBoth, LinksBegun, LinksDone, LinksLeft, HaveTickedOnce, InTick, Round}
+use Rattle.proof_line.specs.Links.{AtLine, KeepsSoFar, KnowsSide, LinkNow, MayEndNow, due_from, most_of}
+use Rattle.proof_line.specs.Linked.{Anything, ArePartsOf, Cuts, IsOrderly, KnowAll, KnowCuts, KnowLinks, KnowsBoth, LinksBegun, LinksDone, LinksLeft, HaveTickedOnce, InTick, Round}
 use Rattle.proof_line.proofs.LinkKnown.{no_steps}
 use Rattle.proof_line.proofs.LinkTold.{brings_none}
 use Rattle.proof_line.proofs.ChipAccounts.{event_steps, outer_steps}
@@ -52,7 +52,7 @@ use Rattle.proof_line.proofs.LinkBegins.{begins_line}
 use Rattle.proof_line.proofs.LinkEffects.{effect_plain}
 use Rattle.proof_line.proofs.LinkPlain.{plain_done, plain_goes, then_more}
 use Rattle.proof_line.proofs.LinkRestarts.{restart_done, restart_goes}
-use Rattle.proof_line.proofs.LinkOnes.{collide_goes, due_is, ended_cuts, one_done, stall_goes, ticks_begun, words_cut}
+use Rattle.proof_line.proofs.LinkOnes.{collide_goes, due_is, ended_cuts, ended_parts as parts_ended, one_done, stall_goes, ticks_begun, words_cut}
 
 -- ---- all entries may stand
 
@@ -81,6 +81,11 @@ said_knows past m words line read time (cuts, (is_tick, (up, down, both, may))) 
 -- at the end of a whole run
 pub ended_known : {did : List Step} (past : List Entry) (m : Machine) → KnowTime Between past m → KnowCuts did Between past m → Cuts did (past ++ Said [] ∷ [])
 ended_known past m time (cuts, (is_tick, (up, down, both, may))) = ended_cuts past m is_tick up down both may (due_now past m time)
+
+pub ended_parts : {did : List Step} (past : List Entry) (m : Machine) (time : KnowTime Between past m) (known : KnowCuts did Between past m)
+    → ArePartsOf did (ended_known past m time known).links.chip.parts
+unfolding ended_known
+ended_parts past m time (cuts, (is_tick, (up, down, both, may))) = parts_ended past m is_tick up down both may (due_now past m time)
 
 -- ---- phases
 
@@ -236,10 +241,10 @@ module _ (each : (h : HostState) (event : HostEvent) (steps : List Step) → Kee
 -- ---- at first
 
 first_keeps : (side : Side) → KeepsSoFar side []
-first_keeps Host = record { obeys = (no_steps, tt); writes = tt; hears = tt; room = tt; ticks = tt; collides = tt }
-first_keeps Chip = record { obeys = (no_steps, tt); writes = tt; hears = tt; room = tt; ticks = tt; collides = tt }
+first_keeps Host = record { obeys = (no_steps, tt); writes = tt; hears = tt; ticks = tt; collides = tt }
+first_keeps Chip = record { obeys = (no_steps, tt); writes = tt; hears = tt; ticks = tt; collides = tt }
 
-abbrev first_now : LinkSide → LinkNow
+abbrev pub first_now : LinkSide → LinkNow
 first_now link = record { is_tick = false; brought = 0; clock = 0; until = 0; life = []; round = []; link = link; coming = []; lost = [] }
 
 below_none : (time : ℕ) → false ≡ nat_lt time 0
@@ -249,7 +254,7 @@ below_none time = by (nat_lt time 0) refl
     by true is = absurd (let none : time < 0 = ltb-true time 0 is in omega (arith, none))
     by false is = refl
 
-first_link : (side : Side) (link : LinkSide) → SideObeys [] link → KnowsLink side [] (first_now link)
+pub first_link : {piped : Bool} (side : Side) (link : LinkSide) → SideObeys [] link → KnowsSide piped side [] (first_now link)
 first_link Host link obeys = record {
   parts = [];
   steps = [];
@@ -259,6 +264,7 @@ first_link Host link obeys = record {
   mute = tt;
   hears = record { earlier = []; parts = refl; texts = tt; still = λ stalls. refl };
   at = record { is_tick = refl; brought = refl; clock = refl; until = below_none; life = refl; round = refl; lost = refl };
+  room = λ in_pipe. tt;
 }
 first_link Chip link obeys = record {
   parts = [];
@@ -269,6 +275,7 @@ first_link Chip link obeys = record {
   mute = tt;
   hears = record { earlier = []; parts = refl; texts = tt; still = λ stalls. refl };
   at = record { is_tick = refl; brought = refl; clock = refl; until = below_none; life = refl; round = refl; lost = refl };
+  room = λ in_pipe. tt;
 }
 
 idle_obeys : SideObeys [] (record { turn = Idle; collisions = 0 })

@@ -75,17 +75,22 @@ beside_serials past e is =
     )
 
 -- a unit, with what became of it, adds that it is written
+pub written_serials : (side : Side) (unit : List ℕ) (marks past : List Entry) → AllByRecursion IsMark marks
+    → (serial_events (past ++ entry.Written side unit ∷ marks) ≡ serial_events past ++ Writes side unit (arriving_of side unit marks) (lacking_of side unit marks) ∷ [])
+    × (tick_told (past ++ entry.Written side unit ∷ marks) ≡ tick_told past)
+written_serials side unit marks past are =
+    let none = marks_none (told_from 0 0 past) (due_from 0 past) marks are in (
+      serials_grow 0 0 past (entry.Written side unit ∷ marks) tt refl
+          ∙ ap (λ (l : List SerialEvent). serial_events past ++ Writes side unit (arriving_of side unit marks) (lacking_of side unit marks) ∷ l) none.0,
+      told_grows 0 0 past (entry.Written side unit ∷ marks) ∙ none.1,
+    )
+
 pub unit_serials : (side : Side) (way : WayState) (unit : LineUnit) (past : List Entry)
     → (serial_events (past ++ told side way unit)
     ≡ serial_events past ++ Writes side (unit_text unit) (arriving_of side (unit_text unit) (marks_of side way unit)) (lacking_of side (unit_text unit) (marks_of side way unit)) ∷ [])
     × (tick_told (past ++ told side way unit) ≡ tick_told past)
 unit_serials side way unit past =
-    let none = marks_none (told_from 0 0 past) (due_from 0 past) (marks_of side way unit) (told_by_marks side way.bytes (mark_for way.marks unit) (unit_text unit)) in (
-      serials_grow 0 0 past (told side way unit) tt refl
-          ∙ ap (λ (l : List SerialEvent). serial_events past ++ Writes side (unit_text unit) (arriving_of side (unit_text unit) (marks_of side way unit)) (lacking_of side (unit_text unit) (marks_of side way unit)) ∷ l)
-          none.0,
-      told_grows 0 0 past (told side way unit) ∙ none.1,
-    )
+    written_serials side (unit_text unit) (marks_of side way unit) past (told_by_marks side way.bytes (mark_for way.marks unit) (unit_text unit))
 
 -- the number of a tick adds the ticks that were not told
 pub time_serials : (past : List Entry) (tick : ℕ)

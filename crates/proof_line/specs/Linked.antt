@@ -31,7 +31,7 @@ use Rattle.proof_walk.specs.ByLine.{KnownOf, IsAsked}
 use Rattle.proof_walk.specs.Time.{KnowTime}
 use Rattle.proof_traffic.specs.Links.{KeepsItsLink}
 use Rattle.proof_line.specs.Pipes.{IsByHand, HearsNothing}
-use Rattle.proof_line.specs.Links.{AtLine, Brings, KnowsLink, LinkNow, MayEndNow, TicksNot, cleared_in, due_from, tick_told}
+use Rattle.proof_line.specs.Links.{AtLine, Brings, IsMute, KnowsLink, LinkNow, MayEndNow, TicksNot, cleared_in, due_from, tick_told}
 
 -- ---- what is asked of each event
 
@@ -54,6 +54,12 @@ pub record Cuts (did : List Step) (past : List Entry) : Type 0 where
   pub links : KeepsLinks false past
   pub each : AreTold (clears past) (to_clear (lost_by Chip past links.chip.parts) (lost_by Host past links.host.parts))
   pub course : course_of (joined links.chip.parts) ≡ course_of did
+
+-- these parts of its steps, up to each event of the serial line, are what it did but for steps since then that wrote nothing
+pub record ArePartsOf (did : List Step) (parts : List (List Step)) : Type 0 where
+  pub since : List Step
+  pub is : did ≡ joined parts ++ since
+  pub mute : AllByRecursion IsMute since
 
 -- ---- beside the machine
 

@@ -51,7 +51,6 @@ pub record KeepsSoFar (side : Side) (past : List Moment) : Type 0 where
   pub obeys : AllByRecursion Obeys (lives side past)
   pub writes : AllByRecursion (WritesThere side) past
   pub hears : EachAfter (HearsInTime side) [] past
-  pub room : EachAfter (FindsRoom side) [] past
   pub ticks : EachAfter (TicksInTime side) [] past
   pub collides : EachAfter (CollidesAsTold side) [] past
 
@@ -120,8 +119,8 @@ pub record IsAt (side : Side) (past : List Moment) (steps : List Step) (now : Li
   pub round : round_steps past steps ≡ now.round
   pub lost : shown_after (lost_at side) [] past ≡ now.lost
 
--- the steps of a side up to each of these events, and since
-pub record KnowsEvents (side : Side) (events : List SerialEvent) (now : LinkNow) : Type 0 where
+-- The steps of a side up to each of these events, and since. Where the units of the other side come through a pipe, just those found no room that had none.
+pub record KnowsEvents (piped : Bool) (side : Side) (events : List SerialEvent) (now : LinkNow) : Type 0 where
   pub parts : List (List Step)
   pub steps : List Step
   pub each : length parts ≡ length events
@@ -130,9 +129,14 @@ pub record KnowsEvents (side : Side) (events : List SerialEvent) (now : LinkNow)
   pub mute : AllByRecursion IsMute steps
   pub hears : Hears side (moments_of events parts) steps now.coming
   pub at : IsAt side (moments_of events parts) steps now
+  pub room : piped ≡ true → EachAfter (FindsRoom side) [] (moments_of events parts)
+
+-- by a transcript; and of the machine, where both sides write to pipes
+abbrev pub KnowsSide : Bool → Side → List Entry → LinkNow → Type 0
+KnowsSide piped side past now = KnowsEvents piped side (serial_events past) now
 
 abbrev pub KnowsLink : Side → List Entry → LinkNow → Type 0
-KnowsLink side past now = KnowsEvents side (serial_events past) now
+KnowsLink side past now = KnowsSide true side past now
 
 -- the link after a step, with this left on its way
 abbrev pub stepped : LinkNow → Step → LinkSide → List (List ℕ) → LinkNow

@@ -1,7 +1,10 @@
 mod Putting
+mod LineHeard
+mod CameItems
 mod Replaying
 mod Ran
 mod Serving
 mod Words
+mod From
 mod Starting
 mod Orderly

@@ -1,4 +1,5 @@
-"""What a host of `replay` heard, as entries (`heard_of` of proof_replay): after the words of a `chip` line stand the units that its bytes complete, and then what the host made of them."""
+"""What a host of `replay` heard, as entries (`heard_of` of proof_replay, with what is refused): after the words of a `chip` line stand the units that its
+bytes complete, and then what the host made of them."""
 from ..entries import Entry
 from ..serial import Splitter, item_of
 

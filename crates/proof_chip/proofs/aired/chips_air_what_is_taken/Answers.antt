@@ -3,7 +3,6 @@ use Rattle.std.proofs.Common.{List, []}
 use Rattle.std.specs.Prelude.{Some}
 use Rattle.zw_text.specs.declared.entry.Entry.{Entry}
 use Rattle.law_wire.specs.Arriving.{MayLand}
-use Rattle.law_wire.specs.Asked.{course_of}
 use Rattle.law_wire.specs.Routes.{MayGo}
 use Rattle.outside_model.specs.Devices.{State}
 use Rattle.world_model.specs.State.{Machine, first_machine}
@@ -20,15 +19,14 @@ use Rattle.proof_air.specs.Landing.{KnowLanding}
 use Rattle.proof_routes.specs.Knowing.{KnowNetworks}
 use Rattle.proof_line.specs.Linked.{IsOrderly}
 use Rattle.proof_line.proofs.LinkSome.{lines_orderly}
-use Rattle.proof_line.proofs.LinkWalk.{ended_known, links_first}
+use Rattle.proof_line.proofs.LinkWalk.{ended_known, ended_parts, links_first}
 use Rattle.proof_line.proofs.Parts.{Laws}
 use Rattle.proof_chip.specs.Calling.{KnowCalls}
 use Rattle.proof_chip.specs.Knowing.{AnyEntry}
 use Rattle.proof_chip.specs.Served.{KnowBeside, KnowMembers, KnowServing}
 use Rattle.proof_chip.proofs.Airs.{air_first}
 use Rattle.proof_chip.proofs.Served.{airs_cut, airs_whole, ground_air, served_walk}
-use Rattle.proof_chip.proofs.Standing.{goes_none}
-use Rattle.proof_chip.proofs.Tallies.{ended_waits, tally_first}
+use Rattle.proof_chip.proofs.Tallies.{tally_first}
 use Rattle.proof_chip.proofs.aired.chips_air_what_is_taken.Goals as goal
 
 -- what is called
@@ -136,6 +134,6 @@ returns-clause-whole c = λ keys devices lines are whole.
       ([], links_first keys (Some []) devices (obey.first keys), air_first keys (Some []) devices (c.rules_of_histories.ensures.link [] tt), tally_first keys (Some []) devices (c.rules_of_histories.ensures.link [] tt)),
     ) in
     let known = where_whole IsOrderly AnyEntry (KnowServing devices) walk [] m lines are whole orderly first in
-    airs_whole devices known.1.0 Between (transcript_of m lines) (after_all m lines) known.1.2 known.1.3
-    (ended_known (transcript_of m lines) (after_all m lines) known.0.0.0.0.0.1 known.1.1)
-    (ended_waits devices known.1.0 (transcript_of m lines) (after_all m lines).outside.outer known.1.3.0 (course_of known.1.0) (goes_none (course_of known.1.0)))
+    let time = known.0.0.0.0.0.1 in
+    airs_whole devices known.1.0 (transcript_of m lines) (after_all m lines) known.1.2 known.1.3
+    (ended_known (transcript_of m lines) (after_all m lines) time known.1.1) (ended_parts (transcript_of m lines) (after_all m lines) time known.1.1)

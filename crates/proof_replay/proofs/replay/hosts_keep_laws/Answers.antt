@@ -7,6 +7,8 @@ use Rattle.law_time.specs.Waking.{FallsAsleep}
 use Rattle.proof_requests.specs.proof_alone.State.{HostMachine, first_alone}
 use Rattle.proof_requests.specs.proof_alone.Phases.{Phase, Resting}
 use Rattle.proof_requests.specs.proof_alone.Runs.{Run, Told, ToldWhole}
+use Rattle.law_transcript.specs.Payloads.{BeginsWithUnit}
+use Rattle.law_wire.specs.Serial.{ended}
 use Rattle.proof_asking.specs.proof_known.Noted.{NotesAtOnce, NotesInTurn}
 use Rattle.s0_crypto.specs.Sealing.{keys_of as device_keys}
 use Rattle.host_core.specs.Network.{keys_of}
@@ -33,7 +35,8 @@ pub returns : goal.returns
 returns c = λ keys whole here heard m run rests fine. record {
   orders = c.hosts_keep_their_tables.ensures.laws keys heard (here, m, run);
   said = c.hosts_do_as_is_said.ensures keys whole here heard m run (λ is. (rests is).0) fine;
-  notes = c.hosts_note_what_was_told.ensures keys heard (here, m, run);
+  notes = c.hosts_note_what_was_told.ensures.told keys heard (here, m, run);
+  opens = c.hosts_note_what_was_told.ensures.opened keys heard (here, m, run);
   at_once =
       by_whole (λ (b : Bool) (l : List Entry). NotesAtOnce b l) (first_alone keys (Some [])) (c.hosts_note_at_once.ensures.whole keys) (c.hosts_note_at_once.ensures.told keys) whole here heard m run rests;
   in_turn =
@@ -44,6 +47,13 @@ returns c = λ keys whole here heard m run rests fine. record {
       sleeps_by (first_alone keys (Some [])) (c.hosts_fall_asleep_as_told.ensures.whole keys) (c.hosts_fall_asleep_as_told.ensures.told keys) whole here heard m run rests;
   holds = c.hosts_hold_as_asked.ensures keys heard (here, m, run);
   questions = c.hosts_answer_questions.ensures keys heard (here, m, run);
+  interviews = c.hosts_end_interviews.ensures keys heard (here, m, run);
+  says_done = λ key same. c.hosts_say_how_done.ensures key heard (subst (λ (k : Keys). Told (first_alone k (Some [])) heard) (same ∙ same_keys key) (here, m, run));
+  one_by_one = (c.hosts_ask_one_by_one.ensures.told keys heard (here, m, run)).0;
+  numbered = (c.hosts_ask_one_by_one.ensures.told keys heard (here, m, run)).1;
+  begins =
+      by_whole (λ (b : Bool) (l : List Entry). BeginsWithUnit (ended b l)) (first_alone keys (Some [])) (c.hosts_ask_one_by_one.ensures.whole keys)
+      (λ (l : List Entry) told. (c.hosts_ask_one_by_one.ensures.told keys l told).2) whole here heard m run rests;
   ticks = c.hosts_tell_time.ensures.counts keys (Some []) heard (here, m, run);
   sends = λ key same. c.hosts_send_what_is_due.ensures.told key heard (subst (λ (k : Keys). Told (first_alone k (Some [])) heard) (same ∙ same_keys key) (here, m, run));
 }
