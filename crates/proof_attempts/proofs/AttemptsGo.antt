@@ -1,10 +1,12 @@
 -- The attempts of a node go with it, and say what its session has to send next.
-use Rattle.std.proofs.Common.{◌≡◌, ◌⊎◌, ℕ, zero, suc, ◌+◌, ◌-◌, ◌≤◌, ◌==◌, ◌&&◌, ◌||◌, nat_le, nat_lt, Bool, true, false, if◌then◌else◌, List, [], ◌∷◌, refl, sym, ap, ◌∙◌, subst, inl, inr, arith}
+use Rattle.std.proofs.Common.{◌≡◌, ◌⊎◌, ℕ, zero, suc, ◌+◌, ◌-◌, ◌≤◌, ◌==◌, ◌&&◌, ◌||◌, nat_le, nat_lt, not, Bool, true, false, if◌then◌else◌, List, [], ◌∷◌, refl, sym, ap, ◌∙◌, subst, inl, inr, arith}
 use Rattle.std.specs.List.{list_any}
 use Rattle.std.proofs.lemmas.Bool.{both_ways, cases_eq, eq-eqb, false_from_ne_true, le-leb, leb-true, lt-ltb, ne_eqb, or_left, or_right}
-use Rattle.law_transcript.specs.Units.{sending_in}
-use Rattle.law_time.specs.Attempts.{Attempts as AttemptsTold, anew, attempts_by_request, goes_on, is_late}
+use Rattle.law_transcript.specs.Units.{is_frame, notice_in, sending_in}
+use Rattle.law_time.specs.Attempts.{Attempts as AttemptsTold, anew, attempts_by_request, ends_badly, goes_on, is_bad, is_late}
 use Rattle.law_time.specs.Choice.{first_part, further_parts, parts_by}
+use Rattle.law_time.specs.Ends.{ending, giving_up, has_ended, is_abort_frame, silence}
+use Rattle.law_time.specs.Requests.{Asked, Judging, are_none, sent_at}
 use Rattle.law_time.specs.Sessions.{Session}
 use Rattle.host_node.specs.declared.attempt.Moment.{Moment}
 use Rattle.host_node.specs.declared.attempt.Moment.TheVariants.{BetweenTicks}
@@ -45,6 +47,28 @@ begun_as told node now badly s are is = are.begun ∙ ap (λ (s : Series). begun
 
 pub running_not_over : (told : AttemptsTold) (node : NodeState) (now : ℕ) (badly : Bool) → AreAttempts told node now badly → node.series ≡ Running → is_over_by now badly told ≡ false
 running_not_over told node now badly are is = goes_not_over told node.attempt_wait now badly (running_goes told node now badly are is)
+
+-- a request that has not ended has not ended badly
+or_parts_false : (a b : Bool) → (a || b) ≡ false → (a ≡ false) × (b ≡ false)
+or_parts_false true b is = absurd (let bad : true ≡ false = is in cc)
+or_parts_false false b is = (refl, is)
+
+none_ending : (frames : List Judging) → not (are_none frames) ≡ false → (bad : Judging → Bool) → list_any bad frames ≡ false
+none_ending [] none bad = refl
+none_ending (one ∷ more) none bad = absurd (let no : true ≡ false = none in cc)
+
+pub unended_well : (last : Asked) (inner : Bool) (now : ℕ) → has_ended last now ≡ false → ends_badly last inner now ≡ false
+unended_well last inner now none =
+    let silent : Bool = list_any (λ tick. nat_le tick now) (silence last) in
+    let given : Bool = list_any (λ tick. nat_le tick now) (giving_up last) in
+    let abort : Bool = is_abort_frame last.frame && not (are_none (sent_at last)) in
+    let timely = (or_parts_false ((not (are_none (ending last)) || silent) || given) abort none).0 in
+    let both = or_parts_false (not (are_none (ending last)) || silent) given timely in
+    let each = or_parts_false (not (are_none (ending last))) silent both.0 in
+    or_none (list_any (λ one. is_frame one.unit 1 || list_any (is_bad inner) (notice_in one.unit)) (ending last) || silent) given
+    (or_none (list_any (λ one. is_frame one.unit 1 || list_any (is_bad inner) (notice_in one.unit)) (ending last)) silent
+    (none_ending (ending last) each.0 (λ one. is_frame one.unit 1 || list_any (is_bad inner) (notice_in one.unit))) each.1)
+    both.1
 
 -- ---- what is next
 

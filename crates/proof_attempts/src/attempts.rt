@@ -9,10 +9,12 @@ ghost use Rattle.law_time.specs.Attempts.{
   anew,
   attempt_is_over,
   attempts_by_request,
+  ends_badly,
   goes_on,
   is_late,
 };
 ghost use Rattle.law_time.specs.Choice.{first_part, further_parts, parts_by};
+ghost use Rattle.law_time.specs.Ends.{has_ended};
 ghost use Rattle.law_time.specs.Heeds.{Heeds};
 ghost use Rattle.law_time.specs.Requests.{Asked};
 ghost use Rattle.law_time.specs.Sessions.{Session};
@@ -31,11 +33,12 @@ ghost use Rattle.host_node.specs.Steps.{
 ghost use Rattle.proof_attempts.specs.Attempts.{AreAttempts, has_ended_badly, is_over_by};
 
 /// What is told of the attempts of a node says what its session has to send next: where one is due after at most two, the first part of an attempt, and where
-/// one runs, what that goes on with.
+/// one runs, what that goes on with. One that runs is not over, and a request that has not ended has not ended badly.
 pub fn attempts_tell_what_is_next()
     ensures over { (heeds : Heeds) (past : List Entry) (last : Asked) (now : ℕ) (told : AttemptsTold) (node : NodeState) →
         AreAttempts told node now (has_ended_badly heeds past last now told.node) → node.series ≡ Running →
         attempt_is_over heeds past last now told ≡ false }
+    ensures before { (last : Asked) (inner : Bool) (now : ℕ) → has_ended last now ≡ false → ends_badly last inner now ≡ false }
     ensures due { (told : AttemptsTold) (node : NodeState) (now : ℕ) (badly : Bool) (session : Session) → AreAttempts told node now badly →
         node.series ≡ Due → node.book.attempts ≤ 2 →
         parts_by (is_over_by now badly told) session told ≡ first_part session session.form ∷ [] }
