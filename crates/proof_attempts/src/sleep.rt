@@ -36,8 +36,8 @@ pub fn hosts_tell_of_sleep()
     work_in_order_means();
 }
 
-/// In any such run a node falls asleep where it counts as awake and does not listen, and its third attempt or its No More Information has ended; and wherever one
-/// of these has, it does before the next line, tick or request of the host. Where the run ends at rest, with no tick of its line to come, none is left to.
+/// In any such run a node falls asleep where it counts as awake and does not listen, and its third attempt or its No More Information has ended; and wherever
+/// one of these has, it does before the next line, tick or request of the host. Where the run ends at rest, with no tick of its line to come, none is left to.
 pub fn hosts_fall_asleep_as_told()
     ensures told { (keys : Keys) (told : List Entry) → Told (first_alone keys (Some [])) told → FallsAsleep false told }
     ensures whole { (keys : Keys) (told : List Entry) (m : HostMachine) → Run (first_alone keys (Some [])) Resting told m → m.left ≡ 0 →
