@@ -212,7 +212,6 @@ module _ (keys : Keys) (n : ℕ) (payload : List ℕ) (heard : Heard) (classes :
         (all_taken (after_all h first) sealed more rest (all_kept h first here ∙ same) (λ such is. tells such (or_right (such message) (list_any such more) is))
         (λ such is may. count such (or_right (such message) (list_any such more) is) may) others))
 
-
 openly : (secure told sealed : Bool) → sealed ≡ false → told ≡ true → (sealed ≡ true) ⊎ (secure ≡ false) → (not secure && told) ≡ true
 openly true told true is tells may = cc
 openly true told false is tells (inl bad) = cc

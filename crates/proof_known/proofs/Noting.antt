@@ -300,10 +300,11 @@ module _ (keys : Keys) where
 
     old_told : (n id : ℕ) → FollowsBy keys known unit (Reports_old n id) → MayStand past (entry.Old n id)
     old_told n id follows = (
-        any_so (λ text. counts (known n) (tells_report id) (heard_at text)) (λ text. may_count past n (tells_report id) (heard_at text))
-        (λ text. counts_so past n (known n) (tells_report id) (heard_at text) (lists_so n)) (flat_map (from_node n) (brought_here past))
-        (by_payloads (λ text. counts (known n) (tells_report id) (heard_at text)) n follows.0),
-        opens_here past (bringing_in unit) n (tells_report id) (λ carried. tells_report id) brought (λ one same. refl) follows.1)
+      any_so (λ text. counts (known n) (tells_report id) (heard_at text)) (λ text. may_count past n (tells_report id) (heard_at text))
+          (λ text. counts_so past n (known n) (tells_report id) (heard_at text) (lists_so n)) (flat_map (from_node n) (brought_here past))
+          (by_payloads (λ text. counts (known n) (tells_report id) (heard_at text)) n follows.0),
+      opens_here past (bringing_in unit) n (tells_report id) (λ carried. tells_report id) brought (λ one same. refl) follows.1,
+    )
 
     room_is : (n : ℕ) (p : Property) → count_with m.state.store n (p ∷ []) ≤ 512 → has_room past n p ≡ true
     room_is n p few = le-leb (distinct_count same_property (p ∷ properties_kept listing_heard past n)) 512 (subst (λ (k : ℕ). k ≤ 512) (counted n p) few)
@@ -320,13 +321,15 @@ module _ (keys : Keys) where
         (all-append IsUnasked stored held (stored_unasked n (settings_with status (command_at m.state.commands command))) (held_unasked n (is_held m.state n wake)))
     behind_stands (Reports_old n id) told may follows are = notes_stand past (entry.Old n id) [] told are (old_told n id follows) tt
     behind_stands (Hears_value n setting) told may follows are =
-        notes_stand past (entry.Report n setting) [] told are
-        (ap₂ (λ (a b : Bool). a && b) (by_payloads (λ payload. may_tell (tells_value setting) (heard_at payload)) n follows.0) (room_is n setting.property may),
-        opens_here past (bringing_in unit) n (tells_value setting) (λ carried. tells_value setting) brought (λ one same. refl) follows.1) tt
+        notes_stand past (entry.Report n setting) [] told are (
+          ap₂ (λ (a b : Bool). a && b) (by_payloads (λ payload. may_tell (tells_value setting) (heard_at payload)) n follows.0) (room_is n setting.property may),
+          opens_here past (bringing_in unit) n (tells_value setting) (λ carried. tells_value setting) brought (λ one same. refl) follows.1,
+        ) tt
     behind_stands (Has_no_room n property) told may follows are =
-        notes_stand past (entry.Unstored n property) [] told are
-        (ap₂ (λ (a b : Bool). a && b) (by_payloads (λ payload. may_tell (tells_property property) (heard_at payload)) n follows.0) (no_room_is n property may),
-        opens_here past (bringing_in unit) n (tells_property property) (λ carried. tells_property property) brought (λ one same. refl) follows.1) tt
+        notes_stand past (entry.Unstored n property) [] told are (
+          ap₂ (λ (a b : Bool). a && b) (by_payloads (λ payload. may_tell (tells_property property) (heard_at payload)) n follows.0) (no_room_is n property may),
+          opens_here past (bringing_in unit) n (tells_property property) (λ carried. tells_property property) brought (λ one same. refl) follows.1,
+        ) tt
     behind_stands (Unreads n payload) told may follows are = notes_stand past (entry.Unread n payload) [] told are (by_payloads (λ text. bytes_eq text payload) n follows, tt) tt
     behind_stands (Spends_unread n payload) told may follows are = notes_stand past (entry.Unread n payload) [] told are (by_payloads (λ text. bytes_eq text payload) n follows, tt) tt
     behind_stands event told may follows are = quiet_stands past m.state event told tt are
