@@ -50,7 +50,7 @@ use crate::message::{
 };
 use crate::sealing::{TEMPORARY_KEY, nonce_named, seal_for};
 use crate::{AddFault, EXCHANGE_TICKS, Exchange, Message};
-use s0_crypto::SealEnds;
+use s0_crypto::{SealEnds, open};
 use s0_session::{NonceBook, Sender};
 use std::alloc::Global;
 use std::marker::Model;

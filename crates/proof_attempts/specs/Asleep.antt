@@ -1,6 +1,6 @@
 -- What is known of sleep that is owed, at each phase of a host alone (this project's own rule): none is, of a node whose third attempt has ended; and directly after a frame that ends a request
 -- no node that it tells that there is no more has slept since.
-use Rattle.std.specs.Prelude.{◌≡◌, ℕ, ◌-◌, true, false, List, [], ◌∷◌, Some}
+use Rattle.std.specs.Prelude.{◌≡◌, ℕ, ◌-◌, true, false, List, Some}
 use Rattle.std.specs.List.{AllByRecursion}
 use Rattle.chip_functions.specs.Field.{IsNode}
 use Rattle.zw_text.specs.declared.entry.Entry.{Entry}

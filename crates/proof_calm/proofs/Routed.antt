@@ -27,7 +27,7 @@ use Rattle.chip_sim.specs.declared.out.ChipOut.TheVariants.{Write, OnAir, NoRout
 use Rattle.device_sim.specs.State.{State}
 use Rattle.device_sim.specs.Event.{DeviceEvent, Ticks, Wakes}
 use Rattle.mesh_sim.specs.Fates.{place_of}
-use Rattle.mesh_sim.specs.Steps.{AirStep, mesh_after, mesh_outs}
+use Rattle.mesh_sim.specs.Steps.{mesh_after, mesh_outs}
 use Rattle.mesh_sim.specs.Steps as mesh
 use Rattle.mesh_sim.specs.declared.event.AirEvent.{AirEvent}
 use Rattle.mesh_sim.specs.declared.event.AirEvent.TheVariants as air_event

@@ -81,8 +81,8 @@ use proof_devices::routes::{
 };
 use proof_devices::{devices_did, lines_meet_what_is_due, lines_repeat_what_is_asked};
 use proof_host::{asides_keep_facts, laws_follow};
+use proof_replay::asking::lines_say_how_done;
 use proof_replay::attempts::{lines_fall_asleep_as_told, lines_hold_as_asked};
-use proof_replay::errands::lines_say_how_done;
 use proof_replay::known::waking::lines_wake_as_told;
 use proof_replay::lines_that_ran_are_heard;
 use proof_replay::requests::{lines_answer_questions, lines_ask_one_by_one, lines_end_interviews};

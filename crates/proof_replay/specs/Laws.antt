@@ -9,7 +9,7 @@ use Rattle.host_keep.specs.Keeping.{OptAdds}
 use Rattle.law_transcript.specs.Answers.{AnswersAfter, MayCancel, refusals_by_host}
 use Rattle.law_transcript.specs.Lists.{EachAfter}
 use Rattle.law_transcript.specs.Once.{CarriesOnce}
-use Rattle.law_transcript.specs.Payloads.{MayRequest, SendsWhatIsDue}
+use Rattle.law_transcript.specs.Payloads.{BeginsWithUnit, MayRequest, SendsWhatIsDue}
 use Rattle.law_transcript.specs.Records.{KeepsRecords}
 use Rattle.law_transcript.specs.Sessions.{MayBegin}
 use Rattle.law_transcript.specs.Stores.{StoresConfirmed}
@@ -39,11 +39,12 @@ use Rattle.proof_replay.specs.Heard.{AreReplayed, AreSaid, Replayed, heard_of, t
 -- A command ends, and values, old reports and what cannot be read are noted, only where a payload of the node was judged that tells it; what is sealed, in what it opens to.
 -- What cannot be read, a value and that a node is awake are noted at once, where a payload has them first; and all values that are told openly, in order.
 -- A node is taken to be awake where it tells so, and wherever it does.
--- One that does not listen falls asleep where its third attempt or its No More Information has ended, and wherever one of them has.
+-- It falls asleep where its third attempt, or telling it that there is no more for it, has ended, and wherever one of these has.
 -- It is held awake where the report that ends its session may ask so, and wherever it does.
 -- The answers to questions stand where the first response to the last request was judged, and wherever it was.
 -- An interview is said to have succeeded or failed where its request ended so, and wherever a frame ended it; and so it is said how a Set or Get that a line asked for ended.
 -- A request that is new is sent, and a session begins, only where the last request is over; and each message has the callback id after that of the last one.
+-- Directly after a session that begins stands the unit that asks to send to its node.
 -- The number of a tick is above those before it, and lines have asked for so many ticks.
 -- Each payload that it asks its chip to send is a message of the last session of its node, by what the node listed, a nonce or a question for one, lets the node sleep, or was
 -- asked for by a line; where its keys are those of a network key, by what nodes told openly or sealed with that key.
@@ -55,13 +56,14 @@ pub record HostsKeepLaws (keys : Keys) (whole : Bool) (heard : List Entry) (reco
   pub at_once : NotesAtOnce whole heard
   pub in_turn : NotesInTurn whole heard
   pub wakes : WakesAsTold heard
-  pub sleeps : FallsAsleep false heard
+  pub sleeps : FallsAsleep whole heard
   pub holds : HoldsAsAsked heard
   pub questions : AnswersQuestions heard
   pub interviews : EndsInterviews heard
   pub says_done : (key : List ℕ) → keys ≡ keys_of key → SaysHowDone listing_heard heard
   pub one_by_one : SendsOneByOne heard
   pub numbered : NumbersCallbacks heard
+  pub begins : BeginsWithUnit (ended whole heard)
   pub ticks : EachAfter MayCount [] heard
   pub sends : (key : List ℕ) → keys ≡ keys_of key → SendsWhatIsDue listing_heard key heard
 
@@ -77,12 +79,13 @@ pub record KeepsFrom (keys : Keys) (before : List Entry) (whole : Bool) (heard :
   pub sends : (key : List ℕ) → keys ≡ keys_of key → EachAfter (MayRequest listing_heard key) before heard
   pub records_kept : whole ≡ true → IfSome records (KeepsRecords (before ++ heard))
 
--- A run of a host alone that began without records tells this, and ends at rest; none of its lines is for others; and the keeper holds what it held and the records
+-- A run of a host alone that began without records tells this, and ends at rest with no tick to come; none of its lines is for others; and the keeper holds what it held and the records
 -- of that run, where it tells them. The host's link kept the rules of the line.
 pub record IsHeardAlone (keys : Keys) (before after : Option (List (List ℕ))) (heard : List Entry) : Type 0 where
   pub last : HostMachine
   pub added : List (List ℕ)
   pub run : Run (first_alone keys (Some [])) Resting heard last
+  pub over : last.left ≡ 0
   pub for_host : AreForHost heard
   pub tells : last.records ≡ Some added
   pub adds : OptAdds before after added

@@ -1,4 +1,4 @@
--- A host alone asks for one thing after another, and numbers its messages: what each step enters may follow, and leaves the id that it gave last known.
+-- A host alone asks for one thing after another, numbers its messages, and begins each session with its unit: what each step enters may follow, and leaves the id that it gave last known.
 use Rattle.std.proofs.Common.{◌≡◌, ◌⊎◌, ℕ, ◌+◌, ◌==◌, ◌&&◌, ◌||◌, not, Bool, true, false, if◌then◌else◌, inl, inr, List, [], ◌∷◌, ◌++◌, refl, sym, ap, ap₂, ◌∙◌, subst, append-nil, append_assoc}
 use Rattle.std.specs.Prelude.{Option, Some, None, is_none, nat_le, slice_index}
 use Rattle.std.specs.List.{AllByRecursion, flat_map, list_all, list_any}
@@ -27,7 +27,8 @@ use Rattle.zw_text.specs.Transcript.{line_of, unit_at, written}
 use Rattle.zw_text.proofs.Views.{shown-append}
 use Rattle.law_transcript.specs.Lists.{EachAfter, last_or}
 use Rattle.law_transcript.specs.Restarts.{is_restart, since_restart}
-use Rattle.law_transcript.specs.Units.{body_in, function_in, read_well, request_in}
+use Rattle.law_transcript.specs.Payloads.{FollowsBegin, GoesTo}
+use Rattle.law_transcript.specs.Units.{body_in, function_in, read_well, request_in, sending_in, sending_of}
 use Rattle.law_time.specs.Moments.{KeepsAfter, clock}
 use Rattle.law_time.specs.Judged.{acknowledged, is_data}
 use Rattle.law_time.specs.Requests.{Asked as LastAsked, Failing, are_none, asked, failing, is_copy, is_new, sent_at}
@@ -44,15 +45,18 @@ use Rattle.host_requests.specs.declared.task.Purpose.{Purpose}
 use Rattle.host_requests.specs.declared.task.Purpose.TheVariants.{Attempt, Abort, Housekeeping}
 use Rattle.host_requests.specs.declared.under_way.UnderWay.{UnderWay}
 use Rattle.host_node.specs.declared.attempt.Moment.TheVariants.{BeforeItsTick}
+use Rattle.host_node.specs.declared.attempt.Plan.{Plan}
 use Rattle.host_model.specs.State.{HostState, first_host}
 use Rattle.host_model.specs.After.{after, gives_up, is_full}
 use Rattle.host_model.specs.Did.{MayAll}
 use Rattle.host_model.specs.Events.{HostEvent, Accepts, Cancels, Hears, Requests_do, Interviews, Interview_unkept, Line_ticks, Queues, Queues_interview, Node_ticks, Queues_no_more, Drops_no_more, Submits_abort, Submits_front, Starts, Gives_text, Gives_segment, Begins, Begin_unkept}
 use Rattle.host_model.specs.May.{IsFree}
 use Rattle.host_model.specs.Outs.{answer_to, answers, outs}
-use Rattle.host_model.specs.Pumping.{IsNext}
+use Rattle.host_model.specs.Pumping.{IsNext, IsPumped}
 use Rattle.host_model.specs.declared.out.HostOut.{HostOut}
 use Rattle.host_model.specs.declared.out.HostOut.TheVariants.{Note, Write}
+use Rattle.proof_transcript.proofs.AttemptStarts.{IsNoBegin, after_free, follows_last}
+use Rattle.proof_transcript.proofs.ServedNodes.{begun_so, due_starts, not_pumped}
 use Rattle.proof_waking.specs.proof_alone.State.{HostMachine, done}
 use Rattle.proof_waking.specs.proof_alone.Steps.{AreFrames, AreTold, DidNotCome, IsOfOthers, IsOfUnit, Step, Tells, Comes, Misses, Says, Says_nothing, Asks, Refuses, Shows, Restarts, Begins_tick, Numbers, Judges, Does, entries, happens}
 use Rattle.proof_waking.specs.proof_alone.Phases.{Phase, Resting, Asked, Risen, Ticking, Open, Behind, Sleeping, Submitting, IsBetween, IsNumbered, May, Turns}
@@ -64,7 +68,7 @@ use Rattle.proof_waking.proofs.HostOuts.{OutsAre, OwnIs, SharedAre, outs_are}
 use Rattle.proof_waking.proofs.Parts.{IsNote}
 use Rattle.proof_requests.specs.Standing.{GoesOn as EntryGoesOn, standing_of}
 use Rattle.proof_requests.specs.Asking.{Doing, IsPaused, TieAsked, TieLine, doing_after, doing_from, doing_next, doing_of}
-use Rattle.proof_requests.specs.Numbers.{CountsBefore, CountsIds, KnowsIds, MaySend, ids_in}
+use Rattle.proof_requests.specs.Numbers.{Awaits, CountsBefore, CountsIds, KnowsRequests, MaySend, Rests, ids_in}
 use Rattle.proof_requests.specs.Walking.{AddsWell, Ground, IsNodeTick, IsOfChip, KnowsAsked, KnowsTick}
 use Rattle.proof_requests.proofs.Doing.{beside_same, same_asks}
 use Rattle.proof_requests.proofs.Ended.{gave_up}
@@ -74,7 +78,7 @@ use Rattle.proof_requests.proofs.Growing.{asked_anew, asked_copy, asked_in_vain,
 use Rattle.proof_requests.proofs.OnLine.{copies_now}
 use Rattle.proof_requests.proofs.Queued.{PayloadsBring}
 use Rattle.proof_requests.proofs.Queueing.{opened_asks}
-use Rattle.proof_requests.proofs.Stepping.{IsBeginning, Submits, asked_beside, behind_notes, asked_on as event_on, none_on, submitted_is, time_told}
+use Rattle.proof_requests.proofs.Stepping.{IsBeginning, Submits, asked_beside, behind_notes, asked_on as event_on, event_is_read, none_on, not_awaiting, submitted_is, time_told}
 use Rattle.proof_requests.proofs.Telling.{fresh_wordless}
 use Rattle.proof_requests.proofs.Walking.{IsWritten, copy_line, is_fresh, is_old, line_does, line_notes, line_outs, noted_notes, turn_idle, written_told}
 
@@ -100,17 +104,29 @@ wordless e none = tt
 no_data : (unit : List ℕ) (new : Bool) (rest : Bool) → is_data unit ≡ false → not (is_data unit && new) || rest ≡ true
 no_data unit new rest none = ap (λ (b : Bool). not (b && new) || rest) none
 
-may_stand : (past : List Entry) (e : Entry) → AsksNone e → MaySend past e
-may_stand past (entry.Begin node session command) none = absurd none
-may_stand past (entry.Written Host unit) none = (
+may_stand : (past : List Entry) → Rests past → (e : Entry) → AsksNone e → MaySend past e
+may_stand past rests (entry.Begin node session command) none = absurd none
+may_stand past rests (entry.Written Host unit) none = (
   no_data unit (not (is_copy (asked past) unit)) (is_over (asked past) (clock past)) none,
   no_data unit (not (is_copy (asked past) unit)) (list_all (is_numbered (last_id past)) (request_in unit)) none,
+  rests (entry.Written Host unit),
 )
-may_stand past e none = (refl, refl)
+may_stand past rests e none = (refl, refl, rests e)
 
-pub all_stand : (past told : List Entry) → AllByRecursion AsksNone told → EachAfter MaySend past told
-all_stand past [] all = tt
-all_stand past (e ∷ told) all = (may_stand past e all.0, all_stand (past ++ e ∷ []) told all.1)
+begins_none : (e : Entry) → AsksNone e → IsNoBegin e
+begins_none (entry.Begin node session command) none = none
+begins_none e none = tt
+
+rests_after : (past : List Entry) (e : Entry) → IsNoBegin e → Rests (past ++ e ∷ [])
+rests_after past e none entry = follows_last past e entry (after_free e entry none)
+
+rests_all : (past told : List Entry) → Rests past → AllByRecursion AsksNone told → Rests (past ++ told)
+rests_all past [] rests all = subst Rests (sym (append-nil past)) rests
+rests_all past (e ∷ told) rests all = subst Rests (append_assoc past (e ∷ []) told) (rests_all (past ++ e ∷ []) told (rests_after past e (begins_none e all.0)) all.1)
+
+all_stand : (past told : List Entry) → Rests past → AllByRecursion AsksNone told → EachAfter MaySend past told
+all_stand past [] rests all = tt
+all_stand past (e ∷ told) rests all = (may_stand past rests e all.0, all_stand (past ++ e ∷ []) told (rests_after past e (begins_none e all.0)) all.1)
 
 -- ---- the ids that were asked with
 
@@ -363,29 +379,34 @@ purpose_numbered (Housekeeping Capabilities) last = record { numbered = refl; id
 purpose_numbered (Attempt n more payload) last = record { numbered = sent_numbered last n payload; ids = (refl, tt); given = refl }
 purpose_numbered Abort last = record { numbered = refl; ids = tt; given = refl }
 
--- one entry, and those of its unit
+-- each may stand, the id given last is known after them, and anything may stand next
+abbrev Stands : List Entry → List Entry → ℕ → Type 0
+Stands past told given = EachAfter MaySend past told × CountsIds (past ++ told) given × Rests (past ++ told)
+
+-- a unit, and what became of it
 with_marks : (past : List Entry) (unit : List ℕ) (told : List Entry) (wrote : IsWritten unit told) (given : ℕ) → MaySend past (entry.Written Host unit)
-    → CountsIds (past ++ entry.Written Host unit ∷ []) given → EachAfter MaySend past told × CountsIds (past ++ told) given
+    → CountsIds (past ++ entry.Written Host unit ∷ []) given → Stands past told given
 with_marks past unit told wrote given stands counts =
     let one : List Entry = past ++ entry.Written Host unit ∷ [] in
-    subst (λ (l : List Entry). EachAfter MaySend past l × CountsIds (past ++ l) given) (sym wrote.are) (
-      (stands, all_stand one wrote.rest (marks_none wrote.rest wrote.marks)),
-      subst (λ (l : List Entry). CountsIds l given) (append_assoc past (entry.Written Host unit ∷ []) wrote.rest) (counts_quiet one wrote.rest given (marks_none wrote.rest wrote.marks) counts),
+    let none = marks_none wrote.rest wrote.marks in
+    let rests : Rests one = rests_after past (entry.Written Host unit) tt in
+    subst (λ (l : List Entry). Stands past l given) (sym wrote.are) (
+      (stands, all_stand one wrote.rest rests none),
+      subst (λ (l : List Entry). CountsIds l given) (append_assoc past (entry.Written Host unit ∷ []) wrote.rest) (counts_quiet one wrote.rest given none counts),
+      subst Rests (append_assoc past (entry.Written Host unit ∷ []) wrote.rest) (rests_all one wrote.rest rests none),
     )
 
-abbrev Stands : List Entry → List Entry → ℕ → Type 0
-Stands past told given = EachAfter MaySend past told × CountsIds (past ++ told) given
-
-none_stands : (past told : List Entry) (given : ℕ) → AllByRecursion AsksNone told → CountsIds past given → Stands past told given
-none_stands past told given all counts = (all_stand past told all, counts_quiet past told given all counts)
+none_stands : (past told : List Entry) (given : ℕ) → AllByRecursion AsksNone told → Rests past → CountsIds past given → Stands past told given
+none_stands past told given all rests counts = (all_stand past told rests all, counts_quiet past told given all counts, rests_all past told rests all)
 
 given_on : (past told : List Entry) (given next : ℕ) → next ≡ given → Stands past told given → Stands past told next
 given_on past told given next is stands = subst (Stands past told) (sym is) stands
 
 submits : (past told : List Entry) (m : HostMachine) (event : HostEvent) (s : Submits past m.state event) → AreFrames m.came → IsFree m.state
     → ((e : Entry) (more : List Entry) → told ≡ e ∷ more → clock past ≡ m.clock) → AreTold (outs m.state event) told → TieAsked past m.clock m.clock m.came (doing_of m.state)
-    → CountsIds past m.state.requests.last_id → Stands past told (after m.state event).requests.last_id
-submits past told m event s frames free time is tie counts =
+    → FollowsBegin past (entry.Written Host (unit_text (Framed (frame_of s.purpose (next_id m.state.requests.last_id))))) → CountsIds past m.state.requests.last_id
+    → Stands past told (after m.state event).requests.last_id
+submits past told m event s frames free time is tie follows counts =
     let last : ℕ = m.state.requests.last_id in
     let f : FrameParts = frame_of s.purpose (next_id last) in
     let unit : List ℕ = unit_text (Framed f) in
@@ -398,36 +419,54 @@ submits past told m event s frames free time is tie counts =
     (with_marks past unit told wrote (id_after last s.purpose) (
       or_right (not (is_new (asked past) unit)) (is_over (asked past) (clock past)) over,
       or_right (not (is_new (asked past) unit)) (list_all (is_numbered (last_id past)) (request_in unit)) numbered,
+      follows,
     )
     (counts_new past unit last (id_after last s.purpose) (is_fresh past m.clock m.came (doing_of m.state) f free.free_line tie)
     (subst (λ (l : List Request). AllByRecursion (λ id. id ≡ id_after last s.purpose) (flat_map id_of l)) (sym s.read) so.ids)
     (ap (λ (l : List Request). last_or last (flat_map id_of l)) s.read ∙ so.given) counts))
 
-begins : (past told : List Entry) (m : HostMachine) (event : HostEvent) → IsBeginning event → AreFrames m.came → IsFree m.state → ((e : Entry) (more : List Entry) → told ≡ e ∷ more → clock past ≡ m.clock)
-    → AreTold (outs m.state event) told → TieAsked past m.clock m.clock m.came (doing_of m.state) → CountsIds past m.state.requests.last_id → Stands past told (after m.state event).requests.last_id
-begins past told m (Begins n session command) is frames free time (rest, are, none) tie counts =
-    let one : List Entry = entry.Begin n session command ∷ [] in
-    let told_is : told ≡ one = are ∙ ap (λ (l : List Entry). entry.Begin n session command ∷ l) none in
-    subst (λ (l : List Entry). Stands past l m.state.requests.last_id) (sym told_is) (
+-- what a pump submits stands, and the unit of a session that begins is still to come
+abbrev Submitted : List Entry → List Entry → HostMachine → Type 0
+Submitted past told m = EachAfter MaySend past told × CountsIds (past ++ told) m.state.requests.last_id × (Rests (past ++ told) ⊎ Awaits (past ++ told) m)
+
+stands_so : (past told : List Entry) (m : HostMachine) → Stands past told m.state.requests.last_id → Submitted past told m
+stands_so past told m stands = (stands.0, stands.1, inl stands.2)
+
+begins : (past told : List Entry) (m : HostMachine) (event : HostEvent) → IsBeginning event → IsNext m.state event → AreFrames m.came → Ground Submitting past m → IsNumbered m told
+    → AreTold (outs m.state event) told → TieAsked past m.clock m.clock m.came (doing_of m.state) → Rests past → CountsIds past m.state.requests.last_id → Submitted past told (done m event)
+begins past told m (Begins n session command) is next frames ground numbered (rest, are, none) tie rests counts =
+    let begun : Entry = entry.Begin n session command in
+    let told_is : told ≡ begun ∷ [] = are ∙ ap (λ (l : List Entry). begun ∷ l) none in
+    let begins_so = begun_so m.state n session command next in
+    let time = time_told Submitting past told m ground numbered begun rest are in
+    subst (λ (l : List Entry). Submitted past l (done m (Begins n session command))) (sym told_is) (
       (
         (
-          ap (λ (t : ℕ). is_over (asked past) t) (time (entry.Begin n session command) rest are)
-              ∙ over_so past m.clock m.came (doing_of m.state) frames (turn_idle m.state.side.turn free.free_line) free.none_under_way tie,
+          ap (λ (t : ℕ). is_over (asked past) t) time
+              ∙ over_so past m.clock m.came (doing_of m.state) frames (turn_idle m.state.side.turn next.0.free_line) next.0.none_under_way tie,
           refl,
+          rests begun,
         ),
         tt,
       ),
-      counts_none past one m.state.requests.last_id (tt, tt) (tt, tt) refl counts,
+      counts_none past (begun ∷ []) m.state.requests.last_id (tt, tt) (tt, tt) refl counts,
+      inr (record {
+        node = n;
+        goes = λ unit goes. follows_last past begun (entry.Written Host unit) goes;
+        served = begins_so.served;
+        due = begins_so.due;
+        numbered = not_awaiting m.awaits begun told rest numbered are;
+      }),
     )
-begins past told m (Begin_unkept n) is frames free time so tie counts =
-    none_stands past told m.state.requests.last_id (event_none m.state (Begin_unkept n) told tt (tt, tt) so) counts
-begins past told m event is frames free time so tie counts = absurd is
+begins past told m (Begin_unkept n) is next frames ground numbered so tie rests counts =
+    stands_so past told (done m (Begin_unkept n)) (none_stands past told m.state.requests.last_id (event_none m.state (Begin_unkept n) told tt (tt, tt) so) rests counts)
+begins past told m event is next frames ground numbered so tie rests counts = absurd is
 
 -- ---- a tick of the line
 
-module _ (past told : List Entry) (m : HostMachine) (before : ℕ) (frames : AreFrames m.came) (is : AreTold (outs m.state Line_ticks) told) (counts : CountsIds past m.state.requests.last_id) where
+module _ (past told : List Entry) (m : HostMachine) (before : ℕ) (frames : AreFrames m.came) (is : AreTold (outs m.state Line_ticks) told) (rests : Rests past) (counts : CountsIds past m.state.requests.last_id) where
   quiet_line : copies_now m.state.side.turn ≡ false → Stands past told m.state.requests.last_id
-  quiet_line none = none_stands past told m.state.requests.last_id (event_none m.state Line_ticks told tt (line_notes m.state m.state.side.turn none) is) counts
+  quiet_line none = none_stands past told m.state.requests.last_id (event_none m.state Line_ticks told tt (line_notes m.state m.state.side.turn none) is) rests counts
 
   line_by : (turn : Turn) → m.state.side.turn ≡ turn → ((f : FrameParts) (copies ticks : ℕ) → turn ≡ Paused f copies ticks → IsPaused (standing_of (asked past)) before (acknowledged past) m.came f copies)
       → Stands past told m.state.requests.last_id
@@ -443,7 +482,7 @@ module _ (past told : List Entry) (m : HostMachine) (before : ℕ) (frames : Are
           let paused = line f copies ticks refl in
           let old = is_old past before m.came f copies ticks frames paused in
           with_marks past unit told (copy_line m.state f copies ticks told due (subst (λ (t : Turn). AreTold (line_outs m.state t) told) turn_is is)) m.state.requests.last_id
-          (ap (λ (b : Bool). not b || is_over (asked past) (clock past)) old, ap (λ (b : Bool). not b || list_all (is_numbered (last_id past)) (request_in unit)) old)
+          (ap (λ (b : Bool). not b || is_over (asked past) (clock past)) old, ap (λ (b : Bool). not b || list_all (is_numbered (last_id past)) (request_in unit)) old, rests (entry.Written Host unit))
           (counts_copied past unit m.state.requests.last_id old (sym paused.frame) counts)
       by false due = quiet_line (ap copies_now turn_is ∙ due)
 
@@ -458,17 +497,20 @@ module _ (past told : List Entry) (m : HostMachine) (before : ℕ) (frames : Are
 abbrev Know : Phase → List Entry → HostMachine → Type 0
 Know = both_know Ground KnowsAsked
 
-ids_to : (next phase : Phase) (past : List Entry) (m : HostMachine) → next ≡ phase → KnowsIds phase past m → KnowsIds next past m
-ids_to next phase past m is known = subst (λ (p : Phase). KnowsIds p past m) (sym is) known
+known_to : (next phase : Phase) (past : List Entry) (m : HostMachine) → next ≡ phase → KnowsRequests phase past m → KnowsRequests next past m
+known_to next phase past m is known = subst (λ (p : Phase). KnowsRequests p past m) (sym is) known
 
-ids_at : (here phase : Phase) (past : List Entry) (m : HostMachine) → here ≡ phase → KnowsIds here past m → KnowsIds phase past m
-ids_at here phase past m is known = subst (λ (p : Phase). KnowsIds p past m) is known
+known_at : (here phase : Phase) (past : List Entry) (m : HostMachine) → here ≡ phase → KnowsRequests here past m → KnowsRequests phase past m
+known_at here phase past m is known = subst (λ (p : Phase). KnowsRequests p past m) is known
 
 abbrev Leads : Phase → List Entry → HostMachine → Step → Type 0
-Leads next past m one = EachAfter MaySend past (entries m one) × KnowsIds next (past ++ entries m one) (happens m one)
+Leads next past m one = EachAfter MaySend past (entries m one) × KnowsRequests next (past ++ entries m one) (happens m one)
 
 -- where no part of the host runs
-counts_at : (here : Phase) (past : List Entry) (m : HostMachine) → IsBetween here → KnowsIds here past m → CountsIds past m.state.requests.last_id
+abbrev Counts : List Entry → HostMachine → Type 0
+Counts past m = CountsIds past m.state.requests.last_id × Rests past
+
+counts_at : (here : Phase) (past : List Entry) (m : HostMachine) → IsBetween here → KnowsRequests here past m → Counts past m
 counts_at Resting past m is known = known
 counts_at Risen past m is known = known
 counts_at Open past m is known = known
@@ -478,7 +520,7 @@ counts_at (Behind left) past m is known = absurd is
 counts_at Sleeping past m is known = absurd is
 counts_at Submitting past m is known = absurd is
 
-knows_at : (here : Phase) (past : List Entry) (m : HostMachine) → IsBetween here → CountsIds past m.state.requests.last_id → KnowsIds here past m
+knows_at : (here : Phase) (past : List Entry) (m : HostMachine) → IsBetween here → Counts past m → KnowsRequests here past m
 knows_at Resting past m is counts = counts
 knows_at Risen past m is counts = counts
 knows_at Open past m is counts = counts
@@ -507,27 +549,27 @@ node_hears event is = absurd is
 
 -- an event that notes at most
 notes_stand : (past told : List Entry) (h : HostState) (event : HostEvent) → BeginsNone event → HearsChip event → AllByRecursion IsNote (outs h event) → AreTold (outs h event) told
-    → CountsIds past h.requests.last_id → Stands past told (after h event).requests.last_id
-notes_stand past told h event begins hears notes is counts =
-    given_on past told h.requests.last_id (after h event).requests.last_id (note_id h event notes hears) (none_stands past told h.requests.last_id (event_none h event told begins notes is) counts)
+    → Rests past → CountsIds past h.requests.last_id → Stands past told (after h event).requests.last_id
+notes_stand past told h event begins hears notes is rests counts =
+    given_on past told h.requests.last_id (after h event).requests.last_id (note_id h event notes hears) (none_stands past told h.requests.last_id (event_none h event told begins notes is) rests counts)
 
 first_same : (first these : HostEvent) (left others : List HostEvent) → first ∷ left ≡ these ∷ others → first ≡ these
 first_same first these left others is = cc
 
 tick_does : (first : HostEvent) (left : List HostEvent) (past : List Entry) (m : HostMachine) (event : HostEvent) (told : List Entry) → event ≡ first → AreTold (outs m.state event) told
-    → AreFrames m.came → KnowsTick (first ∷ left) past m → CountsIds past m.state.requests.last_id → Stands past told (after m.state event).requests.last_id
-tick_does first left past m event told event_is is frames (inl (nodes, are, all, known)) counts =
+    → AreFrames m.came → KnowsTick (first ∷ left) past m → Rests past → CountsIds past m.state.requests.last_id → Stands past told (after m.state event).requests.last_id
+tick_does first left past m event told event_is is frames (inl (nodes, are, all, known)) rests counts =
     let line_is : event ≡ Line_ticks = event_is ∙ first_same first Line_ticks left (Requests_do request_ticks BeforeItsTick ∷ nodes) are in
     subst (λ (e : HostEvent). Stands past told (after m.state e).requests.last_id) (sym line_is)
     (given_on past told m.state.requests.last_id (after m.state Line_ticks).requests.last_id (line_id m.state)
-    (line_told past told m known.before frames (subst (λ (e : HostEvent). AreTold (outs m.state e) told) line_is is) counts known.tie))
-tick_does first left past m event told event_is is frames (inr (inl (nodes, are, all, known))) counts =
+    (line_told past told m known.before frames (subst (λ (e : HostEvent). AreTold (outs m.state e) told) line_is is) rests counts known.tie))
+tick_does first left past m event told event_is is frames (inr (inl (nodes, are, all, known))) rests counts =
     let request_is : event ≡ Requests_do request_ticks BeforeItsTick = event_is ∙ first_same first (Requests_do request_ticks BeforeItsTick) left nodes are in
     subst (λ (e : HostEvent). Stands past told (after m.state e).requests.last_id) (sym request_is)
-    (notes_stand past told m.state (Requests_do request_ticks BeforeItsTick) tt tt (noted_notes _) (subst (λ (e : HostEvent). AreTold (outs m.state e) told) request_is is) counts)
-tick_does first left past m event told event_is is frames (inr (inr (all, known))) counts =
+    (notes_stand past told m.state (Requests_do request_ticks BeforeItsTick) tt tt (noted_notes _) (subst (λ (e : HostEvent). AreTold (outs m.state e) told) request_is is) rests counts)
+tick_does first left past m event told event_is is frames (inr (inr (all, known))) rests counts =
     let node : IsNodeTick event = subst IsNodeTick (sym event_is) all.0 in
-    notes_stand past told m.state event (ticking_none event node) (node_hears event node) (node_notes m.state event node) is counts
+    notes_stand past told m.state event (ticking_none event node) (node_hears event node) (node_notes m.state event node) is rests counts
 
 follows_none : (unit : List ℕ) (event : HostEvent) → MayFollow unit event → BeginsNone event
 follows_none unit (Begins n session command) may = may
@@ -543,37 +585,77 @@ behind_none first left past m (frames, inl behind) =
     follows_none (unit_text (Framed behind.frame.frame)) first (all-right (MayFollow (unit_text (Framed behind.frame.frame))) behind.frame.gone (first ∷ left) follow).0
 behind_none first left past m (frames, inr (requests, settled)) = request_none first requests.0
 
-sleep_stands : (full : Bool) (past told : List Entry) (h : HostState) (n : ℕ) → AreTold (outs h (if full then Drops_no_more n else Queues_no_more n)) told → CountsIds past h.requests.last_id
+sleep_stands : (full : Bool) (past told : List Entry) (h : HostState) (n : ℕ) → AreTold (outs h (if full then Drops_no_more n else Queues_no_more n)) told → Rests past → CountsIds past h.requests.last_id
     → Stands past told (after h (if full then Drops_no_more n else Queues_no_more n)).requests.last_id
-sleep_stands true past told h n is counts = notes_stand past told h (Drops_no_more n) tt tt (tt, tt) is counts
-sleep_stands false past told h n is counts = notes_stand past told h (Queues_no_more n) tt tt tt is counts
+sleep_stands true past told h n is rests counts = notes_stand past told h (Drops_no_more n) tt tt (tt, tt) is rests counts
+sleep_stands false past told h n is rests counts = notes_stand past told h (Queues_no_more n) tt tt tt is rests counts
 
-submit_stands : PayloadsBring → (past : List Entry) (m : HostMachine) (event : HostEvent) (told : List Entry) → IsNext m.state event → MayAll m.state (event ∷ []) → AreTold (outs m.state event) told
-    → IsNumbered m told → Know Submitting past m → CountsIds past m.state.requests.last_id → Stands past told (after m.state event).requests.last_id
-submit_stands brings past m event told next may is numbered ground counts = by (submitted_is brings past m ground.0 ground.1 event next may)
-  where
-    by : Submits past m.state event ⊎ IsBeginning event → Stands past told (after m.state event).requests.last_id
-    by (inl s) = submits past told m event s ground.0.0.1 next.0 (time_told Submitting past told m ground.0 numbered) is ground.1 counts
-    by (inr first) = begins past told m event first ground.0.0.1 next.0 (time_told Submitting past told m ground.0 numbered) is ground.1 counts
+-- the unit of an attempt goes to its node
+attempt_goes : (n : ℕ) (more : Bool) (payload : List ℕ) (last : ℕ) (f : FrameParts) → f ≡ frame_of (Attempt n more payload) (next_id last)
+    → request_in (unit_text (Framed (frame_of (Attempt n more payload) (next_id last)))) ≡ request_of (Attempt n more payload) (next_id last) ∷ [] → GoesTo n (sending_in (unit_text (Framed f)))
+attempt_goes n more payload last f is read =
+    subst (λ (g : FrameParts). GoesTo n (sending_in (unit_text (Framed g)))) (sym is) (subst (λ (l : List Request). GoesTo n (flat_map sending_of l)) (sym read) refl)
 
-does : PayloadsBring → (here next : Phase) (past : List Entry) (m : HostMachine) (event : HostEvent) (told : List Entry) → May here m (Does event told) next → Know here past m → KnowsIds here past m
+frame_same : (f g : FrameParts) → Write (Framed f) ∷ [] ≡ Write (Framed g) ∷ [] → g ≡ f
+frame_same f g is = cc
+
+module _ (brings : PayloadsBring) (past told : List Entry) (m : HostMachine) (numbered : IsNumbered m told) (ground : Know Submitting past m) (counts : CountsIds past m.state.requests.last_id) where
+  abbrev Submits_so : HostEvent → Type 0
+  Submits_so event = Submitted past told (done m event)
+
+  rest_stands : (event : HostEvent) → IsNext m.state event → MayAll m.state (event ∷ []) → AreTold (outs m.state event) told → Rests past → Submits_so event
+  rest_stands event next may is rests = by (submitted_is brings past m ground.0 ground.1 event next may)
+    where
+      by : Submits past m.state event ⊎ IsBeginning event → Submits_so event
+      by (inl s) =
+          stands_so past told (done m event)
+          (submits past told m event s ground.0.0.1 next.0 (time_told Submitting past told m ground.0 numbered) is ground.1 (rests (entry.Written Host _)) counts)
+      by (inr first) = begins past told m event first next ground.0.0.1 ground.0 numbered is ground.1 rests counts
+
+  -- the attempt of a session that has just begun starts
+  start_stands : (n : ℕ) (plan : Plan) (more : Bool) (payload : List ℕ) → IsNext m.state (Starts n plan more payload) → MayAll m.state (Starts n plan more payload ∷ [])
+      → AreTold (outs m.state (Starts n plan more payload)) told → ((unit : List ℕ) → GoesTo n (sending_in unit) → FollowsBegin past (entry.Written Host unit)) → Submits_so (Starts n plan more payload)
+  start_stands n plan more payload next may is goes = by (submitted_is brings past m ground.0 ground.1 event next may)
+    where
+      event : HostEvent
+      event = Starts n plan more payload
+
+      by : Submits past m.state event ⊎ IsBeginning event → Submits_so event
+      by (inl s) =
+          let last : ℕ = m.state.requests.last_id in
+          let f : FrameParts = frame_of s.purpose (next_id last) in
+          let read = event_is_read brings m.state event ground.0.0.0.0.0.0.facts.host may.0 ground.0.1.0 in
+          stands_so past told (done m event)
+          (submits past told m event s ground.0.0.1 next.0 (time_told Submitting past told m ground.0 numbered) is ground.1
+          (goes (unit_text (Framed f)) (attempt_goes n more payload last f (frame_same (frame_of (Attempt n more payload) (next_id last)) f s.puts) read)) counts)
+      by (inr first) = absurd first
+
+  submit_stands : (event : HostEvent) → IsNext m.state event → MayAll m.state (event ∷ []) → AreTold (outs m.state event) told → Rests past ⊎ Awaits past m → Submits_so event
+  submit_stands event next may is (inl rests) = rest_stands event next may is rests
+  submit_stands event next may is (inr awaits) =
+      let starts = due_starts m.state awaits.node event awaits.served awaits.due next in
+      subst Submits_so (sym starts.is)
+      (start_stands awaits.node starts.plan starts.more starts.payload (subst (IsNext m.state) starts.is next) (subst (λ (e : HostEvent). MayAll m.state (e ∷ [])) starts.is may)
+      (subst (λ (e : HostEvent). AreTold (outs m.state e) told) starts.is is) awaits.goes)
+
+does : PayloadsBring → (here next : Phase) (past : List Entry) (m : HostMachine) (event : HostEvent) (told : List Entry) → May here m (Does event told) next → Know here past m → KnowsRequests here past m
     → Leads next past m (Does event told)
 does brings (Ticking (first ∷ left)) next past m event told may ground known =
-    let goes = tick_does first left past m event told may.0.0 may.2 ground.0.0.1 ground.1 known in
-    (goes.0, ids_to next (Ticking left) (past ++ told) (done m event) may.0.1 goes.1)
+    let goes = tick_does first left past m event told may.0.0 may.2 ground.0.0.1 ground.1 known.1 known.0 in
+    (goes.0, known_to next (Ticking left) (past ++ told) (done m event) may.0.1 (goes.1, goes.2))
 does brings (Behind (first ∷ left)) next past m event told may ground known =
     let goes = subst (λ (e : HostEvent). Stands past told (after m.state e).requests.last_id) (sym may.0.0)
     (notes_stand past told m.state first (behind_none first left past m ground.0.0.0.1) (well_hears first ground.0.1.1.0) (behind_notes first left past m ground.0.0.0.1)
-    (subst (λ (e : HostEvent). AreTold (outs m.state e) told) may.0.0 may.2) known) in
-    (goes.0, ids_to next (Behind left) (past ++ told) (done m event) may.0.1 goes.1)
+    (subst (λ (e : HostEvent). AreTold (outs m.state e) told) may.0.0 may.2) known.1 known.0) in
+    (goes.0, known_to next (Behind left) (past ++ told) (done m event) may.0.1 (goes.1, goes.2))
 does brings Sleeping next past m event told may ground known =
     let (node, wants, is, next_phase) = may.0 in
     let goes = subst (λ (e : HostEvent). Stands past told (after m.state e).requests.last_id) (sym is)
-    (sleep_stands (is_full m.state) past told m.state node (subst (λ (e : HostEvent). AreTold (outs m.state e) told) is may.2) known) in
-    (goes.0, ids_to next Sleeping (past ++ told) (done m event) next_phase goes.1)
+    (sleep_stands (is_full m.state) past told m.state node (subst (λ (e : HostEvent). AreTold (outs m.state e) told) is may.2) known.1 known.0) in
+    (goes.0, known_to next Sleeping (past ++ told) (done m event) next_phase (goes.1, goes.2))
 does brings Submitting next past m event told may ground known =
-    let goes = submit_stands brings past m event told may.0.0 may.1 may.2 may.3 ground known in
-    (goes.0, ids_to next Submitting (past ++ told) (done m event) may.0.1 goes.1)
+    let goes = submit_stands brings past told m may.3 ground known.0 event may.0.0 may.1 may.2 known.1 in
+    (goes.0, known_to next Submitting (past ++ told) (done m event) may.0.1 (goes.1, goes.2))
 does brings (Ticking []) next past m event told may ground known = absurd may.0
 does brings (Behind []) next past m event told may ground known = absurd may.0
 does brings Resting next past m event told may ground known = absurd may.0
@@ -582,22 +664,26 @@ does brings Risen next past m event told may ground known = absurd may.0
 does brings Open next past m event told may ground known = absurd may.0
 
 -- the number of a tick
-numbers : (here : Phase) (past : List Entry) (m : HostMachine) → m.awaits ≡ true → Know here past m → KnowsIds here past m
-    → EachAfter MaySend past (entry.Time m.clock ∷ []) × KnowsIds here (past ++ entry.Time m.clock ∷ []) (happens m Numbers)
+number_stands : (past : List Entry) (m : HostMachine) → Counts past m → EachAfter MaySend past (entry.Time m.clock ∷ []) × Counts (past ++ entry.Time m.clock ∷ []) (happens m Numbers)
+number_stands past m known = let goes = none_stands past (entry.Time m.clock ∷ []) m.state.requests.last_id (tt, tt) known.1 known.0 in (goes.0, (goes.1, goes.2))
+
+numbers : (here : Phase) (past : List Entry) (m : HostMachine) → m.awaits ≡ true → Know here past m → KnowsRequests here past m
+    → EachAfter MaySend past (entry.Time m.clock ∷ []) × KnowsRequests here (past ++ entry.Time m.clock ∷ []) (happens m Numbers)
 numbers (Asked line) past m awaits ground known = absurd (both_ways m.awaits ground.0.0.0.1.unnumbered awaits)
-numbers Resting past m awaits ground known = none_stands past (entry.Time m.clock ∷ []) m.state.requests.last_id (tt, tt) known
-numbers Open past m awaits ground known = none_stands past (entry.Time m.clock ∷ []) m.state.requests.last_id (tt, tt) known
-numbers Risen past m awaits ground known = none_stands past (entry.Time m.clock ∷ []) m.state.requests.last_id (tt, tt) known
-numbers Sleeping past m awaits ground known = none_stands past (entry.Time m.clock ∷ []) m.state.requests.last_id (tt, tt) known
-numbers Submitting past m awaits ground known = none_stands past (entry.Time m.clock ∷ []) m.state.requests.last_id (tt, tt) known
-numbers (Behind left) past m awaits ground known = none_stands past (entry.Time m.clock ∷ []) m.state.requests.last_id (tt, tt) known
-numbers (Ticking left) past m awaits ground known = none_stands past (entry.Time m.clock ∷ []) m.state.requests.last_id (tt, tt) known
+numbers Resting past m awaits ground known = number_stands past m known
+numbers Open past m awaits ground known = number_stands past m known
+numbers Risen past m awaits ground known = number_stands past m known
+numbers Sleeping past m awaits ground known = number_stands past m known
+numbers (Behind left) past m awaits ground known = number_stands past m known
+numbers (Ticking left) past m awaits ground known = number_stands past m known
+numbers Submitting past m awaits ground (counts, inl rests) = let goes = number_stands past m (counts, rests) in (goes.0, (goes.1.0, inl goes.1.1))
+numbers Submitting past m awaits ground (counts, inr begun) = absurd (both_ways m.awaits begun.numbered awaits)
 
 between : (next here : Phase) (past told : List Entry) (m later : HostMachine) → next ≡ here → IsBetween here → later.state.requests.last_id ≡ m.state.requests.last_id → AllByRecursion AsksNone told
-    → CountsIds past m.state.requests.last_id → EachAfter MaySend past told × KnowsIds next (past ++ told) later
+    → Counts past m → EachAfter MaySend past told × KnowsRequests next (past ++ told) later
 between next here past told m later is at given all counts =
-    let goes = given_on past told m.state.requests.last_id later.state.requests.last_id given (none_stands past told m.state.requests.last_id all counts) in
-    (goes.0, ids_to next here (past ++ told) later is (knows_at here (past ++ told) later at goes.1))
+    let goes = given_on past told m.state.requests.last_id later.state.requests.last_id given (none_stands past told m.state.requests.last_id all counts.1 counts.0) in
+    (goes.0, known_to next here (past ++ told) later is (knows_at here (past ++ told) later at (goes.1, goes.2)))
 
 answers_none : (h : HostState) (event : HostEvent) → AllByRecursion AsksNone (answers h event)
 answers_none h (Accepts order carriage) = (tt, tt)
@@ -616,65 +702,79 @@ restarts past m state fresh known =
     subst (λ (l : List Entry). CountsIds l state.requests.last_id) (sym known.are)
     (subst (CountsIds (known.before ++ entry.Said known.words ∷ [])) (sym (ap (λ (d : Doing). d.id) fresh)) (counts_anew known.before known.words (ap is_restart known.read)))
 
-step_goes : PayloadsBring → (here next : Phase) (past : List Entry) (m : HostMachine) (one : Step) → May here m one next → Know here past m → KnowsIds here past m → Leads next past m one
+step_goes : PayloadsBring → (here next : Phase) (past : List Entry) (m : HostMachine) (one : Step) → May here m one next → Know here past m → KnowsRequests here past m → Leads next past m one
 step_goes brings here next past m (Tells e) may ground known = between next here past (e ∷ []) m m may.3 may.0 refl (other_none e may.1, tt) (counts_at here past m may.0 known)
 step_goes brings here next past m (Comes unit) may ground known =
     between next here past (entries m (Comes unit)) m (happens m (Comes unit)) may.2 may.0 refl (tt, tt) (counts_at here past m may.0 known)
 step_goes brings here next past m (Misses text marks) may ground known =
     between next here past (entries m (Misses text marks)) m m may.3 may.0 refl (tt, missed_none marks may.1) (counts_at here past m may.0 known)
-step_goes brings here next past m (Says words line) may ground known = (
-  ((refl, refl), tt),
-  ids_to next (Asked line) (past ++ entry.Said words ∷ []) (happens m (Says words line)) may.3
-      (record { before = past; words = words; are = refl; read = may.2; counts = ids_at here Resting past m may.0 known }),
-)
-step_goes brings here next past m (Says_nothing words) may ground known = (
-  ((refl, refl), tt),
-  ids_to next Resting (past ++ entry.Said words ∷ []) (happens m (Says_nothing words)) (may.3 ∙ may.0)
-      (counts_said past words m.state.requests.last_id (ap is_restart may.2) (ids_at here Resting past m may.0 known)),
-)
+step_goes brings here next past m (Says words line) may ground known =
+    let rest = known_at here Resting past m may.0 known in (
+      ((refl, refl, rest.1 (entry.Said words)), tt),
+      known_to next (Asked line) (past ++ entry.Said words ∷ []) (happens m (Says words line)) may.3
+          (record { before = past; words = words; are = refl; read = may.2; counts = rest.0 }, rests_after past (entry.Said words) tt),
+    )
+step_goes brings here next past m (Says_nothing words) may ground known =
+    let rest = known_at here Resting past m may.0 known in (
+      ((refl, refl, rest.1 (entry.Said words)), tt),
+      known_to next Resting (past ++ entry.Said words ∷ []) (happens m (Says_nothing words)) (may.3 ∙ may.0)
+          (counts_said past words m.state.requests.last_id (ap is_restart may.2) rest.0, rests_after past (entry.Said words) tt),
+    )
 step_goes brings here next past m (Asks event) may ground known =
+    let at = known_at here (Asked may.0) past m may.1 known in
     between next Open past (answers m.state event) m (happens m (Asks event)) may.5 tt (ap (λ (d : Doing). d.id) (beside_same m.state event (asked_beside may.0 m.state event may.2)))
-    (answers_none m.state event) (on_words may.0 past m.state.requests.last_id (event_on may.0 m.state event may.2) (ids_at here (Asked may.0) past m may.1 known))
-step_goes brings here next past m (Refuses refusal) may ground known = (
-  ((refl, refl), tt),
-  ids_to next Open (past ++ entry.Refused refusal ∷ []) m may.4 (refuses may.0 past refusal m.state.requests.last_id (ids_at here (Asked may.0) past m may.1 known)),
-)
+    (answers_none m.state event) (on_words may.0 past m.state.requests.last_id (event_on may.0 m.state event may.2) at.0, at.1)
+step_goes brings here next past m (Refuses refusal) may ground known =
+    let at = known_at here (Asked may.0) past m may.1 known in (
+      ((refl, refl, at.1 (entry.Refused refusal)), tt),
+      known_to next Open (past ++ entry.Refused refusal ∷ []) m may.4 (refuses may.0 past refusal m.state.requests.last_id at.0, rests_after past (entry.Refused refusal) tt),
+    )
 step_goes brings here next past m (Shows node) may ground known =
-    between next Open past (entries m (Shows node)) m m may.2 tt refl (tt, tt) (on_words (lines.Store node) past m.state.requests.last_id refl (ids_at here (Asked (lines.Store node)) past m may.0 known))
+    let at = known_at here (Asked (lines.Store node)) past m may.0 known in
+    between next Open past (entries m (Shows node)) m m may.2 tt refl (tt, tt) (on_words (lines.Store node) past m.state.requests.last_id refl at.0, at.1)
 step_goes brings here next past m (Restarts state) may ground known =
     let fresh = same_asks state (first_host m.keys) (opened_asks m.keys m.records state ground.0.0.0.0.0.0.told may.1) in
-    let counts = restarts past m state fresh (ids_at here (Asked lines.Restart) past m may.0 known) in
-    (tt, ids_to next Open (past ++ []) (happens m (Restarts state)) may.2 (subst (λ (l : List Entry). CountsIds l state.requests.last_id) (sym (append-nil past)) counts))
+    let at = known_at here (Asked lines.Restart) past m may.0 known in (
+      tt,
+      known_to next Open (past ++ []) (happens m (Restarts state)) may.2
+          (subst (λ (l : List Entry). CountsIds l state.requests.last_id × Rests l) (sym (append-nil past)) (restarts past m state fresh at.0, at.1)),
+    )
 step_goes brings here next past m (Begins_tick left) may ground known =
-    between next Risen past [] m (happens m (Begins_tick left)) may.2 tt refl tt (ids_at here Resting past m may.0 known)
+    between next Risen past [] m (happens m (Begins_tick left)) may.2 tt refl tt (known_at here Resting past m may.0 known)
 step_goes brings here next past m Numbers may ground known =
-    let goes = numbers here past m may.0 ground known in (goes.0, ids_to next here (past ++ entry.Time m.clock ∷ []) (happens m Numbers) may.1 goes.1)
+    let goes = numbers here past m may.0 ground known in (goes.0, known_to next here (past ++ entry.Time m.clock ∷ []) (happens m Numbers) may.1 goes.1)
 step_goes brings here next past m (Judges item rest behind told) may ground known =
-    let goes = none_stands past told m.state.requests.last_id (item_none item told may.1.told_so) (ids_at here Open past m may.0 known) in
-    (goes.0, ids_to next (Behind behind) (past ++ told) (happens m (Judges item rest behind told)) may.2 goes.1)
+    let at = known_at here Open past m may.0 known in
+    let goes = none_stands past told m.state.requests.last_id (item_none item told may.1.told_so) at.1 at.0 in
+    (goes.0, known_to next (Behind behind) (past ++ told) (happens m (Judges item rest behind told)) may.2 (goes.1, goes.2))
 step_goes brings here next past m (Does event told) may ground known = does brings here next past m event told may ground known
 
-turn_goes : (here next : Phase) (past : List Entry) (m : HostMachine) → Turns here m next → KnowsIds here past m → KnowsIds next past m
-turn_goes Resting next past m is known = ids_to next Open past m is known
-turn_goes (Asked line) next past m (inl (nothing, is)) known = ids_to next Open past m is (on_words line past m.state.requests.last_id (none_on line nothing) known)
-turn_goes (Asked line) next past m (inr (ticks, line_is, is)) known =
-    ids_to next Resting past m is (on_words line past m.state.requests.last_id (ap (λ (l : Line). is_restart (l ∷ [])) line_is) known)
-turn_goes Risen next past m is known = ids_to next (Ticking _) past m is known
-turn_goes (Ticking []) next past m is known = ids_to next Open past m is known
-turn_goes (Ticking (first ∷ left)) next past m is known = absurd is
-turn_goes Open next past m is known = ids_to next Sleeping past m is known
-turn_goes (Behind []) next past m is known = ids_to next Open past m is known
-turn_goes (Behind (first ∷ left)) next past m is known = absurd is
-turn_goes Sleeping next past m is known = ids_to next Submitting past m is.1 known
-turn_goes Submitting next past m is known = ids_to next Resting past m is.1 known
+-- a part is over: where a pump is, no unit of a session is still to come
+pumped_rests : (past : List Entry) (m : HostMachine) → IsPumped m.state → Rests past ⊎ Awaits past m → Rests past
+pumped_rests past m pumped (inl rests) = rests
+pumped_rests past m pumped (inr awaits) = absurd (not_pumped m.state awaits.node awaits.served pumped)
 
-pub numbers_walk : PayloadsBring → (Before : List Entry → Entry → Type 0) → WalkOver (both_know Ground KnowsAsked) Before MaySend KnowsIds
-numbers_walk brings Before = record {
+turn_goes : (here next : Phase) (past : List Entry) (m : HostMachine) → Turns here m next → KnowsRequests here past m → KnowsRequests next past m
+turn_goes Resting next past m is known = known_to next Open past m is known
+turn_goes (Asked line) next past m (inl (nothing, is)) known = known_to next Open past m is (on_words line past m.state.requests.last_id (none_on line nothing) known.0, known.1)
+turn_goes (Asked line) next past m (inr (ticks, line_is, is)) known =
+    known_to next Resting past m is (on_words line past m.state.requests.last_id (ap (λ (l : Line). is_restart (l ∷ [])) line_is) known.0, known.1)
+turn_goes Risen next past m is known = known_to next (Ticking _) past m is known
+turn_goes (Ticking []) next past m is known = known_to next Open past m is known
+turn_goes (Ticking (first ∷ left)) next past m is known = absurd is
+turn_goes Open next past m is known = known_to next Sleeping past m is known
+turn_goes (Behind []) next past m is known = known_to next Open past m is known
+turn_goes (Behind (first ∷ left)) next past m is known = absurd is
+turn_goes Sleeping next past m is known = known_to next Submitting past m is.1 (known.0, inl known.1)
+turn_goes Submitting next past m is known = known_to next Resting past m is.1 (known.0, pumped_rests past m is.0 known.1)
+
+pub requests_walk : PayloadsBring → (Before : List Entry → Entry → Type 0) → WalkOver (both_know Ground KnowsAsked) Before MaySend KnowsRequests
+requests_walk brings Before = record {
   step = λ here next past m one may ground stand known. step_goes brings here next past m one may ground known;
   turn = λ here next past m turns ground known. turn_goes here next past m turns known;
 }
 
--- both laws of a transcript that keeps each at each entry
-pub both_kept : (past told : List Entry) → EachAfter MaySend past told → KeepsAfter past may_follow told × KeepsAfter past may_number told
-both_kept past [] all = (tt, tt)
-both_kept past (e ∷ told) all = let rest = both_kept (past ++ e ∷ []) told all.1 in ((all.0.0, rest.0), (all.0.1, rest.1))
+-- each law of a transcript that keeps all at each entry
+pub all_kept : (past told : List Entry) → EachAfter MaySend past told → KeepsAfter past may_follow told × KeepsAfter past may_number told × EachAfter FollowsBegin past told
+all_kept past [] all = (tt, tt, tt)
+all_kept past (e ∷ told) all = let rest = all_kept (past ++ e ∷ []) told all.1 in ((all.0.0, rest.0), (all.0.1, rest.1), (all.0.2, rest.2))

@@ -424,7 +424,7 @@ front_is_read : (h : HostState) (queue : List Task) → AreRead queue → ReadsA
 front_is_read h [] are = read_again Abort (next_id h.requests.last_id) tt
 front_is_read h (task ∷ rest) are = read_again (Housekeeping task) (next_id h.requests.last_id) (are.0.0 (next_id h.requests.last_id) (id_from h.requests.last_id) (id_to h.requests.last_id))
 
-event_is_read : PayloadsBring → (h : HostState) (event : HostEvent) → HostFacts h → may_event h event → AreRead h.requests.queue → IsRead h event
+pub event_is_read : PayloadsBring → (h : HostState) (event : HostEvent) → HostFacts h → may_event h event → AreRead h.requests.queue → IsRead h event
 event_is_read brings h Submits_abort facts may are = read_again Abort (next_id h.requests.last_id) tt
 event_is_read brings h Submits_front facts may are = front_is_read h h.requests.queue are
 event_is_read brings h (Starts n plan more payload) facts may are = part_read h n more payload may.0.next (brings.starts h n plan more payload facts may.1).0

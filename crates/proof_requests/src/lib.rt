@@ -9,13 +9,13 @@
 //! the first response to them is judged (`hosts_answer_questions`), and interviews end as the transcript tells (`hosts_end_interviews`). And requests stand one
 //! after another, their messages with the callback ids in turn (`hosts_ask_one_by_one`).
 //! The definitions are in `specs/`: `Standing` (what the rules look at, and their words over that), `Effects` and `Saying` (what an answer and a frame of the
-//! chip make of it), `Asking` (the tie), `Walking` (the tie at each phase, and its ground) and
-//! `Ends` (how a request ends, and what is to be told of it), `Numbers` (the callback ids). `proofs/Growing` has the last request after more entries,
-//! `proofs/Standing` how it stands then; `Line`, `Judging`, `Ended` and `UnderWay` go on with the line, with what was judged, with its end and with its wait;
-//! `Saying` has frames of the chip as text and as what the host makes of them; `OnLine` and `Moving` what happens to a host, `Doing` and `Events` its events,
-//! `Telling` the entries, `Walking` and `Stepping` the walk, and `Ending` what follows. Of its ground `Came` has the units that came,
-//! `Spelled` requests as they are read, `Queued` and `Queueing` those that wait, and `Grounds` all of it. `Brought` has what an interview is told,
-//! and `Listening` what it says. `EndsHere` has what a frame that is judged ends, `EndsLate` waits and the line, `Untold` entries that tell of no end, and
+//! chip make of it), `Carrying` (what a request carries), `Asking` (the tie), `Walking` (the tie at each phase, and its ground), `Ends` (how a request ends,
+//! and what is to be told of it) and `Numbers` (the callback ids). `proofs/Growing` has the last request after more entries, `proofs/Standing` how it stands
+//! then; `Line`, `Judging`, `Ended` and `UnderWay` go on with the line, with what was judged, with its end and with its wait; `Saying` has frames of the chip
+//! as text and as what the host makes of them; `OnLine` and `Moving` what happens to a host, `Doing` and `Events` its events, `Telling` the entries,
+//! `Walking` and `Stepping` the walk, and `Ending` what follows. Of its ground `Came` has the units that came, `Spelled` requests as they are read, `Carried`
+//! what they carry, `Queued` and `Queueing` those that wait, and `Grounds` all of it. `Brought` has what an interview is told, and `Listening` what it says.
+//! `EndsHere` has what a frame that is judged ends, `EndsLate` waits and the line, `EndsDone` the word for it, `Untold` entries that tell of no end, and
 //! `EndsTold` the walk over them; `Questions` and `Interviews` read their laws off it. `Numbering` is the walk over requests and their ids.
 #![tactic(auto)]
 

@@ -36,6 +36,7 @@ returns c = λ key records lines are.
       last = host_machine (keys_of key) held (lone_after m lines).host.state [] (lone_after m lines).clock 0 awaits;
       added = texts;
       run = run;
+      over = refl;
       for_host = said_for_host (heard_of m lines) (replayed_said m lines are);
       tells = tells;
       adds = adds;

@@ -9,10 +9,10 @@ use Rattle.proof_requests.proofs.numbers.lines_ask_one_by_one.Goals as goal
 pub returns-clause-lines : goal.returns-clause-lines
 returns-clause-lines c = λ keys devices lines are.
     let past = transcript_of (first_machine keys (Some []) devices) lines in
-    c.hosts_ask_one_by_one.ensures keys past (c.lines_are_a_hosts.ensures.told keys devices lines are)
+    c.hosts_ask_one_by_one.ensures.told keys past (c.lines_are_a_hosts.ensures.told keys devices lines are)
 
 pub returns-clause-heard : goal.returns-clause-heard
 returns-clause-heard c = λ keys devices lines are.
     let past = transcript_of (first_machine keys (Some []) devices) lines in
-    c.hosts_ask_one_by_one.ensures keys (heard_by_host past)
+    c.hosts_ask_one_by_one.ensures.told keys (heard_by_host past)
     (c.what_is_heard_is_a_hosts.ensures.told (first_alone keys (Some [])) past (c.lines_are_a_hosts.ensures.told keys devices lines are))
