@@ -1,7 +1,7 @@
 -- A host that starts from records does so after entries that show what these give, and with the nonces that were counted.
 use Rattle.std.proofs.Common.{◌≡◌, ℕ, zero, suc, ◌+◌, ◌≤◌, nat_eq, nat_le, Bool, true, false, if◌then◌else◌, ◌&&◌, List, [], ◌∷◌, ◌++◌, slice_index_or, refl, sym, ap, ◌∙◌, subst, arith}
 use Rattle.std.proofs.lemmas.Bool.{eqb-false, eqb-true, leb-false, leb-true}
-use Rattle.std.specs.Prelude.{Option, Some, None, IfSome}
+use Rattle.std.specs.Prelude.{Option, Some, None}
 use Rattle.std.specs.List.{list_any}
 use Rattle.host_keep.specs.Kept.{Interview, Kept, KeptNode, blank_node}
 use Rattle.host_keep.specs.Kept as kept
@@ -9,18 +9,17 @@ use Rattle.host_model.specs.Holding.{listens_said}
 use Rattle.host_model.specs.State.{HostState}
 use Rattle.zw_text.specs.declared.line.Line.{Line}
 use Rattle.zw_text.specs.declared.entry.Entry.{Entry}
-use Rattle.zw_text.specs.declared.entry.Entry.TheVariants.{Interviewed, InterviewFailed, Said}
-use Rattle.zw_text.specs.Transcript.{interview_at, interviews, line_of}
+use Rattle.zw_text.specs.declared.entry.Entry.TheVariants.{Interviewed, Said}
+use Rattle.zw_text.specs.Transcript.{interview_at, interviews}
 use Rattle.law_transcript.specs.Lists.{last_or, shown_after}
 use Rattle.law_transcript.specs.Nodes.{is_interviewed, known_at_first, known_classes}
-use Rattle.law_transcript.specs.Restarts.{begins_refused, is_restart, since_restart, since_restart_from}
+use Rattle.law_transcript.specs.Restarts.{is_restart, since_restart_from}
 use Rattle.law_time.specs.Ends.{ending}
 use Rattle.law_time.specs.Requests.{asked_before}
 use Rattle.law_time.specs.Interviews.{listening_at, listens, says_listening}
 use Rattle.proof_requests.specs.law_host.Course.{Book, book_of}
 use Rattle.proof_requests.specs.law_host.Heard.{listing_heard}
-use Rattle.proof_requests.specs.law_host.Notes.{Start}
-use Rattle.proof_requests.specs.law_host.Starting.{KnowsNode, StartsFrom, book_kept}
+use Rattle.proof_requests.specs.law_host.Starting.{book_kept}
 use Rattle.proof_requests.specs.law_host.Starting as starting
 use Rattle.proof_requests.specs.proof_alone.Listening.{ListensAsTold}
 use Rattle.proof_asking.specs.proof_known.Known.{KnowsRecords}
