@@ -6,5 +6,6 @@ mod Ran
 mod Serving
 mod Words
 mod From
+mod Begun
 mod Starting
 mod Orderly

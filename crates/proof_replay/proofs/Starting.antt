@@ -22,16 +22,18 @@ use Rattle.law_transcript.specs.Records.{KeepsRecords}
 use Rattle.law_wire.specs.Links.{KeepsLink}
 use Rattle.law_wire.specs.Serial.{ended}
 use Rattle.proof_requests.specs.law_host.Heard.{is_of_others}
+use Rattle.proof_requests.specs.proof_alone.Listening.{ListensAsTold}
 use Rattle.proof_requests.specs.proof_alone.State.{HostMachine, first_alone, host_machine}
 use Rattle.proof_requests.specs.proof_alone.Steps as step
 use Rattle.proof_requests.specs.proof_alone.Phases.{Phase, Asked, Open, Resting}
 use Rattle.proof_requests.specs.proof_alone.Runs.{Run}
 use Rattle.proof_requests.specs.proof_alone.Runs.Run.{Begins, Stepped}
-use Rattle.proof_asking.specs.proof_known.Known.{AreForHost, AreSaidToHost, IsSaidToHost}
+use Rattle.proof_asking.specs.proof_known.Known.{AreForHost, AreSaidToHost, IsSaidToHost, KnowsRecords}
 use Rattle.proof_asking.proofs.ForHost.{said_for_host}
-use Rattle.proof_replay.specs.HostSteps.{HaveHeard, HearsMore, HearsRun, Holds, IsRunSteps, restart_word}
+use Rattle.proof_replay.specs.HostSteps.{HaveHeard, HearsMore, HearsRun, Holds, IsRunSteps, StartsAfter, restart_word}
 use Rattle.proof_replay.specs.Laws.{HostsKeepLaws, KeepsFrom}
 use Rattle.proof_replay.specs.Linked.{KnowsLine, LineRests}
+use Rattle.proof_replay.proofs.Begun.{begun}
 use Rattle.proof_replay.proofs.From.{keeps_from}
 use Rattle.proof_replay.proofs.LineHeard.{HostsObey, first_rests, link_kept, open_kept, restart_line}
 use Rattle.proof_replay.proofs.Serving.{none_added, pump_part, restart_is, steps_go}
@@ -117,6 +119,8 @@ kept_as_told keys whole heard told held agrees laws = record {
 
 module _ (laws : (keys : Keys) (whole : Bool) (here : Phase) (heard : List Entry) (m : HostMachine) → Run (first_alone keys (Some [])) here heard m → (whole ≡ true → (here ≡ Resting) × (m.left ≡ 0))
     → AreForHost heard → HostsKeepLaws keys whole heard m.records)
+    (recorded : (keys : Keys) (heard : List Entry) (m : HostMachine) → Run (first_alone keys (Some [])) Open heard m → IfSome m.records (KnowsRecords heard m.state))
+    (listening : (keys : Keys) (here : Phase) (heard : List Entry) (m : HostMachine) → Run (first_alone keys (Some [])) here heard m → ListensAsTold heard m.state)
     (obey : HostsObey) (keys : Keys) (number : ℕ) (told : Option (List (List ℕ))) (past : List Entry) (before : HaveHeard keys number told past) (place : Place) (opens : Opens keys number told place.host)
     (adds : OptAdds told place.shelf.records []) where
   abbrev restarted : List Entry
@@ -136,6 +140,21 @@ module _ (laws : (keys : Keys) (whole : Bool) (here : Phase) (heard : List Entry
         subst (λ (h : HostParts). KnowsLine restarted before.clock 0 h.state) (sym opens.state)
             (restart_line obey past before.awaits before.clock before.state before.line restart_word state restart_is (obey.opened keys opens.records)),
       )
+
+  -- what stood before shows what the records give
+  starts_held : (held : Option (List (List ℕ))) (h : HostState) → ListensAsTold restarted h → IfSome held (KnowsRecords restarted h) → IfSome held (StartsAfter restarted)
+  starts_held None h listens knows = tt
+  starts_held (Some texts) h listens knows = begun past texts h knows listens
+
+  starts_told : (records held : Option (List (List ℕ))) → Agrees records held → IfSome held (StartsAfter restarted) → IfSome records (StartsAfter restarted)
+  starts_told None held agrees starts = tt
+  starts_told (Some texts) held agrees starts = subst (λ (o : Option (List (List ℕ))). IfSome o (StartsAfter restarted)) agrees starts
+
+  starts_so : IfSome place.shelf.records (StartsAfter restarted)
+  starts_so =
+      let (held, agrees, run, line) = started in
+      let m : HostMachine = host_machine keys held place.host.state [] before.clock 0 false in
+      starts_told place.shelf.records held agrees (starts_held held place.host.state (listening keys Open restarted m run) (recorded keys restarted m run))
 
   -- what was heard, after what had been
   all_heard : (heard : List Entry) → restarted ++ heard ≡ past ++ Said restart_word ∷ heard
@@ -169,6 +188,7 @@ module _ (laws : (keys : Keys) (whole : Bool) (here : Phase) (heard : List Entry
         heard = heard;
         hears = hears;
         keeps = keeps;
+        starts = starts_so;
         from = from_start whole heard last keeps;
         link = link_kept obey whole (past ++ Said restart_word ∷ heard) awaits m.clock m.host.state line;
         next = λ is many some. record {
@@ -196,6 +216,7 @@ module _ (laws : (keys : Keys) (whole : Bool) (here : Phase) (heard : List Entry
         heard = [];
         hears = (ran.0, refl);
         keeps = keeps;
+        starts = starts_so;
         from = from_start whole [] last keeps;
         link = subst (λ (b : Bool). KeepsLink Host (ended b (past ++ Said restart_word ∷ []))) (sym none) (open_kept obey restarted before.clock 0 place.host.state line);
         next = λ is many some. absurd (never (sym none ∙ is));
