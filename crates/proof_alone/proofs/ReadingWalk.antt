@@ -334,8 +334,8 @@ all_fine m [] rests writes = tt
 all_fine m (event ∷ events) rests writes = ((rests.0, writes.0), all_fine (happens m event) events rests.1 writes.1)
 
 pub keeper_told : (start : HostMachine) (past : List Entry) (m : Machine) → Reads start alone.Resting 0 past m
-    → (n : HostMachine) × Run start alone.Resting past n × (n.records ≡ m.records)
-keeper_told start past m reads = (read_of 0 m (good_units reads.down), reads.run, refl)
+    → (n : HostMachine) × Run start alone.Resting past n × (n.records ≡ m.records) × (n.left ≡ 0)
+keeper_told start past m reads = (read_of 0 m (good_units reads.down), reads.run, refl, refl)
 
 -- ---- what is known of a host
 

@@ -23,7 +23,7 @@ use proof_line::world::lines_keep_and_ask_well;
 
 /// Over any lines from the first on, the last of which an allocation failure may have cut short, over a keeper that tells its records and has none at first,
 /// the transcript is that of a run of a host alone; where all were run whole, of one that ends at rest, with
-/// what the keeper tells in the end.
+/// what the keeper tells in the end, and no tick of its last line to come.
 pub fn lines_are_a_hosts()
     ensures told { (keys : Keys) (devices : List State) (lines : List Spoken) →
         AreDone (first_machine keys (Some []) devices) lines →
@@ -34,7 +34,7 @@ pub fn lines_are_a_hosts()
     ensures keeper { (keys : Keys) (devices : List State) (lines : List Spoken) →
         AreDone (first_machine keys (Some []) devices) lines → AreWhole (first_machine keys (Some []) devices) lines →
         (m : HostMachine) × Run (first_alone keys (Some [])) Resting (transcript_of (first_machine keys (Some []) devices) lines) m
-        × (m.records ≡ (after_all (first_machine keys (Some []) devices) lines).records) }
+        × (m.records ≡ (after_all (first_machine keys (Some []) devices) lines).records) × (m.left ≡ 0) }
 {
     marks_go_on();
     units_are_judged_whole();

@@ -1,7 +1,7 @@
 -- A node falls asleep where its third attempt or its No More Information has ended, and wherever one of the two has: along each run of a host alone.
-use Rattle.std.proofs.Common.{◌≡◌, ◌⊎◌, ℕ, ◌+◌, ◌-◌, ◌≤◌, ◌==◌, ◌&&◌, ◌||◌, not, nat_lt, Bool, true, false, if◌then◌else◌, inl, inr, List, [], ◌∷◌, ◌++◌, filter, Option, Some, None, refl, sym, ap, ◌∙◌, ap₂, subst, append-nil, append_assoc, arith}
-use Rattle.std.specs.Prelude.{Result, Ok, Err, is_some}
-use Rattle.std.specs.List.{AllByRecursion, flat_map, list_all, list_any}
+use Rattle.std.proofs.Common.{◌≡◌, ◌⊎◌, ℕ, ◌+◌, ◌-◌, ◌==◌, ◌&&◌, ◌||◌, not, nat_lt, Bool, true, false, if◌then◌else◌, inl, inr, List, [], ◌∷◌, ◌++◌, filter, Option, Some, None, refl, sym, ap, ◌∙◌, ap₂, subst, append-nil, append_assoc, arith}
+use Rattle.std.specs.Prelude.{Result, Ok, Err}
+use Rattle.std.specs.List.{AllByRecursion, list_all, list_any}
 use Rattle.std.proofs.lemmas.Bool.{and_from, and_left, and_right, both_ways, eq-eqb, eqb-true, or_left, or_parts, or_right}
 use Rattle.zw_base.proofs.Each.{all-append, all-right, all-weaker}
 use Rattle.zw_base.specs.declared.property.Setting.{Setting}
@@ -29,9 +29,8 @@ use Rattle.zw_words.specs.declared.side.Side.TheVariants.{Host, Chip}
 use Rattle.zw_text.specs.declared.line.Line.{Line}
 use Rattle.zw_text.specs.declared.entry.Entry.{Entry}
 use Rattle.zw_text.specs.declared.entry.Entry.TheVariants as entry
-use Rattle.law_transcript.specs.Lists.{EachAfter}
 use Rattle.law_transcript.specs.Units.{body_in, function_in, is_frame, read_well}
-use Rattle.law_time.specs.Ends.{ending, has_ended, is_abort, is_abort_frame, is_answered_here, is_before_failing, is_called_back, is_called_back_badly, is_ended_by_frame, is_ended_here, is_ending_here, is_given_up, is_refused_here, is_silent, calls_back, refuses}
+use Rattle.law_time.specs.Ends.{ending, has_ended, is_abort, is_answered_here, is_before_failing, is_called_back, is_called_back_badly, is_ended_by_frame, is_ended_here, is_ending_here, is_given_up, is_refused_here, is_silent, calls_back, refuses}
 use Rattle.law_time.specs.Interviews.{listens}
 use Rattle.law_time.specs.Judged.{acknowledged, directly_step, is_directly_after, is_following, judged_here, notices_here}
 use Rattle.law_time.specs.Moments.{Allows, clock, now_at}
@@ -59,25 +58,22 @@ use Rattle.host_model.specs.State.{HostState, command_at, node_of}
 use Rattle.host_model.specs.Sessions.{open_command, settings_with}
 use Rattle.host_model.specs.Ends.{attempt_entries, end_entries_if}
 use Rattle.host_model.specs.After.{after, gives_up, is_full, is_held, line_ticked, requests_do}
-use Rattle.host_model.specs.Did.{MayAll, after_all}
-use Rattle.host_model.specs.May.{May as may_event}
-use Rattle.host_model.specs.Events.{HostEvent, Accepts, Cancels, Joins, Queues, Queues_interview, Queues_probe, Hears, Requests_do, Interviews, Interview_unkept, Unreads, Is_unkept, Reports_old, Works, Finishes, Offers, Gives, Spends, Spends_unread, Takes_nonce, Notifies, Resends, Hears_value, Has_no_room, Line_ticks, Node_ticks, Queues_no_more, Drops_no_more, Submits_abort, Submits_front, Starts, Gives_text, Gives_segment, Begins, Begin_unkept}
+use Rattle.host_model.specs.Did.{after_all}
+use Rattle.host_model.specs.Events.{HostEvent, Accepts, Cancels, Queues, Hears, Requests_do, Interviews, Interview_unkept, Unreads, Is_unkept, Reports_old, Finishes, Offers, Gives, Spends_unread, Notifies, Resends, Hears_value, Has_no_room, Line_ticks, Node_ticks, Queues_no_more, Drops_no_more, Submits_abort, Submits_front, Starts, Gives_text, Gives_segment, Begins, Begin_unkept}
 use Rattle.host_model.specs.Outs.{answer_to, answers, copy_out, dropped_if, ended_of, failing_entries, held_entries, noted, outs, request_entries, stored_entries}
-use Rattle.host_model.specs.Pumping.{no_more_event}
 use Rattle.host_model.specs.Taking.{InterviewEvents, told_requests}
 use Rattle.host_model.specs.declared.out.HostOut.{HostOut}
-use Rattle.host_model.specs.declared.out.HostOut.TheVariants.{Note, Write}
 use Rattle.host_model.proofs.Submitted.{next_is}
 use Rattle.world_model.specs.Events.{shown_values}
 use Rattle.proof_host.specs.Facts.{Facts}
-use Rattle.proof_waking.specs.proof_alone.State.{HostMachine, done}
-use Rattle.proof_waking.specs.proof_alone.Steps.{AreFrames, AreTold, DidNotCome, IsOfOthers, IsOfUnit, Step, Tells, Comes, Misses, Says, Says_nothing, Asks, Refuses, Shows, Restarts, Begins_tick, Numbers, Judges, Does, entries, happens}
-use Rattle.proof_waking.specs.proof_alone.Phases.{Phase, Resting, Asked, Risen, Ticking, Open, Behind, Sleeping, Submitting, IsBetween, IsJudgedNow, IsNumbered, May}
-use Rattle.proof_waking.specs.proof_alone.Runs.{WalkOver, both_know}
-use Rattle.proof_waking.specs.Judged.{IsOfRequest, KnowsJudged, TieFrames}
-use Rattle.proof_waking.proofs.Followed.{MayFollow, frame_all}
+use Rattle.proof_requests.specs.proof_alone.State.{HostMachine}
+use Rattle.proof_requests.specs.proof_alone.Steps.{AreFrames, AreTold, DidNotCome, IsOfOthers, IsOfUnit, Step, Tells, Comes, Misses, Says, Says_nothing, Asks, Refuses, Shows, Restarts, Begins_tick, Numbers, Judges, Does, entries}
+use Rattle.proof_requests.specs.proof_alone.Phases.{Phase, Resting, Asked, Risen, Ticking, Open, Behind, Sleeping, Submitting, IsBetween, IsJudgedNow, IsNumbered, May}
+use Rattle.proof_requests.specs.proof_alone.Runs.{WalkOver, both_know}
+use Rattle.proof_requests.specs.proof_waking.Judged.{IsOfRequest, KnowsJudged, TieFrames}
+use Rattle.proof_requests.proofs.proof_waking_Followed.{MayFollow, frame_all}
 use Rattle.proof_requests.specs.Asking.{Doing, TieAsked, TieUnderWay, doing_of}
-use Rattle.proof_requests.specs.Ends.{AreToldOf, ByFrame, ByLine, EndsBy, EndsFrom, EndsHere, EndsNone, GivenUp, KnowsEnds, LineEnds, TellsNoEnd, next_at}
+use Rattle.proof_requests.specs.Ends.{AreToldOf, EndsBy, EndsFrom, EndsHere, GivenUp, KnowsEnds, LineEnds, TellsNoEnd, next_at}
 use Rattle.proof_requests.specs.Standing.{failing_in, standing_of, wait_in}
 use Rattle.proof_requests.specs.Saying.{frame_next}
 use Rattle.proof_work.specs.Work.{told_at}
@@ -85,22 +81,22 @@ use Rattle.proof_requests.specs.Walking.{Ground as RequestsGround, IsNodeTick, K
 use Rattle.proof_requests.proofs.Doing.{IsBeside, beside_same}
 use Rattle.proof_requests.proofs.EndsHere.{frame_ends_so}
 use Rattle.proof_requests.proofs.EndsTold.{given_up_at as line_gives_up, silent_at}
-use Rattle.proof_requests.proofs.Stepping.{IsSubmission, not_awaiting, submissions, time_told}
+use Rattle.proof_requests.proofs.Stepping.{IsSubmission, submissions, time_told}
 use Rattle.proof_requests.proofs.Untold.{directly_one}
-use Rattle.proof_requests.proofs.Walking.{copy_line, event_hosts, is_old, line_outs}
+use Rattle.proof_requests.proofs.Walking.{line_outs}
 use Rattle.proof_attempts.specs.Asleep.{IsFresh, KnowsSleep, KnowsSlept, OwesNone, TicksNode}
 use Rattle.proof_attempts.specs.Carried.{CarriesOthers, UnderWayWell, nodes_of}
-use Rattle.proof_attempts.specs.Since.{IsElse, KnowsSince}
+use Rattle.proof_attempts.specs.Since.{IsElse}
 use Rattle.proof_attempts.specs.Slept.{KnowsTelling, SleepsIfTold, TieSlept}
 use Rattle.proof_attempts.specs.Waking.{CountsAwake, KnowsWork}
 use Rattle.proof_attempts.proofs.Counting.{told_wordless}
 use Rattle.proof_attempts.proofs.KeptAwake.{noted_told}
 use Rattle.proof_attempts.proofs.Lasting.{numbered_else, rest_of}
 use Rattle.proof_attempts.proofs.Late.{unended_at}
-use Rattle.proof_attempts.proofs.Owing.{ArePlain, Goes, either_false, IsCalm, IsPlain, IsStill, Law, calm_may, first_go, given_none, mark_still, marks_may, may_stand, nothing_go, one_rested, owes_by, plain_go, untold}
+use Rattle.proof_attempts.proofs.Owing.{ArePlain, Goes, either_false, IsPlain, IsStill, Law, calm_may, first_go, given_none, mark_still, marks_may, may_stand, nothing_go, one_rested, owes_by, plain_go, untold}
 use Rattle.proof_attempts.proofs.Requested.{Unsubmitted}
 use Rattle.proof_attempts.proofs.Sleeping.{Known, attempt_go, ended_so, purpose_go, tick_so}
-use Rattle.proof_attempts.proofs.Slept.{NoneSleeps, On, frame_tells, item_on, none_slept, on_frame, on_slept, or_none, purpose_told, tells_it, told_by}
+use Rattle.proof_attempts.proofs.Slept.{NoneSleeps, On, frame_tells, item_on, none_slept, on_frame, on_slept, purpose_told, tells_it, told_by}
 use Rattle.proof_attempts.proofs.Wrote.{Wrote, first_same, paused_old, writes}
 use Rattle.proof_attempts.proofs.Wrote.Wrote.{Quietly, Again, Anew}
 

@@ -1,5 +1,5 @@
 -- What a host has to send is a No More Information only where it tells a node that there is no more for it: so it stays along each run.
-use Rattle.std.proofs.Common.{◌≡◌, ◌≤◌, ℕ, zero, suc, ◌+◌, ◌-◌, ◌==◌, ◌&&◌, nat_lt, Bool, true, false, if◌then◌else◌, inl, inr, List, [], ◌∷◌, ◌++◌, Option, Some, None, length, refl, sym, ap, subst, arith}
+use Rattle.std.proofs.Common.{◌≡◌, ℕ, zero, suc, ◌+◌, ◌-◌, ◌==◌, ◌&&◌, nat_lt, Bool, true, false, if◌then◌else◌, List, [], ◌∷◌, ◌++◌, Option, Some, None, length, refl, sym, ap, subst, arith}
 use Rattle.std.specs.Prelude.{IsSome}
 use Rattle.std.specs.List.{AllByRecursion}
 use Rattle.zw_base.proofs.Each.{all-append}
@@ -11,7 +11,6 @@ use Rattle.s0_session.specs.Nonces.{live_of}
 use Rattle.supervision.specs.Host.{open_session, told_of}
 use Rattle.supervision.specs.declared.host_node.Told.{Told}
 use Rattle.supervision.specs.declared.host_node.Told.TheVariants.{Final, Working, Old}
-use Rattle.host_keep.specs.Status.{status_byte}
 use Rattle.host_requests.specs.Events as requests
 use Rattle.host_requests.specs.Events.{RequestsEvent, end_at, task_begun}
 use Rattle.host_requests.specs.Events.RequestsEvent.{Pushes, PushesInterview, PushesProbe, BeginsAbort, BeginsPrefix, BeginsAttempt, IsSent, Fails, Responds, CallsBack, Updates, Ticks, Forgets}
@@ -25,17 +24,17 @@ use Rattle.host_requests.specs.declared.next.Next.TheVariants.{Ends, GoesOn}
 use Rattle.host_requests.specs.declared.task.Purpose.{Purpose}
 use Rattle.host_requests.specs.declared.task.Purpose.TheVariants.{Housekeeping, Attempt, Abort}
 use Rattle.host_requests.specs.declared.task.Task.{Task}
-use Rattle.host_requests.specs.declared.task.Task.TheVariants.{First, NoMore, Offer, Plain, Second, Segment}
+use Rattle.host_requests.specs.declared.task.Task.TheVariants.{First, NoMore, Offer, Second, Segment}
 use Rattle.host_requests.specs.declared.under_way.UnderWay.{UnderWay}
 use Rattle.host_node.specs.declared.attempt.Moment.{Moment}
 use Rattle.host_node.specs.declared.attempt.Moment.TheVariants.{BeforeItsTick, BetweenTicks}
 use Rattle.host_node.specs.declared.attempt.Plan.{Plan}
 use Rattle.host_node.specs.declared.attempt.Plan.TheVariants.{Whole, Segments, Sealed}
 use Rattle.host_node.specs.declared.no_more.NoMore.TheVariants.{Unasked}
-use Rattle.host_node.specs.State.{NodeState, has_waiting, is_idle, is_open, is_running, is_up, unknown}
+use Rattle.host_node.specs.State.{NodeState, has_waiting, is_idle, is_open, is_running, is_up}
 use Rattle.host_node.specs.Steps.{after_again, after_again_tick, after_attempt_end, after_hold_tick, after_no_more, after_occasion, after_sign, after_sleep, after_told, as_recorded, asleep, new_series, next_due, series_over, tick_end, tried_again, with_again, with_wait, without_attempt}
 use Rattle.host_node.specs.Events.{NodeEvent, after as after_node}
-use Rattle.host_node.specs.Events.NodeEvent.{Accepts as node_accepts, Blocks, Cancels as node_cancels, Ends_attempt, Ends_no_more, Gives_text as node_gives_text, Holds, Notifies as node_notifies, Puts, Reports, Restarts as node_restarts, Sleeps, Starts as node_starts, Succeeds, Takes_nonce as node_takes_nonce, Ticks as node_ticks}
+use Rattle.host_node.specs.Events.NodeEvent.{Accepts as node_accepts, Ends_attempt, Ends_no_more, Gives_text as node_gives_text, Notifies as node_notifies, Reports, Restarts as node_restarts, Sleeps, Starts as node_starts, Succeeds, Takes_nonce as node_takes_nonce, Ticks as node_ticks}
 use Rattle.host_node.specs.TableState.{node_of as node_among, unknown_from, unknown_nodes}
 use Rattle.host_model.specs.State.{HostState, first_host, first_nodes, node_of}
 use Rattle.host_model.specs.Sessions.{open_command}
@@ -46,17 +45,17 @@ use Rattle.host_model.specs.May.{May}
 use Rattle.host_model.proofs.Submitted.{SleepersAre, SubmittedAre, next_is, no_more_is}
 use Rattle.world_model.specs.Events.{OpensFrom}
 use Rattle.proof_work.specs.Doing.{IsDone, IsTold}
-use Rattle.proof_waking.specs.proof_alone.Steps.{IsAskedBy}
-use Rattle.proof_waking.specs.proof_alone.Phases.{Phase, Resting, Ticking, Behind, Sleeping, Submitting, GoesBy}
+use Rattle.proof_requests.specs.proof_alone.Steps.{IsAskedBy}
+use Rattle.proof_requests.specs.proof_alone.Phases.{Phase, Resting, Ticking, Behind, Sleeping, Submitting, GoesBy}
 use Rattle.proof_requests.proofs.Doing.{asks_of, attempt_asks, end_if_asks, holds_asks}
 use Rattle.proof_requests.proofs.Queued.{served_is_node, wanting_is_node}
 use Rattle.proof_requests.proofs.Queueing.{opened_asks}
-use Rattle.proof_attempts.specs.Carried.{AsksWell, CarriesOthers, CarriesWell, HasOthers, IsOther, TextOther, UnderWayWell, WaitsWell}
+use Rattle.proof_attempts.specs.Carried.{AsksWell, CarriesOthers, HasOthers, IsOther, TextOther, UnderWayWell, WaitsWell}
 use Rattle.proof_attempts.specs.Since.{InTick, IsOfItem, Lasts, TicksAt, TicksLeft}
 use Rattle.proof_attempts.specs.Waking.{KnowsWork}
 use Rattle.proof_attempts.specs.Working.{IsWorked, WorksInOrder}
 use Rattle.proof_attempts.proofs.Counting.{each_starts}
-use Rattle.proof_attempts.proofs.Doings.{Doing, did, does_at, end_does, failing_does, held_does, node_after, one_does, part_does, purpose_does, task_does}
+use Rattle.proof_attempts.proofs.Doings.{Doing, did, does_at, end_does, failing_does, held_does, node_after, part_does, purpose_does, task_does}
 use Rattle.proof_attempts.proofs.Lasting.{by_else, rest_of}
 use Rattle.proof_attempts.proofs.Payloads.{gets_other, open_other, sealed_other, sends_other, starts_other}
 

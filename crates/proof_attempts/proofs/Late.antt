@@ -1,10 +1,8 @@
 -- A request that is under way has not ended before a tick whose number is still to be entered; and the nodes that are to tick are nodes.
-use Rattle.std.proofs.Common.{◌≡◌, ℕ, zero, suc, ◌+◌, ◌-◌, ◌≤◌, ◌<◌, ◌==◌, Bool, true, false, if◌then◌else◌, inl, inr, List, [], ◌∷◌, ◌++◌, map, filter, Option, Some, None, refl, sym, ap, ◌∙◌, subst, append-nil, arith}
+use Rattle.std.proofs.Common.{◌≡◌, ℕ, zero, suc, ◌+◌, ◌-◌, ◌≤◌, Bool, true, false, if◌then◌else◌, inl, inr, List, [], ◌∷◌, ◌++◌, map, filter, Option, Some, None, refl, sym, ap, ◌∙◌, subst, append-nil, arith}
 use Rattle.std.specs.Prelude.{is_none}
 use Rattle.std.specs.List.{AllByRecursion, range_with_len}
 use Rattle.std.proofs.lemmas.Bool.{both_ways}
-use Rattle.chip_functions.specs.Field.{IsNode}
-use Rattle.serial_frame.specs.declared.item.Item.{Item}
 use Rattle.serial_frame.specs.Items.{unit_text}
 use Rattle.serial_frame.specs.declared.unit.Unit.{Unit as LineUnit}
 use Rattle.serial_frame.specs.declared.unit.Unit.TheVariants.{Framed}
@@ -19,21 +17,21 @@ use Rattle.host_node.specs.State.{needs_tick}
 use Rattle.host_model.specs.State.{HostState, node_of}
 use Rattle.host_model.specs.After.{after}
 use Rattle.host_model.specs.Did.{after_all}
-use Rattle.host_model.specs.Events.{HostEvent, Hears, Node_ticks}
+use Rattle.host_model.specs.Events.{HostEvent, Node_ticks}
 use Rattle.host_model.specs.Ticking.{first_ticks, tick_events, ticking_nodes}
-use Rattle.proof_waking.specs.proof_alone.State.{HostMachine, done}
-use Rattle.proof_waking.specs.proof_alone.Steps.{AreFrames, Step, Tells, Comes, Misses, Says, Says_nothing, Asks, Refuses, Shows, Restarts, Begins_tick, Numbers, Judges, Does, entries, happens}
-use Rattle.proof_waking.specs.proof_alone.Phases.{Phase, Resting, Asked, Risen, Ticking, Open, Behind, Sleeping, Submitting, GoesBy, May, Turns}
-use Rattle.proof_waking.specs.proof_alone.Runs.{Knowledge, both_know}
-use Rattle.proof_waking.specs.Judged.{KnowsJudged}
-use Rattle.proof_requests.specs.Asking.{Doing, TieAsked, WasAsked, doing_of}
+use Rattle.proof_requests.specs.proof_alone.State.{HostMachine, done}
+use Rattle.proof_requests.specs.proof_alone.Steps.{AreFrames, Step, Tells, Comes, Misses, Says, Says_nothing, Asks, Refuses, Shows, Restarts, Begins_tick, Numbers, Judges, Does, entries, happens}
+use Rattle.proof_requests.specs.proof_alone.Phases.{Phase, Resting, Asked, Risen, Ticking, Open, Behind, Sleeping, Submitting, GoesBy, May, Turns}
+use Rattle.proof_requests.specs.proof_alone.Runs.{Knowledge, both_know}
+use Rattle.proof_requests.specs.proof_waking.Judged.{KnowsJudged}
+use Rattle.proof_requests.specs.Asking.{Doing, TieAsked, doing_of}
 use Rattle.proof_requests.specs.Walking.{CameAt, Ground as RequestsGround, KnowsAsked}
 use Rattle.proof_requests.proofs.Doing.{beside_same}
 use Rattle.proof_requests.proofs.Ending.{told_of_host}
 use Rattle.proof_requests.proofs.Stepping.{asked_beside}
 use Rattle.proof_attempts.specs.Asleep.{KnowsTicking, KnowsUnended, NodesTick, TicksNode}
 use Rattle.proof_attempts.specs.Since.{WalkBoth}
-use Rattle.proof_attempts.proofs.Requested.{KeepsRequest, event_keeps}
+use Rattle.proof_attempts.proofs.Requested.{event_keeps}
 use Rattle.proof_attempts.proofs.Wrote.{Wrote, writes}
 use Rattle.proof_attempts.proofs.Wrote.Wrote.{Quietly, Again, Anew}
 

@@ -24,5 +24,6 @@ mod Owing
 mod Late
 mod Sleeping
 mod Asleep
+mod AttemptsGo
 pub use Rattle.proof_work.proofs.Times
 pub use Rattle.proof_work.proofs.HostNotes

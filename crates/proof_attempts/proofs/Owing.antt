@@ -1,8 +1,8 @@
 -- What is entered that lets no node fall asleep is allowed where no sleep is owed, and leaves none owed.
-use Rattle.std.proofs.Common.{◌≡◌, ℕ, ◌&&◌, ◌||◌, ◌==◌, not, Bool, true, false, List, [], ◌∷◌, ◌++◌, refl, sym, ap, ◌∙◌, subst, append-nil, append_assoc}
+use Rattle.std.proofs.Common.{◌≡◌, ℕ, ◌&&◌, ◌||◌, not, Bool, true, false, List, [], ◌∷◌, ◌++◌, refl, sym, ap, ◌∙◌, subst, append-nil, append_assoc}
 use Rattle.std.specs.List.{AllByRecursion, flat_map, list_any}
 use Rattle.std.proofs.lemmas.Bool.{and_from, and_left, both_ways, or_right}
-use Rattle.zw_base.proofs.Each.{all-append, all-weaker}
+use Rattle.zw_base.proofs.Each.{all-weaker}
 use Rattle.zw_words.specs.declared.side.Side.TheVariants.{Host}
 use Rattle.zw_text.specs.declared.entry.Ended.TheVariants as ended
 use Rattle.zw_text.specs.declared.entry.Entry.{Entry}
@@ -11,11 +11,11 @@ use Rattle.zw_text.specs.Transcript.{shown}
 use Rattle.law_transcript.specs.Lists.{EachAfter}
 use Rattle.law_transcript.specs.Stores.{node_at}
 use Rattle.law_time.specs.Ends.{is_ended_by_frame}
-use Rattle.law_time.specs.Judged.{directly_step, is_data, is_directly_after, is_mark, last_of}
+use Rattle.law_time.specs.Judged.{directly_step, is_data, is_directly_after, is_mark}
 use Rattle.law_time.specs.Moments.{Allows, now_at}
 use Rattle.law_time.specs.Requests.{asked, is_copy}
 use Rattle.law_time.specs.Waking.{given_up_at, is_awake_sleeper, is_given_up_on, is_still_awake, may_sleep, moves_on, nodes_told, owes_no_sleep, owes_sleep, owes_sleep_to_given_up, owes_sleep_to_told}
-use Rattle.proof_waking.specs.proof_alone.Steps.{IsOfUnit}
+use Rattle.proof_requests.specs.proof_alone.Steps.{IsOfUnit}
 use Rattle.proof_requests.proofs.Untold.{directly_one}
 use Rattle.proof_attempts.specs.Asleep.{OwesNone}
 use Rattle.proof_attempts.proofs.Opening.{last_is}

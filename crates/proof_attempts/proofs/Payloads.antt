@@ -1,5 +1,5 @@
 -- No message of a session or of a line, no segment and no sealed text is a No More Information.
-use Rattle.std.proofs.Common.{◌≡◌, ℕ, ◌==◌, ◌*◌, ◌/◌, ◌%◌, nat_lt, Bool, true, false, if◌then◌else◌, List, [], ◌∷◌, Option, Some, None, length, refl, sym, subst}
+use Rattle.std.proofs.Common.{◌≡◌, ℕ, ◌==◌, ◌*◌, ◌%◌, nat_lt, Bool, true, false, if◌then◌else◌, List, ◌∷◌, Option, Some, None, length, refl, sym, subst}
 use Rattle.zw_base.specs.declared.order.Order.{Order}
 use Rattle.zw_base.specs.declared.order.Word.{Word}
 use Rattle.s0_crypto.specs.declared.key_pair.Keys.{Keys}
@@ -24,7 +24,7 @@ use Rattle.host_node.specs.State.{NodeState, SealsText}
 use Rattle.supervision.specs.Host.{command_at as command_of_session}
 use Rattle.host_model.specs.State.{Command, HostState}
 use Rattle.host_model.specs.Sessions.{command_if, message_for, open_segment, segment_at, segment_by, segment_count, segment_of, start_by, start_of}
-use Rattle.proof_attempts.specs.Carried.{IsOther, TextOther}
+use Rattle.proof_attempts.specs.Carried.{IsOther}
 
 -- ---- in their wraps
 

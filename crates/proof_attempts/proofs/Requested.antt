@@ -1,5 +1,5 @@
 -- What an event of a host makes of the request under way where none is submitted: it stays what it is for until it ends; and a No More Information that ends lets its node sleep.
-use Rattle.std.proofs.Common.{◌≡◌, ◌⊎◌, ℕ, ◌<◌, ◌==◌, ◌||◌, Bool, true, false, if◌then◌else◌, inl, inr, List, [], ◌∷◌, length, Option, Some, None, refl, sym, ap, ◌∙◌, subst}
+use Rattle.std.proofs.Common.{◌≡◌, ◌⊎◌, ℕ, ◌<◌, Bool, true, false, if◌then◌else◌, inl, inr, length, Option, Some, None, refl, sym, ap, ◌∙◌, subst}
 use Rattle.std.proofs.lemmas.Bool.{eq-eqb}
 use Rattle.serial_link.specs.State.{Side, tick_side}
 use Rattle.chip_functions.specs.declared.notice.Update.{Update}
@@ -9,7 +9,6 @@ use Rattle.host_requests.specs.Events.RequestsEvent.{Pushes, PushesInterview, Pu
 use Rattle.host_requests.specs.Next.{at_callback, at_response, at_sent, at_tick, at_update, end_from, end_of, next_from, purpose_ends_at_update, went_on}
 use Rattle.host_requests.specs.State.{RequestsState}
 use Rattle.host_requests.specs.declared.end.End.{End}
-use Rattle.host_requests.specs.declared.end.How.{How}
 use Rattle.host_requests.specs.declared.end.How.TheVariants.{AtUpdate, LinkFailed}
 use Rattle.host_requests.specs.declared.next.Next.{Next}
 use Rattle.host_requests.specs.declared.next.Next.TheVariants.{Ends, GoesOn}
@@ -27,8 +26,8 @@ use Rattle.host_model.specs.After.{after, failing_if, gives_up, line_ticked, req
 use Rattle.host_model.specs.Events.{HostEvent, Queues, Hears, Requests_do, Interviews, Interview_unkept, Line_ticks, Submits_abort, Submits_front, Starts, Gives_text, Gives_segment}
 use Rattle.proof_work.specs.Doing.{IsTold}
 use Rattle.proof_requests.specs.Asking.{Doing as DoingOfHost, doing_of}
-use Rattle.proof_requests.proofs.Doing.{asks_of, beside_same, end_if_asks}
-use Rattle.proof_attempts.proofs.Doings.{Doing, did, does_at, end_does, failing_does, node_after, purpose_does}
+use Rattle.proof_requests.proofs.Doing.{beside_same, end_if_asks}
+use Rattle.proof_attempts.proofs.Doings.{did, does_at, end_does, failing_does, node_after, purpose_does}
 
 -- none is submitted, and the requests hear of no more than the line, the chip and the clock tell them
 abbrev pub Unsubmitted : HostEvent → Type 0

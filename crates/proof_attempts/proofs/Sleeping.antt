@@ -1,5 +1,5 @@
 -- Where a third attempt or a No More Information ends its node falls asleep, if it counts as awake and does not listen; and it stands where the transcript has that end.
-use Rattle.std.proofs.Common.{◌≡◌, ◌⊎◌, ℕ, ◌+◌, ◌≤◌, ◌==◌, ◌&&◌, ◌||◌, not, nat_lt, Bool, true, false, if◌then◌else◌, inl, inr, All, List, [], ◌∷◌, ◌++◌, Option, Some, None, refl, sym, ap, ap₂, ◌∙◌, subst, append_assoc}
+use Rattle.std.proofs.Common.{◌≡◌, ◌⊎◌, ℕ, ◌+◌, ◌≤◌, ◌==◌, ◌&&◌, ◌||◌, not, nat_lt, Bool, true, false, if◌then◌else◌, inl, inr, All, List, [], ◌∷◌, ◌++◌, Option, None, refl, sym, ap, ap₂, ◌∙◌, subst, append_assoc}
 use Rattle.std.specs.Prelude.{IsSome}
 use Rattle.std.specs.List.{AllByRecursion, flat_map, list_any}
 use Rattle.std.proofs.lemmas.Bool.{and_from, and_left, and_right, cases_eq, eq-eqb, or_left, or_right}
@@ -20,32 +20,30 @@ use Rattle.supervision.specs.Host.{open_session}
 use Rattle.zw_text.specs.declared.entry.Ended.TheVariants as ended
 use Rattle.zw_text.specs.declared.entry.Entry.{Entry}
 use Rattle.zw_text.specs.declared.entry.Entry.TheVariants as entry
-use Rattle.zw_text.specs.Transcript.{sessions, shown, wakings}
-use Rattle.law_transcript.specs.Lists.{last_or}
+use Rattle.zw_text.specs.Transcript.{sessions, shown}
 use Rattle.law_transcript.specs.Restarts.{since_restart}
 use Rattle.law_transcript.specs.Stores.{node_at}
 use Rattle.law_time.specs.Ends.{calls_back, is_called_back, is_called_back_badly, is_ended_by_frame, is_ended_here, is_ending_here, is_given_up, is_refused_here, is_silent}
 use Rattle.law_time.specs.Interviews.{listens}
 use Rattle.law_time.specs.Judged.{is_directly_after, last_of, notices_here}
 use Rattle.law_time.specs.Requests.{asked, request_last}
-use Rattle.law_time.specs.Waking.{counts_awake, ends_telling, given_up_at, is_awake_sleeper, is_given_up_on, is_told, nodes_told, owes_sleep, owes_sleep_to_given_up, owes_sleep_to_told}
+use Rattle.law_time.specs.Waking.{counts_awake, ends_telling, given_up_at, is_awake_sleeper, is_given_up_on, is_told, nodes_told, owes_sleep, owes_sleep_to_given_up}
 use Rattle.host_requests.specs.declared.end.How.{How}
 use Rattle.host_requests.specs.declared.end.How.TheVariants.{AtCallback, AtResponse, AtUpdate, Refused, Silent, LinkFailed, AbortSent}
 use Rattle.host_requests.specs.declared.task.Purpose.{Purpose}
 use Rattle.host_requests.specs.declared.task.Purpose.TheVariants.{Housekeeping, Attempt, Abort}
-use Rattle.host_requests.specs.declared.task.Task.{Task}
 use Rattle.host_requests.specs.declared.task.Task.TheVariants.{NoMore, Plain, Second, Neighbours, IsFailed}
 use Rattle.host_requests.specs.Frames.{no_more_information, request_of}
 use Rattle.host_node.specs.declared.attempt.AttemptEnd.{AttemptEnd}
 use Rattle.host_node.specs.declared.attempt.AttemptEnd.TheVariants.{NoneRan, Again, Unanswered}
 use Rattle.host_node.specs.Facts.{NodeFacts}
-use Rattle.host_node.specs.State.{NodeState, is_false, is_running}
+use Rattle.host_node.specs.State.{NodeState, is_running}
 use Rattle.host_node.specs.Steps.{after_again_tick, after_hold_tick, attempt_end, falls_asleep, tick_end}
 use Rattle.host_model.specs.State.{HostState, node_of}
 use Rattle.host_model.specs.Sessions.{open_command}
 use Rattle.host_model.specs.Facts.{IsCommandOf}
-use Rattle.host_model.specs.Ends.{PartEnd, Good, Passed_over, Bad, asleep_entry, attempt_entries, end_entries, failed_entry, neighbours_entry, out_entry, part_end, part_entries, task_entries}
-use Rattle.proof_waking.proofs.Apart.{wordless_more}
+use Rattle.host_model.specs.Ends.{PartEnd, Good, Passed_over, Bad, asleep_entry, attempt_entries, end_entries, failed_entry, neighbours_entry, out_entry, part_end, part_entries}
+use Rattle.proof_requests.proofs.proof_waking_Apart.{wordless_more}
 use Rattle.proof_requests.specs.Ends.{EndsHere}
 use Rattle.proof_requests.proofs.Untold.{directly_one}
 use Rattle.proof_attempts.specs.Asleep.{OwesNone}

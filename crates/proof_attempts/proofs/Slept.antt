@@ -1,5 +1,5 @@
 -- A node that was told that there is no more for it has slept since, by the transcript, once the request that tells it is over; and not before.
-use Rattle.std.proofs.Common.{◌≡◌, ◌⊎◌, ℕ, zero, suc, ◌+◌, ◌≤◌, ◌==◌, ◌||◌, not, Bool, true, false, if◌then◌else◌, inl, inr, List, [], ◌∷◌, ◌++◌, length, Option, Some, None, refl, sym, ap, ◌∙◌, ap₂, subst, append_assoc, append-nil, arith}
+use Rattle.std.proofs.Common.{◌≡◌, ◌⊎◌, ℕ, ◌≤◌, ◌==◌, ◌||◌, not, Bool, true, false, if◌then◌else◌, inl, inr, List, [], ◌∷◌, ◌++◌, length, Option, Some, None, refl, sym, ap, ◌∙◌, ap₂, subst, append_assoc, append-nil, arith}
 use Rattle.std.specs.Prelude.{IsSome}
 use Rattle.std.specs.List.{AllByRecursion, flat_map, list_any}
 use Rattle.std.proofs.lemmas.Bool.{both_ways, eq-eqb, eqb-true, or_left, or_right}
@@ -17,20 +17,18 @@ use Rattle.chip_functions.specs.declared.notice.Update.TheVariants.{Received, Re
 use Rattle.chip_functions.specs.Field.{IsNode}
 use Rattle.chip_functions.specs.declared.request.Request.{Request}
 use Rattle.zw_words.specs.declared.side.Side.TheVariants.{Host}
-use Rattle.zw_text.specs.declared.entry.Refusal.{Refusal}
 use Rattle.zw_text.specs.declared.entry.Entry.{Entry}
 use Rattle.zw_text.specs.declared.entry.Entry.TheVariants as entry
 use Rattle.zw_text.specs.Transcript.{line_of, waking_at, wakings}
 use Rattle.zw_text.proofs.Views.{shown-append}
 use Rattle.law_transcript.specs.Lists.{last_or}
-use Rattle.law_transcript.specs.Payloads.{no_more_information}
 use Rattle.law_transcript.specs.Restarts.{begins_refused, is_restart}
 use Rattle.law_transcript.specs.Units.{request_in, sending_of}
 use Rattle.law_time.specs.Interviews.{listening_at, listens}
 use Rattle.law_time.specs.Judged.{acknowledged, is_data}
 use Rattle.law_time.specs.Requests.{Asked as TheAsked, asked, is_new, request_last}
-use Rattle.law_time.specs.Waking.{counts_awake, has_slept, is_told, node_told, nodes_told}
-use Rattle.host_requests.specs.Events.{interviewed_by, interviewed_from}
+use Rattle.law_time.specs.Waking.{has_slept, is_told, node_told, nodes_told}
+use Rattle.host_requests.specs.Events.{interviewed_from}
 use Rattle.host_requests.specs.Frames.{request_of}
 use Rattle.host_requests.specs.State.{RequestsState}
 use Rattle.host_requests.specs.declared.task.Purpose.{Purpose}
@@ -45,17 +43,15 @@ use Rattle.host_model.specs.May.{May as may_event}
 use Rattle.host_model.specs.Outs.{answer_to, answers, outs}
 use Rattle.host_model.specs.declared.out.HostOut.TheVariants.{Write}
 use Rattle.world_model.specs.Events.{OpensFrom}
-use Rattle.host_model.specs.Events.{HostEvent, Accepts, Cancels, Hears, Interviews, Notifies, Requests_do}
-use Rattle.host_model.proofs.Submitted.{SleepersAre, SubmittedAre, next_is, no_more_is}
+use Rattle.host_model.specs.Events.{HostEvent, Accepts, Cancels, Hears, Interviews, Notifies}
 use Rattle.s0_crypto.specs.declared.key_pair.Keys.{Keys}
-use Rattle.proof_work.specs.Doing.{IsDone}
 use Rattle.proof_work.specs.Work.{HostWork, MayBeTold, times_told, told_at, told_for}
 use Rattle.proof_work.proofs.HostOuts.{SharedAre, outs_are}
-use Rattle.proof_waking.specs.proof_alone.State.{HostMachine, done}
-use Rattle.proof_waking.specs.proof_alone.Steps.{AreTold, Does, IsOfUnit}
-use Rattle.proof_waking.specs.proof_alone.Phases.{Phase, Resting, Asked, Ticking, Behind, Sleeping, Submitting, GoesBy, IsJudgedNow, May}
-use Rattle.proof_waking.proofs.Apart.{IsWordless}
-use Rattle.proof_waking.proofs.proof_alone_Apart.{AreOfLine}
+use Rattle.proof_requests.specs.proof_alone.State.{HostMachine, done}
+use Rattle.proof_requests.specs.proof_alone.Steps.{AreTold, Does, IsOfUnit}
+use Rattle.proof_requests.specs.proof_alone.Phases.{Phase, Resting, Submitting, GoesBy, May}
+use Rattle.proof_requests.proofs.proof_waking_Apart.{IsWordless}
+use Rattle.proof_requests.proofs.proof_alone_Apart.{AreOfLine}
 use Rattle.proof_requests.specs.Asking.{Doing, TieAsked, TieUnderWay, doing_of}
 use Rattle.proof_requests.specs.Standing.{GoesOn, standing_of, with_entries}
 use Rattle.proof_requests.specs.Walking.{KnowsAsked}
@@ -70,7 +66,7 @@ use Rattle.proof_attempts.specs.Slept.{KnowsTelling, SleepsIfTold, SleptSo, TieS
 use Rattle.proof_attempts.specs.Since.{IsElse, IsLoose, Lasts}
 use Rattle.proof_attempts.proofs.Counting.{answers_wordless, event_awake, loose_wordless, told_wordless}
 use Rattle.proof_attempts.proofs.Lasting.{by_else, rest_of}
-use Rattle.proof_attempts.proofs.Requested.{KeepsRequest, Unsubmitted, event_keeps, told_sleeps}
+use Rattle.proof_attempts.proofs.Requested.{Unsubmitted, event_keeps, told_sleeps}
 use Rattle.proof_attempts.proofs.Telling.{same_listens_by, told_so}
 use Rattle.proof_attempts.proofs.Working.{in_order}
 use Rattle.proof_attempts.proofs.Wrote.{Wrote, writes}

@@ -1,10 +1,10 @@
 -- What a host alone enters at an event goes on with its last request, with another copy of it or without, or begins with the frame of a new one.
-use Rattle.std.proofs.Common.{◌≡◌, ◌⊎◌, ℕ, ◌+◌, ◌==◌, Bool, true, false, if◌then◌else◌, inl, inr, List, [], ◌∷◌, ◌++◌, Option, Some, None, refl, sym, ap, ◌∙◌, subst, append-nil}
+use Rattle.std.proofs.Common.{◌≡◌, ℕ, ◌+◌, ◌==◌, Bool, true, false, inl, inr, List, [], ◌∷◌, ◌++◌, Some, refl, sym, ap, ◌∙◌, subst, append-nil}
 use Rattle.std.specs.List.{AllByRecursion}
 use Rattle.serial_frame.specs.Frame.{FrameParts}
 use Rattle.serial_frame.specs.Items.{unit_text}
 use Rattle.serial_frame.specs.declared.unit.Unit.TheVariants.{Framed}
-use Rattle.serial_link.specs.State.{pause_after, tick_side}
+use Rattle.serial_link.specs.State.{pause_after}
 use Rattle.serial_link.specs.declared.turn.Turn.{Turn}
 use Rattle.serial_link.specs.declared.turn.Turn.TheVariants.{Idle, Copied, Paused}
 use Rattle.zw_words.specs.declared.side.Side.TheVariants.{Host}
@@ -18,10 +18,9 @@ use Rattle.host_requests.specs.Frames.{frame_of}
 use Rattle.host_requests.specs.Events.{task_begun}
 use Rattle.host_requests.specs.State.{next_id}
 use Rattle.host_requests.specs.declared.task.Purpose.{Purpose}
-use Rattle.host_requests.specs.declared.task.Purpose.TheVariants.{Housekeeping, Attempt, Abort}
+use Rattle.host_requests.specs.declared.task.Purpose.TheVariants.{Attempt, Abort}
 use Rattle.host_requests.specs.declared.task.Task.{Task}
 use Rattle.host_requests.specs.declared.under_way.Progress.TheVariants.{Submitted}
-use Rattle.host_requests.specs.declared.under_way.UnderWay.{UnderWay}
 use Rattle.host_node.specs.declared.attempt.Moment.TheVariants.{BeforeItsTick}
 use Rattle.host_model.specs.State.{HostState}
 use Rattle.host_model.specs.After.{after, is_full, task_purpose}
@@ -33,13 +32,13 @@ use Rattle.host_model.specs.Pumping.{IsNext, no_more_event}
 use Rattle.host_model.specs.declared.out.HostOut.TheVariants.{Write}
 use Rattle.host_model.proofs.Submitted.{SleepersAre, next_is, no_more_is}
 use Rattle.proof_work.proofs.HostNotes.{NoteOuts}
-use Rattle.proof_waking.specs.proof_alone.State.{HostMachine}
-use Rattle.proof_waking.specs.proof_alone.Steps.{AreFrames, AreTold, Does, IsOfUnit}
-use Rattle.proof_waking.specs.proof_alone.Phases.{Phase, Ticking, Behind, Sleeping, Submitting, May}
-use Rattle.proof_waking.specs.Judged.{IsOfRequest, KnowsJudged}
-use Rattle.proof_waking.proofs.Followed.{MayFollow, frame_all}
-use Rattle.proof_waking.proofs.Parts.{IsNote}
-use Rattle.proof_requests.specs.Asking.{IsPaused, TieAsked, TieLine, WasAsked, doing_of}
+use Rattle.proof_requests.specs.proof_alone.State.{HostMachine}
+use Rattle.proof_requests.specs.proof_alone.Steps.{AreFrames, AreTold, Does, IsOfUnit}
+use Rattle.proof_requests.specs.proof_alone.Phases.{Phase, Ticking, Behind, Sleeping, Submitting, May}
+use Rattle.proof_requests.specs.proof_waking.Judged.{IsOfRequest, KnowsJudged}
+use Rattle.proof_requests.proofs.proof_waking_Followed.{MayFollow, frame_all}
+use Rattle.proof_requests.proofs.proof_waking_Parts.{IsNote}
+use Rattle.proof_requests.specs.Asking.{TieAsked, TieLine, doing_of}
 use Rattle.proof_requests.specs.Standing.{standing_of}
 use Rattle.proof_work.specs.Doing.{IsTold}
 use Rattle.proof_requests.specs.Walking.{AddsWell, Ground as RequestsGround, IsNodeTick, IsOfChip, IsTied, KnowsAsked, KnowsTick}
@@ -47,7 +46,7 @@ use Rattle.proof_requests.proofs.Stepping.{IsSubmission, behind_notes, node_note
 use Rattle.proof_requests.proofs.Telling.{IsQuiet}
 use Rattle.zw_base.proofs.Each.{all-right}
 use Rattle.proof_attempts.proofs.Requested.{Unsubmitted}
-use Rattle.proof_requests.proofs.Walking.{copy_line, event_hosts, event_quiet, is_fresh, is_old, line_outs, noted_notes, quiet_line, written_told}
+use Rattle.proof_requests.proofs.Walking.{copy_line, event_hosts, event_quiet, is_fresh, is_old, line_outs, noted_notes, quiet_line}
 
 -- Where none is submitted: entries at which no request begins, or another copy of the last one, and such entries. In a pump: the frame of a new one, which is under way then, with what
 -- became of it.

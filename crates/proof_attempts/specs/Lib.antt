@@ -7,4 +7,5 @@ pub mod Waiting
 pub mod Carried
 pub mod Slept
 pub mod Asleep
+pub mod Attempts
 pub use Rattle.proof_work.specs.proof_walk as proof_walk

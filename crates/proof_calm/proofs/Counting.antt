@@ -182,7 +182,7 @@ gives_more o devices (Info node ∷ due) route =
 -- ---- what is told of the air
 
 -- no payload comes to the chip
-abbrev IsAside : AirEvent → Type 0
+abbrev pub IsAside : AirEvent → Type 0
 IsAside (air_event.ToChip frame from payload) = ⊥
 IsAside event = Unit {0}
 
@@ -200,7 +200,7 @@ all_no_more devices o [] aside = no_more_same o
 all_no_more devices o (event ∷ events) aside =
     no_more_both o (deals devices o event).outer (each (deals devices) (deals devices o event).outer events).outer (deals_no_more devices o event aside.0) (all_no_more devices (deals devices o event).outer events aside.1)
 
-done_aside : (heading : Heading) (number status : ℕ) (dead : Option (ℕ × ℕ)) → AllByRecursion IsAside (done_of heading number status dead)
+pub done_aside : (heading : Heading) (number status : ℕ) (dead : Option (ℕ × ℕ)) → AllByRecursion IsAside (done_of heading number status dead)
 done_aside Outward number status dead = (tt, tt)
 done_aside Homeward number status dead = tt
 
@@ -216,7 +216,7 @@ answers_if_aside : (b : Bool) (air : AirState) (node : ℕ) (way : Option Route)
 answers_if_aside true air node way replies = answers_aside air node way replies
 answers_if_aside false air node way replies = tt
 
-outs_aside : (at : Mesh) (device : Option State) (number node : ℕ) (route : Option Route) (event : DeviceEvent) → AllByRecursion IsAside (outs_at at device number node route event)
+pub outs_aside : (at : Mesh) (device : Option State) (number node : ℕ) (route : Option Route) (event : DeviceEvent) → AllByRecursion IsAside (outs_at at device number node route event)
 outs_aside at None number node route event = tt
 outs_aside at (Some device) number node route event = (tt, all-append IsAside (changed node _ _) (answers_if (is_joined at.air node) at.air node _ _) (changed_aside node _ _) (answers_if_aside (is_joined at.air node) at.air node _ _))
 

@@ -1,5 +1,5 @@
 -- What items of the chip do to the request under way.
-use Rattle.std.proofs.Common.{◌≡◌, ℕ, ◌==◌, ◌&&◌, ◌||◌, not, Bool, true, false, if◌then◌else◌, List, [], refl, sym, ap, ◌∙◌, subst, append-nil, arith}
+use Rattle.std.proofs.Common.{◌≡◌, ℕ, ◌==◌, ◌&&◌, ◌||◌, not, Bool, true, false, if◌then◌else◌, List, [], refl, sym, ap, ◌∙◌, subst, append-nil, arith, ◌≤◌, length}
 use Rattle.std.proofs.lemmas.Bool.{eq-eqb}
 use Rattle.std.specs.Prelude.{Option, Some, None, Result, Ok, Err}
 use Rattle.std.specs.List.{AllByRecursion}
@@ -9,7 +9,7 @@ use Rattle.serial_link.specs.State.{Side}
 use Rattle.serial_link.specs.declared.turn.Turn.{Turn}
 use Rattle.chip_functions.specs.Notice.{notice_of, notice_at, notice_function, notice_body, handler, handler_at, update as update_text, update_at}
 use Rattle.chip_functions.specs.Place.{Reading, ◌>>=◌, start_of}
-use Rattle.chip_functions.specs.Field.{read_as}
+use Rattle.chip_functions.specs.Field.{IsNode, read_as}
 use Rattle.chip_functions.specs.Response.{response_function, response_body}
 use Rattle.chip_functions.specs.declared.fault.BodyFault.{BodyFault}
 use Rattle.chip_functions.specs.declared.function.TheConstants.{SEND_DATA, SEND_DATA_ABORT, REQUEST_NODE_INFO, APPLICATION_COMMAND_HANDLER}
@@ -44,7 +44,7 @@ use Rattle.host_model.specs.State.{HostState}
 use Rattle.host_model.specs.Events.{HostEvent}
 use Rattle.host_model.specs.After.{requests_do, is_busy}
 use Rattle.host_model.specs.Did.{after_all}
-use Rattle.host_model.specs.Taking.{NoticeEvents, InterviewEvents, ResponseEvents, IsFollowed, told_if, told_requests}
+use Rattle.host_model.specs.Taking.{NoticeEvents, PayloadEvents, InterviewEvents, ResponseEvents, IsFollowed, told_if, told_requests}
 use Rattle.proof_waking.proofs.Followed.{FollowersAre, payload_all}
 use Rattle.proof_calm.specs.Calls.{answer_taken, FrameFollows, IsSending, GoesOn}
 use Rattle.proof_calm.specs.Tied.{IsFresh}
@@ -132,7 +132,7 @@ answers_on u sends = by (is_answered u.progress) refl (function_of u.purpose) se
     by true answered function is = (u.progress, refl, λ fresh. fresh, answered)
     by false answered function is = (Answered (is_sent u.progress) notice_ticks, ap (λ (f : ℕ). if not (SEND_DATA == f) then next.GoesOn u.progress else judged (SendDataAnswer 1) u) is, λ fresh. refl, refl)
 
-answers_are : (h : HostState) (events : List HostEvent) → FrameFollows h answer_taken events → events ≡ told_requests (Responds (SendDataAnswer 1))
+pub answers_are : (h : HostState) (events : List HostEvent) → FrameFollows h answer_taken events → events ≡ told_requests (Responds (SendDataAnswer 1))
 answers_are h events is =
     subst (λ (r : Result Response BodyFault). ResponseEvents r events)
     (response_only (response_function (SendDataAnswer 1)) (response_body (SendDataAnswer 1)) (SendDataAnswer 1) (record { row = tt; function = refl; tail = []; text = sym (append-nil (response_body (SendDataAnswer 1))) })) is
@@ -151,7 +151,7 @@ answer_none h events none is = told_none h (Responds (SendDataAnswer 1)) events 
 
 -- ---- the call of its callback id
 
-calls_are : (h : HostState) (id : ℕ) (status : TransmitStatus) (events : List HostEvent) → FrameFollows h (notice_frame (SendData id status)) events → events ≡ told_requests (CallsBack id status)
+pub calls_are : (h : HostState) (id : ℕ) (status : TransmitStatus) (events : List HostEvent) → FrameFollows h (notice_frame (SendData id status)) events → events ≡ told_requests (CallsBack id status)
 calls_are h id status events is =
     subst (λ (r : Result Notice BodyFault). NoticeEvents h r events)
     (notice_only (notice_function (SendData id status)) (notice_body (SendData id status)) (SendData id status) (record { row = tt; function = refl; tail = []; text = sym (append-nil (notice_body (SendData id status))) })) is
@@ -274,3 +274,36 @@ read_kept h events none (Err fault) is = ap (λ (l : List HostEvent). kept (afte
 pub update_none : (h : HostState) (told : Update) (events : List HostEvent) → h.requests.under_way ≡ None → FrameFollows h (notice_frame (ApplicationUpdate told)) events → kept (after_all h events) ≡ kept h
 unfolding notice_of notice_at update_at
 update_none h told events none is = read_kept h events none (update_text.read (start_of (notice_body (ApplicationUpdate told)))) is
+
+-- ---- which events they are
+
+-- what a payload of a node makes the host do
+pub handler_payload : (h : HostState) (n : ℕ) (payload : List ℕ) (events : List HostEvent) → IsNode n → 1 ≤ length payload → FrameFollows h (notice_frame (ApplicationCommandHandler 0 n payload)) events
+    → PayloadEvents h n payload (heard_at payload) events
+handler_payload h n payload events node some is =
+    let notice : Notice = ApplicationCommandHandler 0 n payload in
+    subst (λ (r : Result Notice BodyFault). NoticeEvents h r events)
+    (notice_only (notice_function notice) (notice_body notice) notice (record { row = (node, some); function = refl; tail = []; text = sym (append-nil (notice_body notice)) })) is
+
+-- no interview ends while no request or a SendData is under way
+abbrev pub EndsNoInterview : HostState → Type 0
+EndsNoInterview h = (update : Update) → interviewed_by h.requests update ≡ None
+
+pub none_under_way : (h : HostState) → h.requests.under_way ≡ None → EndsNoInterview h
+none_under_way h none update = ap (λ (o : Option UnderWay). interviewed_from h.requests.first update o) none ∙ none_interviewed update h.requests.first
+
+pub send_under_way : (h : HostState) (u : UnderWay) → IsSending u h → EndsNoInterview h
+send_under_way h u sending update = ap (λ (o : Option UnderWay). interviewed_from h.requests.first update o) sending.under_way ∙ none_ends update h.requests.first u (stays update u.purpose sending.sends)
+
+-- the requests are told of something, or of nothing
+pub data IsToldOf (events : List HostEvent) : Type 0 where
+  Nothing : events ≡ [] → IsToldOf events
+  Something : (update : Update) → events ≡ told_requests (Updates update) → IsToldOf events
+
+read_told : (h : HostState) (events : List HostEvent) → EndsNoInterview h → (r : Reading Update) → NoticeEvents h (read_as (λ x. ApplicationUpdate x) r >>= λ x. Ok x.0) events → IsToldOf events
+read_told h events none (Ok x) is = Something x.0 (told_of_none x.0 events (subst (λ (o : Option ℕ). InterviewEvents x.0 o events) (none x.0) is))
+read_told h events none (Err fault) is = Nothing is
+
+pub update_told : (h : HostState) (told : Update) (events : List HostEvent) → EndsNoInterview h → FrameFollows h (notice_frame (ApplicationUpdate told)) events → IsToldOf events
+unfolding notice_of notice_at update_at
+update_told h told events none is = read_told h events none (update_text.read (start_of (notice_body (ApplicationUpdate told)))) is

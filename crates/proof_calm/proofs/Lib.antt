@@ -26,4 +26,11 @@ pub mod Judging
 pub mod Pending
 pub mod Requested
 pub mod Begun
+pub mod Written
+pub mod Rested
+pub mod Knowing
+pub mod Homing
+pub mod Serving
+pub mod Peopled
+pub mod First
 pub mod Tying

@@ -23,12 +23,19 @@ use Rattle.mesh_sim.specs.Steps.{AirStep, mesh_after, mesh_outs}
 use Rattle.mesh_sim.specs.declared.event.AirEvent.{AirEvent}
 use Rattle.mesh_sim.specs.declared.event.AirEvent.TheVariants as air_event
 use Rattle.outside_model.specs.declared.waits.Due.{Due}
-use Rattle.outside_model.specs.State.{OuterState, Outside, Outcome, each}
-use Rattle.outside_model.specs.Air.{deals}
+use Rattle.outside_model.specs.State.{OuterState, Outside, Outcome, silent, each}
+use Rattle.outside_model.specs.Air.{deals, to_chip}
 use Rattle.outside_model.specs.Events.{mesh_of, steps}
-use Rattle.outside_model.specs.Results.{gives}
-use Rattle.proof_device.proofs.Results.{IsGiven, Gives as ResultsGo, ends_go, gives_go, to_chip_goes}
+use Rattle.outside_model.specs.Results.{frame_ends, gives}
+use Rattle.proof_device.proofs.Results.{Calls, IsResult, due_goes, end_goes}
+use Rattle.std.specs.List.{AllByRecursion}
+use Rattle.std.specs.Prelude.{◌&&◌, nat_le}
+use Rattle.outside_model.specs.Chip.{chip_does}
+use Rattle.proof_serial.proofs.ChipWays.{short_payload}
 use Rattle.proof_work.proofs.Times.{does_chip}
+use Rattle.proof_calm.specs.Known.{IsMember}
+use Rattle.proof_calm.specs.Networks.{Members}
+use Rattle.proof_calm.proofs.Links.{deals_members}
 use Rattle.proof_calm.specs.Resting.{HasFor, Nothing, First}
 use Rattle.proof_calm.specs.Tied.{HasAnswer, on_line, unheard, unheard_by, LeavesIt, Brings, Informs, Ends, Tied, Nowhere, On_way, At_chip, Called}
 use Rattle.proof_calm.proofs.Ending.{OfHost}
@@ -117,13 +124,13 @@ pub has_last : (pending : List FrameParts) → HasAnswer (pending ++ answer_take
 has_last [] = inl refl
 has_last (frame ∷ pending) = inr (has_last pending)
 
-pub tied_more : (counted : Bool) (e : Ends) (pending asking : List FrameParts) (frame : FrameParts) → LeavesIt frame → Tied counted e pending asking → Tied counted e (pending ++ frame ∷ []) asking
+pub tied_more : (counted : Bool) (e : Ends) (pending asking : List FrameParts) (frame : FrameParts) → LeavesIt e.joined frame → Tied counted e pending asking → Tied counted e (pending ++ frame ∷ []) asking
 tied_more counted e pending asking frame leaves (Nowhere is) =
-    Nowhere (record { none = is.none; idle = is.idle; leave = all-append LeavesIt pending (frame ∷ []) is.leave (leaves, tt); nothing = is.nothing })
+    Nowhere (record { none = is.none; idle = is.idle; leave = all-append (LeavesIt e.joined) pending (frame ∷ []) is.leave (leaves, tt); nothing = is.nothing })
 tied_more counted e pending asking frame leaves (On_way u of fresh is) =
-    On_way u of fresh (record { idle = is.idle; leave = all-append LeavesIt pending (frame ∷ []) is.leave (leaves, tt); asked = is.asked; asks = is.asks; from = is.from; to = is.to })
+    On_way u of fresh (record { idle = is.idle; leave = all-append (LeavesIt e.joined) pending (frame ∷ []) is.leave (leaves, tt); asked = is.asked; asks = is.asks; from = is.from; to = is.to })
 tied_more counted e pending asking frame leaves (At_chip u of fresh is) =
-    At_chip u of fresh (record { node = is.node; is_sending = is.is_sending; answered = answers is.answered; leave = all-append LeavesIt pending (frame ∷ []) is.leave (leaves, tt); nothing = is.nothing })
+    At_chip u of fresh (record { node = is.node; is_sending = is.is_sending; answered = answers is.answered; leave = all-append (LeavesIt e.joined) pending (frame ∷ []) is.leave (leaves, tt); nothing = is.nothing })
   where
     answers : (is_answered u.progress ≡ true) ⊎ HasAnswer pending → (is_answered u.progress ≡ true) ⊎ HasAnswer (pending ++ frame ∷ [])
     answers (inl answered) = inl answered
@@ -136,9 +143,19 @@ tied_more counted e pending asking frame leaves (Called u of fresh is) =
       behind = is.behind ++ frame ∷ [];
       are = ap (λ (fs : List FrameParts). fs ++ frame ∷ []) is.are ∙ append_assoc is.before (notice_frame (SendData e.last_id is.status) ∷ is.behind) (frame ∷ []);
       before_leave = is.before_leave;
-      behind_leave = all-append LeavesIt is.behind (frame ∷ []) is.behind_leave (leaves, tt);
+      behind_leave = all-append (LeavesIt e.joined) is.behind (frame ∷ []) is.behind_leave (leaves, tt);
       nothing = is.nothing;
     })
+
+deals_joined : (devices : List State) (o : OuterState) (event : AirEvent) → (deals devices o event).outer.chip.state.joined ≡ o.chip.state.joined
+deals_joined devices o event = ap (λ (m : Members). m.of_chip) (deals_members devices o event)
+
+-- ---- which payloads come to the chip
+
+-- only those of joined nodes
+abbrev pub IsFromOf : List Bool → AirEvent → Type 0
+IsFromOf joined (air_event.ToChip frame from payload) = IsMember joined from
+IsFromOf joined event = Unit {0}
 
 -- ---- events of the chip in a tick
 
@@ -161,7 +178,7 @@ module _ (k : OfHost) where
   same_step : (s t : ChipState) → t ≡ s → Step s t
   same_step s t same = subst (λ (r : ChipState). Step s r) (sym same) (omega arith, λ few tied. tied)
 
-  given_step : (s : ChipState) (frame : FrameParts) → LeavesIt frame → Step s (record s { port = queued s.port frame })
+  given_step : (s : ChipState) (frame : FrameParts) → LeavesIt s.joined frame → Step s (record s { port = queued s.port frame })
   given_step s frame leaves = (waits_more s.port frame, leads)
     where
       leads : length (queued s.port frame).waiting ≤ 31 → ChipTied s → ChipTied (record s { port = queued s.port frame })
@@ -208,52 +225,64 @@ module _ (k : OfHost) where
                 nothing = refl;
               })
 
-  event_step : (s : ChipState) (event : ChipEvent) → IsGiven event → Step s (after s event)
-  event_step s (chip_hears n payload) given = given_step s _ (Brings n payload refl)
-  event_step s (Informed n profile) given = given_step s _ (Informs (update_of n profile) refl)
-  event_step s (Done status) given = by (s.aborted == 0) refl
+  -- a result comes to it
+  event_step : (s : ChipState) (event : ChipEvent) → IsResult event → Step s (after s event)
+  event_step s (Informed n profile) result = given_step s _ (Informs (update_of n profile) refl)
+  event_step s (Done status) result = by (s.aborted == 0) refl
     where
       by : (b : Bool) → (s.aborted == 0) ≡ b → Step s (if b then ended s.sending s status else record s { aborted = s.aborted - 1 })
       by true is = ended_step s s.sending status refl
       by false is = (omega arith, λ few tied. absurd (let none = tied.kept_all in grind (arith, none, is)))
-  event_step s event given = absurd given
+  event_step s event result = absurd result
 
   -- ---- outside the chip
 
   abbrev Leaves : OuterState → Outcome → Type 0
   Leaves o x = Step o.chip.state x.outer.chip.state
 
-  results : ResultsGo Leaves
-  results = record {
+  calls : Calls Leaves
+  calls = record {
     still = λ o p is. same_step o.chip.state p.chip.state is.chip;
     both = λ o first next one later. step_both o.chip.state first.outer.chip.state (next first.outer).outer.chip.state one (later first.outer);
     later = λ o p x is goes. subst (λ (s : ChipState). Step s x.outer.chip.state) is.chip goes;
-    does = λ o event given. subst (λ (t : ChipState). Step o.chip.state t) (sym (does_chip o event)) (event_step o.chip.state event given);
-    forgotten = λ o a b. (omega arith, λ few tied. record { kept_all = tied.kept_all; is_served = tied.is_served; tie = tied.tie });
+    result = λ o event is. subst (λ (t : ChipState). Step o.chip.state t) (sym (does_chip o event)) (event_step o.chip.state event is);
   }
 
-  deals_step : (devices : List State) (o : OuterState) (event : AirEvent) → Leaves o (deals devices o event)
-  deals_step devices o (air_event.ToChip frame from payload) = to_chip_goes Leaves results o from payload
-  deals_step devices o (air_event.Done frame status dead) = ends_go Leaves results o status dead
-  deals_step devices o (air_event.Heard frame) = same_step o.chip.state o.chip.state refl
-  deals_step devices o (air_event.Lost frame) = same_step o.chip.state o.chip.state refl
-  deals_step devices o (air_event.Unheard frame) = same_step o.chip.state o.chip.state refl
-  deals_step devices o (air_event.Sent frame from to route payload) = same_step o.chip.state o.chip.state refl
-  deals_step devices o (air_event.Changed node at) = same_step o.chip.state o.chip.state refl
+  ends_step : (o : OuterState) (status : ℕ) (dead : Option (ℕ × ℕ)) → Leaves o (frame_ends o status dead)
+  ends_step = end_goes Leaves calls (λ o a b. (omega arith, λ few tied. record { kept_all = tied.kept_all; is_served = tied.is_served; tie = tied.tie }))
 
-  deal_all : (devices : List State) (o : OuterState) (events : List AirEvent) → Leaves o (each (deals devices) o events)
-  deal_all devices o [] = same_step o.chip.state o.chip.state refl
-  deal_all devices o (event ∷ events) =
-      step_both o.chip.state (deals devices o event).outer.chip.state (each (deals devices) (deals devices o event).outer events).outer.chip.state (deals_step devices o event)
-      (deal_all devices (deals devices o event).outer events)
+  -- a payload of a joined node
+  hears_step : (o : OuterState) (from : ℕ) (payload : List ℕ) → IsMember o.chip.state.joined from → Leaves o (to_chip o from payload)
+  hears_step o from payload member = by (nat_le 1 (length payload) && nat_le (length payload) 46) refl
+    where
+      by : (b : Bool) → (nat_le 1 (length payload) && nat_le (length payload) 46) ≡ b → Leaves o (if b then chip_does o (chip_hears from payload) else silent o)
+      by true short =
+          subst (λ (t : ChipState). Step o.chip.state t) (sym (does_chip o (chip_hears from payload))) (given_step o.chip.state _ (Brings from payload member (short_payload payload short).0 refl))
+      by false long = same_step o.chip.state o.chip.state refl
+
+  deals_step : (devices : List State) (o : OuterState) (event : AirEvent) → IsFromOf o.chip.state.joined event → Leaves o (deals devices o event)
+  deals_step devices o (air_event.ToChip frame from payload) member = hears_step o from payload member
+  deals_step devices o (air_event.Done frame status dead) member = ends_step o status dead
+  deals_step devices o (air_event.Heard frame) member = same_step o.chip.state o.chip.state refl
+  deals_step devices o (air_event.Lost frame) member = same_step o.chip.state o.chip.state refl
+  deals_step devices o (air_event.Unheard frame) member = same_step o.chip.state o.chip.state refl
+  deals_step devices o (air_event.Sent frame from to route payload) member = same_step o.chip.state o.chip.state refl
+  deals_step devices o (air_event.Changed node at) member = same_step o.chip.state o.chip.state refl
+
+  deal_all : (devices : List State) (o : OuterState) (events : List AirEvent) → AllByRecursion (IsFromOf o.chip.state.joined) events → Leaves o (each (deals devices) o events)
+  deal_all devices o [] members = same_step o.chip.state o.chip.state refl
+  deal_all devices o (event ∷ events) members =
+      step_both o.chip.state (deals devices o event).outer.chip.state (each (deals devices) (deals devices o event).outer events).outer.chip.state (deals_step devices o event members.0)
+      (deal_all devices (deals devices o event).outer events (subst (λ (joined : List Bool). AllByRecursion (IsFromOf joined) events) (sym (deals_joined devices o event)) members.1))
 
   -- a frame arrives; a result is given
-  pub steps_step : (w : Outside) (step : AirStep) → length (steps w step).outer.chip.state.port.waiting ≤ 31 → ChipTied w.outer.chip.state → ChipTied (steps w step).outer.chip.state
-  steps_step w step few tied = (deal_all (mesh_after (mesh_of w) step).devices (record w.outer { air = (mesh_after (mesh_of w) step).air }) (mesh_outs (mesh_of w) step)).1 few tied
+  pub steps_step : (w : Outside) (step : AirStep) → AllByRecursion (IsFromOf w.outer.chip.state.joined) (mesh_outs (mesh_of w) step) → length (steps w step).outer.chip.state.port.waiting ≤ 31 → ChipTied w.outer.chip.state
+      → ChipTied (steps w step).outer.chip.state
+  steps_step w step members few tied = (deal_all (mesh_after (mesh_of w) step).devices (record w.outer { air = (mesh_after (mesh_of w) step).air }) (mesh_outs (mesh_of w) step) members).1 few tied
 
   pub gives_step : (o : OuterState) (devices : List State) (due : List Due) (route : Option Route) → length (gives o devices due route).outer.chip.state.port.waiting ≤ 31 → ChipTied o.chip.state
       → ChipTied (gives o devices due route).outer.chip.state
-  gives_step o devices due route few tied = (gives_go Leaves results o devices due route).1 few tied
+  gives_step o devices due route few tied = (due_goes Leaves calls o devices due route).1 few tied
 
 -- ---- its link counts
 

@@ -122,7 +122,7 @@ module _ (k : OfHost) where
                       node = asks.node;
                       is_sending = refl;
                       answered = inr (has_last pending);
-                      leave = all-append LeavesIt pending (answer_taken ∷ []) is.leave (Answers refl, tt);
+                      leave = all-append (LeavesIt s.joined) pending (answer_taken ∷ []) is.leave (Answers refl, tt);
                       nothing = refl;
                     }));
               };

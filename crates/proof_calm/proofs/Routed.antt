@@ -1,5 +1,5 @@
--- No result is due, and each call that the chip awaits is of a frame, where each payload that it takes has a route.
-use Rattle.std.proofs.Common.{◌≡◌, ℕ, ◌&&◌, nat_le, Bool, true, false, if◌then◌else◌, List, [], ◌∷◌, ◌++◌, length, drop, refl, sym, ◌∙◌, subst}
+-- No result is due, and each call that the chip awaits is of a frame, where its table has a walk to each joined node.
+use Rattle.std.proofs.Common.{◌≡◌, ◌≢◌, ℕ, ◌&&◌, nat_lt, ap, nat_le, Bool, true, false, if◌then◌else◌, List, [], ◌∷◌, ◌++◌, length, drop, refl, sym, ◌∙◌, subst}
 use Rattle.std.specs.Option.{is_some, unwrap_or}
 use Rattle.std.specs.Prelude.{Option, Some, None, slice_get}
 use Rattle.std.specs.List.{AllByRecursion}
@@ -12,22 +12,28 @@ use Rattle.serial_frame.specs.declared.item.Item.{Item}
 use Rattle.serial_frame.specs.declared.item.Item.TheVariants.{Good, Refused}
 use Rattle.serial_frame.specs.declared.item.Refusal.TheVariants.{Stray, BadLength, BadSum, BadKind, Aborted}
 use Rattle.serial_frame.specs.declared.unit.Unit.TheVariants.{Ack, Nak, Can, Framed}
-use Rattle.route_table.specs.Network.{linked}
+use Rattle.route_table.specs.Network.{Network, linked}
+use Rattle.route_table.specs.Walk.{Walk}
 use Rattle.route_table.specs.declared.route.Route.{Route}
 use Rattle.chip_functions.specs.Notice.{status_of}
 use Rattle.chip_functions.specs.declared.notice.TransmitStatus.{TransmitStatus}
 use Rattle.chip_functions.specs.declared.notice.TransmitStatus.TheVariants.{Fail}
-use Rattle.chip_sim.specs.Did.{judged_all}
-use Rattle.chip_sim.specs.Requests.{answer_outs, given, heard, judged_outs, passed, sent}
+use Rattle.chip_functions.specs.declared.request.Request.{Request}
+use Rattle.chip_functions.specs.declared.request.Request.TheVariants.{GetInitData, GetCapabilities, SendData, GetVersion, SendDataAbort, MemoryGetId, GetNodeProtocolInfo, AddNode, RequestNodeInfo, IsFailedNode, GetRoutingInfo}
+use Rattle.chip_sim.specs.Answers.{is_idle, takes}
+use Rattle.chip_sim.specs.Nodes.{is_marked}
+use Rattle.chip_sim.specs.Did.{MayAll as ChipMayAll, judged_all}
+use Rattle.chip_sim.specs.Requests.{HasWay, IsWay, IsWayIf, JudgedWay, answer_outs, asked, given, given_if, heard, judged_frame, judged_outs, passed, performed, reply_to, requested, sent, stopped}
 use Rattle.chip_sim.specs.Waiting.{PortState, next_at, queued_outs}
-use Rattle.chip_sim.specs.Events.{collides, Judged, Ticked, Heard as chip_hears, Done, Forgets, after, outs}
+use Rattle.chip_sim.specs.Events.{collides, Judged, Ticked, Heard as chip_hears, Done, Forgets, May as ChipMay, after, outs}
 use Rattle.chip_sim.specs.State.{ChipState}
+use Rattle.chip_sim.specs.declared.out.Sending.{Sending}
 use Rattle.chip_sim.specs.declared.out.ChipOut.{ChipOut}
 use Rattle.chip_sim.specs.declared.out.ChipOut.TheVariants.{Write, OnAir, NoRoute, AskInfo, Full}
 use Rattle.device_sim.specs.State.{State}
 use Rattle.device_sim.specs.Event.{DeviceEvent, Ticks, Wakes}
 use Rattle.mesh_sim.specs.Fates.{place_of}
-use Rattle.mesh_sim.specs.Steps.{AirStep, mesh_after, mesh_outs}
+use Rattle.mesh_sim.specs.Steps.{mesh_after, mesh_outs}
 use Rattle.mesh_sim.specs.Steps as mesh
 use Rattle.mesh_sim.specs.declared.event.AirEvent.{AirEvent}
 use Rattle.mesh_sim.specs.declared.event.AirEvent.TheVariants as air_event
@@ -38,16 +44,16 @@ use Rattle.outside_model.specs.State.{OuterState, silent, tells, with_chip, each
 use Rattle.outside_model.specs.Air.{deals, to_chip}
 use Rattle.outside_model.specs.Chip.{put_out, chip_does}
 use Rattle.outside_model.specs.Devices.{acts_at, acts_by_hand}
-use Rattle.outside_model.specs.Events.{OuterEvent, Begins_line, Begins_tick, Arrives, Gives, Device_ticks, Chip_ticks, Chip_takes, Wakes_device, Shows, Cuts, outcome, has_entered, mesh_of}
+use Rattle.outside_model.specs.Events.{OuterEvent, Begins_line, Begins_tick, Arrives, Gives, Device_ticks, Chip_ticks, Chip_takes, Wakes_device, Shows, Cuts, May as MayOutside, outcome, has_entered, mesh_of}
 use Rattle.outside_model.specs.Results.{call_back, forgets, frame_ends, gives, leading, no_routes, owes_call}
 use Rattle.world_model.specs.State.{Machine}
-use Rattle.world_model.specs.Events.{Outside_does, happens}
+use Rattle.world_model.specs.Events.{May, Outside_does, happens}
 use Rattle.proof_traffic.proofs.Calm.{Calm}
 use Rattle.proof_traffic.proofs.ChipNotices.{Leaves}
 use Rattle.proof_work.proofs.Times.{does_chip}
 use Rattle.proof_calm.specs.Marks.{HasNoMarks, IsUnmarked}
 use Rattle.proof_calm.specs.Passes.{IsTakenBy, TakesEach, TakesOne, chip_taken}
-use Rattle.proof_calm.specs.Routed.{IsOfFrame, IsRouted, HasRoute, HaveRoutes}
+use Rattle.proof_calm.specs.Routed.{IsOfFrame, IsRouted, Reaches}
 use Rattle.proof_calm.proofs.ChipAsked.{is_by_turn, response}
 use Rattle.proof_calm.proofs.ChipPart.{marks_of, taken}
 use Rattle.proof_calm.proofs.Said.{AreSaid, IsSaid, does_said, done_said, queued_said, said_both, ticked_said, written_said}
@@ -159,6 +165,68 @@ sent_carried : (node : ℕ) (payload : List ℕ) (way : Option Route) → is_som
 sent_carried node payload None some = absurd cc
 sent_carried node payload (Some route) some = (tt, tt)
 
+-- ---- each has one
+
+-- what the chip knows of nodes, when it judges what it hears
+abbrev Of : ChipState → Network × List Bool
+Of s = (s.table, s.joined)
+
+performed_of : (request : Request) (s : ChipState) → Of (performed request s) ≡ Of s
+performed_of GetInitData s = refl
+performed_of GetCapabilities s = refl
+performed_of (SendData n payload options id) s = by (takes s n payload)
+  where
+    by : (b : Bool) → Of (if b then record s { sending = Some (record { node = n; callback_id = id }) } else s) ≡ Of s
+    by true = refl
+    by false = refl
+performed_of GetVersion s = refl
+performed_of SendDataAbort s = by s.sending
+  where
+    by : (sending : Option Sending) → Of (stopped sending s) ≡ Of s
+    by None = refl
+    by (Some sending) = refl
+performed_of MemoryGetId s = refl
+performed_of (GetNodeProtocolInfo n) s = refl
+performed_of (AddNode mode id) s = refl
+performed_of (RequestNodeInfo n) s = refl
+performed_of (IsFailedNode n) s = refl
+performed_of (GetRoutingInfo n x y z) s = refl
+
+given_of : (s : ChipState) (reply : Option FrameParts) → Of (given_if s reply) ≡ Of s
+given_of s None = refl
+given_of s (Some frame) = refl
+
+requested_of : (request : Option Request) (s : ChipState) → Of (requested request s) ≡ Of s
+requested_of None s = refl
+requested_of (Some request) s = performed_of request (given_if s (reply_to s request)) ∙ given_of s (reply_to s request)
+
+judged_of : (frame : Option FrameParts) (s : ChipState) → Of (judged_frame frame s) ≡ Of s
+judged_of None s = refl
+judged_of (Some frame) s = requested_of (asked frame) s
+
+abbrev CanReach : Network × List Bool → Type 0
+CanReach of = Reaches of.0 of.1
+
+still_reaches : (s : ChipState) (item : Item) (way : Option Route) → Reaches s.table s.joined → Reaches (after s (Judged item way)).table (after s (Judged item way)).joined
+still_reaches s item way reaches = subst CanReach (sym (judged_of (passed (collides s) item) (heard s item))) reaches
+
+node_joined : (a b c : Bool) → (a && (b && c)) ≡ true → b ≡ true
+node_joined true true c all = refl
+node_joined true false c all = absurd cc
+node_joined false b c all = absurd cc
+
+way_there : (net : Network) (to : ℕ) (way : Option Route) → IsWay net to way → (to ≢ 1) × ((walk : List ℕ) × Walk net to walk) → is_some way ≡ true
+way_there net to (Some route) is there = refl
+way_there net to None is there = absurd (is there.0 there.1.0 there.1.1)
+
+frame_way : (s : ChipState) (f : FrameParts) (way : Option Route) → s.port.side.collisions ≡ 0 → IsTakenBy s f → Reaches s.table s.joined → ChipMay s (Judged (Good (Framed f)) way) → is_some way ≡ true
+frame_way s f way none taken reaches may =
+    let hs : ChipState = heard s (Good (Framed f)) in
+    let passes : passed (collides s) (Good (Framed f)) ≡ Some f = ap (λ (count : ℕ). passed (nat_lt 0 count) (Good (Framed f))) none in
+    let asks : HasWay (asked f) hs way = subst (λ (frame : Option FrameParts). JudgedWay frame hs way) passes may in
+    let sends : IsWayIf (takes s taken.node taken.payload) s.table taken.node way = subst (λ (request : Option Request). HasWay request hs way) taken.is asks in
+    way_there s.table taken.node way (subst (λ (b : Bool). IsWayIf b s.table taken.node way) taken.taken sends) (reaches taken.node (node_joined (is_idle s.sending) (is_marked s.joined taken.node) _ taken.taken))
+
 request_routed : (o : OuterState) (f : FrameParts) (way : Option Route) → HasNoMarks o → IsTakenBy o.chip.state f → is_some way ≡ true → IsRouted o → IsRouted (chip_does o (Judged (Good (Framed f)) way)).outer
 request_routed o f way none taken some is =
     let port : PortState = (heard o.chip.state (Good (Framed f))).port in
@@ -204,19 +272,22 @@ item_routed o item way no_frame is =
 
 -- ---- all items
 
-way_routed : (o : OuterState) (item : Item) (way : Option Route) → HasNoMarks o → TakesOne o.chip.state item → HasRoute item way → IsRouted o → IsRouted (chip_does o (Judged item way)).outer
-way_routed o (Good (Framed f)) way none takes_it some is = request_routed o f way none takes_it some is
-way_routed o (Good Ack) way none takes_it some is = item_routed o (Good Ack) way tt is
-way_routed o (Good Nak) way none takes_it some is = item_routed o (Good Nak) way tt is
-way_routed o (Good Can) way none takes_it some is = item_routed o (Good Can) way tt is
-way_routed o (Refused r) way none takes_it some is = item_routed o (Refused r) way tt is
+way_routed : (o : OuterState) (item : Item) (way : Option Route) → HasNoMarks o → TakesOne o.chip.state item → Reaches o.chip.state.table o.chip.state.joined → ChipMay o.chip.state (Judged item way) → IsRouted o → IsRouted (chip_does o (Judged item way)).outer
+way_routed o (Good (Framed f)) way none takes_it reaches may is = request_routed o f way none takes_it (frame_way o.chip.state f way none.link takes_it reaches may) is
+way_routed o (Good Ack) way none takes_it reaches may is = item_routed o (Good Ack) way tt is
+way_routed o (Good Nak) way none takes_it reaches may is = item_routed o (Good Nak) way tt is
+way_routed o (Good Can) way none takes_it reaches may is = item_routed o (Good Can) way tt is
+way_routed o (Refused r) way none takes_it reaches may is = item_routed o (Refused r) way tt is
 
-ways_routed : (o : OuterState) (ways : List (Item × Option Route)) → HasNoMarks o → TakesEach o.chip.state ways → HaveRoutes ways → IsRouted o → IsRouted (each chip_does o (judged_all ways)).outer
-ways_routed o [] none takes_each routes is = is
-ways_routed o (way ∷ ways) none takes_each routes is =
+ways_routed : (o : OuterState) (ways : List (Item × Option Route)) → HasNoMarks o → TakesEach o.chip.state ways → Reaches o.chip.state.table o.chip.state.joined → ChipMayAll o.chip.state (judged_all ways) → IsRouted o
+    → IsRouted (each chip_does o (judged_all ways)).outer
+ways_routed o [] none takes_each reaches may is = is
+ways_routed o (way ∷ ways) none takes_each reaches may is =
+    let same = sym (does_chip o (Judged way.0 way.1)) in
     ways_routed (chip_does o (Judged way.0 way.1)).outer ways (does_none o (Judged way.0 way.1) tt none)
-    (subst (λ (s : ChipState). TakesEach s ways) (sym (does_chip o (Judged way.0 way.1))) takes_each.1) routes.1
-    (way_routed o way.0 way.1 none takes_each.0 routes.0 is)
+    (subst (λ (s : ChipState). TakesEach s ways) same takes_each.1) (subst (λ (s : ChipState). Reaches s.table s.joined) same (still_reaches o.chip.state way.0 way.1 reaches))
+    (subst (λ (s : ChipState). ChipMayAll s (judged_all ways)) same may.1)
+    (way_routed o way.0 way.1 none takes_each.0 reaches may.0 is)
 
 -- ---- events
 
@@ -274,8 +345,9 @@ counts_routed m is =
     let at : OuterState = record m.outside.outer { chip = record { decoder = after_tick m.outside.outer.chip.decoder; state = m.outside.outer.chip.state } } in
     outside_routed m Chip_ticks (leaves_routed at (chip_does at Ticked).outer (does_said at Ticked (ticked_said m.outside.outer.chip.state.port)) (record { none_due = is.none_due; of_frames = is.of_frames }))
 
-pub takes_routed : (m : Machine) (rest : Rest) (ways : List (Item × Option Route)) → IsUnmarked m → TakesEach m.outside.outer.chip.state ways → HaveRoutes ways → IsRouted m.outside.outer → IsRouted (chip_taken m rest ways).outside.outer
-unfolding outcome
-takes_routed m rest ways none takes_each routes is =
+pub takes_routed : (m : Machine) (rest : Rest) (ways : List (Item × Option Route)) → IsUnmarked m → May m (Outside_does (Chip_takes (length m.outside.outer.to_chip.bytes) rest ways)) → TakesEach m.outside.outer.chip.state ways
+    → Reaches m.outside.outer.chip.state.table m.outside.outer.chip.state.joined → IsRouted m.outside.outer → IsRouted (chip_taken m rest ways).outside.outer
+unfolding outcome May MayOutside
+takes_routed m rest ways none may takes_each reaches is =
     outside_routed m (Chip_takes (length m.outside.outer.to_chip.bytes) rest ways)
-    (ways_routed (taken m.outside.outer rest) ways (marks_of m.outside.outer rest none) takes_each routes (record { none_due = is.none_due; of_frames = is.of_frames }))
+    (ways_routed (taken m.outside.outer rest) ways (marks_of m.outside.outer rest none) takes_each reaches may.1.judges (record { none_due = is.none_due; of_frames = is.of_frames }))

@@ -85,6 +85,7 @@ use Rattle.host_model.specs.After.{is_busy}
 use Rattle.host_model.specs.May.{May as MayHost}
 use Rattle.host_model.proofs.Submitted.{next_is as next_is_so}
 use Rattle.outside_model.specs.declared.waits.Call.{Call}
+use Rattle.outside_model.specs.declared.waits.Due.{Due}
 use Rattle.outside_model.specs.declared.waits.Call.TheVariants.{OfFrame, NoRoute as no_route_call}
 use Rattle.proof_waking.specs.proof_traffic.Facts.{one_if}
 use Rattle.proof_waking.specs.proof_traffic.OutsideTraffic.{of_frame}
@@ -97,6 +98,14 @@ use Rattle.proof_calm.specs.Tied.{HasAnswer, HasRoom}
 use Rattle.proof_calm.proofs.Pending.{counted_few}
 use Rattle.proof_calm.proofs.Requested.{Judges}
 use Rattle.proof_calm.proofs.Routed.{arrives_routed, calm_routed, counts_routed, cut_routed, device_routed, gives_routed, line_routed, show_routed, takes_routed, tick_routed, wake_routed}
+use Rattle.host_model.specs.Pumping.{HasNothing, IsPumped}
+use Rattle.proof_serial.proofs.HostRuns.{FactsKept, OpenedFacts}
+use Rattle.proof_calm.specs.Tied.{AsksAt, IsPeopled, PumpedAt}
+use Rattle.proof_calm.proofs.Homing.{arrival_from}
+use Rattle.proof_calm.proofs.Peopled.{next_asked, peopled_on}
+use Rattle.proof_calm.proofs.Serving.{Payloads}
+use Rattle.proof_calm.proofs.Ticking.{no_more_mute, tick_mute}
+use Rattle.proof_calm.proofs.Written.{mute_well, next_well, takes_well}
 
 -- ---- as it is counted
 
@@ -223,12 +232,12 @@ few_in : (m : Machine) (event : OuterEvent) → length (happens m (Outside_does 
 unfolding happens
 few_in m event few = subst (λ (s : ChipState). length s.port.waiting ≤ 31) (entered_state (outcome m.outside event).outer (outcome m.outside event).entries) few
 
-arrives_tied : (m : Machine) (drawn : List ℕ) (route : Option Route) → length (happens m (Outside_does (Arrives drawn route))).outside.outer.chip.state.port.waiting ≤ 31 → IsGiven 0 m → IsGiven 0 (happens m (Outside_does (Arrives drawn route))) → TieOf false m []
+arrives_tied : (m : Machine) (drawn : List ℕ) (route : Option Route) → length (happens m (Outside_does (Arrives drawn route))).outside.outer.chip.state.port.waiting ≤ 31 → IsGiven 0 m → IsGiven 0 (happens m (Outside_does (Arrives drawn route))) → IsPeopled m → TieOf false m []
     → TieOf false (happens m (Outside_does (Arrives drawn route))) []
 unfolding outcome
-arrives_tied m drawn route few given later tie =
+arrives_tied m drawn route few given later peopled tie =
     given_tied 0 m (Arrives drawn route) later.has
-    (steps_step (kept m.host.state) m.outside (mesh.Arrives drawn route) (few_in m (Arrives drawn route) few) (chip_tied 0 m given.has tie)).tie
+    (steps_step (kept m.host.state) m.outside (mesh.Arrives drawn route) (arrival_from m.outside.outer.chip.state.joined m.outside drawn route peopled.speaks) (few_in m (Arrives drawn route) few) (chip_tied 0 m given.has tie)).tie
 
 gives_tied : (m : Machine) (route : Option Route) → length (happens m (Outside_does (Gives route))).outside.outer.chip.state.port.waiting ≤ 31 → IsGiven 0 m → IsGiven 0 (happens m (Outside_does (Gives route))) → TieOf false m [] → TieOf false (happens m (Outside_does (Gives route))) []
 unfolding outcome
@@ -341,12 +350,12 @@ module _ (air : Airs) where
       (no_more_is (λ (e : HostEvent). kept (after_host m.host.state e) ≡ kept m.host.state)
       (record { queues = λ n. apart_kept m.host.state (Queues_no_more n) tt; drops = λ n. apart_kept m.host.state (Drops_no_more n) tt }) m.host.state node) tie
 
-  asks_tied : (ids : Ids) (m : Machine) (event : HostEvent) → IsNext m.host.state event → May m (Host_does event) → IsOrderly m (Host_does event) → TieOf true m (on_line m.host.state.side.turn)
+  asks_tied : (ids : Ids) (m : Machine) (event : HostEvent) → IsNext m.host.state event → May m (Host_does event) → AsksAt m.outside.outer.chip.state.joined m.host.state event → TieOf true m (on_line m.host.state.side.turn)
       → TieOf true (happens m (Host_does event)) (on_line (happens m (Host_does event)).host.state.side.turn)
   unfolding happens May
-  asks_tied ids m event next_is may orderly tie =
+  asks_tied ids m event next_is may asks tie =
       does_tied true (on_line (after_host m.host.state event).side.turn) air m event
-      (next_tied ids m.outside.outer.chip.state m.host.state event (unheard m.outside.outer) next_is may.0 orderly.1 tie)
+      (next_tied ids m.outside.outer.chip.state m.host.state event (unheard m.outside.outer) next_is may.0 asks tie)
 
 -- the line is the host's to use
 rests_turn : (passes : ℕ) (m : Machine) → IsDone m ⊎ Stands passes m → m.host.state.side.turn ≡ Idle
@@ -475,12 +484,54 @@ effect_served : (m : Machine) (event : Event) → IsEffect event → IsOrderly m
 effect_served m (Outside_does (Wakes_device node route)) is orderly = tt
 effect_served m (Outside_does (Shows node)) is orderly = tt
 effect_served m (Outside_does (Cuts size)) is orderly = tt
-effect_served m (Host_does (Accepts order carriage)) is orderly = orderly.0
-effect_served m (Refuses line refusal) is orderly = orderly
-effect_served m (Shows_values node) is orderly = orderly
+effect_served m (Host_does (Accepts order carriage)) is orderly = tt
+effect_served m (Refuses line refusal) is orderly = tt
+effect_served m (Shows_values node) is orderly = tt
 effect_served m (Outside_does event) is orderly = absurd is
 effect_served m (Host_does event) is orderly = absurd is
 effect_served m event is orderly = absurd is
+
+-- ---- the host has pumped
+
+pumped_to : (is next : Phase) (m : Machine) → next ≡ is → PumpedAt is m → PumpedAt next m
+pumped_to is next m same pumped = subst (λ (q : Phase). PumpedAt q m) (sym same) pumped
+
+pumped_on : (here next : Phase) (m : Machine) (event : Event) → Goes here m event next → PumpedAt here m → PumpedAt next (happens m event)
+unfolding happens
+pumped_on (Said_line line) next m event (is, to) pumped = subst (λ (e : Event). PumpedAt next (happens m e)) (sym is) (subst (λ (q : Phase). PumpedAt q (happens m (Outside_does Begins_line))) (sym to) pumped)
+pumped_on (Doing line (first ∷ left)) next m event (is, to) pumped = pumped_to (Doing line left) next (happens m event) to tt
+pumped_on (To_tick (suc ticks)) next m event (is, to) pumped = pumped_to (Ticked ticks) next (happens m event) to tt
+pumped_on (Arriving (suc frames) ticks) next m event (drawn, route, is, to) pumped = pumped_to (Arriving frames ticks) next (happens m event) to tt
+pumped_on (Giving (suc results) ticks) next m event (route, is, to) pumped = pumped_to (Giving results ticks) next (happens m event) to tt
+pumped_on (Ticking_devices place (suc count) ticks) next m event (drawn, route, is, to) pumped = pumped_to (Ticking_devices (place + 1) count ticks) next (happens m event) to tt
+pumped_on (Ticking_chip ticks) next m event (is, to) pumped = pumped_to (Ticking_decoder ticks) next (happens m event) to tt
+pumped_on (Ticking_decoder ticks) next m event (is, to) pumped = pumped_to (Ticking_host (tick_events m.host.state) ticks) next (happens m event) to tt
+pumped_on (Ticking_host (first ∷ events) ticks) next m event (is, to) pumped = pumped_to (Ticking_host events ticks) next (happens m event) to tt
+pumped_on (Sleeping passes ticks) next m event (node, wants, is, to) pumped = pumped_to (Sleeping passes ticks) next (happens m event) to tt
+pumped_on (Submitting passes ticks) next m event (asked, next_is, is, to) pumped = pumped_to (Submitting passes ticks) next (happens m event) to tt
+pumped_on (Moving passes ticks) next m event (rest, ways, is, to) pumped = pumped_to (Moved true passes ticks) next (happens m event) to tt
+pumped_on (Moved b passes ticks) next m event (rest, items, done, is, to) pumped = pumped_to (Sleeping passes ticks) next (happens m event) to tt
+pumped_on here next m event goes pumped = absurd goes
+
+after_pumped : (passes ticks : ℕ) (m : Machine) → IsPumped m.host.state → PumpedAt (after_pump passes ticks) m
+after_pumped zero ticks m pumped = pumped
+after_pumped (suc passes) ticks m pumped = tt
+
+turn_pumped : (here next : Phase) (m : Machine) → Turns here m next → PumpedAt here m → PumpedAt next m
+turn_pumped (Begun line) next m (inl (events, is, same)) pumped = pumped_to (Doing line events) next m same tt
+turn_pumped (Begun line) next m (inr (ticks, is, same)) pumped = pumped_to (To_tick ticks) next m same pumped
+turn_pumped (Doing line []) next m same pumped = pumped_to (Sleeping 64 0) next m same tt
+turn_pumped (To_tick zero) next m same pumped = pumped_to Between next m same pumped
+turn_pumped (Ticked ticks) next m same pumped = pumped_to (Arriving _ ticks) next m same tt
+turn_pumped (Arriving zero ticks) next m same pumped = pumped_to (Giving _ ticks) next m same tt
+turn_pumped (Giving zero ticks) next m same pumped = pumped_to (Ticking_devices 0 _ ticks) next m same tt
+turn_pumped (Ticking_devices place zero ticks) next m same pumped = pumped_to (Ticking_chip ticks) next m same tt
+turn_pumped (Ticking_host [] ticks) next m same pumped = pumped_to (Sleeping 64 ticks) next m same tt
+turn_pumped (Sleeping passes ticks) next m (none, same) pumped = pumped_to (Submitting passes ticks) next m same tt
+turn_pumped (Submitting passes ticks) next m (is, same) pumped = pumped_to (after_pump passes ticks) next m same (after_pumped passes ticks m is)
+turn_pumped (Moving passes ticks) next m (still, same) pumped = pumped_to (Moved false passes ticks) next m same tt
+turn_pumped (Moved b passes ticks) next m (still, same) pumped = pumped_to (Sleeping (passes_after b passes) ticks) next m same tt
+turn_pumped here next m turns pumped = absurd turns
 
 -- ---- the chip's room
 
@@ -523,39 +574,40 @@ unfolding happens
 decoder_few m few = few
 
 module _ (air : Airs) where
-  event_room : (here next : Phase) (m : Machine) (event : Event) → Goes here m event next → May m event → IsOrderly m event → LineAt here m → RoomAt here m → TieAt here m → RoomAt next (happens m event)
-  event_room (Said_line line) next m event (is, to) may orderly line_at room tie = room_as next (Begun line) m event (Outside_does Begins_line) is to tt
-  event_room (Doing line (first ∷ left)) next m event (is, to) may orderly line_at room tie = room_as next (Doing line left) m event first is to tt
-  event_room (To_tick (suc ticks)) next m event (is, to) may orderly line_at room tie =
+  event_room : (here next : Phase) (m : Machine) (event : Event) → Goes here m event next → May m event → IsOrderly m event → LineAt here m → RoomAt here m → TieAt here m → IsRouted m.outside.outer → RoomAt next (happens m event)
+  event_room (Said_line line) next m event (is, to) may orderly line_at room tie routed = room_as next (Begun line) m event (Outside_does Begins_line) is to tt
+  event_room (Doing line (first ∷ left)) next m event (is, to) may orderly line_at room tie routed = room_as next (Doing line left) m event first is to tt
+  event_room (To_tick (suc ticks)) next m event (is, to) may orderly line_at room tie routed =
       let few = subst (IsOrderly m) is orderly in
       let none : length m.outside.outer.chip.state.port.waiting ≡ 0 = ap (λ (fs : List FrameParts). length fs) line_at.at_chip.waiting in
-      room_as next (Ticked ticks) m event (Outside_does Begins_tick) is to (machine_ticks m (omega (arith, few, none)))
-  event_room (Arriving (suc frames) ticks) next m event (drawn, route, is, to) may orderly line_at room tie =
+      let none_due : length m.outside.outer.due ≡ 0 = ap (λ (due : List Due). length due) routed.none_due in
+      room_as next (Ticked ticks) m event (Outside_does Begins_tick) is to (machine_ticks m (omega (arith, few, none, none_due)))
+  event_room (Arriving (suc frames) ticks) next m event (drawn, route, is, to) may orderly line_at room tie routed =
       let more = machine_arrives m drawn route in
       room_as next (Arriving frames ticks) m event (Outside_does (Arrives drawn route)) is to
       (arrived_room (length m.outside.outer.chip.state.port.waiting) _ frames (length m.outside.outer.due) _ room more.chip more.due)
-  event_room (Giving (suc results) ticks) next m event (route, is, to) may orderly line_at room tie =
+  event_room (Giving (suc results) ticks) next m event (route, is, to) may orderly line_at room tie routed =
       room_as next (Giving results ticks) m event (Outside_does (Gives route)) is to (given_room (length m.outside.outer.chip.state.port.waiting) _ results room (machine_gives m route))
-  event_room (Ticking_devices place (suc count) ticks) next m event (drawn, route, is, to) may orderly line_at room tie =
+  event_room (Ticking_devices place (suc count) ticks) next m event (drawn, route, is, to) may orderly line_at room tie routed =
       room_as next (Ticking_devices (place + 1) count ticks) m event (Outside_does (Device_ticks place drawn route)) is to (few_as m (happens m (Outside_does (Device_ticks place drawn route))) (device_chip m place drawn route) room)
-  event_room (Ticking_chip ticks) next m event (is, to) may orderly line_at room tie = room_as next (Ticking_decoder ticks) m event (Outside_does Chip_ticks) is to (chip_few m room)
-  event_room (Ticking_decoder ticks) next m event (is, to) may orderly line_at room tie = room_as next (Ticking_host (tick_events m.host.state) ticks) m event Decoder_ticks is to (decoder_few m room)
-  event_room (Ticking_host (first ∷ events) ticks) next m event (is, to) may orderly line_at room tie =
+  event_room (Ticking_chip ticks) next m event (is, to) may orderly line_at room tie routed = room_as next (Ticking_decoder ticks) m event (Outside_does Chip_ticks) is to (chip_few m room)
+  event_room (Ticking_decoder ticks) next m event (is, to) may orderly line_at room tie routed = room_as next (Ticking_host (tick_events m.host.state) ticks) m event Decoder_ticks is to (decoder_few m room)
+  event_room (Ticking_host (first ∷ events) ticks) next m event (is, to) may orderly line_at room tie routed =
       room_as next (Ticking_host events ticks) m event (Host_does first) is to (few_as m (happens m (Host_does first)) (does_calm air m first).chip room)
-  event_room (Sleeping passes ticks) next m event (node, wants, is, to) may orderly line_at room tie =
+  event_room (Sleeping passes ticks) next m event (node, wants, is, to) may orderly line_at room tie routed =
       room_as next (Sleeping passes ticks) m event (Host_does (no_more_event m.host.state node)) is to (room_of m (happens m (Host_does (no_more_event m.host.state node))) (does_calm air m (no_more_event m.host.state node)).chip room)
-  event_room (Submitting passes ticks) next m event (asked, next_is, is, to) may orderly line_at room tie =
+  event_room (Submitting passes ticks) next m event (asked, next_is, is, to) may orderly line_at room tie routed =
       room_as next (Submitting passes ticks) m event (Host_does asked) is to (room_of m (happens m (Host_does asked)) (does_calm air m asked).chip room)
-  event_room (Moving passes ticks) next m event (rest, ways, is, to) may orderly line_at room tie =
+  event_room (Moving passes ticks) next m event (rest, ways, is, to) may orderly line_at room tie routed =
       let e : Event = Outside_does (Chip_takes (length m.outside.outer.to_chip.bytes) rest ways) in
       let may_it : May m e = subst (May m) is may in
       let fewer = (part_served passes m rest ways may_it line_at room tie).1.fewer in
       room_as next (Moved true passes ticks) m event e is to
       (subst HasRoom (sym (taken_state m rest ways may_it)) (λ idle. let less = fewer idle in let most = room less.0 in let few = less.1 in omega (arith, most, few)))
-  event_room (Moved b passes ticks) next m event (rest, items, done, is, to) may orderly line_at room tie =
+  event_room (Moved b passes ticks) next m event (rest, items, done, is, to) may orderly line_at room tie routed =
       room_as next (Sleeping passes ticks) m event (Host_takes (length m.outside.outer.to_host.bytes) rest items done) is to
       (room_of m (happens m (Host_takes (length m.outside.outer.to_host.bytes) rest items done)) (takes_calm air m (length m.outside.outer.to_host.bytes) rest items done).chip room)
-  event_room here next m event goes may orderly line_at room tie = absurd goes
+  event_room here next m event goes may orderly line_at room tie routed = absurd goes
 
 room_to : (is next : Phase) (m : Machine) → next ≡ is → RoomAt is m → RoomAt next m
 room_to is next m same room = subst (λ (q : Phase). RoomAt q m) (sym same) room
@@ -604,27 +656,27 @@ module _ (air : Airs) where
   as_routed : (m : Machine) (event is : Event) → event ≡ is → IsRouted (happens m is).outside.outer → IsRouted (happens m event).outside.outer
   as_routed m event is same routed = subst (λ (e : Event). IsRouted (happens m e).outside.outer) (sym same) routed
 
-  routed_on : (here next : Phase) (m : Machine) (event : Event) → Goes here m event next → IsOrderly m event → IsServed m event → LineAt here m → IsRouted m.outside.outer → IsRouted (happens m event).outside.outer
-  routed_on (Said_line line) next m event (is, to) orderly served line_at routed = as_routed m event (Outside_does Begins_line) is (line_routed m routed)
-  routed_on (Doing line (first ∷ left)) next m event (is, to) orderly served line_at routed = as_routed m event first is (effect_routed m first line_at.0.0 routed)
-  routed_on (To_tick (suc ticks)) next m event (is, to) orderly served line_at routed = as_routed m event (Outside_does Begins_tick) is (tick_routed m routed)
-  routed_on (Arriving (suc frames) ticks) next m event (drawn, route, is, to) orderly served line_at routed = as_routed m event (Outside_does (Arrives drawn route)) is (arrives_routed m drawn route routed)
-  routed_on (Giving (suc results) ticks) next m event (route, is, to) orderly served line_at routed = as_routed m event (Outside_does (Gives route)) is (gives_routed m route routed)
-  routed_on (Ticking_devices place (suc count) ticks) next m event (drawn, route, is, to) orderly served line_at routed =
+  routed_on : (here next : Phase) (m : Machine) (event : Event) → Goes here m event next → May m event → IsOrderly m event → IsServed m event → LineAt here m → IsRouted m.outside.outer → IsRouted (happens m event).outside.outer
+  routed_on (Said_line line) next m event (is, to) may orderly served line_at routed = as_routed m event (Outside_does Begins_line) is (line_routed m routed)
+  routed_on (Doing line (first ∷ left)) next m event (is, to) may orderly served line_at routed = as_routed m event first is (effect_routed m first line_at.0.0 routed)
+  routed_on (To_tick (suc ticks)) next m event (is, to) may orderly served line_at routed = as_routed m event (Outside_does Begins_tick) is (tick_routed m routed)
+  routed_on (Arriving (suc frames) ticks) next m event (drawn, route, is, to) may orderly served line_at routed = as_routed m event (Outside_does (Arrives drawn route)) is (arrives_routed m drawn route routed)
+  routed_on (Giving (suc results) ticks) next m event (route, is, to) may orderly served line_at routed = as_routed m event (Outside_does (Gives route)) is (gives_routed m route routed)
+  routed_on (Ticking_devices place (suc count) ticks) next m event (drawn, route, is, to) may orderly served line_at routed =
       as_routed m event (Outside_does (Device_ticks place drawn route)) is (device_routed m place drawn route routed)
-  routed_on (Ticking_chip ticks) next m event (is, to) orderly served line_at routed = as_routed m event (Outside_does Chip_ticks) is (counts_routed m routed)
-  routed_on (Ticking_decoder ticks) next m event (is, to) orderly served line_at routed = as_routed m event Decoder_ticks is (decoder_routed m routed)
-  routed_on (Ticking_host (first ∷ events) ticks) next m event (is, to) orderly served line_at routed = as_routed m event (Host_does first) is (does_routed m first routed)
-  routed_on (Sleeping passes ticks) next m event (node, wants, is, to) orderly served line_at routed =
+  routed_on (Ticking_chip ticks) next m event (is, to) may orderly served line_at routed = as_routed m event (Outside_does Chip_ticks) is (counts_routed m routed)
+  routed_on (Ticking_decoder ticks) next m event (is, to) may orderly served line_at routed = as_routed m event Decoder_ticks is (decoder_routed m routed)
+  routed_on (Ticking_host (first ∷ events) ticks) next m event (is, to) may orderly served line_at routed = as_routed m event (Host_does first) is (does_routed m first routed)
+  routed_on (Sleeping passes ticks) next m event (node, wants, is, to) may orderly served line_at routed =
       as_routed m event (Host_does (no_more_event m.host.state node)) is (does_routed m (no_more_event m.host.state node) routed)
-  routed_on (Submitting passes ticks) next m event (asked, next_is, is, to) orderly served line_at routed = as_routed m event (Host_does asked) is (does_routed m asked routed)
-  routed_on (Moving passes ticks) next m event (rest, ways, is, to) orderly served line_at routed =
+  routed_on (Submitting passes ticks) next m event (asked, next_is, is, to) may orderly served line_at routed = as_routed m event (Host_does asked) is (does_routed m asked routed)
+  routed_on (Moving passes ticks) next m event (rest, ways, is, to) may orderly served line_at routed =
       as_routed m event (Outside_does (Chip_takes (length m.outside.outer.to_chip.bytes) rest ways)) is
-      (takes_routed m rest ways (part_unmarked passes m line_at) (subst (IsServed m) is served) (subst (IsOrderly m) is orderly) routed)
-  routed_on (Moved b passes ticks) next m event (rest, items, done, is, to) orderly served line_at routed =
+      (takes_routed m rest ways (part_unmarked passes m line_at) (subst (May m) is may) (subst (IsServed m) is served) (subst (IsOrderly m) is orderly) routed)
+  routed_on (Moved b passes ticks) next m event (rest, items, done, is, to) may orderly served line_at routed =
       as_routed m event (Host_takes (length m.outside.outer.to_host.bytes) rest items done) is
       (calm_routed m.outside.outer (happens m (Host_takes (length m.outside.outer.to_host.bytes) rest items done)).outside.outer (takes_calm air m (length m.outside.outer.to_host.bytes) rest items done) routed)
-  routed_on here next m event goes orderly served line_at routed = absurd goes
+  routed_on here next m event goes may orderly served line_at routed = absurd goes
 
 -- ---- the frame of the request is on the line until it is acknowledged
 
@@ -717,7 +769,7 @@ module _ (stays : StaysOnLine) where
 
 -- ---- events
 
-module _ (laws : Outsides) (ids : Ids) where
+module _ (laws : Outsides) (ids : Ids) (payloads : Payloads) where
   may_is : (m : Machine) (event is : Event) → event ≡ is → May m event → May m is
   may_is m event is same may = subst (May m) same may
 
@@ -727,24 +779,26 @@ module _ (laws : Outsides) (ids : Ids) where
   served_as : (m : Machine) (event is : Event) → event ≡ is → IsServed m is → IsServed m event
   served_as m event is same served = subst (IsServed m) (sym same) served
 
-  event_served : (here next : Phase) (m : Machine) (event : Event) → Goes here m event next → May m event → IsOrderly m event → LineAt here m → RoomAt here m → TieAt here m → IsServed m event
-  event_served (Said_line line) next m event (is, to) may orderly line_at room tie = served_as m event (Outside_does Begins_line) is tt
-  event_served (Doing line (first ∷ left)) next m event (is, to) may orderly line_at room tie = served_as m event first is (effect_served m first line_at.0.0 (orderly_is m event first is orderly))
-  event_served (To_tick (suc ticks)) next m event (is, to) may orderly line_at room tie = served_as m event (Outside_does Begins_tick) is tt
-  event_served (Arriving (suc frames) ticks) next m event (drawn, route, is, to) may orderly line_at room tie = served_as m event (Outside_does (Arrives drawn route)) is tt
-  event_served (Giving (suc results) ticks) next m event (route, is, to) may orderly line_at room tie = served_as m event (Outside_does (Gives route)) is tt
-  event_served (Ticking_devices place (suc count) ticks) next m event (drawn, route, is, to) may orderly line_at room tie = served_as m event (Outside_does (Device_ticks place drawn route)) is tt
-  event_served (Ticking_chip ticks) next m event (is, to) may orderly line_at room tie = served_as m event (Outside_does Chip_ticks) is tt
-  event_served (Ticking_decoder ticks) next m event (is, to) may orderly line_at room tie = served_as m event Decoder_ticks is (orderly_is m event Decoder_ticks is orderly)
-  event_served (Ticking_host (first ∷ events) ticks) next m event (is, to) may orderly line_at room tie = served_as m event (Host_does first) is (orderly_is m event (Host_does first) is orderly).0
-  event_served (Sleeping passes ticks) next m event (node, wants, is, to) may orderly line_at room tie =
-      served_as m event (Host_does (no_more_event m.host.state node)) is (orderly_is m event (Host_does (no_more_event m.host.state node)) is orderly).0
-  event_served (Submitting passes ticks) next m event (asked, next_is, is, to) may orderly line_at room tie = served_as m event (Host_does asked) is (orderly_is m event (Host_does asked) is orderly).0
-  event_served (Moving passes ticks) next m event (rest, ways, is, to) may orderly line_at room tie =
+  event_served : (here next : Phase) (m : Machine) (event : Event) → Goes here m event next → May m event → IsOrderly m event → LineAt here m → RoomAt here m → TieAt here m → IsPeopled m → IsServed m event
+  event_served (Said_line line) next m event (is, to) may orderly line_at room tie at = served_as m event (Outside_does Begins_line) is tt
+  event_served (Doing line (first ∷ left)) next m event (is, to) may orderly line_at room tie at = served_as m event first is (effect_served m first line_at.0.0 (orderly_is m event first is orderly))
+  event_served (To_tick (suc ticks)) next m event (is, to) may orderly line_at room tie at = served_as m event (Outside_does Begins_tick) is tt
+  event_served (Arriving (suc frames) ticks) next m event (drawn, route, is, to) may orderly line_at room tie at = served_as m event (Outside_does (Arrives drawn route)) is tt
+  event_served (Giving (suc results) ticks) next m event (route, is, to) may orderly line_at room tie at = served_as m event (Outside_does (Gives route)) is tt
+  event_served (Ticking_devices place (suc count) ticks) next m event (drawn, route, is, to) may orderly line_at room tie at = served_as m event (Outside_does (Device_ticks place drawn route)) is tt
+  event_served (Ticking_chip ticks) next m event (is, to) may orderly line_at room tie at = served_as m event (Outside_does Chip_ticks) is tt
+  event_served (Ticking_decoder ticks) next m event (is, to) may orderly line_at room tie at = served_as m event Decoder_ticks is tt
+  event_served (Ticking_host (first ∷ events) ticks) next m event (is, to) may orderly line_at room tie at =
+      served_as m event (Host_does first) is (mute_well m first (tick_mute m.host.state first line_at.0.0 line_at.1.at_host.turn_is))
+  event_served (Sleeping passes ticks) next m event (node, wants, is, to) may orderly line_at room tie at =
+      served_as m event (Host_does (no_more_event m.host.state node)) is (mute_well m (no_more_event m.host.state node) (no_more_mute laws.air m.host.state node))
+  event_served (Submitting passes ticks) next m event (asked, next_is, is, to) may orderly line_at room tie at =
+      served_as m event (Host_does asked) is (next_well m m.outside.outer.chip.state asked next_is (may_is m event _ is may) (next_asked payloads m asked next_is (may_is m event _ is may) tie.paid at).0 tie.paid)
+  event_served (Moving passes ticks) next m event (rest, ways, is, to) may orderly line_at room tie at =
       served_as m event (Outside_does (Chip_takes (length m.outside.outer.to_chip.bytes) rest ways)) is (part_served passes m rest ways (may_is m event _ is may) line_at room tie).0
-  event_served (Moved b passes ticks) next m event (rest, items, done, is, to) may orderly line_at room tie =
-      served_as m event (Host_takes (length m.outside.outer.to_host.bytes) rest items done) is (orderly_is m event (Host_takes (length m.outside.outer.to_host.bytes) rest items done) is orderly)
-  event_served here next m event goes may orderly line_at room tie = absurd goes
+  event_served (Moved b passes ticks) next m event (rest, items, done, is, to) may orderly line_at room tie at =
+      served_as m event (Host_takes (length m.outside.outer.to_host.bytes) rest items done) is (takes_well b passes m rest items done (may_is m event _ is may) line_at)
+  event_served here next m event goes may orderly line_at room tie at = absurd goes
 
   -- the event is this one, and leads there
   abbrev Leads : Phase → Machine → Event → Type 0
@@ -759,32 +813,32 @@ module _ (laws : Outsides) (ids : Ids) where
   few_given : (waits results : ℕ) → waits + results ≤ 31 → waits ≤ 31
   few_given waits results few = omega (arith, few)
 
-  event_ties : (here next : Phase) (m : Machine) (event : Event) → Goes here m event next → May m event → IsOrderly m event → LineAt here m → AwaitsAt here m → RoomAt here m → TieAt here m → Leads next m event
-  event_ties (Said_line line) next m event (is, to) may orderly line_at awaits has tie = as_is next (Begun line) m event (Outside_does Begins_line) is to (λ later room. line_tied m tie)
-  event_ties (Doing line (first ∷ left)) next m event (is, to) may orderly line_at awaits has tie = as_is next (Doing line left) m event first is to (λ later room. effect_tied laws.air m first line_at.0.0 tie)
-  event_ties (To_tick (suc ticks)) next m event (is, to) may orderly line_at awaits has tie = as_is next (Ticked ticks) m event (Outside_does Begins_tick) is to (λ later room. tick_tied m tie)
-  event_ties (Arriving (suc frames) ticks) next m event (drawn, route, is, to) may orderly line_at awaits has tie =
-      as_is next (Arriving frames ticks) m event (Outside_does (Arrives drawn route)) is to (λ later room. arrives_tied m drawn route (few_arrive _ frames _ room) line_at later tie)
-  event_ties (Giving (suc results) ticks) next m event (route, is, to) may orderly line_at awaits has tie =
+  event_ties : (here next : Phase) (m : Machine) (event : Event) → Goes here m event next → May m event → IsOrderly m event → LineAt here m → AwaitsAt here m → RoomAt here m → TieAt here m → IsPeopled m → Leads next m event
+  event_ties (Said_line line) next m event (is, to) may orderly line_at awaits has tie at = as_is next (Begun line) m event (Outside_does Begins_line) is to (λ later room. line_tied m tie)
+  event_ties (Doing line (first ∷ left)) next m event (is, to) may orderly line_at awaits has tie at = as_is next (Doing line left) m event first is to (λ later room. effect_tied laws.air m first line_at.0.0 tie)
+  event_ties (To_tick (suc ticks)) next m event (is, to) may orderly line_at awaits has tie at = as_is next (Ticked ticks) m event (Outside_does Begins_tick) is to (λ later room. tick_tied m tie)
+  event_ties (Arriving (suc frames) ticks) next m event (drawn, route, is, to) may orderly line_at awaits has tie at =
+      as_is next (Arriving frames ticks) m event (Outside_does (Arrives drawn route)) is to (λ later room. arrives_tied m drawn route (few_arrive _ frames _ room) line_at later at tie)
+  event_ties (Giving (suc results) ticks) next m event (route, is, to) may orderly line_at awaits has tie at =
       as_is next (Giving results ticks) m event (Outside_does (Gives route)) is to (λ later room. gives_tied m route (few_given _ results room) line_at later tie)
-  event_ties (Ticking_devices place (suc count) ticks) next m event (drawn, route, is, to) may orderly line_at awaits has tie =
+  event_ties (Ticking_devices place (suc count) ticks) next m event (drawn, route, is, to) may orderly line_at awaits has tie at =
       as_is next (Ticking_devices (place + 1) count ticks) m event (Outside_does (Device_ticks place drawn route)) is to (λ later room. device_tied m place drawn route tie)
-  event_ties (Ticking_chip ticks) next m event (is, to) may orderly line_at awaits has tie = as_is next (Ticking_decoder ticks) m event (Outside_does Chip_ticks) is to (λ later room. counts_tied m line_at later tie)
-  event_ties (Ticking_decoder ticks) next m event (is, to) may orderly line_at awaits has tie =
+  event_ties (Ticking_chip ticks) next m event (is, to) may orderly line_at awaits has tie at = as_is next (Ticking_decoder ticks) m event (Outside_does Chip_ticks) is to (λ later room. counts_tied m line_at later tie)
+  event_ties (Ticking_decoder ticks) next m event (is, to) may orderly line_at awaits has tie at =
       as_is next (Ticking_host (tick_events m.host.state) ticks) m event Decoder_ticks is to (λ later room. decoder_tied m tie)
-  event_ties (Ticking_host (first ∷ events) ticks) next m event (is, to) may orderly line_at awaits has tie =
+  event_ties (Ticking_host (first ∷ events) ticks) next m event (is, to) may orderly line_at awaits has tie at =
       as_is next (Ticking_host events ticks) m event (Host_does first) is to (λ later room. host_tied laws.air m first events line_at.1 awaits tie)
-  event_ties (Sleeping passes ticks) next m event (node, wants, is, to) may orderly line_at awaits has tie =
+  event_ties (Sleeping passes ticks) next m event (node, wants, is, to) may orderly line_at awaits has tie at =
       as_is next (Sleeping passes ticks) m event (Host_does (no_more_event m.host.state node)) is to (λ later room. no_more_tied laws.air m node tie)
-  event_ties (Submitting passes ticks) next m event (asked, next_is, is, to) may orderly line_at awaits has tie =
-      as_is next (Submitting passes ticks) m event (Host_does asked) is to (λ later room. asks_tied laws.air ids m asked next_is (may_is m event _ is may) (orderly_is m event _ is orderly) tie)
-  event_ties (Moving passes ticks) next m event (rest, ways, is, to) may orderly line_at awaits has tie =
+  event_ties (Submitting passes ticks) next m event (asked, next_is, is, to) may orderly line_at awaits has tie at =
+      as_is next (Submitting passes ticks) m event (Host_does asked) is to (λ later room. asks_tied laws.air ids m asked next_is (may_is m event _ is may) (next_asked payloads m asked next_is (may_is m event _ is may) tie.paid at).0 tie)
+  event_ties (Moving passes ticks) next m event (rest, ways, is, to) may orderly line_at awaits has tie at =
       as_is next (Moved true passes ticks) m event (Outside_does (Chip_takes (length m.outside.outer.to_chip.bytes) rest ways)) is to
       (λ later room. part_tied_on passes m rest ways (may_is m event _ is may) later (part_served passes m rest ways (may_is m event _ is may) line_at has tie).1.tied)
-  event_ties (Moved b passes ticks) next m event (rest, items, done, is, to) may orderly line_at awaits has tie =
+  event_ties (Moved b passes ticks) next m event (rest, items, done, is, to) may orderly line_at awaits has tie at =
       as_is next (Sleeping passes ticks) m event (Host_takes (length m.outside.outer.to_host.bytes) rest items done) is to
       (λ later room. judged_tied laws.air b passes m rest items done (may_is m event _ is may) line_at tie)
-  event_ties here next m event goes may orderly line_at awaits has tie = absurd goes
+  event_ties here next m event goes may orderly line_at awaits has tie at = absurd goes
 
   -- ---- parts that begin
 
@@ -817,7 +871,7 @@ module _ (laws : Outsides) (ids : Ids) where
 
   -- ---- the walk
 
-  module _ (pumps : Pumped) (stays : StaysOnLine) where
+  module _ (pumps : Pumped) (stays : StaysOnLine) (facts_kept : FactsKept) (opened : OpenedFacts) where
     lines : WalkWhere IsServed AsksNothing KnowLine
     lines = line_walk laws.air pumps
 
@@ -825,21 +879,21 @@ module _ (laws : Outsides) (ids : Ids) where
     tied_walk = record {
       said = λ past m words line read known. (
         tt,
-        λ quiet. let both = quiet_both past (entry.Said words ∷ []) quiet in let here = known both.0 in ((said_quiet words line read both.1, here.0), here.1, tt, here.3, here.4, here.5),
+        λ quiet. let both = quiet_both past (entry.Said words ∷ []) quiet in let here = known both.0 in ((said_quiet words line read both.1, here.0), here.1, tt, here.3, here.4, here.5, here.6, here.7),
       );
       event = λ here next past m event goes may orderly known. (
         nothing_asked past (entries m event),
         λ quiet.
             let at = known (quiet_both past (entries m event) quiet).0 in
-            let served : IsServed m event = event_served here next m event goes may orderly at.0 at.2 at.5 in
+            let served : IsServed m event = event_served here next m event goes may orderly at.0 at.2 at.6 at.7 in
             let later : LineAt next (happens m event) = (lines.event here next past m event goes may served (λ said. at.0)).1 quiet in
-            let room : RoomAt next (happens m event) = event_room laws.air here next m event goes may orderly at.0 at.2 at.5 in
-            (later, event_awaits laws here next m event goes may at.0 at.1, room, routed_on laws.air here next m event goes orderly served at.0 at.3, lines_on stays here next m event goes may at.0 at.5 at.4, event_ties here next m event goes may orderly at.0 at.1 at.2 at.5 later room),
+            let room : RoomAt next (happens m event) = event_room laws.air here next m event goes may orderly at.0 at.2 at.6 at.3 in
+            (later, event_awaits laws here next m event goes may at.0 at.1, room, routed_on laws.air here next m event goes may orderly served at.0 at.3, lines_on stays here next m event goes may at.0 at.6 at.4, pumped_on here next m event goes at.5, event_ties here next m event goes may orderly at.0 at.1 at.2 at.6 at.7 later room, peopled_on payloads laws.air facts_kept opened here next m event goes may orderly at.0 at.6 at.7),
       );
       turn = λ here next past m turns known quiet.
           let at = known quiet in
           let later : LineAt next m = lines.turn here next past m turns (λ said. at.0) quiet in
-          (later, turn_awaits laws here next m turns at.1, turn_room here next m turns at.0 at.2, at.3, at.4, turn_ties here next m turns at.0 later at.5);
+          (later, turn_awaits laws here next m turns at.1, turn_room here next m turns at.0 at.2, at.3, at.4, turn_pumped here next m turns at.5, turn_ties here next m turns at.0 later at.6, at.7);
     }
 
 -- ---- between lines
@@ -871,10 +925,14 @@ request_rests m is = record { none_due = is.routed.none_due; paid = is.tie.paid;
     answers u (inl answered) = answered
     answers u (inr has) = absurd (subst HasAnswer none_left has)
 
-    by : Tied false (ends_of h s) (unheard m.outside.outer) [] → SendsFew m → HasNone m ⊎ IsTaken m
+    nothing_left : h.requests.under_way ≡ None → IsPumped h → HasNothing h
+    nothing_left none (inl busy) = absurd (busy (record { none_under_way = none; free_line = ap is_busy is.rests.at_host.turn_is }))
+    nothing_left none (inr nothing) = nothing
+
+    by : Tied false (ends_of h s) (unheard m.outside.outer) [] → SendsFew m → (HasNone m × HasNothing h) ⊎ IsTaken m
     by (On_way u of fresh at) few = absurd (let no = at.asked in cc)
     by (Called u of fresh at) few = absurd (not_empty at.before (notice_frame (SendData h.requests.last_id at.status)) at.behind (sym at.are ∙ none_left))
-    by (Nowhere at) (inl nothing) = inl (record { no_request = at.none; sends = nothing })
+    by (Nowhere at) (inl nothing) = inl (record { no_request = at.none; sends = nothing }, nothing_left at.none is.pumped)
     by (Nowhere at) (inr one) = absurd (let no : is_some s.sending ≡ false = ap (λ (o : Option Sending). is_some o) at.idle in let yes = one.sending in cc)
     by (At_chip u of fresh at) (inl nothing) = absurd (let yes : is_some s.sending ≡ true = ap (λ (o : Option Sending). is_some o) at.is_sending in let no = nothing.not_sending in cc)
     by (At_chip u of fresh at) (inr one) =

@@ -8,5 +8,7 @@ pub mod Calls
 pub mod Networks
 pub mod Awaited
 pub mod Routed
+pub mod Known
+pub mod Homeward
 pub mod Undisturbed
 pub mod Tied

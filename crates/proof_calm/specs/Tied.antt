@@ -28,19 +28,23 @@ use Rattle.host_requests.specs.declared.under_way.UnderWay.{UnderWay}
 use Rattle.host_node.specs.declared.attempt.Moment.TheVariants.{BeforeItsTick}
 use Rattle.host_model.specs.After.{task_purpose}
 use Rattle.host_model.specs.Events.{HostEvent, Line_ticks, Requests_do, Node_ticks, Submits_front, Starts, Gives_text, Gives_segment}
+use Rattle.host_model.specs.Facts.{HostFacts}
+use Rattle.host_model.specs.Pumping.{HasNothing, IsPumped}
 use Rattle.host_model.specs.State.{HostState}
 use Rattle.outside_model.specs.Events.{OuterEvent, Begins_tick, Chip_takes}
 use Rattle.outside_model.specs.State.{OuterState}
-use Rattle.world_model.specs.Events.{Event, Outside_does, Host_does}
+use Rattle.world_model.specs.Events.{Event, Outside_does}
 use Rattle.world_model.specs.State.{Machine}
-use Rattle.proof_serial.specs.Line.{WritesWell}
+use Rattle.proof_serial.specs.Host.{AsksWell, HostFits}
 use Rattle.proof_work.specs.Line.{HasOnLine}
-use Rattle.proof_work.specs.proof_walk.Phases.{Phase, Ticked, Arriving, Giving, Ticking_devices, Ticking_chip, Ticking_decoder, Ticking_host, Sleeping, Submitting, Moving, Moved}
+use Rattle.proof_work.specs.proof_walk.Phases.{Phase, Between, Said_line, Begun, To_tick, Ticked, Arriving, Giving, Ticking_devices, Ticking_chip, Ticking_decoder, Ticking_host, Sleeping, Submitting, Moving, Moved}
 use Rattle.proof_calm.specs.Awaited.{Awaits, AwaitsAt}
 use Rattle.proof_calm.specs.Calls.{answer_taken}
+use Rattle.proof_calm.specs.Homeward.{SpeaksHome}
+use Rattle.proof_calm.specs.Known.{IsMember, KnowsMembers}
 use Rattle.proof_calm.specs.Quiet.{AreQuiet}
 use Rattle.proof_calm.specs.Resting.{LineAt, LineRests}
-use Rattle.proof_calm.specs.Routed.{HaveRoutes, IsRouted}
+use Rattle.proof_calm.specs.Routed.{IsRouted, Reaches}
 use Rattle.proof_calm.specs.Undisturbed.{HasNone, IsTaken}
 
 -- ---- frames of the chip
@@ -59,14 +63,14 @@ unheard_by (byte ∷ bytes) port = on_line port.side.turn ++ port.waiting
 abbrev pub unheard : OuterState → List FrameParts
 unheard o = unheard_by o.to_host.bytes o.chip.state.port
 
--- a SendData that is under way goes on with it: the answer that it was taken, a payload of a node, information of a node
-pub data LeavesIt (frame : FrameParts) : Type 0 where
-  Answers : frame ≡ answer_taken → LeavesIt frame
-  Brings : (n : ℕ) (payload : List ℕ) → frame ≡ notice_frame (ApplicationCommandHandler 0 n payload) → LeavesIt frame
-  Informs : (update : Update) → frame ≡ notice_frame (ApplicationUpdate update) → LeavesIt frame
+-- a SendData that is under way goes on with it: the answer that it was taken, a payload of a joined node, information of a node
+pub data LeavesIt (joined : List Bool) (frame : FrameParts) : Type 0 where
+  Answers : frame ≡ answer_taken → LeavesIt joined frame
+  Brings : (n : ℕ) (payload : List ℕ) → IsMember joined n → 1 ≤ length payload → frame ≡ notice_frame (ApplicationCommandHandler 0 n payload) → LeavesIt joined frame
+  Informs : (update : Update) → frame ≡ notice_frame (ApplicationUpdate update) → LeavesIt joined frame
 
-abbrev pub LeaveIt : List FrameParts → Type 0
-LeaveIt frames = AllByRecursion LeavesIt frames
+abbrev pub LeaveIt : List Bool → List FrameParts → Type 0
+LeaveIt joined frames = AllByRecursion (LeavesIt joined) frames
 
 -- ---- the request under way
 
@@ -109,13 +113,13 @@ pub record IsOf (u : UnderWay) (e : Ends) : Type 0 where
 pub record IsNowhere (e : Ends) (pending asking : List FrameParts) : Type 0 where
   pub none : e.under_way ≡ None
   pub idle : e.sending ≡ None
-  pub leave : LeaveIt pending
+  pub leave : LeaveIt e.joined pending
   pub nothing : asking ≡ []
 
 -- its frame is on its way to the chip
 pub record IsOnWay (u : UnderWay) (e : Ends) (pending asking : List FrameParts) : Type 0 where
   pub idle : e.sending ≡ None
-  pub leave : LeaveIt pending
+  pub leave : LeaveIt e.joined pending
   pub asked : asking ≡ frame_of u.purpose e.last_id ∷ []
   pub asks : AsksToSend e.joined u.purpose e.last_id
   pub from : 1 ≤ e.last_id
@@ -131,7 +135,7 @@ pub record IsAtChip (u : UnderWay) (e : Ends) (pending asking : List FrameParts)
   pub node : ℕ
   pub is_sending : e.sending ≡ Some (record { node = node; callback_id = e.last_id })
   pub answered : (is_answered u.progress ≡ true) ⊎ HasAnswer pending
-  pub leave : LeaveIt pending
+  pub leave : LeaveIt e.joined pending
   pub nothing : asking ≡ []
 
 -- its call is on its way to the host
@@ -141,8 +145,8 @@ pub record IsCalled (e : Ends) (pending asking : List FrameParts) : Type 0 where
   pub status : TransmitStatus
   pub behind : List FrameParts
   pub are : pending ≡ before ++ notice_frame (SendData e.last_id status) ∷ behind
-  pub before_leave : LeaveIt before
-  pub behind_leave : LeaveIt behind
+  pub before_leave : LeaveIt e.joined before
+  pub behind_leave : LeaveIt e.joined behind
   pub nothing : asking ≡ []
 
 -- one of these; once the host has counted the tick, only the wait of one whose call comes is shorter
@@ -212,8 +216,24 @@ RoomAt (Moving passes ticks) m = HasRoom m.outside.outer.chip.state
 RoomAt (Moved has_moved passes ticks) m = HasRoom m.outside.outer.chip.state
 RoomAt here m = Unit {0}
 
+-- between lines and before each tick, the host has submitted what it can
+abbrev pub PumpedAt : Phase → Machine → Type 0
+PumpedAt Between m = IsPumped m.host.state
+PumpedAt (Said_line line) m = IsPumped m.host.state
+PumpedAt (Begun line) m = IsPumped m.host.state
+PumpedAt (To_tick ticks) m = IsPumped m.host.state
+PumpedAt here m = Unit {0}
+
+-- the host has to do with joined nodes alone, these alone speak on the air, and what the host gives is short
+pub record IsPeopled (m : Machine) : Type 0 where
+  pub facts : HostFacts m.host.state
+  pub fits : HostFits m.host.state
+  pub knows : KnowsMembers m.outside.outer.chip.state.joined m.host.state
+  pub speaks : SpeaksHome m.outside.outer.chip.state.joined m.outside.outer
+
 abbrev pub KnowTied : Phase → List Entry → Machine → Type 0
-KnowTied here past m = AreQuiet past → LineAt here m × AwaitsAt here m × RoomAt here m × IsRouted m.outside.outer × HasOnLine m.host.state × TieAt here m
+KnowTied here past m =
+    AreQuiet past → LineAt here m × AwaitsAt here m × RoomAt here m × IsRouted m.outside.outer × HasOnLine m.host.state × PumpedAt here m × TieAt here m × IsPeopled m
 
 -- between lines
 pub record IsTied (m : Machine) : Type 0 where
@@ -221,17 +241,19 @@ pub record IsTied (m : Machine) : Type 0 where
   pub awaits : Awaits m
   pub routed : IsRouted m.outside.outer
   pub on_line : HasOnLine m.host.state
+  pub pumped : IsPumped m.host.state
   pub tie : TieOf false m []
+  pub peopled : IsPeopled m
 
--- no result is due and no abort owed; and no request is under way, or one that the chip took
+-- no result is due and no abort owed; and no request is under way and there is nothing to submit, or one is under way that the chip took
 pub record RequestRests (m : Machine) : Type 0 where
   pub none_due : m.outside.outer.due ≡ []
   pub paid : m.host.state.requests.owes ≡ false
-  pub request : HasNone m ⊎ IsTaken m
+  pub request : (HasNone m × HasNothing m.host.state) ⊎ IsTaken m
 
 -- ---- what is assumed of events
 
--- each request that the host submits asks to send so
+-- a request that the host submits asks to send so
 abbrev pub AsksAt : List Bool → HostState → HostEvent → Type 0
 AsksAt joined h Submits_front = AsksToSend joined (task_purpose h.requests.queue) (next_id h.requests.last_id)
 AsksAt joined h (Starts n plan more payload) = AsksToSend joined (Attempt n more payload) (next_id h.requests.last_id)
@@ -239,14 +261,13 @@ AsksAt joined h (Gives_text n payload) = AsksToSend joined (Attempt n false payl
 AsksAt joined h (Gives_segment n more payload) = AsksToSend joined (Attempt n more payload) (next_id h.requests.last_id)
 AsksAt joined h event = Unit {0}
 
--- as a tick begins, at most 31 frames are on the air and results due; and each payload that the chip takes has a route
+-- as a tick begins, at most 31 frames are on the air; and where the chip takes what is on its way to it, its table has a walk to each joined node
 abbrev pub IsOrderlyOutside : Machine → OuterEvent → Type 0
-IsOrderlyOutside m Begins_tick = to_arrive m + length m.outside.outer.due ≤ 31
-IsOrderlyOutside m (Chip_takes count rest ways) = HaveRoutes ways
+IsOrderlyOutside m Begins_tick = to_arrive m ≤ 31
+IsOrderlyOutside m (Chip_takes count rest ways) = Reaches m.outside.outer.chip.state.table m.outside.outer.chip.state.joined
 IsOrderlyOutside m event = Unit {0}
 
--- and each frame that the host writes fits the line
+-- and what the machine says no length of is short
 abbrev pub IsOrderly : Machine → Event → Type 0
 IsOrderly m (Outside_does event) = IsOrderlyOutside m event
-IsOrderly m (Host_does event) = WritesWell m (Host_does event) × AsksAt m.outside.outer.chip.state.joined m.host.state event
-IsOrderly m event = WritesWell m event
+IsOrderly m event = AsksWell m event

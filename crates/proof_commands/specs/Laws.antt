@@ -1,6 +1,6 @@
 -- What a run of `sim` or `generate` keeps true (this project's own): its story is the lines that were run, each with the events of the machine that it
 -- was, and the laws are of this story.
-use Rattle.std.specs.Prelude.{◌≡◌, ◌⊎◌, ℕ, Bool, true, false, List, [], ◌∷◌, ◌++◌, map, Option, Some, Ok}
+use Rattle.std.specs.Prelude.{◌≡◌, ◌⊎◌, ℕ, Bool, true, List, [], ◌∷◌, ◌++◌, map, Option, Some, Ok}
 use Rattle.std.specs.List.{AllByRecursion, list_any}
 use Rattle.zw_text.specs.Line.{line_at}
 use Rattle.zw_text.specs.declared.line.Line.{Line}
@@ -382,7 +382,8 @@ WakesNodes key old new = AlwaysOf key old new (λ story. TellsAtRestarts old sto
 
 -- one that does not listen falls asleep where its third attempt or its No More Information has ended, and is held awake where the report that ends its session asks so; both wherever that is
 abbrev pub SendsToSleep : List ℕ → Around → Around → Type 0
-SendsToSleep key old new = AlwaysOf key old new (λ story. TellsAtRestarts old story → FallsAsleep false (transcript key old story))
+SendsToSleep key old new = AlwaysOf key old new
+    (λ story. TellsAtRestarts old story → (whole : Bool) → (whole ≡ true → AreSchedules (first key old) story) → FallsAsleep whole (transcript key old story))
 
 abbrev pub HoldsNodes : List ℕ → Around → Around → Type 0
 HoldsNodes key old new = AlwaysOf key old new (λ story. TellsAtRestarts old story → HoldsAsAsked (transcript key old story))

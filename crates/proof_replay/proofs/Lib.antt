@@ -5,5 +5,7 @@ mod Replaying
 mod Ran
 mod Serving
 mod Words
+mod From
+mod Begun
 mod Starting
 mod Orderly

@@ -1,7 +1,7 @@
 -- What the host of `host` hears at its steps (this project's own rule). A line is its words, and one that was refused has its refusal. Bytes that were read are
 -- the word `chip`, which is no line, and what came in them; a tick is a line `tick 1`; and a start from records is a line `restart` after what
 -- hosts heard before.
-use Rattle.std.specs.Prelude.{◌≡◌, ℕ, ◌+◌, Bool, true, false, List, [], ◌∷◌, ◌++◌, codes, Option, Some, None, IsSome}
+use Rattle.std.specs.Prelude.{◌≡◌, ℕ, ◌+◌, Bool, true, false, List, [], ◌∷◌, ◌++◌, codes, Option, Some, None, IfSome, IsSome}
 use Rattle.std.specs.List.{flat_map}
 use Rattle.s0_crypto.specs.declared.key_pair.Keys.{Keys}
 use Rattle.zw_words.specs.declared.side.Side.TheVariants.{Host}
@@ -24,13 +24,15 @@ use Rattle.port_run.specs.declared.line.PortLine.{PortLine}
 use Rattle.port_run.specs.declared.line.PortLine.TheVariants.{Plain, Wait}
 use Rattle.world_model.specs.Refusals.{IsRefused}
 use Rattle.run_replay.specs.Machine.{Lone, alone, entries_of, timed}
-use Rattle.proof_requests.specs.proof_alone.State.{first_alone, host_machine}
-use Rattle.proof_requests.specs.proof_alone.Phases.{Resting}
-use Rattle.proof_requests.specs.proof_alone.Runs.{Run}
+use Rattle.proof_asking.specs.proof_requests.law_host.Notes.{Start}
+use Rattle.proof_asking.specs.proof_requests.law_host.Starting.{StartsFrom}
+use Rattle.proof_asking.specs.proof_requests.proof_alone.State.{first_alone, host_machine}
+use Rattle.proof_asking.specs.proof_requests.proof_alone.Phases.{Resting}
+use Rattle.proof_asking.specs.proof_requests.proof_alone.Runs.{Run}
 use Rattle.proof_asking.specs.proof_known.Known.{AreSaidToHost}
 use Rattle.proof_replay.specs.Heard.{came_of}
 use Rattle.proof_replay.specs.Linked.{LineRests}
-use Rattle.proof_replay.specs.Laws.{HostsKeepLaws}
+use Rattle.proof_replay.specs.Laws.{HostsKeepLaws, KeepsFrom}
 
 -- ---- words
 
@@ -121,6 +123,12 @@ IsRunSteps whole [] = whole ≡ false
 IsRunSteps whole (Pumps ∷ steps) = AreOrderly whole steps
 IsRunSteps whole (step ∷ steps) = ⊥
 
+-- ---- starts
+
+-- a host that starts from these records does so after these entries, which show what they give
+abbrev pub StartsAfter : List Entry → List (List ℕ) → Type 0
+StartsAfter before texts = (start : Start) × StartsFrom texts start × (start.before ≡ before)
+
 -- ---- hosts before
 
 -- a keeper that holds so many records tells these; or it tells none, and holds none
@@ -140,11 +148,13 @@ pub record HaveHeard (keys : Keys) (number : ℕ) (told : Option (List (List ℕ
   pub holds : Holds number told held
   pub said : AreSaidToHost past
 
--- From its start a host did these steps and heard this, and over what hosts have heard by now these laws hold, and their links kept the rules. Where it came to rest, and its keeper tells
--- its records, hosts have heard all that when the next one starts.
+-- From its start a host did these steps and heard this, and over what hosts have heard by now these laws hold, and their links kept the rules. What it heard itself keeps laws
+-- from what stood before, up to its start; that shows what its keeper's records give, where it tells them. Where it came to rest, and its keeper tells its records, hosts have heard all that when the next one starts.
 pub record HearsMore (keys : Keys) (past : List Entry) (clock : ℕ) (whole : Bool) (steps : List Step) (old new : Place) : Type 0 where
   pub heard : List Entry
   pub hears : HearsRun clock steps old new heard
   pub keeps : HostsKeepLaws keys whole (past ++ Said restart_word ∷ heard) new.shelf.records
   pub link : KeepsLink Host (ended whole (past ++ Said restart_word ∷ heard))
+  pub starts : IfSome old.shelf.records (StartsAfter (past ++ Said restart_word ∷ []))
+  pub from : KeepsFrom keys (past ++ Said restart_word ∷ []) whole heard new.shelf.records
   pub next : whole ≡ true → (many : ℕ) → IsSome new.shelf.records → HaveHeard keys many new.shelf.records (past ++ Said restart_word ∷ heard)

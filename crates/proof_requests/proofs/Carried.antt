@@ -13,7 +13,7 @@ use Rattle.s0_crypto.specs.declared.ends.SealEnds.{SealEnds}
 use Rattle.s0_crypto.specs.declared.key_pair.Keys.{Keys}
 use Rattle.transport_segments.specs.Parts.{slice_at}
 use Rattle.transport_segments.specs.Segment.{segment_header, segment_text}
-use Rattle.device_kinds.specs.Sealing.{sealed_text}
+use Rattle.s0_crypto.specs.Sealing.{sealed_text}
 use Rattle.host_orders.specs.Errands.{get_command, get_text, gettable_of, plain_plan, plain_text, send_text, sendable_of}
 use Rattle.host_orders.specs.Messages.{value_message}
 use Rattle.host_orders.specs.Wrapping.{ends_of, form_of, message_of}
@@ -27,10 +27,9 @@ use Rattle.host_orders.specs.declared.errand.Gettable.TheVariants as gettables
 use Rattle.host_model.specs.State.{Command, HostState}
 use Rattle.host_model.specs.May.{IsStart}
 use Rattle.host_model.specs.Sessions.{command_if, message_for, open_segment, segment_at, segment_by, segment_count, segment_of, start_by}
-use Rattle.host_node.specs.State.{NodeState, ends_to}
+use Rattle.host_node.specs.State.{NodeState}
 use Rattle.host_node.specs.declared.attempt.Plan.{Plan}
 use Rattle.supervision.specs.Host.{command_at as command_of_session}
-use Rattle.proof_sending.specs.Reasons.{IsCarriedBy, IsPart, Reason}
 use Rattle.proof_requests.specs.Carrying.{is_asked_class, is_errand, unaddressed}
 
 -- ---- what a line asks for
@@ -147,13 +146,3 @@ open_none h n (Some session) k payload is = by (command_if h.commands (command_o
     by : (o : Option Command) → segment_of o session k ≡ Some payload → is_errand payload ≡ false
     by None found = absurd (none_is payload found)
     by (Some command) found = form_none (form_of command.carriage.outer) session (message_for command session) k payload found
-
-pub part_none : (Holds : Reason → Type 0) (keys : Keys) (h : HostState) (n : ℕ) (payload : List ℕ) → IsPart Holds keys h n payload → is_errand payload ≡ false
-part_none Holds keys h n payload part = by (form_of part.taken.carriage.outer) part.carried
-  where
-    by : (f : Form) → IsCarriedBy Holds keys n part.session f (message_of part.taken.carriage part.taken.order part.session) payload → is_errand payload ≡ false
-    by Whole is = as_none payload (message_of part.taken.carriage part.taken.order part.session) is (message_none part.taken.carriage part.taken.order part.session)
-    by Cut is = as_none payload (segment_at part.session (message_of part.taken.carriage part.taken.order part.session) is.place) is.text
-        (at_none part.session (message_of part.taken.carriage part.taken.order part.session) is.place)
-    by Sealed is = as_none payload (sealed_text keys is.own is.nonce (ends_to n) (message_of part.taken.carriage part.taken.order part.session)) is.text
-        (sealed_none keys is.own is.nonce (ends_to n) (message_of part.taken.carriage part.taken.order part.session))

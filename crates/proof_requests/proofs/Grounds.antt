@@ -6,9 +6,7 @@ use Rattle.zw_text.specs.declared.entry.Entry.{Entry}
 use Rattle.law_time.specs.Moments.{Allows}
 use Rattle.law_time.specs.Waking.{may_wake}
 use Rattle.proof_host.specs.Laws.{MayStand}
-use Rattle.host_model.specs.State.{first_host}
-use Rattle.proof_sending.proofs.Books.{TextsLeft}
-use Rattle.proof_sending.proofs.Reasoned.{first_is}
+use Rattle.proof_messages.proofs.SealedTexts.{TextsLeft}
 use Rattle.proof_waking.specs.proof_walk.Time.{MayCount}
 use Rattle.proof_waking.specs.proof_alone.State.{first_alone}
 use Rattle.proof_waking.specs.proof_alone.Phases.{Resting}
@@ -21,7 +19,7 @@ use Rattle.proof_waking.specs.Judged.{KnowsJudged}
 use Rattle.proof_requests.specs.Walking.{Ground, KnowsAsked, KnowsCame, KnowsHost, KnowsQueue}
 use Rattle.proof_requests.proofs.Came.{came_walk}
 use Rattle.proof_requests.proofs.Queued.{PayloadsBring}
-use Rattle.proof_requests.proofs.Queueing.{queue_walk, reasoned_texts}
+use Rattle.proof_requests.proofs.Queueing.{first_texts, queue_walk}
 use Rattle.proof_requests.proofs.Stepping.{asked_walk, first_asked}
 
 -- a walk goes on any ground
@@ -47,4 +45,4 @@ asked_so brings left host =
 pub first_so : (keys : Keys) → KnowsTables Resting [] (first_alone keys (Some [])) → KnowsJudged Resting [] (first_alone keys (Some []))
     → both_know Ground KnowsAsked Resting [] (first_alone keys (Some []))
 first_so keys tables judged =
-    (((((tables, first_clock (first_alone keys (Some [])) refl refl refl), judged), tt), ((tt, refl, tt), tt, reasoned_texts keys (first_host keys) (first_is (λ reason. Unit {0}) keys))), first_asked (first_alone keys (Some [])) refl)
+    (((((tables, first_clock (first_alone keys (Some [])) refl refl refl), judged), tt), ((tt, refl, tt), tt, first_texts keys)), first_asked (first_alone keys (Some [])) refl)

@@ -15,7 +15,7 @@ use Rattle.supervision.specs.Host.{command_at as command_of_session}
 use Rattle.host_keep.specs.declared.final_status.FinalStatus.{FinalStatus}
 use Rattle.host_keep.specs.declared.record.Record.{Record}
 use Rattle.host_keep.specs.declared.record.Record.TheVariants.{Final}
-use Rattle.device_kinds.proofs.SealingLemmas.{sealed_is}
+use Rattle.s0_crypto.proofs.SealingLemmas.{sealed_is}
 use Rattle.host_orders.specs.Refusals.{classes_of}
 use Rattle.host_node.specs.State.{SealsText, ends_to}
 use Rattle.host_node.specs.declared.attempt.Plan.TheVariants.{Sealed}
@@ -26,7 +26,7 @@ use Rattle.host_model.specs.Did.{MayAll}
 use Rattle.host_model.specs.Events.{HostEvent, Hears, Queues_no_more, Starts, Takes_nonce}
 use Rattle.host_model.specs.Facts.{HostFacts}
 use Rattle.host_model.specs.May.{May as may_event, known_of}
-use Rattle.host_model.specs.Opening.{restored_all}
+use Rattle.host_model.specs.Opening.{opened, restored_all}
 use Rattle.host_model.specs.Restoring.{ending, restored}
 use Rattle.host_model.proofs.Own.{IsOwn, sleepers_own, submitted_own}
 use Rattle.host_model.proofs.Submitted.{next_is, no_more_is}
@@ -38,11 +38,8 @@ use Rattle.proof_waking.specs.proof_alone.Runs.{WalkOver, both_know}
 use Rattle.proof_waking.specs.Judged.{KnowsJudged}
 use Rattle.proof_requests.specs.Carrying.{is_errand}
 use Rattle.proof_requests.specs.Walking.{AddAt, AddsWell, AreRead, HaveTexts, KnowsCame, KnowsHost, KnowsQueue}
-use Rattle.proof_sending.specs.Reasons.{IsReasoned}
-use Rattle.proof_sending.proofs.Books.{BringsText, TextsLeft, texts_go}
-use Rattle.proof_sending.proofs.Effects.{opens_reasoned}
-use Rattle.proof_sending.proofs.Reasoned.{has_place}
-use Rattle.proof_requests.proofs.Carried.{get_errand, part_none, sealed_none, send_errand}
+use Rattle.proof_messages.proofs.SealedTexts.{BringsText, TextsLeft, bare_texts, first_bare, has_place, restarting_bare, texts_go}
+use Rattle.proof_requests.proofs.Carried.{get_errand, sealed_none, send_errand}
 use Rattle.proof_requests.proofs.Doing.{asks_of}
 use Rattle.proof_requests.proofs.Queued.{PayloadsBring, behind_adds, event_read, own_adds, wanting_is_node}
 
@@ -117,12 +114,20 @@ brings_text n h (Starts m (Sealed plain) more payload) may = λ same. tt
 brings_text n h (Takes_nonce m seen text) (nonce, own, count, seals, eight) = λ same. text_sealed h m own nonce text seals
 brings_text n h event may = tt
 
--- what waits to be given for a reason is a part of a session
-pub reasoned_texts : (keys : Keys) (h : HostState) → IsReasoned (λ reason. Unit {0}) keys h → HaveTexts h
-reasoned_texts keys h reasoned n node = record {
-  text = λ bytes is. part_none (λ reason. Unit {0}) keys h n bytes ((reasoned.texts n node).text bytes is);
-  pending = λ bytes is. tt;
-}
+-- a host at first, and one that starts from its records, has none
+abbrev IsNone : List ℕ → Type 0
+IsNone text = is_errand text ≡ false
+
+abbrev IsAny : List ℕ → Type 0
+IsAny plain = Unit {0}
+
+pub first_texts : (keys : Keys) → HaveTexts (first_host keys)
+first_texts keys n node = bare_texts IsNone IsAny (node_of (first_host keys) n) (first_bare n)
+
+opened_texts : (keys : Keys) (records : Option (List (List ℕ))) (state : HostState) → IsSome records → OpensFrom keys records state → HaveTexts state
+opened_texts keys None state some opens = absurd cc
+opened_texts keys (Some texts) state some (records, are, legal, is) = subst HaveTexts (sym is)
+    (λ n node. bare_texts IsNone IsAny (node_of (opened keys records) n) (restarting_bare (restored_all (first_host keys) records).nodes n node.0))
 
 module _ (brings : PayloadsBring) (left : TextsLeft) where
   own_goes : (next phase : Phase) (m : HostMachine) (event : HostEvent) → MayAll m.state (event ∷ []) → IsOwn event → AddAt phase → next ≡ phase → AreRead m.state.requests.queue
@@ -186,7 +191,7 @@ module _ (brings : PayloadsBring) (left : TextsLeft) where
   step_texts here next past m (Asks event) may ground has = texts_then m.state event ground.0.0.0.facts.host may.3 has
   step_texts here next past m (Refuses refusal) may ground has = has
   step_texts here next past m (Shows node) may ground has = has
-  step_texts here next past m (Restarts state) may ground has = reasoned_texts m.keys state (opens_reasoned (λ reason. Unit {0}) m.keys m.records state ground.0.0.0.told may.1)
+  step_texts here next past m (Restarts state) may ground has = opened_texts m.keys m.records state ground.0.0.0.told may.1
   step_texts here next past m (Begins_tick left_ticks) may ground has = has
   step_texts here next past m Numbers may ground has = has
   step_texts here next past m (Judges item rest behind told) may ground has = texts_then m.state (Hears item) ground.0.0.0.facts.host may.1.may has

@@ -36,7 +36,7 @@ use Rattle.proof_waking.specs.proof_alone.Tables.{KnowsTables}
 use Rattle.proof_waking.specs.proof_alone.Time.{KnowsClock}
 use Rattle.proof_waking.specs.proof_alone.Listening.{KnowsListening}
 use Rattle.proof_waking.specs.Judged.{KnowsJudged}
-use Rattle.proof_sending.specs.Reasons.{HasTexts}
+use Rattle.proof_messages.specs.Hosts.{HasTexts}
 use Rattle.proof_requests.specs.Carrying.{CarriesSo, is_errand}
 use Rattle.proof_requests.specs.Standing.{brought_before, prior_of}
 use Rattle.proof_requests.specs.Asking.{Doing, TieAsked, doing_of}

@@ -1,5 +1,5 @@
 mod Waiting
-pub mod Books
+mod Books
 mod Parts
 pub mod Reasoned
 mod SentUnits

@@ -3,9 +3,10 @@ use Rattle.std.proofs.Common.{◌≡◌, Bool, true, false, List, [], refl, subs
 use Rattle.std.specs.Prelude.{Some}
 use Rattle.s0_crypto.specs.declared.key_pair.Keys.{Keys}
 use Rattle.zw_text.specs.declared.entry.Entry.{Entry}
-use Rattle.proof_requests.specs.proof_alone.State.{HostMachine, first_alone}
-use Rattle.proof_requests.specs.proof_alone.Phases.{Phase, Resting}
-use Rattle.proof_requests.specs.proof_alone.Runs.{Run, Told, ToldWhole}
+use Rattle.law_time.specs.Waking.{FallsAsleep}
+use Rattle.proof_asking.specs.proof_requests.proof_alone.State.{HostMachine, first_alone}
+use Rattle.proof_asking.specs.proof_requests.proof_alone.Phases.{Phase, Resting}
+use Rattle.proof_asking.specs.proof_requests.proof_alone.Runs.{Run, Told, ToldWhole}
 use Rattle.law_transcript.specs.Payloads.{BeginsWithUnit}
 use Rattle.law_wire.specs.Serial.{ended}
 use Rattle.proof_asking.specs.proof_known.Noted.{NotesAtOnce, NotesInTurn}
@@ -20,14 +21,20 @@ same_keys key = refl
 
 -- a law of runs, and of those that end at rest
 by_whole : (Law : Bool → List Entry → Type 0) (start : HostMachine) → ((heard : List Entry) → ToldWhole start heard → Law true heard) → ((heard : List Entry) → Told start heard → Law false heard)
-    → (whole : Bool) (here : Phase) (heard : List Entry) (m : HostMachine) → Run start here heard m → (whole ≡ true → here ≡ Resting) → Law whole heard
-by_whole Law start full part true here heard m run rests = full heard (m, subst (λ (p : Phase). Run start p heard m) (rests refl) run)
+    → (whole : Bool) (here : Phase) (heard : List Entry) (m : HostMachine) → Run start here heard m → (whole ≡ true → (here ≡ Resting) × (m.left ≡ 0)) → Law whole heard
+by_whole Law start full part true here heard m run rests = full heard (m, subst (λ (p : Phase). Run start p heard m) (rests refl).0 run)
 by_whole Law start full part false here heard m run rests = part heard (here, m, run)
+
+-- and one that needs that no tick is to come
+sleeps_by : (start : HostMachine) → ((heard : List Entry) (m : HostMachine) → Run start Resting heard m → m.left ≡ 0 → FallsAsleep true heard) → ((heard : List Entry) → Told start heard → FallsAsleep false heard)
+    → (whole : Bool) (here : Phase) (heard : List Entry) (m : HostMachine) → Run start here heard m → (whole ≡ true → (here ≡ Resting) × (m.left ≡ 0)) → FallsAsleep whole heard
+sleeps_by start full part true here heard m run rests = full heard m (subst (λ (p : Phase). Run start p heard m) (rests refl).0 run) (rests refl).1
+sleeps_by start full part false here heard m run rests = part heard (here, m, run)
 
 pub returns : goal.returns
 returns c = λ keys whole here heard m run rests fine. record {
   orders = c.hosts_keep_their_tables.ensures.laws keys heard (here, m, run);
-  said = c.hosts_do_as_is_said.ensures keys whole here heard m run rests fine;
+  said = c.hosts_do_as_is_said.ensures keys whole here heard m run (λ is. (rests is).0) fine;
   notes = c.hosts_note_what_was_told.ensures.told keys heard (here, m, run);
   opens = c.hosts_note_what_was_told.ensures.opened keys heard (here, m, run);
   at_once =
@@ -36,7 +43,8 @@ returns c = λ keys whole here heard m run rests fine. record {
       by_whole (λ (b : Bool) (l : List Entry). NotesInTurn b l) (first_alone keys (Some [])) (c.hosts_note_values_in_turn.ensures.whole keys (Some []))
       (c.hosts_note_values_in_turn.ensures.told keys (Some [])) whole here heard m run rests;
   wakes = c.hosts_wake_as_told.ensures keys (Some []) heard (here, m, run);
-  sleeps = c.hosts_fall_asleep_as_told.ensures.told keys heard (here, m, run);
+  sleeps =
+      sleeps_by (first_alone keys (Some [])) (c.hosts_fall_asleep_as_told.ensures.whole keys) (c.hosts_fall_asleep_as_told.ensures.told keys) whole here heard m run rests;
   holds = c.hosts_hold_as_asked.ensures keys heard (here, m, run);
   questions = c.hosts_answer_questions.ensures keys heard (here, m, run);
   interviews = c.hosts_end_interviews.ensures keys heard (here, m, run);

@@ -5,7 +5,7 @@ use Rattle.host_core.specs.Network.{keys_of}
 use Rattle.host_keep.specs.Keeping.{OptAdds}
 use Rattle.run_replay.specs.Machine.{Lone, first_replay, lone_of}
 use Rattle.run_replay.specs.Replay.{point_of}
-use Rattle.proof_requests.specs.proof_alone.Phases.{Resting}
+use Rattle.proof_asking.specs.proof_requests.proof_alone.Phases.{Resting}
 use Rattle.proof_replay.specs.Heard.{heard_of}
 use Rattle.proof_replay.specs.Laws.{HostsKeepLaws}
 use Rattle.proof_replay.proofs.Ran.{are_replayed}
@@ -25,6 +25,6 @@ returns c = λ key shelf lines new transcript ran read.
       adds = subst (λ (m : Lone). OptAdds shelf.records m.records alone.added) (sym last) alone.adds;
       keeps =
           subst (λ (r : Option (List (List ℕ))). HostsKeepLaws (keys_of key) true heard r) alone.tells
-          (c.hosts_keep_laws.ensures (keys_of key) true Resting heard alone.last alone.run (λ is. refl) alone.for_host);
+          (c.hosts_keep_laws.ensures (keys_of key) true Resting heard alone.last alone.run (λ is. (refl, alone.over)) alone.for_host);
       link = alone.link;
     }

@@ -3,13 +3,13 @@ use Rattle.std.proofs.Common.{◌≡◌, ℕ, Bool, true, false, List, [], refl,
 use Rattle.std.specs.Prelude.{Option, Some}
 use Rattle.s0_crypto.specs.declared.key_pair.Keys.{Keys}
 use Rattle.device_sim.specs.State.{State}
-use Rattle.proof_requests.specs.law_host.Heard.{heard_by_host}
+use Rattle.proof_asking.specs.proof_requests.law_host.Heard.{heard_by_host}
 use Rattle.world_model.specs.State.{first_machine}
 use Rattle.world_lines.specs.Spoken.{Spoken, after_all, transcript_of}
 use Rattle.world_lines.specs.Done.{AreDone}
 use Rattle.world_lines.specs.Whole.{AreWhole}
-use Rattle.proof_requests.specs.proof_alone.State.{first_alone}
-use Rattle.proof_requests.specs.proof_alone.Phases.{Resting}
+use Rattle.proof_asking.specs.proof_requests.proof_alone.State.{first_alone}
+use Rattle.proof_asking.specs.proof_requests.proof_alone.Phases.{Resting}
 use Rattle.proof_replay.specs.Laws.{HostsKeepLaws}
 use Rattle.proof_replay.proofs.Starting.{kept_as_told}
 use Rattle.proof_replay.proofs.Words.{never}
@@ -22,9 +22,9 @@ by_whole c keys devices lines true are all =
     let start = first_alone keys (Some []) in
     let past = transcript_of (first_machine keys (Some []) devices) lines in
     let fine = c.hosts_answer_lines.ensures.heard keys past (c.lines_are_a_hosts.ensures.told keys devices lines are) in
-    let (m, run, same) = c.lines_are_a_hosts.ensures.keeper keys devices lines are (all refl) in
+    let (m, run, same, over) = c.lines_are_a_hosts.ensures.keeper keys devices lines are (all refl) in
     subst (λ (r : Option (List (List ℕ))). HostsKeepLaws keys true (heard_by_host past) r) same
-    (c.hosts_keep_laws.ensures keys true Resting (heard_by_host past) m (c.what_is_heard_is_a_hosts.ensures.run start Resting past m run) (λ is. refl) fine)
+    (c.hosts_keep_laws.ensures keys true Resting (heard_by_host past) m (c.what_is_heard_is_a_hosts.ensures.run start Resting past m run) (λ is. (refl, over)) fine)
 by_whole c keys devices lines false are all =
     let start = first_alone keys (Some []) in
     let m = first_machine keys (Some []) devices in

@@ -1,7 +1,7 @@
 //! How a Set or Get that a line asked for ended, as a host alone and all lines say it.
 
 ghost use Rattle.std.specs.Prelude.{Some, List, [], ℕ};
-ghost use Rattle.device_kinds.specs.Sealing.{keys_of};
+ghost use Rattle.s0_crypto.specs.Sealing.{keys_of};
 ghost use Rattle.device_sim.specs.State.{State};
 ghost use Rattle.zw_text.specs.declared.entry.Entry.{Entry};
 ghost use Rattle.law_transcript.specs.Lists.{EachAfter};
@@ -16,7 +16,7 @@ ghost use Rattle.proof_requests.specs.proof_alone.State.{first_alone};
 ghost use Rattle.proof_requests.specs.proof_alone.Runs.{Told};
 ghost use Rattle.proof_requests.specs.Ends.{TellsEnd};
 
-use proof_asking::hosts_send_what_is_due;
+use crate::sends::hosts_send_what_is_due;
 use proof_requests::alone::{lines_are_a_hosts, what_is_heard_is_a_hosts};
 use proof_requests::hosts_tell_of_ends;
 use proof_sending::{lines_ask_for_what_is_queued, lines_send_what_is_due};

@@ -7,7 +7,7 @@ use Rattle.host_orders.specs.Wrapping.{carriage_of}
 use Rattle.host_orders.specs.declared.carriage.Form.{Form}
 use Rattle.host_orders.specs.declared.carriage.Form.TheVariants.{Plain, Cut, Sealed}
 use Rattle.supervision.specs.Host.{command_at}
-use Rattle.device_kinds.specs.Sealing.{keys_of, sealed_text}
+use Rattle.s0_crypto.specs.Sealing.{keys_of, sealed_text}
 use Rattle.transport_segments.specs.Parts.{slice_at}
 use Rattle.transport_segments.specs.Segment.{segment_text}
 use Rattle.zw_words.specs.declared.side.Side.TheVariants.{Host}

@@ -39,7 +39,7 @@ use Rattle.proof_requests.specs.Ends.{EndsHere, IsUntold, OwesNoEnd, TellsEnd}
 use Rattle.proof_requests.specs.Ends.OwesNoEnd.{Aborted, Apart, Unended, Untold}
 use Rattle.proof_requests.proofs.Carried.{get_errand, send_errand}
 use Rattle.proof_requests.proofs.EndsDone.{ends_as_done}
-use Rattle.proof_errands.proofs.Sent.{Stays, asked_errand}
+use Rattle.proof_asking.proofs.Sent.{Stays, asked_errand}
 
 -- ---- texts that lines asked for
 

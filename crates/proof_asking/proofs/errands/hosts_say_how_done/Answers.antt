@@ -1,7 +1,7 @@
 -- What a host alone sends is due, and it tells of ends as they are.
-use Rattle.device_kinds.specs.Sealing.{keys_of}
+use Rattle.s0_crypto.specs.Sealing.{keys_of}
 use Rattle.proof_requests.specs.law_host.Heard.{listing_heard}
-use Rattle.proof_errands.proofs.errands.hosts_say_how_done.Goals as goal
+use Rattle.proof_asking.proofs.errands.hosts_say_how_done.Goals as goal
 
 pub returns : goal.returns
 returns c = λ key told run.

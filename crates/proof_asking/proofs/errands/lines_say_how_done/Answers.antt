@@ -1,12 +1,12 @@
 -- Lines are told by a host alone, and so is what is heard of them.
 use Rattle.std.specs.Prelude.{Some, []}
-use Rattle.device_kinds.specs.Sealing.{keys_of}
+use Rattle.s0_crypto.specs.Sealing.{keys_of}
 use Rattle.law_transcript.specs.Nodes.{always, listing_of}
 use Rattle.world_model.specs.State.{first_machine}
 use Rattle.world_lines.specs.Spoken.{transcript_of}
 use Rattle.proof_requests.specs.law_host.Heard.{heard_by_host}
 use Rattle.proof_requests.specs.proof_alone.State.{first_alone}
-use Rattle.proof_errands.proofs.errands.lines_say_how_done.Goals as goal
+use Rattle.proof_asking.proofs.errands.lines_say_how_done.Goals as goal
 
 pub returns-clause-lines : goal.returns-clause-lines
 returns-clause-lines c = λ key devices lines are.

@@ -1,2 +1,0 @@
-mod Sent
-mod Saying

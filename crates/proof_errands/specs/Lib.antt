@@ -1,1 +1,0 @@
-pub use Rattle.proof_requests.specs.law_host as law_host
