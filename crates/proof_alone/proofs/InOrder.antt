@@ -20,14 +20,13 @@ use Rattle.host_model.proofs.Own.{IsOwn, tick_own}
 use Rattle.host_model.proofs.Submitted.{SleepersAre, SubmittedAre, next_is as submitted_is, no_more_is}
 use Rattle.host_model.proofs.Silence.{judged_silent, tick_silent}
 use Rattle.proof_line.specs.Lines.{AsksNothing}
-use Rattle.proof_line.proofs.Always.{AlwaysInOrder, IsInOrder}
 use Rattle.proof_line.proofs.Errands.{get_short, send_short}
 use Rattle.proof_line.proofs.Heard.{all_judged_in_order}
 use Rattle.proof_line.specs.proof_walk.ByLine.{IsAsked}
 use Rattle.proof_line.proofs.ByLine.{next_silent, no_more_silent}
 use Rattle.proof_alone.specs.Steps.{IsAskedBy}
 use Rattle.proof_alone.specs.Phases.{Phase, Resting, Asked, Risen, Ticking, Open, Behind, Sleeping, Submitting, GoesBy}
-use Rattle.proof_alone.specs.Tables.{AreInOrder, to_come}
+use Rattle.proof_alone.specs.Tables.{AlwaysInOrder, AreInOrder, IsInOrder, to_come}
 
 -- ---- lists
 

@@ -26,7 +26,6 @@ use Rattle.proof_line.specs.proof_host.Facts.{Facts, StartsAs}
 use Rattle.proof_line.specs.proof_host.Laws.{MayStand}
 use Rattle.proof_line.specs.Asking.{HostAsks}
 use Rattle.proof_line.specs.Restarts.{IsHeld, KeepsWell, StartsWell}
-use Rattle.proof_line.proofs.Always.{IsInOrder}
 use Rattle.proof_line.proofs.Aside.{Asides}
 use Rattle.proof_line.proofs.FactsKept.{asides_keep}
 use Rattle.proof_line.proofs.FirstHosts.{first_asks, opened_asks}
@@ -37,7 +36,7 @@ use Rattle.proof_alone.specs.State.{HostMachine, done, first_alone, with_world}
 use Rattle.proof_alone.specs.Steps.{AreTold, IsOfOthers, Step, Tells, Comes, Misses, Says, Says_nothing, Asks, Refuses, Shows, Restarts, Begins_tick, Numbers, Judges, Does, entries, happens}
 use Rattle.proof_alone.specs.Phases.{Phase, Resting, Asked, Risen, Ticking, Open, Behind, Sleeping, Submitting, May, Turns}
 use Rattle.proof_alone.specs.Runs.{Walk}
-use Rattle.proof_alone.specs.Tables.{AreInOrder, KnowsTables, TieTables, to_come}
+use Rattle.proof_alone.specs.Tables.{AreInOrder, IsInOrder, KnowsTables, TieTables, to_come}
 use Rattle.proof_alone.proofs.Apart.{AreOfLine, marks_are, missed_are}
 use Rattle.proof_alone.proofs.InOrder.{asked_in_order, asked_puts, behind_in_order, event_in_part, is_asked, none_to_come, tick_in_order}
 

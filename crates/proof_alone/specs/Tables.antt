@@ -4,12 +4,12 @@ use Rattle.std.specs.Prelude.{ℕ, List, [], Option, IsSome}
 use Rattle.std.specs.List.{AllByRecursion}
 use Rattle.zw_text.specs.declared.entry.Entry.{Entry}
 use Rattle.host_model.specs.State.{HostState}
-use Rattle.host_model.specs.Events.{HostEvent}
+use Rattle.host_model.specs.Events.{HostEvent, Interviews, Finishes, Gives, Spends, Spends_unread, Takes_nonce}
 use Rattle.host_model.proofs.Silence.{Silent}
 use Rattle.proof_line.specs.proof_host.Facts.{Facts}
 use Rattle.proof_line.specs.Asking.{HostAsks}
 use Rattle.proof_line.specs.Restarts.{IsHeld}
-use Rattle.proof_line.proofs.Always.{AlwaysInOrder}
+use Rattle.proof_line.specs.Lines as lines
 use Rattle.proof_alone.specs.Phases.{Phase, Ticking, Behind}
 use Rattle.proof_alone.specs.Runs.{Knowledge}
 
@@ -25,6 +25,19 @@ abbrev pub to_come : Phase → List HostEvent
 to_come (Ticking left) = left
 to_come (Behind left) = left
 to_come here = []
+
+-- What an event is asked is in order. Of what the chip's bytes bring nothing is asked.
+abbrev pub IsInOrder : HostState → HostEvent → Type 0
+IsInOrder h (Interviews n listens classes update) = Unit {0}
+IsInOrder h (Finishes n session id command status wake_request) = Unit {0}
+IsInOrder h (Gives n drawn) = Unit {0}
+IsInOrder h (Spends n) = Unit {0}
+IsInOrder h (Spends_unread n payload) = Unit {0}
+IsInOrder h (Takes_nonce n seen text) = Unit {0}
+IsInOrder h event = lines.IsAsked h event
+
+abbrev pub AlwaysInOrder : HostEvent → Type 0
+AlwaysInOrder event = (h : HostState) → IsInOrder h event
 
 -- they answer no line, and nothing is asked in them out of order
 pub record AreInOrder (events : List HostEvent) : Type 0 where
