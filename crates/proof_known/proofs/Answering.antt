@@ -42,6 +42,7 @@ use Rattle.proof_waking.specs.proof_alone.Runs.{Knowledge, WalkOver, both_know}
 use Rattle.proof_waking.specs.proof_alone.Tables.{TieTables}
 use Rattle.proof_waking.proofs.proof_alone_Apart.{AreOfLine, missed_are, told_are}
 use Rattle.proof_known.specs.Known.{AnswersBefore, IsAnswerAlone, IsSettled, KnowsAll, KnowsAnswered, KnowsPlaces, KnowsTold, TieTold}
+use Rattle.proof_known.proofs.Places.{has_places, no_more_places}
 use Rattle.proof_known.proofs.Events.{event_notes}
 use Rattle.proof_known.proofs.Telling.{IsElse, between_else, by_else, numbered_else}
 
@@ -69,7 +70,7 @@ places_go keep here next past m Numbers may tie places = places
 
 pub places_walk : HostsKeep → WalkOver KnowsAll (Allows may_wake) (Allows may_wake) KnowsPlaces
 places_walk keep = record {
-  step = λ here next past m one may ground stand places. (stand, places_go keep here next past m one may ground.0.0.0.0.0 places);
+  step = λ here next past m one may ground stand places. (stand, has_places (happens m one).state (places_go keep here next past m one may ground.0.0.0.0.0 (no_more_places m.state places)));
   turn = λ here next past m turns ground places. places;
 }
 
@@ -308,7 +309,7 @@ module _ (decides : Decides) where
               words = words;
               are = refl;
               read = may.2;
-              ties = decides past m ground.0.0.0.0.0.0 ground.0.0.0.1 ground.0.0.1 told ground.1;
+              ties = decides past m ground.0.0.0.0.0.0 ground.0.0.0.1 ground.0.0.1 told (no_more_places m.state ground.1);
             }),
       )
   step_goes here next past m (Says_nothing words) may ground known = (

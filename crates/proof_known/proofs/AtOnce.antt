@@ -64,6 +64,7 @@ use Rattle.proof_waking.proofs.Parts.{IsNoted, IsStill, follow_told, own_told, r
 use Rattle.proof_waking.proofs.Settling.{brought_is, settled_more, unfollowed}
 use Rattle.proof_known.specs.Known.{KnowsWhole, TieTold}
 use Rattle.proof_known.specs.Noted.{first_notes, is_first, may_follow}
+use Rattle.proof_known.proofs.Places.{no_more_places}
 use Rattle.proof_known.proofs.Noting.{Nothing, Rooms}
 use Rattle.proof_known.proofs.Followers.{brought_of, bytes_same, same_one, text_brings}
 use Rattle.proof_known.proofs.Turning.{none_here}
@@ -473,7 +474,7 @@ module _ (rooms : Rooms) where
       by : IsBehindFrame past m (first ∷ left) ⊎ (AllByRecursion IsOfRequest (first ∷ left) × Settled past) → Stand past told
       by (inl behind) =
           behind_at_once past m event left (subst (λ (one : HostEvent). IsBehindFrame past m (one ∷ left)) (sym may.0.0) behind)
-          (rooms past m known.0.0.0.0.0.0 known.0.0.0.1 known.0.0.1 told_so known.1) told may.2
+          (rooms past m known.0.0.0.0.0.0 known.0.0.0.1 known.0.0.1 told_so (no_more_places m.state known.1)) told may.2
       by (inr (requests, settled)) =
           apart_stand past told (all-weaker IsStill IsApart still_apart told (request_told m.state event told (subst IsOfRequest (sym may.0.0) requests.0) may.2)) settled
   does Sleeping next past m event told may known =

@@ -1,3 +1,4 @@
+mod Places
 mod Listing
 pub mod Events
 mod Hearing

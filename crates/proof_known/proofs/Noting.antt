@@ -60,6 +60,7 @@ use Rattle.proof_waking.specs.proof_alone.Runs.{Knowledge, WalkOver, both_know}
 use Rattle.proof_waking.proofs.proof_alone_Apart.{AreOfLine, missed_are}
 use Rattle.proof_waking.specs.Judged.{IsBehindFrame, IsOfRequest, LastFrame}
 use Rattle.proof_known.specs.Known.{KnowsKeys, KnowsWhole, TieTold}
+use Rattle.proof_known.proofs.Places.{no_more_places}
 use Rattle.proof_known.proofs.KeptKeys.{all_keys}
 use Rattle.proof_known.proofs.Telling.{by_else, rest_of}
 use Rattle.proof_known.specs.Noted.{IsOpenedIf, MayOpen, OpensHere, OpensToEnd, has_room, may_count, is_ended_by, may_note, tells_end, tells_property, tells_report, tells_value}
@@ -356,7 +357,7 @@ module _ (keys : Keys) where
         told_so = rest_of here past m (by_else here next m.state event may.0).0 known.0.0.1
 
         counted : (n : ℕ) (p : Property) → count_with m.state.store n (p ∷ []) ≡ distinct_count same_property (p ∷ properties_kept listing_heard past n)
-        counted = rooms past m known.0.0.0.0.0.0.0 known.0.0.0.0.1 known.0.0.0.1 told_so known.0.1
+        counted = rooms past m known.0.0.0.0.0.0.0 known.0.0.0.0.1 known.0.0.0.1 told_so (no_more_places m.state known.0.1)
 
         by : IsQuiet event ⊎ ((n : ℕ) → known_of (after_all f.first f.gone) n ≡ known_of f.first n) → Stand past told
         by (inl quiet) = quiet_stands past m.state event told quiet may.2

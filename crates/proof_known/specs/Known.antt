@@ -1,6 +1,6 @@
 -- What a host alone knows of its nodes and of what it was asked, by its transcript (this project's own rule): of each node the classes that it listed in its last interview, and of each
 -- order what was said.
-use Rattle.std.specs.Prelude.{◌≡◌, ◌⊎◌, ℕ, ◌≤◌, Bool, true, false, List, [], ◌∷◌, ◌++◌, Option, None, IfSome}
+use Rattle.std.specs.Prelude.{◌≡◌, ◌⊎◌, ℕ, ◌≤◌, Bool, true, false, List, [], ◌∷◌, ◌++◌, Option, Some, None, IfSome, IsTrue, is_some}
 use Rattle.std.specs.List.{AllByRecursion}
 use Rattle.zw_base.specs.declared.property.Property.{Property}
 use Rattle.s0_crypto.specs.declared.key_pair.Keys.{Keys}
@@ -18,14 +18,14 @@ use Rattle.law_transcript.specs.Stores.{StoresConfirmed, heard_value}
 use Rattle.law_wire.specs.Serial.{ended}
 use Rattle.proof_transcript.specs.law_host.Heard.{is_of_others, is_refusal_of_others, listing_heard}
 use Rattle.proof_transcript.specs.law_host.HostLegal.{ShowsValues}
-use Rattle.value_store.specs.Values.{stored_of}
-use Rattle.host_keep.specs.Kept.{classes_said, node_of as kept_of_node}
+use Rattle.value_store.specs.Values.{IsReserved, is_among, stored_of}
+use Rattle.host_keep.specs.Kept.{Taken, classes_said, node_of as kept_of_node, properties_for}
 use Rattle.host_model.specs.Holding.{listens_said}
-use Rattle.host_model.specs.State.{HostState, node_of}
+use Rattle.host_model.specs.State.{Command, HostState, node_of}
 use Rattle.proof_transcript.specs.proof_spoken.Said.{AreSaid, KnowsListing}
 use Rattle.proof_transcript.specs.Answering.{HostTies, IsAnswered}
 use Rattle.proof_transcript.specs.Records.{TellsCancelled}
-use Rattle.proof_transcript.proofs.StoredPlaces.{KeepsNoMore}
+use Rattle.proof_transcript.specs.proof_host.Tables.{taken_at}
 use Rattle.proof_transcript.specs.Showing.{AsksForNone}
 use Rattle.proof_waking.specs.proof_alone.Phases.{Asked}
 use Rattle.proof_waking.specs.proof_alone.Runs.{Knowledge, both_know}
@@ -97,9 +97,19 @@ KnowsKeys keys here past m = (m.keys ≡ keys) × (m.state.keys ≡ keys)
 
 -- ---- answers
 
+-- a command of the node sets the property
+pub record IsSetBy (commands : List Command) (n : ℕ) (p : Property) : Type 0 where
+  pub number : ℕ
+  pub taken : Taken
+  pub at : taken_at commands number ≡ Some taken
+  pub sets : IsTrue (is_among (properties_for n taken) p)
+
 -- it has places in its store only for what its commands set, and for what it heard
+abbrev pub HasPlaces : HostState → Type 0
+HasPlaces h = (n : ℕ) (p : Property) → IsReserved h.store n p → IsSetBy h.commands n p ⊎ IsTrue (is_some (stored_of h.store n p).heard)
+
 abbrev pub KnowsPlaces : Knowledge
-KnowsPlaces here past m = KeepsNoMore m.state
+KnowsPlaces here past m = HasPlaces m.state
 
 -- all that decides what it answers and stores
 abbrev pub KnowsWhole : Knowledge

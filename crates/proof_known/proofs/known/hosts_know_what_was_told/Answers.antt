@@ -9,6 +9,7 @@ use Rattle.proof_waking.proofs.Running.{over}
 use Rattle.proof_known.specs.Known.{KnowsAll, KnowsNodes, KnowsOrders, KnowsPlaces, KnowsSaid, KnowsTold}
 use Rattle.proof_known.proofs.Answering.{places_walk}
 use Rattle.proof_known.proofs.Events.{beyond}
+use Rattle.proof_known.proofs.Places.{has_places}
 use Rattle.proof_known.proofs.Telling.{first_told, told_walk}
 use Rattle.proof_known.proofs.known.hosts_know_what_was_told.Goals as goal
 
@@ -30,4 +31,4 @@ returns-clause-walk c =
 
 pub returns-clause-first : goal.returns-clause-first
 returns-clause-first c = λ keys.
-    (((c.hosts_know_what_nodes_list.ensures.first keys, tt), first_told keys), alone_keeps (first_host keys) first_kept (c.a_host_begins_with_what_is_kept.ensures keys))
+    (((c.hosts_know_what_nodes_list.ensures.first keys, tt), first_told keys), has_places (first_host keys) (alone_keeps (first_host keys) first_kept (c.a_host_begins_with_what_is_kept.ensures keys)))
