@@ -24,7 +24,7 @@ use Rattle.proof_line.proofs.Serials.{beside_serials, unit_serials}
 use Rattle.proof_line.proofs.Standing.{same_itself}
 use Rattle.proof_line.proofs.Arriving.{marks_of}
 use Rattle.proof_line.proofs.Tellings.{IsBeside}
-use Rattle.proof_line.proofs.LinkSteps.{asks_by, clock_one, does_more, does_on, ends_part, hears_next, hears_on, hears_same, life_same, lost_same, mute_last, round_same, stalls_one, unit_may_end, writes_last}
+use Rattle.proof_line.proofs.LinkSteps.{asks_by, clock_one, does_more, does_on, ends_part, hears_next, hears_on, hears_same, life_same, lost_same, mute_last, round_same, stalls_one, starts_next, starts_same, unit_may_end, writes_last}
 
 -- ---- moments
 
@@ -75,6 +75,7 @@ at_step side past steps now step new left at = record {
   life = sym (append_assoc (steps_in (life_of side past)) steps (step ∷ [])) ∙ ap (λ (l : List Step). l ++ step ∷ []) at.life;
   round = sym (append_assoc (steps_in (round_of past).moments) steps (step ∷ [])) ∙ ap (λ (l : List Step). l ++ step ∷ []) at.round;
   lost = at.lost;
+  starts = at.starts;
 }
 
 -- what it hears, if it hears, is the first of what comes
@@ -136,7 +137,7 @@ relinked side events now new obeys knows = record {
   does = record { obeys = subst (λ (l : List Step). SideObeys l new) (sym knows.at.life) obeys; may = knows.does.may; asks = knows.does.asks };
   mute = knows.mute;
   hears = knows.hears;
-  at = record { is_tick = knows.at.is_tick; brought = knows.at.brought; clock = knows.at.clock; until = knows.at.until; life = knows.at.life; round = knows.at.round; lost = knows.at.lost };
+  at = record { is_tick = knows.at.is_tick; brought = knows.at.brought; clock = knows.at.clock; until = knows.at.until; life = knows.at.life; round = knows.at.round; lost = knows.at.lost; starts = knows.at.starts };
 }
 
 -- ---- an event ends what is open
@@ -176,6 +177,7 @@ at_unit side on past steps now unit arriving at =
       life = life_same side past one refl ∙ at.life;
       round = same.0 ∙ at.round;
       lost = lost_same side past one refl ∙ at.lost;
+      starts = starts_same side past one refl ∙ at.starts;
     }
 
 most_is : (side : Side) (past : List Moment) (brought : ℕ) → length (arrivals_of (other side) (round_of past).moments) ≡ brought → most_left side past ≡ most_of side brought
@@ -243,6 +245,7 @@ module _ (side : Side) (events : List SerialEvent) (now : LinkNow) (knows : Know
         life = life_same side Before one plain ∙ knows.at.life;
         round = ap (λ (r : Round). steps_in r.moments ++ []) begins;
         lost = lost_same side Before one plain ∙ knows.at.lost;
+        starts = starts_next side Before one now.starts now.life refl knows.at.starts knows.at.life;
       })
 
   -- a unit of either side
@@ -273,6 +276,7 @@ module _ (side : Side) (events : List SerialEvent) (now : LinkNow) (knows : Know
         life = life_same side Before one refl ∙ knows.at.life;
         round = ap (λ (r : Round). steps_in r.moments ++ []) begins;
         lost = lost_same side Before one refl ∙ knows.at.lost;
+        starts = starts_next side Before one now.starts now.life refl knows.at.starts knows.at.life;
       })
     where
       ticks_ask_none : (side : Side) → asks_by side Tick_begins ≡ 0

@@ -252,7 +252,7 @@ first_keeps Host = record { obeys = (no_steps, tt); writes = tt; hears = tt; tic
 first_keeps Chip = record { obeys = (no_steps, tt); writes = tt; hears = tt; ticks = tt; collides = tt }
 
 abbrev first_now : LinkSide → LinkNow
-first_now link = record { is_tick = false; brought = 0; clock = 0; until = 0; life = []; round = []; link = link; coming = []; lost = [] }
+first_now link = record { is_tick = false; brought = 0; clock = 0; until = 0; life = []; round = []; link = link; coming = []; lost = []; starts = [] }
 
 below_none : (time : ℕ) → false ≡ nat_lt time 0
 below_none time = by (nat_lt time 0) refl
@@ -270,7 +270,7 @@ first_link Host link obeys = record {
   does = record { obeys = obeys; may = tt; asks = refl };
   mute = tt;
   hears = record { earlier = []; parts = refl; texts = tt; still = λ stalls. refl };
-  at = record { is_tick = refl; brought = refl; clock = refl; until = below_none; life = refl; round = refl; lost = refl };
+  at = record { is_tick = refl; brought = refl; clock = refl; until = below_none; life = refl; round = refl; lost = refl; starts = refl };
 }
 first_link Chip link obeys = record {
   parts = [];
@@ -280,7 +280,7 @@ first_link Chip link obeys = record {
   does = record { obeys = obeys; may = tt; asks = refl };
   mute = tt;
   hears = record { earlier = []; parts = refl; texts = tt; still = λ stalls. refl };
-  at = record { is_tick = refl; brought = refl; clock = refl; until = below_none; life = refl; round = refl; lost = refl };
+  at = record { is_tick = refl; brought = refl; clock = refl; until = below_none; life = refl; round = refl; lost = refl; starts = refl };
 }
 
 idle_obeys : SideObeys [] (record { turn = Idle; collisions = 0 })
