@@ -11,14 +11,14 @@ use Rattle.serial_link.specs.Rules.{SideObeys, Step}
 use Rattle.proof_walk.specs.outside_model.State.{OuterState}
 use Rattle.proof_line.specs.Pipes.{ClearsNowhereElse}
 use Rattle.proof_line.specs.Links.{AtLine, KnowsLink, LinkNow}
-use Rattle.proof_line.specs.Linked.{ArePartsOf, Cuts}
+use Rattle.proof_line.specs.Linked.{ArePartsOf, CutsBy}
 use Rattle.proof_line.proofs.LinkKnown.{keeps_link, keeps_lost, keeps_parts}
 use Rattle.proof_line.proofs.LinkCourse.{course_mute}
 use Rattle.proof_line.proofs.LinkChip.{obeyed}
 
 -- ---- a run that was cut short
 
-pub cuts_of : (past : List Entry) (up down : LinkNow) → KnowsLink Chip past up → KnowsLink Host past down → AreTold (clears past) (to_clear up.lost down.lost) → Cuts up.life past
+pub cuts_of : (past : List Entry) (up down : LinkNow) → KnowsLink Chip past up → KnowsLink Host past down → AreTold (clears past) (to_clear up.lost down.lost) → CutsBy up.life past
 cuts_of past up down chip host told =
     let of_chip : KeepsLink Chip past = keeps_link Chip past up chip in
     let of_host : KeepsLink Host past = keeps_link Host past down host in
@@ -51,14 +51,14 @@ all_told (one ∷ there) (due ∷ dues) is =
     (one_told one.is_over one.entries due first, all_told there dues rest)
 
 -- all is told
-pub line_cuts : (past : List Entry) (o : OuterState) (up down : LinkNow) → AtLine past o up down → Cuts up.life past
+pub line_cuts : (past : List Entry) (o : OuterState) (up down : LinkNow) → AtLine past o up down → CutsBy up.life past
 line_cuts past o up down line = cuts_of past up down line.chip line.host (all_told (clears past) (to_clear up.lost down.lost) line.clears)
 
 -- with steps that have the same course
-pub cuts_as : (did now : List Step) (past : List Entry) → course_of did ≡ course_of now → Cuts did past → Cuts now past
+pub cuts_as : (did now : List Step) (past : List Entry) → course_of did ≡ course_of now → CutsBy did past → CutsBy now past
 cuts_as did now past same cuts = record { links = cuts.links; each = cuts.each; course = cuts.course ∙ same }
 
-pub parts_as : (did now : List Step) (past : List Entry) (same : course_of did ≡ course_of now) (cuts : Cuts did past) → ArePartsOf now cuts.links.chip.parts
+pub parts_as : (did now : List Step) (past : List Entry) (same : course_of did ≡ course_of now) (cuts : CutsBy did past) → ArePartsOf now cuts.links.chip.parts
     → ArePartsOf now (cuts_as did now past same cuts).links.chip.parts
 unfolding cuts_as
 parts_as did now past same cuts are = are
@@ -76,8 +76,8 @@ some_told (one ∷ there) (due ∷ dues) told more is =
 
 -- ---- with nothing else told
 
-pub cut_clears : {did : List Step} (past : List Entry) → Cuts did past → ClearsNowhereElse false past → ClearsLine false past
+pub cut_clears : {did : List Step} (past : List Entry) → CutsBy did past → ClearsNowhereElse false past → ClearsLine false past
 cut_clears past cuts only = record { links = cuts.links; each = cuts.each; only = only }
 
-pub whole_clears : {did : List Step} (past : List Entry) → Cuts did (past ++ Said [] ∷ []) → ClearsNowhereElse true past → ClearsLine true past
+pub whole_clears : {did : List Step} (past : List Entry) → CutsBy did (past ++ Said [] ∷ []) → ClearsNowhereElse true past → ClearsLine true past
 whole_clears past cuts only = record { links = record { chip = cuts.links.chip; host = cuts.links.host }; each = cuts.each; only = only }

@@ -9,7 +9,7 @@ use Rattle.proof_walk.proofs.Where.{where_lead, where_whole}
 use Rattle.proof_line.specs.Linked.{IsOrderly}
 use Rattle.proof_line.proofs.LinkEnds.{cut_clears, whole_clears}
 use Rattle.proof_line.proofs.LinkSome.{lines_orderly}
-use Rattle.proof_line.proofs.LinkWalk.{Anything, KnowAll, ended_known, links_first, links_walk}
+use Rattle.proof_line.proofs.LinkWalk.{Anything, KnowAll, ended_known, links_first, links_walk, nothing_did}
 use Rattle.proof_line.proofs.links.lines_clear_the_line.Goals as goal
 
 pub returns-clause-cut : goal.returns-clause-cut
@@ -23,7 +23,7 @@ returns-clause-cut c = λ keys devices lines are.
     let obey = c.hosts_obey_the_line.ensures in
     let orderly = lines_orderly (lines_of lines) m events these writes asks.1 in
     let walk = links_walk obey.each obey.units obey.opened c.time_goes_on.ensures.walk in
-    let known = where_lead IsOrderly Anything KnowAll walk [] m lines are orderly (c.time_goes_on.ensures.first keys (Some []) devices, ([], links_first keys (Some []) devices (obey.first keys))) in
+    let known = where_lead IsOrderly Anything KnowAll walk [] m lines are orderly (c.time_goes_on.ensures.first keys (Some []) devices, (nothing_did, links_first keys (Some []) devices (obey.first keys))) in
     cut_clears (transcript_of m lines) known.1.1.1.0 (c.lines_clear_nowhere_else.ensures keys (Some []) devices lines are false)
 
 pub returns-clause-whole : goal.returns-clause-whole
@@ -38,5 +38,5 @@ returns-clause-whole c = λ keys devices lines are whole.
     let orderly = lines_orderly (lines_of lines) m events these writes asks.1 in
     let walk = links_walk obey.each obey.units obey.opened c.time_goes_on.ensures.walk in
     let known =
-    where_whole IsOrderly Anything KnowAll walk [] m lines are whole orderly (c.time_goes_on.ensures.first keys (Some []) devices, ([], links_first keys (Some []) devices (obey.first keys))) in
+    where_whole IsOrderly Anything KnowAll walk [] m lines are whole orderly (c.time_goes_on.ensures.first keys (Some []) devices, (nothing_did, links_first keys (Some []) devices (obey.first keys))) in
     whole_clears (transcript_of m lines) (ended_known (transcript_of m lines) (after_all m lines) known.0 known.1.1) (c.lines_clear_nowhere_else.ensures keys (Some []) devices lines are true)
