@@ -23,6 +23,7 @@ mod Roomy
 pub mod Rooming
 mod Moments
 mod Serials
+mod LinkStarts
 mod LinkSteps
 mod LinkKnown
 mod LinkUntil

@@ -15,10 +15,11 @@ use Rattle.zw_text.specs.declared.entry.Entry.{Entry}
 use Rattle.zw_text.specs.declared.line.Line.{Line}
 use Rattle.law_wire.specs.law_transcript.Restarts.{is_restart}
 use Rattle.law_wire.specs.Clearing.{lost_by}
+use Rattle.law_wire.specs.law_transcript.Lists.{shown_after}
 use Rattle.law_wire.specs.Serial.{SerialEvent, arriving_of, serial_events}
 use Rattle.law_wire.specs.Serial.SerialEvent.{Line_begins, Tick_begins, Writes}
 use Rattle.law_wire.specs.Links.{HasTicked, KeepsLink, LeavesFew, Moment, Round, WriteLast, arrivals_of, ends_round, most_left, stall_by, MayDo, Obeys, WritesThere, arrival_of, clock_in, is_stalled, joined, moments_of, other, round_of, steps_in, texts_of, unit_by}
-use Rattle.proof_line.specs.Links.{Does, Hears, IsAt, IsMute, KeepsSoFar, KnowsEvents, KnowsLink, LinkNow, MayEnd, MayEndNow, MayHear, MayStep, TakesTexts, begun_line, begun_tick, life_of, most_of, round_steps, stalls_in, stepped, with_arriving}
+use Rattle.proof_line.specs.Links.{Does, Hears, IsAt, IsMute, KeepsSoFar, KnowsEvents, KnowsLink, LinkNow, MayEnd, MayEndNow, MayHear, MayStep, TakesTexts, begun_line, begun_tick, life_of, most_of, round_steps, stalls_in, start_at, stepped, with_arriving}
 use Rattle.proof_line.proofs.Moments.{arrivals_one, moments_one, round_one}
 use Rattle.proof_line.proofs.Serials.{beside_serials, unit_serials}
 use Rattle.proof_line.proofs.Standing.{same_itself}
@@ -62,6 +63,12 @@ parts_again (event ∷ events) (part ∷ parts) same = ap (λ (l : List (List St
 pub keeps_parts : (past : List Entry) (now : LinkNow) (knows : KnowsLink Chip past now) → now.life ≡ joined (keeps_link Chip past now knows).parts ++ knows.steps
 unfolding keeps_link
 keeps_parts past now knows = sym knows.at.life ∙ ap (λ (l : List (List Step)). joined l ++ knows.steps) (parts_again (serial_events past) knows.parts knows.each)
+
+-- and where each line or tick began it had done just these
+pub keeps_starts : (side : Side) (past : List Entry) (now : LinkNow) (knows : KnowsLink side past now)
+    → shown_after (start_at side) [] (moments_of (serial_events past) (keeps_link side past now knows).parts) ≡ now.starts
+unfolding keeps_link
+keeps_starts side past now knows = knows.at.starts
 
 -- ---- a step
 

@@ -25,7 +25,7 @@ use Rattle.proof_walk.specs.world_model.State.{Machine}
 use Rattle.proof_walk.specs.world_model.Events.{Event, Outside_does, happens, entries}
 use Rattle.proof_traffic.specs.Links.{KeepsItsLink}
 use Rattle.proof_line.specs.Links.{AtLine, Brings, LinkNow, begun_line, cleared_in, due_from, tick_told}
-use Rattle.proof_line.specs.Linked.{ArePartsOf, ◌⊕◌, Cuts, CutsBy, Did, KnowsBoth, LinksBegun, LinksDone, LinksEnded, LinksOne, MayBothEnd}
+use Rattle.proof_line.specs.Linked.{HasStarts, began, ◌⊕◌, Cuts, CutsBy, Did, KnowsBoth, LinksBegun, LinksDone, LinksEnded, LinksOne, MayBothEnd}
 use Rattle.proof_line.proofs.LinkKnown.{no_steps}
 use Rattle.proof_line.proofs.Rooming.{not_awaited}
 use Rattle.proof_line.proofs.Numbering.{ticked_none}
@@ -33,9 +33,9 @@ use Rattle.proof_line.proofs.LinkTime.{timed_clears}
 use Rattle.proof_line.proofs.ChipAccounts.{event_steps, outer_steps}
 use Rattle.proof_line.proofs.LinkCourse.{course_mute}
 use Rattle.proof_line.proofs.LinkChip.{obeyed}
-use Rattle.proof_line.proofs.LinkEnds.{all_told, cuts_as, cuts_of, parts_as}
+use Rattle.proof_line.proofs.LinkEnds.{all_told, cuts_as, cuts_of, starts_as}
 use Rattle.proof_line.proofs.LinkTicks.{Then}
-use Rattle.proof_line.proofs.LinkBegins.{counts_so, IsOrdinary, alone_said, asked_step, asked_up, begins_both, begins_cuts, begins_parts, collides, done_of, ordinary, ordinary_restarts, said_clears, stalls, ticks_said}
+use Rattle.proof_line.proofs.LinkBegins.{counts_so, IsOrdinary, alone_said, asked_step, asked_up, begins_both, begins_cuts, begins_starts, collides, done_of, ordinary, ordinary_restarts, said_clears, stalls, ticks_said}
 use Rattle.proof_line.proofs.LinkPlain.{begun_whole, then_more}
 use Rattle.proof_line.proofs.LinkRestarts.{restart_said}
 use Rattle.proof_walk.proofs.Clock.{asked-append as asked_both}
@@ -99,15 +99,17 @@ module _ {did : Did} (past : List Entry) (m : Machine) (is_tick : Bool) (up down
       (begins_cuts past m is_tick up down both may (entry.Said [] ∷ []) (begun_line up up.until) (begun_line down down.until)
       (ordinary past m is_tick up down both may (entry.Said [] ∷ []) [] tt (alone_said past [] [] m.outside.outer.clock refl due) (plain_clears [] [] refl refl)))
 
-  pub ended_parts : ArePartsOf did.steps ended_cuts.links.chip.parts
+  pub ended_starts : HasStarts (past ++ entry.Said [] ∷ []) ended_cuts.links.chip.parts (began did).starts
   unfolding words line_words ended_cuts
-  ended_parts =
+  ended_starts =
+      let all : List Entry = past ++ entry.Said [] ∷ [] in
       let begins =
       ordinary past m is_tick up down both may (entry.Said [] ∷ []) [] tt (alone_said past [] [] m.outside.outer.clock refl due) (plain_clears [] [] refl refl) in
-      let cuts : CutsBy up.life (past ++ entry.Said [] ∷ []) = begins_cuts past m is_tick up down both may (entry.Said [] ∷ []) (begun_line up up.until) (begun_line down down.until) begins in
-      parts_as up.life did.steps (past ++ entry.Said [] ∷ []) (ap course_of both.life) cuts
-      (subst (λ (l : List Step). ArePartsOf l cuts.links.chip.parts) both.life
-      (begins_parts past m is_tick up down both may (entry.Said [] ∷ []) (begun_line up up.until) (begun_line down down.until) begins))
+      let cuts : CutsBy up.life all = begins_cuts past m is_tick up down both may (entry.Said [] ∷ []) (begun_line up up.until) (begun_line down down.until) begins in
+      subst (HasStarts all (cuts_as up.life did.steps all (ap course_of both.life) cuts).links.chip.parts)
+      (ap₂ (λ (l : List (List Step)) (steps : List Step). l ++ steps ∷ []) both.starts both.life)
+      (starts_as up.life did.steps all (ap course_of both.life) cuts (up.starts ++ up.life ∷ [])
+      (begins_starts past m is_tick up down both may (entry.Said [] ∷ []) (begun_line up up.until) (begun_line down down.until) begins))
 
 -- ---- a `tick`
 

@@ -18,7 +18,7 @@ use Rattle.zw_words.specs.declared.side.Side.TheVariants.{Host, Chip}
 use Rattle.zw_text.specs.declared.line.Line.{Line}
 use Rattle.zw_text.specs.declared.line.Line.TheVariants as lines
 use Rattle.zw_text.specs.declared.entry.Entry.{Entry}
-use Rattle.zw_text.specs.declared.entry.Entry.TheVariants.{Said}
+use Rattle.zw_text.specs.declared.entry.Entry.TheVariants.{Said, Time}
 use Rattle.zw_text.specs.Transcript.{line_of}
 use Rattle.law_wire.specs.law_transcript.Lists.{EachAfter}
 use Rattle.host_keep.specs.declared.record.Record.{Record}
@@ -29,7 +29,7 @@ use Rattle.proof_world.specs.host_model.After.{after as host_after}
 use Rattle.proof_world.specs.host_model.May.{May as MayHost}
 use Rattle.proof_world.specs.host_model.Outs.{outs as host_outs}
 use Rattle.proof_world.specs.host_model.Ticking.{tick_events}
-use Rattle.proof_walk.specs.outside_model.State.{first_outer}
+use Rattle.proof_walk.specs.outside_model.State.{OuterState, first_outer}
 use Rattle.proof_walk.specs.outside_model.Events.{OuterEvent, Begins_line, Begins_tick, Arrives, Chip_takes, Gives, Device_ticks, Chip_ticks, Collides_next, Stalls}
 use Rattle.proof_walk.specs.world_model.State.{Machine, first_machine}
 use Rattle.proof_walk.specs.world_model.Events.{Event, Outside_does, Host_does, Host_takes, Decoder_ticks, entries, May}
@@ -41,18 +41,23 @@ use Rattle.proof_walk.specs.Phases.{Phase, Between, Said_line, Begun, Doing, To_
 use Rattle.proof_walk.specs.Time.{KnowTime, MayCount}
 use Rattle.proof_walk.specs.Walk.{Walk, WalkWhere}
 use Rattle.proof_line.specs.Links.{AtLine, KeepsSoFar, KnowsLink, LinkNow, MayEndNow, due_from, most_of}
-use Rattle.proof_line.specs.Linked.{◌⊕◌, CutsBy, Did, did_at, said, ArePartsOf, Cuts, IsOrderly, KnowCuts, KnowLinks, KnowsBoth, LinksBegun, LinksDone, LinksLeft, HaveTickedOnce, InTick, Round}
+use Rattle.proof_line.specs.Linked.{◌⊕◌, began, did_at, flags_of, rounds_in, said, BeginsLast, CutsBy, Did, HasStarts, Cuts, IsOrderly, KnowCuts, KnowLinks, KnowsBoth, LinksBegun, LinksDone, LinksLeft, HaveTickedOnce, InTick, Round}
 use Rattle.proof_line.proofs.LinkKnown.{no_steps}
 use Rattle.proof_line.proofs.LinkTold.{brings_none}
 use Rattle.proof_line.proofs.ChipAccounts.{event_steps, outer_steps}
 use Rattle.proof_line.proofs.LinkEnds.{line_cuts}
 use Rattle.proof_line.proofs.LinkTicks.{Then, arrives, begins_tick, chip_ticks, decoder_ticks, host_ticks}
 use Rattle.proof_line.proofs.LinkSettles.{chip_moves, chip_still, ends, host_moves, host_still, passes_on, settles, sleeps, submits}
-use Rattle.proof_line.proofs.LinkBegins.{begins_line}
+use Rattle.law_wire.specs.Serial.{SerialEvent, beginning_of, serial_events}
+use Rattle.law_wire.specs.Serial.SerialEvent.{Line_begins, Tick_begins}
+use Rattle.proof_line.proofs.LinkBegins.{alone_said, begins_line, begun_serials}
+use Rattle.proof_line.proofs.LinkTime.{tick_serials}
+use Rattle.proof_walk.specs.outside_model.Events.{ticked_entry}
 use Rattle.proof_line.proofs.LinkEffects.{effect_plain}
 use Rattle.proof_line.proofs.LinkPlain.{plain_done, plain_goes, then_more}
 use Rattle.proof_line.proofs.LinkRestarts.{restart_done, restart_goes}
-use Rattle.proof_line.proofs.LinkOnes.{collide_goes, due_is, ended_cuts, ended_parts as parts_ended, one_done, stall_goes, ticks_begun, words_cut}
+use Rattle.proof_line.proofs.LinkStarts.{starts_many}
+use Rattle.proof_line.proofs.LinkOnes.{collide_goes, due_is, ended_cuts, ended_starts as starts_ended, one_done, stall_goes, ticks_begun, words_cut}
 
 -- ---- all entries may stand
 
@@ -90,13 +95,55 @@ said_knows {did} past m words line read time (cuts, (is_tick, (up, down, both, m
     )
 
 -- at the end of a whole run
-pub ended_known : {did : Did} (past : List Entry) (m : Machine) → KnowTime Between past m → KnowCuts did Between past m → Cuts did (past ++ Said [] ∷ [])
-ended_known past m time (cuts, (is_tick, (up, down, both, may))) = ended_cuts past m is_tick up down both may (due_now past m time)
+pub ended_known : (did : Did) (past : List Entry) (m : Machine) → KnowTime Between past m → KnowCuts did Between past m → Cuts did (past ++ Said [] ∷ [])
+ended_known did past m time (cuts, (is_tick, (up, down, both, may))) = ended_cuts past m is_tick up down both may (due_now past m time)
 
-pub ended_parts : {did : Did} (past : List Entry) (m : Machine) (time : KnowTime Between past m) (known : KnowCuts did Between past m)
-    → ArePartsOf did.steps (ended_known past m time known).links.chip.parts
+pub ended_starts : (did : Did) (past : List Entry) (m : Machine) (time : KnowTime Between past m) (known : KnowCuts did Between past m)
+    → HasStarts (past ++ Said [] ∷ []) (ended_known did past m time known).links.chip.parts (began did).starts
 unfolding ended_known
-ended_parts past m time (cuts, (is_tick, (up, down, both, may))) = parts_ended past m is_tick up down both may (due_now past m time)
+ended_starts did past m time (cuts, (is_tick, (up, down, both, may))) = starts_ended past m is_tick up down both may (due_now past m time)
+
+-- ---- lines and ticks begin
+
+-- at most one
+abbrev pub IsOneLine : List Line → Type 0
+IsOneLine [] = Unit {0}
+IsOneLine (line ∷ []) = Unit {0}
+IsOneLine (line ∷ next ∷ more) = ⊥
+
+-- a line that is no `tick`
+abbrev pub UnlessTicks : List Line → Type 0 → Type 0
+UnlessTicks (lines.Tick count ∷ more) P = Unit {0}
+UnlessTicks line P = P
+
+pub said_begins : (did : Did) (past : List Entry) (m : Machine) (words : List ℕ) (line : List Line) → line_of (Said words) ≡ line → KnowTime Between past m → KnowCuts did Between past m → IsOneLine line
+    → UnlessTicks line (BeginsLast did (past ++ Said words ∷ []))
+said_begins did past m words line read time (cuts, (is_tick, (up, down, both, may))) one =
+    let due = due_now past m time in
+    let o : OuterState = m.outside.outer in
+    by line one (begun_serials past m is_tick up down both may (Said words ∷ []) line (alone_said past words line o.clock read due))
+    (sym (ap (λ (l : List (List Step)). length l) both.starts) ∙ starts_many Chip (serial_events (past ++ ticked_entry o)) up both.line.chip)
+  where
+    front : List SerialEvent
+    front = serial_events (past ++ ticked_entry m.outside.outer)
+
+    by : (line : List Line) → IsOneLine line → serial_events (past ++ Said words ∷ []) ≡ front ++ beginning_of line → length did.starts ≡ rounds_in (flags_of front)
+        → UnlessTicks line (BeginsLast did (past ++ Said words ∷ []))
+    by [] one events many = record { front = front; event = Line_begins []; events = events; begins = refl; many = many }
+    by (lines.Tick count ∷ []) one events many = tt
+    by (line ∷ []) one events many = record { front = front; event = Line_begins (line ∷ []); events = events; begins = refl; many = many }
+    by (line ∷ next ∷ more) one events many = absurd one
+
+pub tick_begins : (did : Did) (ticks : ℕ) (past : List Entry) (m : Machine) → KnowCuts did (To_tick ticks) past m → BeginsLast did (past ++ Time (m.outside.outer.clock + 1) ∷ [])
+tick_begins did ticks past m (cuts, (is_tick, (up, down, both, may))) =
+    let o : OuterState = m.outside.outer in
+    record {
+      front = serial_events (past ++ ticked_entry o);
+      event = Tick_begins;
+      events = sym (tick_serials past o (both.line.time ∙ both.chip_time.clock) both.behind);
+      begins = refl;
+      many = sym (ap (λ (l : List (List Step)). length l) both.starts) ∙ starts_many Chip (serial_events (past ++ ticked_entry o)) up both.line.chip;
+    }
 
 -- ---- phases
 

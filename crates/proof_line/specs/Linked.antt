@@ -1,6 +1,6 @@
 -- What is known of both links beside the machine at each phase of a line (this project's own rule): where each side is, what is on its way to it, whether it has ticked in the running
 -- tick, and that nothing, or little, is left where a line or tick ends. A line that has entered nothing yet is not counted: whether it is refused is shown by what stands after it.
-use Rattle.std.specs.Prelude.{◌≡◌, ◌≤◌, ◌<◌, ◌⊎◌, ℕ, suc, ◌+◌, ◌-◌, Bool, true, false, None, List, [], ◌∷◌, ◌++◌, length}
+use Rattle.std.specs.Prelude.{◌≡◌, ◌≤◌, ◌<◌, ◌⊎◌, ℕ, suc, ◌+◌, ◌-◌, Bool, true, false, None, List, [], ◌∷◌, ◌++◌, length, map}
 use Rattle.std.specs.List.{AllByRecursion}
 use Rattle.serial_link.specs.Rules.{Step, ticks_of}
 use Rattle.chip_sim.specs.Rules.{WaitsWell}
@@ -12,7 +12,9 @@ use Rattle.zw_text.specs.declared.entry.Entry.TheVariants.{Said}
 use Rattle.zw_text.specs.Transcript.{line_of}
 use Rattle.law_wire.specs.Asked.{course_of}
 use Rattle.law_wire.specs.Clearing.{AreTold, cleared, clears, lost_by, to_clear}
-use Rattle.law_wire.specs.Links.{KeepsLinks, joined}
+use Rattle.law_wire.specs.Links.{KeepsLinks, ends_round, joined, moments_of}
+use Rattle.law_wire.specs.Serial.{SerialEvent, serial_events}
+use Rattle.law_wire.specs.law_transcript.Lists.{shown_after}
 use Rattle.proof_world.specs.host_model.Events.{HostEvent, Line_ticks}
 use Rattle.host_node.specs.Search.{first_wanting}
 use Rattle.proof_world.specs.host_model.State.{HostState}
@@ -30,7 +32,7 @@ use Rattle.proof_walk.specs.Phases.{Phase, Between, Said_line, Begun, Doing, To_
 use Rattle.proof_walk.specs.ByLine.{KnownOf, IsAsked}
 use Rattle.proof_traffic.specs.Links.{KeepsItsLink}
 use Rattle.proof_line.specs.Pipes.{IsByHand, HearsNothing}
-use Rattle.proof_line.specs.Links.{AtLine, Brings, IsMute, KnowsLink, LinkNow, MayEndNow, TicksNot, cleared_in, due_from, tick_told}
+use Rattle.proof_line.specs.Links.{AtLine, Brings, KnowsLink, LinkNow, MayEndNow, TicksNot, cleared_in, due_from, start_at, tick_told}
 
 -- ---- what is asked of each event
 
@@ -71,6 +73,15 @@ abbrev pub did_at : Phase → Did → List Step → Did
 did_at (To_tick ticks) did more = began did
 did_at here did more = did ⊕ more
 
+-- which events of the serial line begin a line or tick, and how many of them do
+abbrev pub flags_of : List SerialEvent → List Bool
+flags_of events = map ends_round events
+
+abbrev pub rounds_in : List Bool → ℕ
+rounds_in [] = 0
+rounds_in (true ∷ flags) = suc (rounds_in flags)
+rounds_in (false ∷ flags) = rounds_in flags
+
 -- ---- the laws of a run that is cut short here
 
 -- both sides kept the rules, and so far it is told what restarts lost; and by what the chip's link did it has the same course
@@ -82,11 +93,17 @@ pub record CutsBy (did : List Step) (past : List Entry) : Type 0 where
 abbrev pub Cuts : Did → List Entry → Type 0
 Cuts did past = CutsBy did.steps past
 
--- these parts of its steps, up to each event of the serial line, are what it did but for steps since then that wrote nothing
-pub record ArePartsOf (did : List Step) (parts : List (List Step)) : Type 0 where
-  pub since : List Step
-  pub is : did ≡ joined parts ++ since
-  pub mute : AllByRecursion IsMute since
+-- these parts of its steps are so where each line or tick began
+abbrev pub HasStarts : List Entry → List (List Step) → List (List Step) → Type 0
+HasStarts past parts starts = shown_after (start_at Chip) [] (moments_of (serial_events past) parts) ≡ starts
+
+-- a line or tick begins with the last of these entries, after all those by which the chip's link did this
+pub record BeginsLast (did : Did) (all : List Entry) : Type 0 where
+  pub front : List SerialEvent
+  pub event : SerialEvent
+  pub events : serial_events all ≡ front ++ event ∷ []
+  pub begins : ends_round event ≡ true
+  pub many : length did.starts ≡ rounds_in (flags_of front)
 
 -- ---- beside the machine
 

@@ -39,4 +39,4 @@ returns-clause-whole c = λ keys devices lines are whole.
     let walk = links_walk obey.each obey.units obey.opened c.time_goes_on.ensures.walk in
     let known =
     where_whole IsOrderly Anything KnowAll walk [] m lines are whole orderly (c.time_goes_on.ensures.first keys (Some []) devices, (nothing_did, links_first keys (Some []) devices (obey.first keys))) in
-    whole_clears (transcript_of m lines) (ended_known (transcript_of m lines) (after_all m lines) known.0 known.1.1) (c.lines_clear_nowhere_else.ensures keys (Some []) devices lines are true)
+    whole_clears (transcript_of m lines) (ended_known known.1.0 (transcript_of m lines) (after_all m lines) known.0 known.1.1) (c.lines_clear_nowhere_else.ensures keys (Some []) devices lines are true)
