@@ -23,7 +23,7 @@ mod Roomy
 pub mod Rooming
 mod Moments
 mod Serials
-mod LinkStarts
+pub mod LinkStarts
 mod LinkSteps
 mod LinkKnown
 mod LinkUntil

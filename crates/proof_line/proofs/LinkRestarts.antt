@@ -6,7 +6,7 @@ use Rattle.std.proofs.lemmas.Bool.{ltb-true, ltb-false}
 use Rattle.std.proofs.lemmas.List.{map-append}
 use Rattle.zw_base.proofs.Each.{all-append}
 use Rattle.serial_link.specs.State.{Side as LinkSide}
-use Rattle.serial_link.specs.Rules.{SideObeys, Step}
+use Rattle.serial_link.specs.Rules.{SideObeys}
 use Rattle.chip_sim.specs.State.{ChipParts}
 use Rattle.chip_sim.specs.Waiting.{PortState}
 use Rattle.chip_sim.specs.Rules.{WaitsWell}

@@ -41,7 +41,7 @@ use Rattle.proof_walk.specs.Phases.{Phase, Between, Said_line, Begun, Doing, To_
 use Rattle.proof_walk.specs.Time.{KnowTime, MayCount}
 use Rattle.proof_walk.specs.Walk.{Walk, WalkWhere}
 use Rattle.proof_line.specs.Links.{AtLine, KeepsSoFar, KnowsLink, LinkNow, MayEndNow, due_from, most_of}
-use Rattle.proof_line.specs.Linked.{◌⊕◌, began, did_at, flags_of, rounds_in, said, BeginsLast, CutsBy, Did, HasStarts, Cuts, IsOrderly, KnowCuts, KnowLinks, KnowsBoth, LinksBegun, LinksDone, LinksLeft, HaveTickedOnce, InTick, Round}
+use Rattle.proof_line.specs.Linked.{◌⊕◌, began, did_at, flags_of, rounds_in, said, UnlessTicks, BeginsLast, CutsBy, Did, HasStarts, Cuts, IsOrderly, KnowCuts, KnowLinks, KnowsBoth, LinksBegun, LinksDone, LinksLeft, HaveTickedOnce, InTick, Round}
 use Rattle.proof_line.proofs.LinkKnown.{no_steps}
 use Rattle.proof_line.proofs.LinkTold.{brings_none}
 use Rattle.proof_line.proofs.ChipAccounts.{event_steps, outer_steps}
@@ -111,11 +111,6 @@ IsOneLine [] = Unit {0}
 IsOneLine (line ∷ []) = Unit {0}
 IsOneLine (line ∷ next ∷ more) = ⊥
 
--- a line that is no `tick`
-abbrev pub UnlessTicks : List Line → Type 0 → Type 0
-UnlessTicks (lines.Tick count ∷ more) P = Unit {0}
-UnlessTicks line P = P
-
 pub said_begins : (did : Did) (past : List Entry) (m : Machine) (words : List ℕ) (line : List Line) → line_of (Said words) ≡ line → KnowTime Between past m → KnowCuts did Between past m → IsOneLine line
     → UnlessTicks line (BeginsLast did (past ++ Said words ∷ []))
 said_begins did past m words line read time (cuts, (is_tick, (up, down, both, may))) one =
@@ -169,6 +164,10 @@ event_still did here apart next to event is past m event_same next_same none kno
 line_none : (m : Machine) → event_steps m (Outside_does Begins_line) ≡ []
 unfolding event_steps outer_steps
 line_none m = refl
+
+pub tick_none : (m : Machine) → event_steps m (Outside_does Begins_tick) ≡ []
+unfolding event_steps outer_steps
+tick_none m = refl
 
 host_none : (m : Machine) (event : HostEvent) → event_steps m (Host_does event) ≡ []
 unfolding event_steps

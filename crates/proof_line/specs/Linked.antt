@@ -68,6 +68,11 @@ abbrev pub said : Line → Did → Did
 said (lines.Tick count) did = did
 said line did = began did
 
+-- a line that is no `tick`
+abbrev pub UnlessTicks : List Line → Type 0 → Type 0
+UnlessTicks (lines.Tick count ∷ more) P = Unit {0}
+UnlessTicks line P = P
+
 -- after an event: only where ticks are to come is it one that begins
 abbrev pub did_at : Phase → Did → List Step → Did
 did_at (To_tick ticks) did more = began did
