@@ -55,6 +55,16 @@ def breaks():
             of_link.__init__(self, out)
             self.collisions = 1
 
+    class TakesRefused(of_link):
+        """Takes what a frame says that it refuses for its sum."""
+
+        def feed(self, piece):
+            for byte in piece:
+                text = bytes(self.dec.buf) + bytes((byte,))
+                of_link.feed(self, text[-1:])
+                if text[0] == 1 and 4 < len(text) == text[1] + 2 and base.checksum(text[1:-1]) != text[-1]:
+                    self.out(("got", *text[2:4], text[4:-1]))
+
     def unacknowledged(old, self, event):
         if not (event[0] == "write" and event[1] == base.ACK):
             old(self, event)
@@ -163,6 +173,7 @@ def breaks():
         "no second copy": (host_link(NoSecondCopy), "serial"),
         "third copy a tick early": (host_link(EarlyCopy), "serial"),
         "answers CAN": (host_link(Collides), "serial"),
+        "an outcome of a refused report": (host_link(TakesRefused), "serial"),
         "no second segment": (lambda: around(of_host, "_work", no_second_segment), "bulk"),
         "seals twice for a nonce": (lambda: (around(of_host, "_attempt", seals_twice), around(of_host, "_nonce_report", notes_nonce)), "security"),
         "a new nonce each time": (lambda: around(of_host, "_nonce_get", gives_new), "security"),

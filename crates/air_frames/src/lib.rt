@@ -19,4 +19,4 @@ pub use ages::{
 pub use frame::{Departure, Frame, Heading};
 pub use frames::{Frames, KEPT_FRAMES};
 pub use laws::{ages_are_those_of_the_history, what_is_kept_is_of_the_history};
-pub use peer::Peer;
+pub use peer::{Peer, is_new, nonce_of};

@@ -23,7 +23,7 @@ pub struct Peer {
 }
 
 /// The nonce that a payload shows, where it is a Nonce Report.
-pub(crate) fn nonce_of(payload: &[u8]) -> Option<[u8; 8]>
+pub fn nonce_of(payload: &[u8]) -> Option<[u8; 8]>
     ensures { result ≡ nonce_in payload.now }
 {
     if payload.len() >= NONCE_REPORT_LEN && payload[0] == SECURITY && payload[1] == NONCE_REPORT {
@@ -35,7 +35,7 @@ pub(crate) fn nonce_of(payload: &[u8]) -> Option<[u8; 8]>
 }
 
 /// Whether a nonce is the first, or another than the one before.
-fn is_new(last: Option<[u8; 8]>, nonce: &[u8; 8]) -> bool
+pub fn is_new(last: Option<[u8; 8]>, nonce: &[u8; 8]) -> bool
     ensures { result ≡ is_news last nonce.now }
 {
     match last {

@@ -118,7 +118,7 @@ line-more : (scene : Scenery) (entry : Entry) → (scene_after scene entry).line
 line-more scene (Said words) = refl
 line-more scene other = refl
 
-accepting-more : (past : List Entry) (entry : Entry) → accepting_at (past ++ (entry ∷ [])) ≡ accepting_after (accepting_at past) entry
+pub accepting-more : (past : List Entry) (entry : Entry) → accepting_at (past ++ (entry ∷ [])) ≡ accepting_after (accepting_at past) entry
 accepting-more past entry = folded-append accepting_after (record { orders = []; line = None }) past (entry ∷ [])
 
 same-tables : (line line' : Option Line) (orders orders' : List (Option Order)) (endings : List (ℕ × Ending)) (sessions sessions' : List (List ℕ)) (past : List Entry) →

@@ -1,3 +1,3 @@
-mod Kept
+pub mod Kept
 mod Passes
 mod Alone

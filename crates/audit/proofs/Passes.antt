@@ -28,17 +28,8 @@ broken-line past text Payload entry more not-text next judged = (entry, more, ne
 broken-line past text Store entry more not-text next judged = (entry, more, next, judged)
 broken-line past text Table entry more not-text next judged = (entry, more, next, judged)
 
--- the answers
-pub found-line : (text left : List ℕ) (entries : List Entry) (line : ℕ) (broken : Break) → Keeps [] text entries left → line ≡ length entries + 1 →
-    IsBroken entries left broken → Examined text (Some (line, broken))
-found-line text left entries line broken keeps is breaks = record { entries = entries; rest = left; keeps = keeps; ends = (is, breaks) }
-
 pub found-none : (text left : List ℕ) (entries : List Entry) → Keeps [] text entries left → left ≡ [] → Examined text None
 found-none text left entries keeps is = record { entries = entries; rest = left; keeps = keeps; ends = is }
-
--- the beginning of the pass
-pub keeps-none : (text : List ℕ) → Keeps [] text [] text
-keeps-none text = refl
 
 -- the line of an entry more
 pub takes-line : (text left rest : List ℕ) (entries : List Entry) (kept : Kept) (line next : ℕ) → Keeps [] text entries left → IsTaken entries left rest kept → line ≡ length entries + 1 →

@@ -49,7 +49,7 @@ get-beyond [] y (suc k) e = refl
 get-beyond (x ∷ xs) y zero e = absurd (omega (arith, e))
 get-beyond (x ∷ xs) y (suc k) e = get-beyond xs y k (omega (arith, e))
 
-at-suc : (orders : List (Option Order)) (k : ℕ) → order_at orders (suc k) ≡ order_there (slice_get orders k)
+pub at-suc : (orders : List (Option Order)) (k : ℕ) → order_at orders (suc k) ≡ order_there (slice_get orders k)
 at-suc orders k =
     let e : suc k - 1 ≡ k = omega arith in
     ap₂ (λ b j. cond b None (order_there (slice_get orders j))) (eqb-suc-zero k) e
@@ -58,7 +58,7 @@ at-beyond : (orders : List (Option Order)) (i : ℕ) → i ≡ length orders + 1
 at-beyond orders zero e = absurd (omega (arith, e))
 at-beyond orders (suc k) e = at-suc orders k ∙ ap order_there (slice_get_past orders k (omega (arith, e)))
 
-at-new : (orders : List (Option Order)) (o : Option Order) (i : ℕ) → i ≡ length orders + 1 → order_at (orders ++ (o ∷ [])) i ≡ o
+pub at-new : (orders : List (Option Order)) (o : Option Order) (i : ℕ) → i ≡ length orders + 1 → order_at (orders ++ (o ∷ [])) i ≡ o
 at-new orders o zero e = absurd (omega (arith, e))
 at-new orders o (suc k) e = at-suc (orders ++ (o ∷ [])) k ∙ ap order_there (get-seam orders o k (omega (arith, e)))
 

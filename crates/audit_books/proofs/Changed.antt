@@ -32,7 +32,7 @@ use Rattle.audit_books.proofs.Views.{shown-more, folded-more, failed-is, length-
 
 -- ---- judging
 
-or-true : (a : Bool) → (a || true) ≡ true
+pub or-true : (a : Bool) → (a || true) ≡ true
 or-true true = refl
 or-true false = refl
 

@@ -71,7 +71,7 @@ begins kept none = record {
 
 -- ---- one entry more
 
-read-same : (found : Result (Option Line) LineFault) → lines_of (line_read found) ≡ read_as found
+pub read-same : (found : Result (Option Line) LineFault) → lines_of (line_read found) ≡ read_as found
 read-same (Ok (Some line)) = refl
 read-same (Ok None) = refl
 read-same (Err fault) = refl
@@ -89,7 +89,7 @@ count-more orders line past (Accepted command node) same =
     length-append orders (order_to node line ∷ []) ∙ ap (λ n. n + 1) same ∙ sym (length-append (accepted_numbers past) (command ∷ []))
 count-more orders line past other same = same ∙ ap length (sym (append-nil (accepted_numbers past)))
 
-line-kept : (n : ℕ) (past : List Entry) (so_far : Accepting) (lines : List Line) → so_far.line ≡ lines →
+pub line-kept : (n : ℕ) (past : List Entry) (so_far : Accepting) (lines : List Line) → so_far.line ≡ lines →
     (folded (accepting n) so_far past).line ≡ folded line_after lines past
 line-kept n [] so_far lines same = same
 line-kept n (entry ∷ past) so_far lines same = line-kept n past (accepting n so_far entry) (line_of entry) refl

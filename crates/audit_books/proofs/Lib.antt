@@ -1,8 +1,8 @@
 pub mod Cuts
 mod Pushed
 pub mod Views
-mod Accepts
-mod Follows
+pub mod Accepts
+pub mod Follows
 mod Grouped
-mod Changed
+pub mod Changed
 mod Listed

@@ -1,7 +1,6 @@
 -- Settings at their places.
-use Rattle.std.proofs.Common.{◌≡◌, ℕ, zero, suc, ◌<◌, ◌≤◌, ◌+◌, eqb, Bool, true, false, List, [], ◌∷◌, length, drop, take, get_or, Option, Some, None, arith, ap, refl, sym, subst, ◌∙◌}
+use Rattle.std.proofs.Common.{◌≡◌, ℕ, zero, suc, ◌<◌, ◌≤◌, ◌+◌, eqb, Bool, true, false, List, [], ◌∷◌, length, drop, get_or, Option, Some, None, arith, ap, refl, sym, subst, ◌∙◌}
 use Rattle.std.specs.Prelude.{◌&&◌, slice_get}
-use Rattle.std.specs.List.{AllByRecursion}
 use Rattle.std.specs.Cmp.Lexicographic.{slice_cmp}
 use Rattle.std.proofs.lemmas.Bool.{false≢true}
 use Rattle.std.proofs.lemmas.Bool.Decides.{leb_tells}
@@ -9,6 +8,7 @@ use Rattle.std.specs.FinMap.{nat_cmp-IsAntisymmetric, slice_cmp-IsAntisymmetric}
 use Rattle.std.specs.Ordering.{is_eq, nat_cmp}
 use Rattle.std.specs.declared.cmp.Ordering.{Ordering}
 use Rattle.std.specs.declared.cmp.Ordering.TheVariants.{Less, Equal, Greater}
+use Rattle.std.proofs.lemmas.Option.{none-some as none-is-some}
 use Rattle.zw_base.specs.PropertyOrder.{name_rank_of, rank_of}
 use Rattle.zw_base.specs.declared.property.Name.{Name}
 use Rattle.zw_base.specs.declared.property.Name.TheVariants as names
@@ -84,13 +84,6 @@ none-fits (Some made) none other fits = none-named made made.property.name refl 
 
 -- ---- lists of settings, one by one
 
-none-is-some : {A : Type 0} (x : A) → None ≡ Some x → ⊥
-none-is-some {A} x e = subst F e tt
-  where
-    F : Option A → Type 0
-    F None = Unit {0}
-    F (Some y) = ⊥
-
 abbrev some_or : {A : Type 0} → A → Option A → A
 some_or d None = d
 some_or d (Some x) = x
@@ -107,16 +100,6 @@ same-step [] (z ∷ ys) zero y e = refl
 same-step [] (z ∷ ys) (suc at) y e = sym (ap (λ l. same_settings l (drop at ys)) (drop-nil at)) ∙ same-step [] ys at y e
 same-step (x ∷ xs) (z ∷ ys) zero y e = ap (λ s. same_setting x s && same_settings xs ys) (ap (some_or z) e)
 same-step (x ∷ xs) (z ∷ ys) (suc at) y e = same-step xs ys at y e
-
-pub same-end : (xs ys : List Setting) (n : ℕ) → length xs ≤ n → length ys ≤ n → same_settings (drop n xs) (drop n ys) ≡ true
-same-end [] [] zero a b = refl
-same-end [] [] (suc n) a b = refl
-same-end (x ∷ xs) [] zero a b = absurd (omega (arith, a))
-same-end (x ∷ xs) [] (suc n) a b = sym (ap (same_settings (drop n xs)) (drop-nil n)) ∙ same-end xs [] n (omega (arith, a)) (omega arith)
-same-end [] (y ∷ ys) zero a b = absurd (omega (arith, b))
-same-end [] (y ∷ ys) (suc n) a b = sym (ap (λ l. same_settings l (drop n ys)) (drop-nil n)) ∙ same-end [] ys n (omega arith) (omega (arith, b))
-same-end (x ∷ xs) (y ∷ ys) zero a b = absurd (omega (arith, a))
-same-end (x ∷ xs) (y ∷ ys) (suc n) a b = same-end xs ys n (omega (arith, a)) (omega (arith, b))
 
 and-false : (b : Bool) → (b && false) ≡ false
 and-false true = refl
@@ -147,8 +130,3 @@ same-none xs ys at y within is there =
     same-step xs ys at y (got ys at y within is) ∙ ap (λ b. b && same_settings (drop (suc at) xs) (drop (suc at) ys)) (sym there)
 
 -- ---- each of the first ones
-
-pub all-step : {A : Type 0} (P : A → Type 0) (xs : List A) (k : ℕ) (x : A) → slice_get xs k ≡ Some x → AllByRecursion P (take k xs) → P x → AllByRecursion P (take (suc k) xs)
-all-step P [] k x e all is = absurd (none-is-some x e)
-all-step P (y ∷ xs) zero x e all is = (subst P (sym (ap (some_or y) e)) is, tt)
-all-step P (y ∷ xs) (suc k) x e all is = (all.0, all-step P xs k x e all.1 is)

@@ -4,7 +4,7 @@ use Rattle.std.specs.Prelude.{◌||◌, ◌&&◌, nat_le, nat_lt, option_map, sl
 use Rattle.std.specs.List.{flat_map, list_any}
 use Rattle.std.proofs.Math.Bool.{or-false}
 use Rattle.std.proofs.Math.ListN.{set}
-use Rattle.std.proofs.lemmas.Bool.{false≢true, and_parts, eq-eqb, ne_eqb, eqb-true, not-false, or_parts}
+use Rattle.std.proofs.lemmas.Bool.{false≢true, and_parts, eq-eqb, ne_eqb, eqb-true, not-false, or_parts, or_right as or-true}
 use Rattle.std.proofs.lemmas.Bool.Decides.{leb_tells, eqb_tells}
 use Rattle.std.proofs.lemmas.List.{append_assoc, get_or-replicate, length-map, length-replicate, map-append}
 use Rattle.std.proofs.lemmas.List.Folds.{list_any-append}
@@ -117,10 +117,6 @@ up-seam frame sender receiver repeaters payload = ap (λ b. Air frame sender rec
 
 head-any : (number : ℕ) (fs : List AirFrame) → (eqb number number || list_any (λ (f : AirFrame). eqb f.number number) fs) ≡ true
 head-any number fs = ap (λ b. b || list_any (λ (f : AirFrame). eqb f.number number) fs) (eq-eqb number number refl)
-
-or-true : (a b : Bool) → b ≡ true → (a || b) ≡ true
-or-true true b e = refl
-or-true false b e = e
 
 -- what depends on the numbers of frames alone
 map-numbers : {B : Type 0} (fs : List AirFrame) (f g : AirFrame → B) →

@@ -21,6 +21,7 @@ use Rattle.audit_rules.specs.PayloadRule.{are_picked, breaks_payload, same_carri
 use Rattle.audit_rules.specs.Sending.{Sendings, asked_for, following, breaks_sending, changed, first_of, is_that, kept_unmet, may_send, no_sendings, sendings_after, sent, sent_by, sent_found, settled, wrote}
 use Rattle.audit_rules.specs.KeepingPayloads.{AreSendingsOf, Picked, but_last, has_unit, last_unit, picking}
 use Rattle.zw_text.proofs.Views.{folded-append, shown-append}
+use Rattle.audit_books.proofs.Changed.{or-true}
 
 -- ---- picking
 
@@ -161,10 +162,6 @@ asked-one : (unit : List ℕ) → listed (asked_for unit) ≡ asked_by unit
 asked-one unit = cond-one (is_request unit) _ (read-one (request_of (function_in unit) (body_of unit)))
 
 -- ---- judging
-
-or-true : (a : Bool) → (a || true) ≡ true
-or-true true = refl
-or-true false = refl
 
 -- whether one more can be picked, where that is wanted and left
 one-more : (unmet last : Option Carried) (left : List Carried) (c : Carried) → LeavesNone (listed unmet) left →

@@ -2,7 +2,6 @@
 
 ghost use Rattle.std.specs.Prelude.{◌≡◌, ◌+◌, ◌==◌, length, IfOk, OnOk, vec_len};
 ghost use Rattle.air_frames.specs.Ages.{is_class};
-ghost use Rattle.air_frames.specs.Nonces.{nonce_in, is_news};
 ghost use Rattle.audit_rules.specs.Flying.{
   at_number,
   counted,
@@ -21,7 +20,9 @@ ghost use Rattle.audit_rules.specs.Flying.{
   with_frame,
 };
 
-use air_frames::{MAX_LATER_SESSIONS, MAX_LATER_SESSIONS_OF_SEGMENTS, MAX_NEW_NONCES};
+use air_frames::{
+    MAX_LATER_SESSIONS, MAX_LATER_SESSIONS_OF_SEGMENTS, MAX_NEW_NONCES, is_new, nonce_of,
+};
 use audit_books::{PLACES, Sessions};
 use std::alloc::Global;
 use std::marker::Model;
@@ -31,10 +32,6 @@ use zw_base::{NoMemory, NodeId};
 const TRANSPORT_SERVICE: u8 = 0x55;
 /// The command class Security 0.
 const SECURITY: u8 = 0x98;
-/// Its command Nonce Report.
-const NONCE_REPORT: u8 = 0x80;
-/// How many bytes a Nonce Report has at least: class, command and nonce.
-const NONCE_REPORT_LEN: usize = 10;
 /// The controller.
 const CONTROLLER: u8 = 1;
 
@@ -76,28 +73,6 @@ impl Model for Frames {
     ghost view = { λ f. record { frames = f.frames.items; landed = f.landed.items; outward = f.outward.items; homeward = f.homeward.items } };
 
     ghost invariant = { λ f. (length f.outward.items ≡ 233) × (length f.homeward.items ≡ 233) };
-}
-
-/// The nonce that a payload shows, where it is a Nonce Report.
-fn nonce_of(payload: &[u8]) -> Option<[u8; 8]>
-    ensures { result ≡ nonce_in payload.now }
-{
-    if payload.len() >= NONCE_REPORT_LEN && payload[0] == SECURITY && payload[1] == NONCE_REPORT {
-        let mut nonce = [0; 8];
-        nonce.copy_from_slice(&payload[2..NONCE_REPORT_LEN]);
-        return Some(nonce);
-    }
-    None
-}
-
-/// Whether a nonce is the first, or another than the one before.
-fn is_new(last: Option<[u8; 8]>, nonce: &[u8; 8]) -> bool
-    ensures { result ≡ is_news last nonce.now }
-{
-    match last {
-        Some(before) => before != *nonce,
-        None => true,
-    }
 }
 
 /// The node of a frame: its end that is not the controller.

@@ -1,5 +1,5 @@
 -- What is known of properties.
-use Rattle.std.proofs.Common.{◌≡◌, ℕ, cond, Bool, true, false, List, [], ◌∷◌, ◌++◌, drop, Option, Some, None, ap, refl, sym, subst, ◌∙◌}
+use Rattle.std.proofs.Common.{◌≡◌, ℕ, cond, Bool, true, false, List, [], ◌∷◌, ◌++◌, drop, Option, Some, None, ap, refl, sym, ◌∙◌}
 use Rattle.std.specs.Prelude.{unwrap_or, if◌then◌else◌, ◌==◌}
 use Rattle.std.specs.List.{flat_map}
 use Rattle.std.specs.declared.cmp.Ordering.{Ordering}
@@ -81,25 +81,6 @@ eq-back Greater = refl
 
 pub same-back : (first second : Property) → same_property first second ≡ is_eq (compare_properties second first)
 same-back first second = ap is_eq (total.antisymm first second) ∙ eq-back (compare_properties second first)
-
-eq-is : (o : Ordering) → is_eq o ≡ true → o ≡ Equal
-eq-is Less e = absurd (no e)
-  where
-    no : false ≡ true → ⊥
-    no e = subst G e tt
-      where
-        G : Bool → Type 0
-        G true = ⊥
-        G false = Unit {0}
-eq-is Equal e = refl
-eq-is Greater e = absurd (no e)
-  where
-    no : false ≡ true → ⊥
-    no e = subst G e tt
-      where
-        G : Bool → Type 0
-        G true = ⊥
-        G false = Unit {0}
 
 -- ---- one value more
 

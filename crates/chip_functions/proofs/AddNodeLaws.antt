@@ -1,6 +1,7 @@
 -- What is read of the adding of a node is spelled so, and what is spelled so is read.
 use Rattle.std.proofs.Common.{◌≡◌, ℕ, ◌+◌, ◌≤◌, false, cond, eqb, ltb, List, [], ◌∷◌, ◌++◌, length, Some, Ok, Err, refl, sym, subst, arith}
 use Rattle.std.proofs.lemmas.Bool.{eqb-true, eqb-false, ltb-false, le-ltb, ne_eqb}
+use Rattle.std.proofs.lemmas.Option.{none-some as none_is, same_Some as some_is}
 use Rattle.chip_functions.specs.declared.fault.BodyFault.{BodyFault}
 use Rattle.chip_functions.specs.declared.fault.BodyFault.TheVariants.{BadField}
 use Rattle.chip_functions.specs.declared.notice.TheConstants.{DEVICE_CLASSES}
@@ -17,7 +18,7 @@ use Rattle.chip_functions.specs.Classes.{Classes, classes, classes_after}
 use Rattle.chip_functions.specs.AddNode.{mode_code, mode_of, add_request, status_code, status_of, unnamed_at, named_at, added_spelling, added, add_notice, IsAdded}
 use Rattle.chip_functions.proofs.FieldLaws.{Takes, Takes-then, Reads, Lawful, bind_ok, bind_err, guard_ok, guard_err, no_fault, fault_back, bad_here, ok_is, as_takes, as_faults, byte_takes, byte_again, byte_faults, byte_step, byte_lawful, then_lawful, mark_lawful, within_lawful, coded_lawful}
 use Rattle.chip_functions.proofs.ClassesLaws.{after_takes, after_again, after_faults, with_length}
-use Rattle.chip_functions.proofs.RowLaws.{some_is, none_is, if_cases, row_cases, row_takes, row_again}
+use Rattle.chip_functions.proofs.RowLaws.{if_cases, row_cases, row_takes, row_again}
 
 -- ---- modes and statuses
 
@@ -63,7 +64,7 @@ zero_cases : {A R : Type 0} (n : ℕ) (x y z : A) → cond (eqb n 0) x y ≡ z �
 zero_cases n x y z e hit miss = if_cases (eqb n 0) x y z e (λ t. hit (eqb-true n 0 t)) (λ f. let some : n ≡ 0 → ⊥ = eqb-false n 0 f in miss (omega arith))
 
 -- the first byte, and then the rest
-prefix_takes : (p q r : Place) (n code : ℕ) (text : List ℕ) → n ≡ code → Takes p q (n ∷ []) → Takes q r text → Takes p r (code ∷ text)
+pub prefix_takes : (p q r : Place) (n code : ℕ) (text : List ℕ) → n ≡ code → Takes p q (n ∷ []) → Takes q r text → Takes p r (code ∷ text)
 prefix_takes p q r n code text same first rest = subst (λ (k : ℕ). Takes p r (k ∷ text)) same (Takes-then p q r (n ∷ []) text first rest)
 
 -- what was read after a node that is neither 0 nor above 232

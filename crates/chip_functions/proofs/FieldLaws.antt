@@ -5,12 +5,13 @@ use Rattle.std.specs.Int.{Width, w16, w32, byte_len, from_be_bytes, to_be_bytes}
 use Rattle.std.proofs.lemmas.Bool.{cases_lt, ltb-true, ltb-false, le-ltb, le-leb, leb-true, and_from, and_parts, eqb-true}
 use Rattle.std.proofs.lemmas.List.{take_at, drop_at, take-append-drop, length-append, length-take, get_or-drop, get_or-take, get_or_past}
 use Rattle.std.proofs.lemmas.Nat.{be_bytes_2, be_bytes_4, from_be_bytes-to_be_bytes_2, from_be_bytes-to_be_bytes_4}
+use Rattle.std.proofs.lemmas.Option.{cond_some as some_if}
 use Rattle.chip_functions.specs.declared.fault.BodyFault.{BodyFault}
 use Rattle.chip_functions.specs.declared.fault.BodyFault.TheVariants.{UnknownFunction, Short, BadField, NoMemory}
 use Rattle.chip_functions.specs.declared.mask.TheConstants.{MASK_BYTES}
 use Rattle.chip_functions.specs.Mask.{IsBytes, AreNodes, nodes_of, mask_of}
 use Rattle.chip_functions.specs.Place.{Place, Reading, IsFaultFrom, ◌>>=◌, byte_from, piece_from, found_at}
-use Rattle.chip_functions.specs.Field.{Field, nothing, byte, piece, ◌then◌, coded, byte_within, node, mark, number, mask, counted, read_as}
+use Rattle.chip_functions.specs.Field.{Field, byte, piece, ◌then◌, coded, byte_within, node, mark, number, mask, counted, read_as}
 use Rattle.chip_functions.proofs.MaskLemmas.{mask_of-nodes_of, nodes_of-mask_of, are_nodes, mask_len}
 
 -- what was read from p on, up to q
@@ -168,13 +169,6 @@ piece_lawful count = record {
   faults = λ p fault _ e. piece_faults count p.before p.rest fault e;
 }
 
-pub nothing_lawful : Lawful nothing (λ _. Unit {0})
-nothing_lawful = record {
-  takes = λ p x q fits e. (subst (λ (y : Unit {0} × Place). Takes p y.1 []) (ok_is (tt, p) (x, q) e) (record { parts = refl; fits = fits; moves = omega arith; sum = refl }), tt);
-  again = λ x p rest _ e. record { place = p; is = refl; after = e };
-  faults = λ p fault _ e. no_fault {A = Unit {0} × Place} (tt, p) fault e;
-}
-
 -- ---- one field after the other
 
 pub then_lawful : {A B : Type 0} {first : Field A} {second : Field B} {F : A → Type 0} {G : B → Type 0} → Lawful first F → Lawful second G → Lawful (first then second) (λ x. F x.0 × G x.1)
@@ -220,10 +214,6 @@ if_within low high b = cond (leb low b && leb b high) (Some b) None
 
 within_back : (low high b : ℕ) → (low ≤ b) × (b ≤ high) → if_within low high b ≡ Some b
 within_back low high b h = rw (and_from _ _ (le-leb low b h.0) (le-leb b high h.1)) refl
-
-some_if : {A : Type 0} (t : Bool) (x y : A) → cond t (Some x) None ≡ Some y → (t ≡ true) × (x ≡ y)
-some_if true x y e = (refl, cc)
-some_if false x y e = absurd cc
 
 within_there : (low high b x : ℕ) → if_within low high b ≡ Some x → (x ≡ b) × ((low ≤ x) × (x ≤ high))
 within_there low high b x e =

@@ -273,7 +273,7 @@ unfolding nodes_of
 with_bit-nodes n bytes long le lt = one_more (is_marked bytes) (is_marked (with_bit n bytes)) n 232 1 (lit≤ tt) le (omega arith) (with_bit-same n bytes long le lt) (λ m low ne. with_bit-other n bytes long le lt m low ne)
 
 -- the nodes of a range with one more number
-longer : (p : ℕ → Bool) (n a m : ℕ) → a + n ≡ m → filter p (range_with_len a (suc n)) ≡ filter p (range_with_len a n) ++ cond (p m) (m ∷ []) []
+pub longer : (p : ℕ → Bool) (n a m : ℕ) → a + n ≡ m → filter p (range_with_len a (suc n)) ≡ filter p (range_with_len a n) ++ cond (p m) (m ∷ []) []
 longer p zero a m e =
     let same : a ≡ m = omega arith in
     ap (λ (j : ℕ). cond (p j) (j ∷ []) []) same

@@ -1,5 +1,6 @@
 -- A notice that is read is spelled so, and one that is spelled so is read.
-use Rattle.std.proofs.Common.{◌≡◌, ℕ, ◌+◌, ◌≤◌, cond, eqb, List, [], ◌∷◌, ◌++◌, length, Some, Ok, Err, refl, sym, subst}
+use Rattle.std.proofs.Common.{◌≡◌, ℕ, ◌+◌, ◌≤◌, cond, eqb, List, ◌++◌, length, Some, Ok, Err, refl, sym, subst}
+use Rattle.std.proofs.lemmas.Option.{none-some as none_is, same_Some as some_is}
 use Rattle.chip_functions.specs.declared.fault.BodyFault.{BodyFault}
 use Rattle.chip_functions.specs.declared.fault.BodyFault.TheVariants.{UnknownFunction, BadField}
 use Rattle.chip_functions.specs.declared.function.TheConstants.{APPLICATION_COMMAND_HANDLER, SEND_DATA, ADD_NODE, APPLICATION_UPDATE}
@@ -15,10 +16,10 @@ use Rattle.chip_functions.specs.Place.{Place, IsFaultFrom, IsBodyFault, start_of
 use Rattle.chip_functions.specs.Field.{IsNode}
 use Rattle.chip_functions.specs.Classes.{Classes}
 use Rattle.chip_functions.specs.Notice.{handler, status_code, status_of, callback, received, request_failed, received_at, request_failed_at, update, notice_function, notice_body, HasNoticeRow, IsUpdate, IsNotice, IsNoticeBody, handler_at, callback_at, add_notice_at, update_at, notice_at, notice_of}
-use Rattle.chip_functions.proofs.FieldLaws.{Takes, Takes-then, Reads, Lawful, bind_ok, bind_err, no_fault, err_is, fault_back, bad_here, ok_is, as_faults, byte_takes, byte_again, byte_faults, byte_step, byte_lawful, then_lawful, node_lawful, mark_lawful, counted_lawful, coded_lawful}
-use Rattle.chip_functions.proofs.RowLaws.{no_row, some_is, none_is, row_cases, row_takes, ReadsOn, row_again, IsFaultOf, row_faults, unknown, body_fault}
+use Rattle.chip_functions.proofs.FieldLaws.{Takes, Reads, Lawful, bind_ok, bind_err, no_fault, err_is, fault_back, bad_here, ok_is, as_faults, byte_takes, byte_again, byte_faults, byte_step, byte_lawful, then_lawful, node_lawful, mark_lawful, counted_lawful, coded_lawful}
+use Rattle.chip_functions.proofs.RowLaws.{no_row, row_cases, row_takes, ReadsOn, row_again, IsFaultOf, row_faults, unknown, body_fault}
 use Rattle.chip_functions.proofs.ClassesLaws.{classes_lawful}
-use Rattle.chip_functions.proofs.AddNodeLaws.{add_notice_lawful}
+use Rattle.chip_functions.proofs.AddNodeLaws.{add_notice_lawful, prefix_takes as update_prefix}
 
 handler_lawful : Lawful handler (λ x. Unit {0} × (IsNode x.1.0 × (1 ≤ length x.1.1)))
 handler_lawful = then_lawful byte_lawful (then_lawful node_lawful (counted_lawful 1))
@@ -48,10 +49,6 @@ received_lawful = then_lawful node_lawful classes_lawful
 
 request_failed_lawful : Lawful request_failed (λ _. Unit {0} × Unit {0})
 request_failed_lawful = then_lawful (mark_lawful 0) (mark_lawful 0)
-
--- a status, and then what follows it
-update_prefix : (p q r : Place) (n code : ℕ) (text : List ℕ) → n ≡ code → Takes p q (n ∷ []) → Takes q r text → Takes p r (code ∷ text)
-update_prefix p q r n code text same first rest = subst (λ (k : ℕ). Takes p r (k ∷ text)) same (Takes-then p q r (n ∷ []) text first rest)
 
 update_takes : (p : Place) (u : Update) (q : Place) → IsBytes p.rest → update.read p ≡ Ok (u, q) → Takes p q (update.spell u) × IsUpdate u
 unfolding received_at request_failed_at

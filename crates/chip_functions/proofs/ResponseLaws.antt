@@ -1,6 +1,7 @@
 -- A response that is read is spelled so, and one that is spelled so is read.
 use Rattle.std.proofs.Common.{◌≡◌, ℕ, ◌<◌, ◌^◌, Bool, true, false, List, ◌++◌, length, Some, Ok, Err, refl, sym, subst}
 use Rattle.std.specs.Int.{w16, w32}
+use Rattle.std.proofs.lemmas.Option.{none-some as none_is, same_Some as some_is}
 use Rattle.chip_functions.specs.declared.fault.BodyFault.{BodyFault}
 use Rattle.chip_functions.specs.declared.fault.BodyFault.TheVariants.{UnknownFunction}
 use Rattle.chip_functions.specs.declared.function.TheConstants.{GET_INIT_DATA, GET_CAPABILITIES, SEND_DATA, GET_VERSION, MEMORY_GET_ID, GET_NODE_PROTOCOL_INFO, REQUEST_NODE_INFO, IS_FAILED_NODE, GET_ROUTING_INFO}
@@ -12,7 +13,7 @@ use Rattle.chip_functions.specs.Place.{Place, IsBodyFault, start_of}
 use Rattle.chip_functions.specs.Field.{IsNode, coded}
 use Rattle.chip_functions.specs.Response.{init_data, capabilities, version, memory_id, protocol_info, failed_code, failed_of, response_function, response_body, IsResponse, IsResponseBody, init_data_at, capabilities_at, version_at, memory_id_at, protocol_info_at, response_at, response_of}
 use Rattle.chip_functions.proofs.FieldLaws.{Takes, Lawful, bind_ok, bind_err, no_fault, ok_is, byte_lawful, piece_lawful, then_lawful, node_lawful, mark_lawful, wide16, wide32, number_lawful, mask_lawful, coded_lawful}
-use Rattle.chip_functions.proofs.RowLaws.{no_row, some_is, none_is, row_cases, row_takes, ReadsOn, row_again, IsFaultOf, row_faults, unknown, body_fault}
+use Rattle.chip_functions.proofs.RowLaws.{no_row, row_cases, row_takes, ReadsOn, row_again, IsFaultOf, row_faults, unknown, body_fault}
 
 init_data_lawful : Lawful init_data (λ x. Unit {0} × (Unit {0} × (Unit {0} × (AreNodes x.1.1.1.0 × (Unit {0} × Unit {0})))))
 init_data_lawful = then_lawful byte_lawful (then_lawful byte_lawful (then_lawful (mark_lawful MASK_BYTES) (then_lawful mask_lawful (then_lawful byte_lawful byte_lawful))))

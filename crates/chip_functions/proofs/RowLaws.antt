@@ -1,5 +1,5 @@
 -- What serves the rows of every direction.
-use Rattle.std.proofs.Common.{◌≡◌, ℕ, Bool, true, false, cond, eqb, List, [], ◌∷◌, ◌++◌, Some, None, Result, Ok, Err, refl, sym, subst, ◌+◌, ◌⊎◌, inl, inr, length, arith}
+use Rattle.std.proofs.Common.{◌≡◌, ℕ, Bool, true, false, cond, eqb, List, [], ◌∷◌, ◌++◌, Result, Ok, Err, refl, sym, subst, ◌+◌, ◌⊎◌, inl, inr, length, arith}
 use Rattle.std.specs.Prelude.{IfOk, IfErr}
 use Rattle.std.proofs.lemmas.Bool.{eqb-true}
 use Rattle.chip_functions.specs.declared.fault.BodyFault.{BodyFault}
@@ -16,13 +16,6 @@ reads_to v q = Ok (v, q)
 -- no function is read where none is known
 pub no_row : {V : Type 0} (fault : BodyFault) (v : V) (q : Place) → Err fault ≡ reads_to v q → ⊥
 no_row fault v q e = cc
-
--- options that are alike
-pub some_is : {V : Type 0} (v w : V) → Some v ≡ Some w → v ≡ w
-some_is v w e = cc
-
-pub none_is : {V : Type 0} (v : V) → None ≡ Some v → ⊥
-none_is v e = cc
 
 -- a test holds or not
 pub if_cases : {A R : Type 0} (b : Bool) (x y z : A) → cond b x y ≡ z → (b ≡ true → x ≡ z → R) → (b ≡ false → y ≡ z → R) → R

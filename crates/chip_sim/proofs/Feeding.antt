@@ -4,7 +4,7 @@ use Rattle.std.specs.Prelude.{Option, Some, None, map}
 use Rattle.std.proofs.lemmas.List.{append-nil, map-append}
 use Rattle.serial_frame.specs.Stream.{Rest, IsRest, Signal, Feeds, GoesOn, FeedsOne, Splits, piece_of}
 use Rattle.serial_frame.specs.declared.item.Item.{Item}
-use Rattle.serial_link.proofs.Counting.{piece_of-append}
+use Rattle.serial_frame.proofs.Streams.{piece_of-append}
 use Rattle.serial_link.proofs.Taking.{feeds-append}
 use Rattle.route_table.specs.declared.route.Route.{Route}
 use Rattle.chip_sim.specs.Waiting.{PortState, PortParts}

@@ -153,7 +153,7 @@ units_sent n payload None true = refl
 units_sent n payload (Some r) true = refl
 units_sent n payload way false = refl
 
-units_performed : (r : Request) (s : ChipState) (way : Option Route) → chip_units (performed_outs r s way) ≡ []
+pub units_performed : (r : Request) (s : ChipState) (way : Option Route) → chip_units (performed_outs r s way) ≡ []
 units_performed GetInitData s way = refl
 units_performed GetCapabilities s way = refl
 units_performed (SendData n payload options id) s way = units_sent n payload way (takes s n payload)
@@ -198,17 +198,17 @@ units_failed : (b : Bool) → flat_map link_unit (cond b (Failed 4 ∷ []) []) �
 units_failed true = refl
 units_failed false = refl
 
-units_refused : (turn : Turn) → flat_map link_unit (outs_refused turn) ≡ []
+pub units_refused : (turn : Turn) → flat_map link_unit (outs_refused turn) ≡ []
 units_refused Idle = refl
 units_refused (Copied f copies ticks) = units_failed (eqb copies 4)
 units_refused (Paused f copies ticks) = refl
 
-units_acknowledged : (turn : Turn) → flat_map link_unit (outs_acknowledged turn) ≡ []
+pub units_acknowledged : (turn : Turn) → flat_map link_unit (outs_acknowledged turn) ≡ []
 units_acknowledged Idle = refl
 units_acknowledged (Copied f copies ticks) = refl
 units_acknowledged (Paused f copies ticks) = refl
 
-units_own : (turn : Turn) (item : Item) → flat_map link_unit (outs_heard turn item) ≡ []
+pub units_own : (turn : Turn) (item : Item) → flat_map link_unit (outs_heard turn item) ≡ []
 units_own turn (Good Ack) = units_acknowledged turn
 units_own turn (Good Nak) = units_refused turn
 units_own turn (Good Can) = units_refused turn

@@ -6,19 +6,7 @@ use Rattle.std.proofs.lemmas.Bool.{le-ltb, ne_eqb}
 use Rattle.std.proofs.lemmas.List.{append-nil}
 use Rattle.chip_functions.specs.Mask.{with_node}
 use Rattle.chip_sim.specs.Nodes.{nodes_where}
-
--- a range with one more number
-longer : (p : ℕ → Bool) (n a m : ℕ) → a + n ≡ m → filter p (range_with_len a (suc n)) ≡ filter p (range_with_len a n) ++ cond (p m) (m ∷ []) []
-longer p zero a m e =
-    let same : a ≡ m = omega arith in
-    ap (λ (j : ℕ). cond (p j) (j ∷ []) []) same
-longer p (suc n) a m e =
-    let ih : filter p (range_with_len (a + 1) (suc n)) ≡ filter p (range_with_len (a + 1) n) ++ cond (p m) (m ∷ []) [] = longer p n (a + 1) m (omega arith) in
-    let xs = filter p (range_with_len (a + 1) (suc n)) in
-    let ys = filter p (range_with_len (a + 1) n) in
-    let last = cond (p m) (m ∷ []) [] in
-    let both : (t : Bool) → cond t (a ∷ xs) xs ≡ cond t (a ∷ ys) ys ++ last = λ (t : Bool). elim t as (λ t. cond t (a ∷ xs) xs ≡ cond t (a ∷ ys) ys ++ last) [ true ↦ ap (λ (zs : List ℕ). a ∷ zs) ih | false ↦ ih ] in
-    both (p a)
+use Rattle.chip_functions.proofs.MaskLemmas.{longer}
 
 -- all of these are below a number
 abbrev Below : ℕ → List ℕ → Type 0

@@ -4,4 +4,3 @@ pub mod PlaceLemmas
 pub mod JudgingLemmas
 pub mod WordedLemmas
 pub mod SizeLemmas
-pub mod SealingLemmas

@@ -3,9 +3,9 @@ use Rattle.std.proofs.Common.{◌≡◌, ℕ, suc, ◌+◌, ◌-◌, ◌<◌, �
 use Rattle.std.specs.Prelude.{filter, count_by, fold, cond, not, ◌==◌, ◌≢◌}
 use Rattle.std.specs.List.{range_with_len}
 use Rattle.device_kinds.specs.Kind.{nodes_from}
-use Rattle.std.specs.Bool.{Decides}
 use Rattle.std.proofs.lemmas.Bool.Decides.{Decides-eqb}
 use Rattle.std.proofs.lemmas.List.{take-append-le, take_all}
+use Rattle.s0_crypto.proofs.SealingLemmas.{is_false}
 
 pub nodes_more : (before : ℕ) → before < 232 → nodes_from before ≡ (before + 1) ∷ nodes_from (before + 1)
 unfolding nodes_from
@@ -45,10 +45,6 @@ pub count_done : (p : ℕ → Bool) (count total : ℕ) → count + count_by p (
 count_done p count total is =
     let none : count_by p (nodes_from 232) ≡ 0 = ap (count_by p) nodes_done in
     omega (arith, none)
-
-is_false : {P : Type 0} (r : Bool) → Decides r P → (¬ P) → r ≡ false
-is_false true d h = absurd (h (d.0 refl))
-is_false false d h = refl
 
 pub not_zero : (n : ℕ) → n ≢ 0 → not (n == 0) ≡ true
 not_zero n h = ap not (is_false (n == 0) (Decides-eqb n 0) h)

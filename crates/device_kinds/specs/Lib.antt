@@ -8,5 +8,4 @@ pub mod Telling
 pub mod Answers
 pub mod Worded
 pub mod Effects
-pub mod Sealing
 pub mod Segments

@@ -1,17 +1,15 @@
-//! What sealed messages open to, and the reports of nonces (Z-Wave Security 0).
+//! Which messages are sealed, and the reports of nonces (Z-Wave Security 0).
 
-ghost use Rattle.std.specs.Prelude.{◌≡◌, ◌-◌, ◌≤◌, length, slice_index, IfOk, IsTrue};
+ghost use Rattle.std.specs.Prelude.{◌≡◌, slice_index, IfOk, IsTrue};
 ghost use Rattle.encap.specs.Opening.{begins_with};
 ghost use Rattle.class_info.specs.InfoSpelling.{form};
-ghost use Rattle.device_kinds.specs.Sealing.{keys_of, unsealed_at};
 ghost use Rattle.device_kinds.specs.Worded.{IsPayload};
 
 use crate::SECURITY;
 use crate::answers::payload;
 use class_info::InfoMessage;
-use s0_crypto::{SealEnds, SealFault, keys, unseal};
 use std::alloc::Global;
-use zw_base::{Bytes, NoMemory, Payload};
+use zw_base::{NoMemory, Payload};
 
 /// The command of a Security message.
 const MESSAGE: u8 = 0x81;
@@ -23,29 +21,6 @@ pub fn is_sealed(bytes: &[u8]) -> bool
     ensures command { IsTrue result → slice_index bytes.now 1 ≡ 0x81 }
 {
     bytes.len() >= 2 && bytes[0] == SECURITY && bytes[1] == MESSAGE
-}
-
-/// The plain text of a message for a nonce of its receiver, where it opens.
-pub fn open(
-    alloc: Global,
-    key: [u8; 16],
-    nonce: [u8; 8],
-    ends: &SealEnds,
-    bytes: &[u8],
-) -> Result<Option<Bytes>, NoMemory>
-    requires long { 20 ≤ length bytes.now }
-    requires class { slice_index bytes.now 0 ≡ 0x98 }
-    requires command { slice_index bytes.now 1 ≡ 0x81 }
-    requires named { slice_index bytes.now (length bytes.now - 9) ≡ slice_index nonce 0 }
-    ensures { IfOk result (λ plain. plain ≡ unsealed_at (keys_of key) nonce ends.now bytes.now) }
-{
-    match unseal(alloc, &keys(key), nonce, ends, bytes) {
-        Ok(plain) => Ok(Some(plain)),
-        Err(SealFault::NoMemory) => Err(NoMemory),
-        Err(SealFault::Short) => Ok(None),
-        Err(SealFault::BadCode { .. }) => Ok(None),
-        Err(SealFault::Sequence(_)) => Ok(None),
-    }
 }
 
 /// The report of a nonce.

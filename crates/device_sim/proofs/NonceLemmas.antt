@@ -59,7 +59,7 @@ for_given : (device : State) (payload : List ℕ) (nonce : Option (List ℕ)) �
 for_given device payload None = refl
 for_given device payload (Some nonce) = plain_given device (unsealed_at (keys_of device.key) nonce (record { sender = 1; receiver = device.node }) payload)
 
-long_enough : (n : ℕ) → 20 ≤ n → nat_lt n 20 ≡ false
+pub long_enough : (n : ℕ) → 20 ≤ n → nat_lt n 20 ≡ false
 long_enough n long = grind (arith, nat_tests)
 
 spent : (device : State) (payload : List ℕ) → 20 ≤ length payload → (hears_sealed device payload).device.given ≡ after_spend device.given (nonce_named payload)

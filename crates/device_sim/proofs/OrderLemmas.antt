@@ -30,7 +30,7 @@ pub ticked_as : (device : State) (drawn : List ℕ) → IsTicked device (device_
 unfolding device_after outcome_of ticked
 ticked_as device drawn = ticked_by device (device.work_left == 0) (device.work_left == 1) refl refl
 
-woken_by : (device : State) → IsUntaken device (device_after device Wakes)
+pub woken_by : (device : State) → IsUntaken device (device_after device Wakes)
 unfolding device_after outcome_of woken
 woken_by device = by (listens device.kind)
   where

@@ -3,8 +3,8 @@ use Rattle.std.proofs.Common.{◌≡◌, ℕ, List, [], ◌∷◌, sym, ◌∙�
 use Rattle.std.specs.Prelude.{Option, Some}
 use Rattle.s0_crypto.specs.declared.key_pair.Keys.{Keys}
 use Rattle.s0_session.specs.Sending.{Sending, SealsPending}
-use Rattle.device_kinds.specs.Sealing.{keys_of, sealed_text}
-use Rattle.device_kinds.proofs.SealingLemmas.{sealed_is}
+use Rattle.s0_crypto.specs.Sealing.{keys_of, sealed_text}
+use Rattle.s0_crypto.proofs.SealingLemmas.{sealed_is}
 use Rattle.device_stack.specs.State.{State, Outcome}
 use Rattle.device_stack.specs.Hearing.{seals_for, takes_nonce}
 

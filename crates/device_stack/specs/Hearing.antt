@@ -20,7 +20,7 @@ use Rattle.transport_segments.specs.declared.assembler.Taken.TheVariants.{Kept, 
 use Rattle.device_kinds.specs.declared.kind.Kind.{Kind}
 use Rattle.device_kinds.specs.declared.kind.Kind.TheVariants.{Lock, Configurable}
 use Rattle.device_kinds.specs.Answers.{answer_plan, worded}
-use Rattle.device_kinds.specs.Sealing.{unsealed_at, sealed_text, keys_of}
+use Rattle.s0_crypto.specs.Sealing.{unsealed_at, sealed_text, keys_of}
 use Rattle.device_kinds.specs.Segments.{segment_session}
 use Rattle.device_stack.specs.declared.sealing.Nonces.{Nonces}
 use Rattle.device_stack.specs.declared.sealing.Nonces.TheVariants.{Asked, Told, Unsaid}

@@ -2,7 +2,7 @@
 pub use Rattle.device_kinds.specs.Effects.{effect_alone, effect_by, effect_in_session, effect_untold, end_of, set_plainly, telling}
 pub use Rattle.device_kinds.specs.Judging.{judged_set, setting_of, status_of}
 pub use Rattle.device_kinds.specs.Kind.{classes_of, has_end, host_node, listens, lists, main_name_of, main_property_of, property_at, property_count}
-pub use Rattle.device_kinds.specs.Sealing.{keys_of, unsealed_at}
+pub use Rattle.s0_crypto.specs.Sealing.{keys_of, unsealed_at}
 pub use Rattle.device_kinds.specs.Segments.{segment_session}
 pub use Rattle.device_kinds.specs.Telling.{told}
 pub use Rattle.device_kinds.specs.Values.{value_after, value_by}

@@ -10,9 +10,9 @@ ghost use Rattle.device_stack.specs.Hearing.{hears_securely, hears_sealed, hears
 use crate::Stack;
 use class_core::ClassFault;
 use class_info::InfoMessage;
-use device_kinds::{HOST, SECURITY, is_sealed, node, nonce_report, open, payload};
+use device_kinds::{HOST, SECURITY, is_sealed, node, nonce_report, payload};
 use encap::{Opened, Outer};
-use s0_crypto::{SealEnds, keys};
+use s0_crypto::{SealEnds, keys, open};
 use std::alloc::Global;
 use zw_base::{NoMemory, Replies};
 

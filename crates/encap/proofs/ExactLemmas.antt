@@ -232,7 +232,7 @@ left_after (first ∷ done) (command ∷ commands) rest e =
     let tail : commands ≡ done ++ more.0 = more.1 in
     (more.0, (let whole : command ∷ commands ≡ first ∷ (done ++ more.0) = cc in whole), more.2)
 
-is_batch : (commands : List (List ℕ)) (inner : List ℕ) → IsBatchOf commands inner → IsMultiCommand inner
+pub is_batch : (commands : List (List ℕ)) (inner : List ℕ) → IsBatchOf commands inner → IsMultiCommand inner
 is_batch commands inner is = subst (λ (x : List ℕ). IsMultiCommand x) (sym is.text) (record { long = omega arith; class_is = refl; command_is = refl })
 
 -- a batch has no fault of its structure

@@ -10,7 +10,7 @@ use Rattle.encap.specs.declared.plan.Ends.{Ends}
 use Rattle.encap.specs.declared.plan.Outer.{Outer}
 use Rattle.encap.specs.declared.plan.Outer.TheVariants.{None as no_outer, Crc16, Security, Transport}
 
-none_of : (b : Bool) (len : ℕ) (more : Option ℕ) → cond b (Some len) more ≡ None → (b ≡ false) × (more ≡ None)
+pub none_of : (b : Bool) (len : ℕ) (more : Option ℕ) → cond b (Some len) more ≡ None → (b ≡ false) × (more ≡ None)
 none_of true len more e = absurd (cc)
 none_of false len more e = (refl, e)
 

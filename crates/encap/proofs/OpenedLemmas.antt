@@ -8,6 +8,7 @@ use Rattle.std.specs.Str.{bytes_eq}
 use Rattle.std.proofs.lemmas.Bool.Decides.{Decides-eqb, Decides-ltb, Decides-and, Decides-or, Decides-not, Decides-like, not_from_Decides, nat_tests}
 use Rattle.std.proofs.lemmas.Slice.Eq.{bytes_eq-Decides}
 use Rattle.std.proofs.lemmas.List.{take_all, take-append-le}
+use Rattle.std.proofs.lemmas.Option.{same_Some as some_same}
 use Rattle.encap.specs.Begins.{Begins, IsTransport, IsMultiCommand, IsSupervision, IsMultiChannel, IsCrc16, IsMisplaced}
 use Rattle.encap.specs.Wraps.{Wraps, listed, AllFit, IsBatchOf, IsCommand, AllCommands, Batches, has_outer_wrap, is_within, is_crc16, crc16_text}
 use Rattle.encap.specs.Layers.{TakesCrc16Off, TakesChannelOff, TakesSupervisionOff, Peels, outer_of, seen_of}
@@ -19,7 +20,7 @@ use Rattle.encap.specs.declared.plan.Ends.{Ends}
 use Rattle.encap.specs.declared.plan.Outer.{Outer}
 use Rattle.encap.specs.declared.fault.WrapFault.{WrapFault}
 use Rattle.encap.specs.declared.fault.WrapFault.TheVariants.{OutOfOrder, Length, BadCrc, TooLong, BitAddress, NoMemory}
-use Rattle.encap.proofs.ExactLemmas.{prefix-with_check, crc16_begins, channel_begins, supervision_begins, peels_of, command_of}
+use Rattle.encap.proofs.ExactLemmas.{prefix-with_check, crc16_begins, channel_begins, supervision_begins, peels_of, command_of, is_batch as batch_begins}
 use Rattle.encap.proofs.OpenLemmas.{opens}
 
 -- ---- the tests
@@ -82,9 +83,6 @@ all_decides (command ∷ commands) =
     Decides-and (is_command true command) (list_all (is_command true) commands) (command_decides true command) (all_decides commands)
 
 -- ---- one wrap
-
-some_same : {A : Type 0} (a b : A) → Some a ≡ Some b → a ≡ b
-some_same a b e = cc
 
 no_some : {A : Type 0} {P : Type 0} (a : A) → None ≡ Some a → P
 no_some a e = absurd (cc)
@@ -243,9 +241,6 @@ batch_test_decides bytes commands =
     (Decides-and (nat_le (length commands) 255) (list_all (λ command. nat_le (length command) 255) commands) (leb_decides (length commands) 255) (fit_decides commands))
     (all_decides commands))
     (bytes_eq-Decides bytes (143 ∷ 1 ∷ length commands ∷ listed commands)))
-
-batch_begins : (commands : List (List ℕ)) (bytes : List ℕ) → IsBatchOf commands bytes → IsMultiCommand bytes
-batch_begins commands bytes is = subst (λ (x : List ℕ). IsMultiCommand x) (sym is.text) (record { long = omega arith; class_is = refl; command_is = refl })
 
 commands_there : (within : Bool) (bytes : List ℕ) (commands : List (List ℕ)) → IsBatchOf commands bytes → AllCommands true commands
     → commands_opened within bytes ≡ Some commands

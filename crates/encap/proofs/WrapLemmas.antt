@@ -1,15 +1,12 @@
 -- Lists of commands as they are measured and written.
-use Rattle.std.proofs.Common.{◌≡◌, ℕ, zero, suc, ◌+◌, ◌<◌, ◌≤◌, List, [], ◌∷◌, ◌++◌, length, take, drop, get_or, Bool, true, false, Some, None, refl, sym, ◌∙◌, ap, arith, append-nil, add-one, cond}
-use Rattle.std.specs.Prelude.{Option, nat_lt}
-use Rattle.std.proofs.Math.Seq.{take-suc, drop-cons}
-use Rattle.std.proofs.lemmas.Bool.{ltb-false, lt-ltb, le-ltb}
+use Rattle.std.proofs.Common.{◌≡◌, ℕ, zero, suc, ◌+◌, ◌<◌, ◌≤◌, List, [], ◌∷◌, ◌++◌, length, take, get_or, None, sym, ◌∙◌, ap, arith, append-nil, add-one}
+use Rattle.std.specs.Prelude.{nat_lt}
+use Rattle.std.proofs.Math.Seq.{take-suc}
+use Rattle.std.proofs.lemmas.Bool.{ltb-false}
 use Rattle.encap.specs.Wraps.{listed}
 use Rattle.encap.specs.Written.{first_long}
 use Rattle.encap.proofs.BatchLemmas.{listed-push}
-
-long_cases : (b : Bool) (len : ℕ) (more : Option ℕ) → cond b (Some len) more ≡ None → (b ≡ false) × (more ≡ None)
-long_cases true len more e = absurd (cc)
-long_cases false len more e = (refl, e)
+use Rattle.encap.proofs.FormLemmas.{none_of as long_cases}
 
 -- where none is long, each fits its length
 pub fit_at : (commands : List (List ℕ)) (at : ℕ) → first_long commands ≡ None → at < length commands → length (get_or commands at []) ≤ 255
@@ -17,21 +14,6 @@ fit_at [] at none within = absurd (omega arith)
 fit_at (command ∷ commands) zero none within = ltb-false 255 (length command) (long_cases (nat_lt 255 (length command)) (length command) (first_long commands) none).0
 fit_at (command ∷ commands) (suc at) none within =
     fit_at commands at (long_cases (nat_lt 255 (length command)) (length command) (first_long commands) none).1 (omega arith)
-
--- one that fits is passed over
-pub passed : (commands : List (List ℕ)) (at : ℕ) → at < length commands → length (get_or commands at []) ≤ 255
-    → first_long (drop at commands) ≡ first_long (drop (at + 1) commands)
-passed commands at within fits =
-    ap first_long (drop-cons commands at [] within)
-    ∙ ap (λ b. cond b (Some (length (get_or commands at []))) (first_long (drop (suc at) commands))) (le-ltb 255 (length (get_or commands at [])) fits)
-    ∙ rw add-one refl
-
--- the first that does not is found
-pub found : (commands : List (List ℕ)) (at : ℕ) → at < length commands → 255 < length (get_or commands at [])
-    → first_long (drop at commands) ≡ Some (length (get_or commands at []))
-found commands at within long =
-    ap first_long (drop-cons commands at [] within)
-    ∙ ap (λ b. cond b (Some (length (get_or commands at []))) (first_long (drop (suc at) commands))) (lt-ltb 255 (length (get_or commands at [])) long)
 
 -- one more is listed after the others
 pub listed-take : (commands : List (List ℕ)) (at : ℕ) → at < length commands

@@ -1,19 +1,19 @@
 -- Texts of lines: what is read is the text's line, and a line's text is read as that line.
-use Rattle.std.proofs.Common.{◌≡◌, ℕ, ◌≤◌, true, false, ltb, Option, Some, None, Result, Ok, Err, List, [], ◌∷◌, length, codes, decimal, ap, refl, ◌∙◌, sym, subst, ◌⊎◌, inl, inr, lit<, arith}
+use Rattle.std.proofs.Common.{◌≡◌, ℕ, ◌≤◌, true, Option, Some, None, Result, Ok, Err, List, [], ◌∷◌, codes, decimal, ap, refl, ◌∙◌, sym, subst, inl, inr, lit<, arith}
 use Rattle.std.specs.Prelude.{IfOk, MatchOption, bytes_eq}
-use Rattle.std.proofs.lemmas.Bool.{le-ltb, ltb-false}
 use Rattle.std.proofs.lemmas.Slice.Eq.{bytes_eq-Decides}
-use Rattle.zw_words.specs.declared.fault.LineFault.TheVariants.{Unknown, TooLong}
+use Rattle.zw_words.specs.declared.fault.LineFault.TheVariants.{Unknown}
 use Rattle.zw_words.specs.declared.fault.ReadLineFault.{ReadLineFault}
-use Rattle.zw_words.specs.Words.{is_remark, line_words, without_return, words}
+use Rattle.zw_words.specs.Words.{line_words}
 use Rattle.zw_words.specs.Forms.{between_in}
 use Rattle.zw_words.specs.Fields.{◌>>=◌, Gives, last, make, next, of_words}
 use Rattle.zw_words.proofs.Choices.{bind_ok, chosen, made_of, not_ok, ok_is, some, some_is}
-use Rattle.zw_text.specs.Line.{IsNoLine, MayBeLine}
+use Rattle.zw_text.specs.Line.{IsNoLine}
 use Rattle.zw_text.proofs.Fields.{last_number, next_number, number_last, number_next}
 use Rattle.event_flow.specs.declared.line.EventLine.{EventLine}
 use Rattle.event_flow.specs.declared.line.EventLine.TheVariants.{Event, Again, Deliver}
 use Rattle.event_flow.specs.Line.{EventText, IsEventLine, again_by, deliver_by, event_at, event_by, event_from, event_line_words}
+use Rattle.zw_text.proofs.TextLaws.{opens, Opened, opened, no_words, some_words}
 
 -- the words are those of the line, whose numbers are in their ranges
 record IsRead (ws : List (List ℕ)) (line : EventLine) : Type 0 where
@@ -107,41 +107,6 @@ words_again (Again node) range =
     record { word = codes "again"; rest = decimal node ∷ []; words_are = refl; read = again_again node range }
 words_again (Deliver frame) range =
     record { word = codes "deliver"; rest = decimal frame ∷ []; words_are = refl; read = deliver_again frame range }
-
--- ---- the words of a text
-
--- the words of a text that is short enough
-record Opened (text : List ℕ) (ws : List (List ℕ)) : Type 0 where
-  short : length text ≤ 1024
-  either : ((is_remark text ≡ true) × ([] ≡ ws)) ⊎ ((is_remark text ≡ false) × (words (without_return text) ≡ ws))
-
-opened : (text : List ℕ) (ws : List (List ℕ)) → line_words text ≡ Ok ws → Opened text ws
-unfolding line_words
-opened text ws e =
-    elim (chosen (ltb 1024 (length text)) _ _ _ e) [
-      | inl long ↦ absurd (not_ok TooLong ws long.1)
-      | inr short ↦
-          elim (chosen (is_remark text) _ _ _ short.1) [
-            | inl remark ↦ record { short = ltb-false _ _ short.0; either = inl (remark.0, ok_is [] ws remark.1) }
-            | inr line ↦ record { short = ltb-false _ _ short.0; either = inr (line.0, ok_is (words (without_return text)) ws line.1) }
-          ]
-    ]
-
-opens : (text : List ℕ) (ws : List (List ℕ)) → MayBeLine text → words (without_return text) ≡ ws → line_words text ≡ Ok ws
-unfolding line_words
-opens text ws may are = rw (le-ltb 1024 (length text) may.short, may.no_remark, are) refl
-
--- a text without words
-no_words : (text : List ℕ) → Opened text [] → IsNoLine text
-no_words text o = record { short = o.short; empty = elim o.either [ inl remark ↦ inl remark.0 | inr line ↦ inr line.1 ] }
-
--- a text with words may be a line
-some_words : (text w : List ℕ) (rest : List (List ℕ)) → Opened text (w ∷ rest) → MayBeLine text × (words (without_return text) ≡ w ∷ rest)
-some_words text w rest o =
-    elim o.either [ inl remark ↦ absurd (nil_cons w rest remark.1) | inr line ↦ (record { short = o.short; no_remark = line.0 }, line.1) ]
-  where
-    nil_cons : (w : List ℕ) (rest : List (List ℕ)) → [] ≡ w ∷ rest → ⊥
-    nil_cons w rest e = cc
 
 -- ---- texts
 

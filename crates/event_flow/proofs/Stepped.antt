@@ -131,10 +131,6 @@ goes_on-step node n m line enters loose keeps shows others = goes_on-by (may_beg
 
 -- ---- the lines
 
--- nothing is known by a new event
-queued-known : (n : NodeState) (notice : Notice) → known_count (with_queued n notice) ≡ known_count n
-queued-known n notice = refl
-
 count_up-more : (k more : ℕ) → more ≡ k + 1 → count_up more ≡ count_up k ++ (more ∷ [])
 count_up-more k more e = subst (λ (x : ℕ). count_up x ≡ count_up k ++ (x ∷ [])) (sym e) (count_up-suc k)
   where

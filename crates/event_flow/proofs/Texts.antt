@@ -1,19 +1,20 @@
 -- Each entry is found again from its text, so that no two have the same.
-use Rattle.std.proofs.Common.{◌≡◌, ℕ, List, [], ◌∷◌, ◌++◌, codes, decimal, arith, ap, ap₂, refl, ◌∙◌, sym}
+use Rattle.std.proofs.Common.{◌≡◌, ℕ, List, [], ◌∷◌, codes, decimal, arith, ap, ap₂, refl, ◌∙◌, sym}
 use Rattle.std.specs.Prelude.{if◌then◌else◌, bytes_eq}
 use Rattle.std.specs.List.{AllByRecursion, join_with_byte}
 use Rattle.hex.specs.Hex.{encode_upper}
 use Rattle.zw_text.specs.Entry.{ends_word}
 use Rattle.zw_text.specs.Fits.{IsNode}
 use Rattle.zw_parse.specs.Reading.{at, byte_back, eight_back, hex_back, node_back, parts}
-use Rattle.zw_parse.proofs.Pieces.{Solid, all-lack, hex-back, hex-solid, lacks-append, number-lacks, number-solid, parts-joined}
-use Rattle.zw_parse.proofs.Words.{byte-back, byte64, eight-back, node-back, node64, solid_byte}
+use Rattle.zw_parse.proofs.Pieces.{Solid, all-lack, hex-back, hex-solid, number-lacks, number-solid, parts-joined}
+use Rattle.zw_parse.proofs.Words.{byte-back, byte64, eight-back, node-back, node64}
 use Rattle.event_flow.specs.declared.entry.EventRefusal.{EventRefusal}
 use Rattle.event_flow.specs.declared.entry.EventRefusal.TheVariants.{Full, Idle, NeverSent, Stale}
 use Rattle.event_flow.specs.declared.entry.EventEntry.{EventEntry}
 use Rattle.event_flow.specs.declared.entry.EventEntry.TheVariants.{Refused, Queued, Frame, Taken, Known, Old, TableNode}
 use Rattle.event_flow.specs.Entry.{event_text, event_words}
 use Rattle.event_flow.specs.Fits.{EventFits}
+use Rattle.zw_parse.proofs.Back.{ends-solid}
 
 -- the refusal and the entry that words are taken for
 abbrev refusal_back : List (List ℕ) → EventRefusal
@@ -36,9 +37,6 @@ entry_back ws =
 -- the two ends of a frame come apart
 ends-parts : (a b : ℕ) → IsNode a → IsNode b → parts 62 (ends_word a b) ≡ decimal a ∷ decimal b ∷ []
 ends-parts a b low high = parts-joined 62 (decimal a) (decimal b ∷ []) (number-lacks 62 a (omega arith) (node64 a low), (number-lacks 62 b (omega arith) (node64 b high), tt))
-
-ends-solid : (a b : ℕ) → IsNode a → IsNode b → Solid (ends_word a b)
-ends-solid a b low high = lacks-append solid_byte (decimal a) (codes ">" ++ decimal b) (number-solid a (node64 a low)) (number-solid b (node64 b high))
 
 -- each entry comes from its words
 comes : (e : EventEntry) → EventFits e → entry_back (event_words e) ≡ e

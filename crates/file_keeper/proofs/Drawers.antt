@@ -74,3 +74,6 @@ drawer_opened held held' synced' records n opened same saved sum =
 -- how long the lines are
 pub size_of_lines : (bytes : List ℕ) (records : List (List ℕ)) (torn : List ℕ) → IsSplit bytes records torn → length bytes - length torn ≡ length (lines_of records)
 size_of_lines bytes records torn s = omega (arith, ap length s.parts, length-append (lines_of records) torn)
+
+-- what the writing of a line comes to
+pub ruleset writing = (drawer_added, drawer_undone, drawer_closed, drawer_has_lines, drawer_within)

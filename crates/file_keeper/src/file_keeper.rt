@@ -113,7 +113,7 @@ impl<S: Store> FileKeeper<S> {
     }
 
     // Has the record's line written, and answers whether it was.
-    #[tactic(auto, using(crate::proofs::Drawers::drawer_added, crate::proofs::Drawers::drawer_undone, crate::proofs::Drawers::drawer_closed, crate::proofs::Drawers::drawer_has_lines, crate::proofs::Drawers::drawer_within))]
+    #[tactic(auto, using(crate::proofs::Drawers::writing))]
     fn put(&mut self, text: Bytes, line: &[u8]) -> Result<bool, NoMemory>
         requires one { IsOneLine text }
         requires line { line.now ≡ line_of text }

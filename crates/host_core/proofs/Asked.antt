@@ -35,19 +35,17 @@ use Rattle.host_model.specs.Asking.{carriage_for, refusal_for}
 use Rattle.host_parts.specs.Choices.{Judges}
 use Rattle.host_orders.specs.declared.refused.Refused.{Refused}
 use Rattle.host_orders.specs.declared.refused.Refused.TheVariants.{NotJoined, QueueFull, StoreFull}
-use Rattle.host_orders.specs.Refusals.{Known, classes_of, first_some, unless, first_refusal, refusal_or, store_full}
+use Rattle.host_orders.specs.Refusals.{Known, classes_of, first_some, unless, first_refusal}
 use Rattle.host_orders.specs.Messages.{value_message}
 use Rattle.host_orders.specs.Errands.{queue_full, secured, sendable_of, sendable_refusal, send_refusal, send_text, gettable_of, gettable_refusal, get_refusal, get_command, get_text, plain_plan, plain_text, RefusesOrNone}
+use Rattle.host_model.proofs.Accepted.{none_later as rest_none}
+use Rattle.host_model.proofs.Tests.{refused_not as first_or}
 
 -- the classes are known, and fewer than 64 requests wait
 pub record IsTaken (classes : Option (List ℕ)) (queued : ℕ) : Type 0 where
   pub listed : List ℕ
   pub known : classes ≡ Some listed
   pub room : queued < 64
-
-rest_none : (one : Option Refused) (more : List (Option Refused)) → first_some (one ∷ more) ≡ None → first_some more ≡ None
-rest_none None more e = e
-rest_none (Some refused) more e = cc
 
 one_none : (one : Option Refused) → first_some (one ∷ []) ≡ None → one ≡ None
 one_none None e = refl
@@ -132,10 +130,6 @@ listed_of : (joined : Bool) (classes : Option (List ℕ)) (waiting : ℕ) (order
 unfolding first_refusal
 listed_of joined None waiting order e = let refuses = rest_none (unless joined NotJoined) _ e in cc
 listed_of joined (Some listed) waiting order e = (listed, refl)
-
-first_or : (first : Option Refused) (properties : ℕ) → refusal_or first properties ≡ None → (first ≡ None) × (store_full properties ≡ None)
-first_or None properties e = (refl, e)
-first_or (Some refused) properties e = cc
 
 few_properties : (b : Bool) (properties : ℕ) → nat_lt 512 properties ≡ b → (if b then Some (StoreFull 512) else None) ≡ None → properties ≤ 512
 few_properties true properties test e = cc

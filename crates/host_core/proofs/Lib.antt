@@ -1,6 +1,7 @@
 mod Asked
 mod Loops
 mod Opened
+pub mod Refusing
 mod Served
 mod Submitted
 mod Tables

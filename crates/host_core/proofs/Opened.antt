@@ -97,10 +97,6 @@ pub record TookUp (keys : Keys) (told : Option (List (List ℕ))) (at : ℕ) (co
 abbrev pub fresh : HostState → HostParts
 fresh h = record { decoder = no_rest; state = h }
 
-pub same_keys : (keys made : Keys) → keys.encrypt ≡ made.encrypt → keys.code ≡ made.code → keys ≡ made
-same_keys keys made e f =
-    ap (λ (a : _). let k : Keys = record { encrypt = a; code = keys.code } in k) e ∙ ap (λ (b : _). let k : Keys = record { encrypt = made.encrypt; code = b } in k) f
-
 pub took_none : (keys : Keys) (told : Option (List (List ℕ))) (core : HostParts) → restored_all (first_host keys) [] ≡ first_host keys → core ≡ fresh (first_host keys) → TookUp keys told 0 core
 took_none keys told core nothing is =
     record { records = []; many = refl; are = none_told told; legal = none_is_legal; state = is ∙ ap fresh (sym nothing) }

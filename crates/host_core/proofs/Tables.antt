@@ -1,9 +1,8 @@
 -- The tables of a host stand in the records of its keeper, whatever happens to the host.
-use Rattle.std.proofs.Common.{◌≡◌, ℕ, zero, suc, ◌+◌, ◌≤◌, Bool, true, false, List, [], ◌∷◌, ◌++◌, length, get_or, set, Option, Some, None, option_map, inl, inr, refl, sym, ap, ◌∙◌, subst, append_assoc, arith}
+use Rattle.std.proofs.Common.{◌≡◌, ℕ, zero, suc, ◌+◌, ◌≤◌, Bool, true, false, List, [], ◌∷◌, ◌++◌, length, Option, Some, None, option_map, inl, inr, refl, sym, ap, ◌∙◌, subst, append_assoc, arith}
 use Rattle.std.specs.Prelude.{IfSome, slice_get, Result, Ok, Err, OnOk, OnErr}
 use Rattle.std.specs.List.{AllByRecursion}
 use Rattle.std.proofs.lemmas.Bool.{cases_eq, cases_lt}
-use Rattle.std.proofs.lemmas.List.{get_or-set_same, get_or-set_other, set_past}
 use Rattle.std.proofs.lemmas.Grind.{length_at_push}
 use Rattle.zw_base.specs.declared.order.Order.{Order}
 use Rattle.zw_text.specs.declared.entry.Outcome.{Outcome}
@@ -27,6 +26,7 @@ use Rattle.host_step_kept.specs.Choices.{after_if}
 use Rattle.host_step_bytes.specs.Calls.{scene, Scene, Does, Stops}
 use Rattle.host_core.specs.Opening.{AreTold}
 use Rattle.host_core.specs.Recorded.{IsTold, TablesAreTold}
+use Rattle.host_model.proofs.Places.{one_set as each_set}
 
 -- ---- places of lists
 
@@ -47,16 +47,6 @@ get_other [] x zero other = absurd (other refl)
 get_other [] x (suc at) other = refl
 get_other (first ∷ l) x zero other = refl
 get_other (first ∷ l) x (suc at) other = get_other l x at (λ e. other (ap suc e))
-
--- what holds at each place, and of what is set, holds at each place then
-pub each_set : {X : Type 0} (d : X) (P : X → ℕ → Type 0) (l : List X) (n : ℕ) (x : X) → ((m : ℕ) → P (get_or l m d) m) → P x n → (m : ℕ) → P (get_or (set l n x) m d) m
-each_set {X = X} d P l n x all here m = elim (cases_eq m n) [
-  | inl same ↦ subst (λ (k : ℕ). P (get_or (set l n x) k d) k) (sym same) (elim (cases_lt n (length l)) [
-    | inl within ↦ subst (λ (y : X). P y n) (sym (get_or-set_same l n x d within)) here
-    | inr past ↦ subst (λ (k : List X). P (get_or k n d) n) (sym (set_past l n x past)) (all n)
-  ])
-  | inr other ↦ subst (λ (y : X). P y m) (sym (get_or-set_other l n m x d other)) (all m)
-]
 
 -- ---- records that are told
 

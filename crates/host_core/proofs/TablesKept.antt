@@ -2,7 +2,7 @@
 use Rattle.std.proofs.Common.{◌≡◌, ℕ, zero, suc, ◌+◌, ◌==◌, Bool, true, false, if◌then◌else◌, is_none, List, [], ◌∷◌, ◌++◌, length, get_or, set, Option, Some, None, refl, sym, ap, ◌∙◌, subst, arith}
 use Rattle.std.specs.Prelude.{IfSome}
 use Rattle.std.specs.List.{AllByRecursion}
-use Rattle.std.proofs.lemmas.Bool.{eqb-true}
+use Rattle.std.proofs.lemmas.Bool.{eqb-true, and_parts as both_true}
 use Rattle.zw_base.specs.declared.order.Order.{Order}
 use Rattle.zw_text.specs.declared.entry.Outcome.TheVariants as outcome
 use Rattle.serial_link.specs.State.{tick_side}
@@ -54,9 +54,10 @@ use Rattle.host_model.specs.Holding.{Holds, HoldsAlone}
 use Rattle.host_model.specs.Restoring.{may_restore, restored, ending, carriage_for}
 use Rattle.host_model.specs.Opening.{restored_all, restarted}
 use Rattle.host_model.proofs.Fold.{step_none}
-use Rattle.host_model.proofs.Tests.{both_true, all_true, first_is}
+use Rattle.host_model.proofs.Tests.{all_true, first_is}
 use Rattle.host_core.specs.Recorded.{IsTold, TablesAreTold}
-use Rattle.host_core.proofs.Tables.{added_told, tables_on, Sessions, each_set, order_with, Alike, alike_tables, then_alike, plain, node_so, outcome_so, begins_told, pushed_told}
+use Rattle.host_core.proofs.Tables.{added_told, tables_on, Sessions, order_with, Alike, alike_tables, then_alike, plain, node_so, outcome_so, begins_told, pushed_told}
+use Rattle.host_model.proofs.Places.{one_set as each_set}
 
 -- ---- at the beginning
 

@@ -1,6 +1,8 @@
 -- What a user may ask of the host, and when that is refused (this project's own rules).
 use Rattle.std.specs.Prelude.{◌≡◌, ◌⊎◌, ℕ, Option, Some, None, Result, Ok, Err}
 use Rattle.zw_text.specs.declared.entry.Outcome.{Outcome}
+use Rattle.zw_text.specs.declared.entry.Refusal.{Refusal}
+use Rattle.zw_text.specs.declared.entry.Refusal.TheVariants as refusal
 use Rattle.host_requests.specs.declared.task.Task.TheVariants as task
 use Rattle.host_orders.specs.declared.refused.Refused.{Refused}
 use Rattle.host_orders.specs.declared.refused.Refused.TheVariants.{KeeperFault, NoMemory}
@@ -36,6 +38,12 @@ CancelsOrNot (Ok value) Waits = Waits
 CancelsOrNot (Err cancel.NotWaiting) Waits = Waits → ⊥
 CancelsOrNot (Err cancel.KeeperFault) Waits = Waits
 CancelsOrNot (Err cancel.NoMemory) Waits = Waits
+
+-- what is entered of a command that is not cancelled; an allocation failure is no refusal
+abbrev pub shown_uncancelled : ℕ → CancelFault → Option Refusal
+shown_uncancelled command cancel.NotWaiting = Some (refusal.NotWaiting command)
+shown_uncancelled command cancel.KeeperFault = Some refusal.KeeperFault
+shown_uncancelled command cancel.NoMemory = None
 
 -- what became of a command, where it was accepted
 abbrev pub outcome_at : Option Command → Option Outcome

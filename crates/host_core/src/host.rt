@@ -2,7 +2,7 @@
 
 ghost use Rattle.std.specs.Prelude.{◌≡◌, ◌≤◌, ℕ, List as Items, Option, IfOk, OnOk, OnErr};
 ghost use Rattle.serial_frame.specs.Stream.{after_tick, no_rest};
-ghost use Rattle.host_core.specs.Network.{keys_of};
+ghost use Rattle.s0_crypto.specs.Sealing.{keys_of};
 ghost use Rattle.supervision.specs.Host.{begun_of, command_at as command_of_session};
 ghost use Rattle.value_store.specs.Values.{held_of, known_of};
 ghost use Rattle.value_store.specs.ValueText.{values_text};

@@ -14,6 +14,7 @@ mod laws;
 mod opening;
 mod orders;
 mod pumping;
+mod refusals;
 mod sleeping;
 mod ticking;
 
@@ -22,3 +23,4 @@ pub use host_model::HostOut;
 pub use laws::tables_stand_in_the_records;
 pub use opening::OpenFault;
 pub use orders::{CancelFault, Question};
+pub use refusals::{refusal_of, uncancelled_as};

@@ -5,7 +5,7 @@ ghost use Rattle.zw_base.specs.Faults.{Rose, raised};
 ghost use Rattle.host_keep.specs.Keeping.{OptAdds};
 ghost use Rattle.host_keep.specs.Legal.{IsFirstBad};
 ghost use Rattle.host_model.specs.Did.{RoseBy};
-ghost use Rattle.host_core.specs.Network.{keys_of};
+ghost use Rattle.s0_crypto.specs.Sealing.{keys_of};
 ghost use Rattle.host_core.specs.Opening.{Opens, IsRecordAt, IsNoneAt, Takes, MayTakeNone};
 ghost use Rattle.host_core.specs.Recorded.{TablesAreTold};
 
@@ -48,7 +48,8 @@ impl Host {
     pub fn open<P: Keeper>(alloc: Global, key: [u8; 16], keeper: &mut P) -> Result<Host, OpenFault>
         ensures opens { IfOk result (Opens (keys_of key) (P.number keeper.old) (P.shelf keeper.old).records) }
         ensures tables { IfOk result (λ host. TablesAreTold (P.shelf keeper.new).records host.state) }
-        ensures bad { (at : ℕ) (texts : Items (Items ℕ)) → result ≡ Err (OpenFault.BadRecord at) → (P.shelf keeper.old).records ≡ Some texts → IsFirstBad texts at }
+        ensures bad { (at : ℕ) (texts : Items (Items ℕ)) → result ≡ Err (OpenFault.BadRecord at)
+            → (P.shelf keeper.old).records ≡ Some texts → IsFirstBad texts at }
         ensures place { (at : ℕ) → result ≡ Err (OpenFault.BadRecord at) → at < P.number keeper.old }
         ensures failed { result ≡ Err OpenFault.KeeperFault → Rose (P.shelf keeper.old).faults (P.shelf keeper.new).faults }
         ensures reads { OnOk result (RoseBy (P.number keeper.old) (P.reads keeper.old) (P.reads keeper.new)) }

@@ -3,7 +3,6 @@
 ghost use Rattle.std.specs.Prelude.{◌≡◌, ◌≤◌, ◌<◌, true, None, IfOk, OnOk, OnErr};
 ghost use Rattle.host_node.specs.declared.series.Series.TheVariants.{Idle, Due, Running};
 ghost use Rattle.host_model.specs.State.{node_of};
-ghost use Rattle.host_model.specs.Facts.{HostFacts};
 ghost use Rattle.host_model.specs.May.{IsServed};
 ghost use Rattle.host_model.specs.Pumping.{Pumps, Submits, IsServedBy, GivesNext, turns_left};
 ghost use Rattle.host_step_bytes.specs.Calls.{scene, Does, Stops, DoesAlone, StopsAlone, One, Turns};
@@ -13,10 +12,7 @@ use host_keep::Keeper;
 use host_model::{HostOut, a_pump_ends, attempts_have_what_they_give, turns_of_a_pump_go_on};
 use host_node::Series;
 use host_step_kept::HostCore;
-use zw_base::{List, NoMemory, NodeId, Payload, read_node};
-
-/// The controller's own node.
-const CONTROLLER: u8 = 1;
+use zw_base::{List, NoMemory, NodeId, Payload};
 
 /// Lets sleep what nothing keeps awake, and submits the next request.
 pub(crate) fn pump<P: Keeper>(
@@ -74,7 +70,7 @@ fn submit_next<P: Keeper>(
     ensures reads { P.reads keeper.new ≡ P.reads keeper.old }
 {
     a_pump_ends();
-    know_facts(core);
+    core.invariant_holds();
     if !core.requests().is_idle() || core.is_busy() {
         return Ok(false);
     }
@@ -181,7 +177,7 @@ fn start(core: &mut HostCore, node: NodeId, out: &mut List<HostOut>) -> Result<(
 {
     attempts_have_what_they_give();
     a_pump_ends();
-    know_facts(core);
+    core.invariant_holds();
     let start = core.start_of(node)?.unwrap();
     core.start(node, start, out)?;
     Ok(())
@@ -214,13 +210,4 @@ fn begin<P: Keeper>(
     }
     let _ = host_step_kept::begin(core, node, before + 1, command, out, keeper)?;
     Ok(())
-}
-
-// What holds of the host.
-fn know_facts(core: &HostCore)
-    ensures { HostFacts core.now.state }
-{
-    if let Some(controller) = read_node(CONTROLLER) {
-        let _ = core.node(controller);
-    }
 }

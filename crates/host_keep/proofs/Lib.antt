@@ -2,5 +2,5 @@ mod RowTexts
 pub mod RowsBack
 mod BytesSoFar
 mod Packing
-mod NumbersFound
+pub mod NumbersFound
 pub mod RecordLists

@@ -14,7 +14,7 @@ after_all-append kept (one ∷ records) more = after_all-append (after kept one)
 
 -- ---- the first that is not legal
 
-none_of : (o : Option ℕ) → option_map suc o ≡ None → o ≡ None
+pub none_of : (o : Option ℕ) → option_map suc o ≡ None → o ≡ None
 none_of None e = refl
 none_of (Some n) e = cc
 

@@ -1,6 +1,7 @@
 -- An order that no rule refuses is fit, and each message of it fits how it is carried.
 use Rattle.std.proofs.Common.{◌≡◌, ℕ, ◌+◌, ◌≤◌, ◌<◌, Bool, true, false, ◌&&◌, nat_lt, nat_le, not, if◌then◌else◌, Option, Some, None, is_some, List, [], ◌∷◌, length, refl, sym, ◌∙◌, subst, arith, length-append}
 use Rattle.std.proofs.lemmas.Bool.Decides.{nat_tests}
+use Rattle.std.proofs.lemmas.Bool.{not-true as not_so}
 use Rattle.zw_base.specs.declared.order.Order.{Order}
 use Rattle.encap.specs.Wraps.{crc16_text}
 use Rattle.encap.specs.Written.{checked_form, addressed_form, supervised_form}
@@ -22,17 +23,13 @@ none_first : (o : Option Refused) (more : List (Option Refused)) → first_some 
 none_first None more e = refl
 none_first (Some refused) more e = cc
 
-none_later : (o : Option Refused) (more : List (Option Refused)) → first_some (o ∷ more) ≡ None → first_some more ≡ None
+pub none_later : (o : Option Refused) (more : List (Option Refused)) → first_some (o ∷ more) ≡ None → first_some more ≡ None
 none_later None more e = e
 none_later (Some refused) more e = cc
 
 pub holds : (b : Bool) (refused : Refused) → unless b refused ≡ None → b ≡ true
 holds true refused e = refl
 holds false refused e = cc
-
-pub not_so : (b : Bool) → not b ≡ true → b ≡ false
-not_so true e = cc
-not_so false e = refl
 
 refused_if : (b : Bool) (refused : Refused) (more : Option Refused) → (if b then Some refused else more) ≡ None → b ≡ false
 refused_if true refused more e = cc

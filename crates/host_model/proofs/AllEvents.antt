@@ -1,5 +1,5 @@
 -- Every event of a host does to its tables what its records do, and so do events one after another.
-use Rattle.std.proofs.Common.{◌≡◌, ℕ, Bool, true, false, List, [], ◌∷◌, ◌++◌, Option, Some, None, drop, refl, sym, ap, ◌∙◌, subst}
+use Rattle.std.proofs.Common.{◌≡◌, ℕ, Bool, true, false, List, [], ◌∷◌, Option, Some, None, drop, refl, sym, ap, ◌∙◌, subst}
 use Rattle.std.proofs.lemmas.List.Elements.{All-contains, All-get_or}
 use Rattle.supervision.specs.declared.host_node.Told.{Told}
 use Rattle.serial_link.specs.State.{hear, tick_side}
@@ -19,9 +19,8 @@ use Rattle.host_node.specs.Steps.{as_recorded, attempt_end, tick_end, after_join
 use Rattle.host_node.specs.Facts.{is_recorded, is_final}
 use Rattle.host_node.specs.Events.{NodeEvent, after as after_node}
 use Rattle.host_node.specs.Events.NodeEvent.{Blocks as node_blocks, Drops_no_more as node_drops_no_more, Ends_attempt as node_ends_attempt, Ends_no_more as node_ends_no_more, Gives_segment as node_gives_segment, Gives_text as node_gives_text, Holds as node_holds, Notifies as node_notifies, Queues_no_more as node_queues_no_more, Reports as node_reports, Starts as node_starts, Succeeds as node_succeeds, Ticks as node_ticks}
-use Rattle.host_keep.specs.Kept.{Kept, node_of as kept_of_node, joining, interviewed, is_among, after as kept_after, after_all as kept_after_all}
+use Rattle.host_keep.specs.Kept.{Kept, node_of as kept_of_node, joining, interviewed, is_among, after_all as kept_after_all}
 use Rattle.host_keep.specs.Status.{status_byte}
-use Rattle.host_keep.specs.declared.record.Record.{Record}
 use Rattle.host_model.specs.State.{HostState, node_of}
 use Rattle.host_model.specs.Sessions.{open_command}
 use Rattle.host_model.specs.Ends.{PartEnd, Good, Passed_over, Bad, part_end, after_part, after_task, after_end, after_end_if}
@@ -38,12 +37,7 @@ use Rattle.host_model.proofs.Begun.{begun}
 use Rattle.host_model.proofs.Cancelled.{cancelled_is}
 use Rattle.host_model.proofs.Finished.{finished, found_sound}
 use Rattle.host_model.proofs.Events.{session_owned, contained, first_of, open_fact, attempt_over, queued, offered, heard, gave, spent, sees, node_quiet, accepted}
-
--- what records and then others give
-pub after_all-append : (kept : Kept) (records more : List Record) → kept_after_all kept (records ++ more) ≡ kept_after_all (kept_after_all kept records) more
-unfolding kept_after_all
-after_all-append kept [] more = refl
-after_all-append kept (one ∷ records) more = after_all-append (kept_after kept one) records more
+use Rattle.host_keep.proofs.RecordLists.{after_all-append}
 
 abbrev Owned : HostState → Type 0
 Owned h = (n : ℕ) → OwnsCommands h.commands n (node_of h n)

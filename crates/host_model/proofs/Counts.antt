@@ -4,6 +4,7 @@ use Rattle.std.specs.List.{IsDistinct, AllByRecursion}
 use Rattle.std.specs.Set.{distinct_count, is_member, unique_keys}
 use Rattle.std.proofs.lemmas.Map.Made.{length-le_from_is_member}
 use Rattle.std.proofs.lemmas.List.Folds.{list_any-append}
+use Rattle.std.proofs.lemmas.Bool.{or_parts as apart_first}
 use Rattle.zw_base.specs.PropertyOrder.{same_property}
 use Rattle.zw_base.specs.declared.property.Property.{Property}
 use Rattle.value_store.proofs.Keys.{same_property_laws}
@@ -24,11 +25,7 @@ among-once (p ∷ l) q = by (is_member same_property l p) (same_property q p) re
     by false true e f rest = ap (λ (b : Bool). b || is_member same_property (once l) q) f
     by false false e f rest = ap (λ (b : Bool). b || is_member same_property (once l) q) f ∙ rest
 
-apart_first : (a b : Bool) → (a || b) ≡ false → (a ≡ false) × (b ≡ false)
-apart_first true b e = absurd cc
-apart_first false b e = (refl, e)
-
-none_is : (p : Property) (l : List Property) → is_member same_property l p ≡ false → AllByRecursion (λ y. same_property p y ≡ false) l
+pub none_is : (p : Property) (l : List Property) → is_member same_property l p ≡ false → AllByRecursion (λ y. same_property p y ≡ false) l
 none_is p [] e = tt
 none_is p (x ∷ l) e = let both = apart_first (same_property p x) (is_member same_property l p) e in (both.0, none_is p l both.1)
 
@@ -46,7 +43,7 @@ pub count-fewer : (xs ys : List Property) → ((q : Property) → is_member same
     → distinct_count same_property xs ≤ distinct_count same_property ys
 count-fewer xs ys all = length-le_from_is_member same_property_laws (once xs) (once ys) (distinct-once xs) (λ q there. among-once ys q ∙ all q (sym (among-once xs q) ∙ there))
 
-either_more : (a b c : Bool) → (b ≡ true → c ≡ true) → (a || b) ≡ true → (a || c) ≡ true
+pub either_more : (a b c : Bool) → (b ≡ true → c ≡ true) → (a || b) ≡ true → (a || c) ≡ true
 either_more true b c f e = refl
 either_more false b c f e = f e
 

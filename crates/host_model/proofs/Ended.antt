@@ -80,7 +80,7 @@ not_begun (first ∷ rest) number e = by (first.command == number) e (not_begun 
     by true f later = cc
     by false f later = ap (λ (o : Option (Option FinalStatus)). option_or o None) (later f)
 
-either_among : (t : Bool) (numbers : List ℕ) (number : ℕ) → is_among numbers number ≡ true → (t || is_among numbers number) ≡ true
+pub either_among : (t : Bool) (numbers : List ℕ) (number : ℕ) → is_among numbers number ≡ true → (t || is_among numbers number) ≡ true
 either_among true numbers number e = refl
 either_among false numbers number e = e
 

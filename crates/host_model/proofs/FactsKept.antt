@@ -118,7 +118,7 @@ next_is_node nodes served n e =
     let works : ℕ → Bool = λ node. has_work (node_among nodes node) in
     one_of (least_above works served) (least_above works 0) n e (least_is_node works served n) (least_is_node works 0 n)
 
-wants : (nodes : List NodeState) (n : ℕ) → first_wanting nodes ≡ Some n → wants_no_more (node_among nodes n) ≡ true
+pub wants : (nodes : List NodeState) (n : ℕ) → first_wanting nodes ≡ Some n → wants_no_more (node_among nodes n) ≡ true
 wants nodes n e = (what_is_least (λ node. wants_no_more (node_among nodes node)) 0 n e).is_one
 
 cut_of : (form : Form) (session : ℕ) (message : List ℕ) (count : ℕ) → Segments count ≡ (start_by form session message).plan → (form ≡ Cut) × (count ≡ segment_count message)

@@ -3,7 +3,7 @@ use Rattle.std.proofs.Common.{◌≡◌, ℕ, ◌≤◌, List, [], ◌∷◌, �
 use Rattle.std.proofs.lemmas.List.{append-nil}
 use Rattle.serial_frame.specs.Stream.{Rest, IsRest, Signal, Feeds, GoesOn, Splits, piece_of}
 use Rattle.serial_frame.specs.declared.item.Item.{Item}
-use Rattle.serial_link.proofs.Counting.{piece_of-append}
+use Rattle.serial_frame.proofs.Streams.{piece_of-append}
 use Rattle.serial_link.proofs.Taking.{feeds-append}
 use Rattle.host_keep.specs.Keeping.{OptAdds, Shelf}
 use Rattle.host_model.specs.State.{HostState, HostParts}

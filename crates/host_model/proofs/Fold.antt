@@ -23,23 +23,16 @@ use Rattle.host_model.proofs.Legal.{may_is_legal}
 use Rattle.host_model.proofs.Restores.{restored_alone}
 use Rattle.host_model.proofs.RestoredFacts.{restored_facts}
 use Rattle.host_model.proofs.Restarted.{restarted_facts, restarted_alone}
+use Rattle.host_keep.proofs.RecordLists.{none_of, legal_cons}
 
 pub restored_all-append : (h : HostState) (records more : List Record) → restored_all h (records ++ more) ≡ restored_all (restored_all h records) more
 unfolding restored_all
 restored_all-append h [] more = refl
 restored_all-append h (one ∷ records) more = restored_all-append (restored h one) records more
 
-pub none_of : (o : Option ℕ) → option_map suc o ≡ None → o ≡ None
-none_of None e = refl
-none_of (Some n) e = cc
-
 pub step_none : (b : Bool) (rest : Option ℕ) → (if b then option_map suc rest else Some 0) ≡ None → (b ≡ true) × (rest ≡ None)
 step_none true rest e = (refl, none_of rest e)
 step_none false rest e = absurd cc
-
-legal_cons : (kept : Kept) (one : Record) (more : List Record) → first_illegal kept (one ∷ more) ≡ None → (is_legal kept one ≡ true) × (first_illegal (kept_after kept one) more ≡ None)
-unfolding first_illegal
-legal_cons kept one more e = step_none (is_legal kept one) (first_illegal (kept_after kept one) more) e
 
 -- a host with its facts has what is kept, and nothing besides
 record IsSoundly (h : HostState) (kept : Kept) : Type 0 where

@@ -26,13 +26,13 @@ use Rattle.host_model.specs.May.{known_of}
 use Rattle.host_model.specs.Restoring.{may_restore, is_session, listed, properties_with}
 use Rattle.host_model.specs.Holding.{Holds, HoldsAlone, taken_as}
 use Rattle.host_model.proofs.Opened.{opened_by}
-use Rattle.host_model.proofs.Values.{same_key}
+use Rattle.value_store.proofs.Reserved.{same_key}
 use Rattle.host_model.proofs.Counts.{count-alike, count-beside}
 use Rattle.host_model.proofs.Cancelled.{same_node}
 
 -- ---- the properties of a node in the store
 
-among-entries : (es : List (Key × Stored)) (n : ℕ) (q : Property) → is_member same_property (filter_map (property_at n) es) q ≡ is_some (find key_cmp (n, q) es)
+pub among-entries : (es : List (Key × Stored)) (n : ℕ) (q : Property) → is_member same_property (filter_map (property_at n) es) q ≡ is_some (find key_cmp (n, q) es)
 among-entries [] n q = refl
 among-entries (e ∷ es) n q =
     by (eqb n e.0.0) (same_property q e.0.1) refl (among-entries es n q)

@@ -9,30 +9,30 @@ pub mod Pumps
 mod Rounds
 mod Payloads
 pub mod Rising
-mod Ended
+pub mod Ended
 mod Opened
-mod Places
+pub mod Places
 mod NumberedRecords
 mod Outcomes
 pub mod Values
 mod Once
 pub mod Confirmed
-mod Counts
+pub mod Counts
 pub mod OpenSessions
 mod Removed
 mod Steps
 pub mod Begun
 mod Cancelled
 mod Finished
-mod Taken
-mod Events
+pub mod Taken
+pub mod Events
 mod AllEvents
 mod Beginning
 pub mod Tests
 mod Restarted
 pub mod RestoredFacts
 mod Restores
-mod Legal
+pub mod Legal
 pub mod Fold
 pub mod Recorded
 pub mod Submitted

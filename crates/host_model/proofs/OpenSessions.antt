@@ -61,7 +61,7 @@ going_of book (one ∷ more) session command commands outcome opened carried =
     some_is : Some (last_command one more) ≡ Some command → last_command one more ≡ command
     some_is e = cc
 
-same_if : (b : Bool) (x : Option FinalStatus) → b ≡ true → option_or None (if b then Some x else None) ≡ Some x
+pub same_if : (b : Bool) (x : Option FinalStatus) → b ≡ true → option_or None (if b then Some x else None) ≡ Some x
 same_if true x e = refl
 same_if false x e = cc
 

@@ -1,7 +1,7 @@
 -- Each event of a node leaves it what was its own, and a new command is put to it as its own.
-use Rattle.std.proofs.Common.{◌≡◌, ℕ, ◌+◌, ◌-◌, ◌≤◌, ◌==◌, ◌&&◌, nat_lt, Bool, true, false, if◌then◌else◌, Option, Some, None, List, [], ◌∷◌, length, All, get_or, set, inl, inr, ◌⊎◌, refl, sym, ap, ◌∙◌, subst, arith}
+use Rattle.std.proofs.Common.{◌≡◌, ℕ, ◌+◌, ◌-◌, ◌≤◌, ◌==◌, ◌&&◌, nat_lt, Bool, true, false, if◌then◌else◌, Option, Some, None, List, [], ◌∷◌, length, All, get_or, inl, inr, ◌⊎◌, refl, sym, ap, ◌∙◌, subst}
 use Rattle.std.proofs.lemmas.Bool.{cases_eq, cases_lt}
-use Rattle.std.proofs.lemmas.List.{get_or_past, get_or-set_same, get_or-set_other, length-set}
+use Rattle.std.proofs.lemmas.List.{get_or-set_same, get_or-set_other}
 use Rattle.std.proofs.lemmas.List.Elements.{All-cons, All-head, All-tail, All-push, All-take, All-drop, All-get_or}
 use Rattle.supervision.specs.Host.{HostBook, open_session, told_of, command_at as command_of_session}
 use Rattle.supervision.specs.declared.host_node.Told.{Told}
@@ -17,6 +17,7 @@ use Rattle.host_node.specs.Events.NodeEvent.{Joins, Interviews, Puts, Takes_back
 use Rattle.host_node.specs.TableState.{node_of, with_node}
 use Rattle.host_model.specs.State.{Command}
 use Rattle.host_model.specs.Facts.{IsCommandOf, HasSegments, HasBytes, OwnsCommands}
+use Rattle.host_node.proofs.Follows.{set_past}
 
 -- ---- what most events leave
 
@@ -218,11 +219,6 @@ stays_owned commands m n Restarts may brings owns =
     left_is_owned commands m n _ (after_both n (as_recorded n) _ (record { waiting = refl; sessions = refl; opened = refl; segments = inl refl; text = inl refl }) (occasion (as_recorded n))) owns
 
 -- ---- all nodes, where one of them is so now
-
-set_past : (nodes : List NodeState) (n : ℕ) (state : NodeState) → length nodes ≤ n → node_of (set nodes n state) n ≡ node_of nodes n
-set_past nodes n state past =
-    let still : length (set nodes n state) ≤ n = omega (arith, length-set nodes n state, past) in
-    get_or_past (set nodes n state) n (unknown 0) still ∙ sym (get_or_past nodes n (unknown 0) past)
 
 pub all_own : (commands : List Command) (nodes : List NodeState) (n : ℕ) (state : NodeState) → OwnsCommands commands n state
     → ((m : ℕ) → OwnsCommands commands m (node_of nodes m)) → (m : ℕ) → OwnsCommands commands m (node_of (with_node nodes n state) m)

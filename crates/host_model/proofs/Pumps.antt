@@ -2,7 +2,7 @@
 use Rattle.std.proofs.Common.{◌≡◌, ◌≢◌, ℕ, zero, suc, ◌+◌, ◌≤◌, ◌<◌, Bool, true, false, ◌&&◌, ◌||◌, ◌==◌, nat_lt, if◌then◌else◌, cond, Option, Some, None, is_some, is_none, IsSome, List, [], ◌∷◌, length, All, get_or, count_by, inl, inr, ◌⊎◌, refl, sym, ap, ◌∙◌, subst, arith}
 use Rattle.std.specs.Prelude.{slice_index}
 use Rattle.std.specs.Option.{option_or}
-use Rattle.std.proofs.lemmas.Bool.{cases_lt}
+use Rattle.std.proofs.lemmas.Bool.{cases_lt, lt-ltb as within_holds, ltb-true as is_below}
 use Rattle.std.proofs.lemmas.Bool.Decides.{nat_tests}
 use Rattle.std.proofs.lemmas.List.{get_or_past}
 use Rattle.std.proofs.lemmas.List.Sums.{sum_by-set, count_by-le-length}
@@ -34,18 +34,12 @@ use Rattle.host_model.specs.Events.{HostEvent, Queues_no_more, Drops_no_more, Su
 use Rattle.host_model.specs.May.{May, IsFree, IsServed, IsStart}
 use Rattle.host_model.specs.Pumping.{no_more_event, GivesNext, IsServedBy, IsNextOfNodes, IsNextOf, IsNext, HasNothing, may_begin, is_free, turns_left, sleepers_left}
 use Rattle.host_model.specs.Facts.{FitsForm, IsSound, IsCommandOf, HasSegments, HostFacts}
+use Rattle.host_node.proofs.Keeps.{first_holds, second_holds}
+use Rattle.host_model.proofs.FactsKept.{wants as wants_least}
 
 -- ---- tests
 
-first_holds : (a b : Bool) → a && b ≡ true → a ≡ true
-first_holds true b e = refl
-first_holds false b e = cc
-
-second_holds : (a b : Bool) → a && b ≡ true → b ≡ true
-second_holds true b e = e
-second_holds false b e = cc
-
-and_false : (a : Bool) → a && false ≡ false
+pub and_false : (a : Bool) → a && false ≡ false
 and_false true = refl
 and_false false = refl
 
@@ -67,12 +61,6 @@ some_of (Some x) e = (x, refl)
 
 above_zero : (k : ℕ) → nat_lt 0 k ≡ true → 0 < k
 above_zero k e = grind (arith, nat_tests)
-
-is_below : (a b : ℕ) → nat_lt a b ≡ true → a < b
-is_below a b e = grind (arith, nat_tests)
-
-within_holds : (a b : ℕ) → a < b → nat_lt a b ≡ true
-within_holds a b h = grind (arith, nat_tests)
 
 -- ---- a count of nodes falls
 
@@ -360,9 +348,6 @@ there_is_a_next h f free = elim (next_there h f h.requests.owes refl h.requests.
 pub record LetsOneSleep (h : HostState) (event : HostEvent) : Type 0 where
   pub may : May h event
   pub less : sleepers_left (after h event) < sleepers_left h
-
-wants_least : (nodes : List NodeState) (n : ℕ) → first_wanting nodes ≡ Some n → wants_no_more (node_among nodes n) ≡ true
-wants_least nodes n e = (what_is_least (λ node. wants_no_more (node_among nodes node)) 0 n e).is_one
 
 asked : (n : NodeState) (m : NoMore) → is_unasked m ≡ false → wants_no_more (after_no_more n m) ≡ false
 asked n m e =

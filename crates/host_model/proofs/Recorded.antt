@@ -1,7 +1,7 @@
 -- The records of an event may follow those that gave what a host has.
 use Rattle.std.proofs.Common.{◌≡◌, ℕ, suc, ◌+◌, ◌%◌, ◌<◌, ◌≤◌, ◌==◌, ◌&&◌, nat_lt, Bool, true, false, not, if◌then◌else◌, is_none, unwrap_or, List, [], ◌∷◌, ◌++◌, length, get_or, Option, Some, None, option_map, ◌⊎◌, inl, inr, refl, sym, ap, ◌∙◌, subst, arith}
 use Rattle.std.specs.Prelude.{slice_index}
-use Rattle.std.proofs.lemmas.Bool.{eq-eqb}
+use Rattle.std.proofs.lemmas.Bool.{eq-eqb, and_from as both_so, not_from_false as not_so}
 use Rattle.zw_base.specs.declared.order.Order.{Order}
 use Rattle.supervision.specs.Host.{begun_of, open_session}
 use Rattle.s0_session.specs.Nonces.{given_of, live_of, new_nonce}
@@ -48,10 +48,6 @@ one_legal kept one e = ap (λ (b : Bool). if b then option_map suc None else Som
 legal_so : (h : HostState) (kept : Kept) (one : Record) → NoOrder one → Holds h kept → may_restore h one ≡ true → first_illegal kept (one ∷ []) ≡ None
 legal_so h kept one none x may = one_legal kept one (sym (others_test h kept one none x) ∙ may)
 
-both_so : (a b : Bool) → a ≡ true → b ≡ true → (a && b) ≡ true
-both_so true b e f = f
-both_so false b e f = cc
-
 all_so : (a b c : Bool) → a ≡ true → b ≡ true → c ≡ true → (a && b && c) ≡ true
 all_so true true true e f g = refl
 all_so true true false e f g = cc
@@ -64,10 +60,6 @@ itself k = eq-eqb k k refl
 is_nothing : {X : Type 0} (o : Option X) → o ≡ None → is_none o ≡ true
 is_nothing None e = refl
 is_nothing (Some x) e = cc
-
-not_so : (b : Bool) → b ≡ false → not b ≡ true
-not_so true e = cc
-not_so false e = refl
 
 accepts_legal : (h : HostState) (kept : Kept) (order : Order) (carriage : Carriage) → IsAccepted h order carriage → Holds h kept → is_legal kept (record_of.Accepted (length h.commands + 1) order) ≡ true
 accepts_legal h kept order carriage may x =
@@ -149,7 +141,7 @@ legal_by h kept event may so x = refl
 
 -- ---- and of events one after another
 
-legal-append : (kept : Kept) (records more : List Record) → first_illegal kept records ≡ None → first_illegal (kept_after_all kept records) more ≡ None → first_illegal kept (records ++ more) ≡ None
+pub legal-append : (kept : Kept) (records more : List Record) → first_illegal kept records ≡ None → first_illegal (kept_after_all kept records) more ≡ None → first_illegal kept (records ++ more) ≡ None
 unfolding first_illegal kept_after_all
 legal-append kept [] more e f = f
 legal-append kept (one ∷ records) more e f =

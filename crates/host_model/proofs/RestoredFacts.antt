@@ -1,7 +1,7 @@
 -- A host that takes up a record keeps its facts.
 use Rattle.std.proofs.Common.{◌≡◌, ℕ, suc, ◌+◌, ◌<◌, ◌==◌, ◌||◌, Bool, true, false, not, is_none, unwrap_or, List, [], ◌∷◌, length, drop, get_or, Option, Some, None, option_map, ◌⊎◌, inl, inr, refl, sym, ap, ◌∙◌, subst, arith}
 use Rattle.std.specs.Prelude.{Contains}
-use Rattle.std.proofs.lemmas.Bool.{cases_eq, eqb-true, eq-eqb}
+use Rattle.std.proofs.lemmas.Bool.{cases_eq, eqb-true, eq-eqb, not-true as not_so, and_parts as both_true}
 use Rattle.std.proofs.lemmas.List.{length-set}
 use Rattle.std.proofs.lemmas.List.Elements.{All-push, All-drop, All-weaker, All-get_or}
 use Rattle.zw_base.specs.declared.order.Order.{Order}
@@ -33,9 +33,8 @@ use Rattle.host_model.specs.Restoring.{restored, may_restore, carriage_for, prop
 use Rattle.host_model.proofs.OpenSessions.{told_session}
 use Rattle.host_model.proofs.Places.{one_set}
 use Rattle.host_model.proofs.NumberedRecords.{changed, with_same, with_other}
-use Rattle.host_model.proofs.Accepted.{not_so}
 use Rattle.host_model.proofs.Pumps.{none_of}
-use Rattle.host_model.proofs.Tests.{both_true, all_true, unrefused_is, first_is, session_is, open_command_is}
+use Rattle.host_model.proofs.Tests.{all_true, unrefused_is, first_is, session_is, open_command_is}
 
 -- ---- one command has another outcome
 

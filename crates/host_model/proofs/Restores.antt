@@ -1,6 +1,6 @@
 -- A host that takes up a record has what is kept with it, and nothing besides.
 use Rattle.std.proofs.Common.{◌≡◌, ℕ, ◌+◌, ◌==◌, ◌||◌, Bool, true, false, is_none, unwrap_or, List, [], ◌∷◌, length, drop, set, Option, Some, None, refl, sym, ap, ◌∙◌, subst}
-use Rattle.std.proofs.lemmas.Bool.{eqb-true}
+use Rattle.std.proofs.lemmas.Bool.{eqb-true, and_parts as both_true}
 use Rattle.std.proofs.lemmas.List.Elements.{All-contains}
 use Rattle.zw_base.specs.declared.order.Order.{Order}
 use Rattle.zw_text.specs.declared.entry.Outcome.{Outcome}
@@ -40,7 +40,7 @@ use Rattle.host_model.proofs.Taken.{taken_outcomes, taken_alone, waiting_as}
 use Rattle.host_model.proofs.Events.{session_owned, classes_are, listed_within, spent, accepted}
 use Rattle.host_model.proofs.RestoredFacts.{from_among}
 use Rattle.host_model.proofs.Pumps.{none_of}
-use Rattle.host_model.proofs.Tests.{both_true, all_true, unrefused_is, first_is, session_is, open_command_is}
+use Rattle.host_model.proofs.Tests.{all_true, unrefused_is, first_is, session_is, open_command_is}
 
 abbrev same : Outcome → Outcome
 same what = what

@@ -25,7 +25,7 @@ use Rattle.host_keep.specs.Kept.{Kept, KeptNode, Taken, blank_node, node_of as k
 use Rattle.host_model.specs.State.{HostState, Command, node_of, command_at}
 use Rattle.host_model.specs.After.{node_does}
 use Rattle.host_model.specs.Facts.{IsCommandOf, OwnsCommands}
-use Rattle.host_model.proofs.Numbered.{last_of}
+use Rattle.host_model.proofs.Numbered.{pushed_at}
 use Rattle.host_model.specs.Holding.{HoldsNode, Holds, Rise, commands_of, as_kept, is_one_cancelled, taken_as}
 use Rattle.host_model.proofs.Rising.{rise-push}
 use Rattle.host_model.proofs.Places.{both_set, one_set}
@@ -44,9 +44,6 @@ abbrev pub more : KeptNode → ℕ → KeptNode
 more node command = record node { waiting = node.waiting ++ command ∷ [] }
 
 -- ---- numbers
-
-pub pushed_at : (commands : List Command) (one : Command) → command_at (commands ++ one ∷ []) (length commands + 1) ≡ Some one
-pushed_at commands one = let e : length commands + 1 ≡ suc (length commands) = omega arith in ap (λ k. command_at (commands ++ one ∷ []) k) e ∙ last_of commands one
 
 got_past : (commands : List Command) → slice_get commands (length commands) ≡ None
 got_past [] = refl

@@ -11,10 +11,6 @@ use Rattle.host_orders.specs.declared.refused.Refused.TheVariants.{NotJoined, No
 use Rattle.host_keep.specs.Legal.{is_first}
 use Rattle.host_model.specs.Restoring.{is_session}
 
-pub both_true : (a b : Bool) → (a && b) ≡ true → (a ≡ true) × (b ≡ true)
-both_true true b e = (refl, e)
-both_true false b e = absurd cc
-
 pub all_true : (a b c : Bool) → (a && b && c) ≡ true → (a ≡ true) × (b ≡ true) × (c ≡ true)
 all_true true true true e = (refl, refl, refl)
 all_true true true false e = absurd cc
@@ -31,7 +27,7 @@ is_there (Some x) e = (x, refl)
 
 -- ---- orders
 
-refused_not : (o : Option Refused) (properties : ℕ) → refusal_or o properties ≡ None → (o ≡ None) × (store_full properties ≡ None)
+pub refused_not : (o : Option Refused) (properties : ℕ) → refusal_or o properties ≡ None → (o ≡ None) × (store_full properties ≡ None)
 refused_not None properties e = (refl, e)
 refused_not (Some refused) properties e = absurd cc
 

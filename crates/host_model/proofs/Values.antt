@@ -1,35 +1,21 @@
 -- Values of properties, where some are reserved, confirmed or heard.
-use Rattle.std.proofs.Common.{◌≡◌, ℕ, ◌||◌, ◌&&◌, Bool, true, false, cond, eqb, if◌then◌else◌, is_some, unwrap_or, List, [], ◌∷◌, Option, Some, None, All, refl, sym, ap, ◌∙◌, arith}
-use Rattle.std.specs.declared.cmp.Ordering.{Ordering}
-use Rattle.std.specs.declared.cmp.Ordering.TheVariants.{Less, Equal, Greater}
-use Rattle.std.specs.Ordering.{is_eq, nat_cmp, ordering_then}
+use Rattle.std.proofs.Common.{◌≡◌, ℕ, ◌||◌, ◌&&◌, Bool, true, false, cond, eqb, if◌then◌else◌, is_some, unwrap_or, List, [], ◌∷◌, Option, Some, None, All, refl, sym, ap, ◌∙◌}
+use Rattle.std.specs.Ordering.{nat_cmp}
 use Rattle.std.specs.Cmp.Lexicographic.{slice_cmp}
 use Rattle.std.specs.FinMap as map
-use Rattle.std.proofs.lemmas.Bool.{eqb-true, eq-eqb}
-use Rattle.std.proofs.lemmas.Bool.Decides.{nat_tests}
+use Rattle.std.proofs.lemmas.Bool.{eqb-true, eq-eqb, and_parts as and_both}
 use Rattle.std.proofs.lemmas.List.Elements.{All-head, All-tail, All-weaker}
 use Rattle.zw_base.specs.PropertyOrder.{rank_of, same_property}
 use Rattle.zw_base.specs.declared.property.Property.{Property}
 use Rattle.zw_base.specs.declared.property.Setting.{Setting}
 use Rattle.value_store.specs.declared.stored.Stored.{Stored}
-use Rattle.value_store.specs.Values.{Values, key_cmp, no_value, IsReserved, is_among, reserving, stored_of}
+use Rattle.value_store.specs.Values.{Values, no_value, IsReserved, is_among, reserving, stored_of}
 use Rattle.value_store.proofs.Keys.{key_total, property_exact, same_property_laws}
 use Rattle.value_store.proofs.Released.{get-reserving}
 use Rattle.host_keep.specs.Kept.{value_among, or_else}
 use Rattle.host_orders.specs.Settings.{properties_of}
 use Rattle.host_model.specs.After.{confirming, hearing}
-
-same_and : (n m : ℕ) (o : Ordering) → is_eq (ordering_then (nat_cmp n m) o) ≡ (eqb n m && is_eq o)
-same_and n m o = grind (arith, nat_tests)
-
-pub same_key : (n m : ℕ) (p q : Property) → is_eq (key_cmp (n, p) (m, q)) ≡ (eqb n m && same_property p q)
-unfolding key_cmp
-same_key n m p q = same_and n m (slice_cmp nat_cmp (rank_of p) (rank_of q))
-
-pub tie : (o : Ordering) → is_eq o ≡ true → o ≡ Equal
-tie Less h = cc
-tie Equal h = refl
-tie Greater h = cc
+use Rattle.value_store.proofs.Reserved.{tie, same_key}
 
 -- properties that are the same one are equal
 pub one_property : (p q : Property) → same_property p q ≡ true → p ≡ q
@@ -41,10 +27,6 @@ itself p = same_property_laws.refl p
 pub get-one : (m : Values) (node : ℕ) (x : Property) (v : Stored) (n : ℕ) (p : Property)
     → map.get (map.insert m (node, x) v) (n, p) ≡ cond (eqb n node && same_property p x) (Some v) (map.get m (n, p))
 get-one m node x v n p = map.get-insert key_total m (node, x) v (n, p) ∙ ap (λ (b : Bool). cond b (Some v) (map.get m (n, p))) (same_key n node p x)
-
-and_both : (a b : Bool) → (a && b) ≡ true → (a ≡ true) × (b ≡ true)
-and_both true b e = (refl, e)
-and_both false b e = absurd cc
 
 -- ---- reserving
 

@@ -16,3 +16,4 @@ pub mod Restoring
 pub mod Opening
 pub mod Holding
 pub mod Recording
+pub mod Refusals

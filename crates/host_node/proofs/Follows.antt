@@ -91,7 +91,7 @@ number_stays n Restarts = occasion (as_recorded n)
 -- ---- all nodes, where one of them is so now
 
 -- past the end nothing is set
-set_past : (nodes : List NodeState) (node : ℕ) (state : NodeState) → length nodes ≤ node → node_of (set nodes node state) node ≡ node_of nodes node
+pub set_past : (nodes : List NodeState) (node : ℕ) (state : NodeState) → length nodes ≤ node → node_of (set nodes node state) node ≡ node_of nodes node
 set_past nodes node state past =
     let still : length (set nodes node state) ≤ node = omega (arith, length-set nodes node state, past) in
     get_or_past (set nodes node state) node (unknown 0) still ∙ sym (get_or_past nodes node (unknown 0) past)

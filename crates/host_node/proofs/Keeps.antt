@@ -1,6 +1,7 @@
 -- Each event keeps the facts of a node.
 use Rattle.std.proofs.Common.{◌≡◌, ℕ, ◌+◌, ◌-◌, ◌<◌, ◌≤◌, ◌==◌, ◌&&◌, ◌||◌, nat_lt, Bool, true, false, if◌then◌else◌, Option, Some, None, List, [], ◌∷◌, ◌++◌, length, is_some, IsSome, IsTrue, refl, sym, subst, arith, length-append, length-take, length-drop}
 use Rattle.std.proofs.lemmas.Bool.Decides.{nat_tests}
+use Rattle.std.proofs.lemmas.Bool.{ltb-true as below_holds, ltb-false as not_below_holds}
 use Rattle.supervision.specs.Host.{open_session, told_of}
 use Rattle.supervision.specs.declared.host_node.Told.{Told}
 use Rattle.supervision.specs.declared.host_node.Told.TheVariants.{Final, Working, Old}
@@ -23,22 +24,13 @@ either : (test : Bool) (yes no : NodeState) → (test ≡ true → NodeFacts yes
 either true m k p q = p refl
 either false m k p q = q refl
 
-first_holds : (a b : Bool) → a && b ≡ true → a ≡ true
+pub first_holds : (a b : Bool) → a && b ≡ true → a ≡ true
 first_holds true b e = refl
 first_holds false b e = cc
 
-second_holds : (a b : Bool) → a && b ≡ true → b ≡ true
+pub second_holds : (a b : Bool) → a && b ≡ true → b ≡ true
 second_holds true b e = e
 second_holds false b e = cc
-
-below_holds : (a b : ℕ) → nat_lt a b ≡ true → a < b
-below_holds a b e = grind (arith, nat_tests)
-
-not_below_holds : (a b : ℕ) → nat_lt a b ≡ false → b ≤ a
-not_below_holds a b e = grind (arith, nat_tests)
-
-is_one : (a : ℕ) → a == 1 ≡ true → a ≡ 1
-is_one a e = grind (arith, nat_tests)
 
 idle_holds : (s : Series) → is_idle s ≡ true → s ≡ Idle
 idle_holds Idle e = refl
@@ -70,24 +62,6 @@ occasion n f =
     either (is_open n && is_up n && is_idle n.series) (new_series n) n
     (λ e. renewed n f (first_holds (is_open n) (is_up n) (first_holds _ (is_idle n.series) e)) (idle_holds _ (second_holds (is_open n && is_up n) _ e)))
     (λ _. f)
-
--- what is left of an attempt is dropped
-dropped : (n : NodeState) → NodeFacts n → NodeFacts (without_attempt n)
-dropped n f = record {
-  series =
-      elim n.series as (λ s. SeriesFacts s n.book n.attempt_wait n.again_wait n.next_segment n.segments n.text n.pending
-      → SeriesFacts s n.book 0 n.again_wait 0 0 None None) [
-        | Idle ↦ λ g. (g.0, record { no_wait = refl; no_next = refl; no_segments = refl; no_text = refl; no_pending = refl })
-        | Due ↦ λ g. (g.0, g.1, record { no_wait = refl; no_next = refl; no_segments = refl; no_text = refl; no_pending = refl })
-        | Running ↦ λ g. (g.0, g.1, omega arith, refl)
-      ]
-      f.series;
-  attempt_wait = omega arith;
-  again_wait = f.again_wait;
-  hold = f.hold;
-  no_more = f.no_more;
-  waiting = f.waiting;
-}
 
 -- it counts as asleep
 slept : (n : NodeState) → NodeFacts n → NodeFacts (after_sleep n)

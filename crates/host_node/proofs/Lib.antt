@@ -1,4 +1,4 @@
-mod Keeps
+pub mod Keeps
 mod Quiet
 mod Recorded
 mod Lists

@@ -15,6 +15,7 @@ use Rattle.host_node.specs.Steps.{with_again, with_wait, new_series, next_due, s
 use Rattle.host_node.specs.Events.{NodeEvent, after, May}
 use Rattle.host_node.specs.Events.NodeEvent.{Joins, Interviews, Puts, Takes_back, Accepts, Cancels, Begins, Blocks, Starts, Gives_segment, Gives_text, Succeeds, Takes_nonce, Restores_seen, Ends_attempt, Reports, Holds, Notifies, Sleeps, Queues_no_more, Drops_no_more, Ends_no_more, Ticks, Restarts}
 use Rattle.host_node.specs.Facts.{NodeFacts, IsQuiet, StartsQuietly}
+use Rattle.host_node.proofs.Keeps.{first_holds, second_holds}
 
 -- either branch of a test is quiet
 either : (test : Bool) (yes no : NodeState) → (test ≡ true → IsQuiet yes) → (test ≡ false → IsQuiet no) → IsQuiet (if test then yes else no)
@@ -60,14 +61,6 @@ not_running : (s : Series) → is_idle s ≡ true → is_running s ≡ false
 not_running Idle e = refl
 not_running Due e = refl
 not_running Running e = cc
-
-first_holds : (a b : Bool) → a && b ≡ true → a ≡ true
-first_holds true b e = refl
-first_holds false b e = cc
-
-second_holds : (a b : Bool) → a && b ≡ true → b ≡ true
-second_holds true b e = e
-second_holds false b e = cc
 
 idle_if_wanted : (n : NodeState) → wants_no_more n ≡ true → is_idle n.series ≡ true
 idle_if_wanted n e = second_holds _ _ (first_holds _ _ e)

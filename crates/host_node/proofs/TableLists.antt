@@ -29,7 +29,7 @@ unfolding unknown_nodes
 all_made items number last so_far =
     let count : number - 1 ≡ 232 = omega (arith, last) in so_far ∙ ap (λ k. unknown 1 ∷ unknown_from 1 k) count
 
-length-unknown_from : (number count : ℕ) → length (unknown_from number count) ≡ count
+pub length-unknown_from : (number count : ℕ) → length (unknown_from number count) ≡ count
 length-unknown_from number zero = refl
 length-unknown_from number (suc more) = let e = length-unknown_from (suc number) more in omega (arith, e)
 

@@ -1,9 +1,9 @@
 -- The segments of a message fit a frame.
-use Rattle.std.proofs.Common.{◌≡◌, ◌≤◌, ◌<◌, ◌*◌, ◌+◌, ◌/◌, ◌%◌, ◌==◌, nat_lt, ℕ, zero, suc, Bool, true, false, List, [], ◌∷◌, length, length-append, take, drop, get_or, Some, None, if◌then◌else◌, refl, sym, ap, ◌∙◌, subst, arith}
+use Rattle.std.proofs.Common.{◌≡◌, ◌≤◌, ◌<◌, ◌*◌, ◌+◌, ◌/◌, ◌%◌, ◌==◌, ℕ, Bool, true, false, List, [], ◌∷◌, length, length-append, take, drop, get_or, Some, None, if◌then◌else◌, refl, sym, ap, ◌∙◌, subst, arith}
 use Rattle.std.specs.Prelude.{slice_get}
 use Rattle.std.proofs.lemmas.List.{length-take}
 use Rattle.std.proofs.lemmas.Option.{slice_get_read, slice_get_within, same_Some}
-use Rattle.std.proofs.lemmas.Bool.Decides.{nat_tests}
+use Rattle.std.proofs.lemmas.Bool.{lt-ltb as below_is}
 use Rattle.host_orders.specs.declared.carriage.Form.TheVariants.{Cut}
 use Rattle.host_model.specs.Sessions.{segment_count, segment_at, segment_by}
 use Rattle.zw_base.specs.Crc.{crc}
@@ -37,18 +37,9 @@ part_is_short message id segments k segment parts found =
 
 -- ---- a message that is cut
 
-pub some_segments : (message : List ℕ) → 1 ≤ length message → length message ≤ 512 → (1 ≤ segment_count message) × (segment_count message ≤ 14)
-some_segments message some most = (omega arith, omega arith)
-
 -- the first segment
 pub first_segment : (message : List ℕ) (session : ℕ) (segments : List (List ℕ)) → Parts message (session % 16) segments → 1 ≤ length message → slice_get segments 0 ≡ Some (segment_at session message 0)
 first_segment message session segments parts some = let there : 0 < length segments = omega (arith, parts.count) in parts.each 0 there
-
-below_is : (a b : ℕ) → a < b → nat_lt a b ≡ true
-below_is a b below = grind (arith, nat_tests)
-
-past_is : (a b : ℕ) → b ≤ a → nat_lt a b ≡ false
-past_is a b past = grind (arith, nat_tests)
 
 -- a segment that is there, and one that is not
 pub segment_there : (message : List ℕ) (session at : ℕ) (segments : List (List ℕ)) (segment : List ℕ) → Parts message (session % 16) segments → slice_get segments at ≡ Some segment → Some segment ≡ segment_by Cut session message at
@@ -57,16 +48,6 @@ segment_there message session at segments segment parts found =
     let counted : at < segment_count message = omega (arith, parts.count) in
     let same : Some segment ≡ Some (segment_at session message at) = sym found ∙ parts.each at below in
     same ∙ sym (ap (λ (b : Bool). if b then Some (segment_at session message at) else None) (below_is at (segment_count message) counted))
-
-past_end : (segments : List (List ℕ)) (at : ℕ) → slice_get segments at ≡ None → length segments ≤ at
-past_end [] at none = omega arith
-past_end (first ∷ rest) zero none = cc
-past_end (first ∷ rest) (suc at) none = let rest_is : length rest ≤ at = past_end rest at none in omega arith
-
-pub segment_missing : (message : List ℕ) (session at : ℕ) (segments : List (List ℕ)) → Parts message (session % 16) segments → slice_get segments at ≡ None → None ≡ segment_by Cut session message at
-segment_missing message session at segments parts none =
-    let past : segment_count message ≤ at = omega (arith, parts.count, past_end segments at none) in
-    sym (ap (λ (b : Bool). if b then Some (segment_at session message at) else None) (past_is at (segment_count message) past))
 
 -- ---- what a place of a list says
 

@@ -52,7 +52,7 @@ judged_down (SendData answer) u waiting e = taken_down answer u waiting e
 judged_down (RequestNodeInfo answer) u waiting e = taken_down answer u waiting e
 judged_down r u waiting e = tt
 
-not_answered : (answered other : Bool) → (answered || other) ≡ false → answered ≡ false
+pub not_answered : (answered other : Bool) → (answered || other) ≡ false → answered ≡ false
 not_answered true other e = absurd (cc)
 not_answered false other e = refl
 

@@ -1,6 +1,6 @@
 -- What is known of a command that is found by its number.
 use Rattle.std.proofs.Common.{◌≡◌, ℕ, zero, suc, List, [], ◌∷◌, All, Option, Some, None, refl, sym, subst}
-use Rattle.std.specs.Prelude.{slice_get, map}
+use Rattle.std.specs.Prelude.{map}
 use Rattle.std.specs.List.{AllByRecursion}
 use Rattle.std.proofs.lemmas.List.Elements.{All-head, All-tail}
 use Rattle.zw_base.specs.declared.property.Setting.{Setting}
@@ -15,13 +15,9 @@ use Rattle.host_model.specs.State.{HostState, Command, node_of, command_at}
 use Rattle.host_model.specs.Sessions.{settings_with}
 use Rattle.host_model.specs.Facts.{HostFacts, IsSound, IsCommandOf}
 use Rattle.host_step.specs.Sessions.{command_in}
+use Rattle.supervision.proofs.OnceLemmas.{All-slice_get as get_has}
 
 -- ---- what is true of all is true of one
-
-get_has : {A : Type 0} (P : A → Type 0) (xs : List A) (at : ℕ) (x : A) → All P xs → slice_get xs at ≡ Some x → P x
-get_has P [] at x all found = cc
-get_has {A} P (first ∷ rest) zero x all found = let same : first ≡ x = cc in subst P same (All-head P first rest all)
-get_has P (first ∷ rest) (suc at) x all found = get_has P rest at x (All-tail P first rest all) found
 
 -- a command of the host is sound
 pub command_is_sound : (h : HostState) (number : ℕ) (command : Command) → HostFacts h → command_at h.commands number ≡ Some command → IsSound h.store command

@@ -45,7 +45,8 @@ pub(crate) fn take_nonce_get<D: Draw, P: Keeper>(
 
 // Eight bytes are drawn, each of which is read, so that callers know that it is a byte.
 fn draw_bytes<D: Draw>(draw: &mut D) -> [u8; 8]
-    ensures { AreBytes result }
+    ensures bytes { AreBytes result }
+    ensures drawn { D.draws draw.old result draw.new }
 {
     let drawn = draw.next();
     for byte in &drawn {

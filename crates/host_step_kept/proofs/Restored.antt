@@ -1,21 +1,19 @@
 -- When a host may take up a record, by what was tested.
 use Rattle.std.proofs.Common.{◌≡◌, ℕ, ◌+◌, ◌%◌, ◌<◌, Bool, true, false, ◌==◌, ◌&&◌, is_none, Option, Some, None, List, [], ◌∷◌, length, refl, subst, arith}
 use Rattle.host_keep.specs.declared.record.Record.{Record}
-use Rattle.host_keep.specs.declared.record.Record.TheVariants.{Accepted, Begun, Final, Given}
+use Rattle.host_keep.specs.declared.record.Record.TheVariants.{Begun, Final, Given}
 use Rattle.host_keep.specs.Legal.{is_first}
 use Rattle.supervision.specs.Host.{begun_of, open_session, command_at as command_of_session}
 use Rattle.host_model.specs.State.{HostState, node_of}
 use Rattle.host_model.specs.Facts.{HostFacts}
-use Rattle.host_model.specs.Asking.{refusal_for}
-use Rattle.zw_base.specs.declared.order.Order.{Order}
-use Rattle.host_orders.specs.declared.refused.Refused.{Refused}
 use Rattle.host_model.specs.Restoring.{may_restore, restored, ending}
 use Rattle.host_keep.specs.declared.final_status.FinalStatus.{FinalStatus}
 use Rattle.host_model.specs.After.{finishing}
 use Rattle.supervision.specs.Session.{wire_id}
-use Rattle.std.proofs.lemmas.Bool.{eq-eqb, eqb-true}
+use Rattle.std.proofs.lemmas.Bool.{eqb-true}
 use Rattle.std.specs.Prelude.{slice_index}
 use Rattle.s0_session.specs.Nonces.{given_of, live_of, IsRestorable}
+use Rattle.host_model.proofs.Tests.{all_true as all_three}
 
 -- ---- what the test of a session says
 
@@ -24,12 +22,6 @@ all_true true true true e = (refl, refl)
 all_true true true false e = absurd cc
 all_true true false c e = absurd cc
 all_true false b c e = absurd cc
-
-all_three : (a b c : Bool) → (a && b && c) ≡ true → (a ≡ true) × (b ≡ true) × (c ≡ true)
-all_three true true true e = (refl, refl, refl)
-all_three true true false e = absurd cc
-all_three true false c e = absurd cc
-all_three false b c e = absurd cc
 
 some_waits : (l : List ℕ) (command : ℕ) → is_first l command ≡ true → 0 < length l
 some_waits [] command e = absurd cc
@@ -68,21 +60,3 @@ final_kept keeps h n session command status f may carried =
     subst (λ (o : Option ℕ). HostFacts (ending h n session status o)) carried (keeps h (Final n session status) f may)
 
 -- ---- an order that was taken
-
-none_of_some : (b : Bool) (o : Option Refused) (refused : Refused) → o ≡ Some refused → (b && is_none o) ≡ false
-none_of_some false o refused e = refl
-none_of_some true None refused e = absurd cc
-none_of_some true (Some other) refused e = refl
-
--- what a rule refuses may not be taken
-pub not_taken : (h : HostState) (command : ℕ) (order : Order) (refused : Refused) → refusal_for h order ≡ Some refused → may_restore h (Accepted command order) ≡ false
-not_taken h command order refused e = none_of_some (command == length h.commands + 1) (refusal_for h order) refused e
-
-both_hold : (b : Bool) (o : Option Refused) → b ≡ true → o ≡ None → true ≡ (b && is_none o)
-both_hold true None e f = refl
-both_hold true (Some other) e f = absurd cc
-both_hold false o e f = absurd cc
-
--- what no rule refuses may be, with the next number
-pub is_taken : (h : HostState) (command : ℕ) (order : Order) → command ≡ length h.commands + 1 → refusal_for h order ≡ None → true ≡ may_restore h (Accepted command order)
-is_taken h command order e f = both_hold (command == length h.commands + 1) (refusal_for h order) (eq-eqb command (length h.commands + 1) e) f

@@ -1,9 +1,7 @@
 -- Which commands wait, by a test and by a fact.
-use Rattle.std.proofs.Common.{◌≡◌, ℕ, ◌==◌, ◌||◌, Bool, true, false, List, [], ◌∷◌, get_or, Option, Some, None, refl}
+use Rattle.std.proofs.Common.{◌≡◌, ℕ, ◌||◌, Bool, true, false, [], ◌∷◌, Option, Some, None, refl}
 use Rattle.std.specs.Prelude.{Contains}
-use Rattle.std.proofs.lemmas.Bool.{eq-eqb}
 use Rattle.std.proofs.lemmas.List.Elements.{All-contains}
-use Rattle.std.proofs.lemmas.List.Folds.{list_any_at}
 use Rattle.host_keep.specs.Kept.{is_among}
 use Rattle.host_keep.specs.declared.record.Record.TheVariants.{Cancelled}
 use Rattle.host_model.specs.State.{HostState, Command, node_of, command_at}
@@ -11,9 +9,7 @@ use Rattle.host_model.specs.After.{node_for}
 use Rattle.host_model.specs.Facts.{HostFacts, IsCommandOf}
 use Rattle.host_model.specs.Restoring.{may_restore}
 use Rattle.host_model.proofs.RestoredFacts.{from_among}
-
-contained : (l : List ℕ) (number : ℕ) → Contains l number → is_among l number ≡ true
-contained l number c = list_any_at (λ other. other == number) l c.0 number c.1 (eq-eqb (get_or l c.0 number) number c.2)
+use Rattle.host_model.proofs.Events.{contained}
 
 -- a command that waits may be cancelled
 pub may_be_cancelled : (h : HostState) (command : ℕ) → Contains (node_of h (node_for h command)).waiting command → may_restore h (Cancelled command) ≡ true

@@ -1,32 +1,23 @@
 -- Texts of lines: what is read is the text's line, and a line's text is read as that line.
-use Rattle.std.proofs.Common.{◌≡◌, ℕ, ◌≤◌, Bool, true, false, ltb, Option, Some, None, Result, Ok, Err, List, [], ◌∷◌, length, decimal, ap, refl, ◌∙◌, sym, subst, ◌⊎◌, inl, inr, arith}
-use Rattle.std.specs.Prelude.{IfOk, MatchOption, bytes_eq, find}
-use Rattle.std.proofs.lemmas.Bool.{le-ltb, ltb-false}
+use Rattle.std.proofs.Common.{◌≡◌, ℕ, Option, Some, None, Result, Ok, Err, List, [], ◌∷◌, decimal, ap, refl, ◌∙◌, sym, subst, arith}
+use Rattle.std.specs.Prelude.{IfOk, MatchOption, bytes_eq}
 use Rattle.std.proofs.lemmas.Slice.Eq.{bytes_eq-Decides}
-use Rattle.zw_words.specs.declared.fault.LineFault.TheVariants.{Unknown, TooLong}
+use Rattle.zw_words.specs.declared.fault.LineFault.TheVariants.{Unknown}
 use Rattle.zw_words.specs.declared.fault.ReadLineFault.{ReadLineFault}
-use Rattle.zw_words.specs.Words.{is_remark, line_words, without_return, words}
+use Rattle.zw_words.specs.Words.{line_words}
 use Rattle.zw_words.specs.Forms.{between_in}
 use Rattle.zw_words.specs.Fields.{◌>>=◌, Gives, last, make, of_words}
-use Rattle.zw_words.proofs.Choices.{bind_ok, chosen, made_of, not_ok, ok_is, some, some_is, not_some}
-use Rattle.zw_text.specs.Line.{IsIn, IsNoLine, MayBeLine}
+use Rattle.zw_words.proofs.Choices.{bind_ok, made_of, not_ok, ok_is, some}
+use Rattle.zw_text.specs.Line.{IsIn, IsNoLine}
 use Rattle.zw_text.proofs.Fields.{last_number, number_last}
 use Rattle.include_text.specs.declared.line.IncludeLine.{IncludeLine}
 use Rattle.include_text.specs.declared.line.IncludeLine.TheVariants.{Add, Reset, Lose, Repeat, Tick}
 use Rattle.include_text.specs.declared.line.IncludeWord.{IncludeWord}
 use Rattle.include_text.specs.declared.line.IncludeWord.TheVariants.{Add as WAdd, Reset as WReset, Lose as WLose, Repeat as WRepeat, Tick as WTick}
 use Rattle.include_text.specs.Line.{IncludeText, all_words, first_word, least_of, line_at, line_by, line_from, line_of, line_of_word, most_of, number_in, word_in, word_text}
+use Rattle.zw_text.proofs.TextLaws.{found_passes, opens, Opened, opened, no_words, some_words}
 
 -- ---- first words
-
--- what a search found passes
-found_passes : {A : Type 0} (p : A → Bool) (xs : List A) (x : A) → find p xs ≡ some x → p x ≡ true
-found_passes p [] x e = absurd (not_some x e)
-found_passes p (y ∷ ys) x e =
-    elim (chosen (p y) (some y) (find p ys) (some x) e) [
-      | inl here ↦ ap p (sym (some_is y x here.1)) ∙ here.0
-      | inr there ↦ found_passes p ys x there.1
-    ]
 
 word_takes : (bytes : List ℕ) (w : IncludeWord) → word_in bytes ≡ Some w → bytes ≡ word_text w
 unfolding word_in
@@ -39,41 +30,6 @@ word_again WReset = refl
 word_again WLose = refl
 word_again WRepeat = refl
 word_again WTick = refl
-
--- ---- the words of a text
-
--- the words of a text that is short enough
-record Opened (text : List ℕ) (ws : List (List ℕ)) : Type 0 where
-  short : length text ≤ 1024
-  either : ((is_remark text ≡ true) × ([] ≡ ws)) ⊎ ((is_remark text ≡ false) × (words (without_return text) ≡ ws))
-
-opened : (text : List ℕ) (ws : List (List ℕ)) → line_words text ≡ Ok ws → Opened text ws
-unfolding line_words
-opened text ws e =
-    elim (chosen (ltb 1024 (length text)) _ _ _ e) [
-      | inl long ↦ absurd (not_ok TooLong ws long.1)
-      | inr short ↦
-          elim (chosen (is_remark text) _ _ _ short.1) [
-            | inl remark ↦ record { short = ltb-false _ _ short.0; either = inl (remark.0, ok_is [] ws remark.1) }
-            | inr line ↦ record { short = ltb-false _ _ short.0; either = inr (line.0, ok_is (words (without_return text)) ws line.1) }
-          ]
-    ]
-
-opens : (text : List ℕ) (ws : List (List ℕ)) → MayBeLine text → words (without_return text) ≡ ws → line_words text ≡ Ok ws
-unfolding line_words
-opens text ws may are = rw (le-ltb 1024 (length text) may.short, may.no_remark, are) refl
-
--- a text without words
-no_words : (text : List ℕ) → Opened text [] → IsNoLine text
-no_words text o = record { short = o.short; empty = elim o.either [ inl remark ↦ inl remark.0 | inr line ↦ inr line.1 ] }
-
-nil_cons : (w : List ℕ) (rest : List (List ℕ)) → [] ≡ w ∷ rest → ⊥
-nil_cons w rest e = cc
-
--- a text with words may be a line
-some_words : (text w : List ℕ) (rest : List (List ℕ)) → Opened text (w ∷ rest) → MayBeLine text × (words (without_return text) ≡ w ∷ rest)
-some_words text w rest o =
-    elim o.either [ inl remark ↦ absurd (nil_cons w rest remark.1) | inr line ↦ (record { short = o.short; no_remark = line.0 }, line.1) ]
 
 -- ---- lines
 

@@ -11,7 +11,8 @@ use Rattle.s0_session.specs.Nonces.{account_of, nonce_given, nonce_spent}
 use Rattle.inclusion.specs.declared.message.Message.{Message}
 use Rattle.inclusion.specs.declared.message.Message.TheVariants.{SchemeGet, SchemeReport, NonceGet, NonceReport, Sealed, Other}
 use Rattle.inclusion.specs.declared.exchange.Exchange.{Exchange}
-use Rattle.inclusion.specs.Sealing.{keys_of, sealed_text, sealer_by, sent_by}
+use Rattle.s0_crypto.specs.Sealing.{keys_of, sealed_text}
+use Rattle.inclusion.specs.Sealing.{sealer_by, sent_by}
 use Rattle.inclusion.specs.Messages.{message_of, nonce_named, key_set, temporary_key}
 use Rattle.inclusion.specs.Joining.{Joining, from_host}
 use Rattle.inclusion.specs.Including.{Including, Included, quiet, is_secure, asking, asks, has_asked, takes_scheme, gives_nonce, takes_nonce, takes_message, includer_takes, is_with, is_verified, held_in, verified, spending}

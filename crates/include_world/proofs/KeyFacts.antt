@@ -14,10 +14,11 @@ use Rattle.s0_session.specs.declared.account.Account.{Account}
 use Rattle.s0_session.specs.Nonces.{nonce_given, answer_from, nonce_spent, after_spend, with_first}
 use Rattle.inclusion.specs.declared.message.Message.{Message}
 use Rattle.inclusion.specs.declared.message.Message.TheVariants.{SchemeGet, SchemeReport, NonceGet, NonceReport, Sealed, Other}
-use Rattle.inclusion.specs.Sealing.{keys_of, opened_by, sealed_text, cipher_text_of, sent_for}
+use Rattle.s0_crypto.specs.Sealing.{keys_of, unsealed_at, sealed_text, cipher_text_of}
+use Rattle.inclusion.specs.Sealing.{sent_for}
 use Rattle.inclusion.specs.Messages.{message_of, nonce_named, scheme_get, scheme_report, nonce_get, nonce_report, key_set, key_set_in, temporary_key}
 use Rattle.inclusion.specs.Joining.{Joining, Joined, joiner_takes, tells_scheme, gives_nonce, takes_nonce, takes_key, takes_for, takes_message, from_host, silent}
-use Rattle.inclusion.proofs.SealingLemmas.{opened_is}
+use Rattle.s0_crypto.proofs.SealingLemmas.{opened_is}
 use Rattle.include_world.specs.declared.flight.Heading.{Heading}
 use Rattle.include_world.specs.declared.flight.Heading.TheVariants.{Outward, Homeward}
 use Rattle.include_world.proofs.AirFacts.{Each}
@@ -176,7 +177,7 @@ named_in_sealed keys own nonce ends plain n =
     let s = seals_text keys own nonce ends plain in
     named_at own s.cipher_text (code_of keys (own ++ nonce) ends s.cipher_text) (slice_index nonce 0) (sealed_text keys own nonce ends plain) n (length-code_of keys (own ++ nonce) ends s.cipher_text) s.layout
 
-pub sealed_opens : (keys : Keys) (own nonce : List ℕ) (ends : SealEnds) (plain : List ℕ) → length own ≡ 8 → opened_by keys nonce ends (sealed_text keys own nonce ends plain) ≡ Some plain
+pub sealed_opens : (keys : Keys) (own nonce : List ℕ) (ends : SealEnds) (plain : List ℕ) → length own ≡ 8 → unsealed_at keys nonce ends (sealed_text keys own nonce ends plain) ≡ Some plain
 sealed_opens keys own nonce ends plain n =
     let bytes : List ℕ = sealed_text keys own nonce ends plain in
     let s = seals_text keys own nonce ends plain in
@@ -263,9 +264,9 @@ takes_it key node lock payload sixteen is_node none s =
     let named : nonce_named payload ≡ slice_index s.nonce 0
     = ap nonce_named s.text ∙ named_in_sealed (keys_of temporary_key) s.own s.nonce (from_host node) (key_set key) s.eight in
     let spent : nonce_spent lock.given (nonce_named payload) ≡ Some s.nonce = spends s.nonce (nonce_named payload) lock.given.live (s.live none) named in
-    let opens : opened_by (keys_of temporary_key) s.nonce (from_host lock.node) payload ≡ Some (key_set key)
-    = ap (λ (n : ℕ). opened_by (keys_of temporary_key) s.nonce (from_host n) payload) is_node
-    ∙ (ap (opened_by (keys_of temporary_key) s.nonce (from_host node)) s.text ∙ sealed_opens (keys_of temporary_key) s.own s.nonce (from_host node) (key_set key) s.eight) in
+    let opens : unsealed_at (keys_of temporary_key) s.nonce (from_host lock.node) payload ≡ Some (key_set key)
+    = ap (λ (n : ℕ). unsealed_at (keys_of temporary_key) s.nonce (from_host n) payload) is_node
+    ∙ (ap (unsealed_at (keys_of temporary_key) s.nonce (from_host node)) s.text ∙ sealed_opens (keys_of temporary_key) s.own s.nonce (from_host node) (key_set key) s.eight) in
     ap (λ (o : Option (List ℕ)). takes_for (record lock { given = after_spend lock.given (nonce_named payload) }) payload o None) spent
     ∙ (ap (λ (o : Option (List ℕ)). takes_key (record lock { given = after_spend lock.given (nonce_named payload) }) (option_and_then key_set_in o)) opens
     ∙ ap (takes_key (record lock { given = after_spend lock.given (nonce_named payload) })) (key_set_is key sixteen))

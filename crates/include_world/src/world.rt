@@ -106,7 +106,8 @@ fn ticks_of(line: &IncludeLine) -> u32
 
 /// Drawn bytes.
 fn drawn_by<D: Draw>(draw: &mut D) -> [u8; 8]
-    ensures { length result ≡ 8 }
+    ensures eight { length result ≡ 8 }
+    ensures drawn { D.draws draw.old result draw.new }
 {
     draw.next()
 }
@@ -452,6 +453,7 @@ impl IncludeWorld {
     ) -> Result<[u8; 8], NoMemory>
         requires { self.old.air.landed < length self.old.air.frames }
         ensures eight { IfOk result (λ drawn. length drawn ≡ 8) }
+        ensures drawn { IfOk result (λ drawn. D.draws draw.old drawn draw.new) }
         ensures ok { IfOk result (λ drawn. self.new ≡ (does self.old (Lands drawn)).world) }
         ensures outs { IfOk result (λ drawn. out.new.items ≡ out.old.items ++ (does self.old (Lands drawn)).entries) }
         ensures err { OnErr result (self.new ≡ self.old) }

@@ -10,7 +10,8 @@ use Rattle.s0_session.specs.Sending.{Sending}
 use Rattle.inclusion.specs.declared.exchange.Exchange.{Exchange}
 use Rattle.inclusion.specs.declared.message.Message.{Message}
 use Rattle.inclusion.specs.declared.message.Message.TheVariants.{SchemeGet, SchemeReport, NonceGet, NonceReport, Sealed, Other}
-use Rattle.inclusion.specs.Sealing.{keys_of, opened_by, sealer_after, sent_for}
+use Rattle.s0_crypto.specs.Sealing.{keys_of, unsealed_at}
+use Rattle.inclusion.specs.Sealing.{sealer_after, sent_for}
 use Rattle.inclusion.specs.Messages.{nonce_get, nonce_report, key_set, key_verify, temporary_key, message_of, nonce_named}
 
 -- the network key, which nodes count as secure, the nonces given to each node and how many of each were seen, and the
@@ -107,7 +108,7 @@ to_host node = record { sender = node; receiver = 1 }
 -- what a Security message holds that names the live nonce
 abbrev pub held_in : Including → ℕ → List ℕ → Option (List ℕ) → Option (List ℕ)
 held_in includer node payload None = None
-held_in includer node payload (Some nonce) = opened_by (keys_of includer.key) nonce (to_host node) payload
+held_in includer node payload (Some nonce) = unsealed_at (keys_of includer.key) nonce (to_host node) payload
 
 -- whether what was held is a Verify
 abbrev pub is_verified : Option (List ℕ) → Bool

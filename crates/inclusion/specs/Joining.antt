@@ -8,7 +8,8 @@ use Rattle.s0_session.specs.Nonces.{unused, nonce_given, after_give, nonce_spent
 use Rattle.s0_session.specs.Sending.{Sending}
 use Rattle.inclusion.specs.declared.message.Message.{Message}
 use Rattle.inclusion.specs.declared.message.Message.TheVariants.{SchemeGet, SchemeReport, NonceGet, NonceReport, Sealed, Other}
-use Rattle.inclusion.specs.Sealing.{keys_of, opened_by, sealer_after, sent_for}
+use Rattle.s0_crypto.specs.Sealing.{keys_of, unsealed_at}
+use Rattle.inclusion.specs.Sealing.{sealer_after, sent_for}
 use Rattle.inclusion.specs.Messages.{scheme_report, nonce_get, nonce_report, key_verify, temporary_key, message_of, nonce_named, key_set_in}
 
 -- its node, the key that it took, the nonces that it gave the host, and what it seals
@@ -71,7 +72,7 @@ from_host node = record { sender = 1; receiver = node }
 -- a Security message for a nonce that was live is opened by the temporary key, while it has no other
 abbrev pub takes_for : Joining → List ℕ → Option (List ℕ) → Option (List ℕ) → Joined
 takes_for joiner payload (Some nonce) None =
-    takes_key joiner (option_and_then key_set_in (opened_by (keys_of temporary_key) nonce (from_host joiner.node) payload))
+    takes_key joiner (option_and_then key_set_in (unsealed_at (keys_of temporary_key) nonce (from_host joiner.node) payload))
 takes_for joiner payload _ _ = silent joiner
 
 -- the nonce that a Security message names is spent, whether it opens or not

@@ -48,9 +48,9 @@ use crate::joiner::host;
 use crate::message::{
     NONCE_GET, SCHEME_GET, is_verify, key_set, message_of, nonce_report, payload,
 };
-use crate::sealing::{TEMPORARY_KEY, nonce_named, open, seal_for};
+use crate::sealing::{TEMPORARY_KEY, nonce_named, seal_for};
 use crate::{AddFault, EXCHANGE_TICKS, Exchange, Message};
-use s0_crypto::SealEnds;
+use s0_crypto::{SealEnds, open};
 use s0_session::{NonceBook, Sender};
 use std::alloc::Global;
 use std::marker::Model;

@@ -8,8 +8,8 @@ use crate::Message;
 use crate::message::{
     KEY_VERIFY, NONCE_GET, SCHEME_REPORT, key_in, message_of, nonce_report, payload,
 };
-use crate::sealing::{TEMPORARY_KEY, nonce_named, open, seal_for};
-use s0_crypto::SealEnds;
+use crate::sealing::{TEMPORARY_KEY, nonce_named, seal_for};
+use s0_crypto::{SealEnds, open};
 use s0_session::{Account, Sender};
 use std::alloc::Global;
 use std::marker::Model;

@@ -2,7 +2,7 @@
 //!
 //! It promises that each call's effect and replies are a function of the state before, and that a call that runs out of
 //! memory changes nothing. Nonces, sealers and seals are those of `s0_session` and `s0_crypto`.
-//! The definitions are in `specs/`: `Messages` (payloads), `Sealing` (what opens and is sealed), `Joining` (the lock),
+//! The definitions are in `specs/`: `Messages` (payloads), `Sealing` (what is sent when a nonce comes), `Joining` (the lock),
 //! `Including` (the host).
 #![tactic(auto)]
 

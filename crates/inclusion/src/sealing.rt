@@ -1,9 +1,10 @@
-//! How a message is opened, and how what is pending is sealed.
+//! How what is pending is sealed.
 
 ghost use Rattle.std.specs.Prelude.{◌≡◌, ◌-◌, ◌≤◌, length, slice_index, IfOk, IfSome, OnOk, OnErr};
-ghost use Rattle.inclusion.specs.Sealing.{keys_of, opened_by, sealer_after, sent_for};
+ghost use Rattle.s0_crypto.specs.Sealing.{keys_of};
+ghost use Rattle.inclusion.specs.Sealing.{sealer_after, sent_for};
 
-use s0_crypto::{SealEnds, SealFault, keys, unseal};
+use s0_crypto::keys;
 use s0_session::Sender;
 use std::alloc::Global;
 use zw_base::{Bytes, NoMemory};
@@ -20,29 +21,6 @@ pub(crate) fn nonce_named(bytes: &[u8]) -> u8
     ensures { result ≡ slice_index bytes.now (length bytes.now - 9) }
 {
     bytes[bytes.len() - NAMED]
-}
-
-/// The plain text of a message for a nonce of its receiver, where it opens.
-pub(crate) fn open(
-    alloc: Global,
-    key: [u8; 16],
-    nonce: [u8; 8],
-    ends: &SealEnds,
-    bytes: &[u8],
-) -> Result<Option<Bytes>, NoMemory>
-    requires long { 20 ≤ length bytes.now }
-    requires class { slice_index bytes.now 0 ≡ 0x98 }
-    requires command { slice_index bytes.now 1 ≡ 0x81 }
-    requires named { slice_index bytes.now (length bytes.now - 9) ≡ slice_index nonce 0 }
-    ensures { IfOk result (λ plain. plain ≡ opened_by (keys_of key) nonce ends.now bytes.now) }
-{
-    match unseal(alloc, &keys(key), nonce, ends, bytes) {
-        Ok(plain) => Ok(Some(plain)),
-        Err(SealFault::NoMemory) => Err(NoMemory),
-        Err(SealFault::Short) => Ok(None),
-        Err(SealFault::BadCode { .. }) => Ok(None),
-        Err(SealFault::Sequence(_)) => Ok(None),
-    }
 }
 
 /// Seals what is pending for a nonce of its receiver, where the nonce counts as the next or the last.

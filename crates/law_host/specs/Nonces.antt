@@ -2,7 +2,7 @@
 -- Report that was taken while it waited, once; a Nonce Report has the nonce that was live when it was asked for.
 use Rattle.std.specs.Prelude.{◌≡◌, ℕ, ◌%◌, ◌&&◌, ◌||◌, not, bytes_eq, Bool, if◌then◌else◌, List, [], ◌∷◌, ◌++◌, length, drop, take, map}
 use Rattle.std.specs.List.{list_any, list_all, AllByRecursion}
-use Rattle.device_kinds.specs.Sealing.{keys_of, sealed_text, unsealed_at}
+use Rattle.s0_crypto.specs.Sealing.{keys_of, sealed_text, unsealed_at}
 use Rattle.encap.specs.Opening.{begins_with}
 use Rattle.zw_text.specs.declared.entry.Entry.{Entry}
 use Rattle.law_transcript.specs.Nodes.{controller}

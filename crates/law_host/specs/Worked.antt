@@ -137,6 +137,14 @@ work_told = judged (codes "010B00040002056C0201010099") []
 abbrev pub ended_by_work : List Entry
 ended_by_work = judged (codes "010B00040002056C0201010099") (Out 1 endings.Success ∷ [])
 
+-- its report is changed on the line, and so refused, and nothing is noted of it; or it ends by that
+abbrev pub report_refused : List Entry
+report_refused =
+    by_chip (codes "010B00040002056C0201FF0066") ∷ Garbled Chip (bytes (codes "010B00040002056C0201FF0066")) ∷ by_host (codes "15") ∷ []
+
+abbrev pub ended_by_refused : List Entry
+ended_by_refused = report_refused ++ Out 1 endings.Success ∷ []
+
 -- it ends otherwise than the report says, as another command, or by the report of another session
 abbrev pub ended_otherwise : List Entry
 ended_otherwise = judged (codes "010B00040002056C020102009A") (Out 1 endings.Success ∷ [])

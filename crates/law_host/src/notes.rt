@@ -16,6 +16,7 @@ ghost use Rattle.law_host.specs.Worked.{
   dropped_of_other,
   ended_by_first,
   ended_by_other,
+  ended_by_refused,
   ended_by_work,
   ended_of_another,
   ended_openly,
@@ -27,6 +28,7 @@ ghost use Rattle.law_host.specs.Worked.{
   last_session,
   old_left_out,
   other_told,
+  report_refused,
   told_openly,
   unkept_unasked,
   unread_left_out,
@@ -60,11 +62,11 @@ ghost use Rattle.law_transcript.specs.Worked.{
   the_switch,
 };
 
-/// In worked transcripts the host notes what happens: outcomes of each kind, values, old reports and one that a lock told openly, waking and
-/// sleep, interviews, questions and the ends of what lines asked for, by frames, by waits, and by an answer that has the line give up. The last
-/// of 65 sessions ends by its report. A node is held that asks to be, a value is not stored for which there is no room, a Nonce Report is
-/// dropped where the queue is full, and a session whose record is not kept does not begin. Of a report of work nothing is noted, and a payload
-/// is not read that is no message, or is sealed for a nonce that is not live.
+/// In worked transcripts the host notes what happens: outcomes of each kind, values, old reports and one that a lock told openly, waking and sleep,
+/// interviews, questions and the ends of what lines asked for, by frames, by waits, and by an answer that has the line give up. The last of 65
+/// sessions ends by its report. A node is held that asks to be, a value is not stored for which there is no room, a Nonce Report is dropped where the
+/// queue is full, and a session whose record is not kept does not begin. Of a report of work nothing is noted, nor of one that the line has changed
+/// and the host refused, and a payload is not read that is no message, or is sealed for a nonce that is not live.
 pub fn worked_notes()
     ensures plain { NotesWhatHappens [] (heeds_of (the_switch ∷ [])) first_start true plain_exchange }
     ensures repeated { NotesWhatHappens [] (heeds_of (the_switch ∷ [])) first_start true repeated_exchange }
@@ -88,6 +90,7 @@ pub fn worked_notes()
     ensures unkept { NotesWhatHappens [] (heeds_of (the_switch ∷ [])) first_start true begun_unkept }
     ensures dropped { NotesWhatHappens [] (heeds_of (the_switch ∷ [])) first_start true dropped_after_report }
     ensures working { NotesWhatHappens [] (heeds_of (the_switch ∷ [])) after_begun true work_told }
+    ensures changed { NotesWhatHappens [] (heeds_of (the_switch ∷ [])) after_begun true report_refused }
     ensures none_live { NotesWhatHappens [] (heeds_of (the_lock ∷ [])) after_lock_begun true unread_sealed }
     ensures later_live { NotesWhatHappens [] (heeds_of (the_lock ∷ [])) after_later_nonce true unread_sealed }
     ensures unread { NotesWhatHappens [] (heeds_of (the_switch ∷ [])) first_start true unread_payload }
@@ -96,12 +99,13 @@ pub fn worked_notes()
     ensures unstored { NotesWhatHappens [] (heeds_of (the_switch ∷ [])) after_values true value_unstored }
 {}
 
-/// Each of these breaks the law by one entry: a value that was told is left out, is entered twice, as another, again later, or without room; an
-/// old report is left out; the last of 65 sessions ends, of which the report did not come, though that of the first, with the same id, once did;
-/// a command ends otherwise than its report says, as another, by the report of another session, by one of work, or by one that a lock told openly
-/// or sealed for a nonce that is not live; what is no message is left out; another node counts as awake than told so; a node still counts as
-/// awake in the line after its message ended in silence, or in the tick after the line gave that up; one is not held that asks to be; a record
-/// is not kept that was not to be; and a message is dropped before the value that the payload told first, or as if of another node.
+/// Each of these breaks the law by one entry: a value that was told is left out, is entered twice, as another, again later, or without room; an old
+/// report is left out; the last of 65 sessions ends, of which the report did not come, though that of the first, with the same id, once did; a
+/// command ends otherwise than its report says, as another, by the report of another session, by one of work, by one that the line has changed and
+/// the host refused, or by one that a lock told openly or sealed for a nonce that is not live; what is no message is left out; another node counts as
+/// awake than told so; a node still counts as awake in the line after its message ended in silence, or in the tick after the line gave that up; one
+/// is not held that asks to be; a record is not kept that was not to be; and a message is dropped before the value that the payload told first, or as
+/// if of another node.
 pub fn rejected_notes()
     ensures left_out { NotesWhatHappens [] (heeds_of (the_switch ∷ [])) first_start true value_left_out → ⊥ }
     ensures twice { NotesWhatHappens [] (heeds_of (the_switch ∷ [])) first_start true value_twice → ⊥ }
@@ -121,6 +125,7 @@ pub fn rejected_notes()
     ensures dropped_first { NotesWhatHappens [] (heeds_of (the_switch ∷ [])) first_start true dropped_first → ⊥ }
     ensures dropped_of_other { NotesWhatHappens [] (heeds_of (the_switch ∷ [])) first_start true dropped_of_other → ⊥ }
     ensures by_work { NotesWhatHappens [] (heeds_of (the_switch ∷ [])) after_begun true ended_by_work → ⊥ }
+    ensures by_refused { NotesWhatHappens [] (heeds_of (the_switch ∷ [])) after_begun true ended_by_refused → ⊥ }
     ensures none_live { NotesWhatHappens [] (heeds_of (the_lock ∷ [])) after_lock_begun true ended_sealed → ⊥ }
     ensures later_live { NotesWhatHappens [] (heeds_of (the_lock ∷ [])) after_later_nonce true ended_sealed → ⊥ }
     ensures unread { NotesWhatHappens [] (heeds_of (the_switch ∷ [])) first_start true unread_left_out → ⊥ }

@@ -6,7 +6,7 @@ use Rattle.zw_words.specs.declared.side.Side.TheVariants.{Host, Chip}
 use Rattle.zw_text.specs.declared.entry.Refusal.TheVariants as refusals
 use Rattle.zw_text.specs.declared.entry.Entry.{Entry}
 use Rattle.zw_text.specs.declared.entry.Entry.TheVariants.{Said, Refused, Begin, Written, Dropped, Garbled, Overrun, QueueFull, Awake, Asleep, Unkept, Time}
-use Rattle.zw_text.specs.Transcript.{folded, shown, joined, line_last, line_of}
+use Rattle.zw_text.specs.Transcript.{folded, shown, joined, line_last, line_of, words_said}
 use Rattle.law_wire.specs.law_transcript.Answers.{before_last}
 use Rattle.law_wire.specs.law_transcript.Commands.{waiting}
 use Rattle.law_wire.specs.law_transcript.Nodes.{known_classes}
@@ -14,7 +14,7 @@ use Rattle.law_wire.specs.law_transcript.Restarts.{begins_refused}
 use Rattle.law_wire.specs.law_transcript.Units.{Carried, request_in}
 use Rattle.law_time.specs.Heeds.{Heeds}
 use Rattle.law_time.specs.Moments.{Keeps, clock, later_of, now_at}
-use Rattle.law_time.specs.Judged.{is_data, is_acknowledgement, is_mark, is_no_note, is_of_air, is_of_chip, brought_here}
+use Rattle.law_time.specs.Judged.{is_data, is_acknowledgement, is_mark, is_no_note, is_of_air, is_of_chip, brought_here, last_of}
 use Rattle.law_time.specs.Requests.{Asked, are_none, asked, asked_after, asked_nothing, is_new, starts_anew}
 use Rattle.law_time.specs.Ends.{has_ended, is_abort_frame}
 use Rattle.law_time.specs.Sessions.{runs}
@@ -108,15 +108,19 @@ with_due heeds past now ended asked queue =
     each_with with_no_more queue
     (map (λ due. due.node) (in_order (filter (λ due. not (is_told asked ended queue due.node)) (flat_map (due_of heeds past now) (have_woken past)))))
 
--- whether the host has looked what is next before an entry: it does after each line and tick, and when it has judged what came
-abbrev pub has_looked : Asked → Queue → Entry → Bool
-has_looked asked queue (Said words) = true
-has_looked asked queue (Time tick) = true
-has_looked asked queue (Begin node session command) = true
-has_looked asked queue (Written Chip unit) = true
-has_looked asked queue (Written Host unit) = is_new asked unit
-has_looked asked queue (QueueFull node) = are_none queue.owed
-has_looked asked queue _ = false
+-- whether what the chip writes came as bytes, in one line or in one read, the words of which are no line of a scenario: the host judges it all before it looks
+abbrev pub comes_at_once : List Entry → Bool
+comes_at_once past = list_any (λ words. are_none (line_of (Said words))) (last_of (words_said past))
+
+-- whether the host has looked what is next before an entry: it does after each line, read and tick, and when it has judged what came
+abbrev pub has_looked : List Entry → Asked → Queue → Entry → Bool
+has_looked past asked queue (Said words) = true
+has_looked past asked queue (Time tick) = true
+has_looked past asked queue (Begin node session command) = true
+has_looked past asked queue (Written Chip unit) = not (comes_at_once past)
+has_looked past asked queue (Written Host unit) = is_new asked unit
+has_looked past asked queue (QueueFull node) = are_none queue.owed
+has_looked past asked queue _ = false
 
 -- what may stand in a tick before the host's own part of it: what is of the air and of devices, frames that the chip writes, and what becomes of its units
 abbrev pub is_before_host : Entry → Bool
@@ -141,7 +145,7 @@ ends_by past entry = now_at past entry
 -- the queue as it is before an entry
 abbrev pub looked : Heeds → List Entry → Asked → Queue → Entry → Queue
 looked heeds past asked queue entry =
-    if has_looked asked queue entry then with_due heeds past (now_at past entry) (ends_by past entry) asked queue else queue
+    if has_looked past asked queue entry then with_due heeds past (now_at past entry) (ends_by past entry) asked queue else queue
 
 -- ---- what waits
 

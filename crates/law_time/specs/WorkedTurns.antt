@@ -1,5 +1,5 @@
 -- Worked transcripts of what waits, and of when a series runs anew, made by hand in the form in which the program prints them.
-use Rattle.std.specs.Prelude.{List, [], ◌∷◌, ◌++◌, codes, take}
+use Rattle.std.specs.Prelude.{ℕ, List, [], ◌∷◌, ◌++◌, codes, take}
 use Rattle.zw_base.specs.declared.property.Name.TheVariants as names
 use Rattle.host_orders.specs.Settings.{setting}
 use Rattle.zw_words.specs.declared.side.Side.TheVariants.{Host, Chip}
@@ -9,7 +9,7 @@ use Rattle.zw_text.specs.declared.entry.Refusal.TheVariants as refusals
 use Rattle.zw_text.specs.declared.entry.Entry.{Entry}
 use Rattle.zw_text.specs.declared.entry.Entry.TheVariants.{Said, Accepted, Refused, Begin, Dropped, Out, Awake, Asleep, Held, Interviewed, Done, QueueFull, Report, Unkept, Time, Overrun, InterviewFailed}
 use Rattle.law_time.specs.WorkedEnds.{set_under_way, interview_under_way}
-use Rattle.law_time.specs.WorkedUnits.{abort_sent, by_chip, by_host, chip_acknowledges, failed_asked, host_acknowledges, message_sent, no_more_sent, nonce_asked, nonce_given, notified, protocol_known, set_sent, sleeper_sent, delivered, taken}
+use Rattle.law_time.specs.WorkedUnits.{abort_sent, asking_taken, by_chip, by_host, chip_acknowledges, failed_asked, host_acknowledges, message_sent, no_more_sent, nonce_asked, nonce_given, notified, protocol_known, set_sent, sleeper_sent, delivered, taken}
 use Rattle.law_time.specs.WorkedWaits.{full_queue}
 
 -- ---- series
@@ -246,3 +246,40 @@ copied_after_overrun = take 3 set_under_way ++ Overrun Chip ∷ Said (codes "tic
 abbrev pub asked_after_interview : List Entry
 asked_after_interview =
     take 9 interview_under_way ++ Said (codes "failed 2") ∷ Said (codes "tick 65") ∷ Time 65 ∷ InterviewFailed 2 ∷ failed_asked ∷ []
+
+-- ---- what comes at once
+
+-- as a host alone hears it: node 101 tells that it is awake while its interview is under way
+abbrev pub awake_in_interview : List Entry
+awake_in_interview =
+    Said (codes "join 101") ∷ Said (codes "interview 101") ∷ by_host (codes "0104004165DF") ∷ Said (codes "chip 0601090141000000040000B2") ∷
+    chip_acknowledges ∷ sleeper_known ∷ host_acknowledges ∷ by_host (codes "0104006065FE") ∷
+    Said (codes "chip 0601040160019B01080004006502840717") ∷ chip_acknowledges ∷ asking_taken ∷ host_acknowledges ∷
+    by_chip (codes "01080004006502840717") ∷ host_acknowledges ∷ Awake 101 ∷ []
+
+abbrev pub keeper_known : Entry
+keeper_known = by_chip (codes "010D00498465070400003180846C00")
+
+abbrev pub keeper_asks : Entry
+keeper_asks = by_chip (codes "0108000400650298404C")
+
+abbrev pub nonce_for_keeper : Entry
+nonce_for_keeper = by_host (codes "01110013650A988001B8E0ADA0F13D902501A6")
+
+abbrev pub both_frames : List ℕ
+both_frames = codes "chip 010D00498465070400003180846C000108000400650298404C"
+
+-- it is known, and asks for a nonce, in one line of bytes, or in one read: with the units where they are judged, and with all of them first
+abbrev pub asked_at_once : List ℕ → List Entry
+asked_at_once words =
+    awake_in_interview ++ Said words ∷ keeper_known ∷ host_acknowledges ∷ Interviewed 101 ∷ keeper_asks ∷ host_acknowledges ∷ []
+
+abbrev pub asked_as_heard : List ℕ → List Entry
+asked_as_heard words =
+    awake_in_interview ++ Said words ∷ keeper_known ∷ keeper_asks ∷ host_acknowledges ∷ Interviewed 101 ∷ host_acknowledges ∷ []
+
+-- so it is given the nonce, and told then that there is no more
+abbrev pub told_after_report : List Entry → List Entry
+told_after_report past =
+    past ++ nonce_for_keeper ∷ Said (codes "chip 060104011301E8010500130100E8") ∷ chip_acknowledges ∷ taken ∷ delivered ∷ host_acknowledges ∷
+    host_acknowledges ∷ by_host (codes "0109001365028408250229") ∷ []

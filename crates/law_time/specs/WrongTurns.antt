@@ -6,7 +6,7 @@ use Rattle.zw_text.specs.declared.entry.Refusal.TheVariants as refusals
 use Rattle.zw_text.specs.declared.entry.Entry.{Entry}
 use Rattle.zw_text.specs.declared.entry.Entry.TheVariants.{Said, Accepted, Refused, Out, Awake, Asleep, Interviewed, QueueFull, Unkept, Time, Begin, Held}
 use Rattle.law_time.specs.WorkedEnds.{four_lost, set_under_way}
-use Rattle.law_time.specs.WorkedTurns.{both_awake, dropped_at_once, first_sent, first_wanted, given_up, given_up_plug, given_up_sleeper, given_up_waiting, held_asleep, held_sleeper, interviewed_as, known_sleeper, no_more_to_six, probed, sleeper_known, awake_though_full}
+use Rattle.law_time.specs.WorkedTurns.{awake_in_interview, both_awake, dropped_at_once, first_sent, first_wanted, given_up, given_up_plug, given_up_sleeper, given_up_waiting, held_asleep, held_sleeper, interviewed_as, keeper_asks, keeper_known, known_sleeper, no_more_to_six, nonce_for_keeper, probed, sleeper_known, awake_though_full}
 use Rattle.law_time.specs.WorkedUnits.{by_chip, by_host, failed_asked, host_acknowledges, message_sent, no_more_sent, nonce_asked, nonce_given, protocol_known, set_sent, sleeper_sent, chip_acknowledges, abort_sent}
 
 -- ---- copies
@@ -145,3 +145,14 @@ undropped_before_unit = awake_though_full ++ chip_acknowledges ∷ []
 -- a Set is aborted that still waits for its callback
 abbrev pub aborted_early : List Entry
 aborted_early = set_under_way ++ abort_sent ∷ []
+
+-- ---- what comes at once
+
+-- a node that is known and asks for a nonce in one line is told first that there is no more; and one that asks in the next line is not
+abbrev pub told_before_report : List Entry → List Entry
+told_before_report past = past ++ by_host (codes "010900136502840825012A") ∷ []
+
+abbrev pub reported_before_told : List Entry
+reported_before_told =
+    awake_in_interview ++ Said (codes "chip 010D00498465070400003180846C00") ∷ keeper_known ∷ host_acknowledges ∷ Interviewed 101 ∷
+    Said (codes "chip 0108000400650298404C") ∷ keeper_asks ∷ host_acknowledges ∷ nonce_for_keeper ∷ []

@@ -1,7 +1,7 @@
 //! What the laws of the queue of requests say of worked transcripts, and of others with one thing wrong.
 
 ghost use Rattle.law_time.specs.Heeds.{heeds_of};
-ghost use Rattle.std.specs.Prelude.{[], ◌∷◌};
+ghost use Rattle.std.specs.Prelude.{[], ◌∷◌, codes};
 ghost use Rattle.law_time.specs.Choice.{SendsInTurn};
 ghost use Rattle.law_time.specs.Queue.{FitsQueue};
 ghost use Rattle.law_time.specs.WorkedQueue.{dropped_no_more, dropped_nonce, resent_segments, silent_attempt};
@@ -43,9 +43,12 @@ ghost use Rattle.law_time.specs.WorkedTurns.{
   again_by_restart,
   again_by_waking,
   again_in_time,
+  asked_as_heard,
+  asked_at_once,
   asked_after_abort,
   asked_after_unkept,
   asked_over_refused,
+  both_frames,
   asked_without_abort,
   discovered,
   first_resent,
@@ -53,6 +56,7 @@ ghost use Rattle.law_time.specs.WorkedTurns.{
   probed,
   reported_beside_unkept,
   second_resent,
+  told_after_report,
   told_again,
   told_awake,
   told_by_number,
@@ -78,6 +82,7 @@ ghost use Rattle.law_time.specs.WrongTurns.{
   dropped_twice,
   asked_over_restart,
   probed_out_of_turn,
+  reported_before_told,
   reported_unkept,
   resent_beyond,
   resent_inside,
@@ -98,6 +103,7 @@ ghost use Rattle.law_time.specs.WrongTurns.{
   sent_too_soon,
   sent_when_ended,
   told_asleep,
+  told_before_report,
   told_listening,
   told_out_of_turn,
   told_though_held,
@@ -139,9 +145,9 @@ pub fn worked_queue()
 
 /// In worked transcripts the request that has waited longest is sent next: those of each kind of line, over a restart that is refused; Nonce Reports,
 /// and segments that were asked for; and No More Information, to a node that is not held any more, also since the host restarted or its command went
-/// unanswered, in the order of time and of nodes, and once, where that fails too. An abort goes before them, where the chip took what ended in
-/// silence, and what is of a session goes where none waits: again after another command, a waking, a restart, 100 ticks, and the end of another
-/// command.
+/// unanswered, in the order of time and of nodes, and once, where that fails too, after a nonce for which it asked in the same line or read. An abort
+/// goes before them, where the chip took what ended in silence, and what is of a session goes where none waits: again after another command, a waking,
+/// a restart, 100 ticks, and the end of another command.
 pub fn worked_turns()
     ensures lines { SendsInTurn (heeds_of (the_switch ∷ [])) answered_errands }
     ensures interviews { SendsInTurn (heeds_of (the_sensor ∷ the_other_switch ∷ [])) woken_before_restart }
@@ -186,6 +192,9 @@ pub fn worked_turns()
     ensures following_interview { SendsInTurn (heeds_of (the_switch ∷ [])) asked_after_interview }
     ensures as_chip_writes { SendsInTurn (heeds_of (the_switch ∷ the_sensor ∷ [])) told_as_chip_writes }
     ensures after_restart { SendsInTurn (heeds_of (the_keeper ∷ [])) told_after_restart }
+    ensures in_one_line { SendsInTurn (heeds_of (the_keeper ∷ [])) (told_after_report (asked_at_once both_frames)) }
+    ensures in_one_read { SendsInTurn (heeds_of (the_keeper ∷ [])) (told_after_report (asked_at_once (codes "chip"))) }
+    ensures as_heard { SendsInTurn (heeds_of (the_keeper ∷ [])) (told_after_report (asked_as_heard (codes "chip"))) }
 {}
 
 /// Each of these breaks one part of the law: a line refused that has just room, or for fewer than 64 that wait, or let in that has none; a
@@ -208,8 +217,9 @@ pub fn rejected_queue()
 /// for, of a line that is refused, or from before a restart; a Nonce Get sent before a Nonce Report, and a report that was not kept; a segment with
 /// another id, inside another one, beyond the last, of a session that has ended, or of a message that has none; No More Information sent while a
 /// command waits, to a node that has not joined, is not known, is asleep, listens or is held, also where it listened as its command went unanswered,
-/// again where it has failed, or out of turn; the message of a session sent after its end, or after three attempts for no such reason as above; and a
-/// Get sent before an abort that is owed, or an abort that is not.
+/// again where it has failed, out of turn, or before a nonce for which it asked in the same line, and not before one for which it asks in the next;
+/// the message of a session sent after its end, or after three attempts for no such reason as above; and a Get sent before an abort that is owed, or an
+/// abort that is not.
 pub fn rejected_turns()
     ensures out_of_turn { SendsInTurn (heeds_of (the_switch ∷ [])) sent_out_of_turn → ⊥ }
     ensures unasked { SendsInTurn (heeds_of (the_switch ∷ [])) sent_unasked → ⊥ }
@@ -250,4 +260,7 @@ pub fn rejected_turns()
     ensures unsupported_session { SendsInTurn (heeds_of (the_switch ∷ [])) (sent_when_ended endings.NoSupport) → ⊥ }
     ensures again_as_chip_writes { SendsInTurn (heeds_of (the_switch ∷ the_sensor ∷ [])) told_again_as_chip_writes → ⊥ }
     ensures aborted_early { SendsInTurn (heeds_of (the_switch ∷ [])) aborted_early → ⊥ }
+    ensures before_nonce { SendsInTurn (heeds_of (the_keeper ∷ [])) (told_before_report (asked_at_once (codes "chip"))) → ⊥ }
+    ensures before_nonce_heard { SendsInTurn (heeds_of (the_keeper ∷ [])) (told_before_report (asked_as_heard (codes "chip"))) → ⊥ }
+    ensures in_two_lines { SendsInTurn (heeds_of (the_keeper ∷ [])) reported_before_told → ⊥ }
 {}

@@ -10,7 +10,7 @@ use Rattle.s0_crypto.specs.declared.ends.SealEnds.{SealEnds}
 use Rattle.s0_crypto.specs.declared.key_pair.Keys.{Keys}
 use Rattle.s0_crypto.specs.Modes.{ofb, ofb_from, cbc_mac, chained}
 use Rattle.s0_crypto.specs.Seal.{code_of, covered}
-use Rattle.device_kinds.specs.Sealing.{keys_of, sealed_text}
+use Rattle.s0_crypto.specs.Sealing.{keys_of, sealed_text}
 use Rattle.transport_segments.specs.Segment.{segment_text}
 use Rattle.transport_segments.specs.Parts.{slice_at}
 use Rattle.law_transcript.specs.Worked.{network_key}

@@ -9,7 +9,7 @@ use Rattle.s0_crypto.specs.declared.ends.SealEnds.{SealEnds}
 use Rattle.s0_crypto.specs.declared.key_pair.Keys.{Keys}
 use Rattle.s0_crypto.specs.Modes.{ofb_from, key_block, cbc_mac, chained, sum_of_blocks, block_at}
 use Rattle.s0_crypto.specs.Seal.{code_of, covered}
-use Rattle.device_kinds.specs.Sealing.{keys_of, sealed_text, unsealed_at}
+use Rattle.s0_crypto.specs.Sealing.{keys_of, sealed_text, unsealed_at}
 use Rattle.hex.specs.Hex.{decode_pairs}
 use Rattle.law_transcript.specs.Worked.{network_key}
 use Rattle.law_transcript.proofs.Ciphering.{rounds, enciphered}

@@ -16,7 +16,7 @@ use Rattle.supervision.specs.Host.{command_at}
 use Rattle.transport_segments.specs.Segment.{segment_text}
 use Rattle.transport_segments.specs.Parts.{slice_at}
 use Rattle.std.specs.Prelude.{◌*◌, ◌<◌}
-use Rattle.device_kinds.specs.Sealing.{keys_of, sealed_text}
+use Rattle.s0_crypto.specs.Sealing.{keys_of, sealed_text}
 use Rattle.zw_words.specs.declared.side.Side.TheVariants.{Host}
 use Rattle.zw_text.specs.declared.line.Line.{Line}
 use Rattle.zw_text.specs.declared.line.Line.TheVariants as lines

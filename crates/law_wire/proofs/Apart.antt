@@ -117,7 +117,7 @@ goes_on : (side : Side) (ticks clock : ℕ) (round : Round) (one : Moment) (even
     → EachAfter (MayDo side round.is_tick) (steps_in round.moments) one.steps
     → HasTicked (ends_round event && round.is_tick) (steps_in round.moments ++ one.steps)
     → HasHad (ticks + ticks_of one.steps) (clock + begun_by event) (round_step round one event)
-goes_on side ticks clock round one (Writes on unit arriving) had may once =
+goes_on side ticks clock round one (Writes on unit arriving lacking) had may once =
     let few = few_here side round.is_tick (steps_in round.moments) one.steps had.here may in
     record { all = omega (arith, had.all, steps_more round.moments one); here = omega (arith, few, steps_more round.moments one) }
 goes_on side ticks clock round one (Line_begins line) had may once =
@@ -143,7 +143,7 @@ round_more round (first ∷ past) one = round_more (round_step round first first
 
 -- in which tick each unit of a side was written
 abbrev pub clock_at : Side → ℕ → SerialEvent → List ℕ
-clock_at side clock (Writes on unit arriving) = if same_side side on then clock ∷ [] else []
+clock_at side clock (Writes on unit arriving lacking) = if same_side side on then clock ∷ [] else []
 clock_at side clock _ = []
 
 abbrev pub clocks_of : Side → ℕ → List SerialEvent → List ℕ
@@ -170,7 +170,7 @@ here_within : (side : Side) (ticks clock : ℕ) (clocks : List ℕ) (one : Momen
     → AreWithin (clock_at side clock event ++ clocks) (stamps ticks one.steps ++ more)
 here_within side ticks clock clocks one (Line_begins line) more writes late early are = nothing_there clocks _ more (no_stamps ticks one.steps writes) are
 here_within side ticks clock clocks one Tick_begins more writes late early are = nothing_there clocks _ more (no_stamps ticks one.steps writes) are
-here_within side ticks clock clocks one (Writes on unit arriving) more writes late early are = by (same_side side on) writes
+here_within side ticks clock clocks one (Writes on unit arriving lacking) more writes late early are = by (same_side side on) writes
   where
     by : (is : Bool) → WriteLast one.steps (if is then unit ∷ [] else []) → AreWithin ((if is then clock ∷ [] else []) ++ clocks) (stamps ticks one.steps ++ more)
     by true writes = one_there ticks clock clocks one.steps unit more writes late early are

@@ -15,8 +15,8 @@ use Rattle.zw_words.specs.declared.side.Side.TheVariants.{Host, Chip}
 use Rattle.zw_text.specs.declared.entry.Entry.{Entry}
 use Rattle.law_transcript.specs.Lists.{EachAfter}
 use Rattle.law_transcript.proofs.Deciding.{first_of, second_of}
-use Rattle.law_wire.specs.Serial.{serial_events}
-use Rattle.law_wire.specs.Links.{Moment, moments_of, steps_in, round_of, ends_round, is_stalled, texts_of, WriteLast, unit_by, WritesThere, ahead, AreFirst, left_ahead, most_left, LeavesFew, HearsInTime, end_quietly, MayDoInTick, MayDoInLine, MayDo, HasTicked, TicksInTime, asked_for, CollidesAsTold, KeepsLink}
+use Rattle.law_wire.specs.Serial.{ended, serial_events}
+use Rattle.law_wire.specs.Links.{Moment, moments_of, steps_in, round_of, ends_round, is_stalled, texts_of, WriteLast, unit_by, WritesThere, ahead, AreFirst, left_ahead, most_left, LeavesFew, HearsInTime, end_quietly, MayDoInTick, MayDoInLine, MayDo, HasTicked, TicksInTime, asked_for, CollidesAsTold, is_let_in, FindsRoom, KeepsLink, KeepsLinks}
 use Rattle.law_wire.proofs.Machine.{first_link, parts_of, obeys_all}
 
 -- each item is judged by the ones before it
@@ -218,3 +218,19 @@ keeps_link side transcript acts each writes hears ticks collides =
       ticks = each_after (TicksInTime side) (ticks_well side) (ticks_in_time side) [] (moments_of events parts) ticks;
       collides = each_after (CollidesAsTold side) (collides_well side) (collides_as_told side) [] (moments_of events parts) collides;
     }
+
+-- ---- both sides
+
+abbrev pub finds_well : Side → List Moment → Moment → Bool
+finds_well side past one = is_let_in side (left_ahead side past one) one.event
+
+-- where both do, and just what has no room finds none
+unfoldable pub both_links : (whole : Bool) (transcript : List Entry) (chip : KeepsLink Chip (ended whole transcript)) (host : KeepsLink Host (ended whole transcript))
+    → each_well (finds_well Chip) [] (moments_of (serial_events (ended whole transcript)) chip.parts) ≡ true
+    → each_well (finds_well Host) [] (moments_of (serial_events (ended whole transcript)) host.parts) ≡ true → KeepsLinks whole transcript
+both_links whole transcript chip host up down = record {
+  chip = chip;
+  host = host;
+  up = each_after (FindsRoom Chip) (finds_well Chip) (λ past one is. is) [] (moments_of (serial_events (ended whole transcript)) chip.parts) up;
+  down = each_after (FindsRoom Host) (finds_well Host) (λ past one is. is) [] (moments_of (serial_events (ended whole transcript)) host.parts) down;
+}

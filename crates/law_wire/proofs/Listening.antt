@@ -28,7 +28,7 @@ use Rattle.law_transcript.specs.device_kinds.Kind.{listens, lists, has_end}
 use Rattle.law_transcript.specs.device_stack.State.{State, silent, value_of, last_level_of}
 use Rattle.law_transcript.specs.device_kinds.Judging.{judged_set}
 use Rattle.law_transcript.specs.device_kinds.Telling.{told}
-use Rattle.law_transcript.specs.device_kinds.Sealing.{keys_of, unsealed_at}
+use Rattle.s0_crypto.specs.Sealing.{keys_of, unsealed_at}
 use Rattle.law_transcript.specs.device_kinds.Effects.{end_of, set_plainly, effect_untold, telling, effect_alone, effect_in_session, effect_by}
 use Rattle.law_transcript.specs.device_stack.Effects.{effect_of, takes, after_effect}
 use Rattle.law_transcript.specs.device_stack.Hearing.{Answered, answers, nonce_named, sent_sealed, hears_inside, hears_plain, hears_for, hears_sealed, seals_for, hears_nonces, hears_securely, hears_by, active, hears}

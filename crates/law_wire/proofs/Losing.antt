@@ -8,8 +8,8 @@ use Rattle.zw_text.specs.declared.entry.Entry.{Entry}
 use Rattle.zw_text.specs.declared.entry.Entry.TheVariants.{Cleared}
 use Rattle.law_transcript.specs.Lists.{EachAfter, shown_after}
 use Rattle.law_transcript.specs.Worked.{bytes}
-use Rattle.law_wire.specs.Clearing.{bytes_in, lost_at, lost_by, clears, to_clear, AreTold, ClearsLine}
-use Rattle.law_wire.specs.Links.{Moment, moments_of, steps_in, HearsInTime}
+use Rattle.law_wire.specs.Clearing.{lost_at, lost_by, clears, to_clear, AreTold, ClearsLine}
+use Rattle.law_wire.specs.Links.{Moment, moments_of, steps_in, bytes_in, HearsInTime}
 use Rattle.law_wire.specs.Serial.{SerialEvent, serial_events}
 use Rattle.law_wire.specs.WorkedLinks.{both_cleared}
 use Rattle.law_wire.proofs.Computing.{reckoning}

@@ -80,7 +80,7 @@ acts_for side now unit =
     if length unit == 1 then ticking now.has_to_tick ++ hearing (up_to_frame now.ahead) else acts_for_frame side now (frame_in unit)
 
 abbrev pub acts_at : Side → Standing → SerialEvent → List Event
-acts_at side now (Writes on unit arriving) = if same_side side on then acts_for side now unit else []
+acts_at side now (Writes on unit arriving lacking) = if same_side side on then acts_for side now unit else []
 acts_at side now _ = ticking now.has_to_tick ++ hearing now.ahead
 
 -- and where it stands then
@@ -92,12 +92,12 @@ abbrev pub hearing_of : List Event → List Item
 hearing_of acts = flat_map item_of acts
 
 abbrev pub ahead_after : Side → List Item → SerialEvent → List Event → List Item
-ahead_after side ahead (Writes on unit arriving) acts =
-    drop (length (hearing_of acts)) ahead ++ map item_in (arrival_of (other side) (Writes on unit arriving))
+ahead_after side ahead (Writes on unit arriving lacking) acts =
+    drop (length (hearing_of acts)) ahead ++ map item_in (arrival_of (other side) (Writes on unit arriving lacking))
 ahead_after side ahead _ acts = []
 
 abbrev pub has_to_tick_after : Bool → SerialEvent → List Event → Bool
-has_to_tick_after before (Writes on unit arriving) acts = before && not (list_any is_tick acts)
+has_to_tick_after before (Writes on unit arriving lacking) acts = before && not (list_any is_tick acts)
 has_to_tick_after before Tick_begins acts = true
 has_to_tick_after before (Line_begins line) acts = false
 

@@ -1,6 +1,6 @@
--- That links cannot have done what some transcripts show: leave a frame unanswered, answer CAN unasked, write a copy too early or too late, and keep a report.
+-- That links cannot have done what some transcripts show: leave a frame unanswered, answer CAN unasked, write a copy too early or too late, keep a report, and find no room in an empty pipe.
 use Rattle.std.proofs.Common.{◌≡◌, ℕ, List, [], ◌∷◌, ◌++◌, length, refl, ap, subst, arith}
-use Rattle.std.specs.Prelude.{true, codes, zero, suc, ◌≤◌, take, drop}
+use Rattle.std.specs.Prelude.{false, true, codes, zero, suc, ◌≤◌, take, drop}
 use Rattle.std.specs.List.{AllByRecursion}
 use Rattle.serial_link.specs.Rules.{Step, items_of, asks_of}
 use Rattle.serial_link.proofs.Counting.{asks_of-append}
@@ -10,9 +10,10 @@ use Rattle.law_transcript.specs.Lists.{EachAfter}
 use Rattle.law_transcript.specs.Worked.{bytes, the_switch}
 use Rattle.law_wire.specs.Answering.{IsIdleAfter, steps_up_to, waiting, ServesHost}
 use Rattle.law_wire.specs.Asked.{course_of}
-use Rattle.law_wire.specs.Links.{Moment, Obeys, moments_of, joined, steps_in, AreFirst, CollidesAsTold, KeepsLink}
+use Rattle.law_wire.specs.Links.{Moment, Obeys, moments_of, joined, steps_in, AreFirst, CollidesAsTold, FindsRoom, is_let_in, KeepsLink}
 use Rattle.law_wire.specs.Serial.{SerialEvent, serial_events, ended}
-use Rattle.law_wire.specs.WorkedLinks.{unanswered, refused_by_host, copied_in}
+use Rattle.law_wire.specs.Serial.SerialEvent.{Writes}
+use Rattle.law_wire.specs.WorkedLinks.{unanswered, refused_by_host, copied_in, overrun_alone}
 use Rattle.law_wire.specs.WorkedWrong.{kept_to_itself}
 use Rattle.law_wire.proofs.Apart.{AreWithin, clocks_of, events_are, within}
 use Rattle.law_wire.proofs.Computing.{reckoning}
@@ -55,6 +56,22 @@ no_collision given =
     let moments : List Moment = moments_of (serial_events refused_by_host) link.parts in
     (subst (λ (units : List (List ℕ)). AllByRecursion IsNoCan units) (all_texts Host moments link.writes)
     (no_can [] (steps_in moments) link.obeys.0.1.answers refl (host_asks_none [] moments link.collides))).0 refl
+
+-- ---- room
+
+none_dropped : (count : ℕ) → ◌≡◌ {A = List (List ℕ)} (drop count []) []
+none_dropped zero = refl
+none_dropped (suc count) = refl
+
+false_true : false ≡ true → ⊥
+false_true same = cc
+
+pub no_overrun : (parts : List (List Step)) → length parts ≡ 1 → EachAfter (FindsRoom Chip) [] (moments_of (serial_events overrun_alone) parts) → ⊥
+unfolding reckoning
+no_overrun [] one room = absurd (omega (arith, one))
+no_overrun (first ∷ parts) one room =
+    let get : List ℕ = bytes (codes "01090013020225022501E6") in
+    false_true (subst (λ (units : List (List ℕ)). is_let_in Chip units (Writes Host get [] (get ∷ [])) ≡ true) (none_dropped (length (items_of first))) room.0)
 
 -- ---- copies
 

@@ -1,6 +1,6 @@
 -- What a restart of the host loses on the serial line (this project's own rule): directly after one that is not refused stands how many bytes were on
 -- their way, first from the host and then from the chip, where there were any; and nowhere else.
-use Rattle.std.specs.Prelude.{◌≡◌, ℕ, zero, suc, Bool, true, false, not, ◌&&◌, if◌then◌else◌, List, [], ◌∷◌, ◌++◌, length, ⊤}
+use Rattle.std.specs.Prelude.{◌≡◌, ℕ, zero, suc, Bool, true, false, not, ◌&&◌, if◌then◌else◌, List, [], ◌∷◌, ◌++◌, ⊤}
 use Rattle.std.specs.List.{flat_map}
 use Rattle.serial_link.specs.Rules.{Step}
 use Rattle.zw_words.specs.declared.side.Side.{Side}
@@ -11,12 +11,9 @@ use Rattle.zw_text.specs.Transcript.{line_of, shown}
 use Rattle.law_transcript.specs.Lists.{shown_after, IsPrefixOf}
 use Rattle.law_transcript.specs.Restarts.{is_restart, begins_refused}
 use Rattle.law_wire.specs.Serial.{serial_events, ended}
-use Rattle.law_wire.specs.Links.{Moment, moments_of, line_in, left_ahead, KeepsLinks}
+use Rattle.law_wire.specs.Links.{Moment, moments_of, line_in, left_ahead, bytes_in, KeepsLinks}
 
 -- the bytes that a side has not heard where each restart is
-abbrev pub bytes_in : List (List ℕ) → ℕ
-bytes_in units = length (flat_map (λ unit. unit) units)
-
 abbrev pub lost_at : Side → List Moment → Moment → List ℕ
 lost_at side past one = if is_restart (line_in one.event) then bytes_in (left_ahead side past one) ∷ [] else []
 

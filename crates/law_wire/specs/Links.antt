@@ -1,7 +1,7 @@
 -- That both sides of the serial line obey its rules, in time (Serial API: acknowledgement and retransmission; the waits, the number of copies, and when a
--- side ticks and hears are this project's own). The chip obeys them over the whole run, the host from each restart to the next.
-use Rattle.std.specs.Prelude.{◌≡◌, ◌≤◌, ℕ, ◌+◌, ◌-◌, ◌==◌, ◌&&◌, not, nat_lt, Bool, true, false, if◌then◌else◌, List, [], ◌∷◌, ◌++◌, map, length, drop, ⊤}
-use Rattle.std.specs.List.{flat_map, list_any, AllByRecursion}
+-- side ticks and hears are this project's own; so is that a pipe holds 4,096 bytes each way). The chip obeys them over the whole run, the host from each restart to the next.
+use Rattle.std.specs.Prelude.{◌≡◌, ◌≤◌, ℕ, ◌+◌, ◌-◌, ◌==◌, ◌&&◌, ◌||◌, not, nat_le, nat_lt, Bool, true, false, if◌then◌else◌, List, [], ◌∷◌, ◌++◌, map, length, drop, ⊤}
+use Rattle.std.specs.List.{flat_map, list_all, list_any, AllByRecursion}
 use Rattle.serial_frame.specs.Items.{unit_text, ItemText}
 use Rattle.serial_frame.specs.declared.item.Item.{Item}
 use Rattle.serial_link.specs.State.{Side as LinkSide}
@@ -17,6 +17,7 @@ use Rattle.zw_text.specs.Transcript.{same_side}
 use Rattle.law_transcript.specs.Lists.{EachAfter, shown_after, last_or}
 use Rattle.law_transcript.specs.Restarts.{is_restart}
 use Rattle.law_wire.specs.Marks.{collision_of}
+use Rattle.law_wire.specs.Pipes.{pipe_places}
 use Rattle.law_wire.specs.Serial.{SerialEvent, serial_events, ended}
 use Rattle.law_wire.specs.Serial.SerialEvent.{Line_begins, Tick_begins, Writes}
 
@@ -66,7 +67,7 @@ pub record Round : Type 0 where
 abbrev pub round_step : Round → Moment → SerialEvent → Round
 round_step round one (Line_begins line) = record { is_tick = false; moments = [] }
 round_step round one Tick_begins = record { is_tick = true; moments = [] }
-round_step round one (Writes side unit arriving) = record round { moments = round.moments ++ one ∷ [] }
+round_step round one (Writes side unit arriving lacking) = record round { moments = round.moments ++ one ∷ [] }
 
 abbrev pub round_from : Round → List Moment → Round
 round_from round [] = round
@@ -77,7 +78,7 @@ round_of past = round_from (record { is_tick = false; moments = [] }) past
 
 -- whether a line or tick begins, and so the one before it is over
 abbrev pub ends_round : SerialEvent → Bool
-ends_round (Writes side unit arriving) = false
+ends_round (Writes side unit arriving lacking) = false
 ends_round _ = true
 
 -- ---- time and stalls
@@ -120,7 +121,7 @@ WriteLast (step ∷ next ∷ steps) units = (texts_of step ≡ []) × WriteLast 
 
 -- the unit of an event, where the side wrote it
 abbrev pub unit_by : Side → SerialEvent → List (List ℕ)
-unit_by side (Writes on unit arriving) = if same_side side on then unit ∷ [] else []
+unit_by side (Writes on unit arriving lacking) = if same_side side on then unit ∷ [] else []
 unit_by side _ = []
 
 -- a side writes its units, each where it stands
@@ -131,7 +132,7 @@ WritesThere side one = WriteLast one.steps (unit_by side one.event)
 
 -- what arrives of the units of a side
 abbrev pub arrival_of : Side → SerialEvent → List (List ℕ)
-arrival_of side (Writes on unit arriving) = if same_side side on then arriving else []
+arrival_of side (Writes on unit arriving lacking) = if same_side side on then arriving else []
 arrival_of side _ = []
 
 abbrev pub arrivals_of : Side → List Moment → List (List ℕ)
@@ -165,6 +166,25 @@ abbrev pub HearsInTime : Side → List Moment → Moment → Type 0
 HearsInTime side past one =
     AreFirst (items_of one.steps) (if is_stalled past then [] else ahead side past)
     × LeavesFew (ends_round one.event && not (is_stalled past)) (length (left_ahead side past one)) (most_left side past)
+
+-- ---- what finds room
+
+-- the bytes of units
+abbrev pub bytes_in : List (List ℕ) → ℕ
+bytes_in units = length (flat_map (λ unit. unit) units)
+
+-- whether one more has room in a pipe with these
+abbrev pub has_room : List (List ℕ) → List ℕ → Bool
+has_room units unit = nat_le (bytes_in units + length unit) pipe_places
+
+-- what the other side writes arrives where it has room with what is ahead of this one, and else it does not
+abbrev pub is_let_in : Side → List (List ℕ) → SerialEvent → Bool
+is_let_in side units (Writes on unit arriving lacking) =
+    same_side side on || (list_all (has_room units) arriving && not (list_any (has_room units) lacking))
+is_let_in side units event = true
+
+abbrev pub FindsRoom : Side → List Moment → Moment → Type 0
+FindsRoom side past one = is_let_in side (left_ahead side past one) one.event ≡ true
 
 -- ---- when it ticks
 
@@ -240,7 +260,9 @@ pub record KeepsLink (side : Side) (transcript : List Entry) : Type 0 where
   pub ticks : EachAfter (TicksInTime side) [] (moments_of (serial_events transcript) parts)
   pub collides : EachAfter (CollidesAsTold side) [] (moments_of (serial_events transcript) parts)
 
--- both sides obeyed; of a whole run, up to its end
+-- both sides obeyed; of a whole run, up to its end. And of the units to each side just those found no room that had none by what it had not heard.
 pub record KeepsLinks (whole : Bool) (transcript : List Entry) : Type 0 where
   pub chip : KeepsLink Chip (ended whole transcript)
   pub host : KeepsLink Host (ended whole transcript)
+  pub up : EachAfter (FindsRoom Chip) [] (moments_of (serial_events (ended whole transcript)) chip.parts)
+  pub down : EachAfter (FindsRoom Host) [] (moments_of (serial_events (ended whole transcript)) host.parts)

@@ -9,7 +9,7 @@ use Rattle.zw_words.specs.declared.side.Side.{Side}
 use Rattle.zw_words.specs.declared.side.Side.TheVariants.{Host, Chip}
 use Rattle.zw_text.specs.declared.line.Line.TheVariants as lines
 use Rattle.zw_text.specs.declared.entry.Entry.{Entry}
-use Rattle.zw_text.specs.declared.entry.Entry.TheVariants.{Said, Dropped, Heard, Cleared, Time}
+use Rattle.zw_text.specs.declared.entry.Entry.TheVariants.{Said, Dropped, Heard, Overrun, Cleared, Time}
 use Rattle.law_wire.specs.Serial.SerialEvent.{Line_begins, Tick_begins, Writes}
 use Rattle.law_wire.specs.Links.{Moment}
 use Rattle.law_wire.specs.WorkedMarks.{a_call, host_ack, host_can}
@@ -32,6 +32,10 @@ abbrev pub copied_in : List ℕ → List Entry
 copied_in ticks =
     Said (codes "drop h") ∷ flat_map (λ tick. Said (codes "drop h") ∷ []) ticks ++ a_call ∷ host_ack ∷ Dropped Host ∷ Said (codes "tick 80")
     ∷ flat_map (λ tick. Time tick ∷ a_call ∷ host_ack ∷ Dropped Host ∷ []) ticks
+
+-- a frame of the host finds no room in an empty pipe
+abbrev pub overrun_alone : List Entry
+overrun_alone = a_get ∷ Overrun Host ∷ []
 
 -- ---- restarts
 
@@ -91,7 +95,7 @@ a_collision = record { event = Line_begins (lines.Collide ∷ []); steps = [] }
 
 -- an answer arrives from a side
 abbrev pub an_ack : Side → Moment
-an_ack side = record { event = Writes side (6 ∷ []) ((6 ∷ []) ∷ []); steps = [] }
+an_ack side = record { event = Writes side (6 ∷ []) ((6 ∷ []) ∷ []) []; steps = [] }
 
 -- an answer is heard, for which there is no frame; a tick gives a frame up; a collision is asked for
 abbrev pub hears_stray : Step
@@ -109,3 +113,10 @@ answers_of_host count = replicate count (an_ack Host)
 
 abbrev pub hears_so_many : ℕ → Moment
 hears_so_many count = steps_before (replicate count hears_stray)
+
+-- so many bytes of the host arrive, or find no room, when the chip has done this
+abbrev pub bytes_arrive : ℕ → List Step → Moment
+bytes_arrive count steps = record { event = Writes Host (replicate count 0) (replicate count 0 ∷ []) []; steps = steps }
+
+abbrev pub bytes_overrun : ℕ → List Step → Moment
+bytes_overrun count steps = record { event = Writes Host (replicate count 0) [] (replicate count 0 ∷ []); steps = steps }

@@ -17,7 +17,7 @@ ghost use Rattle.law_transcript.specs.Worked.{
 };
 ghost use Rattle.law_wire.specs.Links.{KeepsLinks};
 ghost use Rattle.law_wire.specs.Answering.{ServesHost};
-ghost use Rattle.law_wire.specs.WorkedLinks.{acknowledged, unanswered, refused_by_host, copied_in};
+ghost use Rattle.law_wire.specs.WorkedLinks.{acknowledged, unanswered, refused_by_host, copied_in, overrun_alone};
 ghost use Rattle.law_wire.specs.WorkedWrong.{
   spoken_over,
   host_spoke_over,
@@ -60,9 +60,10 @@ pub fn worked_service()
     ensures cut { ServesHost true (the_plug ∷ []) long_message }
 {}
 
-/// An answer of either side to a frame that never came breaks the law of links; so does a second frame of either side while its first waits, an answer of
-/// the host to what came before it restarted, a frame of the chip that the host does not answer or answers CAN, and the second, the third or the fourth
-/// copy that comes a tick too early or too late. A frame that waits while the link is idle breaks the law of the chip.
+/// An answer of either side to a frame that never came breaks the law of links; so does a second frame of either side while its first waits, an
+/// answer of the host to what came before it restarted, a frame of the chip that the host does not answer or answers CAN, the second, the third or
+/// the fourth copy that comes a tick too early or too late, and a unit that finds no room though nothing is on its way. A frame that waits while the
+/// link is idle breaks the law of the chip.
 pub fn rejected_links()
     ensures nothing { KeepsLinks false answered_nothing → ⊥ }
     ensures kept { ServesHost true (the_switch ∷ []) kept_to_itself → ⊥ }
@@ -78,6 +79,7 @@ pub fn rejected_links()
     ensures third_late { KeepsLinks false (copied_in (16 ∷ 43 ∷ [])) → ⊥ }
     ensures fourth_early { KeepsLinks false (copied_in (16 ∷ 42 ∷ 77 ∷ [])) → ⊥ }
     ensures fourth_late { KeepsLinks false (copied_in (16 ∷ 42 ∷ 79 ∷ [])) → ⊥ }
+    ensures overrun { KeepsLinks false overrun_alone → ⊥ }
 {}
 
 /// Each of these breaks one part of the law: the chip answers nothing, answers CAN though no line asks for it, puts a frame on the air that

@@ -1,11 +1,24 @@
-//! What the laws of the serial link say of one moment of a side: what it hears, when it ticks, and when it collides.
+//! What the laws of the serial link say of one moment of a side: what it hears, when it ticks, when it collides, and what has room.
 
 ghost use Rattle.std.specs.Prelude.{[], ◌∷◌};
 ghost use Rattle.zw_words.specs.declared.side.Side.TheVariants.{Chip, Host};
 ghost use Rattle.serial_link.specs.Calls.{submit_step};
-ghost use Rattle.law_wire.specs.Links.{CollidesAsTold, HearsInTime, TicksInTime};
+ghost use Rattle.law_wire.specs.Links.{CollidesAsTold, FindsRoom, HearsInTime, TicksInTime};
 ghost use Rattle.law_wire.specs.WorkedCourses.{calling_back, hears_ack, hears_frame, quiet_tick};
-ghost use Rattle.law_wire.specs.WorkedLinks.{a_collision, a_stall, a_tick, an_ack, answers_of_host, asks, gives_up, hears_so_many, steps_before};
+ghost use Rattle.law_wire.specs.WorkedLinks.{
+  a_collision,
+  a_stall,
+  a_tick,
+  an_ack,
+  answers_of_host,
+  asks,
+  bytes_arrive,
+  bytes_overrun,
+  gives_up,
+  hears_so_many,
+  hears_stray,
+  steps_before,
+};
 
 /// A side ticks once in each tick, and hears after that; the host submits after it, and the chip before it, or after it has heard or given a frame up.
 pub fn worked_ticks()
@@ -56,4 +69,19 @@ pub fn worked_asking()
     ensures left_out { CollidesAsTold Chip (a_collision ∷ []) (steps_before []) → ⊥ }
     ensures unasked { CollidesAsTold Chip (a_tick ∷ []) (steps_before (asks ∷ [])) → ⊥ }
     ensures of_host { CollidesAsTold Host (a_collision ∷ []) (steps_before (asks ∷ [])) → ⊥ }
+{}
+
+/// 4,096 bytes are let in, and no more; what the chip has heard leaves room. Of its own units a side says nothing.
+pub fn worked_room()
+    ensures fits { FindsRoom Chip (bytes_arrive 4090 [] ∷ []) (bytes_arrive 6 []) }
+    ensures lacks { FindsRoom Chip (bytes_arrive 4090 [] ∷ []) (bytes_overrun 7 []) }
+    ensures heard { FindsRoom Chip (bytes_arrive 4090 [] ∷ []) (bytes_arrive 7 (hears_stray ∷ [])) }
+    ensures own { FindsRoom Host (bytes_arrive 4090 [] ∷ []) (bytes_overrun 6 []) }
+{}
+
+/// Each of these breaks that: what has just room is overrun, and what has none is not; and what has room by what the chip has heard is overrun.
+pub fn rejected_room()
+    ensures fits { FindsRoom Chip (bytes_arrive 4090 [] ∷ []) (bytes_overrun 6 []) → ⊥ }
+    ensures lacks { FindsRoom Chip (bytes_arrive 4090 [] ∷ []) (bytes_arrive 7 []) → ⊥ }
+    ensures heard { FindsRoom Chip (bytes_arrive 4090 [] ∷ []) (bytes_overrun 7 (hears_stray ∷ [])) → ⊥ }
 {}

@@ -3,7 +3,6 @@ use Rattle.std.proofs.Common.{◌≡◌, ◌≢◌, ℕ, zero, suc, ◌+◌, ◌
 use Rattle.std.proofs.lemmas.Option.{slice_get-map, slice_get_read}
 use Rattle.std.proofs.lemmas.Bool.{eq-eqb}
 use Rattle.std.proofs.lemmas.Bool.Decides.{eqb_tells}
-use Rattle.std.proofs.lemmas.List.{append-nil}
 use Rattle.device_sim.specs.State.{State}
 use Rattle.mesh_sim.specs.declared.event.AirEvent.{AirEvent}
 use Rattle.mesh_sim.specs.declared.event.AirEvent.TheVariants.{Changed}
@@ -63,10 +62,6 @@ change_more out more whole node at at' next k k' left here further added told =
     ∙ (ap (λ n. out ++ Changed node at' ∷ changed node n k') further
     ∙ (ap (λ n. out ++ Changed node n ∷ changed node (at + 1) k') (sym here)
     ∙ (sym (ap (λ n. out ++ changed node at n) left) ∙ told))))
-
--- all are told
-pub changes_all : (out whole : List AirEvent) (node at k : ℕ) → k ≡ 0 → out ++ changed node at k ≡ whole → out ≡ whole
-changes_all out whole node at k none told = sym (append-nil out) ∙ (sym (ap (λ n. out ++ changed node at n) none) ∙ told)
 
 -- a value that is put at a place of a list is seen there
 pub seen_set : {A B : Type 0} (seen : A → B) (xs : List A) (i : ℕ) (y : A) → map seen (set xs i y) ≡ set (map seen xs) i (seen y)

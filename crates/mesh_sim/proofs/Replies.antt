@@ -1,6 +1,5 @@
 -- Steps of the loop over the replies of a device.
-use Rattle.std.proofs.Common.{◌≡◌, ℕ, zero, suc, ◌+◌, ◌≤◌, Option, Some, List, [], ◌∷◌, ◌++◌, length, drop, slice_get, refl, ap, sym, ◌∙◌, append_assoc, arith}
-use Rattle.std.proofs.lemmas.List.{append-nil}
+use Rattle.std.proofs.Common.{◌≡◌, ℕ, zero, suc, ◌+◌, Option, Some, List, [], ◌∷◌, ◌++◌, drop, slice_get, ap, sym, ◌∙◌, append_assoc, arith}
 use Rattle.route_table.specs.declared.route.Route.{Route}
 use Rattle.air_frames.specs.declared.frame.Heading.TheVariants.{Homeward}
 use Rattle.mesh_sim.specs.declared.event.AirEvent.{AirEvent}
@@ -16,12 +15,6 @@ rest_at {A = A} xs i x at = go xs i at ∙ ap (λ n. x ∷ drop n xs) (let e : s
     go (y ∷ ys) zero at = let same : y ≡ x = cc in ap (λ z. z ∷ ys) same
     go (y ∷ ys) (suc i) at = go ys i at
 
-pub rest_none : {A : Type 0} (xs : List A) (i : ℕ) → length xs ≤ i → drop i xs ≡ []
-rest_none [] zero past = refl
-rest_none [] (suc i) past = refl
-rest_none (x ∷ xs) zero past = absurd (omega arith)
-rest_none (x ∷ xs) (suc i) past = rest_none xs i (omega arith)
-
 module _ (air new whole : AirState) (node : ℕ) (way : Option Route) (replies : List (List ℕ)) (i : ℕ) (reply : List ℕ) (at : slice_get replies i ≡ Some reply)
     (went : new ≡ departing air node Homeward way reply) where
   pub reply_more : answered air node way (drop i replies) ≡ whole → answered new node way (drop (i + 1) replies) ≡ whole
@@ -36,10 +29,3 @@ module _ (air new whole : AirState) (node : ℕ) (way : Option Route) (replies :
       ∙ (append_assoc out (sent_event air node way reply ∷ []) (answers new node way (drop (i + 1) replies))
       ∙ (ap (λ (a : AirState). out ++ sent_event air node way reply ∷ answers a node way (drop (i + 1) replies)) went
       ∙ (sym (ap (λ rs. out ++ answers air node way rs) (rest_at replies i reply at)) ∙ so_far)))
-
-pub replied_all : (air whole : AirState) (node : ℕ) (way : Option Route) (replies : List (List ℕ)) (i : ℕ) → length replies ≤ i → answered air node way (drop i replies) ≡ whole → air ≡ whole
-replied_all air whole node way replies i past so_far = sym (ap (λ rs. answered air node way rs) (rest_none replies i past)) ∙ so_far
-
-pub told_all : (air : AirState) (out all : List AirEvent) (node : ℕ) (way : Option Route) (replies : List (List ℕ)) (i : ℕ) → length replies ≤ i
-    → out ++ answers air node way (drop i replies) ≡ all → out ≡ all
-told_all air out all node way replies i past so_far = sym (append-nil out) ∙ (sym (ap (λ rs. out ++ answers air node way rs) (rest_none replies i past)) ∙ so_far)

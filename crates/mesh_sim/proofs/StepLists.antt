@@ -17,7 +17,7 @@ use Rattle.mesh_sim.specs.Routes.{IsRoute, backwards}
 use Rattle.mesh_sim.specs.Air.{AirState, is_joined, departing}
 use Rattle.mesh_sim.specs.Fates.{Mesh, HearsWithin, fate_of, listener_of}
 use Rattle.air_frames.specs.declared.ages.Refusal.{Refusal}
-use Rattle.mesh_sim.specs.Steps.{AirStep, Arrives, Repeats, mesh_after, mesh_outs, MayHappen, mesh_after_all, mesh_outs_all, MayAllHappen, Did, Stops, Delivers, IsCut, IsArrival, IsRepeatOf, HasHeard, HasPerhaps, Comes, done_of, outs_at, landed, acknowledged, status_of, answered, answered_if, air_hearing, outs_hearing, heard_at, arriving, arriving_as, arrival_outs, arrival_outs_as, MayArrive, MayArriveIf, repeating, repeating_by, repeat_outs, repeat_outs_by, MayRepeat, MayRepeatBy, MayHearAgain, heard_again, outs_again, ComesAgain, IsHeardAgain, IsHeardPerhaps}
+use Rattle.mesh_sim.specs.Steps.{AirStep, Arrives, Repeats, mesh_after, mesh_outs, MayHappen, mesh_after_all, mesh_outs_all, MayAllHappen, Did, Stops, IsCut, IsArrival, IsRepeatOf, HasHeard, HasPerhaps, Comes, done_of, outs_at, landed, acknowledged, status_of, answered, answered_if, air_hearing, outs_hearing, heard_at, arriving, arriving_as, arrival_outs, arrival_outs_as, MayArrive, MayArriveIf, repeating, repeating_by, repeat_outs, repeat_outs_by, MayRepeat, MayRepeatBy, MayHearAgain, heard_again, outs_again, ComesAgain, IsHeardAgain, IsHeardPerhaps}
 
 abbrev pub States : Type 0
 States = List State
@@ -197,9 +197,6 @@ one_arrived count a b c d e f before mid all first more =
       landed = let x = moves.landed in let y = first.landed in omega arith;
       sent = let x = moves.sent in let y = first.sent in omega arith;
     }
-
-pub all_arrived : (count : ℕ) (a b : AirState) (d e : States) (before all : List AirEvent) → count ≡ a.frames.sent - a.frames.landed → Arrived count a d b e before all → Delivers a d b e before all
-all_arrived count a b d e before all whole first = record { steps = first.steps; arrivals = first.arrivals; each = first.each ∙ whole; did = first.did }
 
 -- what may stand for what is drawn where nobody draws
 abbrev pub blank : List ℕ

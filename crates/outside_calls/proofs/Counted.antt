@@ -9,6 +9,7 @@ use Rattle.outside_model.specs.Did.{RunOf, PrefixOf, Stops}
 use Rattle.outside_model.specs.Schedules.{Arrivals, Givings, DeviceTicks}
 use Rattle.outside_model.proofs.EventLists.{ran_both}
 use Rattle.outside_calls.proofs.Single.{stops_after}
+use Rattle.outside_model.proofs.Own.{arrivals_own, givings_own, ticks_own}
 
 -- there are such, those after others are as many together, and none is the host's
 pub record Counted (Kind : ℕ → ℕ → List OuterEvent → Type 0) : Type 0 where
@@ -55,10 +56,6 @@ arrivals_both zero m all xs ys sum none more =
 arrivals_both (suc n) m zero xs ys sum are more = absurd (omega arith)
 arrivals_both (suc n) m (suc all) xs ys sum (drawn, route, rest, are, others) more = (drawn, route, rest ++ ys, ap (λ (l : List OuterEvent). l ++ ys) are, arrivals_both n m all rest ys (omega arith) others more)
 
-arrivals_own : (count : ℕ) (events : List OuterEvent) → Arrivals count events → AreOwn events
-arrivals_own zero events none = subst (λ (l : List OuterEvent). AreOwn l) (sym none) tt
-arrivals_own (suc count) events (drawn, route, rest, are, more) = subst (λ (l : List OuterEvent). AreOwn l) (sym are) (refl, arrivals_own count rest more)
-
 pub arrivals : Counted (λ start count. Arrivals count)
 arrivals = record {
   some = λ start count. some_arrivals count;
@@ -78,10 +75,6 @@ givings_both zero m all xs ys sum none more =
     subst (λ n. Givings n (xs ++ ys)) same (subst (λ (l : List OuterEvent). Givings m (l ++ ys)) (sym none) more)
 givings_both (suc n) m zero xs ys sum are more = absurd (omega arith)
 givings_both (suc n) m (suc all) xs ys sum (route, rest, are, others) more = (route, rest ++ ys, ap (λ (l : List OuterEvent). l ++ ys) are, givings_both n m all rest ys (omega arith) others more)
-
-givings_own : (count : ℕ) (events : List OuterEvent) → Givings count events → AreOwn events
-givings_own zero events none = subst (λ (l : List OuterEvent). AreOwn l) (sym none) tt
-givings_own (suc count) events (route, rest, are, more) = subst (λ (l : List OuterEvent). AreOwn l) (sym are) (refl, givings_own count rest more)
 
 pub givings : Counted (λ start count. Givings count)
 givings = record {
@@ -105,10 +98,6 @@ ticks_both place zero at m all xs ys there sum none more =
 ticks_both place (suc n) at m zero xs ys there sum are more = absurd (omega arith)
 ticks_both place (suc n) at m (suc all) xs ys there sum (drawn, route, rest, are, others) more =
     (drawn, route, rest ++ ys, ap (λ (l : List OuterEvent). l ++ ys) are, ticks_both (place + 1) n at m all rest ys (omega arith) (omega arith) others more)
-
-ticks_own : (place count : ℕ) (events : List OuterEvent) → DeviceTicks place count events → AreOwn events
-ticks_own place zero events none = subst (λ (l : List OuterEvent). AreOwn l) (sym none) tt
-ticks_own place (suc count) events (drawn, route, rest, are, more) = subst (λ (l : List OuterEvent). AreOwn l) (sym are) (refl, ticks_own (place + 1) count rest more)
 
 pub device_ticks : Counted DeviceTicks
 device_ticks = record { some = some_ticks; both = ticks_both; own = ticks_own }

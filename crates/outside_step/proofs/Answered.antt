@@ -5,10 +5,6 @@ pub on_ok : {V E : Type 0} (r : Result V E) (P : Type 0) → P → OnOk r P
 on_ok (Ok v) P holds = holds
 on_ok (Err e) P holds = tt
 
-pub on_err : {V E : Type 0} (r : Result V E) (P : Type 0) → P → OnErr r P
-on_err (Ok v) P holds = tt
-on_err (Err e) P holds = holds
-
 -- a fact that holds at Ok goes over to another
 pub map_ok : {V E : Type 0} (r : Result V E) (P Q : Type 0) → (P → Q) → OnOk r P → OnOk r Q
 map_ok (Ok v) P Q f holds = f holds

@@ -1,5 +1,5 @@
 -- Loops over the items of a list.
-use Rattle.std.proofs.Common.{◌≡◌, ℕ, ◌+◌, ◌<◌, ◌≤◌, All, map, List, [], ◌∷◌, ◌++◌, length, take, get_or, ap, sym, ◌∙◌, subst, add-one}
+use Rattle.std.proofs.Common.{◌≡◌, ℕ, ◌+◌, ◌<◌, ◌≤◌, All, List, [], ◌∷◌, ◌++◌, length, take, get_or, ap, sym, ◌∙◌, subst, add-one}
 use Rattle.device_kinds.specs.declared.change.Change.{Change}
 use Rattle.std.proofs.Math.Seq.{take-suc}
 use Rattle.std.proofs.lemmas.List.{take_all}
@@ -33,7 +33,3 @@ module _ {X : Type 0} (xs ys : List X) (i : ℕ) (same : ys ≡ xs) (past : leng
   pub each_whole : (step : OuterState → X → Outcome) (o new : OuterState) (before all : List Entry)
       → Does (each step o (take i xs)) new before all → Does (each step o xs) new before all
   each_whole step o new before all done = subst (λ (l : List X). Does (each step o l) new before all) take_whole done
-
--- what was told of all items
-pub map_whole : {X : Type 0} (f : X → Entry) (xs zs ys : List X) (i : ℕ) (start all : List Entry) → all ≡ start ++ map f (take i ys) → length ys ≤ i → ys ≡ xs → xs ≡ zs → all ≡ start ++ map f zs
-map_whole f xs zs ys i start all told past same is = told ∙ ap (λ l. start ++ map f l) (take_all i ys past ∙ (same ∙ is))

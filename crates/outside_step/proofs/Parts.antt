@@ -73,20 +73,6 @@ joined_is o mid new moved air node listening is decoder state joined learned =
     ∙ (ap (λ (d : Rest). with_chip (record o { chip = record { decoder = d; state = moved.state }; air = joining o.air node listening }) (after_all moved.state (links_of (joining o.air node listening) node))) decoder
     ∙ ap (λ (s : ChipState). record (with_chip o (after_all s (links_of (joining o.air node listening) node))) { air = joining o.air node listening }) state)))
 
--- the chip and the air at the beginning
-pub first_decoder : (made joined linked : Rest) → made ≡ no_rest → joined ≡ made → linked ≡ joined → linked ≡ no_rest
-first_decoder made joined linked is first next = next ∙ (first ∙ is)
-
-pub first_state : (made joined linked : ChipState) (n a b : ℕ) → made ≡ fresh_chip → joined ≡ chip.after made (Joined n true) → linked ≡ chip.after joined (Linked a b true) → n ≡ 2 → a ≡ 1 → b ≡ 2
-    → linked ≡ chip.after (chip.after fresh_chip (Joined 2 true)) (Linked 1 2 true)
-first_state made joined linked n a b is first next n2 a1 b2 = cc
-
-pub air_first : (made joined linked : AirState) (n a b : ℕ) → made ≡ first_air → joined ≡ joining made n true → linked ≡ linking joined a b true → n ≡ 2 → a ≡ 1 → b ≡ 2
-    → linked ≡ linking (joining first_air 2 true) 1 2 true
-air_first made joined linked n a b is first next n2 a1 b2 =
-    next ∙ (ap (λ (p : AirState). linking p a b true) (first ∙ (ap (λ (p : AirState). joining p n true) is ∙ ap (λ i. joining first_air i true) n2))
-    ∙ (ap (λ i. linking (joining first_air 2 true) i b true) a1 ∙ ap (λ i. linking (joining first_air 2 true) 1 i true) b2))
-
 -- all of it at the beginning
 parts_are : (c : ChipParts) (d : Rest) (s : ChipState) → c.decoder ≡ d → c.state ≡ s → c ≡ record { decoder = d; state = s }
 parts_are c d s decoder state = ap (λ (x : Rest). record { decoder = x; state = c.state }) decoder ∙ ap (λ (t : ChipState). record { decoder = d; state = t }) state

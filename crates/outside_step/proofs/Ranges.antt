@@ -1,5 +1,5 @@
 -- Events of the chip, one for each number of a range of which something is true.
-use Rattle.std.proofs.Common.{◌≡◌, ℕ, zero, suc, ◌+◌, Bool, true, false, cond, List, [], ◌∷◌, ◌++◌, refl, ap, sym, ◌∙◌, append_assoc, arith, add-one}
+use Rattle.std.proofs.Common.{◌≡◌, ℕ, ◌+◌, Bool, true, false, cond, List, [], ◌∷◌, ◌++◌, refl, ap, sym, ◌∙◌, append_assoc, arith, add-one}
 use Rattle.std.specs.Prelude.{filter, map, ◌&&◌}
 use Rattle.std.specs.List.{range_with_len, flat_map}
 use Rattle.std.proofs.lemmas.List.{append-nil, map-append}
@@ -11,29 +11,13 @@ use Rattle.chip_sim.proofs.EventLists.{after_all-append}
 use Rattle.outside_model.specs.State.{OuterState, with_chip}
 use Rattle.outside_model.specs.Nodes.{is_known, links_of, pairs_of, all_pairs, discovers}
 use Rattle.outside_step.proofs.Parts.{chip_is}
-
--- a range with one more number
-longer : (p : ℕ → Bool) (n a m : ℕ) → a + n ≡ m → filter p (range_with_len a (suc n)) ≡ filter p (range_with_len a n) ++ cond (p m) (m ∷ []) []
-longer p zero a m e =
-    let same : a ≡ m = omega arith in
-    ap (λ (j : ℕ). cond (p j) (j ∷ []) []) same
-longer p (suc n) a m e =
-    let ih : filter p (range_with_len (a + 1) (suc n)) ≡ filter p (range_with_len (a + 1) n) ++ cond (p m) (m ∷ []) [] = longer p n (a + 1) m (omega arith) in
-    let xs = filter p (range_with_len (a + 1) (suc n)) in
-    let ys = filter p (range_with_len (a + 1) n) in
-    let last = cond (p m) (m ∷ []) [] in
-    let both : (t : Bool) → cond t (a ∷ xs) xs ≡ cond t (a ∷ ys) ys ++ last = λ (t : Bool). elim t as (λ t. cond t (a ∷ xs) xs ≡ cond t (a ∷ ys) ys ++ last) [ true ↦ ap (λ (zs : List ℕ). a ∷ zs) ih | false ↦ ih ] in
-    both (p a)
+use Rattle.chip_functions.proofs.MaskLemmas.{longer}
+use Rattle.chip_sim.proofs.Masks.{next_out as more_out}
 
 more_in : (p : ℕ → Bool) (k n : ℕ) → n ≡ k + 1 → p n ≡ true → filter p (range_with_len 1 (k + 1)) ≡ filter p (range_with_len 1 k) ++ n ∷ []
 more_in p k n e is_one =
     ap (λ (j : ℕ). filter p (range_with_len 1 j)) (add-one k)
     ∙ (longer p k 1 n (omega arith) ∙ ap (λ (b : Bool). filter p (range_with_len 1 k) ++ cond b (n ∷ []) []) is_one)
-
-pub more_out : (p : ℕ → Bool) (k n : ℕ) → n ≡ k + 1 → p n ≡ false → filter p (range_with_len 1 (k + 1)) ≡ filter p (range_with_len 1 k)
-more_out p k n e is_none =
-    ap (λ (j : ℕ). filter p (range_with_len 1 j)) (add-one k)
-    ∙ (longer p k 1 n (omega arith) ∙ (ap (λ (b : Bool). filter p (range_with_len 1 k) ++ cond b (n ∷ []) []) is_none ∙ append-nil (filter p (range_with_len 1 k))))
 
 -- one event for the next number
 pub event_more : (p : ℕ → Bool) (f : ℕ → ChipEvent) (s : ChipState) (k n : ℕ) → n ≡ k + 1 → p n ≡ true

@@ -1,7 +1,7 @@
 -- What the chip puts out may be sent.
 use Rattle.std.proofs.Common.{◌≡◌, ℕ, ◌≤◌, ◌&&◌, Bool, true, false, All, List, [], ◌∷◌, ◌++◌, length, if◌then◌else◌, ◌==◌, refl}
 use Rattle.std.specs.Prelude.{Option, Some, None, nat_le}
-use Rattle.std.proofs.lemmas.Bool.{leb-true}
+use Rattle.std.proofs.lemmas.Bool.{leb-true, and_parts as both_true}
 use Rattle.std.proofs.lemmas.List.Elements.{All-append, All-nil, All-cons}
 use Rattle.serial_frame.specs.Frame.{FrameParts}
 use Rattle.serial_frame.specs.declared.item.Item.{Item}
@@ -78,10 +78,6 @@ answer_good false (Refused Aborted) = none
 given_good : (s : ChipState) (o : Option FrameParts) → Good_outs (given_outs s o)
 given_good s None = none
 given_good s (Some f) = queued_good s.port f
-
-both_true : (a b : Bool) → (a && b) ≡ true → (a ≡ true) × (b ≡ true)
-both_true true b e = (refl, e)
-both_true false b e = absurd cc
 
 sizes : (s : ChipState) (n : ℕ) (payload : List ℕ) → takes s n payload ≡ true → (1 ≤ length payload) × (length payload ≤ 46)
 sizes s n payload e =

@@ -1,6 +1,6 @@
 //! `host`: the command of the program.
 
-ghost use Rattle.std.specs.Prelude.{◌≡◌, ◌≤◌};
+ghost use Rattle.std.specs.Prelude.{◌≡◌, ◌≤◌, ◌⊎◌};
 ghost use Rattle.zw_base.specs.Faults.{Rose};
 ghost use Rattle.port_run.specs.Lines.{texts_of};
 ghost use Rattle.port_run.specs.Ending.{desk, HostRan, HasGoodPort, IsServed};
@@ -29,6 +29,8 @@ pub fn run_host<S: Source, K: Sink, D: Draw, P: Keeper>(
     ensures sink_never_falls { K.faults sink.old ≤ K.faults sink.new }
     ensures read_fault { result ≡ Status.ReadFault → Rose (S.faults source.old) (S.faults source.new) }
     ensures write_fault { result ≡ Status.WriteFault → Rose (K.faults sink.old) (K.faults sink.new) }
+    ensures source_uncounted { (S.faults source.new ≡ S.faults source.old) ⊎ (result ≡ Status.ReadFault) }
+    ensures sink_uncounted { (K.faults sink.new ≡ K.faults sink.old) ⊎ (result ≡ Status.WriteFault) }
     ensures keeper_fault { result ≡ Status.KeeperFault → Rose (P.shelf keeper.old).faults (P.shelf keeper.new).faults }
     ensures complete { HasGoodPort (texts_of lines.now) (S.left source.old) → (Rose (S.faults source.old) (S.faults source.new) → ⊥)
         → (Rose (K.faults sink.old) (K.faults sink.new) → ⊥) → (Rose (P.shelf keeper.old).faults (P.shelf keeper.new).faults → ⊥) → IsServed result }

@@ -1,6 +1,6 @@
 //! A run from its words to its end.
 
-ghost use Rattle.std.specs.Prelude.{◌≡◌, [], ◌<◌, ◌≤◌, ◌^◌, ℕ, List as Items, length, IfOk, OnOk, IfErr, IsErrOf, MatchResult};
+ghost use Rattle.std.specs.Prelude.{◌≡◌, ◌⊎◌, [], ◌<◌, ◌≤◌, ◌^◌, ℕ, List as Items, length, IfOk, OnOk, IfErr, IsErrOf, MatchResult};
 ghost use Rattle.run_lines.specs.declared.reader.TheConstants.{MAX_INPUT};
 ghost use Rattle.zw_base.specs.Faults.{Rose};
 ghost use Rattle.host_core.specs.Network.{keys_of};
@@ -41,6 +41,9 @@ pub fn serve<S: Source, K: Sink, C: Clock, D: Draw, P: Keeper>(
     ensures sink_never_falls { K.faults sink.old ≤ K.faults sink.new }
     ensures not_read { result ≡ Served.ReadFault → Rose (S.faults source.old) (S.faults source.new) }
     ensures not_written { result ≡ Served.WriteFault → Rose (K.faults sink.old) (K.faults sink.new) }
+    // A fault is told as itself, and as nothing else.
+    ensures source_uncounted { (S.faults source.new ≡ S.faults source.old) ⊎ (result ≡ Served.ReadFault) }
+    ensures sink_uncounted { (K.faults sink.new ≡ K.faults sink.old) ⊎ (result ≡ Served.WriteFault) }
     ensures not_kept { result ≡ Served.Opening no_keeper → Rose (P.shelf keeper.old).faults (P.shelf keeper.new).faults }
 {
     let lines = match read_lines(alloc, lines) {
@@ -118,6 +121,8 @@ fn run_all<S: Source, K: Sink, C: Clock, D: Draw, P: Keeper>(
     ensures sink_never_falls { K.faults sink.old ≤ K.faults sink.new }
     ensures not_read { IsErrOf result Stop.ReadFault → Rose (S.faults source.old) (S.faults source.new) }
     ensures not_written { IsErrOf result Stop.WriteFault → Rose (K.faults sink.old) (K.faults sink.new) }
+    ensures source_uncounted { (S.faults source.new ≡ S.faults source.old) ⊎ IsErrOf result Stop.ReadFault }
+    ensures sink_uncounted { (K.faults sink.new ≡ K.faults sink.old) ⊎ IsErrOf result Stop.WriteFault }
 {
     match pump(alloc, host, sink, draw, keeper) {
         Ok(()) => run_lines(
@@ -153,6 +158,8 @@ fn run_lines<S: Source, K: Sink, C: Clock, D: Draw, P: Keeper>(
     ensures sink_never_falls { K.faults sink.old ≤ K.faults sink.new }
     ensures not_read { IsErrOf result Stop.ReadFault → Rose (S.faults source.old) (S.faults source.new) }
     ensures not_written { IsErrOf result Stop.WriteFault → Rose (K.faults sink.old) (K.faults sink.new) }
+    ensures source_uncounted { (S.faults source.new ≡ S.faults source.old) ⊎ IsErrOf result Stop.ReadFault }
+    ensures sink_uncounted { (K.faults sink.new ≡ K.faults sink.old) ⊎ IsErrOf result Stop.WriteFault }
 {
     let mut taken = 0;
     for line in lines {
@@ -191,6 +198,8 @@ fn run_line<S: Source, K: Sink, C: Clock, D: Draw, P: Keeper>(
     ensures sink_never_falls { K.faults sink.old ≤ K.faults sink.new }
     ensures not_read { IsErrOf result Stop.ReadFault → Rose (S.faults source.old) (S.faults source.new) }
     ensures not_written { IsErrOf result Stop.WriteFault → Rose (K.faults sink.old) (K.faults sink.new) }
+    ensures source_uncounted { (S.faults source.new ≡ S.faults source.old) ⊎ IsErrOf result Stop.ReadFault }
+    ensures sink_uncounted { (K.faults sink.new ≡ K.faults sink.old) ⊎ IsErrOf result Stop.WriteFault }
 {
     match line {
         PortLine::Plain { line } => run_plain(alloc, line, host, sink, draw, keeper),

@@ -1,6 +1,6 @@
 //! The steps of the host of a port: each is one call of the host, and the units that it puts out are written before the next.
 
-ghost use Rattle.std.specs.Prelude.{◌+◌, ◌≤◌, ◌∷◌, [], ℕ, List as Items, Option, length, OnOk, IfErr, IfOk, IsErrOf};
+ghost use Rattle.std.specs.Prelude.{◌≡◌, ◌⊎◌, ◌+◌, ◌≤◌, ◌∷◌, [], ℕ, List as Items, Option, length, OnOk, IfErr, IfOk, IsErrOf};
 ghost use Rattle.std.specs.Io.KnownBytes.{Appends, Consumes};
 ghost use Rattle.zw_base.specs.Faults.{Rose};
 ghost use Rattle.run_lines.specs.declared.reader.TheConstants.{MAX_INPUT, PIECE};
@@ -24,6 +24,7 @@ fn write_units<K: Sink>(alloc: Global, sink: &mut K, outs: &[HostOut]) -> Result
     ensures err { IfErr result (λ stop. WritesSome stop (K.written sink.old) (K.written sink.new) outs.now) }
     ensures never_falls { K.faults sink.old ≤ K.faults sink.new }
     ensures failed { IsErrOf result Stop.WriteFault → Rose (K.faults sink.old) (K.faults sink.new) }
+    ensures uncounted { (K.faults sink.new ≡ K.faults sink.old) ⊎ IsErrOf result Stop.WriteFault }
 {
     for one in outs {
         if let Err(stop) = write_unit(alloc, sink, one) {
@@ -39,6 +40,7 @@ fn write_unit<K: Sink>(alloc: Global, sink: &mut K, one: &HostOut) -> Result<(),
     ensures err { IfErr result (λ stop. WritesPart stop (K.written sink.old) (K.written sink.new) (unit_bytes one.now)) }
     ensures never_falls { K.faults sink.old ≤ K.faults sink.new }
     ensures failed { IsErrOf result Stop.WriteFault → Rose (K.faults sink.old) (K.faults sink.new) }
+    ensures uncounted { (K.faults sink.new ≡ K.faults sink.old) ⊎ IsErrOf result Stop.WriteFault }
 {
     match one {
         HostOut::Write(unit) => {
@@ -70,6 +72,7 @@ pub(crate) fn pump<K: Sink, D: Draw, P: Keeper>(
         (place host.new (P.shelf keeper.new)) (K.written sink.old) (K.written sink.new) left left taken) }
     ensures never_falls { K.faults sink.old ≤ K.faults sink.new }
     ensures failed { IsErrOf result Stop.WriteFault → Rose (K.faults sink.old) (K.faults sink.new) }
+    ensures uncounted { (K.faults sink.new ≡ K.faults sink.old) ⊎ IsErrOf result Stop.WriteFault }
 {
     let mut outs = List::new(alloc);
     match host.pump(draw, &mut outs, keeper) {
@@ -97,6 +100,7 @@ fn take<K: Sink, D: Draw, P: Keeper>(
         (place host.new (P.shelf keeper.new)) (K.written sink.old) (K.written sink.new) left left' taken) }
     ensures never_falls { K.faults sink.old ≤ K.faults sink.new }
     ensures failed { IsErrOf result Stop.WriteFault → Rose (K.faults sink.old) (K.faults sink.new) }
+    ensures uncounted { (K.faults sink.new ≡ K.faults sink.old) ⊎ IsErrOf result Stop.WriteFault }
 {
     let mut outs = List::new(alloc);
     match host.feed(piece, draw, &mut outs, keeper) {
@@ -121,6 +125,7 @@ fn tick<K: Sink, D: Draw, P: Keeper>(
         (place host.new (P.shelf keeper.new)) (K.written sink.old) (K.written sink.new) left left taken) }
     ensures never_falls { K.faults sink.old ≤ K.faults sink.new }
     ensures failed { IsErrOf result Stop.WriteFault → Rose (K.faults sink.old) (K.faults sink.new) }
+    ensures uncounted { (K.faults sink.new ≡ K.faults sink.old) ⊎ IsErrOf result Stop.WriteFault }
 {
     let mut outs = List::new(alloc);
     match host.tick(draw, &mut outs, keeper) {
@@ -145,6 +150,7 @@ fn tick_and_pump<K: Sink, D: Draw, P: Keeper>(
         (place host.new (P.shelf keeper.new)) (K.written sink.old) (K.written sink.new) left left taken) }
     ensures never_falls { K.faults sink.old ≤ K.faults sink.new }
     ensures failed { IsErrOf result Stop.WriteFault → Rose (K.faults sink.old) (K.faults sink.new) }
+    ensures uncounted { (K.faults sink.new ≡ K.faults sink.old) ⊎ IsErrOf result Stop.WriteFault }
 {
     match tick(alloc, host, sink, draw, keeper) {
         Ok(()) => pump(alloc, host, sink, draw, keeper),
@@ -169,6 +175,7 @@ pub(crate) fn tick_all<K: Sink, D: Draw, P: Keeper>(
         (place host.new (P.shelf keeper.new)) (K.written sink.old) (K.written sink.new) left left taken) }
     ensures never_falls { K.faults sink.old ≤ K.faults sink.new }
     ensures failed { IsErrOf result Stop.WriteFault → Rose (K.faults sink.old) (K.faults sink.new) }
+    ensures uncounted { (K.faults sink.new ≡ K.faults sink.old) ⊎ IsErrOf result Stop.WriteFault }
 {
     for _ in 0..ticks {
         if let Err(stop) = tick_and_pump(alloc, host, sink, draw, keeper) {
@@ -197,6 +204,7 @@ pub(crate) fn take_and_pump<K: Sink, D: Draw, P: Keeper>(
         (place host.new (P.shelf keeper.new)) (K.written sink.old) (K.written sink.new) left left' taken) }
     ensures never_falls { K.faults sink.old ≤ K.faults sink.new }
     ensures failed { IsErrOf result Stop.WriteFault → Rose (K.faults sink.old) (K.faults sink.new) }
+    ensures uncounted { (K.faults sink.new ≡ K.faults sink.old) ⊎ IsErrOf result Stop.WriteFault }
 {
     match take(alloc, host, piece, sink, draw, keeper) {
         Ok(()) => pump(alloc, host, sink, draw, keeper),
@@ -221,6 +229,7 @@ pub(crate) fn run_plain<K: Sink, D: Draw, P: Keeper>(
         (place host.new (P.shelf keeper.new)) (K.written sink.old) (K.written sink.new) left left taken) }
     ensures never_falls { K.faults sink.old ≤ K.faults sink.new }
     ensures failed { IsErrOf result Stop.WriteFault → Rose (K.faults sink.old) (K.faults sink.new) }
+    ensures uncounted { (K.faults sink.new ≡ K.faults sink.old) ⊎ IsErrOf result Stop.WriteFault }
 {
     let answer = match ask(host, line, keeper) {
         Ok(answer) => answer,

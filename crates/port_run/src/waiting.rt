@@ -40,6 +40,8 @@ pub(crate) fn wait<S: Source, K: Sink, C: Clock, D: Draw, P: Keeper>(
     ensures sink_never_falls { K.faults sink.old ≤ K.faults sink.new }
     ensures not_read { IsErrOf result Stop.ReadFault → Rose (S.faults source.old) (S.faults source.new) }
     ensures not_written { IsErrOf result Stop.WriteFault → Rose (K.faults sink.old) (K.faults sink.new) }
+    ensures source_uncounted { (S.faults source.new ≡ S.faults source.old) ⊎ IsErrOf result Stop.ReadFault }
+    ensures sink_uncounted { (K.faults sink.new ≡ K.faults sink.old) ⊎ IsErrOf result Stop.WriteFault }
 {
     let mut left = ticks;
     while left > 0 {
@@ -80,6 +82,8 @@ fn turn<S: Source, K: Sink, C: Clock, D: Draw, P: Keeper>(
     ensures sink_never_falls { K.faults sink.old ≤ K.faults sink.new }
     ensures not_read { IsErrOf result Stop.ReadFault → Rose (S.faults source.old) (S.faults source.new) }
     ensures not_written { IsErrOf result Stop.WriteFault → Rose (K.faults sink.old) (K.faults sink.new) }
+    ensures source_uncounted { (S.faults source.new ≡ S.faults source.old) ⊎ IsErrOf result Stop.ReadFault }
+    ensures sink_uncounted { (K.faults sink.new ≡ K.faults sink.old) ⊎ IsErrOf result Stop.WriteFault }
 {
     let mut piece = [0; PIECE];
     let got = match source.read(&mut piece) {
@@ -120,6 +124,7 @@ fn take_read<K: Sink, D: Draw, P: Keeper>(
         (place host.new (P.shelf keeper.new)) (K.written sink.old) (K.written sink.new) left left' taken) }
     ensures never_falls { K.faults sink.old ≤ K.faults sink.new }
     ensures failed { IsErrOf result Stop.WriteFault → Rose (K.faults sink.old) (K.faults sink.new) }
+    ensures uncounted { (K.faults sink.new ≡ K.faults sink.old) ⊎ IsErrOf result Stop.WriteFault }
 {
     if piece.is_empty() {
         return Ok(());

@@ -67,7 +67,7 @@ IsFate (entry.Lost frame) = Unit {0}
 IsFate (entry.Unheard frame) = Unit {0}
 IsFate _ = ⊥
 
-abbrev IsHeard : Entry → Type 0
+abbrev pub IsHeard : Entry → Type 0
 IsHeard (entry.Heard frame) = Unit {0}
 IsHeard _ = ⊥
 
@@ -84,13 +84,13 @@ counts_none past e is again = absurd is
 -- ---- what an outcome enters
 
 -- such an entry and no fate after it, and then so many have landed
-record Becomes (Is : Entry → Type 0) (lands : ℕ) (x : Outcome) : Type 0 where
-  first : Entry
-  rest : List Entry
-  told : x.entries ≡ first ∷ rest
-  is : Is first
-  once : AreFateless rest
-  now : landed_in x.outer ≡ lands
+pub record Becomes (Is : Entry → Type 0) (lands : ℕ) (x : Outcome) : Type 0 where
+  pub first : Entry
+  pub rest : List Entry
+  pub told : x.entries ≡ first ∷ rest
+  pub is : Is first
+  pub once : AreFateless rest
+  pub now : landed_in x.outer ≡ lands
 
 becomes : (Is : Entry → Type 0) (lands : ℕ) (devices : List State) (o : OuterState) (event : AirEvent) (first : Entry) (events : List AirEvent) → deals devices o event ≡ tells o (first ∷ []) → Is first
     → TellNoFate events → landed_in o ≡ lands → Becomes Is lands (each (deals devices) o (event ∷ events))
@@ -221,7 +221,7 @@ module _ (w : Outside) where
   unfolding mesh_after mesh_outs
   steps_again number drawn route = again_if number (remembered w.outer.air.frames number) drawn route
 
-  repeats_again : (refused : Option Refusal) (number : ℕ) (drawn : List ℕ) (route : Option Route)
+  pub repeats_again : (refused : Option Refusal) (number : ℕ) (drawn : List ℕ) (route : Option Route)
       → Rests (landed_in w.outer) (repeats w refused (mesh.Repeats number drawn route)) ⊎ Becomes IsHeard (landed_in w.outer) (repeats w refused (mesh.Repeats number drawn route))
   repeats_again None number drawn route = steps_again number drawn route
   repeats_again (Some NeverSent) number drawn route = inl (record { fateless = (tt, tt); lands = refl })

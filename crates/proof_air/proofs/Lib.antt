@@ -14,6 +14,7 @@ mod Putting
 mod Bringing
 pub mod Handling
 pub mod SentBefore
+pub mod Leaving
 pub mod Fateless
 pub mod Fated
 pub mod LandingWalk

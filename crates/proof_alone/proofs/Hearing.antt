@@ -24,7 +24,8 @@ use Rattle.proof_alone.specs.Phases.{Phase, IsBetween, May}
 use Rattle.proof_alone.specs.Runs.{Knowledge, Run, WalkOver, both_know}
 use Rattle.proof_alone.specs.Runs.Run.{Begins, Stepped, Turned}
 use Rattle.proof_alone.proofs.ReadingLines.{others_ask_nothing}
-use Rattle.proof_alone.proofs.ReadingWalk.{Anything, anything}
+use Rattle.proof_alone.specs.Reading.{Anything}
+use Rattle.proof_alone.proofs.ReadingWalk.{anything}
 use Rattle.proof_alone.specs.Words.{KnowsWords}
 use Rattle.proof_alone.proofs.Running.{over, run_keeps}
 use Rattle.proof_alone.proofs.Words.{words_walk}

@@ -1,5 +1,5 @@
 -- So the machine of the simulator is read as a host alone, over all lines.
-use Rattle.std.proofs.Common.{◌≡◌, ℕ, zero, suc, ◌+◌, Bool, true, false, inl, inr, List, [], ◌∷◌, ◌++◌, length, refl, sym, ◌∙◌, subst, append-nil}
+use Rattle.std.proofs.Common.{◌≡◌, ◌⊎◌, ℕ, zero, suc, ◌+◌, Bool, true, false, inl, inr, List, [], ◌∷◌, ◌++◌, length, refl, sym, ◌∙◌, subst, append-nil}
 use Rattle.std.specs.Prelude.{Option}
 use Rattle.serial_frame.specs.Stream.{Feeds, Rest, no_rest}
 use Rattle.serial_frame.specs.declared.item.Item.{Item}
@@ -46,19 +46,15 @@ use Rattle.proof_alone.specs.State.{HostMachine, first_alone}
 use Rattle.proof_alone.specs.Steps as step
 use Rattle.proof_alone.specs.Phases as alone
 use Rattle.proof_alone.specs.Steps.{AreFrames}
-use Rattle.proof_alone.specs.Reading.{EffectReads, IsFine, OnlyThen, Reads, ReadsAt, ReadsMarked, ReadsWith, read_of}
+use Rattle.proof_alone.specs.Reading.{Anything, EffectReads, HostKnows, KnowsAs, IsFine, OnlyThen, Reads, ReadsAt, ReadsMarked, ReadsWith, read_of}
 use Rattle.proof_alone.specs.Reading.EffectReads.{Asks_host, Refuses_line, Shows_node, Starts_again, Does_silently, Does_by_hand, Begins_discovery, Goes_on_asking, Clears_both, Clears_one, Is_done}
-use Rattle.proof_alone.specs.Runs.{Run, Told}
+use Rattle.proof_alone.specs.Runs.{Knowledge, Run, Told}
 use Rattle.proof_alone.specs.Runs.Run.{Begins, Stepped, Turned}
 use Rattle.proof_alone.proofs.Changing.{all_change}
 use Rattle.proof_alone.proofs.Coming.{AllChange}
 use Rattle.proof_alone.proofs.Others.{IsOfChip, arriving_told, takes_told, tick_told}
 use Rattle.proof_alone.proofs.Reading.{answered_reads, does_reads, same_way, takes_reads, tick_reads, told_reads}
 use Rattle.proof_alone.proofs.ReadingLines.{effect_done, effect_next, effect_reads, marked_of}
-
--- nothing is asked of an entry
-abbrev pub Anything : List Entry → Entry → Type 0
-Anything past e = Unit {0}
 
 pub anything : (past told : List Entry) → EachAfter Anything past told
 anything past [] = tt
@@ -338,5 +334,45 @@ all_fine m [] rests writes = tt
 all_fine m (event ∷ events) rests writes = ((rests.0, writes.0), all_fine (happens m event) events rests.1 writes.1)
 
 pub keeper_told : (start : HostMachine) (past : List Entry) (m : Machine) → Reads start alone.Resting 0 past m
-    → (n : HostMachine) × Run start alone.Resting past n × (n.records ≡ m.records)
-keeper_told start past m reads = (read_of 0 m (good_units reads.down), reads.run, refl)
+    → (n : HostMachine) × Run start alone.Resting past n × (n.records ≡ m.records) × (n.left ≡ 0)
+keeper_told start past m reads = (read_of 0 m (good_units reads.down), reads.run, refl, refl)
+
+-- ---- what is known of a host
+
+module _ (start : HostMachine) (Know : Knowledge) (each : (here : alone.Phase) (told : List Entry) (m : HostMachine) → Run start here told m → Know here told m) where
+  as_run : (here : alone.Phase) (left : ℕ) (past : List Entry) (m : Machine) (came : List LineUnit) → Run start here past (read_of left m came) → KnowsAs Know here left past m
+  as_run here left past m came run = (came, each here past (read_of left m came) run)
+
+  as_read : {Such : List LineUnit → Type 0} (here : alone.Phase) (left : ℕ) (past : List Entry) (m : Machine) → ReadsWith Such start here left past m → KnowsAs Know here left past m
+  as_read here left past m reads = as_run here left past m (good_units reads.down) reads.run
+
+  effect_known : (line : Line) (left : List Event) (past : List Entry) (m : Machine) → EffectReads start line left past m → KnowsAs Know (alone.Asked line) 0 past m ⊎ KnowsAs Know alone.Open 0 past m
+  effect_known line left past m (Asks_host event rest are leaves asked reads) = inl (as_read (alone.Asked line) 0 past m reads)
+  effect_known line left past m (Refuses_line refusal are reads) = inl (as_read (alone.Asked line) 0 past m reads)
+  effect_known line left past m (Shows_node node is are reads) = inl (as_read (alone.Asked line) 0 past m reads)
+  effect_known line left past m (Starts_again state is are reads) = inl (as_read (alone.Asked line) 0 past m reads)
+  effect_known line left past m (Does_silently event are silent asks reads) = inl (as_read (alone.Asked line) 0 past m reads)
+  effect_known line left past m (Does_by_hand event are hand others reads) = inl (as_read (alone.Asked line) 0 past m reads)
+  effect_known line left past m (Begins_discovery asked is are asks reads) = inl (as_read (alone.Asked line) 0 past m reads)
+  effect_known line left past m (Goes_on_asking is asks reads) = inl (as_read (alone.Asked line) 0 past m reads)
+  effect_known line left past m (Clears_both are reads) = inr (as_run alone.Open 0 past m [] reads.run)
+  effect_known line left past m (Clears_one are reads) = inr (as_run alone.Open 0 past m [] reads.run)
+  effect_known line left past m (Is_done leaves reads) = inr (as_read alone.Open 0 past m reads)
+
+  pub host_knows : (here : Phase) (past : List Entry) (m : Machine) → ReadsAt start here past m → HostKnows Know here past m
+  host_knows Between past m reads = as_read alone.Resting 0 past m reads
+  host_knows (Said_line line) past m reads = as_read (alone.Asked line) (ticks_of line) past (begun m) reads
+  host_knows (Begun line) past m reads = as_read (alone.Asked line) (ticks_of line) past m reads
+  host_knows (Doing line left) past m reads = effect_known line left past m reads
+  host_knows (To_tick ticks) past m reads = as_read alone.Resting ticks past m reads
+  host_knows (Ticked ticks) past m reads = as_read alone.Risen ticks past m reads
+  host_knows (Arriving frames ticks) past m reads = as_read alone.Risen ticks past m reads
+  host_knows (Giving results ticks) past m reads = as_read alone.Risen ticks past m reads
+  host_knows (Ticking_devices place count ticks) past m reads = as_read alone.Risen ticks past m reads
+  host_knows (Ticking_chip ticks) past m reads = as_read alone.Risen ticks past m reads
+  host_knows (Ticking_decoder ticks) past m reads = as_read alone.Risen ticks past m reads
+  host_knows (Ticking_host events ticks) past m reads = as_read (alone.Ticking events) ticks past m reads.1
+  host_knows (Sleeping passes ticks) past m reads = as_read alone.Sleeping ticks past m reads
+  host_knows (Submitting passes ticks) past m reads = as_read alone.Submitting ticks past m reads
+  host_knows (Moving passes ticks) past m reads = as_read alone.Resting ticks past m reads
+  host_knows (Moved has_moved passes ticks) past m reads = as_read {Such = OnlyThen has_moved m} alone.Open ticks past m reads

@@ -10,7 +10,8 @@ use Rattle.proof_alone.specs.Steps.{Step, Tells, Comes, Misses, Says, Says_nothi
 use Rattle.proof_alone.specs.Phases.{Phase, Resting, Asked, Risen, Ticking, Open, Behind, Sleeping, Submitting, GoesBy, IsBetween, May, Turns}
 use Rattle.proof_alone.specs.Runs.{Walk}
 use Rattle.proof_alone.specs.Words.{KnowsWords}
-use Rattle.proof_alone.proofs.ReadingWalk.{Anything, anything}
+use Rattle.proof_alone.specs.Reading.{Anything}
+use Rattle.proof_alone.proofs.ReadingWalk.{anything}
 
 -- in another phase nothing is known
 elsewhere : (next other : Phase) (past : List Entry) (m : HostMachine) → next ≡ other → KnowsWords other past m → KnowsWords next past m

@@ -1,6 +1,6 @@
 -- How the machine of the simulator is read as a host alone, at each phase of a line (this project's own rule): chip, air and devices are forgotten, and what has come for the host
 -- are the good units on their way to it.
-use Rattle.std.specs.Prelude.{◌≡◌, ℕ, Bool, true, false, List, [], ◌∷◌}
+use Rattle.std.specs.Prelude.{◌≡◌, ◌⊎◌, ℕ, Bool, true, false, List, [], ◌∷◌}
 use Rattle.std.specs.List.{AllByRecursion}
 use Rattle.serial_frame.specs.Stream.{no_rest}
 use Rattle.serial_frame.specs.declared.item.Item.{Item}
@@ -32,7 +32,7 @@ use Rattle.proof_line.specs.Marks.{KnowMarks}
 use Rattle.proof_alone.specs.State.{HostMachine, host_machine}
 use Rattle.proof_alone.specs.Steps.{AreFrames, AsksNothing, IsAskedBy}
 use Rattle.proof_alone.specs.Phases.{Phase, Resting, Asked, Risen, Ticking, Open, Sleeping, Submitting}
-use Rattle.proof_alone.specs.Runs.{Run}
+use Rattle.proof_alone.specs.Runs.{Knowledge, Run}
 
 -- the machine as a host alone, with so many ticks to come, and what has come for it
 abbrev pub read_of : ℕ → Machine → List LineUnit → HostMachine
@@ -143,3 +143,32 @@ IsFine m event = IsAtRest m event × WritesWell m event
 -- what is known of marks too: which frames are changed
 abbrev pub ReadsMarked : HostMachine → sim.Phase → KnownOf
 ReadsMarked start here past m = KnowMarks here past m × ReadsAt start here past m
+
+-- nothing is asked of an entry
+abbrev pub Anything : List Entry → Entry → Type 0
+Anything past e = Unit {0}
+
+-- ---- what is known of it
+
+-- of the machine as a host alone, with so many ticks to come and some units that have come for it
+abbrev pub KnowsAs : Knowledge → Phase → ℕ → List Entry → Machine → Type 0
+KnowsAs Know here left past m = (came : List LineUnit) × Know here past (read_of left m came)
+
+-- At each phase of a line. Of its effect the host does its part next, or has done it.
+abbrev pub HostKnows : Knowledge → sim.Phase → KnownOf
+HostKnows Know sim.Between past m = KnowsAs Know Resting 0 past m
+HostKnows Know (sim.Said_line line) past m = KnowsAs Know (Asked line) (ticks_of line) past (begun m)
+HostKnows Know (sim.Begun line) past m = KnowsAs Know (Asked line) (ticks_of line) past m
+HostKnows Know (sim.Doing line left) past m = KnowsAs Know (Asked line) 0 past m ⊎ KnowsAs Know Open 0 past m
+HostKnows Know (sim.To_tick ticks) past m = KnowsAs Know Resting ticks past m
+HostKnows Know (sim.Ticked ticks) past m = KnowsAs Know Risen ticks past m
+HostKnows Know (sim.Arriving frames ticks) past m = KnowsAs Know Risen ticks past m
+HostKnows Know (sim.Giving results ticks) past m = KnowsAs Know Risen ticks past m
+HostKnows Know (sim.Ticking_devices place count ticks) past m = KnowsAs Know Risen ticks past m
+HostKnows Know (sim.Ticking_chip ticks) past m = KnowsAs Know Risen ticks past m
+HostKnows Know (sim.Ticking_decoder ticks) past m = KnowsAs Know Risen ticks past m
+HostKnows Know (sim.Ticking_host events ticks) past m = KnowsAs Know (Ticking events) ticks past m
+HostKnows Know (sim.Sleeping passes ticks) past m = KnowsAs Know Sleeping ticks past m
+HostKnows Know (sim.Submitting passes ticks) past m = KnowsAs Know Submitting ticks past m
+HostKnows Know (sim.Moving passes ticks) past m = KnowsAs Know Resting ticks past m
+HostKnows Know (sim.Moved has_moved passes ticks) past m = KnowsAs Know Open ticks past m

@@ -1,16 +1,20 @@
 //! Lines of `sim`, as runs of a host alone.
 
-ghost use Rattle.std.specs.Prelude.{◌≡◌, Some, List, [], ℕ};
+ghost use Rattle.std.specs.Prelude.{◌≡◌, Option, Some, List, [], ℕ};
 ghost use Rattle.s0_crypto.specs.declared.key_pair.Keys.{Keys};
 ghost use Rattle.device_sim.specs.State.{State};
 ghost use Rattle.zw_text.specs.declared.entry.Entry.{Entry};
 ghost use Rattle.law_host.specs.Heard.{heard_by_host};
-ghost use Rattle.proof_line.specs.world_model.State.{first_machine};
+ghost use Rattle.proof_line.specs.world_model.State.{Machine, first_machine};
+ghost use Rattle.proof_line.specs.proof_walk.Phases.{Between};
+ghost use Rattle.proof_line.specs.proof_walk.Phases as sim;
+ghost use Rattle.proof_line.specs.proof_walk.Walk.{WalkWhere};
 ghost use Rattle.proof_line.specs.world_lines.Spoken.{Spoken, after_all, transcript_of};
 ghost use Rattle.proof_line.specs.world_lines.Done.{AreDone};
 ghost use Rattle.proof_line.specs.world_lines.Whole.{AreWhole};
 ghost use Rattle.proof_alone.specs.State.{HostMachine, first_alone};
 ghost use Rattle.proof_alone.specs.Phases.{Phase, Resting};
+ghost use Rattle.proof_alone.specs.Reading.{Anything, HostKnows, IsFine, ReadsMarked};
 ghost use Rattle.proof_alone.specs.Runs.{Run, Told, ToldWhole};
 
 use proof_line::marks_go_on;
@@ -19,7 +23,7 @@ use proof_line::world::lines_keep_and_ask_well;
 
 /// Over any lines from the first on, the last of which an allocation failure may have cut short, over a keeper that tells its records and has none at first,
 /// the transcript is that of a run of a host alone; where all were run whole, of one that ends at rest, with
-/// what the keeper tells in the end.
+/// what the keeper tells in the end, and no tick of its last line to come.
 pub fn lines_are_a_hosts()
     ensures told { (keys : Keys) (devices : List State) (lines : List Spoken) →
         AreDone (first_machine keys (Some []) devices) lines →
@@ -30,12 +34,25 @@ pub fn lines_are_a_hosts()
     ensures keeper { (keys : Keys) (devices : List State) (lines : List Spoken) →
         AreDone (first_machine keys (Some []) devices) lines → AreWhole (first_machine keys (Some []) devices) lines →
         (m : HostMachine) × Run (first_alone keys (Some [])) Resting (transcript_of (first_machine keys (Some []) devices) lines) m
-        × (m.records ≡ (after_all (first_machine keys (Some []) devices) lines).records) }
+        × (m.records ≡ (after_all (first_machine keys (Some []) devices) lines).records) × (m.left ≡ 0) }
 {
     marks_go_on();
     units_are_judged_whole();
     hosts_write_well();
     lines_keep_and_ask_well();
+}
+
+/// The walk by which it is so: at each phase of a line the machine is read as a host alone that such a run has led to, where both sides of the line are at rest as
+/// they tick, and write frames that the format carries. So what is known at each step of such runs is known of the
+/// host of the machine there.
+pub fn machines_are_read_as_hosts()
+    ensures walk { (start : HostMachine) → WalkWhere IsFine Anything (ReadsMarked start) }
+    ensures first { (keys : Keys) (records : Option (List (List ℕ))) (devices : List State) →
+        ReadsMarked (first_alone keys records) Between [] (first_machine keys records devices) }
+    ensures runs { (start : HostMachine) (here : sim.Phase) (past : List Entry) (m : Machine) → ReadsMarked start here past m →
+        HostKnows (Run start) here past m }
+{
+    marks_go_on();
 }
 
 /// And what a host heard of a run of a host alone is told by such a run too, which leads to the same machine. So it is of what the host heard of any such

@@ -14,7 +14,7 @@ mod hosts;
 mod tables;
 mod time;
 
-pub use hosts::{lines_are_a_hosts, what_is_heard_is_a_hosts};
+pub use hosts::{lines_are_a_hosts, machines_are_read_as_hosts, what_is_heard_is_a_hosts};
 pub use proof_line::traffic;
 pub use tables::{
     hosts_answer_what_is_asked, hosts_keep_their_tables, what_is_heard_keeps_the_laws_of_hosts,

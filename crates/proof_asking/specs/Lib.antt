@@ -1,3 +1,4 @@
 pub mod Asking
 pub use Rattle.proof_known.specs as proof_known
 pub use Rattle.proof_sending.specs as proof_sending
+pub use Rattle.proof_requests.specs as proof_requests

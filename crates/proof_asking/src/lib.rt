@@ -1,14 +1,20 @@
-//! What a host alone asks its chip to send is due, by what it heard.
+//! What a host alone asks its chip to send is due, by what it heard; and how each Set or Get that a line asked for has ended is said.
 //!
 //! What the host has to send has its reason by its own tables and by what it heard (`proof_sending`): so it is at each step of a host alone
 //! (`proof_alone`), whatever bytes came, since it has judged what the transcript shows to have come, and knows of each node what that listed in its last
 //! interview (`proof_known`). So each payload that it asks to be sent is due by the transcript (`hosts_send_what_is_due`).
+//! Where the request of a host ends it ends by the transcript, in that way and there (`proof_requests`). A Set or Get that is no part of a session is a command
+//! of a class that lines ask for, as no other payload is; so what was due is that a line asked for it, and how it ended is said of it and of no other
+//! (`ends_say_how_done`), along each run of a host alone (`hosts_say_how_done`) and in all lines (`lines_say_how_done`).
 //! The definitions are in `specs/Asking`: what is known at each phase. `proofs/Leaving` has entries that leave what came of the chip, `Telling` what the host
-//! enters, and `Walking` the walk.
+//! enters, and `Walking` the walk. `proofs/Sent` has what the last request carries, and that it was due; `proofs/SaidDone` reads off that how it ended.
 #![tactic(auto)]
 
+mod errands;
 mod sends;
 
+pub use errands::{ends_say_how_done, hosts_say_how_done, lines_say_how_done};
 pub use proof_known as known;
+pub use proof_requests as requests;
 pub use proof_sending as sending;
 pub use sends::hosts_send_what_is_due;

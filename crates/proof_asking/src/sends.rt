@@ -1,7 +1,7 @@
 //! What a host alone asks its chip to send.
 
 ghost use Rattle.std.specs.Prelude.{Some, List, [], ℕ};
-ghost use Rattle.device_kinds.specs.Sealing.{keys_of};
+ghost use Rattle.s0_crypto.specs.Sealing.{keys_of};
 ghost use Rattle.device_sim.specs.State.{State};
 ghost use Rattle.zw_text.specs.declared.entry.Entry.{Entry};
 ghost use Rattle.law_transcript.specs.Payloads.{SendsWhatIsDue};

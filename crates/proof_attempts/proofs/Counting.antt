@@ -124,7 +124,7 @@ answers_quiet h event = tt
 
 -- ---- since the host started
 
-awake_since : (n : ℕ) (past told start : List Entry) → since_restart (past ++ told) ≡ start ++ told → since_restart past ≡ start → counts_awake n (past ++ told) ≡ last_or (counts_awake n past) (wakings n told)
+pub awake_since : (n : ℕ) (past told start : List Entry) → since_restart (past ++ told) ≡ start ++ told → since_restart past ≡ start → counts_awake n (past ++ told) ≡ last_or (counts_awake n past) (wakings n told)
 awake_since n past told start is was =
     ap (λ (l : List Entry). last_or false (wakings n l)) is ∙ ap (λ (l : List Bool). last_or false l) (shown-append (waking_at n) start told)
     ∙ last_joined false (wakings n start) (wakings n told) ∙ ap (λ (l : List Entry). last_or (last_or false (wakings n l)) (wakings n told)) (sym was)
@@ -150,7 +150,7 @@ before_awake (Node_ticks node) n w = by (node == n)
     by false = refl
 before_awake event n w = refl
 
-event_awake : (h : HostState) (event : HostEvent) (told : List Entry) → AreTold (outs h event) told → length h.nodes ≡ 233 → (n : ℕ) → 1 ≤ n → n ≤ 232
+pub event_awake : (h : HostState) (event : HostEvent) (told : List Entry) → AreTold (outs h event) told → length h.nodes ≡ 233 → (n : ℕ) → 1 ≤ n → n ≤ 232
     → (node_of (after h event) n).awake ≡ last_or (node_of h n).awake (wakings n told)
 event_awake h event told are places n from to =
     let within : n < length h.nodes = omega (arith, places, to) in

@@ -40,7 +40,7 @@ use Rattle.host_model.specs.State.{HostState, node_of}
 use Rattle.host_model.specs.After.{after}
 use Rattle.host_model.specs.Did.{after_all}
 use Rattle.host_node.specs.declared.attempt.Moment.TheVariants.{BetweenTicks}
-use Rattle.host_model.specs.Events.{HostEvent, Accepts, Requests_do, Line_ticks, Node_ticks, Begins, Interviews, Interview_unkept, Unreads, Is_unkept, Reports_old, Works, Finishes, Offers, Gives, Spends, Spends_unread, Takes_nonce, Notifies, Resends, Hears_value, Has_no_room}
+use Rattle.host_model.specs.Events.{HostEvent, Accepts, Queues, Requests_do, Line_ticks, Node_ticks, Begins, Interviews, Interview_unkept, Unreads, Is_unkept, Reports_old, Works, Finishes, Offers, Gives, Spends, Spends_unread, Takes_nonce, Notifies, Resends, Hears_value, Has_no_room}
 use Rattle.host_model.specs.May.{says_listens}
 use Rattle.host_model.specs.Taking.{AreTaken, FinalEvents, FrameEvents, InterviewEvents, IsOpened, IsTaken, NonceGetEvents, NonceReportEvents, NoticeEvents, PayloadEvents, ReportEvents, ResponseEvents, SealedEvents, is_secure, resent, value_event, value_events}
 use Rattle.proof_waking.proofs.Always.{either, none, one}
@@ -54,13 +54,14 @@ Tells (Messages messages) id wake = Has (flat_map (stays_by id) messages) wake
 Tells Sealed id wake = Unit {0}
 Tells Unread id wake = ⊥
 
--- a session that ends is of this node, and ends so; nothing of a request or a tick comes, no command is accepted, and no session begins
+-- a session that ends is of this node, and ends so; nothing of a request or a tick comes, no command is accepted, no line asks for a request, and no session begins
 abbrev Ends : ℕ → (ℕ → Bool → Type 0) → HostEvent → Type 0
 Ends n By (Finishes m session id command final wake) = (m ≡ n) × By id wake
 Ends n By Line_ticks = ⊥
 Ends n By (Node_ticks m) = ⊥
 Ends n By (Requests_do event moment) = ⊥
 Ends n By (Accepts order carriage) = ⊥
+Ends n By (Queues task) = ⊥
 Ends n By (Begins m session command) = ⊥
 Ends n By event = Unit {0}
 
@@ -180,6 +181,7 @@ Brings unit Line_ticks = ⊥
 Brings unit (Node_ticks m) = ⊥
 Brings unit (Requests_do event moment) = moment ≡ BetweenTicks
 Brings unit (Accepts order carriage) = ⊥
+Brings unit (Queues task) = ⊥
 Brings unit (Begins m session command) = ⊥
 Brings unit event = Unit {0}
 
@@ -191,6 +193,7 @@ own_brings unit source payload is Line_ticks ends = absurd ends
 own_brings unit source payload is (Node_ticks m) ends = absurd ends
 own_brings unit source payload is (Requests_do event moment) ends = absurd ends
 own_brings unit source payload is (Accepts order carriage) ends = absurd ends
+own_brings unit source payload is (Queues task) ends = absurd ends
 own_brings unit source payload is (Begins m session command) ends = absurd ends
 own_brings unit source payload is event ends = tt
 

@@ -164,7 +164,7 @@ opened_command h n session id command status it =
 
 -- ---- the entries of a session that ends
 
-noted_told : (notes told : List Entry) → AreTold (noted notes) told → told ≡ notes
+pub noted_told : (notes told : List Entry) → AreTold (noted notes) told → told ≡ notes
 noted_told [] told is = is
 noted_told (e ∷ notes) told (rest, is, more) = is ∙ ap (λ (l : List Entry). e ∷ l) (noted_told notes rest more)
 

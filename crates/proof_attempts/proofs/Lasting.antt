@@ -73,7 +73,7 @@ module _ (Tie : TieOf) where
   as_known : (here is : Phase) (past : List Entry) (m : HostMachine) → here ≡ is → KnowsSince Tie here past m → KnowsSince Tie is past m
   as_known here is past m same known = subst (λ (p : Phase). KnowsSince Tie p past m) same known
 
-  numbered_else : (here : Phase) (past : List Entry) (m : HostMachine) → m.awaits ≡ true → KnowsSince Tie here past m → IsElse here
+  pub numbered_else : (here : Phase) (past : List Entry) (m : HostMachine) → m.awaits ≡ true → KnowsSince Tie here past m → IsElse here
   numbered_else (Asked line) past m awaits known = absurd (both_ways m.awaits known.unnumbered awaits)
   numbered_else here past m awaits known = tt
 
@@ -208,8 +208,8 @@ module _ (keys : Keys) (Ground Know : Knowledge) (grounds : AlongRuns keys Groun
 
   -- and a law over it
   pub law_along : (Law : List Entry → Entry → Type 0) → WalkOver Ground (λ past e. Unit {0}) Law Know → Know Resting [] (first_alone keys (Some [])) → (here : Phase) (told : List Entry) (m : HostMachine)
-      → Run (first_alone keys (Some [])) here told m → EachAfter Law [] told
-  law_along Law walk first here told m run = (run_keeps Law (both_know (λ here past m. Run (first_alone keys (Some [])) here past m) Know) reached [] run (Begins, first)).0
+      → Run (first_alone keys (Some [])) here told m → EachAfter Law [] told × Know here told m
+  law_along Law walk first here told m run = let got = run_keeps Law (both_know (λ here past m. Run (first_alone keys (Some [])) here past m) Know) reached [] run (Begins, first) in (got.0, got.1.1)
     where
       reached : Walk Law (both_know (λ here past m. Run (first_alone keys (Some [])) here past m) Know)
       reached = record {

@@ -15,5 +15,15 @@ mod Doings
 mod SeriesTold
 mod SeriesGoes
 mod SeriesTie
+mod Payloads
+mod Carried
+mod Requested
+mod Wrote
+mod Slept
+mod Owing
+mod Late
+mod Sleeping
+mod Asleep
+mod AttemptsGo
 pub use Rattle.proof_work.proofs.Times
 pub use Rattle.proof_work.proofs.HostNotes

@@ -36,7 +36,7 @@ pub has_last : (first : ℕ) (more : List ℕ) → IsLast (first ∷ more)
 has_last first [] = record { front = []; last = first; are = refl }
 has_last first (next ∷ more) = let rest = has_last next more in record { front = first ∷ rest.front; last = rest.last; are = ap (λ (l : List ℕ). first ∷ l) rest.are }
 
-pub last_is : (front : List ℕ) (last : ℕ) → last_of (front ++ last ∷ []) ≡ last ∷ []
+pub last_is : {A : Type 0} (front : List A) (last : A) → last_of (front ++ last ∷ []) ≡ last ∷ []
 last_is front last =
     let long = length-append front (last ∷ []) in
     let place : length (front ++ last ∷ []) - 1 ≡ length front = omega (arith, long) in

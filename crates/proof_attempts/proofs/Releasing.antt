@@ -37,7 +37,7 @@ opens Idle node facts runs = absurd (let bad : false ≡ true = runs in cc)
 opens Due node facts runs = facts.0.is_open
 opens Running node facts runs = facts.0.is_open
 
-not_is : (b : Bool) → not b ≡ is_false b
+pub not_is : (b : Bool) → not b ≡ is_false b
 not_is true = refl
 not_is false = refl
 

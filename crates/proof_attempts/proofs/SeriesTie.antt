@@ -420,6 +420,7 @@ item_tie : (here next : Phase) (past : List Entry) (m : HostMachine) (event : Ho
     → IsNumbered m told → IsElse next → KnowsSeries next (past ++ told) (done m event) → (n : ℕ) → 1 ≤ n → n ≤ 232 → At n past (node_of m.state n) m.clock
     → At n (past ++ told) (node_of (after m.state event) n) m.clock
 item_tie here next past m (Notifies k) told is ground may are numbered other later n from to tie = notifies_tie here next past m k told ground other later are numbered n from to tie
+item_tie here next past m (Queues task) told is ground may are numbered other later n from to tie = absurd is
 item_tie here next past m event told is ground may are numbered other later n from to tie = between_tie here past m event told ground may is are numbered n to tie
 
 abbrev IsSubmitted : HostEvent → Type 0

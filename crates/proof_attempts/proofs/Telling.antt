@@ -85,10 +85,13 @@ same_sessions_by n past e none = shown-append (session_at n) past (e ∷ []) ∙
 pub same_sessions : (n : ℕ) (past : List Entry) (e : Entry) → IsSteady e → sessions n (past ++ e ∷ []) ≡ sessions n past
 same_sessions n past e steady = same_sessions_by n past e (no_session n e steady)
 
-pub same_listens : (n : ℕ) (past : List Entry) (e : Entry) → IsSteady e → listens n (past ++ e ∷ []) ≡ listens n past
-same_listens n past e steady =
+pub same_listens_by : (n : ℕ) (past : List Entry) (e : Entry) → listening_at n past e ≡ [] → listens n (past ++ e ∷ []) ≡ listens n past
+same_listens_by n past e none =
     ap (λ (l : List Bool). last_or (n == first_node) l)
-    (shown_one (listening_at n) [] past e ∙ ap (λ (l : List Bool). shown_after (listening_at n) [] past ++ l) (no_interview n past e steady) ∙ append-nil (shown_after (listening_at n) [] past))
+    (shown_one (listening_at n) [] past e ∙ ap (λ (l : List Bool). shown_after (listening_at n) [] past ++ l) none ∙ append-nil (shown_after (listening_at n) [] past))
+
+pub same_listens : (n : ℕ) (past : List Entry) (e : Entry) → IsSteady e → listens n (past ++ e ∷ []) ≡ listens n past
+same_listens n past e steady = same_listens_by n past e (no_interview n past e steady)
 
 pub same_releases : (n : ℕ) (past : List Entry) (e : Entry) (number : ℕ) → IsSteady e → told_releases n (past ++ e ∷ []) number ≡ told_releases n past number
 same_releases n past e number steady =

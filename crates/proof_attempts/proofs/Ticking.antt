@@ -13,7 +13,7 @@ use Rattle.host_requests.specs.Events.RequestsEvent.{Fails as request_fails, IsS
 use Rattle.host_node.specs.State.{needs_tick}
 use Rattle.host_model.specs.State.{HostState, node_of}
 use Rattle.host_model.specs.After.{after, gives_up, is_busy}
-use Rattle.host_model.specs.Events.{HostEvent, Accepts, Begins, Hears, Line_ticks, Node_ticks, Requests_do}
+use Rattle.host_model.specs.Events.{HostEvent, Accepts, Begins, Hears, Line_ticks, Node_ticks, Queues, Requests_do}
 use Rattle.host_model.specs.Taking.{IsFollowed, told_if}
 use Rattle.host_model.specs.Ticking.{ticking_nodes}
 use Rattle.proof_waking.specs.proof_alone.State.{HostMachine}
@@ -63,6 +63,7 @@ frame_between unit Line_ticks brings = absurd brings
 frame_between unit (Node_ticks n) brings = absurd brings
 frame_between unit (Requests_do event moment) brings = brings
 frame_between unit (Accepts order carriage) brings = absurd brings
+frame_between unit (Queues task) brings = absurd brings
 frame_between unit (Begins n session command) brings = absurd brings
 frame_between unit event brings = tt
 

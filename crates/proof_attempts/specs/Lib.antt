@@ -4,4 +4,8 @@ pub mod Working
 pub mod Series
 pub mod Kept
 pub mod Waiting
+pub mod Carried
+pub mod Slept
+pub mod Asleep
+pub mod Attempts
 pub use Rattle.proof_work.specs.proof_walk as proof_walk

@@ -18,7 +18,7 @@ use Rattle.host_requests.specs.Events.RequestsEvent.{Ticks as request_ticks}
 use Rattle.host_node.specs.declared.attempt.Moment.TheVariants.{BeforeItsTick, BetweenTicks}
 use Rattle.host_model.specs.Did.{MayAll, after_all}
 use Rattle.host_model.specs.Ticking.{first_ticks, ticking_nodes}
-use Rattle.host_model.specs.Events.{HostEvent, Accepts, Begins, Hears, Line_ticks, Node_ticks, Requests_do}
+use Rattle.host_model.specs.Events.{HostEvent, Accepts, Begins, Hears, Line_ticks, Node_ticks, Queues, Requests_do}
 use Rattle.host_model.specs.After.{after}
 use Rattle.host_model.specs.Outs.{answers}
 use Rattle.world_model.specs.Events.{OpensFrom}
@@ -55,7 +55,7 @@ TicksLeft h (Line_ticks ∷ left) = left ≡ Requests_do request_ticks BeforeIts
 TicksLeft h (Requests_do event moment ∷ left) = (moment ≡ BeforeItsTick) × (left ≡ map Node_ticks (ticking_nodes (after h (Requests_do event moment))))
 TicksLeft h left = AreNodeTicks left
 
--- no node ticks; and behind an item nothing of a tick comes, no command is accepted, and no session begins
+-- no node ticks; and behind an item nothing of a tick comes, no command is accepted, no line asks for a request, and no session begins
 abbrev pub IsBetweenTicks : HostEvent → Type 0
 IsBetweenTicks (Node_ticks n) = ⊥
 IsBetweenTicks event = Unit {0}
@@ -65,6 +65,7 @@ IsOfItem Line_ticks = ⊥
 IsOfItem (Node_ticks n) = ⊥
 IsOfItem (Requests_do event moment) = moment ≡ BetweenTicks
 IsOfItem (Accepts order carriage) = ⊥
+IsOfItem (Queues task) = ⊥
 IsOfItem (Begins n session command) = ⊥
 IsOfItem event = Unit {0}
 

@@ -41,7 +41,6 @@ ghost use Rattle.host_model.specs.State.{HostState, first_host, node_of};
 ghost use Rattle.s0_crypto.specs.declared.key_pair.Keys.{Keys};
 ghost use Rattle.proof_waking.specs.proof_alone.State.{HostMachine, first_alone};
 ghost use Rattle.proof_waking.specs.proof_alone.Phases.{Phase, Resting, Risen, Turns};
-ghost use Rattle.proof_waking.specs.proof_alone.Listening.{KnowsListening};
 ghost use Rattle.proof_waking.specs.proof_alone.Runs.{Run};
 ghost use Rattle.proof_attempts.specs.Since.{AlongRuns, IsElse, KnowsSince};
 ghost use Rattle.proof_host.specs.Facts.{Facts};
@@ -57,6 +56,7 @@ ghost use Rattle.proof_attempts.specs.Series.{
 
 use crate::waking::hosts_count_awake;
 use crate::work::{hosts_know_their_work, hosts_tell_those_that_wait_for_nothing};
+use proof_requests::hosts_listen_as_told;
 use proof_waking::alone::hosts_keep_their_tables;
 
 /// The last session of a node by the transcript is that of its book in the host, and it is open as there. The commands that wait for it are those in the
@@ -111,15 +111,16 @@ pub fn series_go_with_ticks()
         RunsAsTold here past m.state m.clock → RunsAsTold next past m.state m.clock }
 {}
 
-/// In any run of a host alone, over a keeper that tells its records and has none at first, where along such runs each node listens by the transcript as it
-/// does in the host: a series of attempts runs by the transcript where it is due or runs in the host, and another one may be due by it as many ticks from now
-/// as the host waits for that. So where the host rests `runs` of `law_time` says which series the host runs.
+/// In any run of a host alone, over a keeper that tells its records and has none at first: a series of attempts runs by the transcript where it is due or
+/// runs in the host, and another one may be due by it as many ticks from now as the host waits for that. So where the host rests `runs` of `law_time` says
+/// which series the host runs.
 pub fn hosts_run_series_as_told()
-    ensures along { (keys : Keys) → AlongRuns keys KnowsListening → AlongRuns keys (KnowsSince RunsAsTold) }
-    ensures rests { (keys : Keys) → AlongRuns keys KnowsListening → (told : List Entry) (m : HostMachine) →
+    ensures along { (keys : Keys) → AlongRuns keys (KnowsSince RunsAsTold) }
+    ensures rests { (keys : Keys) (told : List Entry) (m : HostMachine) →
         Run (first_alone keys (Some [])) Resting told m → (n : ℕ) → 1 ≤ n → n ≤ 232 → runs n told m.clock ≡ not (is_idle (node_of m.state n).series) }
 {
     hosts_keep_their_tables();
+    hosts_listen_as_told();
     hosts_count_awake();
     hosts_know_their_work();
     hosts_tell_those_that_wait_for_nothing();

@@ -8,7 +8,6 @@ ghost use Rattle.law_time.specs.Waking.{counts_awake};
 ghost use Rattle.host_model.specs.State.{node_of};
 ghost use Rattle.proof_host.specs.Laws.{MayStand};
 ghost use Rattle.proof_waking.specs.proof_alone.State.{HostMachine, first_alone};
-ghost use Rattle.proof_waking.specs.proof_alone.Listening.{KnowsListening};
 ghost use Rattle.proof_waking.specs.proof_alone.Phases.{Resting};
 ghost use Rattle.proof_waking.specs.proof_alone.Runs.{Run, Walk, both_know};
 ghost use Rattle.proof_waking.specs.proof_alone.Tables.{KnowsTables};
@@ -16,6 +15,7 @@ ghost use Rattle.proof_attempts.specs.Since.{AlongRuns, KnowsSince};
 ghost use Rattle.proof_attempts.specs.Waking.{CountsAwake, HeldAsTold};
 
 use crate::work::hosts_know_their_work;
+use proof_requests::hosts_listen_as_told;
 use proof_waking::alone::hosts_keep_their_tables;
 use proof_work::work_in_order_means;
 
@@ -30,13 +30,13 @@ pub fn hosts_count_awake()
     hosts_keep_their_tables();
 }
 
-/// In such a run each node is held for as many ticks as its transcript tells, where along such runs each node listens by it as it does in the host; in a tick,
-/// by how far it has come itself.
+/// In such a run each node is held for as many ticks as its transcript tells; in a tick, by how far it has come itself.
 pub fn hosts_hold_as_told()
-    ensures along { (keys : Keys) → AlongRuns keys KnowsListening → AlongRuns keys (KnowsSince HeldAsTold) }
-    ensures rests { (keys : Keys) → AlongRuns keys KnowsListening → (told : List Entry) (m : HostMachine) → Run (first_alone keys (Some [])) Resting told m →
+    ensures along { (keys : Keys) → AlongRuns keys (KnowsSince HeldAsTold) }
+    ensures rests { (keys : Keys) (told : List Entry) (m : HostMachine) → Run (first_alone keys (Some [])) Resting told m →
         (n : ℕ) → 1 ≤ n → n ≤ 232 → (node_of m.state n).hold ≡ held_until n told - m.clock }
 {
+    hosts_listen_as_told();
     hosts_know_their_work();
     work_in_order_means();
 }

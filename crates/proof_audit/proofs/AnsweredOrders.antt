@@ -2,7 +2,7 @@
 use Rattle.std.proofs.Common.{◌≡◌, ℕ, suc, ◌+◌, ◌≤◌, cond, Bool, true, false, not, List, [], ◌∷◌, ◌++◌, length, length-append, take_at, append-nil, ◌-◌, eqb, Option, Some, None, inl, inr, arith, is_some, refl, sym, ap, subst, ◌∙◌, Result, Ok, Err, true≢false, unwrap_or}
 use Rattle.std.specs.Prelude.{nat_lt}
 use Rattle.std.specs.List.{AllByRecursion, flat_map, list_any}
-use Rattle.std.proofs.lemmas.Bool.{eqb-true, lt-ltb, ltb-false, or_parts}
+use Rattle.std.proofs.lemmas.Bool.{eqb-true, lt-ltb, ltb-false, or_parts, not-true as not_so}
 use Rattle.zw_base.proofs.Each.{all-append}
 use Rattle.zw_base.specs.declared.order.Order.{Order}
 use Rattle.zw_base.specs.declared.order.What.{What}
@@ -31,7 +31,7 @@ use Rattle.host_orders.specs.declared.actuator.Actuator.{Actuator}
 use Rattle.host_orders.specs.declared.actuator.Actuator.TheVariants as actuators
 use Rattle.host_orders.specs.declared.refused.Refused.{Refused as HostRefusal}
 use Rattle.host_orders.specs.declared.refused.Refused.TheVariants as host
-use Rattle.host_model.proofs.Accepted.{holds, not_so}
+use Rattle.host_model.proofs.Accepted.{holds}
 use Rattle.law_transcript.specs.Answers.{AnswersLines, Follows, IsAnswer, IsRefusal, MayAnswer, answer_to, answered_by, before_last, known_of, properties_with, refusal_entry, refusals_around, refusals_by_host, refusals_to, refused_unless, refused_without}
 use Rattle.law_transcript.specs.Lists.{listed}
 use Rattle.law_transcript.specs.Nodes.{device_of, host_list, is_interviewed, known_at_first, listed_by, listing_of, always}
@@ -41,6 +41,7 @@ use Rattle.air_frames.specs.declared.ages.Refusal.TheVariants as air
 use Rattle.audit_books.specs.Asking.{actuator_by, is_setting, kind_at}
 use Rattle.proof_host.proofs.Lists.{each-weaker}
 use Rattle.proof_audit.specs.Books.{AreAsked, IsAsked, IsOfItsKind, MayBeAsked}
+use Rattle.proof_headline.proofs.Unasked.{first_none as first-none}
 
 -- ---- refusals
 
@@ -96,10 +97,6 @@ refused-accepts line [] command node all may = may
 refused-accepts line (refusal ∷ more) command node all may = subst IsRefused may all.0
 
 -- ---- an order that no rule refuses
-
-first-none : (first : Option HostRefusal) (more : List (Option HostRefusal)) → first_some (first ∷ more) ≡ None → (first ≡ None) × (first_some more ≡ None)
-first-none None more e = (refl, e)
-first-none (Some refused) more e = absurd cc
 
 rule-none : (refused : Option HostRefusal) (properties : ℕ) → refusal_or refused properties ≡ None → refused ≡ None
 rule-none None properties e = refl

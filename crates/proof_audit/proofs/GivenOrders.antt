@@ -1,18 +1,16 @@
 -- The order of an accepted command is that of the line before it, by both ways to look for it.
-use Rattle.std.proofs.Common.{◌≡◌, ℕ, zero, suc, ◌+◌, ◌-◌, ◌<◌, ◌≤◌, cond, eqb, Bool, true, false, List, [], ◌∷◌, ◌++◌, length, Option, Some, None, inl, inr, arith, refl, sym, ap, ap₂, subst, ◌∙◌, append_assoc, append-nil, length-append, Result, Ok, Err}
+use Rattle.std.proofs.Common.{◌≡◌, ℕ, zero, suc, ◌+◌, ◌-◌, ◌<◌, ◌≤◌, cond, eqb, Bool, true, false, List, [], ◌∷◌, ◌++◌, length, Option, Some, None, inl, inr, arith, refl, sym, ap, ap₂, subst, ◌∙◌, append_assoc, append-nil, length-append}
 use Rattle.std.specs.Prelude.{slice_get}
 use Rattle.std.specs.List.{AllByRecursion, flat_map}
 use Rattle.std.proofs.lemmas.Bool.{eq-eqb, eqb-true, ne_eqb}
 use Rattle.zw_base.proofs.Each.{all-append, all-left, all-right, all-weaker}
-use Rattle.std.proofs.Math.Dec.{eqb-suc-zero}
 use Rattle.zw_base.specs.declared.order.Order.{Order}
-use Rattle.zw_words.specs.declared.fault.LineFault.{LineFault}
 use Rattle.zw_text.specs.Line.{line_at}
 use Rattle.zw_text.specs.declared.line.Line.{Line}
 use Rattle.zw_text.specs.declared.line.Line.TheVariants.{Command as Commanded}
 use Rattle.zw_text.specs.declared.entry.Entry.{Entry}
 use Rattle.zw_text.specs.declared.entry.Entry.TheVariants.{Accepted, Said}
-use Rattle.zw_text.specs.Transcript.{Accepting, Command, accepted, accepted_at, accepted_number, accepted_numbers, accepting, folded, line_after, line_last, line_of, not_accepting, numbered, order_for, read_as}
+use Rattle.zw_text.specs.Transcript.{Accepting, Command, accepted, accepted_at, accepted_number, accepted_numbers, accepting, folded, line_after, line_last, line_of, not_accepting, numbered, order_for}
 use Rattle.zw_text.proofs.Views.{folded-append, shown-append}
 use Rattle.law_transcript.specs.Lists.{EachAfter, Has}
 use Rattle.law_transcript.specs.Stores.{node_at}
@@ -20,11 +18,13 @@ use Rattle.law_transcript.proofs.Having.{shown_has}
 use Rattle.proof_host.specs.Laws.{MayAccept, accepted_for}
 use Rattle.audit_books.specs.Accepting.{order_at, order_there, order_to, orders_after}
 use Rattle.audit_books.specs.Keeping.{lines_of}
-use Rattle.audit_books.specs.Scenes.{line_read}
 use Rattle.audit_books.specs.SessionRule.{order_among}
 use Rattle.audit_table.specs.OrdersGiven.{Accepting as Given, accepting_after, accepting_at, line_shown, order_of}
 use Rattle.proof_audit.specs.Books.{AreAsked, IsAsked, MayBeAsked}
 use Rattle.proof_audit.proofs.Cutting.{Stands, each-before, each-cut, stands}
+use Rattle.audit_books.proofs.Accepts.{at-suc as order-at-next, at-new as order-last}
+use Rattle.audit_books.proofs.Follows.{read-same, line-kept}
+use Rattle.audit.proofs.Kept.{accepting-more as given-more}
 
 -- ---- accepted commands grow
 
@@ -39,10 +39,6 @@ accepted-from n so_far (entry ∷ rest) =
     accepted-from n (accepting n so_far entry) rest
     ∙ (append_assoc so_far.commands here (more_accepted n (line_of entry) rest)
     ∙ ap (λ (l : List Command). so_far.commands ++ l) (sym (accepted-from n (accepting n (record { commands = []; line = so_far.line }) entry) rest)))
-
-line-kept : (n : ℕ) (past : List Entry) (so_far : Accepting) (lines : List Line) → so_far.line ≡ lines → (folded (accepting n) so_far past).line ≡ folded line_after lines past
-line-kept n [] so_far lines same = same
-line-kept n (entry ∷ past) so_far lines same = line-kept n past (accepting n so_far entry) (line_of entry) refl
 
 pub accepted-grows : (n : ℕ) (past more : List Entry) → accepted n (past ++ more) ≡ accepted n past ++ more_accepted n (line_last past) more
 accepted-grows n past more =
@@ -72,26 +68,10 @@ among-right number (x ∷ xs) ys none = by (eqb x.number number) none (among-rig
 
 -- ---- the orders by number
 
-order-at-next : (orders : List (Option Order)) (k : ℕ) → order_at orders (suc k) ≡ order_there (slice_get orders k)
-order-at-next orders k =
-    let at : suc k - 1 ≡ k = omega arith in
-    ap₂ (λ (b : Bool) (j : ℕ). cond b None (order_there (slice_get orders j))) (eqb-suc-zero k) at
-
-get-last : (orders : List (Option Order)) (one : Option Order) (k : ℕ) → k ≡ length orders → slice_get (orders ++ (one ∷ [])) k ≡ Some one
-get-last [] one zero is = refl
-get-last [] one (suc k) is = absurd (omega (arith, is))
-get-last (first ∷ orders) one zero is = absurd (omega (arith, is))
-get-last (first ∷ orders) one (suc k) is = get-last orders one k (omega (arith, is))
-
 get-left : (orders more : List (Option Order)) (k : ℕ) (order : Order) → order_there (slice_get orders k) ≡ Some order → order_there (slice_get (orders ++ more) k) ≡ Some order
 get-left [] more k order is = absurd cc
 get-left (first ∷ orders) more zero order is = is
 get-left (first ∷ orders) more (suc k) order is = get-left orders more k order is
-
--- the number after the last gets the next order
-order-last : (orders : List (Option Order)) (one : Option Order) (command : ℕ) → command ≡ length orders + 1 → order_at (orders ++ (one ∷ [])) command ≡ one
-order-last orders one zero next = absurd (omega (arith, next))
-order-last orders one (suc k) next = order-at-next (orders ++ (one ∷ [])) k ∙ ap order_there (get-last orders one k (omega (arith, next)))
 
 -- and keeps it
 order-left : (orders more : List (Option Order)) (command : ℕ) (order : Order) → order_at orders command ≡ Some order → order_at (orders ++ more) command ≡ Some order
@@ -120,11 +100,6 @@ orders-grow past more =
     ap (λ (one : Given). one.orders) (folded-append accepting_after (record { orders = []; line = None }) past more)
     ∙ orders-from (folded accepting_after (record { orders = []; line = None }) past) more
 
-read-same : (found : Result (Option Line) LineFault) → lines_of (line_read found) ≡ read_as found
-read-same (Ok (Some line)) = refl
-read-same (Ok None) = refl
-read-same (Err fault) = refl
-
 shown-same : (entry : Entry) → lines_of (line_shown entry) ≡ line_of entry
 shown-same (Said words) = read-same (line_at words)
 shown-same other = refl
@@ -133,9 +108,6 @@ shown-same other = refl
 pub record AreGiven (past : List Entry) : Type 0 where
   pub count : length (accepting_at past).orders ≡ length (accepted_numbers past)
   pub line : lines_of (accepting_at past).line ≡ line_last past
-
-pub given-more : (past : List Entry) (entry : Entry) → accepting_at (past ++ (entry ∷ [])) ≡ accepting_after (accepting_at past) entry
-given-more past entry = folded-append accepting_after (record { orders = []; line = None }) past (entry ∷ [])
 
 accepted-one : (n : ℕ) (past : List Entry) (entry : Entry) (lines : List Line) → lines ≡ line_last past → accepted n (past ++ (entry ∷ [])) ≡ accepted n past ++ accepted_at n lines entry
 accepted-one n past entry lines same = accepted-grows n past (entry ∷ []) ∙ ap (λ (l : List Line). accepted n past ++ accepted_at n l entry) (sym same)

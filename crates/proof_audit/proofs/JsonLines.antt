@@ -4,8 +4,7 @@ use Rattle.std.specs.Prelude.{Option, Some, None}
 use Rattle.std.specs.List.{list_all}
 use Rattle.std.specs.Fmt.{digit_glyph, digits, digits_onto}
 use Rattle.std.specs.Char.{digit_char}
-use Rattle.std.proofs.lemmas.Bool.{and_from, and_parts, false≢true, ne_eqb}
-use Rattle.std.proofs.lemmas.List.Sums.{sum_by-cons}
+use Rattle.std.proofs.lemmas.Bool.{and_from, false≢true, ne_eqb}
 use Rattle.json.specs.Print.{escape, escape_byte, escape_letter, quoted}
 use Rattle.serde_json.specs.Data.{Data, number, unsigned, string, array, Members, member, no_members}
 use Rattle.serde_json.specs.View.{items_of}
@@ -13,8 +12,8 @@ use Rattle.serde_json.specs.Written.{comma_if, compact_text, items_text, members
 use Rattle.value_store.specs.declared.stored.Held.{Held}
 use Rattle.value_store.specs.ValueText.{held_data, property_text, value_data, values_text}
 use Rattle.zw_text.specs.Fits.{feeds}
-use Rattle.zw_parse.proofs.Back.{one_if}
-use Rattle.zw_parse.proofs.Pieces.{Lacks, lacks-append, not_that}
+use Rattle.zw_parse.proofs.Pieces.{Lacks, lacks-append}
+use Rattle.zw_parse.proofs.EntryLaws.{feeds-none as none_counted}
 
 abbrev is_no_feed : ℕ → Bool
 is_no_feed b = not (eqb b 10)
@@ -123,13 +122,6 @@ values_lack node helds =
     (member_lacks true (codes "values") (array (items_of (map held_data helds))) no_members (items_lack false helds) refl)
 
 -- ---- all of it
-
--- a text without a line feed has none
-pub none_counted : (text : List ℕ) → Lacks 10 text → feeds text ≡ 0
-none_counted [] lacks = refl
-none_counted (b ∷ bs) lacks =
-    let halves = and_parts (is_no_feed b) (list_all is_no_feed bs) lacks in
-    omega (arith, sum_by-cons (λ y. cond (eqb y 10) 1 0) b bs, ap one_if (not_that (eqb b 10) halves.0), none_counted bs halves.1)
 
 pub values_are_one_line : (node : ℕ) (helds : List Held) → feeds (values_text node helds) ≡ 0
 values_are_one_line node helds = none_counted (values_text node helds) (values_lack node helds)

@@ -24,7 +24,8 @@ use Rattle.proof_audit.specs.Books.{AreAsked, MayBeAsked}
 use Rattle.proof_audit.specs.Tables.{IsToStore, to_store, to_store_from, to_store_step}
 use Rattle.proof_audit.proofs.AskedSettings.{accepted-or-none, settings-are}
 use Rattle.proof_audit.proofs.Cutting.{each-before, each-cut, keeps-each}
-use Rattle.proof_audit.proofs.GivenOrders.{is-given-for, given-more as given-one}
+use Rattle.proof_audit.proofs.GivenOrders.{is-given-for}
+use Rattle.audit.proofs.Kept.{accepting-more as given-one}
 use Rattle.proof_audit.proofs.SameSettings.{setting-itself}
 
 -- ---- values from a place on

@@ -2,7 +2,7 @@
 
 ghost use Rattle.std.specs.Prelude.{◌≡◌, ℕ, Bool, List as Items, [], Some, ◌++◌};
 ghost use Rattle.std.specs.List.{AllByRecursion};
-ghost use Rattle.device_kinds.specs.Sealing.{keys_of};
+ghost use Rattle.s0_crypto.specs.Sealing.{keys_of};
 ghost use Rattle.device_stack.specs.State.{State};
 ghost use Rattle.zw_text.specs.declared.entry.Entry.{Entry};
 ghost use Rattle.law_transcript.specs.Answers.{AnswersLines};

@@ -44,13 +44,13 @@ pub record Asked (down : List LineUnit) (turn : Turn) (most : ℕ) (o n : OuterS
   pub given_up : n.chip.state.aborted ≡ o.chip.state.aborted
 
 -- the outcome, by the link's frame
-abbrev by_turn : OuterState → FrameParts → ℕ → List ℕ → ℕ → Option Route → Turn → OuterState
+abbrev pub by_turn : OuterState → FrameParts → ℕ → List ℕ → ℕ → Option Route → Turn → OuterState
 by_turn o f node payload id route turn =
     let hs : ChipState = heard o.chip.state (Good (Framed f)) in
     (each put_out (with_chip o (record (record hs { port = queued_at turn hs.port response }) { sending = Some (record { node = node; callback_id = id }) }))
     (Write Ack ∷ (queued_outs_at turn hs.port response ++ sent node payload route))).outer
 
-is_by_turn : (o : OuterState) (f : FrameParts) (route : Option Route) → HasNoMarks o → (taken : IsTakenBy o.chip.state f)
+pub is_by_turn : (o : OuterState) (f : FrameParts) (route : Option Route) → HasNoMarks o → (taken : IsTakenBy o.chip.state f)
     → (chip_does o (Judged (Good (Framed f)) route)).outer ≡ by_turn o f taken.node taken.payload taken.id route o.chip.state.port.side.turn
 unfolding chip_does
 is_by_turn o f route none taken =

@@ -36,7 +36,7 @@ use Rattle.proof_work.proofs.Times.{does_chip}
 use Rattle.proof_calm.specs.Marks.{HasNoMarks, IsUnmarked}
 use Rattle.proof_calm.proofs.Unmarked.{does_none}
 use Rattle.proof_calm.proofs.Room.{unit_short}
-use Rattle.proof_calm.specs.Passes.{chip_taken, ChipMayTake, texts, IsPlain, AtChip, AtHost, OnLine, IsTakenBy, TakesEach, turn_after, answers, next_turn, next_down}
+use Rattle.proof_calm.specs.Passes.{chip_taken, ChipMayTake, texts, IsPlain, AtChip, AtHost, OnLine, IsTakenBy, TakesEach, turn_after, answers, frames_in, next_turn, next_down}
 use Rattle.proof_calm.specs.Settling.{Nothing, An_ack, HasMoved, for_request, is_sending}
 use Rattle.proof_calm.proofs.Reading.{fed_units}
 use Rattle.proof_calm.proofs.ChipTurns.{Acked, acked, acked_at, judges_ack, one_way, entered_chip, chip_turns}
@@ -45,7 +45,7 @@ use Rattle.proof_calm.proofs.Unmarked.{event_unmarked}
 
 -- ---- bytes
 
-two_ways : (ways : List (Item × Option Route)) (one two : Item) → map (λ (w : Item × Option Route). w.0) ways ≡ one ∷ two ∷ []
+pub two_ways : (ways : List (Item × Option Route)) (one two : Item) → map (λ (w : Item × Option Route). w.0) ways ≡ one ∷ two ∷ []
     → (a : Option Route) × (b : Option Route) × (ways ≡ (one, a) ∷ (two, b) ∷ [])
 two_ways [] one two is = absurd cc
 two_ways (way ∷ []) one two is = absurd cc
@@ -62,7 +62,7 @@ taken o rest = record o { to_chip = way.after o.to_chip (Takes (length o.to_chip
 pub empty : (o : OuterState) (rest : Rest) → (taken o rest).to_chip.bytes ≡ []
 empty o rest = drop_all (length o.to_chip.bytes) o.to_chip.bytes (omega arith)
 
-marks_of : (o : OuterState) (rest : Rest) → HasNoMarks o → HasNoMarks (taken o rest)
+pub marks_of : (o : OuterState) (rest : Rest) → HasNoMarks o → HasNoMarks (taken o rest)
 marks_of o rest none = record { to_chip = none.to_chip; to_host = none.to_host; frames = none.frames; acknowledgements = none.acknowledgements; link = none.link; moves = none.moves }
 
 -- what is so once it has judged them, where it took a payload to send
@@ -181,9 +181,9 @@ heard_asks_took o asked frame ticks frames rest ways none fits at may takes_each
 
 -- ---- the machine
 
-pub entered_sending : (o : OuterState) (told : List Entry) → is_some (has_entered o told).chip.state.sending ≡ is_some o.chip.state.sending
-entered_sending o [] = refl
-entered_sending o (entry ∷ told) = refl
+pub entered_state : (o : OuterState) (told : List Entry) → (has_entered o told).chip.state ≡ o.chip.state
+entered_state o [] = refl
+entered_state o (entry ∷ told) = refl
 
 -- the frames that wait there fit still
 still_fit : (o : OuterState) (count : ℕ) (rest : Rest) (ways : List (Item × Option Route)) → HasFrames o.chip.state.port → MayTake o count rest ways → HasFrames (chip_takes o count rest ways).outer.chip.state.port
@@ -194,14 +194,14 @@ still_fit o count rest ways has may =
 -- it took a payload
 pub took_moved : (m : Machine) (rest : Rest) (ways : List (Item × Option Route)) (passes most ticks : ℕ) (host : Turn) (down : List LineUnit) (frame : FrameParts) → IsUnmarked m → AtHost host m.host
     → HasFrames m.outside.outer.chip.state.port → ChipMayTake m rest ways → Took down (Copied frame 1 ticks) most (chip_takes m.outside.outer (length m.outside.outer.to_chip.bytes) rest ways).outer
-    → AllByRecursion IsPlain down → length down ≤ 99 → turn_after host down ≡ Idle → answers down ≡ Ack ∷ [] → most + 2 ≤ passes → HasMoved true passes (chip_taken m rest ways)
+    → AllByRecursion IsPlain down → length down ≤ 99 → turn_after host down ≡ Idle → answers down ≡ Ack ∷ [] → frames_in down ≡ frame ∷ [] → most + 2 ≤ passes → HasMoved true passes (chip_taken m rest ways)
 unfolding happens May MayOutside outcome
-took_moved m rest ways passes most ticks host down frame unmarked at_host has may took plain few over ack enough =
+took_moved m rest ways passes most ticks host down frame unmarked at_host has may took plain few over ack carries enough =
     let o : OuterState = m.outside.outer in
     let count : ℕ = length o.to_chip.bytes in
     let x : Outcome = chip_takes o count rest ways in
     let n : Machine = chip_taken m rest ways in
-    let sends : is_sending n ≡ true = entered_sending x.outer x.entries ∙ took.sends in
+    let sends : is_sending n ≡ true = ap (λ (s : ChipState). is_some s.sending) (entered_state x.outer x.entries) ∙ took.sends in
     let nothing : for_request (is_sending n) ≡ 0 = ap for_request sends in
     let at : AtChip [] down (Copied frame 1 ticks) x.outer.chip.state.port.waiting x.outer.to_chip x.outer.to_host x.outer.chip =
     record { up_bytes = took.up_bytes; down_bytes = took.down_bytes; decoder = took.decoder; turn_is = took.turn_is; waiting = refl; fit = still_fit o count rest ways has may.1; none_given_up = took.none_given_up } in
@@ -216,7 +216,7 @@ took_moved m rest ways passes most ticks host down frame unmarked at_host has ma
       few = few;
       over = over;
       left = length x.outer.chip.state.port.waiting + 1;
-      leaves = An_ack frame ticks ack refl refl;
+      leaves = An_ack frame ticks ack carries refl refl;
       enough = omega (arith, nothing, waits, enough);
       some = λ not_moved. absurd cc;
     }
@@ -257,7 +257,7 @@ heard_moved m frame ticks frames rest ways passes line may enough =
       few = omega arith;
       over = refl;
       left = length more + 1;
-      leaves = An_ack next 0 refl refl refl;
+      leaves = An_ack next 0 refl refl refl refl;
       enough = omega (arith, same, few);
       some = λ not_moved. absurd cc;
     }

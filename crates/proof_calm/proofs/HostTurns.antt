@@ -46,7 +46,7 @@ use Rattle.proof_calm.proofs.Following.{AreOff, all_side, all_mute, frame_off}
 -- ---- what it judges
 
 -- after these events its own frame is so, and it has written these units
-record Judged (h : HostState) (turn : Turn) (written : List LineUnit) (events : List HostEvent) : Type 0 where
+pub record Judged (h : HostState) (turn : Turn) (written : List LineUnit) (events : List HostEvent) : Type 0 where
   pub turn_is : (after_all h events).side.turn ≡ turn
   pub writes : host_units (outs_all h events) ≡ written
 
@@ -75,7 +75,7 @@ answers-append Nak units = refl
 answers-append Can units = refl
 answers-append (Framed f) units = refl
 
-all_judged : (h : HostState) (units : List LineUnit) (events : List HostEvent) → AllByRecursion IsPlain units → AreJudged h (goods units) events → Judged h (turn_after h.side.turn units) (answers units) events
+pub all_judged : (h : HostState) (units : List LineUnit) (events : List HostEvent) → AllByRecursion IsPlain units → AreJudged h (goods units) events → Judged h (turn_after h.side.turn units) (answers units) events
 all_judged h [] events plain judged = none_judged h events judged
 all_judged h (unit ∷ units) events plain (first, rest, are, one, others) =
     let here = one_judged h unit first plain.0 one in
@@ -122,7 +122,7 @@ acks_written w (Framed f ∷ units) none few =
     let long : length v.bytes ≡ length w.bytes + 1 = ap (λ (bs : List ℕ). length bs) one ∙ length_push w.bytes 6 in
     acks_written v units (written_unmarked w Ack none) (omega (arith, long, few)) ∙ ap (λ (bs : List ℕ). bs ++ texts (answers units)) one ∙ append_assoc w.bytes (unit_text Ack) (texts (answers units))
 
-plain_units : (units : List LineUnit) → AllByRecursion IsPlain units → AllByRecursion IsUnit units
+pub plain_units : (units : List LineUnit) → AllByRecursion IsPlain units → AllByRecursion IsUnit units
 plain_units units plain = all-weaker IsPlain IsUnit by units plain
   where
     by : (unit : LineUnit) → IsPlain unit → IsUnit unit

@@ -2,7 +2,6 @@
 use Rattle.std.proofs.Common.{◌≡◌, ℕ, List, [], ◌∷◌, map, length, take, refl, sym, ap, ◌∙◌, subst, arith}
 use Rattle.std.proofs.lemmas.List.{drop_all, take_all}
 use Rattle.std.specs.Prelude.{Option}
-use Rattle.std.specs.Option.{is_some}
 use Rattle.serial_frame.specs.Frame.{FrameParts}
 use Rattle.serial_frame.specs.Stream.{Rest, Feeds, no_rest, ticks_after}
 use Rattle.serial_frame.specs.declared.item.Item.{Item}
@@ -25,16 +24,15 @@ use Rattle.world_model.specs.Events.{Outside_does, Host_takes, fed, happens, May
 use Rattle.proof_serial.specs.Way.{written_all}
 use Rattle.proof_serial.specs.Chip.{HasFrames}
 use Rattle.proof_serial.specs.Line.{host_units}
-use Rattle.proof_serial.proofs.EndedItems.{same_rest}
+use Rattle.serial_frame.proofs.Streams.{same_rest}
 use Rattle.proof_serial.proofs.Outer.{routed_all}
 use Rattle.proof_calm.specs.Passes.{chip_taken, ChipMayTake, AtChip, OnLine}
-use Rattle.proof_calm.specs.Settling.{is_sending}
 use Rattle.proof_calm.proofs.Unmarked.{event_unmarked}
 use Rattle.proof_calm.proofs.ChipTurns.{entered_chip}
-use Rattle.proof_calm.proofs.ChipPart.{taken, empty, entered_sending}
+use Rattle.proof_calm.proofs.ChipPart.{taken, empty, entered_state}
 use Rattle.proof_calm.proofs.HostTurns.{took}
 
-fed_none : (bytes : List ℕ) (start rest : Rest) (items : List Item) → start ≡ no_rest → bytes ≡ [] → Feeds start (take (length bytes) bytes) rest items → (items ≡ []) × (rest ≡ no_rest)
+pub fed_none : (bytes : List ℕ) (start rest : Rest) (items : List Item) → start ≡ no_rest → bytes ≡ [] → Feeds start (take (length bytes) bytes) rest items → (items ≡ []) × (rest ≡ no_rest)
 fed_none bytes start rest items starts none fed =
     let all : take (length bytes) bytes ≡ [] = take_all (length bytes) bytes (omega arith) ∙ none in
     let here : Feeds no_rest [] rest items = subst (λ (r : Rest). Feeds r [] rest items) starts (subst (λ (bs : List ℕ). Feeds start bs rest items) all fed) in
@@ -43,12 +41,12 @@ fed_none bytes start rest items starts none fed =
 
 -- ---- the chip
 
-no_ways : (ways : List (Item × Option Route)) → map (λ (w : Item × Option Route). w.0) ways ≡ [] → ways ≡ []
+pub no_ways : (ways : List (Item × Option Route)) → map (λ (w : Item × Option Route). w.0) ways ≡ [] → ways ≡ []
 no_ways [] none = refl
 no_ways (way ∷ ways) none = absurd cc
 
 pub chip_idles : (m : Machine) (down : List LineUnit) (host turn : Turn) (frames : List FrameParts) (rest : Rest) (ways : List (Item × Option Route)) → OnLine [] down host turn frames m → ChipMayTake m rest ways
-    → OnLine [] down host turn frames (chip_taken m rest ways) × (is_sending (chip_taken m rest ways) ≡ is_sending m) × ((chip_taken m rest ways).host ≡ m.host)
+    → OnLine [] down host turn frames (chip_taken m rest ways) × ((chip_taken m rest ways).outside.outer.chip.state ≡ m.outside.outer.chip.state) × ((chip_taken m rest ways).host ≡ m.host)
 unfolding happens May MayOutside outcome
 chip_idles m down host turn frames rest ways line may =
     let o : OuterState = m.outside.outer in
@@ -64,7 +62,7 @@ chip_idles m down host turn frames rest ways line may =
         at_chip = entered_chip x.outer x.entries (subst (λ (n : OuterState). AtChip [] down turn frames n.to_chip n.to_host n.chip) (sym is) at);
         at_host = line.at_host;
       },
-      entered_sending x.outer x.entries ∙ ap (λ (n : OuterState). is_some n.chip.state.sending) is,
+      entered_state x.outer x.entries ∙ ap (λ (n : OuterState). n.chip.state) is,
       refl,
     )
 
@@ -73,7 +71,7 @@ chip_idles m down host turn frames rest ways line may =
 pub host_idles : (m : Machine) (host turn : Turn) (frames : List FrameParts) (rest : Rest) (items : List Item) (events : List HostEvent) → OnLine [] [] host turn frames m
     → May m (Host_takes (length m.outside.outer.to_host.bytes) rest items events)
     → let n : Machine = happens m (Host_takes (length m.outside.outer.to_host.bytes) rest items events) in
-    OnLine [] [] host turn frames n × (is_sending n ≡ is_sending m) × (n.host.state ≡ m.host.state)
+    OnLine [] [] host turn frames n × (n.outside.outer.chip ≡ m.outside.outer.chip) × (n.host.state ≡ m.host.state)
 unfolding happens May
 host_idles m host turn frames rest items events line may =
     let h : HostState = m.host.state in
@@ -101,6 +99,6 @@ host_idles m host turn frames rest items events line may =
         };
         at_host = record { decoder = read.1; turn_is = ap (λ (g : HostState). g.side.turn) same ∙ line.at_host.turn_is };
       },
-      ap (λ (c : ChipParts). is_some c.state.sending) chip,
+      chip,
       same,
     )

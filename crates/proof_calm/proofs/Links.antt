@@ -144,7 +144,7 @@ results = record {
   forgotten = λ o a b. with_nodes o (after o.chip.state (Forgets a b)) refl;
 }
 
-deals_members : (devices : List State) (o : OuterState) (event : AirEvent) → members (deals devices o event).outer ≡ members o
+pub deals_members : (devices : List State) (o : OuterState) (event : AirEvent) → members (deals devices o event).outer ≡ members o
 deals_members devices o (air_event.ToChip frame from payload) = to_chip_goes Leaves results o from payload
 deals_members devices o (air_event.Done frame status dead) = ends_go Leaves results o status dead
 deals_members devices o (air_event.Heard frame) = refl

@@ -11,6 +11,7 @@ use Rattle.serial_frame.specs.declared.unit.Unit.TheVariants.{Ack, Nak, Can, Fra
 use Rattle.serial_link.specs.declared.turn.Turn.{Turn}
 use Rattle.serial_link.specs.declared.turn.Turn.TheVariants.{Idle, Copied}
 use Rattle.route_table.specs.declared.route.Route.{Route}
+use Rattle.chip_sim.specs.State.{ChipState, ChipParts}
 use Rattle.chip_sim.specs.declared.out.Sending.{Sending}
 use Rattle.host_requests.specs.declared.task.Task.{Task}
 use Rattle.host_model.specs.State.{HostState}
@@ -46,14 +47,14 @@ unfolding May MayOutside
 heard_asks_moved m asked frame ticks [] fits rest ways passes line may served enough =
     let took = heard_asks_took m.outside.outer asked frame ticks [] rest ways line.unmarked fits line.at_chip may.1 served in
     let two = made (is_sending m) took.1 in
-    took_moved m rest ways passes 0 0 (Copied asked 1 0) _ _ line.unmarked line.at_host line.at_chip.fit may took.0 (tt, (omega arith, tt)) (omega arith) refl refl (omega (arith, two, enough))
+    took_moved m rest ways passes 0 0 (Copied asked 1 0) _ _ line.unmarked line.at_host line.at_chip.fit may took.0 (tt, (omega arith, tt)) (omega arith) refl refl refl (omega (arith, two, enough))
 heard_asks_moved m asked frame ticks (next ∷ frames) fits rest ways passes line may served enough =
     let took = heard_asks_took m.outside.outer asked frame ticks (next ∷ frames) rest ways line.unmarked fits line.at_chip may.1 served in
     let two = made (is_sending m) took.1 in
     let here : HasFrames (record { side = m.outside.outer.chip.state.port.side; waiting = next ∷ frames }) =
     subst (λ (fs : List FrameParts). HasFrames (record { side = m.outside.outer.chip.state.port.side; waiting = fs })) line.at_chip.waiting
     (record { turn = line.at_chip.fit.turn; waiting = line.at_chip.fit.waiting }) in
-    took_moved m rest ways passes (length frames + 1) 0 (Copied asked 1 0) (Framed next ∷ Ack ∷ []) next line.unmarked line.at_host line.at_chip.fit may took.0 (here.waiting.0, (tt, tt)) (omega arith) refl refl
+    took_moved m rest ways passes (length frames + 1) 0 (Copied asked 1 0) (Framed next ∷ Ack ∷ []) next line.unmarked line.at_host line.at_chip.fit may took.0 (here.waiting.0, (tt, tt)) (omega arith) refl refl refl
     (omega (arith, two, enough))
 
 pub chip_part : (m : Machine) (line : Line m) (rest : Rest) (ways : List (Item × Option Route)) (passes : ℕ) → Moves line → ChipMayTake m rest ways → TakesEach m.outside.outer.chip.state ways
@@ -63,13 +64,13 @@ chip_part m (Free line) rest ways passes moves may served enough = absurd moves
 chip_part m (Asks asked fits line) rest ways passes moves may served enough =
     let took = asks_took m.outside.outer asked rest ways line.unmarked fits line.at_chip may.1 served in
     let two = made (is_sending m) took.1 in
-    took_moved m rest ways passes 0 0 (Copied asked 1 0) _ _ line.unmarked line.at_host line.at_chip.fit may took.0 (tt, (omega arith, tt)) (omega arith) refl refl (omega (arith, two, enough))
+    took_moved m rest ways passes 0 0 (Copied asked 1 0) _ _ line.unmarked line.at_host line.at_chip.fit may took.0 (tt, (omega arith, tt)) (omega arith) refl refl refl (omega (arith, two, enough))
 chip_part m (Heard frame ticks frames line) rest ways passes moves may served enough = heard_moved m frame ticks frames rest ways passes line may (omega (arith, enough))
 chip_part m (Heard_asks asked frame ticks frames fits line) rest ways passes moves may served enough =
     heard_asks_moved m asked frame ticks frames fits rest ways passes line may served enough
 chip_part m (Sent frame ticks frames line) rest ways passes moves may served enough =
     let idle = chip_idles m (Framed frame ∷ []) Idle (Copied frame 1 ticks) frames rest ways line may in
-    let same = ap for_request idle.1 in
+    let same = ap (λ (c : ChipState). for_request (is_some c.sending)) idle.1 in
     record {
       down = Framed frame ∷ [];
       host = Idle;
@@ -80,18 +81,18 @@ chip_part m (Sent frame ticks frames line) rest ways passes moves may served eno
       few = omega arith;
       over = refl;
       left = length frames + 1;
-      leaves = An_ack frame ticks refl refl refl;
+      leaves = An_ack frame ticks refl refl refl refl;
       enough = omega (arith, same, enough);
       some = λ not_moved. absurd cc;
     }
 chip_part m (Sent_asks asked frame ticks frames fits line) rest ways passes moves may served enough =
     let took = sent_asks_took m.outside.outer asked frame ticks frames rest ways line.unmarked fits (fits_on line) line.at_chip may.1 served in
     let two = made (is_sending m) took.1 in
-    took_moved m rest ways passes (length frames + 1) ticks (Copied asked 1 0) (Framed frame ∷ Ack ∷ []) frame line.unmarked line.at_host line.at_chip.fit may took.0 (fits_on line, (tt, tt)) (omega arith) refl refl
+    took_moved m rest ways passes (length frames + 1) ticks (Copied asked 1 0) (Framed frame ∷ Ack ∷ []) frame line.unmarked line.at_host line.at_chip.fit may took.0 (fits_on line, (tt, tt)) (omega arith) refl refl refl
     (omega (arith, two, enough))
 
 -- where nothing can move to the chip
-none_up : (unit : LineUnit) (units : List LineUnit) → texts (unit ∷ units) ≢ []
+pub none_up : (unit : LineUnit) (units : List LineUnit) → texts (unit ∷ units) ≢ []
 none_up Ack units none = cc
 none_up Nak units none = cc
 none_up Can units none = cc
@@ -112,7 +113,7 @@ chip_still m (Sent frame ticks frames line) passes moves none enough = record {
   few = omega arith;
   over = refl;
   left = length frames + 1;
-  leaves = An_ack frame ticks refl refl refl;
+  leaves = An_ack frame ticks refl refl refl refl;
   enough = omega (arith, enough);
   some = λ not_moved none. absurd cc;
 }
@@ -130,7 +131,7 @@ left_stands m passes down host turn frames left line over (Nothing none free emp
   };
   turn = line.at_host.turn_is ∙ over;
 }
-left_stands m passes down host turn frames left line over (An_ack frame ticks one busy is) enough = record {
+left_stands m passes down host turn frames left line over (An_ack frame ticks one carries busy is) enough = record {
   live = record {
     line = Heard frame ticks frames (subst (λ (t : Turn). OnLine (Ack ∷ []) [] Idle t frames m) busy
         (subst (λ (t : Turn). OnLine (Ack ∷ []) [] t turn frames m) over (subst (λ (us : List LineUnit). OnLine us [] host turn frames m) one line)));
@@ -156,7 +157,7 @@ module _ (air : Airs) where
           → Stands passes n
       by [] line plain few over leaves =
           let idle = host_idles m has.host has.turn has.frames rest items events line may in
-          let same = ap for_request idle.1 in
+          let same = ap (λ (c : ChipParts). for_request (is_some c.state.sending)) idle.1 in
           let enough = has.enough in
           empty_stands n passes has.host has.turn has.frames has.left idle.0 over leaves (omega (arith, same, enough))
       by (unit ∷ units) line plain few over leaves =

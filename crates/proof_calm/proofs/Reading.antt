@@ -8,7 +8,7 @@ use Rattle.serial_frame.specs.declared.item.Item.{Item}
 use Rattle.serial_frame.specs.declared.item.Item.TheVariants.{Good}
 use Rattle.serial_frame.specs.declared.unit.Unit.{Unit as LineUnit}
 use Rattle.serial_frame.proofs.First.{one_reading}
-use Rattle.proof_serial.proofs.EndedItems.{same_rest}
+use Rattle.serial_frame.proofs.Streams.{same_rest}
 use Rattle.proof_calm.specs.Passes.{texts}
 
 abbrev pub goods : List LineUnit → List Item

@@ -23,13 +23,14 @@ use Rattle.proof_waking.specs.proof_traffic.OutsideTraffic.{flags, no_routes_due
 use Rattle.proof_waking.specs.proof_traffic.OnAir.{hosts_on_air}
 use Rattle.proof_waking.specs.proof_traffic.Course.{Follows, Goes}
 use Rattle.proof_calm.specs.Settling.{IsServed}
+use Rattle.proof_calm.specs.Awaited.{Awaits}
 use Rattle.proof_calm.specs.Resting.{LineRests}
 use Rattle.proof_calm.specs.Sending.{SendsNothing, SendsOne, SendsFew, IsFollowed}
 
 -- ---- where the line rests
 
 module _ (o : OuterState) (sends : Bool) (is : is_some o.chip.state.sending ≡ sends) where
-  by_calls : (calls : List Call) → o.calls ≡ calls → length (flags calls) ≡ one_if sends → hosts_on_air o ≡ flying_in (flags calls) → no_routes_due o.due ≡ without_frame (flags calls)
+  pub by_calls : (calls : List Call) → o.calls ≡ calls → length (flags calls) ≡ one_if sends → hosts_on_air o ≡ flying_in (flags calls) → no_routes_due o.due ≡ without_frame (flags calls)
       → SendsNothing o ⊎ SendsOne o
   by_calls = by sends is
     where
@@ -42,15 +43,20 @@ module _ (o : OuterState) (sends : Bool) (is : is_some o.chip.state.sending ≡ 
           inr (record { sending = one; call = call; one_call = are; flies = omega (arith, flies); due = omega (arith, due) })
       by true one (call ∷ (next ∷ calls)) are many flies due = absurd (let no : length (flags calls) + 2 ≡ 1 = omega (arith, many) in omega (arith, no))
 
+-- by what is outside the host
+pub awaits_few : (m : Machine) → Awaits m → LineRests m → SendsFew m
+awaits_few m is line =
+    let o : OuterState = m.outside.outer in
+    let knows = is.follows.knows in
+    let none : is.course.aborted ≡ 0 = knows.aborted ∙ line.at_chip.none_given_up in
+    let many : length (flags o.calls) ≡ is.course.aborted + one_if is.course.sending = ap (λ (l : List Bool). length l) (sym knows.calls) ∙ is.each_call in
+    let same : one_if is.course.sending ≡ one_if (is_some o.chip.state.sending) = ap one_if knows.sending in
+    let each : length (flags o.calls) ≡ one_if (is_some o.chip.state.sending) = omega (arith, many, same, none) in
+    by_calls o (is_some o.chip.state.sending) refl o.calls refl each is.follows.await.frames is.follows.await.results
+
 pub rests_few : (t : Traffic) (log : List Mark) (up down : List Item) (m : Machine) → Follows t log up down m → LineRests m → SendsFew m
 rests_few t log up down m follows line =
-    let o : OuterState = m.outside.outer in
-    let knows = follows.outside.knows in
-    let none : t.aborted ≡ 0 = knows.aborted ∙ line.at_chip.none_given_up in
-    let many : length (flags o.calls) ≡ t.aborted + one_if t.sending = ap (λ (l : List Bool). length l) (sym knows.calls) ∙ follows.facts.each_call in
-    let same : one_if t.sending ≡ one_if (is_some o.chip.state.sending) = ap one_if knows.sending in
-    let each : length (flags o.calls) ≡ one_if (is_some o.chip.state.sending) = omega (arith, many, same, none) in
-    by_calls o (is_some o.chip.state.sending) refl o.calls refl each follows.outside.await.frames follows.outside.await.results
+    awaits_few m (record { course = t; log = log; follows = follows.outside; each_call = follows.facts.each_call; nodes = follows.nodes }) line
 
 -- ---- over lines
 

@@ -69,7 +69,7 @@ next_either h event next = next_is (Either h) each h event next
 -- ---- the machine
 
 module _ (air : Airs) where
-  written : (m : Machine) (event : HostEvent) → Written (host_units (outs_all m.host.state (event ∷ []))) m.outside.outer (happens m (Host_does event)).outside.outer
+  pub written : (m : Machine) (event : HostEvent) → Written (host_units (outs_all m.host.state (event ∷ []))) m.outside.outer (happens m (Host_does event)).outside.outer
   unfolding happens
   written m event =
       let base : Machine = host_does m (event ∷ []) in

@@ -146,7 +146,7 @@ decoder_given m may given = record {
   at_host = record { decoder = tick_still m.host.decoder given.at_host.decoder ∙ given.at_host.decoder; turn_is = given.at_host.turn_is };
 }
 
-tick_mute : (h : HostState) (event : HostEvent) → IsOfTick event → h.side.turn ≡ Idle → Mute h event
+pub tick_mute : (h : HostState) (event : HostEvent) → IsOfTick event → h.side.turn ≡ Idle → Mute h event
 tick_mute h Line_ticks of_tick idle = record {
   writes =
       subst (λ (t : Turn). host_units (copy_out (copy_due t) ++ noted (failing_entries (gives_up t (turn_ticked t)) (line_ticked h))) ≡ []) (sym idle) refl;

@@ -6,4 +6,9 @@ pub mod Resting
 pub mod Sending
 pub mod Calls
 pub mod Networks
+pub mod Awaited
+pub mod Routed
+pub mod Known
+pub mod Homeward
 pub mod Undisturbed
+pub mod Tied

@@ -80,6 +80,12 @@ answers [] = []
 answers (Framed frame ∷ units) = Ack ∷ answers units
 answers (unit ∷ units) = answers units
 
+-- the frames among them
+abbrev pub frames_in : List LineUnit → List FrameParts
+frames_in [] = []
+frames_in (Framed frame ∷ units) = frame ∷ frames_in units
+frames_in (unit ∷ units) = frames_in units
+
 -- and its own frame is over where it is acknowledged
 abbrev pub turn_after : Turn → List LineUnit → Turn
 turn_after turn [] = turn

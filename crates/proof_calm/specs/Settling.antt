@@ -14,7 +14,7 @@ use Rattle.world_model.specs.Events.{Event, Outside_does}
 use Rattle.proof_serial.specs.Chip.{IsFrame}
 use Rattle.proof_serial.specs.Line.{WritesWell}
 use Rattle.proof_work.specs.Rests.{NoneWants}
-use Rattle.proof_calm.specs.Passes.{IsPlain, OnLine, TakesEach, answers, turn_after}
+use Rattle.proof_calm.specs.Passes.{IsPlain, OnLine, TakesEach, answers, frames_in, turn_after}
 
 -- ---- between the parts of a pass
 
@@ -70,7 +70,7 @@ Moves other = Unit {0}
 -- once the host has taken what is on its way, its own frame is over, and nothing or an acknowledgement is on its way to the chip
 pub data Leaves (down : List LineUnit) (turn : Turn) (frames : List FrameParts) (left : ℕ) : Type 0 where
   Nothing : answers down ≡ [] → turn ≡ Idle → frames ≡ [] → left ≡ 0 → Leaves down turn frames left
-  An_ack : (frame : FrameParts) (ticks : ℕ) → answers down ≡ Ack ∷ [] → turn ≡ Copied frame 1 ticks → left ≡ length frames + 1 → Leaves down turn frames left
+  An_ack : (frame : FrameParts) (ticks : ℕ) → answers down ≡ Ack ∷ [] → frames_in down ≡ frame ∷ [] → turn ≡ Copied frame 1 ticks → left ≡ length frames + 1 → Leaves down turn frames left
 
 pub record HasMoved (moved : Bool) (passes : ℕ) (m : Machine) : Type 0 where
   pub down : List LineUnit

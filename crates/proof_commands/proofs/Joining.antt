@@ -9,7 +9,7 @@ use Rattle.std.proofs.lemmas.List.Splits.{slice_split_at, slice_split_none}
 use Rattle.zw_words.specs.Words.{is_blank, is_remark, is_word, without_return, words}
 use Rattle.zw_text.specs.Fits.{feeds}
 use Rattle.zw_parse.proofs.Pieces.{Solid, lacks-append, weaker}
-use Rattle.proof_audit.proofs.JsonLines.{none_counted}
+use Rattle.zw_parse.proofs.EntryLaws.{feeds-none as none_counted}
 
 -- a word of bytes above the space
 pub record IsSolidWord (word : List ℕ) : Type 0 where

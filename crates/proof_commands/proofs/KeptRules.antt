@@ -6,7 +6,7 @@ use Rattle.zw_text.specs.declared.entry.Entry.{Entry}
 use Rattle.s0_crypto.specs.declared.key_pair.Keys.{Keys}
 use Rattle.device_sim.specs.State.{State}
 use Rattle.run_all.specs.host_core.Network.{keys_of}
-use Rattle.device_kinds.specs.Sealing.{keys_of as device_keys}
+use Rattle.s0_crypto.specs.Sealing.{keys_of as device_keys}
 use Rattle.law_transcript.specs.Answers.{AnswersLines}
 use Rattle.law_transcript.specs.Carrying.{CarriesUnits}
 use Rattle.law_transcript.specs.Headline.{IsAsMade}

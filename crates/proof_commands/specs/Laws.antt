@@ -41,8 +41,12 @@ use Rattle.law_host.specs.Legal.{DevicesDid, IsLegalOnAir}
 use Rattle.law_wire.specs.Routes.{GoesByRoute}
 use Rattle.law_wire.specs.Shown.{ShowsDevices}
 use Rattle.law_wire.specs.Times.{TellsTime}
+use Rattle.law_time.specs.Choice.{NumbersCallbacks, SendsOneByOne}
+use Rattle.law_time.specs.Errands.{SaysHowDone}
+use Rattle.law_time.specs.Interviews.{EndsInterviews}
 use Rattle.law_time.specs.Questions.{AnswersQuestions}
-use Rattle.law_time.specs.Waking.{WakesAsTold}
+use Rattle.law_time.specs.Holds.{HoldsAsAsked}
+use Rattle.law_time.specs.Waking.{FallsAsleep, WakesAsTold}
 use Rattle.law_host.specs.Heard.{heard_by_host}
 use Rattle.law_host.specs.HostLegal.{ShowsValues}
 use Rattle.proof_chip.specs.Served.{AirsByLink}
@@ -376,9 +380,32 @@ ClearsNothingElse key old new = AlwaysOf key old new (λ story. (whole : Bool) �
 abbrev pub WakesNodes : List ℕ → Around → Around → Type 0
 WakesNodes key old new = AlwaysOf key old new (λ story. TellsAtRestarts old story → WakesAsTold (transcript key old story))
 
+-- one that does not listen falls asleep where its third attempt or its No More Information has ended, and is held awake where the report that ends its session asks so; both wherever that is
+abbrev pub SendsToSleep : List ℕ → Around → Around → Type 0
+SendsToSleep key old new = AlwaysOf key old new
+    (λ story. TellsAtRestarts old story → (whole : Bool) → (whole ≡ true → AreSchedules (first key old) story) → FallsAsleep whole (transcript key old story))
+
+abbrev pub HoldsNodes : List ℕ → Around → Around → Type 0
+HoldsNodes key old new = AlwaysOf key old new (λ story. TellsAtRestarts old story → HoldsAsAsked (transcript key old story))
+
 -- the neighbours of a node, and whether it has failed, stand where the first response to the last request was judged, and wherever it was
 abbrev pub TellsWhatIsAsked : List ℕ → Around → Around → Type 0
 TellsWhatIsAsked key old new = AlwaysOf key old new (λ story. TellsAtRestarts old story → AnswersQuestions (transcript key old story))
+
+-- An interview is said to have succeeded or failed where its request ended so, and how a Set or Get that a line asked for ended is said where it ended so; both wherever a frame of the
+-- chip ended it.
+abbrev pub EndsEachInterview : List ℕ → Around → Around → Type 0
+EndsEachInterview key old new = AlwaysOf key old new (λ story. TellsAtRestarts old story → EndsInterviews (transcript key old story))
+
+abbrev pub TellsHowDone : List ℕ → Around → Around → Type 0
+TellsHowDone key old new = AlwaysOf key old new (λ story. TellsAtRestarts old story → SaysHowDone (always (listing_of old.devices)) (transcript key old story))
+
+-- A request that is new is sent, and a session begins, where the last request is over; each message has the callback id after that of the last one.
+abbrev pub AsksOneByOne : List ℕ → Around → Around → Type 0
+AsksOneByOne key old new = AlwaysOf key old new (λ story. TellsAtRestarts old story → SendsOneByOne (transcript key old story))
+
+abbrev pub NumbersMessages : List ℕ → Around → Around → Type 0
+NumbersMessages key old new = AlwaysOf key old new (λ story. TellsAtRestarts old story → NumbersCallbacks (transcript key old story))
 
 -- and over all that its host heard, with what it knows of nodes by their interviews, it keeps the laws of hosts: those of records of what a new keeper would hold
 abbrev pub kept_anew : List ℕ → Around → List Ran → Option (List (List ℕ))
@@ -435,7 +462,13 @@ pub record KeepsHostLaws (key : List ℕ) (old new : Around) : Type 0 where
   pub records : KeepsWhatIsShown key old new
   pub sends : SendsAsDue key old new
   pub wakes : WakesNodes key old new
+  pub sleeps : SendsToSleep key old new
+  pub holds : HoldsNodes key old new
   pub questions : TellsWhatIsAsked key old new
+  pub interviews : EndsEachInterview key old new
+  pub says_done : TellsHowDone key old new
+  pub one_by_one : AsksOneByOne key old new
+  pub numbered : NumbersMessages key old new
   pub heard : HearsAsHosts key old new
 
 -- what the devices do

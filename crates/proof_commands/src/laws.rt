@@ -6,6 +6,7 @@ ghost use Rattle.proof_commands.specs.Laws.{
   AnswersAsDue,
   AirsAsTaken,
   AppliesOnce,
+  AsksOneByOne,
   BringsHeard,
   CarriesWhatWasAsked,
   ClearsNothingElse,
@@ -15,12 +16,14 @@ ghost use Rattle.proof_commands.specs.Laws.{
   ConfirmsValues,
   DoesAsShown,
   DoneByNodes,
+  EndsEachInterview,
   FaresFrames,
   ForgetsHops,
   GroupsChanges,
   HasHeadline,
   HasWholeHeadline,
   HearsAsHosts,
+  HoldsNodes,
   KeepsAir,
   KeepsBothLinks,
   KeepsDevices,
@@ -32,6 +35,7 @@ ghost use Rattle.proof_commands.specs.Laws.{
   MarksAsAsked,
   MeetsFates,
   NumbersAir,
+  NumbersMessages,
   NumbersTicks,
   OverrunsAsDue,
   OverrunsWithoutRoom,
@@ -40,6 +44,7 @@ ghost use Rattle.proof_commands.specs.Laws.{
   ReportsAfterChange,
   RoutesFrames,
   SendsAsDue,
+  SendsToSleep,
   ShowsChanges,
   ShowsKeptDevices,
   ShowsStoredValues,
@@ -47,6 +52,7 @@ ghost use Rattle.proof_commands.specs.Laws.{
   StoresValues,
   StoriesKeepLaws,
   TakesBackWhenAsked,
+  TellsHowDone,
   TellsWhatIsAsked,
   WakesNodes,
   WritesSessions,
@@ -75,9 +81,11 @@ use proof_devices::routes::{
 };
 use proof_devices::{devices_did, lines_meet_what_is_due, lines_repeat_what_is_asked};
 use proof_host::{asides_keep_facts, laws_follow};
+use proof_replay::asking::lines_say_how_done;
+use proof_replay::attempts::{lines_fall_asleep_as_told, lines_hold_as_asked};
 use proof_replay::known::waking::lines_wake_as_told;
 use proof_replay::lines_that_ran_are_heard;
-use proof_replay::requests::lines_answer_questions;
+use proof_replay::requests::{lines_answer_questions, lines_ask_one_by_one, lines_end_interviews};
 use proof_replay::sending::line::{
     lines_clear_at_restarts, lines_clear_nowhere_else, lines_clear_the_line,
     lines_collide_when_asked, lines_keep_links, lines_mark_units, lines_overrun_only_when_full,
@@ -102,6 +110,7 @@ pub fn every_story_keeps_laws()
     stories_send_what_is_due();
     stories_wake_as_told();
     stories_answer_questions();
+    stories_ask_one_by_one();
     stories_are_heard();
     stories_do_as_shown();
 }
@@ -256,20 +265,37 @@ fn stories_send_what_is_due()
     lines_send_what_is_due();
 }
 
-/// Nodes count as awake as they told in lines that were said.
+/// Nodes count as awake as they told in lines that were said, fall asleep and are held.
 fn stories_wake_as_told()
-    ensures { (key : List ℕ) (old new : Around) → WakesNodes key old new }
+    ensures wakes { (key : List ℕ) (old new : Around) → WakesNodes key old new }
+    ensures sleeps { (key : List ℕ) (old new : Around) → SendsToSleep key old new }
+    ensures holds { (key : List ℕ) (old new : Around) → HoldsNodes key old new }
 {
     lines_are_read_as_said();
     lines_wake_as_told();
+    lines_fall_asleep_as_told();
+    lines_hold_as_asked();
 }
 
-/// Questions are answered in lines that were said.
+/// Questions are answered, and ends of interviews and of what lines asked for are told, in lines that were said.
 fn stories_answer_questions()
-    ensures { (key : List ℕ) (old new : Around) → TellsWhatIsAsked key old new }
+    ensures questions { (key : List ℕ) (old new : Around) → TellsWhatIsAsked key old new }
+    ensures interviews { (key : List ℕ) (old new : Around) → EndsEachInterview key old new }
+    ensures done { (key : List ℕ) (old new : Around) → TellsHowDone key old new }
 {
     lines_are_read_as_said();
     lines_answer_questions();
+    lines_end_interviews();
+    lines_say_how_done();
+}
+
+/// Requests stand one after another, and messages are numbered, in lines that were said.
+fn stories_ask_one_by_one()
+    ensures one { (key : List ℕ) (old new : Around) → AsksOneByOne key old new }
+    ensures numbered { (key : List ℕ) (old new : Around) → NumbersMessages key old new }
+{
+    lines_are_read_as_said();
+    lines_ask_one_by_one();
 }
 
 /// Over what their hosts heard of lines that were said, stories keep the laws of hosts.

@@ -3,12 +3,12 @@ use Rattle.std.proofs.Common.{◌≡◌, ℕ, zero, suc, ◌+◌, ◌≤◌, ◌
 use Rattle.std.specs.Prelude.{◌&&◌, ◌%◌, slice_get}
 use Rattle.supervision.specs.Session.{wire_id}
 use Rattle.supervision.specs.Host.{HostBook, begun_of, command_at, begins, told_of, after_report}
-use Rattle.supervision.specs.Device.{Taken, heard_of, after_get, finished, is_new, is_again}
+use Rattle.supervision.specs.Device.{Taken, heard_of, after_get, finished, is_new}
 use Rattle.supervision.specs.Ends.{Report}
 use Rattle.supervision.specs.declared.session.TheConstants.{WORKING}
 use Rattle.supervision.specs.declared.host_node.Told.{Told}
 use Rattle.supervision.specs.declared.host_node.Told.TheVariants.{Final, Working as still_working, Old as unknown}
-use Rattle.supervision.specs.declared.device_book.Heard.TheVariants.{New, Again, Old}
+use Rattle.supervision.specs.declared.device_book.Heard.TheVariants.{New}
 use Rattle.supervision.proofs.EndsLemmas.{command_at-push, GetFits-begins, ReportFits-begins, ReportFits-taken, ReportFits-finished}
 use Rattle.proof_course.specs.Sessions.{Message, Cargo, Command, Of_host, Answer, Of_node, after_message, is_segment_of_next, told_by}
 use Rattle.proof_course.specs.SessionFacts.{IsTrueReport, FitsBy, IsOnTime}
@@ -78,14 +78,6 @@ same_of_16 s t e a b = omega arith
 
 pub new_heard : (device : Taken) (id : ℕ) → is_new device id ≡ true → heard_of device id ≡ New (device.taken + 1)
 new_heard device id e = rw e refl
-
--- an id that is heard is taken as new, or leaves the device as it was
-pub get-cases : (device : Taken) (id : ℕ) → (after_get device id ≡ device) ⊎ ((session : ℕ) × (heard_of device id ≡ New session))
-get-cases device id =
-    elim (is_new device id) as (λ b. ((if b then record { taken = device.taken + 1; status = WORKING } else device) ≡ device) ⊎ ((session : ℕ) × ((if b then New (device.taken + 1) else (if is_again device id then Again device.status else Old)) ≡ New session))) [
-      | true ↦ inr (device.taken + 1, refl)
-      | false ↦ inl refl
-    ]
 
 -- ---- its work comes to a final status
 

@@ -14,7 +14,8 @@ use Rattle.proof_course.specs.Flying.{Flight, hosts, KeepsUp}
 use Rattle.proof_course.specs.SessionFacts.{FitsBy, Fits, IsOnTime, IsOfNext, CourseFacts}
 use Rattle.proof_course.specs.SessionLaws.{NamesOne, TellsOne, TakesNext, IsDone, IsApplied}
 use Rattle.proof_course.proofs.Parts.{successes_part, told_success}
-use Rattle.proof_course.proofs.SessionEnds.{message-cases, get-cases}
+use Rattle.proof_course.proofs.SessionEnds.{message-cases}
+use Rattle.supervision.proofs.EndsLemmas.{after_get-cases as get-cases}
 use Rattle.proof_course.proofs.SessionSteps.{begins-step, attempts-step, writes-step, up_loses-step, up_doubles-step, other-step, reports-step, sends-step, leaves-step, message-step, finishes-step, down_loses-step, down_doubles-step, report-step, judges-step}
 
 pub first_facts : CourseFacts first_course

@@ -32,7 +32,7 @@ use Rattle.chip_sim.specs.Waiting.{PortState, is_full, queued, queued_at, queued
 use Rattle.chip_sim.specs.Answers.{response_frame, notice_frame, init_data, capabilities, version, memory_id, protocol_info, routing_info, takes}
 use Rattle.chip_sim.specs.Nodes.{is_marked}
 use Rattle.chip_functions.specs.declared.response.Response.TheVariants.{SendData as send_answer, RequestNodeInfo as info_answer, IsFailedNode as failed_answer}
-use Rattle.chip_sim.specs.Requests.{passed, answer_outs, reply_to, performed, performed_outs, requested, requested_outs, asked, heard, judged_frame, judged_outs, given_if, given_outs, sent, abort_frame, callback_frame}
+use Rattle.chip_sim.specs.Requests.{passed, answer_outs, reply_to, performed, performed_outs, requested, requested_outs, asked, heard, judged_frame, judged_outs, given_if, given_outs, abort_frame, callback_frame}
 use Rattle.chip_sim.specs.Events.{ChipEvent, Judged, Ticked, Heard, Done, Informed, Joined, Linked, Forgets, Collides, after, outs, May, collides, ended, ended_outs, update_of}
 use Rattle.chip_sim.specs.Link.{chip_units}
 use Rattle.chip_sim.specs.Did.{MayAll, after_all, outs_all}
@@ -48,6 +48,7 @@ use Rattle.proof_course_plain.specs.Ways.{Beside}
 use Rattle.proof_course_plain.specs.Lines.{TellsAs, Moves}
 use Rattle.proof_course_plain.specs.Chip.{GivesAs, ChipMoves}
 use Rattle.proof_course_plain.proofs.WayLabels.{move_same, move_sign, move_heard, move_ticked, move_serve, move_submit, move_wait, move_lost, moves_both, copies_of}
+use Rattle.chip_sim.proofs.Links.{units_performed as performed_silent}
 
 -- ---- what is read of a frame
 
@@ -71,27 +72,6 @@ same_handler a b c d x y e = (cc, cc)
 written_units : (f : Option FrameParts) → chip_units (written f) ≡ copies_of f
 written_units None = refl
 written_units (Some f) = refl
-
-sent_silent : (n : ℕ) (payload : List ℕ) (way : Option Route) → chip_units (sent n payload way) ≡ []
-sent_silent n payload None = refl
-sent_silent n payload (Some route) = refl
-
-performed_silent : (request : Request) (s : ChipState) (way : Option Route) → chip_units (performed_outs request s way) ≡ []
-performed_silent GetInitData s way = refl
-performed_silent GetCapabilities s way = refl
-performed_silent (SendData n payload options id) s way = by (takes s n payload)
-  where
-    by : (b : Bool) → chip_units (if b then sent n payload way else []) ≡ []
-    by true = sent_silent n payload way
-    by false = refl
-performed_silent GetVersion s way = refl
-performed_silent SendDataAbort s way = refl
-performed_silent MemoryGetId s way = refl
-performed_silent (GetNodeProtocolInfo n) s way = refl
-performed_silent (AddNode mode id) s way = refl
-performed_silent (RequestNodeInfo n) s way = refl
-performed_silent (IsFailedNode n) s way = refl
-performed_silent (GetRoutingInfo n x y z) s way = refl
 
 -- a frame that is passed up leaves the turn
 passed_turn : (collision : Bool) (item : Item) (f : FrameParts) (turn : Turn) → passed collision item ≡ Some f → turn_heard turn item ≡ turn

@@ -27,10 +27,8 @@ use Rattle.encap.specs.declared.plan.Supervised.{Supervised}
 use Rattle.encap.specs.declared.plan.Ends.{Ends}
 use Rattle.encap.specs.declared.plan.Outer.{Outer}
 use Rattle.encap.specs.declared.plan.Outer.TheVariants.{None as no_outer, Crc16, Security, Transport}
-use Rattle.host_heard.specs.declared.payload.Heard.TheVariants.{Messages, Sealed}
-use Rattle.host_heard.specs.declared.told.Told.{Told}
+use Rattle.host_heard.specs.declared.payload.Heard.TheVariants.{Messages}
 use Rattle.host_heard.specs.declared.told.Told.TheVariants.{Report}
-use Rattle.host_heard.specs.Telling.{told_in, heard_by, heard_at}
 use Rattle.device_kinds.specs.declared.kind.Kind.{Kind}
 use Rattle.device_kinds.specs.declared.effect.Effect.{Effect}
 use Rattle.device_kinds.specs.declared.effect.Effect.TheVariants.{Ignores, Sleeps, Tells, Sets, Repeats, Takes}
@@ -60,15 +58,6 @@ use Rattle.proof_course_plain.specs.Device.{Says}
 
 abbrev pub IsBare : List ℕ → Type 0
 IsBare payload = begins_with payload 152 129 ≡ false
-
--- what is heard as messages is not sealed
-heard_bare : (payload : List ℕ) (told : List Told) → heard_at payload ≡ Messages told → IsBare payload
-unfolding heard_at
-heard_bare payload told e = by (begins_with payload 152 129) refl e
-  where
-    by : (b : Bool) → begins_with payload 152 129 ≡ b → (if b then Sealed else heard_by (told_in (opened_at payload))) ≡ Messages told → b ≡ false
-    by true is e = cc
-    by false is e = refl
 
 addressed_bare : (channel : Option Ends) (text : List ℕ) → IsBare text → IsBare (addressed_form channel text)
 addressed_bare None text is = is

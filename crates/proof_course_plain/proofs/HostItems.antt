@@ -19,7 +19,7 @@ use Rattle.chip_sim.specs.Rules.{WaitsWell}
 use Rattle.device_sim.specs.State.{State}
 use Rattle.mesh_sim.specs.Air.{AirState}
 use Rattle.outside_model.specs.State.{Outside}
-use Rattle.outside_model.specs.Events.{OuterEvent, mesh_of, happens as happens_outside}
+use Rattle.outside_model.specs.Events.{mesh_of}
 use Rattle.outside_model.specs.Did.{happens_all as happens_all_outside}
 use Rattle.world_model.specs.State.{routed}
 use Rattle.world_model.proofs.Hosting.{routed-append}
@@ -75,12 +75,10 @@ use Rattle.proof_once.proofs.Effects.{held_commands}
 use Rattle.proof_course_plain.proofs.Told.{PastLaws, past_kept, outcomes_kept, outcomes_stay}
 use Rattle.proof_course_plain.proofs.HostEntries.{event_begins_none}
 use Rattle.proof_course_plain.proofs.HostJudgements.{AllAside, IsFinish, Bytes, item_told}
+use Rattle.class_info.proofs.OwnLaws.{written_wholes}
+use Rattle.outside_model.proofs.EventLists.{happens_all-append as happens_then}
 
 -- ---- lists of events
-
-pub happens_then : (w : Outside) (a b : List OuterEvent) → happens_all_outside w (a ++ b) ≡ happens_all_outside (happens_all_outside w a) b
-happens_then w [] b = refl
-happens_then w (event ∷ a) b = happens_then (happens_outside w event) a b
 
 pub routed_then : (w : Outside) (a b : List HostOut) → happens_all_outside w (routed (a ++ b)) ≡ happens_all_outside (happens_all_outside w (routed a)) (routed b)
 routed_then w a b = ap (happens_all_outside w) (routed-append a b) ∙ happens_then w (routed a) (routed b)
@@ -101,10 +99,6 @@ judged_final c report now session e = rw e refl
 
 pub final_node : (n : NodeState) (id status session : ℕ) → told_of n.book id status ≡ Final session → after_node n (node_reports id status) ≡ with_final n status
 final_node n id status session e = ap (after_told n status) e
-
-written_wholes : (bytes : List ℕ) → cells_written (wholes bytes) ≡ bytes
-written_wholes [] = refl
-written_wholes (b ∷ bytes) = ap (λ l. b ∷ l) (written_wholes bytes)
 
 pub nonces_other : ((nonce : List ℕ) → IsOther (152 ∷ 128 ∷ cells_written (wholes nonce))) → (nonce : List ℕ) → IsOther (nonce_report nonce)
 nonces_other law nonce = subst (λ (l : List ℕ). IsOther (152 ∷ 128 ∷ l)) (written_wholes nonce) (law nonce)

@@ -1,8 +1,7 @@
 -- Each success that the host is told of a node is what the node's device did: the items that it judges, one after another.
-use Rattle.std.proofs.Common.{◌≡◌, ℕ, zero, suc, ◌<◌, ◌==◌, ◌⊎◌, inl, inr, Bool, true, false, if◌then◌else◌, Option, Some, None, option_map, List, [], ◌∷◌, ◌++◌, slice_get, refl, ap, sym, ◌∙◌, subst, arith}
+use Rattle.std.proofs.Common.{◌≡◌, ℕ, zero, suc, ◌<◌, ◌⊎◌, inl, inr, Bool, Option, Some, List, [], ◌∷◌, ◌++◌, slice_get, ap, sym, ◌∙◌, subst, arith}
 use Rattle.std.specs.List.{AllByRecursion}
 use Rattle.std.specs.Option.{option_to_list}
-use Rattle.std.proofs.lemmas.Bool.{eqb-true}
 use Rattle.supervision.specs.Session.{wire_id}
 use Rattle.supervision.specs.Host.{told_of, command_at as session_at}
 use Rattle.supervision.specs.Ends.{Report}
@@ -15,18 +14,14 @@ use Rattle.serial_frame.specs.Stream.{Rest}
 use Rattle.serial_frame.specs.declared.item.Item.{Item}
 use Rattle.device_sim.specs.State.{State}
 use Rattle.outside_model.specs.State.{Outside}
-use Rattle.outside_model.specs.Events.{devices_after}
 use Rattle.outside_model.specs.Did.{happens_all as happens_all_outside}
 use Rattle.law_transcript.specs.Lists.{Has}
-use Rattle.zw_text.specs.declared.entry.Entry.{Entry}
-use Rattle.world_model.specs.State.{begun_in, noted_by, routed, routed_one}
+use Rattle.world_model.specs.State.{routed}
 use Rattle.world_model.proofs.Hosting.{routed_still}
 use Rattle.host_keep.specs.declared.final_status.FinalStatus.{FinalStatus}
 use Rattle.host_keep.specs.declared.final_status.FinalStatus.TheVariants as final
 use Rattle.host_keep.specs.Status.{status_byte}
 use Rattle.host_model.specs.State.{HostState, node_of}
-use Rattle.host_model.specs.declared.out.HostOut.{HostOut}
-use Rattle.host_model.specs.declared.out.HostOut.TheVariants.{Write, Note}
 use Rattle.host_model.specs.After.{after as after_host}
 use Rattle.host_model.specs.Did.{after_all, outs_all}
 use Rattle.host_model.specs.Outs.{outs}
@@ -48,33 +43,10 @@ use Rattle.proof_traffic.proofs.ChangesOutside.{place_is}
 
 -- ---- devices
 
-noted_devices : (w : Outside) (begun : Option (ℕ × ℕ)) (e : Entry) → (happens_all_outside w (noted_by begun e)).devices ≡ w.devices
-unfolding devices_after
-noted_devices w None e = refl
-noted_devices w (Some begun) e = refl
-
-out_devices : (w : Outside) (out : HostOut) → (happens_all_outside w (routed_one out)).devices ≡ w.devices
-unfolding devices_after
-out_devices w (Write unit) = refl
-out_devices w (Note e) = noted_devices w (begun_in e) e
-
 pub got_has : (devices : List State) (place : ℕ) (device : State) → slice_get devices place ≡ Some device → Has devices device
 got_has [] place device e = absurd cc
 got_has (first ∷ rest) zero device e = let same : first ≡ device = cc in inl same
 got_has (first ∷ rest) (suc before) device e = inr (got_has rest before device e)
-
--- the device that stands where the first of a node does is of the node
-placed_by : (hit : Bool) (node : ℕ) (first : State) (rest : List State) (at : Option ℕ) (place : ℕ) (device : State) → (first.node == node) ≡ hit → ((later : ℕ) → at ≡ Some later → slice_get rest later ≡ Some device → device.node ≡ node)
-    → (if hit then Some 0 else option_map suc at) ≡ Some place → slice_get (first ∷ rest) place ≡ Some device → device.node ≡ node
-placed_by true node first rest at place device is more here stands =
-    let zero_is : 0 ≡ place = cc in
-    let at_first : slice_get (first ∷ rest) 0 ≡ Some device = subst (λ (p : ℕ). slice_get (first ∷ rest) p ≡ Some device) (sym zero_is) stands in
-    let same : first ≡ device = cc in
-    ap (λ (d : State). d.node) (sym same) ∙ eqb-true first.node node is
-placed_by false node first rest None place device is more here stands = absurd cc
-placed_by false node first rest (Some later) place device is more here stands =
-    let next : suc later ≡ place = cc in
-    more later refl (subst (λ (p : ℕ). slice_get (first ∷ rest) p ≡ Some device) (sym next) stands)
 
 -- ---- events at which no session of the node ends
 

@@ -19,7 +19,7 @@ use Rattle.proof_course.specs.NodeNonces.{taken_as}
 use Rattle.proof_course.specs.NodeNonceFacts.{NonceFacts as NodeFacts}
 use Rattle.proof_course.specs.HostNonces as host
 use Rattle.proof_course.specs.NonceLaws.{NamesLive, TakesOffer}
-use Rattle.device_kinds.specs.Sealing.{keys_of}
+use Rattle.s0_crypto.specs.Sealing.{keys_of}
 use Rattle.device_sim.specs.State.{State, host_node}
 use Rattle.device_sim.specs.Event.{DeviceEvent, Hears, device_after, device_replies}
 use Rattle.proof_messages.specs.Asking.{verdict_on, IsLeft, Follows}

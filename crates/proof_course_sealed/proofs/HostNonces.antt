@@ -67,7 +67,7 @@ use Rattle.proof_course_sealed.proofs.Elsewhere.{AirStays, asks_stays, tells_sta
 use Rattle.proof_course_sealed.proofs.HostActs.{none_some}
 use Rattle.proof_course_sealed.proofs.HostEvents.{text_stays}
 use Rattle.proof_course_sealed.proofs.HostJudgements.{IsTaking}
-use Rattle.proof_messages.proofs.Bare.{never_ends}
+use Rattle.host_model.proofs.Pumps.{and_false as never_ends}
 
 -- ---- the courses as the host judges
 

@@ -26,7 +26,7 @@ use Rattle.proof_course.specs.HostNonces as host
 use Rattle.proof_course.specs.NonceLaws.{NamesLive}
 use Rattle.device_kinds.specs.declared.verdict.Verdict.{Verdict}
 use Rattle.device_kinds.specs.Kind.{lists, listens}
-use Rattle.device_kinds.specs.Sealing.{keys_of, sealed_text}
+use Rattle.s0_crypto.specs.Sealing.{keys_of, sealed_text}
 use Rattle.device_stack.specs.Ticking.{ticked, woken, set_by_hand}
 use Rattle.device_sim.specs.State.{State, host_node}
 use Rattle.device_sim.specs.Event.{DeviceEvent, Hears, Ticks, Wakes, Sets, outcome_of, device_after, device_replies}

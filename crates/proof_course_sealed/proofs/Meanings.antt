@@ -9,7 +9,7 @@ use Rattle.air_frames.specs.Ages.{is_class}
 use Rattle.air_frames.specs.Nonces.{nonce_in}
 use Rattle.s0_crypto.specs.declared.key_pair.Keys.{Keys}
 use Rattle.s0_crypto.specs.declared.ends.SealEnds.{SealEnds}
-use Rattle.device_kinds.specs.Sealing.{sealed_text}
+use Rattle.s0_crypto.specs.Sealing.{sealed_text}
 use Rattle.proof_course.specs.Parts.{numbered}
 use Rattle.proof_messages.specs.Numbers.{IsNonce}
 use Rattle.proof_messages.specs.Payloads.{IsOffer, IsSealed}

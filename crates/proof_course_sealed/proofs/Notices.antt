@@ -2,6 +2,7 @@
 use Rattle.std.proofs.Common.{◌≡◌, ℕ, ◌&&◌, Bool, true, false, cond, eqb, List, refl, ap, subst}
 use Rattle.std.specs.Prelude.{Some, None, Ok, Err, nat_le, if◌then◌else◌}
 use Rattle.std.proofs.lemmas.Bool.{and_parts, leb-true}
+use Rattle.std.proofs.lemmas.Option.{none-some as none_is}
 use Rattle.chip_functions.specs.declared.fault.BodyFault.TheVariants.{UnknownFunction, BadField}
 use Rattle.chip_functions.specs.declared.function.TheConstants.{APPLICATION_COMMAND_HANDLER, SEND_DATA, ADD_NODE, APPLICATION_UPDATE}
 use Rattle.chip_functions.specs.declared.notice.TheConstants.{UPDATE_RECEIVED, UPDATE_FAILED}
@@ -13,7 +14,7 @@ use Rattle.chip_functions.specs.Classes.{classes as class_list}
 use Rattle.chip_functions.specs.Notice.{IsUpdate, handler, received, request_failed, callback, update, handler_at, callback_at, add_notice_at, update_at, received_at, request_failed_at, notice_at, notice_of}
 use Rattle.chip_functions.specs.AddNode.{add_notice}
 use Rattle.chip_functions.proofs.FieldLaws.{bind_ok, found_ok, ok_is, as_takes}
-use Rattle.chip_functions.proofs.RowLaws.{row_cases, no_row, none_is}
+use Rattle.chip_functions.proofs.RowLaws.{row_cases, no_row}
 use Rattle.host_keep.specs.Rows.{IsNode}
 
 -- the node that a notice names is one

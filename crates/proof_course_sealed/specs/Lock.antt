@@ -4,7 +4,7 @@ use Rattle.transport_segments.specs.Kept.{Empty}
 use Rattle.s0_session.specs.declared.account.Account.{Account}
 use Rattle.proof_course.specs.NodeNonces as node
 use Rattle.device_sim.specs.State.{State}
-use Rattle.device_kinds.specs.Sealing.{keys_of}
+use Rattle.s0_crypto.specs.Sealing.{keys_of}
 use Rattle.proof_messages.specs.Ending.{HasEnded}
 use Rattle.proof_messages.specs.Reporting.{CanSay}
 use Rattle.proof_messages.specs.Numbers.{IsNonce, HasGiven}

@@ -3,7 +3,7 @@
 ghost use Rattle.std.specs.Prelude.{◌≡◌, ℕ, Bool, false, List, [], length};
 ghost use Rattle.proof_course.specs.NodeNonceFacts.{NonceFacts as NodeFacts};
 ghost use Rattle.device_kinds.specs.declared.kind.Kind.TheVariants as kinds;
-ghost use Rattle.device_kinds.specs.Sealing.{keys_of};
+ghost use Rattle.s0_crypto.specs.Sealing.{keys_of};
 ghost use Rattle.device_sim.specs.State.{State, fresh};
 ghost use Rattle.device_sim.specs.Event.{DeviceEvent, Hears, device_after, device_replies};
 ghost use Rattle.proof_course_plain.specs.Making.{Makes, Names, HearsNone};

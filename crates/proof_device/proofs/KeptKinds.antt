@@ -24,7 +24,7 @@ use Rattle.law_transcript.specs.device_kinds.declared.verdict.Verdict.{Verdict}
 use Rattle.law_transcript.specs.device_kinds.declared.verdict.Verdict.TheVariants.{NoSupport, Fails, Makes, Works}
 use Rattle.law_transcript.specs.device_kinds.Kind.{listens}
 use Rattle.law_transcript.specs.device_stack.State.{State, silent}
-use Rattle.law_transcript.specs.device_kinds.Sealing.{keys_of, unsealed_at}
+use Rattle.s0_crypto.specs.Sealing.{keys_of, unsealed_at}
 use Rattle.law_transcript.specs.device_stack.Effects.{effect_of, takes, after_effect}
 use Rattle.law_transcript.specs.device_kinds.Segments.{segment_session}
 use Rattle.law_transcript.specs.device_stack.Hearing.{Answered, answers, answers_opened, answers_bytes, hears_openly, nonce_named, sent_sealed, hears_inside, hears_plain, hears_for, hears_sealed, seals_for, hears_nonces, hears_securely, assembles, repeats_segment, hears_segment, hears_in_segments, hears_by, active, hears}

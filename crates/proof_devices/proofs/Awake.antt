@@ -28,7 +28,7 @@ use Rattle.device_kinds.specs.declared.verdict.Verdict.TheVariants.{NoSupport, F
 use Rattle.device_kinds.specs.Kind.{listens, lists, has_end}
 use Rattle.device_kinds.specs.Judging.{judged_set}
 use Rattle.device_kinds.specs.Telling.{told}
-use Rattle.device_kinds.specs.Sealing.{keys_of, unsealed_at}
+use Rattle.s0_crypto.specs.Sealing.{keys_of, unsealed_at}
 use Rattle.device_kinds.specs.Effects.{value_in, level_in, end_of, set_plainly, effect_untold, telling, effect_alone, effect_in_session, effect_by}
 use Rattle.device_stack.specs.State.{State, silent}
 use Rattle.device_stack.specs.Effects.{effect_of, takes, after_effect}

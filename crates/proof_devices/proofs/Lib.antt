@@ -32,3 +32,5 @@ mod Numbered
 mod Fating
 mod Meeting
 mod FateGrounds
+mod Acks
+mod AcksWalk

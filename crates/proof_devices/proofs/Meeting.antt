@@ -46,7 +46,7 @@ HearsArriving devices =
 
 -- ---- in a tick nothing answers a `repeat`
 
-unrepeated : (past : List Entry) (w : Outside) → Numbered (awaits_number w.outer) past w → repeats (past ++ ticked_entry w.outer) ≡ false
+pub unrepeated : (past : List Entry) (w : Outside) → Numbered (awaits_number w.outer) past w → repeats (past ++ ticked_entry w.outer) ≡ false
 unrepeated past w known = by (w.outer.in_tick && not w.outer.stamped) known
   where
     by : (b : Bool) → Numbered b past w → repeats (past ++ (if b then entry.Time w.outer.clock ∷ [] else [])) ≡ false
@@ -60,7 +60,7 @@ moves_none (Arrives drawn route) none = absurd none
 moves_none (Repeats number drawn route) none = absurd none
 moves_none event none = tt
 
-covers_none : (event : Event) → CoversOuter MovesNone event → CoversOuter HearsNone event
+pub covers_none : (event : Event) → CoversOuter MovesNone event → CoversOuter HearsNone event
 covers_none (Outside_does event) none = moves_none event none
 covers_none event none = tt
 

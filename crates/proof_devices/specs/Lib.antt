@@ -2,3 +2,4 @@ pub mod Living
 pub mod LastLine
 pub mod Answering
 pub mod Meeting
+pub mod Acks

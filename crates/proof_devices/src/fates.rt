@@ -1,6 +1,6 @@
 //! Fates of frames.
 
-ghost use Rattle.std.specs.Prelude.{Option, Some, List, ℕ, true};
+ghost use Rattle.std.specs.Prelude.{Option, Some, List, [], ℕ, true};
 ghost use Rattle.s0_crypto.specs.declared.key_pair.Keys.{Keys};
 ghost use Rattle.device_sim.specs.State.{State};
 ghost use Rattle.law_transcript.specs.Fates.{NumbersFrames};
@@ -11,6 +11,11 @@ ghost use Rattle.world_model.specs.State.{first_machine};
 ghost use Rattle.world_lines.specs.Spoken.{Spoken, transcript_of};
 ghost use Rattle.world_lines.specs.Done.{AreDone};
 ghost use Rattle.world_lines.specs.Whole.{AreWhole};
+ghost use Rattle.proof_air.specs.proof_walk.Phases.{Between};
+ghost use Rattle.proof_air.specs.proof_walk.Walk.{WalkOver};
+ghost use Rattle.proof_devices.specs.Acks.{KnowAcks};
+ghost use Rattle.proof_devices.specs.Living.{MayAny};
+ghost use Rattle.proof_devices.specs.Meeting.{Ground};
 
 use crate::{devices_listen_as_shown, devices_live_on};
 use proof_air::history_goes_on;
@@ -54,3 +59,11 @@ pub fn lines_meet_what_is_due()
     networks_go_on();
     frames_go_on();
 }
+
+/// At each phase of a line, where the ways of the frames on the air and the lives of devices are known, the air has as many marks that lose acknowledgements as
+/// the transcript says are left: each frame of the controller that is heard in its tick uses one up.
+pub fn acks_go_on()
+    ensures walk { (devices : List State) → WalkOver (Ground devices) MayAny KnowAcks }
+    ensures first { (keys : Keys) (records : Option (List (List ℕ))) (devices : List State) →
+        KnowAcks Between [] (first_machine keys records devices) }
+{}

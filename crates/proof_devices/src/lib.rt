@@ -6,10 +6,11 @@
 //! joined are known as well, the same walk ties what a device replied to the frames of its node: `lines_run_as_shown` after whole lines,
 //! `lines_run_as_far` where the last was cut short, and `devices_do_at_once` before each entry; `devices_did` is all of it as one law.
 //! What becomes of each frame, and why, is `lines_meet_what_is_due`; that a repeat is heard where it is asked for, `lines_repeat_what_is_asked`. Both are over
-//! the life of each device, the history of the air (`proof_air`), time, the networks and the frames on the air (`proof_routes`).
+//! the life of each device, the history of the air (`proof_air`), time, the networks and the frames on the air (`proof_routes`); and so is `acks_go_on`, the
+//! tie of the marks that lose acknowledgements.
 //! The definitions are in `specs/`: `Living` (what came to a device, how many ticks it lived and what it answered, by the transcript, at each phase of a
-//! line), `LastLine` (lines with events more of the last one), `Answering` (what stands directly after a line that repeats a frame, over that history) and
-//! `Meeting` (which fate is due, over the ways of the frames that the transcript shows).
+//! line), `LastLine` (lines with events more of the last one), `Answering` (what stands directly after a line that repeats a frame, over that history),
+//! `Meeting` (which fate is due, over the ways of the frames that the transcript shows) and `Acks` (what is known of the marks that lose acknowledgements).
 #![tactic(auto)]
 
 mod devices;
@@ -21,6 +22,6 @@ pub use devices::{
     lines_live_as_shown, lines_run_as_far, lines_run_as_shown,
 };
 pub use did::devices_did;
-pub use fates::{lines_meet_what_is_due, lines_repeat_what_is_asked};
+pub use fates::{acks_go_on, lines_meet_what_is_due, lines_repeat_what_is_asked};
 pub use proof_air as air;
 pub use proof_routes as routes;

@@ -2,7 +2,7 @@ mod Shown
 pub mod Succeeding
 mod Running
 mod Heading
-mod Unasked
+pub mod Unasked
 pub mod Opening
 pub mod Knowing
 pub mod Carrying

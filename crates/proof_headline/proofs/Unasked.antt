@@ -1,6 +1,6 @@
 -- No order is accepted for a node but the first and those with a device that knows Supervision, so no session of another ends.
 use Rattle.std.proofs.Common.{◌≡◌, ◌≢◌, ◌⊎◌, inl, inr, ℕ, zero, suc, ◌==◌, Bool, true, false, if◌then◌else◌, List, [], ◌∷◌, ◌++◌, Option, Some, None, unwrap_or, refl, sym, ap, subst, ◌∙◌, slice_get, length, arith}
-use Rattle.std.proofs.lemmas.Bool.{eqb-true}
+use Rattle.std.proofs.lemmas.Bool.{eqb-true, false_from_ne_true as not_true}
 use Rattle.std.specs.Prelude.{not, is_some}
 use Rattle.std.specs.List.{AllByRecursion}
 use Rattle.zw_base.specs.declared.order.Order.{Order}
@@ -46,11 +46,10 @@ use Rattle.proof_spoken.proofs.Plain.{ArePlain, spoken_part, line_kind, line_ord
 use Rattle.proof_spoken.proofs.SaidOrders.{events_kept, machine_kept, may_accept, taken_then}
 use Rattle.proof_headline.specs.Truly.{IsAskable, LinesAreTrue}
 use Rattle.proof_headline.proofs.Succeeding.{owned}
-use Rattle.proof_messages.proofs.DeviceSegments.{never_true as not_true}
 
 -- ---- what an order needs
 
-first_none : (first : Option Refused) (more : List (Option Refused)) → first_some (first ∷ more) ≡ None → (first ≡ None) × (first_some more ≡ None)
+pub first_none : (first : Option Refused) (more : List (Option Refused)) → first_some (first ∷ more) ≡ None → (first ≡ None) × (first_some more ≡ None)
 first_none None more e = (refl, e)
 first_none (Some refused) more e = absurd cc
 

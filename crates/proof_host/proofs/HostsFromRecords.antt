@@ -1,6 +1,6 @@
 -- A host that starts from records has what the one before recorded.
-use Rattle.std.proofs.Common.{◌≡◌, ℕ, zero, suc, Bool, true, if◌then◌else◌, List, [], ◌∷◌, ◌++◌, length, map, Option, Some, None, refl, sym, ap, ap₂, subst, ◌∙◌, append_assoc, append-nil}
-use Rattle.std.specs.Prelude.{slice_get, option_map}
+use Rattle.std.proofs.Common.{◌≡◌, ℕ, zero, suc, List, [], ◌∷◌, ◌++◌, length, map, Option, Some, None, refl, sym, ap, ap₂, subst, ◌∙◌, append_assoc, append-nil}
+use Rattle.std.specs.Prelude.{slice_get}
 use Rattle.std.proofs.lemmas.List.{length-map}
 use Rattle.s0_crypto.specs.declared.key_pair.Keys.{Keys}
 use Rattle.zw_base.specs.declared.order.Order.{Order}
@@ -8,8 +8,8 @@ use Rattle.zw_text.specs.declared.entry.Entry.{Entry}
 use Rattle.zw_text.specs.declared.entry.Outcome.{Outcome}
 use Rattle.zw_text.specs.declared.entry.Outcome.TheVariants.{Waiting, Begun, Success, Fail, NoSupport, Unanswered, Cancelled}
 use Rattle.supervision.specs.Host.{HostBook, open_session}
-use Rattle.host_keep.specs.Kept.{Kept, Taken, command_of, kept_of, first_kept, node_of as kept_of_node, after as kept_after, after_all as kept_after_all}
-use Rattle.host_keep.specs.Legal.{AreLegal, first_illegal, is_legal}
+use Rattle.host_keep.specs.Kept.{Kept, Taken, command_of, kept_of, first_kept, node_of as kept_of_node, after_all as kept_after_all}
+use Rattle.host_keep.specs.Legal.{AreLegal, first_illegal}
 use Rattle.host_keep.specs.declared.record.Record.{Record}
 use Rattle.host_model.specs.State.{HostState, Command, command_at, node_of}
 use Rattle.host_model.specs.Events.{HostEvent}
@@ -18,11 +18,11 @@ use Rattle.host_model.specs.Facts.{HostFacts}
 use Rattle.host_model.specs.Opening.{opened}
 use Rattle.host_model.specs.Recording.{AllOfJoined}
 use Rattle.host_model.specs.Holding.{Holds, HoldsAlone, taken_as, as_kept, outcome_kept}
-use Rattle.host_model.proofs.Fold.{step_none}
 use Rattle.proof_host.specs.Entries.{entries_all}
 use Rattle.proof_host.specs.Tables.{outcome_by, recorded, taken_at, taken_by}
 use Rattle.proof_host.specs.Facts.{Facts, StartsAs}
 use Rattle.proof_host.specs.Lives.{AreLives, with_records, entries_of_lives, last_of_lives}
+use Rattle.host_model.proofs.Recorded.{legal-append as legal_both}
 
 -- ---- one host after another
 
@@ -77,16 +77,6 @@ starts_as old new kept f g host =
         ∙ sym (f.outcomes k a e) ∙ as_recorded_so a.outcome
 
 -- ---- records one after another
-
-legal_whole : (b : Bool) (o : Option ℕ) → b ≡ true → o ≡ None → (if b then option_map suc o else Some 0) ≡ None
-legal_whole b o e f = ap₂ (λ (c : Bool) (p : Option ℕ). if c then option_map suc p else Some 0) e f
-
-pub legal_both : (kept : Kept) (a b : List Record) → first_illegal kept a ≡ None → first_illegal (kept_after_all kept a) b ≡ None → first_illegal kept (a ++ b) ≡ None
-unfolding first_illegal kept_after_all
-legal_both kept [] b first later = later
-legal_both kept (one ∷ a) b first later =
-    let parts = step_none (is_legal kept one) (first_illegal (kept_after kept one) a) first in
-    legal_whole (is_legal kept one) (first_illegal (kept_after kept one) (a ++ b)) parts.0 (legal_both (kept_after kept one) a b parts.1 later)
 
 pub nothing_kept : kept_of [] ≡ first_kept
 unfolding kept_after_all

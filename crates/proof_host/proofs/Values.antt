@@ -25,7 +25,8 @@ use Rattle.host_orders.specs.declared.actuator.Actuator.TheVariants.{Binary, Mul
 use Rattle.host_keep.specs.Kept.{or_else, value_among}
 use Rattle.host_model.specs.After.{confirming, hearing}
 use Rattle.proof_host.proofs.Effect.{SameConfirmed}
-use Rattle.host_model.proofs.Values.{one_property, tie}
+use Rattle.host_model.proofs.Values.{one_property}
+use Rattle.value_store.proofs.Reserved.{tie}
 
 -- ---- equal keys and properties
 

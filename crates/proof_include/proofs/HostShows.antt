@@ -12,7 +12,8 @@ use Rattle.s0_session.specs.Sending.{Sending, seen_after, taken_from, taken}
 use Rattle.inclusion.specs.declared.message.Message.{Message}
 use Rattle.inclusion.specs.declared.message.Message.TheVariants.{SchemeGet, SchemeReport, NonceGet, NonceReport, Sealed, Other}
 use Rattle.inclusion.specs.declared.exchange.Exchange.{Exchange}
-use Rattle.inclusion.specs.Sealing.{keys_of, opened_by, sealer_by, sent_by}
+use Rattle.s0_crypto.specs.Sealing.{keys_of, unsealed_at}
+use Rattle.inclusion.specs.Sealing.{sealer_by, sent_by}
 use Rattle.inclusion.specs.Messages.{message_of, nonce_named, nonce_get, nonce_report, key_verify, temporary_key}
 use Rattle.inclusion.specs.Joining.{Joining}
 use Rattle.inclusion.specs.Including.{Including, Included, quiet, is_secure, asking, asks, has_asked, takes_scheme, gives_nonce, takes_nonce, takes_message, includer_takes, is_with, is_verified, held_in, verified, spending, sealing, to_host}
@@ -117,9 +118,9 @@ pub verify_opens : (key : List ℕ) (node : ℕ) (lock : Joining) (old : Includi
 verify_opens key node lock old payload key_is insecure v =
     let named : nonce_named payload ≡ slice_index v.nonce 0 = ap nonce_named v.text ∙ named_in_sealed (keys_of key) v.own v.nonce (to_host node) key_verify v.eight in
     let spent : nonce_spent (account_of old.book node) (nonce_named payload) ≡ Some v.nonce = spends v.nonce (nonce_named payload) (account_of old.book node).live (v.live insecure).0 named in
-    let opens : opened_by (keys_of old.key) v.nonce (to_host node) payload ≡ Some key_verify
-    = ap (λ (k : List ℕ). opened_by (keys_of k) v.nonce (to_host node) payload) key_is
-    ∙ (ap (opened_by (keys_of key) v.nonce (to_host node)) v.text ∙ sealed_opens (keys_of key) v.own v.nonce (to_host node) key_verify v.eight) in
+    let opens : unsealed_at (keys_of old.key) v.nonce (to_host node) payload ≡ Some key_verify
+    = ap (λ (k : List ℕ). unsealed_at (keys_of k) v.nonce (to_host node) payload) key_is
+    ∙ (ap (unsealed_at (keys_of key) v.nonce (to_host node)) v.text ∙ sealed_opens (keys_of key) v.own v.nonce (to_host node) key_verify v.eight) in
     ap (λ (o : Option (List ℕ)). is_verified (held_in old node payload o)) spent ∙ ap is_verified opens
 
 module _ (key : List ℕ) (lock : Joining) (old : Including) (from : ℕ) (key_is : old.key ≡ key) (books : from < length old.book) (seens : from < length old.seen)

@@ -9,7 +9,8 @@ use Rattle.s0_session.specs.Sending.{seen_after, taken_from, taken}
 use Rattle.inclusion.specs.declared.message.Message.{Message}
 use Rattle.inclusion.specs.declared.message.Message.TheVariants.{SchemeGet, SchemeReport, NonceGet, NonceReport, Sealed, Other}
 use Rattle.inclusion.specs.declared.exchange.Exchange.{Exchange}
-use Rattle.inclusion.specs.Sealing.{keys_of, sealed_text, sealer_by, sent_by}
+use Rattle.s0_crypto.specs.Sealing.{keys_of, sealed_text}
+use Rattle.inclusion.specs.Sealing.{sealer_by, sent_by}
 use Rattle.inclusion.specs.Messages.{message_of, nonce_get, nonce_report, key_set, temporary_key}
 use Rattle.inclusion.specs.Joining.{Joining}
 use Rattle.inclusion.specs.Including.{Including, Included, quiet, is_secure, asking, asks, has_asked, takes_scheme, gives_nonce, takes_nonce, takes_sealed, takes_message, includer_takes, is_with, verified, spending, sealing}

@@ -1,5 +1,5 @@
 -- Worlds that lines lead to, and an exchange that begins in one of them.
-use Rattle.std.proofs.Common.{◌≡◌, ℕ, suc, ◌+◌, ◌-◌, ◌<◌, ◌≤◌, Bool, true, cond, Option, Some, None, List, [], ◌∷◌, ◌++◌, length, refl, ap, sym, subst, ◌∙◌, inl, inr, append_assoc, arith}
+use Rattle.std.proofs.Common.{◌≡◌, ℕ, suc, ◌+◌, ◌-◌, ◌<◌, ◌≤◌, Bool, true, cond, Some, None, List, [], ◌∷◌, ◌++◌, length, refl, ap, sym, subst, ◌∙◌, inl, inr, append_assoc, arith}
 use Rattle.std.proofs.lemmas.List.{get_or-replicate, length-replicate, append-nil}
 use Rattle.std.proofs.lemmas.List.FromFn.{get_or-map-range_with_len}
 use Rattle.std.proofs.lemmas.Bool.{ne_eqb}
@@ -11,11 +11,10 @@ use Rattle.inclusion.specs.Including.{is_secure, fresh_includer}
 use Rattle.include_text.specs.declared.line.IncludeLine.{IncludeLine}
 use Rattle.include_text.specs.declared.line.IncludeLine.TheVariants.{Add}
 use Rattle.include_text.specs.declared.entry.IncludeEntry.{IncludeEntry}
-use Rattle.include_text.specs.declared.entry.IncludeRefusal.TheVariants.{Secure as HostSecure}
 use Rattle.include_world.specs.declared.flight.Pair.{Pair}
 use Rattle.include_world.specs.declared.flight.Heading.TheVariants.{Outward}
 use Rattle.include_world.specs.Air.{AirState, pair_of, departing, first_air, no_counts}
-use Rattle.include_world.specs.World.{WorldState, Doing, IncludeEvent, Says, does, adds, begins, refused, joiner_of, first_world, first_joiner, after_all, entries_all, AllDrawn, Did}
+use Rattle.include_world.specs.World.{WorldState, IncludeEvent, Says, does, joiner_of, first_world, first_joiner, after_all, entries_all, AllDrawn, Did}
 use Rattle.include_world.specs.Line.{IsLine, IsTicks}
 use Rattle.include_world.specs.Added.{IsSecure, last_word}
 use Rattle.proof_include.specs.Ending.{Accepts, AddsAndTicks}
@@ -28,7 +27,7 @@ use Rattle.proof_include.proofs.ShowFacts.{Ready}
 use Rattle.proof_include.proofs.Stages.{SchemeAsked}
 use Rattle.proof_include.proofs.ExchangeSteps.{Going}
 use Rattle.proof_include.proofs.Ticking.{Ahead, Calm, drawn_prefix, drawn_rest, ticks_end}
-use Rattle.proof_include.proofs.Starting.{begins_going}
+use Rattle.proof_include.proofs.Starting.{begins_going, added_is, begins_calm}
 use Rattle.proof_include.specs.Lines.{AreLines, CameTo}
 use Rattle.proof_include.proofs.Numbers.{LastIs}
 use Rattle.proof_include.proofs.TickParts.{split_ticks, ticks_less}
@@ -111,16 +110,6 @@ first_stands key node sixteen from to =
     }
 
 -- ---- an exchange begins
-
-pub added_is : (w : WorldState) (node : ℕ) (drawn : List ℕ) → Accepts node w → (does w (Says (Add node) drawn)).world ≡ (begins w node).world
-unfolding does
-added_is w node drawn a =
-    ap (λ (o : Option _). (adds w node o).world) a.idle
-    ∙ ap (λ (b : Bool). (let d : Doing = cond b (refused w HostSecure) (begins w node) in d).world) a.insecure
-
-pub begins_calm : (air : AirState) (node : ℕ) → air.losing ≡ 0 → (departing air node Outward scheme_get).losing ≡ 0
-unfolding departing
-begins_calm air node calm = omega (arith, calm)
 
 begun_landed : (air : AirState) (node : ℕ) → air.landed ≤ length air.frames → (departing air node Outward scheme_get).landed ≤ length air.frames
 begun_landed air node h = let grows = departing_grows air node Outward scheme_get in omega (arith, grows.landed, h)

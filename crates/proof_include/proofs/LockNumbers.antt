@@ -10,7 +10,8 @@ use Rattle.s0_session.specs.Nonces.{nonce_given, after_spend, nonce_spent, live_
 use Rattle.s0_session.specs.Sending.{Sending, taken}
 use Rattle.inclusion.specs.declared.message.Message.{Message}
 use Rattle.inclusion.specs.declared.message.Message.TheVariants.{SchemeGet, SchemeReport, NonceGet, NonceReport, Sealed, Other}
-use Rattle.inclusion.specs.Sealing.{keys_of, sealed_text, sent_by, opened_by}
+use Rattle.s0_crypto.specs.Sealing.{keys_of, sealed_text, unsealed_at}
+use Rattle.inclusion.specs.Sealing.{sent_by}
 use Rattle.inclusion.specs.Messages.{message_of, nonce_named, scheme_report, nonce_get, nonce_report, temporary_key, key_set_in}
 use Rattle.inclusion.specs.Joining.{Joining, Joined, joiner_takes, takes_message, tells_scheme, gives_nonce, takes_nonce, takes_key, takes_for, from_host, silent}
 use Rattle.include_world.specs.declared.flight.Heading.TheVariants.{Outward, Homeward}
@@ -100,7 +101,7 @@ module _ (lock : Joining) (seen : ℕ) (way : Way lock.given seen) where
   key_turns payload given same w (Some k) = inr (record { given = same; way = w; sends = (home_plain seen nonce_get NonceGet nonce_asked refl refl, tt) })
 
   spent_turns : (payload : List ℕ) (given : Account) → given.given ≡ lock.given.given → Way given seen → (o k : Option (List ℕ)) → Turns seen lock.given (takes_for (record lock { given = given }) payload o k)
-  spent_turns payload given same w (Some nonce) None = key_turns payload given same w (option_and_then key_set_in (opened_by (keys_of temporary_key) nonce (from_host lock.node) payload))
+  spent_turns payload given same w (Some nonce) None = key_turns payload given same w (option_and_then key_set_in (unsealed_at (keys_of temporary_key) nonce (from_host lock.node) payload))
   spent_turns payload given same w None None = inr (record { given = same; way = w; sends = tt })
   spent_turns payload given same w None (Some k) = inr (record { given = same; way = w; sends = tt })
   spent_turns payload given same w (Some nonce) (Some k) = inr (record { given = same; way = w; sends = tt })

@@ -9,7 +9,8 @@ use Rattle.s0_session.specs.Sending.{taken_from, taken}
 use Rattle.inclusion.specs.declared.message.Message.{Message}
 use Rattle.inclusion.specs.declared.message.Message.TheVariants.{SchemeGet, SchemeReport, NonceGet, NonceReport, Sealed, Other}
 use Rattle.inclusion.specs.declared.exchange.Exchange.{Exchange}
-use Rattle.inclusion.specs.Sealing.{keys_of, sealed_text, sealer_by, sent_by}
+use Rattle.s0_crypto.specs.Sealing.{keys_of, sealed_text}
+use Rattle.inclusion.specs.Sealing.{sealer_by, sent_by}
 use Rattle.inclusion.specs.Messages.{message_of, nonce_named, scheme_get, scheme_report, nonce_get, nonce_report, key_verify}
 use Rattle.inclusion.specs.Joining.{Joining, Joined, joiner_takes, takes_message, tells_scheme, gives_nonce, takes_nonce, takes_key, takes_for, takes_sealed, silent}
 use Rattle.include_world.specs.declared.flight.Heading.{Heading}

@@ -212,7 +212,7 @@ first_near key node from to =
 
 -- ---- an exchange begins
 
-added_is : (w : WorldState) (node : ℕ) (drawn : List ℕ) → Accepts node w → (does w (Says (Add node) drawn)).world ≡ (begins w node).world
+pub added_is : (w : WorldState) (node : ℕ) (drawn : List ℕ) → Accepts node w → (does w (Says (Add node) drawn)).world ≡ (begins w node).world
 unfolding does
 added_is w node drawn a =
     ap (λ (o : Option Exchange). (adds w node o).world) a.idle
@@ -230,7 +230,7 @@ begins_going key node w n none calm = record {
   is_for = scheme_asked;
 }
 
-begins_calm : (air : AirState) (node : ℕ) → air.losing ≡ 0 → (departing air node Outward scheme_get).losing ≡ 0
+pub begins_calm : (air : AirState) (node : ℕ) → air.losing ≡ 0 → (departing air node Outward scheme_get).losing ≡ 0
 unfolding departing
 begins_calm air node calm = omega (arith, calm)
 

@@ -180,10 +180,6 @@ abbrev Amid : ℕ → ℕ → ℕ → ℕ → WorldState → Type 0
 Amid node left k most w = (is_secure w.includer node ≡ true)
     ⊎ ((s : Stage) × (i : ℕ) × Going node left s i w × (w.air.landed ≤ i) × (((i < most) × (rank s ≤ k)) ⊎ ((most ≤ i) × (rank s < k))))
 
-is_false : (b : Bool) → (b ≡ true → ⊥) → b ≡ false
-is_false true f = absurd (f refl)
-is_false false f = refl
-
 amid_lands : (key : List ℕ) (node left k most : ℕ) (w : WorldState) (drawn : List ℕ) → length drawn ≡ 8 → Calm key node w → w.air.landed < most → most ≤ length w.air.frames
     → Amid node left k most w → Amid node left k most (does w (Lands drawn)).world
 amid_lands key node left k most w drawn eight c flies in_all (inl secure) = inl (secure_lands key node w drawn eight c.fact c.near secure)

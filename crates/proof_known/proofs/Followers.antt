@@ -22,11 +22,13 @@ use Rattle.chip_functions.specs.Notice.{notice_of}
 use Rattle.class_info.specs.declared.report_status.ReportStatus.{ReportStatus}
 use Rattle.class_info.specs.declared.report_status.ReportStatus.TheVariants as statuses
 use Rattle.class_info.specs.Values.{status_byte}
+use Rattle.s0_crypto.specs.declared.key_pair.Keys.{Keys}
 use Rattle.supervision.specs.Host.{told_of}
 use Rattle.supervision.specs.declared.host_node.Told.{Told as TheTold}
 use Rattle.supervision.specs.declared.host_node.Told.TheVariants as told
 use Rattle.value_store.specs.Values.{count_with}
 use Rattle.value_store.proofs.Keys.{same_property_laws}
+use Rattle.law_transcript.specs.Payloads.{messages_of}
 use Rattle.law_transcript.specs.Units.{Carried, bringing_in, bringing_of, from_node, read_well}
 use Rattle.law_time.specs.Judged.{may_tell}
 use Rattle.proof_transcript.specs.law_host.Following.{same_setting}
@@ -45,11 +47,11 @@ use Rattle.host_model.specs.Did.{after_all}
 use Rattle.host_model.specs.Events.{HostEvent, Interviews, Interview_unkept, Unreads, Is_unkept, Reports_old, Works, Finishes, Offers, Gives, Spends, Spends_unread, Takes_nonce, Notifies, Resends, Hears_value, Has_no_room}
 use Rattle.host_model.specs.May.{says_listens}
 use Rattle.host_model.specs.Outs.{ended_of}
-use Rattle.host_model.specs.Taking.{AreTaken, FinalEvents, FrameEvents, InterviewEvents, IsOpened, IsTaken, NonceGetEvents, NonceReportEvents, NoticeEvents, PayloadEvents, ReportEvents, ResponseEvents, SealedEvents, is_secure, resent, value_event, value_events}
+use Rattle.host_model.specs.Taking.{AreTaken, FinalEvents, FrameEvents, InterviewEvents, IsOpened, IsTaken, NonceGetEvents, NonceReportEvents, NoticeEvents, OpensTo, PayloadEvents, ReportEvents, ResponseEvents, SealedEvents, is_secure, resent, value_event, value_events}
 use Rattle.proof_waking.proofs.Always.{either, none, one}
 use Rattle.proof_transcript.proofs.Bodies.{body_is}
 use Rattle.proof_transcript.proofs.Classes.{IsNoInterview, LeavesRecords, event_kept}
-use Rattle.proof_known.specs.Noted.{ends_so, tells_end, tells_property, tells_report, tells_value}
+use Rattle.proof_known.specs.Noted.{IsOpenedIf, IsOpenedTo, ends_so, tells_end, tells_property, tells_report, tells_value}
 
 -- ---- the same
 
@@ -62,20 +64,25 @@ bytes_same (x ∷ l) = ap₂ (λ (a b : Bool). a && b) (eq-eqb x x refl) (bytes_
 
 -- ---- what a payload of a node tells
 
-abbrev Of : ℕ → ℕ → Bool → Type 0
-Of n m tells = (m ≡ n) × (tells ≡ true)
+-- it does, and where it is sealed it opens to that
+abbrev Of : Keys → ℕ → List ℕ → Heard → (Told → Bool) → ℕ → Bool → Type 0
+Of keys n payload heard such m tells = (m ≡ n) × (tells ≡ true) × IsOpenedIf keys such (record { node = n; payload = payload }) heard
 
 -- by a node with these classes
 abbrev pub counts : Option (List ℕ) → (Told → Bool) → Heard → Bool
 counts classes such (Messages messages) = not (is_secure classes) && list_any such messages
 counts classes such heard = may_tell such heard
 
-module _ (n : ℕ) (payload : List ℕ) (heard : Heard) (classes : Option (List ℕ)) where
+module _ (keys : Keys) (n : ℕ) (payload : List ℕ) (heard : Heard) (classes : Option (List ℕ)) where
+  -- it opens to this, if it is sealed
+  abbrev Opens : (Told → Bool) → Type 0
+  Opens such = IsOpenedIf keys such (record { node = n; payload = payload }) heard
+
   abbrev pub IsToldIn : HostEvent → Type 0
-  IsToldIn (Finishes m session id command status wake) = Of n m (counts classes (tells_end id (ended_of status)) heard)
-  IsToldIn (Reports_old m id) = Of n m (counts classes (tells_report id) heard)
-  IsToldIn (Hears_value m setting) = Of n m (may_tell (tells_value setting) heard)
-  IsToldIn (Has_no_room m property) = Of n m (may_tell (tells_property property) heard)
+  IsToldIn (Finishes m session id command status wake) = Of keys n payload heard (tells_end id (ended_of status)) m (counts classes (tells_end id (ended_of status)) heard)
+  IsToldIn (Reports_old m id) = Of keys n payload heard (tells_report id) m (counts classes (tells_report id) heard)
+  IsToldIn (Hears_value m setting) = Of keys n payload heard (tells_value setting) m (may_tell (tells_value setting) heard)
+  IsToldIn (Has_no_room m property) = Of keys n payload heard (tells_property property) m (may_tell (tells_property property) heard)
   IsToldIn (Unreads m text) = (m ≡ n) × (text ≡ payload)
   IsToldIn (Spends_unread m text) = (m ≡ n) × (text ≡ payload)
   IsToldIn (Interviews m listens listed update) = ⊥
@@ -90,14 +97,18 @@ module _ (n : ℕ) (payload : List ℕ) (heard : Heard) (classes : Option (List 
 
   -- what one of these messages tells is told
   abbrev Tells : List Told → Type 0
-  Tells messages = (such : Told → Bool) → list_any such messages ≡ true → may_tell such heard ≡ true
+  Tells messages = (such : Told → Bool) → list_any such messages ≡ true → (may_tell such heard ≡ true) × Opens such
 
   abbrev TellsOne : Told → Type 0
-  TellsOne message = (such : Told → Bool) → such message ≡ true → may_tell such heard ≡ true
+  TellsOne message = (such : Told → Bool) → such message ≡ true → (may_tell such heard ≡ true) × Opens such
 
   -- and counts, openly of a node that is not secure, or sealed
   abbrev CountsOne : Told → Type 0
-  CountsOne message = (such : Told → Bool) → such message ≡ true → counts classes such heard ≡ true
+  CountsOne message = (such : Told → Bool) → such message ≡ true → (counts classes such heard ≡ true) × Opens such
+
+  -- of this node
+  of_it : (such : Told → Bool) (tells : Bool) → (tells ≡ true) × Opens such → Of keys n payload heard such n tells
+  of_it such tells (is, opens) = (refl, is, opens)
 
   -- ---- reports
 
@@ -119,14 +130,14 @@ module _ (n : ℕ) (payload : List ℕ) (heard : Heard) (classes : Option (List 
   final_all : (session id : ℕ) (status : ReportStatus) (wake : Bool) (command : Option ℕ) (by : Option FinalStatus) (events : List HostEvent) → status_of (status_byte status) ≡ by
       → CountsOne (Report id status wake) → FinalEvents n session id command by wake events → All events
   final_all session id status wake (Some command) (Some by) events same tells is =
-      either IsToldIn (Finishes n session id command by wake) (Is_unkept n) events (refl, tells (tells_end id (ended_of by)) (ends_told id status wake by same)) tt is
+      either IsToldIn (Finishes n session id command by wake) (Is_unkept n) events (of_it (tells_end id (ended_of by)) (counts classes (tells_end id (ended_of by)) heard) (tells (tells_end id (ended_of by)) (ends_told id status wake by same))) tt is
   final_all session id status wake (Some command) None events same tells is = none IsToldIn events is
   final_all session id status wake None (Some by) events same tells is = none IsToldIn events is
   final_all session id status wake None None events same tells is = none IsToldIn events is
 
   reported : (h : HostState) (id : ℕ) (status : ReportStatus) (wake : Bool) (it : TheTold) (events : List HostEvent) → CountsOne (Report id status wake)
       → ReportEvents h n id status wake it events → All events
-  reported h id status wake told.Old events tells is = one IsToldIn (Reports_old n id) events (refl, tells (tells_report id) (eq-eqb id id refl)) is
+  reported h id status wake told.Old events tells is = one IsToldIn (Reports_old n id) events (of_it (tells_report id) (counts classes (tells_report id) heard) (tells (tells_report id) (eq-eqb id id refl))) is
   reported h id status wake told.Working events tells is = one IsToldIn (Works n id) events tt is
   reported h id status wake (told.Final session) events tells is = final_all session id status wake _ (status_of (status_byte status)) events refl tells is
 
@@ -156,8 +167,10 @@ module _ (n : ℕ) (payload : List ℕ) (heard : Heard) (classes : Option (List 
   value : (b : Bool) (settings : List Setting) (setting : Setting) → TellsOne (Values settings) → ((such : Setting → Bool) → such setting ≡ true → list_any such settings ≡ true)
       → IsToldIn (if b then Has_no_room n setting.property else Hears_value n setting)
   value true settings setting tells among =
-      (refl, tells (tells_property setting.property) (among (λ one. same_property setting.property one.property) (same_property_laws.refl setting.property)))
-  value false settings setting tells among = (refl, tells (tells_value setting) (among (λ one. same_setting setting one) (same_one setting)))
+      of_it (tells_property setting.property) (may_tell (tells_property setting.property) heard)
+      (tells (tells_property setting.property) (among (λ one. same_property setting.property one.property) (same_property_laws.refl setting.property)))
+  value false settings setting tells among =
+      of_it (tells_value setting) (may_tell (tells_value setting) heard) (tells (tells_value setting) (among (λ one. same_setting setting one) (same_one setting)))
 
   values : (h : HostState) (settings more : List Setting) → TellsOne (Values settings) → ((such : Setting → Bool) → list_any such more ≡ true → list_any such settings ≡ true)
       → All (value_events h n more)
@@ -181,7 +194,7 @@ module _ (n : ℕ) (payload : List ℕ) (heard : Heard) (classes : Option (List 
 
   -- what one of these messages tells counts
   abbrev CountSo : Bool → List Told → Type 0
-  CountSo sealed messages = (such : Told → Bool) → list_any such messages ≡ true → (sealed ≡ true) ⊎ (is_secure classes ≡ false) → counts classes such heard ≡ true
+  CountSo sealed messages = (such : Told → Bool) → list_any such messages ≡ true → (sealed ≡ true) ⊎ (is_secure classes ≡ false) → (counts classes such heard ≡ true) × Opens such
 
   module _ (law : LeavesRecords) where
     all_kept : (h : HostState) (events : List HostEvent) → All events → (node_of (after_all h events) n).classes ≡ (node_of h n).classes
@@ -199,37 +212,44 @@ module _ (n : ℕ) (payload : List ℕ) (heard : Heard) (classes : Option (List 
         (all_taken (after_all h first) sealed more rest (all_kept h first here ∙ same) (λ such is. tells such (or_right (such message) (list_any such more) is))
         (λ such is may. count such (or_right (such message) (list_any such more) is) may) others))
 
-    -- ---- what is sealed may tell anything
-
-    abbrev TellsAll : Type 0
-    TellsAll = (such : Told → Bool) → (may_tell such heard ≡ true) × (counts classes such heard ≡ true)
-
-    opened : (h : HostState) (nonce : List ℕ) (events : List HostEvent) → (node_of h n).classes ≡ classes → TellsAll → IsOpened h n nonce payload events → All events
-    opened h nonce events same tells (inl is) = one IsToldIn (Is_unkept n) events tt is
-    opened h nonce events same tells (inr (inl vain)) = one IsToldIn (Spends_unread n payload) events (refl, refl) vain.1
-    opened h nonce events same tells (inr (inr opens)) =
-        let (messages, rest, to, are_so, taken_so) = opens in
-        subst All (sym are_so)
-        (tt, all_taken (after h (Spends n)) true messages rest (event_kept law h (Spends n) tt n ∙ same) (λ such is. (tells such).0) (λ such is may. (tells such).1) taken_so)
-
-    sealed_all : (h : HostState) (nonce : Option (List ℕ)) (events : List HostEvent) → (node_of h n).classes ≡ classes → TellsAll → SealedEvents h n payload nonce events → All events
-    sealed_all h None events same tells is = one IsToldIn (Unreads n payload) events (refl, refl) is
-    sealed_all h (Some nonce) events same tells is = opened h nonce events same tells is
-
 openly : (secure told sealed : Bool) → sealed ≡ false → told ≡ true → (sealed ≡ true) ⊎ (secure ≡ false) → (not secure && told) ≡ true
 openly true told true is tells may = cc
 openly true told false is tells (inl bad) = cc
 openly true told false is tells (inr bad) = cc
 openly false told sealed is tells may = tells
 
+-- what is sealed tells what it opens to
+module _ (law : LeavesRecords) (n : ℕ) (payload : List ℕ) (h : HostState) where
+  abbrev AllTold : List HostEvent → Type 0
+  AllTold events = AllByRecursion (IsToldIn h.keys n payload Sealed (node_of h n).classes) events
+
+  opened : (nonce : List ℕ) (events : List HostEvent) → IsOpened h n nonce payload events → AllTold events
+  opened nonce events (inl is) = one (IsToldIn h.keys n payload Sealed (node_of h n).classes) (Is_unkept n) events tt is
+  opened nonce events (inr (inl vain)) = one (IsToldIn h.keys n payload Sealed (node_of h n).classes) (Spends_unread n payload) events (refl, refl) vain.1
+  opened nonce events (inr (inr opens)) =
+      let (messages, rest, to, are_so, taken_so) = opens in
+      subst AllTold (sym are_so) (
+        tt,
+        all_taken h.keys n payload Sealed (node_of h n).classes law (after h (Spends n)) true messages rest (event_kept law h (Spends n) tt n) (λ such is. (refl, to_this nonce messages to such is))
+            (λ such is may. (refl, to_this nonce messages to such is)) taken_so,
+      )
+    where
+      to_this : (nonce : List ℕ) (messages : List Told) → OpensTo h n nonce payload messages → (such : Told → Bool) → list_any such messages ≡ true → IsOpenedTo h.keys n payload such
+      to_this nonce messages to such is =
+          record { nonce = nonce; plain = to.plain; seals = to.seals; tells = ap (λ (it : Heard). list_any such (messages_of it)) to.tells ∙ is }
+
+  sealed_all : (nonce : Option (List ℕ)) (events : List HostEvent) → SealedEvents h n payload nonce events → AllTold events
+  sealed_all None events is = one (IsToldIn h.keys n payload Sealed (node_of h n).classes) (Unreads n payload) events (refl, refl) is
+  sealed_all (Some nonce) events is = opened nonce events is
+
 payload_all : LeavesRecords → (n : ℕ) (payload : List ℕ) (heard : Heard) (h : HostState) (events : List HostEvent) → PayloadEvents h n payload heard events
-    → AllByRecursion (IsToldIn n payload heard (node_of h n).classes) events
+    → AllByRecursion (IsToldIn h.keys n payload heard (node_of h n).classes) events
 payload_all law n payload (Messages messages) h events is =
     let classes = (node_of h n).classes in
-    all_taken n payload (Messages messages) classes law h false messages events refl (λ such among. among)
-    (λ such among may. openly (is_secure classes) (list_any such messages) false refl among may) is
-payload_all law n payload Sealed h events is = sealed_all n payload Sealed (node_of h n).classes law h _ events refl (λ such. (refl, refl)) is
-payload_all law n payload Unread h events is = one (IsToldIn n payload Unread (node_of h n).classes) (Unreads n payload) events (refl, refl) is
+    all_taken h.keys n payload (Messages messages) classes law h false messages events refl (λ such among. (among, tt))
+    (λ such among may. (openly (is_secure classes) (list_any such messages) false refl among may, tt)) is
+payload_all law n payload Sealed h events is = sealed_all law n payload h _ events is
+payload_all law n payload Unread h events is = one (IsToldIn h.keys n payload Unread (node_of h n).classes) (Unreads n payload) events (refl, refl) is
 
 -- ---- frames
 
@@ -243,15 +263,23 @@ tells_of known such n carried = (carried.node == n) && counts (known n) such (he
 abbrev may_be : (Told → Bool) → List (List ℕ) → Bool
 may_be such payloads = list_any (λ payload. may_tell such (heard_at payload)) payloads
 
+-- what it brings of a node is not sealed, or opens to this
+abbrev OpensOf : Keys → List ℕ → ℕ → (Told → Bool) → Type 0
+OpensOf keys unit n such = AllByRecursion (λ (carried : Carried). (carried.node ≡ n) × IsOpenedIf keys such carried (heard_at carried.payload)) (bringing_in unit)
+
 -- by what the frame brings of a node
-abbrev pub FollowsBy : Known → List ℕ → HostEvent → Type 0
-FollowsBy known unit (Finishes n session id command status wake) = list_any (tells_of known (tells_end id (ended_of status)) n) (bringing_in unit) ≡ true
-FollowsBy known unit (Reports_old n id) = list_any (λ payload. counts (known n) (tells_report id) (heard_at payload)) (flat_map (from_node n) (bringing_in unit)) ≡ true
-FollowsBy known unit (Hears_value n setting) = may_be (tells_value setting) (flat_map (from_node n) (bringing_in unit)) ≡ true
-FollowsBy known unit (Has_no_room n property) = may_be (tells_property property) (flat_map (from_node n) (bringing_in unit)) ≡ true
-FollowsBy known unit (Unreads n payload) = list_any (λ text. bytes_eq text payload) (flat_map (from_node n) (bringing_in unit)) ≡ true
-FollowsBy known unit (Spends_unread n payload) = list_any (λ text. bytes_eq text payload) (flat_map (from_node n) (bringing_in unit)) ≡ true
-FollowsBy known unit event = Unit {0}
+abbrev pub FollowsBy : Keys → Known → List ℕ → HostEvent → Type 0
+FollowsBy keys known unit (Finishes n session id command status wake) =
+    (list_any (tells_of known (tells_end id (ended_of status)) n) (bringing_in unit) ≡ true) × OpensOf keys unit n (tells_end id (ended_of status))
+FollowsBy keys known unit (Reports_old n id) =
+    (list_any (λ payload. counts (known n) (tells_report id) (heard_at payload)) (flat_map (from_node n) (bringing_in unit)) ≡ true) × OpensOf keys unit n (tells_report id)
+FollowsBy keys known unit (Hears_value n setting) =
+    (may_be (tells_value setting) (flat_map (from_node n) (bringing_in unit)) ≡ true) × OpensOf keys unit n (tells_value setting)
+FollowsBy keys known unit (Has_no_room n property) =
+    (may_be (tells_property property) (flat_map (from_node n) (bringing_in unit)) ≡ true) × OpensOf keys unit n (tells_property property)
+FollowsBy keys known unit (Unreads n payload) = list_any (λ text. bytes_eq text payload) (flat_map (from_node n) (bringing_in unit)) ≡ true
+FollowsBy keys known unit (Spends_unread n payload) = list_any (λ text. bytes_eq text payload) (flat_map (from_node n) (bringing_in unit)) ≡ true
+FollowsBy keys known unit event = Unit {0}
 
 abbrev pub brought_of : Result Notice BodyFault → List Carried
 brought_of read = flat_map bringing_of (read_well read)
@@ -259,20 +287,20 @@ brought_of read = flat_map bringing_of (read_well read)
 pub text_brings : (func : ℕ) (body : List ℕ) (sum : ℕ) → bringing_in (framed (0 ∷ func ∷ body) sum) ≡ brought_of (notice_of func body)
 text_brings func body sum = ap (λ (b : List ℕ). brought_of (notice_of func b)) (body_is body func sum)
 
-module _ (known : Known) (unit : List ℕ) (n : ℕ) (payload : List ℕ) (brings : bringing_in unit ≡ record { node = n; payload = payload } ∷ []) where
+module _ (keys : Keys) (known : Known) (unit : List ℕ) (n : ℕ) (payload : List ℕ) (brings : bringing_in unit ≡ record { node = n; payload = payload } ∷ []) where
   payloads_are : (m : ℕ) → m ≡ n → flat_map (from_node m) (bringing_in unit) ≡ payload ∷ []
   payloads_are m same =
       ap (λ (l : List Carried). flat_map (from_node m) l) brings ∙ ap (λ (b : Bool). (if b then payload ∷ [] else []) ++ []) (eq-eqb n m (sym same))
 
-  told_by : (such : Told → Bool) (m : ℕ) → Of n m (may_tell such (heard_at payload)) → may_be such (flat_map (from_node m) (bringing_in unit)) ≡ true
+  told_by : (such : Told → Bool) (m : ℕ) → (m ≡ n) × (may_tell such (heard_at payload) ≡ true) → may_be such (flat_map (from_node m) (bringing_in unit)) ≡ true
   told_by such m (same, tells) = ap (may_be such) (payloads_are m same) ∙ ap (λ (b : Bool). b || false) tells
 
-  ended_by : (such : Told → Bool) (m : ℕ) → Of n m (counts (known n) such (heard_at payload)) → list_any (tells_of known such m) (bringing_in unit) ≡ true
+  ended_by : (such : Told → Bool) (m : ℕ) → (m ≡ n) × (counts (known n) such (heard_at payload) ≡ true) → list_any (tells_of known such m) (bringing_in unit) ≡ true
   ended_by such m (same, tells) =
       ap (λ (l : List Carried). list_any (tells_of known such m) l) brings
       ∙ ap₂ (λ (a b : Bool). (a && b) || false) (eq-eqb n m (sym same)) (subst (λ (k : ℕ). counts (known k) such (heard_at payload) ≡ true) (sym same) tells)
 
-  counted_by : (such : Told → Bool) (m : ℕ) → Of n m (counts (known n) such (heard_at payload))
+  counted_by : (such : Told → Bool) (m : ℕ) → (m ≡ n) × (counts (known n) such (heard_at payload) ≡ true)
       → list_any (λ text. counts (known m) such (heard_at text)) (flat_map (from_node m) (bringing_in unit)) ≡ true
   counted_by such m (same, tells) =
       ap (λ (l : List (List ℕ)). list_any (λ text. counts (known m) such (heard_at text)) l) (payloads_are m same)
@@ -283,46 +311,51 @@ module _ (known : Known) (unit : List ℕ) (n : ℕ) (payload : List ℕ) (bring
       ap (λ (l : List (List ℕ)). list_any (λ one. bytes_eq one text) l) (payloads_are m same)
       ∙ ap (λ (b : Bool). b || false) (subst (λ (l : List ℕ). bytes_eq payload l ≡ true) (sym is) (bytes_same payload))
 
-  follows : (event : HostEvent) → IsToldIn n payload (heard_at payload) (known n) event → FollowsBy known unit event
-  follows (Finishes m session id command status wake) is = ended_by (tells_end id (ended_of status)) m is
-  follows (Reports_old m id) is = counted_by (tells_report id) m is
-  follows (Hears_value m setting) is = told_by (tells_value setting) m is
-  follows (Has_no_room m property) is = told_by (tells_property property) m is
+  -- and what it opens to
+  opens_by : (such : Told → Bool) (m : ℕ) → m ≡ n → IsOpenedIf keys such (record { node = n; payload = payload }) (heard_at payload) → OpensOf keys unit m such
+  opens_by such m same opens =
+      subst (AllByRecursion (λ (carried : Carried). (carried.node ≡ m) × IsOpenedIf keys such carried (heard_at carried.payload))) (sym brings) ((sym same, opens), tt)
+
+  follows : (event : HostEvent) → IsToldIn keys n payload (heard_at payload) (known n) event → FollowsBy keys known unit event
+  follows (Finishes m session id command status wake) is = (ended_by (tells_end id (ended_of status)) m (is.0, is.1), opens_by (tells_end id (ended_of status)) m is.0 is.2)
+  follows (Reports_old m id) is = (counted_by (tells_report id) m (is.0, is.1), opens_by (tells_report id) m is.0 is.2)
+  follows (Hears_value m setting) is = (told_by (tells_value setting) m (is.0, is.1), opens_by (tells_value setting) m is.0 is.2)
+  follows (Has_no_room m property) is = (told_by (tells_property property) m (is.0, is.1), opens_by (tells_property property) m is.0 is.2)
   follows (Unreads m text) is = text_is m text is
   follows (Spends_unread m text) is = text_is m text is
   follows event is = tt
 
-response_all : (known : Known) (unit : List ℕ) (read : Result Response BodyFault) (events : List HostEvent) → ResponseEvents read events → AllByRecursion (FollowsBy known unit) events
-response_all known unit (Ok response) events is = one (FollowsBy known unit) _ events tt is
-response_all known unit (Err fault) events is = none (FollowsBy known unit) events is
+response_all : (keys : Keys) (known : Known) (unit : List ℕ) (read : Result Response BodyFault) (events : List HostEvent) → ResponseEvents read events → AllByRecursion (FollowsBy keys known unit) events
+response_all keys known unit (Ok response) events is = one (FollowsBy keys known unit) _ events tt is
+response_all keys known unit (Err fault) events is = none (FollowsBy keys known unit) events is
 
-interview_all : (known : Known) (unit : List ℕ) (update : Update) (brought : Option ℕ) (events : List HostEvent) → InterviewEvents update brought events → AllByRecursion (FollowsBy known unit) events
-interview_all known unit (Received n basic generic specific classes) (Some capability) events is =
-    either (FollowsBy known unit) (Interviews n (says_listens capability) classes (Received n basic generic specific classes)) (Interview_unkept n (Received n basic generic specific classes)) events tt tt is
-interview_all known unit RequestFailed (Some capability) events is = none (FollowsBy known unit) events is
-interview_all known unit (Received n basic generic specific classes) None events is = one (FollowsBy known unit) _ events tt is
-interview_all known unit RequestFailed None events is = one (FollowsBy known unit) _ events tt is
+interview_all : (keys : Keys) (known : Known) (unit : List ℕ) (update : Update) (brought : Option ℕ) (events : List HostEvent) → InterviewEvents update brought events → AllByRecursion (FollowsBy keys known unit) events
+interview_all keys known unit (Received n basic generic specific classes) (Some capability) events is =
+    either (FollowsBy keys known unit) (Interviews n (says_listens capability) classes (Received n basic generic specific classes)) (Interview_unkept n (Received n basic generic specific classes)) events tt tt is
+interview_all keys known unit RequestFailed (Some capability) events is = none (FollowsBy keys known unit) events is
+interview_all keys known unit (Received n basic generic specific classes) None events is = one (FollowsBy keys known unit) _ events tt is
+interview_all keys known unit RequestFailed None events is = one (FollowsBy keys known unit) _ events tt is
 
 -- of a host
 abbrev pub known_of : HostState → ℕ → Option (List ℕ)
 known_of h n = (node_of h n).classes
 
 notice_all : LeavesRecords → (unit : List ℕ) (h : HostState) (read : Result Notice BodyFault) (events : List HostEvent) → bringing_in unit ≡ brought_of read → NoticeEvents h read events
-    → AllByRecursion (FollowsBy (known_of h) unit) events
+    → AllByRecursion (FollowsBy h.keys (known_of h) unit) events
 notice_all law unit h (Ok (ApplicationCommandHandler rx_status source payload)) events brings is =
-    all-weaker (IsToldIn source payload (heard_at payload) (node_of h source).classes) (FollowsBy (known_of h) unit) (follows (known_of h) unit source payload brings) events
+    all-weaker (IsToldIn h.keys source payload (heard_at payload) (node_of h source).classes) (FollowsBy h.keys (known_of h) unit) (follows h.keys (known_of h) unit source payload brings) events
     (payload_all law source payload (heard_at payload) h events is)
-notice_all law unit h (Ok (SendData callback_id status)) events brings is = one (FollowsBy (known_of h) unit) _ events tt is
-notice_all law unit h (Ok (ApplicationUpdate update)) events brings is = interview_all (known_of h) unit update (interviewed_by h.requests update) events is
-notice_all law unit h (Ok (AddNode callback_id status information)) events brings is = none (FollowsBy (known_of h) unit) events is
-notice_all law unit h (Err fault) events brings is = none (FollowsBy (known_of h) unit) events is
+notice_all law unit h (Ok (SendData callback_id status)) events brings is = one (FollowsBy h.keys (known_of h) unit) _ events tt is
+notice_all law unit h (Ok (ApplicationUpdate update)) events brings is = interview_all h.keys (known_of h) unit update (interviewed_by h.requests update) events is
+notice_all law unit h (Ok (AddNode callback_id status information)) events brings is = none (FollowsBy h.keys (known_of h) unit) events is
+notice_all law unit h (Err fault) events brings is = none (FollowsBy h.keys (known_of h) unit) events is
 
 kind_all : LeavesRecords → (h : HostState) (k : Kind) (func : ℕ) (body : List ℕ) (sum : ℕ) (events : List HostEvent) → FrameEvents h k func body events
-    → AllByRecursion (FollowsBy (known_of h) (framed (kind_code k ∷ func ∷ body) sum)) events
-kind_all law h kind.Response func body sum events is = response_all (known_of h) (framed (1 ∷ func ∷ body) sum) (response_of func body) events is
+    → AllByRecursion (FollowsBy h.keys (known_of h) (framed (kind_code k ∷ func ∷ body) sum)) events
+kind_all law h kind.Response func body sum events is = response_all h.keys (known_of h) (framed (1 ∷ func ∷ body) sum) (response_of func body) events is
 kind_all law h kind.Request func body sum events is = notice_all law (framed (0 ∷ func ∷ body) sum) h (notice_of func body) events (text_brings func body sum) is
 
-pub frame_follows : LeavesRecords → (h : HostState) (f : FrameParts) (events : List HostEvent) → FrameEvents h f.kind f.func f.body events → AllByRecursion (FollowsBy (known_of h) (unit_text (Framed f))) events
+pub frame_follows : LeavesRecords → (h : HostState) (f : FrameParts) (events : List HostEvent) → FrameEvents h f.kind f.func f.body events → AllByRecursion (FollowsBy h.keys (known_of h) (unit_text (Framed f))) events
 frame_follows law h f events is = kind_all law h f.kind f.func f.body (checksum (kind_code f.kind ∷ f.func ∷ f.body)) events is
 
 -- ---- which of them notes nothing of messages, and which is no interview
@@ -341,7 +374,7 @@ AreAlike events = AllByRecursion IsNoInterview events ⊎ AllByRecursion IsQuiet
 
 notice_alike : LeavesRecords → (h : HostState) (read : Result Notice BodyFault) (events : List HostEvent) → NoticeEvents h read events → AreAlike events
 notice_alike law h (Ok (ApplicationCommandHandler rx_status source payload)) events is =
-    inl (all-weaker (IsToldIn source payload (heard_at payload) (node_of h source).classes) IsNoInterview (told_quiet source payload (heard_at payload) (node_of h source).classes) events
+    inl (all-weaker (IsToldIn h.keys source payload (heard_at payload) (node_of h source).classes) IsNoInterview (told_quiet h.keys source payload (heard_at payload) (node_of h source).classes) events
     (payload_all law source payload (heard_at payload) h events is))
 notice_alike law h (Ok (SendData callback_id status)) events is = inl (one IsNoInterview _ events tt is)
 notice_alike law h (Ok (ApplicationUpdate update)) events is = inr (by update (interviewed_by h.requests update) is)

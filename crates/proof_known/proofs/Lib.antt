@@ -8,6 +8,7 @@ mod Showing
 mod Recording
 mod Answering
 pub mod ForHost
+mod KeptKeys
 mod Followers
 mod Noting
 mod ValuesLeft

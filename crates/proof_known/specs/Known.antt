@@ -1,15 +1,16 @@
 -- What a host alone knows of its nodes and of what it was asked, by its transcript (this project's own rule): of each node the classes that it listed in its last interview, and of each
 -- order what was said.
-use Rattle.std.specs.Prelude.{◌≡◌, ◌⊎◌, ℕ, Bool, true, false, List, [], ◌∷◌, ◌++◌, Option, IfSome}
+use Rattle.std.specs.Prelude.{◌≡◌, ◌⊎◌, ℕ, ◌≤◌, Bool, true, false, List, [], ◌∷◌, ◌++◌, Option, None, IfSome}
 use Rattle.std.specs.List.{AllByRecursion}
 use Rattle.zw_base.specs.declared.property.Property.{Property}
+use Rattle.s0_crypto.specs.declared.key_pair.Keys.{Keys}
 use Rattle.zw_text.specs.declared.line.Line.{Line}
 use Rattle.zw_text.specs.declared.entry.Entry.{Entry}
 use Rattle.zw_text.specs.declared.entry.Entry.TheVariants.{Said}
 use Rattle.zw_text.specs.Transcript.{line_last, line_of}
 use Rattle.law_transcript.specs.Answers.{AnswersAfter, MayAnswer, MayCancel, before_last, refusals_by_host}
 use Rattle.law_transcript.specs.Lists.{EachAfter}
-use Rattle.law_transcript.specs.Nodes.{is_joined}
+use Rattle.law_transcript.specs.Nodes.{is_joined, known_classes}
 use Rattle.law_transcript.specs.Once.{CarriesOnce}
 use Rattle.law_transcript.specs.Records.{KeepsRecords}
 use Rattle.law_transcript.specs.Sessions.{MayBegin}
@@ -18,6 +19,8 @@ use Rattle.law_wire.specs.Serial.{ended}
 use Rattle.proof_transcript.specs.law_host.Heard.{is_of_others, is_refusal_of_others, listing_heard}
 use Rattle.proof_transcript.specs.law_host.HostLegal.{ShowsValues}
 use Rattle.value_store.specs.Values.{stored_of}
+use Rattle.host_keep.specs.Kept.{classes_said, node_of as kept_of_node}
+use Rattle.host_model.specs.Holding.{listens_said}
 use Rattle.host_model.specs.State.{HostState, node_of}
 use Rattle.proof_transcript.specs.proof_spoken.Said.{AreSaid, KnowsListing}
 use Rattle.proof_transcript.specs.Answering.{HostTies, IsAnswered}
@@ -78,6 +81,19 @@ KnowsAsked here past m = AsksForNone (line_last past)
 -- the keeper's records cancel the commands that the transcript shows to be taken back, in the same order
 abbrev pub KnowsCancelled : Knowledge
 KnowsCancelled here past m = TellsCancelled past m.records
+
+-- the records are legal and give what is shown, and what a node is taken to list, of nodes of a network alone; and the host has of each whether it listens as they give it
+pub record KnowsRecords (told : List Entry) (h : HostState) (texts : List (List ℕ)) : Type 0 where
+  pub keeps : KeepsRecords told texts
+  pub lists : (node : ℕ) → known_classes listing_heard told node ≡ classes_said (kept_of_node keeps.kept node).interview
+  pub listens : (node : ℕ) → (node_of h node).listens ≡ listens_said (kept_of_node keeps.kept node).interview
+  pub beyond : (node : ℕ) → 233 ≤ node → (kept_of_node keeps.kept node).interview ≡ None
+
+-- ---- keys
+
+-- its keys are these
+abbrev pub KnowsKeys : Keys → Knowledge
+KnowsKeys keys here past m = (m.keys ≡ keys) × (m.state.keys ≡ keys)
 
 -- ---- answers
 

@@ -1,10 +1,13 @@
--- What the host notes of messages was told (Supervision and Security 0 Command Classes, and the reports of the Application Command Classes; that what is sealed may tell anything is
--- this project's own rule): each such note stands where a payload of its node was judged that tells it.
-use Rattle.std.specs.Prelude.{◌+◌, drop, ◌≡◌, ◌||◌, if◌then◌else◌, [], not, nat_le, ◌∷◌, ℕ, ◌%◌, ◌==◌, ◌&&◌, bytes_eq, Bool, true, false, List, length}
-use Rattle.std.specs.List.{flat_map, list_all, list_any}
+-- What the host notes of messages was told (Supervision and Security 0 Command Classes, and the reports of the Application Command Classes): each such note stands where a payload of
+-- its node was judged that tells it, or that is sealed and opens to a text that does.
+use Rattle.std.specs.Prelude.{◌+◌, drop, ◌≡◌, ◌||◌, if◌then◌else◌, [], not, nat_le, ◌∷◌, ℕ, ◌%◌, ◌==◌, ◌&&◌, bytes_eq, Bool, true, false, List, length, ⊤}
+use Rattle.std.specs.List.{AllByRecursion, flat_map, list_all, list_any}
 use Rattle.zw_base.specs.PropertyOrder.{same_property}
 use Rattle.zw_base.specs.declared.property.Property.{Property}
 use Rattle.zw_base.specs.declared.property.Setting.{Setting}
+use Rattle.s0_crypto.specs.declared.key_pair.Keys.{Keys}
+use Rattle.s0_crypto.specs.Opening.{nonce_in}
+use Rattle.s0_crypto.specs.Seal.{Seals}
 use Rattle.class_info.specs.declared.report_status.ReportStatus.{ReportStatus}
 use Rattle.class_info.specs.declared.report_status.ReportStatus.TheVariants as statuses
 use Rattle.host_heard.specs.Telling.{heard_at}
@@ -18,6 +21,8 @@ use Rattle.zw_text.specs.declared.entry.Entry.{Entry}
 use Rattle.zw_text.specs.declared.entry.Entry.TheVariants.{Said, Written, Out, Report, Unstored, Old, Unread, Awake}
 use Rattle.zw_words.specs.declared.side.Side.TheVariants.{Host}
 use Rattle.zw_text.specs.Transcript.{folded, sessions}
+use Rattle.law_transcript.specs.Lists.{EachAfter}
+use Rattle.law_transcript.specs.Payloads.{messages_of}
 use Rattle.law_transcript.specs.Units.{Carried}
 use Rattle.law_time.specs.Requests.{are_none}
 use Rattle.law_time.specs.Judged.{brought_here, is_directly_after, is_mark, is_no_note, may_be_told, may_tell, payloads_here}
@@ -26,7 +31,7 @@ use Rattle.law_time.specs.Sessions.{is_last_command}
 use Rattle.proof_transcript.specs.law_host.Following.{same_note, same_setting}
 use Rattle.proof_transcript.specs.law_host.Heard.{listing_heard}
 use Rattle.law_transcript.specs.Answers.{properties_kept}
-use Rattle.law_transcript.specs.Nodes.{host_list}
+use Rattle.law_transcript.specs.Nodes.{controller, host_list}
 use Rattle.host_orders.specs.Classes.{lists}
 use Rattle.std.specs.Set.{distinct_count}
 
@@ -89,6 +94,39 @@ may_note past entry = true
 
 abbrev pub NotesWhatWasTold : List Entry → Type 0
 NotesWhatWasTold transcript = Keeps may_note transcript
+
+-- ---- what is sealed
+
+-- the node sealed it for the host with these keys, and it opens to a plain text that tells such a message
+pub record IsOpenedTo (keys : Keys) (node : ℕ) (payload : List ℕ) (such : Told → Bool) : Type 0 where
+  pub nonce : List ℕ
+  pub plain : List ℕ
+  pub seals : Seals keys (nonce_in payload) nonce (record { sender = node; receiver = controller }) plain payload
+  pub tells : list_any such (messages_of (heard_at plain)) ≡ true
+
+-- where it is sealed
+abbrev pub IsOpenedIf : Keys → (Told → Bool) → Carried → Heard → Type 0
+IsOpenedIf keys such carried Sealed = IsOpenedTo keys carried.node carried.payload such
+IsOpenedIf keys such carried heard = ⊤
+
+abbrev pub OpensHere : Keys → (Carried → Told → Bool) → List Entry → Type 0
+OpensHere keys such past = AllByRecursion (λ carried. IsOpenedIf keys (such carried) carried (heard_at carried.payload)) (brought_here past)
+
+abbrev pub OpensToEnd : Keys → Ended → List Entry → Type 0
+OpensToEnd keys ended past = OpensHere keys (λ carried. tells_end (length (sessions carried.node past) % 64) ended) past
+
+-- a final outcome, a value and an old report of what is sealed are told in what it opens to
+abbrev pub MayOpen : Keys → List Entry → Entry → Type 0
+MayOpen keys past (Out command endings.Success) = OpensToEnd keys endings.Success past
+MayOpen keys past (Out command endings.Fail) = OpensToEnd keys endings.Fail past
+MayOpen keys past (Out command endings.NoSupport) = OpensToEnd keys endings.NoSupport past
+MayOpen keys past (Report node setting) = OpensHere keys (λ carried. tells_value setting) past
+MayOpen keys past (Unstored node property) = OpensHere keys (λ carried. tells_property property) past
+MayOpen keys past (Old node id) = OpensHere keys (λ carried. tells_report id) past
+MayOpen keys past entry = ⊤
+
+abbrev pub NotesWhatOpens : Keys → List Entry → Type 0
+NotesWhatOpens keys transcript = EachAfter (MayOpen keys) [] transcript
 
 -- ---- notes that stand at once
 

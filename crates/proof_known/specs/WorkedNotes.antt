@@ -10,6 +10,10 @@ use Rattle.proof_transcript.specs.law_host.Worked.{ended_openly, told_openly}
 abbrev pub ended_unreported : List Entry
 ended_unreported = Out 1 Success ∷ []
 
+-- a command ends by two bytes that are sealed, and seal nothing
+abbrev pub ended_by_nothing : List Entry
+ended_by_nothing = by_chip (codes "010800040002029881EA") ∷ host_acknowledges ∷ Out 1 Success ∷ []
+
 -- a lock lists Security 0 in its interview, and a session of it begins
 abbrev pub lock_listed : List Entry
 lock_listed =

@@ -22,8 +22,8 @@ ghost use Rattle.proof_transcript.specs.law_host.Worked.{
   value_otherwise,
   value_twice,
 };
-ghost use Rattle.proof_known.specs.Noted.{NotesAtOnce, NotesInTurn, NotesWhatWasTold};
-ghost use Rattle.proof_known.specs.WorkedNotes.{ended_unreported, lock_believed, lock_unread};
+ghost use Rattle.proof_known.specs.Noted.{NotesAtOnce, NotesInTurn, NotesWhatOpens, NotesWhatWasTold};
+ghost use Rattle.proof_known.specs.WorkedNotes.{ended_by_nothing, ended_unreported, lock_believed, lock_unread};
 
 use crate::known::hosts_know_what_was_told;
 use host_node::a_restart_needs_the_records_alone;
@@ -34,9 +34,10 @@ use proof_waking::hosts_judge_as_told;
 /// In any run of a host alone, over a keeper that tells its records and has none at first: a command ends only where a payload of its node was judged that
 /// tells a report with the id of the node's last session, which is that of the command, and how it ended, sealed where the node lists Security 0; so it is
 /// of old reports. A value is noted only of a payload that tells it, and stored where there is room, and that a payload cannot be read only of that one. What
-/// is sealed may tell anything.
+/// of this is of a payload that is sealed, its node sealed with the host's keys, in a text that tells it.
 pub fn hosts_note_what_was_told()
-    ensures { (keys : Keys) (told : List Entry) → Told (first_alone keys (Some [])) told → NotesWhatWasTold told }
+    ensures told { (keys : Keys) (told : List Entry) → Told (first_alone keys (Some [])) told → NotesWhatWasTold told }
+    ensures opened { (keys : Keys) (told : List Entry) → Told (first_alone keys (Some [])) told → NotesWhatOpens keys told }
 {
     hosts_know_what_was_told();
     hosts_judge_as_told();
@@ -86,6 +87,14 @@ pub fn rejected_telling()
     ensures another { NotesWhatWasTold (begun ++ ended_of_another) → ⊥ }
     ensures believed { NotesWhatWasTold lock_believed → ⊥ }
     ensures again { NotesWhatWasTold value_again → ⊥ }
+{}
+
+/// Where nothing that is judged is sealed, nothing is asked of what it opens to. A command does not end by two bytes that are sealed and seal nothing, though
+/// they may be said to tell anything.
+pub fn worked_opening()
+    ensures openly { (keys : Keys) → NotesWhatOpens keys (begun ++ failure_told) }
+    ensures anything { NotesWhatWasTold (begun ++ ended_by_nothing) }
+    ensures nothing { (keys : Keys) → NotesWhatOpens keys (begun ++ ended_by_nothing) → ⊥ }
 {}
 
 /// A value that is told and one that cannot be read stand at once; left out at the end, or entered as another, the law is broken.

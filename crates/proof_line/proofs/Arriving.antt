@@ -1,6 +1,6 @@
 -- What arrives of the units of a side, by the transcript, goes on with entries; and what is judged and on its way is that.
-use Rattle.std.proofs.Common.{◌≡◌, ℕ, ◌&&◌, not, nat_lt, nat_le, ◌+◌, Bool, true, false, if◌then◌else◌, List, [], ◌∷◌, ◌++◌, length, refl, sym, ap, ap₂, subst, ◌∙◌, append-nil, append_assoc}
-use Rattle.std.specs.List.{AllByRecursion, flat_map}
+use Rattle.std.proofs.Common.{◌≡◌, ℕ, ◌&&◌, ◌||◌, not, nat_lt, nat_le, ◌+◌, Bool, true, false, if◌then◌else◌, List, [], ◌∷◌, ◌++◌, length, refl, sym, ap, ap₂, subst, ◌∙◌, append-nil, append_assoc}
+use Rattle.std.specs.List.{AllByRecursion, flat_map, list_all, list_any}
 use Rattle.std.proofs.lemmas.Grind.{flat_map-append}
 use Rattle.serial_frame.specs.Items.{unit_text, IsUnit, ItemText}
 use Rattle.serial_frame.specs.Stream.{no_rest, Feeds}
@@ -19,7 +19,9 @@ use Rattle.zw_text.specs.declared.entry.Entry.{Entry}
 use Rattle.zw_text.specs.declared.entry.Entry.TheVariants as entry
 use Rattle.zw_text.specs.Transcript.{line_of, same_side}
 use Rattle.law_wire.specs.law_transcript.Restarts.{is_restart, begins_refused}
-use Rattle.law_wire.specs.Serial.{arriving_of, changed_or_not}
+use Rattle.law_wire.specs.Serial.{arriving_of, changed_or_not, is_overrun, lacking_of}
+use Rattle.law_wire.specs.Serial.SerialEvent.{Writes as by_side}
+use Rattle.law_wire.specs.Links.{has_room, is_let_in, other}
 use Rattle.proof_walk.proofs.Entered.{IsMark, told_by_marks}
 use Rattle.proof_world.specs.proof_serial.Way.{items_of, unit_item, changed_item}
 use Rattle.proof_world.proofs.ChangedUnits.{changed_text, garbled_long}
@@ -43,6 +45,32 @@ changed_same side unit (e ∷ past) told none = refl
 
 pub arriving_same : (side : Side) (unit : List ℕ) (past told : List Entry) → NoMark told → arriving_of side unit (past ++ told) ≡ arriving_of side unit past
 arriving_same side unit past told none = ap₂ (λ (b : Bool) (t : List ℕ). if b then [] else t ∷ []) (lost_same side past told none) (changed_same side unit past told none)
+
+overrun_none : (side : Side) (told : List Entry) → NoMark told → is_overrun side told ≡ false
+overrun_none side [] none = refl
+overrun_none side (entry.Dropped on ∷ told) none = absurd none
+overrun_none side (entry.Garbled on unit ∷ told) none = absurd none
+overrun_none side (entry.Overrun on ∷ told) none = absurd none
+overrun_none side (e ∷ told) none = refl
+
+changed_fits : (side on : Side) (unit : List ℕ) (told : List Entry) → NoMark told → is_overrun side (entry.Garbled on unit ∷ told) ≡ false
+changed_fits side on unit [] none = refl
+changed_fits side on unit (entry.Overrun of ∷ told) none = absurd none
+changed_fits side on unit (e ∷ told) none = refl
+
+overrun_then : (side on : Side) (unit : List ℕ) (e : Entry) (xs ys : List Entry) → is_overrun side (entry.Garbled on unit ∷ (e ∷ xs)) ≡ is_overrun side (entry.Garbled on unit ∷ (e ∷ ys))
+overrun_then side on unit (entry.Overrun of) xs ys = refl
+overrun_then side on unit e xs ys = refl
+
+overrun_same : (side : Side) (past told : List Entry) → NoMark told → is_overrun side (past ++ told) ≡ is_overrun side past
+overrun_same side [] told none = overrun_none side told none
+overrun_same side (entry.Overrun on ∷ past) told none = refl
+overrun_same side (entry.Garbled on unit ∷ []) told none = changed_fits side on unit told none
+overrun_same side (entry.Garbled on unit ∷ (e ∷ past)) told none = overrun_then side on unit e (past ++ told) past
+overrun_same side (e ∷ past) told none = refl
+
+pub lacking_same : (side : Side) (unit : List ℕ) (past told : List Entry) → NoMark told → lacking_of side unit (past ++ told) ≡ lacking_of side unit past
+lacking_same side unit past told none = ap₂ (λ (b : Bool) (t : List ℕ). if b then t ∷ [] else []) (overrun_same side past told none) (changed_same side unit past told none)
 
 step_more : (side : Side) (texts : List (List ℕ)) (e next : Entry) (past told : List Entry) → NoMark told → arrived_step side texts e (next ∷ (past ++ told)) ≡ arrived_step side texts e (next ∷ past)
 step_more side texts (entry.Written on unit) next past told none =
@@ -191,6 +219,45 @@ module _ (side : Side) (way : WayState) (unit : LineUnit) where
           → (if b then way.bytes ++ t else way.bytes) ≡ way.bytes ++ flat (arriving_of side (unit_text unit) (entry.Garbled side t ∷ (if b then [] else entry.Overrun side ∷ [])))
       by t true = text_joins t (if same_side side side then t else unit_text unit) (sym (ap (λ (b : Bool). if b then t else unit_text unit) (same_itself side)))
       by t false = none_joins (same_side side side) (if same_side side side then t else unit_text unit) (same_itself side)
+
+-- a unit has room, or has none, by what is on its way
+module _ (side : Side) (units : List (List ℕ)) where
+  abbrev IsRight : List ℕ → List Entry → Type 0
+  IsRight t marks = (list_all (has_room units) (arriving_of side t marks) && not (list_any (has_room units) (lacking_of side t marks))) ≡ true
+
+  -- one that arrives, and one that is told to have none
+  arrives_right : (has : Bool) → has ≡ true → ((has && true) && true) ≡ true
+  arrives_right has is = ap (λ (b : Bool). (b && true) && true) is
+
+  lacks_right : (same : Bool) (t : List ℕ) → has_room units t ≡ false → same ≡ true
+      → (list_all (has_room units) (if same then [] else t ∷ []) && not (list_any (has_room units) (if same then t ∷ [] else []))) ≡ true
+  lacks_right true t is same = ap (λ (b : Bool). not (b || false)) is
+  lacks_right false t is same = absurd (let none : false ≡ true = same in cc)
+
+  by_mark : (bytes t : List ℕ) (mark : Mark) → bytes ≡ flat units → IsRight t (told_by side bytes mark t)
+  by_mark bytes t Free is = by (fits bytes t) (ap (λ (l : List ℕ). nat_le (length l + length t) CAPACITY) (sym is))
+    where
+      by : (b : Bool) → has_room units t ≡ b → IsRight t (if b then [] else entry.Overrun side ∷ [])
+      by true has = arrives_right (has_room units t) has
+      by false has = lacks_right (same_side side side) t has (same_itself side)
+  by_mark bytes t Lost is = ap (λ (b : Bool). list_all (has_room units) (if b then [] else t ∷ []) && true) (same_itself side)
+  by_mark bytes t (Changed garble) is = by (garbled garble t) (fits bytes (garbled garble t)) (ap (λ (l : List ℕ). nat_le (length l + length (garbled garble t)) CAPACITY) (sym is))
+    where
+      by : (u : List ℕ) (b : Bool) → has_room units u ≡ b → IsRight t (entry.Garbled side u ∷ (if b then [] else entry.Overrun side ∷ []))
+      by u true has = arrives_right (has_room units (if same_side side side then u else t)) (ap (λ (b : Bool). has_room units (if b then u else t)) (same_itself side) ∙ has)
+      by u false has =
+          lacks_right (same_side side side) (if same_side side side then u else t) (ap (λ (b : Bool). has_room units (if b then u else t)) (same_itself side) ∙ has)
+          (same_itself side)
+
+or_right : (b c : Bool) → c ≡ true → (b || c) ≡ true
+or_right true c is = refl
+or_right false c is = is
+
+pub let_in : (side : Side) (units : List (List ℕ)) (way : WayState) (unit : LineUnit) → way.bytes ≡ flat units
+    → is_let_in side units
+    (by_side (other side) (unit_text unit) (arriving_of (other side) (unit_text unit) (marks_of (other side) way unit)) (lacking_of (other side) (unit_text unit) (marks_of (other side) way unit)))
+    ≡ true
+let_in side units way unit is = or_right (same_side side (other side)) _ (by_mark (other side) units way.bytes (unit_text unit) (mark_for way.marks unit) is)
 
 pub unit_comes : (side : Side) (way : WayState) (unit : LineUnit) (past : List Entry) → IsUnit unit → Comes way (arrived side past) → Comes (after way (Writes unit)) (arrived side (past ++ told side way unit))
 unit_comes side way unit past is comes =

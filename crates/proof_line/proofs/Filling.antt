@@ -15,7 +15,7 @@ use Rattle.law_wire.specs.law_transcript.Restarts.{is_restart}
 use Rattle.law_wire.specs.Pipes.{Pipe, empty_pipe, with_answer, gone_on, with_turn, pipe_from, sum_of}
 use Rattle.proof_walk.specs.outside_model.State.{OuterState}
 use Rattle.proof_walk.proofs.Entered.{IsMark, told_by_marks}
-use Rattle.proof_line.specs.Pipes.{MayTell, Mode, most, Resting, Turned, Waits, AtMost, Taken, Heard, Held}
+use Rattle.proof_line.specs.Pipes.{MayTell, Mode, most, Resting, Turned, Waits, Heard, Held}
 use Rattle.proof_walk.proofs.ByLine.{last_is as line_then}
 use Rattle.proof_line.proofs.Holding.{pipe_grows, TellsNothing, apart_mark, apart_step, apart_line, apart_stands, Grown, other_pipe, unit_grows, unit_stands, grown_most, grown_frames, long_answer, gone_frames, gone_written, gone_none}
 use Rattle.proof_world.proofs.Outer.{wrong as no_refusal}
@@ -170,9 +170,6 @@ turned_empty up down = (resting_empty up down, λ written. refl)
 pub heard_empty : HoldsEmpty Heard
 heard_empty up down = (refl, none_held (most up))
 
-pub at_most_empty : (awaits : Bool) → HoldsEmpty (AtMost awaits)
-at_most_empty awaits up down = (none_held (most up), (none_held (most down), λ waits. none_held (sum_of down.frames)))
-
 pub waits_empty : (awaits tick : Bool) → HoldsEmpty (Waits awaits tick)
 waits_empty true true = resting_empty
 waits_empty true false = turned_empty
@@ -203,10 +200,6 @@ turned_chip n up down down' a b b' long grown turned =
     by : (w : Bool) → up.has_written ≡ w → length a ≤ most (gone_on up)
     by true is = subst (λ (l : List ℕ). length l ≤ most (gone_on up)) (sym (turned.1 is)) (none_held (most (gone_on up)))
     by false is = subst (λ (p : Pipe). length a ≤ most p) (sym (gone_none up is)) turned.0.0
-
--- any unit of it, where it has taken all bytes
-pub taken_chip : (n : ℕ) (up down down' : Pipe) (a b b' : List ℕ) → Grown n down down' b b' → Taken up down a b → Taken (with_answer n (gone_on up)) down' a b'
-taken_chip n up down down' a b b' grown taken = (taken.0, grown_most n down down' b b' grown taken.1)
 
 -- a data frame of the host
 pub resting_host : (n : ℕ) (up up' down : Pipe) (a a' b : List ℕ) → (n == 1) ≡ false → Grown n up up' a a' → Resting up down a b → Resting up' (with_answer n (gone_on down)) a' b

@@ -94,11 +94,6 @@ asked_none h (Queues_interview node) asked = tt
 asked_none h Queues_probe asked = tt
 asked_none h event asked = absurd asked
 
-pub any_of : (outs : List HostOut) → UnitsAre (λ unit. Unit {0}) outs
-any_of [] = tt
-any_of (Write unit ∷ outs) = (tt, any_of outs)
-any_of (Note note ∷ outs) = any_of outs
-
 -- ---- which events hear an item
 
 pub no_more_nothing : (h : HostState) (node : ℕ) → HearsNothing (no_more_event h node)

@@ -8,39 +8,39 @@ pub mod Telling
 pub mod Holding
 mod Filling
 mod Chipping
-mod Hosting
+pub mod Hosting
 pub mod Piping
 pub mod Clearing
 mod Arriving
 mod Fitting
 pub mod Tellings
 mod Numbering
-mod HostTelling
+pub mod HostTelling
 pub mod ChipTelling
 mod Goings
 pub mod ChipAccounts
 mod Roomy
 pub mod Rooming
 mod Moments
-mod Serials
+pub mod Serials
 pub mod LinkStarts
 mod LinkSteps
-mod LinkKnown
+pub mod LinkKnown
 mod LinkUntil
-mod LinkTime
-mod LinkTold
+pub mod LinkTime
+pub mod LinkTold
 mod LinkCourse
 mod LinkGoes
-mod LinkLines
+pub mod LinkLines
 mod LinkChip
 mod LinkGiven
-mod LinkHost
+pub mod LinkHost
 mod LinkEnds
 mod LinkEvents
 mod LinkTicks
 mod LinkWants
 mod LinkSettles
-mod LinkBegins
+pub mod LinkBegins
 mod LinkEffects
 mod LinkPlain
 mod LinkRestarts

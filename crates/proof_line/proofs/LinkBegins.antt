@@ -28,7 +28,7 @@ use Rattle.proof_walk.specs.world_model.Events.{Outside_does, happens, entries}
 use Rattle.proof_world.specs.proof_serial.Chip.{HasFrames}
 use Rattle.proof_world.specs.proof_serial.Line.{AreAtRest}
 use Rattle.proof_traffic.specs.Links.{KeepsItsLink}
-use Rattle.proof_line.specs.Links.{AtLine, Brings, KnowsEvents, KnowsLink, LinkNow, MayEndNow, begun_line, cleared_in, due_from, stalls_in, tick_told}
+use Rattle.proof_line.specs.Links.{AtLine, Brings, KnowsEvents, KnowsLink, LinkNow, MayEndNow, begun_line, cleared_in, due_from, stalls_in, tick_told, KnowsSide}
 use Rattle.proof_line.specs.Linked.{HasStarts, began, said, Cuts, CutsBy, Did, KnowsBoth, LinksBefore, LinksBegun, LinksDone, MayBothEnd}
 use Rattle.proof_line.proofs.Rooming.{not_awaited}
 use Rattle.proof_line.proofs.Numbering.{ticked_none}
@@ -99,7 +99,7 @@ ordinary_stalls (line ∷ next ∷ more) plain now = absurd plain
 
 -- ---- one side
 
-module _ (side : Side) (timed all : List Entry) (now : LinkNow) (knows : KnowsLink side timed now) (may : MayEndNow side now) where
+module _ {piped : Bool} (side : Side) (timed all : List Entry) (now : LinkNow) (knows : KnowsSide piped side timed now) (may : MayEndNow side now) where
   -- what stalls no bytes
   still_stalls : (line : List Line) → ((clock : ℕ) → flat_map (stall_by clock) line ≡ []) → (time : ℕ)
       → list_any (nat_lt time) (stalls_in (moments_of (serial_events timed) knows.parts) ++ flat_map (stall_by (clock_in (moments_of (serial_events timed) knows.parts))) line) ≡ nat_lt time now.until
@@ -107,21 +107,21 @@ module _ (side : Side) (timed all : List Entry) (now : LinkNow) (knows : KnowsLi
       let past : List Moment = moments_of (serial_events timed) knows.parts in
       ap (λ (l : List ℕ). list_any (nat_lt time) (stalls_in past ++ l)) (none (clock_in past)) ∙ ap (λ (l : List ℕ). list_any (nat_lt time) l) (append-nil (stalls_in past)) ∙ knows.at.until time
 
-  pub ordinary_on : (line : List Line) → AreOrdinary line → serial_events all ≡ serial_events timed ++ Line_begins line ∷ [] → KnowsLink side all (begun_line now now.until)
+  pub ordinary_on : (line : List Line) → AreOrdinary line → serial_events all ≡ serial_events timed ++ Line_begins line ∷ [] → KnowsSide piped side all (begun_line now now.until)
   ordinary_on line plain serials =
-      subst (λ (l : List SerialEvent). KnowsEvents side l (begun_line now now.until)) (sym serials)
+      subst (λ (l : List SerialEvent). KnowsEvents piped side l (begun_line now now.until)) (sym serials)
       (line_known side (serial_events timed) now knows line now.until (ordinary_restarts line plain) (ordinary_asks side line plain) (still_stalls line (ordinary_stalls line plain)) may)
 
-  pub collide_on : asks_by side (Line_begins (lines.Collide ∷ [])) ≡ 0 → serial_events all ≡ serial_events timed ++ Line_begins (lines.Collide ∷ []) ∷ [] → KnowsLink side all (begun_line now now.until)
+  pub collide_on : asks_by side (Line_begins (lines.Collide ∷ [])) ≡ 0 → serial_events all ≡ serial_events timed ++ Line_begins (lines.Collide ∷ []) ∷ [] → KnowsSide piped side all (begun_line now now.until)
   collide_on none serials =
-      subst (λ (l : List SerialEvent). KnowsEvents side l (begun_line now now.until)) (sym serials)
+      subst (λ (l : List SerialEvent). KnowsEvents piped side l (begun_line now now.until)) (sym serials)
       (line_known side (serial_events timed) now knows (lines.Collide ∷ []) now.until refl none (still_stalls (lines.Collide ∷ []) (λ clock. refl)) may)
 
-  pub stall_on : (count : ℕ) → serial_events all ≡ serial_events timed ++ Line_begins (lines.Stall count ∷ []) ∷ [] → KnowsLink side all (begun_line now (max now.until (now.clock + count)))
+  pub stall_on : (count : ℕ) → serial_events all ≡ serial_events timed ++ Line_begins (lines.Stall count ∷ []) ∷ [] → KnowsSide piped side all (begun_line now (max now.until (now.clock + count)))
   stall_on count serials =
       let until : ℕ = max now.until (now.clock + count) in
       let past : List Moment = moments_of (serial_events timed) knows.parts in
-      subst (λ (l : List SerialEvent). KnowsEvents side l (begun_line now until)) (sym serials)
+      subst (λ (l : List SerialEvent). KnowsEvents piped side l (begun_line now until)) (sym serials)
       (line_known side (serial_events timed) now knows (lines.Stall count ∷ []) until refl (asks_none side) (stall_until past now.clock now.until count knows.at.clock knows.at.until) may)
     where
       asks_none : (side : Side) → asks_by side (Line_begins (lines.Stall count ∷ [])) ≡ 0
@@ -247,7 +247,7 @@ module _ {did : Did} (before : List Entry) (first : Machine) (is_tick : Bool) (u
       let obeys : SideObeys (up.life ++ asked_step ∷ []) asked_side =
       obeys_event s Collides up.life (subst (λ (l : LinkSide). SideObeys up.life l) both.line.link (obeyed Chip (serial_events timed) up both.line.chip)) in
       record {
-        chip = subst (λ (l : List SerialEvent). KnowsEvents Chip l asked_up) (sym serials)
+        chip = subst (λ (l : List SerialEvent). KnowsEvents true Chip l asked_up) (sym serials)
             (chip_is_asked (serial_events timed) up asked_step asked_side refl refl obeys may.0 both.line.chip);
         host = collide_on Host timed (before ++ tail) down both.line.host may.1 refl serials;
         time = said.time;
@@ -260,7 +260,7 @@ module _ {did : Did} (before : List Entry) (first : Machine) (is_tick : Bool) (u
   pub ticks_said : (tail : List Entry) (count : ℕ) → Says before tail (lines.Tick count ∷ []) o.clock → KnowsLink Chip (before ++ tail) up × KnowsLink Host (before ++ tail) down
   ticks_said tail count said =
       let serials : serial_events (before ++ tail) ≡ serial_events timed = begun_serials tail (lines.Tick count ∷ []) said ∙ append-nil (serial_events timed) in
-      (subst (λ (l : List SerialEvent). KnowsEvents Chip l up) (sym serials) both.line.chip, subst (λ (l : List SerialEvent). KnowsEvents Host l down) (sym serials) both.line.host)
+      (subst (λ (l : List SerialEvent). KnowsEvents true Chip l up) (sym serials) both.line.chip, subst (λ (l : List SerialEvent). KnowsEvents true Host l down) (sym serials) both.line.host)
 
 -- ---- what restarts lost, where the words are those of none
 

@@ -1,5 +1,5 @@
 -- The chip at the line: what is known of both links goes on with its events, and with all items that it judges, one after another.
-use Rattle.std.proofs.Common.{length, take, false, nat_lt, ◌≡◌, ℕ, ◌+◌, true, List, [], ◌∷◌, ◌++◌, map, refl, sym, ap, ◌∙◌, subst, append-nil, append_assoc, arith}
+use Rattle.std.proofs.Common.{length, take, Bool, false, nat_lt, ◌≡◌, ℕ, ◌+◌, true, List, [], ◌∷◌, ◌++◌, map, refl, sym, ap, ◌∙◌, subst, append-nil, append_assoc, arith}
 use Rattle.std.specs.Prelude.{Option}
 use Rattle.std.specs.List.{AllByRecursion}
 use Rattle.zw_base.proofs.Each.{all-append}
@@ -29,13 +29,14 @@ use Rattle.serial_pipes.specs.Events as way
 use Rattle.proof_walk.specs.outside_model.Chip.{chip_does, chip_takes, MayTake}
 use Rattle.proof_walk.proofs.Times.{does_chip}
 use Rattle.proof_line.specs.Links.{Brings, IsMute, KnowsEvents, KnowsLink, LinkNow, MayHear, MayOfChip, gone, with_arriving}
-use Rattle.proof_line.proofs.Tellings.{IsBeside, Tells, tells_none}
+use Rattle.proof_line.proofs.Tellings.{IsBeside, Tells, TellsSome, tells_none, tells_some}
 use Rattle.proof_line.proofs.ChipTelling.{does_tell}
-use Rattle.proof_line.proofs.LinkTold.{arriving_all, brings_taken, none_first, others_known, steps_known, takes_split}
+use Rattle.proof_line.proofs.LinkTold.{arriving_all, brings_taken, others_known, steps_known, takes_split}
+use Rattle.proof_walk.proofs.Moving.{both_none as none_first}
 use Rattle.proof_line.proofs.LinkGoes.{chip_goes}
 use Rattle.proof_line.proofs.LinkCourse.{mute_of}
 
-pub obeyed : (side : Side) (events : List SerialEvent) (now : LinkNow) → KnowsEvents side events now → SideObeys now.life now.link
+pub obeyed : {piped : Bool} (side : Side) (events : List SerialEvent) (now : LinkNow) → KnowsEvents piped side events now → SideObeys now.life now.link
 obeyed side events now knows = subst (λ (l : List Step). SideObeys l now.link) knows.at.life knows.does.obeys
 
 -- ---- one event
@@ -46,14 +47,15 @@ pub chip_event_known : (o : OuterState) (e : ChipEvent) (past : List Entry) (now
     → KnowsLink Chip (past ++ (chip_does o e).entries) (gone now (link_steps o.chip.state e) (after o.chip.state e).port.side left)
 chip_event_known o e past now left knows link waits may hears =
     let s : ChipState = o.chip.state in
-    steps_known (link_steps s e) Chip past now (after s e).port.side left o.to_host (chip_does o e).entries knows
+    steps_known (link_steps s e) Chip past now (after s e).port.side left (chip_does o e).entries knows
     (chip_goes s e now (subst (λ (l : LinkSide). SideObeys now.life l) link (obeyed Chip _ now knows)) waits may) hears
-    (subst (λ (l : List LineUnit). Tells IsBeside Chip o.to_host l (chip_does o e).entries) (units_event s e) (does_tell o e).told)
+    (subst (λ (l : List LineUnit). TellsSome IsBeside Chip l (chip_does o e).entries) (units_event s e)
+    (tells_some IsBeside Chip o.to_host (chip_units (outs s e)) (chip_does o e).entries (does_tell o e).told))
 
 -- and of the host's: what arrives of the units that the chip writes
-pub chip_event_arrives : (o : OuterState) (e : ChipEvent) (past : List Entry) (now : LinkNow) → KnowsLink Host past now
+pub chip_event_arrives : (o : OuterState) (e : ChipEvent) (past : List Entry) (now : LinkNow) → Brings o.to_host now.coming → KnowsLink Host past now
     → KnowsLink Host (past ++ (chip_does o e).entries) (with_arriving now (arriving_all Chip o.to_host (chip_units (outs o.chip.state e))))
-chip_event_arrives o e past now knows = others_known (chip_units (outs o.chip.state e)) Host past now o.to_host (chip_does o e).entries knows (does_tell o e).told
+chip_event_arrives o e past now way knows = others_known (chip_units (outs o.chip.state e)) Host past now o.to_host (chip_does o e).entries way.bytes knows (does_tell o e).told
 
 -- where nothing is told nothing was written
 pub does_mute : (o : OuterState) (e : ChipEvent) → (chip_does o e).entries ≡ [] → AllByRecursion IsMute (link_steps o.chip.state e)

@@ -18,7 +18,8 @@ use Rattle.chip_sim.specs.Link.{link_unit, link_units}
 use Rattle.law_wire.specs.Asked.{Course, course_of, is_first, passed_by}
 use Rattle.law_wire.specs.Links.{text_of}
 use Rattle.proof_line.specs.Links.{IsMute}
-use Rattle.proof_line.proofs.LinkTold.{none_first, text_is}
+use Rattle.proof_line.proofs.LinkTold.{text_is}
+use Rattle.proof_walk.proofs.Moving.{both_none as none_first}
 
 -- ---- one step
 

@@ -11,8 +11,8 @@ use Rattle.serial_link.specs.Rules.{SideObeys, Step}
 use Rattle.proof_walk.specs.outside_model.State.{OuterState}
 use Rattle.proof_line.specs.Pipes.{ClearsNowhereElse}
 use Rattle.proof_line.specs.Links.{AtLine, KnowsLink, LinkNow}
-use Rattle.proof_line.specs.Linked.{CutsBy, HasStarts}
-use Rattle.proof_line.proofs.LinkKnown.{keeps_link, keeps_lost, keeps_parts, keeps_starts}
+use Rattle.proof_line.specs.Linked.{CutsBy, HasStarts, Cuts}
+use Rattle.proof_line.proofs.LinkKnown.{keeps_link, keeps_lost, keeps_parts, keeps_starts, keeps_room}
 use Rattle.proof_line.proofs.LinkCourse.{course_mute}
 use Rattle.proof_line.proofs.LinkChip.{obeyed}
 
@@ -25,7 +25,7 @@ cuts_of past up down chip host told =
     let chip_lost : up.lost ≡ lost_by Chip past (keeps_link Chip past up chip).parts = sym (keeps_lost Chip past up chip) in
     let host_lost : down.lost ≡ lost_by Host past (keeps_link Host past down host).parts = sym (keeps_lost Host past down host) in
     record {
-      links = record { chip = of_chip; host = of_host };
+      links = record { chip = of_chip; host = of_host; up = keeps_room Chip past up chip; down = keeps_room Host past down host };
       each = subst (λ (l : List ℕ). AreTold (clears past) (to_clear (lost_by Chip past of_chip.parts) l)) host_lost (subst (λ (l : List ℕ). AreTold (clears past) (to_clear l down.lost)) chip_lost told);
       course =
           let life : up.life ≡ joined of_chip.parts ++ chip.steps = keeps_parts past up chip in
@@ -80,4 +80,8 @@ pub cut_clears : {did : List Step} (past : List Entry) → CutsBy did past → C
 cut_clears past cuts only = record { links = cuts.links; each = cuts.each; only = only }
 
 pub whole_clears : {did : List Step} (past : List Entry) → CutsBy did (past ++ Said [] ∷ []) → ClearsNowhereElse true past → ClearsLine true past
-whole_clears past cuts only = record { links = record { chip = cuts.links.chip; host = cuts.links.host }; each = cuts.each; only = only }
+whole_clears past cuts only = record {
+  links = record { chip = cuts.links.chip; host = cuts.links.host; up = cuts.links.up; down = cuts.links.down };
+  each = cuts.each;
+  only = only;
+}

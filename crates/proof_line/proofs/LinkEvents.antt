@@ -191,7 +191,7 @@ chip_writes_both is_tick past m event up later down units within apart both cuts
     let line : AtLine (timed ++ x.entries) x.outer later (with_arriving down arriving) =
     record {
       chip = chip;
-      host = others_known units Host timed down o.to_host x.entries both.line.host says.tells;
+      host = others_known units Host timed down o.to_host x.entries both.line.way.bytes both.line.host says.tells;
       link = says.link;
       waits = says.waits;
       way = subst (λ (w : WayState). Brings w (down.coming ++ arriving)) (sym says.to_host) (brings_more Chip units o.to_host down.coming says.fit both.line.way);
@@ -265,7 +265,7 @@ host_writes_both {did} is_tick past m n up down after_it units told_all told bot
     let apart : Apart timed (timed ++ told) = tells_apart units Host o.to_chip timed told says.tells in
     let line : AtLine (timed ++ told) p later after_it =
     record {
-      chip = others_known units Chip timed up o.to_chip told both.line.chip says.tells;
+      chip = others_known units Chip timed up o.to_chip told both.chip_way.bytes both.line.chip says.tells;
       host = host;
       link = both.line.link ∙ sym (ap (λ (c : ChipParts). c.state.port.side) says.chip);
       waits = subst (λ (c : ChipParts). WaitsWell c.state.port) (sym says.chip) both.line.waits;

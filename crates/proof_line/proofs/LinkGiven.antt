@@ -49,7 +49,8 @@ use Rattle.proof_line.proofs.Colliding.{discovers_port, joins_port}
 use Rattle.proof_line.proofs.ChipTelling.{IsArriving, beside_air, does_tell, given_back}
 use Rattle.proof_line.proofs.ChipAccounts.{Account, Still, Both, Later, Does, Forgotten as ForgottenLink, Of_air, In_air, at_account, at_none, gives_account, outer_steps, repeat_steps, steps_account, steps_by}
 use Rattle.proof_line.proofs.LinkTime.{Apart, tells_apart}
-use Rattle.proof_line.proofs.LinkTold.{arriving_all, besides_known, brings_more, none_first}
+use Rattle.proof_line.proofs.LinkTold.{arriving_all, besides_known, brings_more}
+use Rattle.proof_walk.proofs.Moving.{both_none as none_first}
 use Rattle.proof_line.proofs.LinkChip.{chip_event_arrives, chip_event_known, does_mute, submits_hear_none, submits_tick_none}
 use Rattle.proof_line.proofs.Tellings.{IsBeside}
 
@@ -205,7 +206,7 @@ event_given o e given none may =
           let line = at.line in
           let fit = (given_back s e given (subst (λ (t : ChipState). HasFrames t.port) is has)).1 in
           let chip = chip_event_known o e past up up.coming line.chip line.link line.waits (may up at.early) (hears_none up (items_of steps) mute, λ stalls. mute) in
-          let host = chip_event_arrives o e past down line.host in
+          let host = chip_event_arrives o e past down line.way line.host in
           let apart : Apart past (past ++ x.entries) = tells_apart units Chip o.to_host past x.entries (does_tell o e).told in
           let count : ticks_of (up.round ++ steps) ≡ ticks_of up.round + ticks_of steps = ticks_of-append up.round steps in
           let same : ticks_of (up.round ++ steps) ≡ ticks_of up.round = omega (arith, quiet, count) in

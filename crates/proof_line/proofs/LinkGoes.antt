@@ -27,19 +27,13 @@ use Rattle.chip_functions.specs.declared.notice.TransmitStatus.{TransmitStatus}
 use Rattle.chip_sim.specs.Answers.{notice_frame}
 use Rattle.chip_sim.specs.Requests.{asked, callback_frame, passed, reply_if, heard as judges}
 use Rattle.chip_sim.specs.declared.out.Sending.{Sending}
-use Rattle.chip_sim.proofs.Links.{obeys_event}
+use Rattle.chip_sim.proofs.Links.{obeys_event, units_own as none_heard}
 use Rattle.zw_words.specs.declared.side.Side.{Side}
 use Rattle.zw_words.specs.declared.side.Side.TheVariants.{Host, Chip}
 use Rattle.law_wire.specs.Links.{MayDo, MayDoInTick, end_quietly, is_quiet_tick}
 use Rattle.proof_line.specs.Links.{IsOne, LinkNow, MayGo, MayOfChip, MayStep, stepped}
-use Rattle.proof_traffic.proofs.HostLinks.{refused_mute as none_refused}
 
 -- ---- each step writes at most one unit
-
-none_acknowledged : (turn : Turn) → flat_map link_unit (outs_heard turn (Good Ack)) ≡ []
-none_acknowledged Idle = refl
-none_acknowledged (Copied f copies count) = refl
-none_acknowledged (Paused f copies count) = refl
 
 none_ended : (copies : ℕ) → flat_map link_unit (outs_ended copies) ≡ []
 none_ended copies = by (copies == 4)
@@ -47,13 +41,6 @@ none_ended copies = by (copies == 4)
     by : (b : Bool) → flat_map link_unit (if b then outs_ended 4 else []) ≡ []
     by true = refl
     by false = refl
-
-none_heard : (turn : Turn) (item : Item) → flat_map link_unit (outs_heard turn item) ≡ []
-none_heard turn (Good Ack) = none_acknowledged turn
-none_heard turn (Good Nak) = none_refused turn
-none_heard turn (Good Can) = none_refused turn
-none_heard turn (Good (Framed f)) = refl
-none_heard turn (Refused r) = refl
 
 one_answer : (collision : Bool) (item : Item) → IsOne (flat_map link_unit (answer collision item))
 one_answer collision (Good Ack) = inl refl

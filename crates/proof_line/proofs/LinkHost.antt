@@ -10,7 +10,6 @@ use Rattle.serial_link.specs.Rules.{Step, SideObeys, ticks_of, outs_of, items_of
 use Rattle.serial_link.specs.Calls.{submit_step}
 use Rattle.serial_link.proofs.Counting.{ticks_of-append}
 use Rattle.chip_sim.specs.Link.{link_unit, link_units}
-use Rattle.serial_pipes.specs.State.{WayState}
 use Rattle.zw_words.specs.declared.side.Side.{Side}
 use Rattle.zw_words.specs.declared.side.Side.TheVariants.{Host}
 use Rattle.zw_text.specs.declared.entry.Entry.{Entry}
@@ -26,9 +25,9 @@ use Rattle.proof_world.specs.host_model.Did.{after_all, outs_all, MayAll}
 use Rattle.law_wire.specs.Links.{MayDo}
 use Rattle.proof_world.specs.proof_serial.Line.{host_units}
 use Rattle.proof_traffic.specs.Links.{KeepsItsLink, host_link_steps, host_link_steps_all}
-use Rattle.proof_line.specs.Links.{KnowsLink, LinkNow, MayGo, MayHear, MayOfHost, TicksNot, gone, stepped}
+use Rattle.proof_line.specs.Links.{KnowsSide, LinkNow, MayGo, MayHear, MayOfHost, TicksNot, gone, stepped}
 use Rattle.proof_line.proofs.HostTelling.{units_both}
-use Rattle.proof_line.proofs.Tellings.{IsBeside, Tells}
+use Rattle.proof_line.proofs.Tellings.{IsBeside, TellsSome}
 use Rattle.proof_line.proofs.LinkTold.{steps_known}
 use Rattle.proof_line.proofs.LinkGoes.{may_hear, may_tick, none_go, one_goes, one_heard, one_ticked}
 
@@ -136,18 +135,18 @@ module _ (each : (h : HostState) (event : HostEvent) (steps : List Step) → Kee
       (all_keep events (after h event) (steps ++ host_link_steps h event) (each h event steps keeps may.0) may.1)
 
   -- events that are no tick of the line, with what is told of them
-  pub host_known : (events : List HostEvent) (h : HostState) (past : List Entry) (now : LinkNow) (left : List (List ℕ)) (way : WayState) (told : List Entry) → KnowsLink Host past now
+  pub host_known : {piped : Bool} (events : List HostEvent) (h : HostState) (past : List Entry) (now : LinkNow) (left : List (List ℕ)) (told : List Entry) → KnowsSide piped Host past now
       → KeepsItsLink now.life h → MayAll h events → AllByRecursion TicksNot events → (now.is_tick ≡ true → ticks_of now.round ≡ 1) → MayHear now (items_of (host_link_steps_all h events)) left
-      → Tells IsBeside Host way (host_units (outs_all h events)) told → KnowsLink Host (past ++ told) (gone now (host_link_steps_all h events) (after_all h events).side left)
-  host_known events h past now left way told knows keeps may quiet once hears tells =
-      steps_known (host_link_steps_all h events) Host past now (after_all h events).side left way told knows (all_go events h now keeps may quiet once) hears
-      (subst (λ (l : List LineUnit). Tells IsBeside Host way l told) (all_units events h now.life keeps may) tells)
+      → TellsSome IsBeside Host (host_units (outs_all h events)) told → KnowsSide piped Host (past ++ told) (gone now (host_link_steps_all h events) (after_all h events).side left)
+  host_known events h past now left told knows keeps may quiet once hears tells =
+      steps_known (host_link_steps_all h events) Host past now (after_all h events).side left told knows (all_go events h now keeps may quiet once) hears
+      (subst (λ (l : List LineUnit). TellsSome IsBeside Host l told) (all_units events h now.life keeps may) tells)
 
   -- a tick of the line
-  pub host_tick_known : (h : HostState) (past : List Entry) (now : LinkNow) (way : WayState) (told : List Entry) → KnowsLink Host past now → KeepsItsLink now.life h → MayHost h Line_ticks
-      → now.is_tick ≡ true → ticks_of now.round ≡ 0 → Tells IsBeside Host way (host_units (outs h Line_ticks)) told
-      → KnowsLink Host (past ++ told) (gone now (host_link_steps h Line_ticks) (after h Line_ticks).side now.coming)
-  host_tick_known h past now way told knows keeps may tick none tells =
-      steps_known (host_link_steps h Line_ticks) Host past now (after h Line_ticks).side now.coming way told knows
+  pub host_tick_known : {piped : Bool} (h : HostState) (past : List Entry) (now : LinkNow) (told : List Entry) → KnowsSide piped Host past now → KeepsItsLink now.life h → MayHost h Line_ticks
+      → now.is_tick ≡ true → ticks_of now.round ≡ 0 → TellsSome IsBeside Host (host_units (outs h Line_ticks)) told
+      → KnowsSide piped Host (past ++ told) (gone now (host_link_steps h Line_ticks) (after h Line_ticks).side now.coming)
+  host_tick_known h past now told knows keeps may tick none tells =
+      steps_known (host_link_steps h Line_ticks) Host past now (after h Line_ticks).side now.coming told knows
       (host_goes h Line_ticks now (each h Line_ticks now.life keeps may).obeys (tick, none)) (refl, λ stalls. refl)
-      (subst (λ (l : List LineUnit). Tells IsBeside Host way l told) (units h Line_ticks keeps.asked_none) tells)
+      (subst (λ (l : List LineUnit). TellsSome IsBeside Host l told) (units h Line_ticks keeps.asked_none) tells)

@@ -12,12 +12,13 @@ use Rattle.zw_text.specs.declared.line.Line.TheVariants as lines
 use Rattle.zw_text.specs.declared.entry.Entry.{Entry}
 use Rattle.zw_text.specs.declared.entry.Entry.TheVariants as entry
 use Rattle.zw_text.specs.Transcript.{line_of}
-use Rattle.law_wire.specs.Clearing.{bytes_in}
+use Rattle.law_wire.specs.law_transcript.Lists.{EachAfter}
 use Rattle.law_wire.specs.law_transcript.Restarts.{ticks_asked}
 use Rattle.law_wire.specs.Serial.{SerialEvent, beginning_of, done_line, serial_events, serial_events_from, ticks_up_to}
 use Rattle.law_wire.specs.Serial.SerialEvent.{Line_begins}
-use Rattle.law_wire.specs.Links.{Moment, Round, stall_by, arrivals_of, clock_in, moments_of, steps_in, texts_of}
+use Rattle.law_wire.specs.Links.{FindsRoom, bytes_in, Moment, Round, stall_by, arrivals_of, clock_in, moments_of, steps_in, texts_of}
 use Rattle.proof_line.specs.Links.{Does, Hears, IsAt, KeepsSoFar, KnowsEvents, LinkNow, MayEndNow, begun_line, due_from, stalls_in, tick_told, told_from}
+use Rattle.proof_walk.proofs.Lists.{each-append}
 use Rattle.proof_line.proofs.Moments.{moments_one, round_one, steps_one}
 use Rattle.proof_line.proofs.Serials.{serials_grow, told_grows}
 use Rattle.proof_line.proofs.LinkSteps.{asked_next, clock_one, does_again, does_asked, ends_part, hears_again, hears_on, hears_same, lost_again, lost_same, mute_last, stalls_one, start_again, starts_next}
@@ -61,14 +62,14 @@ module _ (events : List SerialEvent) (now : LinkNow) where
   Restart = Line_begins (lines.Restart ∷ [])
 
   -- a new link of the host goes on
-  pub host_restarts : (new : LinkSide) → SideObeys [] new → MayEndNow Host now → KnowsEvents Host events now → KnowsEvents Host (events ++ Restart ∷ []) (restarted now [] new)
+  pub host_restarts : {piped : Bool} (new : LinkSide) → SideObeys [] new → MayEndNow Host now → KnowsEvents piped Host events now → KnowsEvents piped Host (events ++ Restart ∷ []) (restarted now [] new)
   host_restarts new obeys may knows =
       let before : List Moment = moments_of events knows.parts in
       let one : Moment = record { event = Restart; steps = knows.steps } in
       let begins = round_one before one in
       let clock : clock_in (before ++ one ∷ []) ≡ clock_in before + 0 = clock_one before one in
       let was : clock_in before ≡ now.clock = knows.at.clock in
-      event_known Host events now knows Restart knows.steps now.link now.coming (restarted now [] new) knows.does knows.hears (mute_last knows.steps knows.mute)
+      event_known Host events now knows Restart knows.steps now.link now.coming (restarted now [] new) knows.does knows.hears (mute_last knows.steps knows.mute) (λ in_pipe. refl)
       (may_end Host events now knows Restart refl may) (does_again before one new refl obeys) (hears_again Host before one refl)
       (record {
         is_tick = ap (λ (r : Round). r.is_tick) begins;
@@ -82,7 +83,7 @@ module _ (events : List SerialEvent) (now : LinkNow) where
       })
 
   -- the chip's goes on
-  pub chip_restarts : MayEndNow Chip now → KnowsEvents Chip events now → KnowsEvents Chip (events ++ Restart ∷ []) (restarted now now.life now.link)
+  pub chip_restarts : MayEndNow Chip now → KnowsEvents true Chip events now → KnowsEvents true Chip (events ++ Restart ∷ []) (restarted now now.life now.link)
   chip_restarts may knows =
       let before : List Moment = moments_of events knows.parts in
       let one : Moment = record { event = Restart; steps = knows.steps } in
@@ -90,7 +91,7 @@ module _ (events : List SerialEvent) (now : LinkNow) where
       let clock : clock_in (before ++ one ∷ []) ≡ clock_in before + 0 = clock_one before one in
       let was : clock_in before ≡ now.clock = knows.at.clock in
       let life : steps_in (before ++ one ∷ []) ++ [] ≡ steps_in before ++ knows.steps = append-nil (steps_in (before ++ one ∷ [])) ∙ steps_one before one in
-      event_known Chip events now knows Restart knows.steps now.link now.coming (restarted now now.life now.link) knows.does knows.hears (mute_last knows.steps knows.mute)
+      event_known Chip events now knows Restart knows.steps now.link now.coming (restarted now now.life now.link) knows.does knows.hears (mute_last knows.steps knows.mute) (λ in_pipe. refl)
       (may_end Chip events now knows Restart refl may)
       (record { obeys = subst (λ (l : List Step). SideObeys l now.link) (sym life) knows.does.obeys; may = tt; asks = sym (asked_next Chip before one) })
       (hears_again Chip before one refl)
@@ -111,8 +112,8 @@ module _ (events : List SerialEvent) (now : LinkNow) where
   Collide = Line_begins (lines.Collide ∷ [])
 
   -- the chip's link is asked for it before all else
-  pub chip_is_asked : (step : Step) (new : LinkSide) → step.event ≡ asked → texts_of step ≡ [] → SideObeys (now.life ++ step ∷ []) new → MayEndNow Chip now → KnowsEvents Chip events now
-      → KnowsEvents Chip (events ++ Collide ∷ []) (record (begun_line now now.until) { life = now.life ++ step ∷ []; round = step ∷ []; link = new })
+  pub chip_is_asked : (step : Step) (new : LinkSide) → step.event ≡ asked → texts_of step ≡ [] → SideObeys (now.life ++ step ∷ []) new → MayEndNow Chip now → KnowsEvents true Chip events now
+      → KnowsEvents true Chip (events ++ Collide ∷ []) (record (begun_line now now.until) { life = now.life ++ step ∷ []; round = step ∷ []; link = new })
   chip_is_asked step new is quiet obeys may knows =
       let before : List Moment = moments_of events knows.parts in
       let one : Moment = record { event = Collide; steps = knows.steps } in
@@ -144,6 +145,7 @@ module _ (events : List SerialEvent) (now : LinkNow) where
           lost = lost_same Chip before one refl ∙ knows.at.lost;
           starts = starts_next Chip before one now.starts now.life refl knows.at.starts knows.at.life;
         });
+        room = λ in_pipe. subst (λ (l : List Moment). EachAfter (FindsRoom Chip) [] l) is_one (each-append (FindsRoom Chip) [] before (one ∷ []) (knows.room in_pipe) (refl, tt));
       }
 
 -- ---- a stall

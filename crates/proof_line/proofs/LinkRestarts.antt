@@ -20,7 +20,8 @@ use Rattle.zw_text.specs.declared.entry.Entry.TheVariants as entry
 use Rattle.zw_text.specs.Transcript.{line_of}
 use Rattle.law_wire.specs.law_transcript.Restarts.{is_restart, begins_refused}
 use Rattle.law_wire.specs.Asked.{course_of}
-use Rattle.law_wire.specs.Clearing.{AreTold, Cleared_there, bytes_in, cleared, clears, clears_first, goes_on_after, to_clear}
+use Rattle.law_wire.specs.Clearing.{AreTold, Cleared_there, cleared, clears, clears_first, goes_on_after, to_clear}
+use Rattle.law_wire.specs.Links.{bytes_in}
 use Rattle.law_wire.specs.Serial.{SerialEvent, serial_events}
 use Rattle.law_wire.specs.Serial.SerialEvent.{Line_begins}
 use Rattle.host_keep.specs.declared.record.Record.{Record}
@@ -95,7 +96,7 @@ lost_serials past told all =
     )
 
 lost_known : (side : Side) (past told : List Entry) (now : LinkNow) → AllByRecursion IsCleared told → KnowsLink side past now → KnowsLink side (past ++ told) now
-lost_known side past told now all knows = subst (λ (l : List SerialEvent). KnowsEvents side l now) (sym (lost_serials past told all).0) knows
+lost_known side past told now all knows = subst (λ (l : List SerialEvent). KnowsEvents true side l now) (sym (lost_serials past told all).0) knows
 
 -- ---- what is told of restarts
 
@@ -180,12 +181,12 @@ module _ {did : Did} (before : List Entry) (words : List ℕ) (first : Machine) 
 
   chip_on : KnowsLink Chip all (restarted up up.life up.link)
   chip_on =
-      subst (λ (l : List SerialEvent). KnowsEvents Chip l (restarted up up.life up.link)) (sym serials)
+      subst (λ (l : List SerialEvent). KnowsEvents true Chip l (restarted up up.life up.link)) (sym serials)
       (chip_restarts (serial_events timed) up may.0 both.line.chip)
 
   host_on : (new : LinkSide) → SideObeys [] new → KnowsLink Host all (restarted down [] new)
   host_on new obeys =
-      subst (λ (l : List SerialEvent). KnowsEvents Host l (restarted down [] new)) (sym serials)
+      subst (λ (l : List SerialEvent). KnowsEvents true Host l (restarted down [] new)) (sym serials)
       (host_restarts (serial_events timed) down new obeys may.1 both.line.host)
 
   cleared_before : cleared_in before ≡ to_clear up.lost down.lost

@@ -45,6 +45,7 @@ use Rattle.proof_line.proofs.Chipping.{drop_whole}
 use Rattle.proof_line.proofs.Roomy.{none_carried}
 use Rattle.proof_line.proofs.HostTelling.{HostTells, hosts_time, judged_items, judged_ticks, takes_tells}
 use Rattle.proof_line.proofs.ChipTelling.{takes_tell}
+use Rattle.proof_line.proofs.Tellings.{IsBeside, tells_some}
 use Rattle.proof_line.proofs.LinkTold.{arriving_all, brings_none, brings_taken}
 use Rattle.proof_line.proofs.LinkChip.{Judges, chip_takes_known, each_state, judged_mute}
 use Rattle.proof_line.proofs.LinkHost.{all_keep, all_quiet, host_known}
@@ -226,7 +227,7 @@ module _ (each : (h : HostState) (event : HostEvent) (steps : List Step) → Kee
       subst (λ (l : List Item). MayHear down l []) (sym hears)
       (brings_taken o.to_host down.coming rest items both.line.way fed_so, λ stalls. never (nat_lt down.clock down.until) (stalled_now o down both.host_time ∙ may.moves) stalls) in
       let known : KnowsLink Host (timed ++ says.told) later =
-      host_known each units events h timed down [] o.to_chip says.told both.line.host both.keeps may.may apart once.1 may_hear says.tells in
+      host_known each units events h timed down [] says.told both.line.host both.keeps may.may apart once.1 may_hear (tells_some IsBeside Host o.to_chip written says.told says.tells) in
       let empty : n.outside.outer.to_host.bytes ≡ [] = ap (λ (w : WayState). w.bytes) says.to_host ∙ drop_whole o.to_host.bytes in
       let got =
       host_writes_both o.in_tick past m n up down later written (entries m event) says.told both cuts

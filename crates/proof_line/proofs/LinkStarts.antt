@@ -26,8 +26,8 @@ many_starts side before (event ∷ events) (part ∷ parts) same =
     by true x later rest = omega (arith, rest)
     by false x later rest = rest
 
-pub starts_many : (side : Side) (events : List SerialEvent) (now : LinkNow) → KnowsEvents side events now → length now.starts ≡ rounds_in (flags_of events)
-starts_many side events now knows = sym (ap (λ (l : List (List Step)). length l) knows.at.starts) ∙ many_starts side [] events knows.parts knows.each
+pub starts_many : (piped : Bool) (side : Side) (events : List SerialEvent) (now : LinkNow) → KnowsEvents piped side events now → length now.starts ≡ rounds_in (flags_of events)
+starts_many piped side events now knows = sym (ap (λ (l : List (List Step)). length l) knows.at.starts) ∙ many_starts side [] events knows.parts knows.each
 
 -- ---- which it is
 

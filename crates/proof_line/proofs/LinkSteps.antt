@@ -14,10 +14,10 @@ use Rattle.zw_text.specs.declared.line.Line.{Line}
 use Rattle.zw_text.specs.declared.line.Line.TheVariants as lines
 use Rattle.law_wire.specs.law_transcript.Lists.{EachAfter, last_or, shown_after}
 use Rattle.law_wire.specs.Marks.{collision_of}
-use Rattle.law_wire.specs.Clearing.{bytes_in, lost_at}
+use Rattle.law_wire.specs.Clearing.{lost_at}
 use Rattle.law_wire.specs.Serial.{SerialEvent}
 use Rattle.law_wire.specs.Serial.SerialEvent.{Line_begins, Writes}
-use Rattle.law_wire.specs.Links.{Moment, Round, AreFirst, CollidesAsTold, HearsInTime, LeavesFew, MayDo, Obeys, TicksInTime, WriteLast, WritesThere, ahead, arrival_of, arrivals_of, asked_for, clock_in, ends_round, is_stalled, left_ahead, line_in, lives, most_left, other, round_of, since_start, stall_by, steps_in, texts_of, tick_of}
+use Rattle.law_wire.specs.Links.{Moment, Round, AreFirst, CollidesAsTold, HearsInTime, LeavesFew, MayDo, Obeys, TicksInTime, WriteLast, WritesThere, ahead, arrival_of, arrivals_of, asked_for, bytes_in, clock_in, ends_round, is_stalled, left_ahead, line_in, lives, most_left, other, round_of, since_start, stall_by, steps_in, texts_of, tick_of}
 use Rattle.proof_walk.proofs.Lists.{each-append}
 use Rattle.proof_line.specs.Arrivals.{AreTexts}
 use Rattle.proof_line.specs.Links.{Does, Hears, IsMute, KeepsSoFar, MayEnd, life_of, life_steps, round_steps, stalls_in, start_at}
@@ -173,9 +173,9 @@ ends_part side past one link coming empty keeps does hears writes may =
     }
 
 -- a unit ends no line or tick
-pub unit_may_end : (side on : Side) (past : List Moment) (steps : List Step) (coming : List (List ℕ)) (unit : List ℕ) (arriving : List (List ℕ))
-    → MayEnd side past steps coming (Writes on unit arriving)
-unit_may_end side on past steps coming unit arriving = record { few = tt; ticked = tt }
+pub unit_may_end : (side on : Side) (past : List Moment) (steps : List Step) (coming : List (List ℕ)) (unit : List ℕ) (arriving lacking : List (List ℕ))
+    → MayEnd side past steps coming (Writes on unit arriving lacking)
+unit_may_end side on past steps coming unit arriving lacking = record { few = tt; ticked = tt }
 
 -- ---- and what follows it is open
 
@@ -192,11 +192,11 @@ life_same Host past one plain =
 life_same Chip past one plain = append-nil (steps_in (past ++ one ∷ [])) ∙ steps_one past one
 
 -- and so does its line or tick, where a unit is written
-pub round_same : (past : List Moment) (on : Side) (unit : List ℕ) (arriving : List (List ℕ)) (steps : List Step)
-    → (round_steps (past ++ record { event = Writes on unit arriving; steps = steps } ∷ []) [] ≡ round_steps past steps)
-    × ((round_of (past ++ record { event = Writes on unit arriving; steps = steps } ∷ [])).is_tick ≡ (round_of past).is_tick)
-round_same past on unit arriving steps =
-    let one : Moment = record { event = Writes on unit arriving; steps = steps } in
+pub round_same : (past : List Moment) (on : Side) (unit : List ℕ) (arriving lacking : List (List ℕ)) (steps : List Step)
+    → (round_steps (past ++ record { event = Writes on unit arriving lacking; steps = steps } ∷ []) [] ≡ round_steps past steps)
+    × ((round_of (past ++ record { event = Writes on unit arriving lacking; steps = steps } ∷ [])).is_tick ≡ (round_of past).is_tick)
+round_same past on unit arriving lacking steps =
+    let one : Moment = record { event = Writes on unit arriving lacking; steps = steps } in
     let is = round_one past one in (
       append-nil (steps_in (round_of (past ++ one ∷ [])).moments) ∙ ap (λ (r : Round). steps_in r.moments) is ∙ steps_one (round_of past).moments one,
       ap (λ (r : Round). r.is_tick) is,

@@ -42,7 +42,7 @@ use Rattle.proof_line.proofs.Hosting.{tick_nothing}
 use Rattle.proof_line.proofs.Rooming.{arriving_whole, arriving_within}
 use Rattle.proof_line.proofs.ChipTelling.{IsArriving, arriving_tells, does_tell, tick_fit}
 use Rattle.proof_line.proofs.HostTelling.{HostTells, does_tells, hosts_time}
-use Rattle.proof_line.proofs.Tellings.{IsBeside, Tells}
+use Rattle.proof_line.proofs.Tellings.{IsBeside, TellsSome, tells_some}
 use Rattle.proof_line.proofs.LinkUntil.{StallsNot}
 use Rattle.proof_line.proofs.LinkKnown.{tick_known}
 use Rattle.proof_line.proofs.LinkTime.{tick_serials, time_clears, timed_clears}
@@ -63,7 +63,7 @@ Then did Known past m event = Cuts did (past ++ entries m event) × Known (past 
 ticks_on : (side : Side) (timed all : List Entry) (now : LinkNow) → KnowsLink side timed now → MayEndNow side now → serial_events timed ++ Tick_begins ∷ [] ≡ serial_events all
     → KnowsLink side all (begun_tick now)
 ticks_on side timed all now knows may serials =
-    subst (λ (l : List SerialEvent). KnowsEvents side l (begun_tick now)) serials (tick_known side (serial_events timed) now knows may)
+    subst (λ (l : List SerialEvent). KnowsEvents true side l (begun_tick now)) serials (tick_known side (serial_events timed) now knows may)
 
 pub begins_tick : {did : Did} (past : List Entry) (m : Machine) → Cuts did past → LinksEnded did past m → Then (began did) (InTick (began did) 0 0) past m (Outside_does Begins_tick)
 unfolding happens entries outcome devices_after
@@ -247,8 +247,9 @@ module _ (each : (h : HostState) (event : HostEvent) (steps : List Step) → Kee
       let says : HostTells m.outside n.outside (host_writes m (Host_does event)) (entries m (Host_does event)) = does_tells m event in
       let none : items_of steps ≡ [] = ap (λ (l : List Step). items_of l) (append-nil (host_link_steps h event)) ∙ none_heard h event nothing in
       let known : KnowsLink Host (timed ++ says.told) (gone down steps (after_all h (event ∷ [])).side down.coming) =
-      host_known each units (event ∷ []) h timed down down.coming o.to_chip says.told both.line.host both.keeps may (apart, tt) once
-      (subst (λ (l : List Item). TakesTexts l down.coming down.coming) (sym none) refl, λ stalls. none) says.tells in
+      host_known each units (event ∷ []) h timed down down.coming says.told both.line.host both.keeps may (apart, tt) once
+      (subst (λ (l : List Item). TakesTexts l down.coming down.coming) (sym none) refl, λ stalls. none)
+      (tells_some IsBeside Host o.to_chip (host_writes m (Host_does event)) says.told says.tells) in
       host_writes_both is_tick past m n up down (gone down steps (after_all h (event ∷ [])).side down.coming) (host_writes m (Host_does event)) (entries m (Host_does event)) says.told both cuts
       (record { tells = says.tells; enters = says.enters; time = says.time; chip = says.chip; to_chip = says.to_chip; fit = orderly.writes }) known (record { is_tick = refl; clock = refl; until = refl; starts = refl }) refl refl
       (all_keep each units (event ∷ []) h down.life both.keeps may) (subst (λ (w : WayState). Brings w down.coming) (sym says.to_host) both.line.way)
@@ -269,8 +270,8 @@ module _ (each : (h : HostState) (event : HostEvent) (steps : List Step) → Kee
       let later : LinkNow = gone down steps (host_after h Line_ticks).side down.coming in
       let all : host_units (host_outs h Line_ticks ++ []) ≡ host_units (host_outs h Line_ticks) = ap (λ (l : List _). host_units l) (append-nil (host_outs h Line_ticks)) in
       let known : KnowsLink Host (timed ++ says.told) later =
-      host_tick_known each units h timed down o.to_chip says.told both.line.host both.keeps may.0 (both.host_round ∙ runs) ticked.1
-      (subst (λ (l : List LineUnit). Tells IsBeside Host o.to_chip l says.told) all says.tells) in
+      host_tick_known each units h timed down says.told both.line.host both.keeps may.0 (both.host_round ∙ runs) ticked.1
+      (subst (λ (l : List LineUnit). TellsSome IsBeside Host l says.told) all (tells_some IsBeside Host o.to_chip written says.told says.tells)) in
       let got =
       host_writes_both o.in_tick past m n up down later written (entries m (Host_does Line_ticks)) says.told both cuts
       (record { tells = says.tells; enters = says.enters; time = says.time; chip = says.chip; to_chip = says.to_chip; fit = orderly.writes }) known (record { is_tick = refl; clock = refl; until = refl; starts = refl }) refl refl

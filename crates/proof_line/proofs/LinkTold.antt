@@ -1,5 +1,5 @@
 -- What is known of a link goes on with the steps of an event and what is told of the units that they write, and with the units of the other side.
-use Rattle.std.proofs.Common.{◌≡◌, ℕ, ◌+◌, List, [], ◌∷◌, ◌++◌, length, map, take, inl, inr, refl, sym, ap, ◌∙◌, subst, append-nil, append_assoc, length-append, arith}
+use Rattle.std.proofs.Common.{◌≡◌, ℕ, ◌+◌, Bool, List, [], ◌∷◌, ◌++◌, length, map, take, inl, inr, refl, sym, ap, ◌∙◌, subst, append-nil, append_assoc, length-append, arith}
 use Rattle.std.specs.List.{AllByRecursion, flat_map}
 use Rattle.std.proofs.lemmas.Grind.{flat_map-append}
 use Rattle.serial_frame.specs.Items.{IsUnit, unit_text}
@@ -15,23 +15,25 @@ use Rattle.serial_pipes.specs.Events.{told, after, Writes}
 use Rattle.chip_sim.specs.Link.{link_unit, link_units}
 use Rattle.zw_words.specs.declared.side.Side.{Side}
 use Rattle.zw_text.specs.declared.entry.Entry.{Entry}
+use Rattle.zw_text.specs.declared.entry.Entry.TheVariants as entry
 use Rattle.law_wire.specs.Serial.{arriving_of, serial_events}
 use Rattle.law_wire.specs.Links.{other, text_of, texts_of}
 use Rattle.proof_world.specs.proof_serial.Way.{items_of as way_items, written_all}
 use Rattle.proof_world.proofs.EndedItems.{feeds_all}
 use Rattle.proof_world.proofs.Ways.{carries_more}
 use Rattle.proof_line.specs.Arrivals.{AreTexts}
-use Rattle.proof_line.specs.Links.{Brings, IsOne, KnowsLink, LinkNow, MayGo, MayHear, TakesTexts, gone, stepped, with_arriving}
+use Rattle.proof_line.specs.Links.{Brings, IsOne, KnowsLink, KnowsSide, LinkNow, MayGo, MayHear, TakesTexts, gone, stepped, with_arriving}
 use Rattle.proof_line.proofs.Arriving.{none_carries, flat, items_arrive, joins_by, marks_of, texts_both}
-use Rattle.proof_line.proofs.Tellings.{IsBeside, Tells}
-use Rattle.proof_line.proofs.LinkKnown.{beside_known, other_known, relinked, step_known, write_known}
+use Rattle.proof_line.proofs.Tellings.{IsBeside, Tells, TellsSome}
+use Rattle.proof_line.proofs.LinkKnown.{beside_known, other_known, relinked, step_known, written_known}
+use Rattle.proof_walk.proofs.Moving.{both_none as none_first}
 
 -- ---- entries beside the line
 
-pub besides_known : (side : Side) (past : List Entry) (now : LinkNow) (es : List Entry) → AllByRecursion IsBeside es → KnowsLink side past now → KnowsLink side (past ++ es) now
-besides_known side past now [] all knows = subst (λ (l : List Entry). KnowsLink side l now) (sym (append-nil past)) knows
-besides_known side past now (e ∷ es) all knows =
-    subst (λ (l : List Entry). KnowsLink side l now) (append_assoc past (e ∷ []) es)
+pub besides_known : {piped : Bool} (side : Side) (past : List Entry) (now : LinkNow) (es : List Entry) → AllByRecursion IsBeside es → KnowsSide piped side past now → KnowsSide piped side (past ++ es) now
+besides_known {piped} side past now [] all knows = subst (λ (l : List Entry). KnowsSide piped side l now) (sym (append-nil past)) knows
+besides_known {piped} side past now (e ∷ es) all knows =
+    subst (λ (l : List Entry). KnowsSide piped side l now) (append_assoc past (e ∷ []) es)
     (besides_known side (past ++ e ∷ []) now es all.1 (beside_known side past now e all.0 knows))
 
 -- ---- what steps write and hear
@@ -49,10 +51,6 @@ takes_split [] ys coming left takes = (coming, refl, takes)
 takes_split (x ∷ xs) ys [] left takes = absurd takes
 takes_split (x ∷ xs) ys (text ∷ coming) left takes = let rest = takes_split xs ys coming left takes.1 in (rest.0, (takes.0, rest.1), rest.2)
 
-pub none_first : {A : Type 0} (xs ys : List A) → xs ++ ys ≡ [] → (xs ≡ []) × (ys ≡ [])
-none_first [] ys is = (refl, is)
-none_first (x ∷ xs) ys is = absurd (let none : x ∷ (xs ++ ys) ≡ [] = is in cc)
-
 -- what is on its way does not matter to what a link may do
 go_same : (side : Side) (now : LinkNow) (steps : List Step) (new : LinkSide) (coming : List (List ℕ)) → MayGo side now steps new → MayGo side (record now { coming = coming }) steps new
 go_same side now [] new coming go = go
@@ -61,26 +59,26 @@ go_same side now (step ∷ steps) new coming (next, may, one, more) =
 
 -- ---- the steps of an event
 
-no_more : (side : Side) (past : List Entry) (now : LinkNow) (new : LinkSide) (left : List (List ℕ)) → SideObeys now.life new → now.coming ≡ left → KnowsLink side past now
-    → KnowsLink side past (gone now [] new left)
-no_more side past now new left obeys coming knows =
-    subst (λ (l : List (List ℕ)). KnowsLink side past (gone now [] new l)) coming
-    (subst (λ (l : List Step). KnowsLink side past (record now { life = l; round = now.round ++ []; link = new })) (sym (append-nil now.life))
-    (subst (λ (l : List Step). KnowsLink side past (record now { round = l; link = new })) (sym (append-nil now.round)) (relinked side (serial_events past) now new obeys knows)))
+no_more : {piped : Bool} (side : Side) (past : List Entry) (now : LinkNow) (new : LinkSide) (left : List (List ℕ)) → SideObeys now.life new → now.coming ≡ left → KnowsSide piped side past now
+    → KnowsSide piped side past (gone now [] new left)
+no_more {piped} side past now new left obeys coming knows =
+    subst (λ (l : List (List ℕ)). KnowsSide piped side past (gone now [] new l)) coming
+    (subst (λ (l : List Step). KnowsSide piped side past (record now { life = l; round = now.round ++ []; link = new })) (sym (append-nil now.life))
+    (subst (λ (l : List Step). KnowsSide piped side past (record now { round = l; link = new })) (sym (append-nil now.round)) (relinked side (serial_events past) now new obeys knows)))
 
-one_before : (side : Side) (past : List Entry) (now : LinkNow) (step : Step) (steps : List Step) (next new : LinkSide) (mid left : List (List ℕ))
-    → KnowsLink side past (gone (stepped now step next mid) steps new left) → KnowsLink side past (gone now (step ∷ steps) new left)
-one_before side past now step steps next new mid left knows =
-    subst (λ (l : List Step). KnowsLink side past (record now { life = now.life ++ step ∷ steps; round = l; link = new; coming = left })) (append_assoc now.round (step ∷ []) steps)
-    (subst (λ (l : List Step). KnowsLink side past (record now { life = l; round = (now.round ++ step ∷ []) ++ steps; link = new; coming = left })) (append_assoc now.life (step ∷ []) steps) knows)
+one_before : {piped : Bool} (side : Side) (past : List Entry) (now : LinkNow) (step : Step) (steps : List Step) (next new : LinkSide) (mid left : List (List ℕ))
+    → KnowsSide piped side past (gone (stepped now step next mid) steps new left) → KnowsSide piped side past (gone now (step ∷ steps) new left)
+one_before {piped} side past now step steps next new mid left knows =
+    subst (λ (l : List Step). KnowsSide piped side past (record now { life = now.life ++ step ∷ steps; round = l; link = new; coming = left })) (append_assoc now.round (step ∷ []) steps)
+    (subst (λ (l : List Step). KnowsSide piped side past (record now { life = l; round = (now.round ++ step ∷ []) ++ steps; link = new; coming = left })) (append_assoc now.life (step ∷ []) steps) knows)
 
-pub steps_known : (steps : List Step) (side : Side) (past : List Entry) (now : LinkNow) (new : LinkSide) (left : List (List ℕ)) (way : WayState) (entries : List Entry) → KnowsLink side past now
-    → MayGo side now steps new → MayHear now (items_of steps) left → Tells IsBeside side way (link_units steps) entries → KnowsLink side (past ++ entries) (gone now steps new left)
-steps_known [] side past now new left way entries knows go hears tells = no_more side (past ++ entries) now new left go hears.0 (besides_known side past now entries tells knows)
-steps_known (step ∷ steps) side past now new left way entries knows (next, may, one, more) hears tells =
+pub steps_known : {piped : Bool} (steps : List Step) (side : Side) (past : List Entry) (now : LinkNow) (new : LinkSide) (left : List (List ℕ)) (entries : List Entry) → KnowsSide piped side past now
+    → MayGo side now steps new → MayHear now (items_of steps) left → TellsSome IsBeside side (link_units steps) entries → KnowsSide piped side (past ++ entries) (gone now steps new left)
+steps_known {piped} [] side past now new left entries knows go hears tells = no_more side (past ++ entries) now new left go hears.0 (besides_known side past now entries tells knows)
+steps_known {piped} (step ∷ steps) side past now new left entries knows (next, may, one, more) hears tells =
     by one
-    (λ known. steps_known steps side past (stepped now step next mid) new left way entries known go later)
-    (λ unit before rest known. steps_known steps side ((past ++ before) ++ told side way unit) (stepped now step next mid) new left (after way (Writes unit)) rest known go later)
+    (λ known. steps_known steps side past (stepped now step next mid) new left entries known go later)
+    (λ unit before marks rest known. steps_known steps side ((past ++ before) ++ entry.Written side (unit_text unit) ∷ marks) (stepped now step next mid) new left rest known go later)
   where
     split : (mid : List (List ℕ)) × TakesTexts (item_of step.event) now.coming mid × TakesTexts (items_of steps) mid left
     split = takes_split (item_of step.event) (items_of steps) now.coming left hears.0
@@ -104,21 +102,24 @@ steps_known (step ∷ steps) side past now new left way entries knows (next, may
     texts units is = text_is step.outs ∙ ap (λ (l : List LineUnit). map (λ (unit : LineUnit). unit_text unit) l) is
 
     by : IsOne (flat_map link_unit step.outs)
-        → (KnowsLink side past (stepped now step next mid) → Tells IsBeside side way (link_units steps) entries → KnowsLink side (past ++ entries) (gone (stepped now step next mid) steps new left))
-        → ((unit : LineUnit) (before rest : List Entry) → KnowsLink side ((past ++ before) ++ told side way unit) (stepped now step next mid) → Tells IsBeside side (after way (Writes unit)) (link_units steps) rest
-        → KnowsLink side (((past ++ before) ++ told side way unit) ++ rest) (gone (stepped now step next mid) steps new left))
-        → KnowsLink side (past ++ entries) (gone now (step ∷ steps) new left)
+        → (KnowsSide piped side past (stepped now step next mid) → TellsSome IsBeside side (link_units steps) entries → KnowsSide piped side (past ++ entries) (gone (stepped now step next mid) steps new left))
+        → ((unit : LineUnit) (before marks rest : List Entry) → KnowsSide piped side ((past ++ before) ++ entry.Written side (unit_text unit) ∷ marks) (stepped now step next mid)
+        → TellsSome IsBeside side (link_units steps) rest
+        → KnowsSide piped side (((past ++ before) ++ entry.Written side (unit_text unit) ∷ marks) ++ rest) (gone (stepped now step next mid) steps new left))
+        → KnowsSide piped side (past ++ entries) (gone now (step ∷ steps) new left)
     by (inl none) mute writes =
         one_before side (past ++ entries) now step steps next new mid left
         (mute (step_known side (serial_events past) now knows next step mid may first (texts [] none))
-        (subst (λ (l : List LineUnit). Tells IsBeside side way l entries) (parted ∙ ap (λ (l : List LineUnit). l ++ link_units steps) none) tells))
+        (subst (λ (l : List LineUnit). TellsSome IsBeside side l entries) (parted ∙ ap (λ (l : List LineUnit). l ++ link_units steps) none) tells))
     by (inr (unit, is)) mute writes =
-        let (before, rest, are, beside, others) = subst (λ (l : List LineUnit). Tells IsBeside side way l entries) (parted ∙ ap (λ (l : List LineUnit). l ++ link_units steps) is) tells in
-        let wrote = write_known side (past ++ before) now next mid step way unit (besides_known side past now before beside knows) may first (texts (unit ∷ []) is) in
+        let (before, marks, rest, are, beside, marked, others) =
+        subst (λ (l : List LineUnit). TellsSome IsBeside side l entries) (parted ∙ ap (λ (l : List LineUnit). l ++ link_units steps) is) tells in
+        let one : List Entry = entry.Written side (unit_text unit) ∷ marks in
+        let wrote = written_known side (past ++ before) now next mid step (unit_text unit) marks marked (besides_known side past now before beside knows) may first (texts (unit ∷ []) is) in
         one_before side (past ++ entries) now step steps next new mid left
-        (subst (λ (l : List Entry). KnowsLink side l (gone (stepped now step next mid) steps new left))
-        (append_assoc (past ++ before) (told side way unit) rest ∙ append_assoc past before (told side way unit ++ rest) ∙ ap (λ (l : List Entry). past ++ l) (sym are))
-        (writes unit before rest wrote others))
+        (subst (λ (l : List Entry). KnowsSide piped side l (gone (stepped now step next mid) steps new left))
+        (append_assoc (past ++ before) one rest ∙ append_assoc past before (one ++ rest) ∙ ap (λ (l : List Entry). past ++ l) (sym are))
+        (writes unit before marks rest wrote others))
 
 -- ---- units of the other side
 
@@ -144,13 +145,21 @@ both_arrive side past now first later knows =
     plus_both : (now.brought + length first) + length later ≡ now.brought + length (first ++ later)
     plus_both = let long : length (first ++ later) ≡ length first + length later = length-append first later in omega (arith, long)
 
-pub others_known : (units : List LineUnit) (side : Side) (past : List Entry) (now : LinkNow) (way : WayState) (entries : List Entry) → KnowsLink side past now
+-- its bytes are added to those of what comes
+joins_more : (side : Side) (way : WayState) (unit : LineUnit) (coming : List (List ℕ)) → way.bytes ≡ flat coming
+    → (after way (Writes unit)).bytes ≡ flat (coming ++ arriving_of side (unit_text unit) (marks_of side way unit))
+joins_more side way unit coming bytes =
+    let here : List (List ℕ) = arriving_of side (unit_text unit) (marks_of side way unit) in
+    joins_by side way unit (mark_for way.marks unit) ∙ ap (λ (l : List ℕ). l ++ flat here) bytes ∙ sym (flat_map-append (λ (text : List ℕ). text) coming here)
+
+pub others_known : (units : List LineUnit) (side : Side) (past : List Entry) (now : LinkNow) (way : WayState) (entries : List Entry) → way.bytes ≡ flat now.coming → KnowsLink side past now
     → Tells IsBeside (other side) way units entries → KnowsLink side (past ++ entries) (with_arriving now (arriving_all (other side) way units))
-others_known [] side past now way entries knows tells = nothing_arrives side (past ++ entries) now (besides_known side past now entries tells knows)
-others_known (unit ∷ units) side past now way entries knows (before, rest, are, beside, others) =
+others_known [] side past now way entries bytes knows tells = nothing_arrives side (past ++ entries) now (besides_known side past now entries tells knows)
+others_known (unit ∷ units) side past now way entries bytes knows (before, rest, are, beside, others) =
     let here : List (List ℕ) = arriving_of (other side) (unit_text unit) (marks_of (other side) way unit) in
-    let wrote = other_known side (past ++ before) now way unit (besides_known side past now before beside knows) in
-    let all = others_known units side ((past ++ before) ++ told (other side) way unit) (with_arriving now here) (after way (Writes unit)) rest wrote others in
+    let wrote = other_known side (past ++ before) now way unit bytes (besides_known side past now before beside knows) in
+    let more : (after way (Writes unit)).bytes ≡ flat (now.coming ++ here) = joins_more (other side) way unit now.coming bytes in
+    let all = others_known units side ((past ++ before) ++ told (other side) way unit) (with_arriving now here) (after way (Writes unit)) rest more wrote others in
     both_arrive side (past ++ entries) now here (arriving_all (other side) (after way (Writes unit)) units)
     (subst (λ (l : List Entry). KnowsLink side l (with_arriving (with_arriving now here) (arriving_all (other side) (after way (Writes unit)) units)))
     (append_assoc (past ++ before) (told (other side) way unit) rest ∙ append_assoc past before (told (other side) way unit ++ rest) ∙ ap (λ (l : List Entry). past ++ l) (sym are)) all)
@@ -167,7 +176,7 @@ brings_more side (unit ∷ units) way coming are brings =
       items = brings.items ++ way_items way unit;
       carries = carries_more no_rest way unit brings.items brings.carries are.0;
       texts = texts_both brings.items (way_items way unit) coming here brings.texts (items_arrive side way unit are.0);
-      bytes = joins_by side way unit (mark_for way.marks unit) ∙ ap (λ (l : List ℕ). l ++ flat here) brings.bytes ∙ sym (flat_map-append (λ (text : List ℕ). text) coming here);
+      bytes = joins_more side way unit coming brings.bytes;
     }))
 
 -- who hears all that is on its way leaves nothing

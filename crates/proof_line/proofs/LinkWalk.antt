@@ -40,8 +40,8 @@ use Rattle.proof_traffic.specs.Links.{KeepsItsLink, host_link_steps}
 use Rattle.proof_walk.specs.Phases.{Phase, Between, Said_line, Begun, Doing, To_tick, Ticked, Arriving, Giving, Ticking_devices, Ticking_chip, Ticking_decoder, Ticking_host, Sleeping, Submitting, Moving, Moved, Turns, Goes}
 use Rattle.proof_walk.specs.Time.{KnowTime, MayCount}
 use Rattle.proof_walk.specs.Walk.{Walk, WalkWhere}
-use Rattle.proof_line.specs.Links.{AtLine, KeepsSoFar, KnowsLink, LinkNow, MayEndNow, due_from, most_of}
-use Rattle.proof_line.specs.Linked.{◌⊕◌, began, did_at, flags_of, rounds_in, said, UnlessTicks, BeginsLast, CutsBy, Did, HasStarts, Cuts, IsOrderly, KnowCuts, KnowLinks, KnowsBoth, LinksBegun, LinksDone, LinksLeft, HaveTickedOnce, InTick, Round}
+use Rattle.proof_line.specs.Links.{AtLine, KeepsSoFar, KnowsLink, LinkNow, MayEndNow, due_from, most_of, KnowsSide}
+use Rattle.proof_line.specs.Linked.{◌⊕◌, began, did_at, flags_of, rounds_in, said, UnlessTicks, BeginsLast, CutsBy, Did, HasStarts, Cuts, IsOrderly, KnowCuts, KnowLinks, KnowsBoth, LinksBegun, LinksDone, LinksLeft, HaveTickedOnce, InTick, Round, Anything, KnowAll}
 use Rattle.proof_line.proofs.LinkKnown.{no_steps}
 use Rattle.proof_line.proofs.LinkTold.{brings_none}
 use Rattle.proof_line.proofs.ChipAccounts.{event_steps, outer_steps}
@@ -61,18 +61,11 @@ use Rattle.proof_line.proofs.LinkOnes.{collide_goes, due_is, ended_cuts, ended_s
 
 -- ---- all entries may stand
 
-abbrev pub Anything : List Entry → Entry → Type 0
-Anything past entry = Unit {0}
-
 all_stand : (past told : List Entry) → EachAfter Anything past told
 all_stand past [] = tt
 all_stand past (e ∷ told) = (tt, all_stand (past ++ e ∷ []) told)
 
 -- ---- with time
-
--- the chip's link did some steps
-abbrev pub KnowAll : Phase → List Entry → Machine → Type 0
-KnowAll here past m = KnowTime here past m × ((did : Did) × KnowCuts did here past m)
 
 -- the ticks that lines have asked for have begun
 due_now : (past : List Entry) (m : Machine) → KnowTime Between past m → due_from 0 past ≡ m.outside.outer.clock
@@ -117,7 +110,7 @@ said_begins did past m words line read time (cuts, (is_tick, (up, down, both, ma
     let due = due_now past m time in
     let o : OuterState = m.outside.outer in
     by line one (begun_serials past m is_tick up down both may (Said words ∷ []) line (alone_said past words line o.clock read due))
-    (sym (ap (λ (l : List (List Step)). length l) both.starts) ∙ starts_many Chip (serial_events (past ++ ticked_entry o)) up both.line.chip)
+    (sym (ap (λ (l : List (List Step)). length l) both.starts) ∙ starts_many true Chip (serial_events (past ++ ticked_entry o)) up both.line.chip)
   where
     front : List SerialEvent
     front = serial_events (past ++ ticked_entry m.outside.outer)
@@ -137,7 +130,7 @@ tick_begins did ticks past m (cuts, (is_tick, (up, down, both, may))) =
       event = Tick_begins;
       events = sym (tick_serials past o (both.line.time ∙ both.chip_time.clock) both.behind);
       begins = refl;
-      many = sym (ap (λ (l : List (List Step)). length l) both.starts) ∙ starts_many Chip (serial_events (past ++ ticked_entry o)) up both.line.chip;
+      many = sym (ap (λ (l : List (List Step)). length l) both.starts) ∙ starts_many true Chip (serial_events (past ++ ticked_entry o)) up both.line.chip;
     }
 
 -- ---- phases
@@ -301,7 +294,7 @@ first_keeps : (side : Side) → KeepsSoFar side []
 first_keeps Host = record { obeys = (no_steps, tt); writes = tt; hears = tt; ticks = tt; collides = tt }
 first_keeps Chip = record { obeys = (no_steps, tt); writes = tt; hears = tt; ticks = tt; collides = tt }
 
-abbrev first_now : LinkSide → LinkNow
+abbrev pub first_now : LinkSide → LinkNow
 first_now link = record { is_tick = false; brought = 0; clock = 0; until = 0; life = []; round = []; link = link; coming = []; lost = []; starts = [] }
 
 below_none : (time : ℕ) → false ≡ nat_lt time 0
@@ -311,7 +304,7 @@ below_none time = by (nat_lt time 0) refl
     by true is = absurd (let none : time < 0 = ltb-true time 0 is in omega (arith, none))
     by false is = refl
 
-first_link : (side : Side) (link : LinkSide) → SideObeys [] link → KnowsLink side [] (first_now link)
+pub first_link : {piped : Bool} (side : Side) (link : LinkSide) → SideObeys [] link → KnowsSide piped side [] (first_now link)
 first_link Host link obeys = record {
   parts = [];
   steps = [];
@@ -321,6 +314,7 @@ first_link Host link obeys = record {
   mute = tt;
   hears = record { earlier = []; parts = refl; texts = tt; still = λ stalls. refl };
   at = record { is_tick = refl; brought = refl; clock = refl; until = below_none; life = refl; round = refl; lost = refl; starts = refl };
+  room = λ in_pipe. tt;
 }
 first_link Chip link obeys = record {
   parts = [];
@@ -331,6 +325,7 @@ first_link Chip link obeys = record {
   mute = tt;
   hears = record { earlier = []; parts = refl; texts = tt; still = λ stalls. refl };
   at = record { is_tick = refl; brought = refl; clock = refl; until = below_none; life = refl; round = refl; lost = refl; starts = refl };
+  room = λ in_pipe. tt;
 }
 
 idle_obeys : SideObeys [] (record { turn = Idle; collisions = 0 })

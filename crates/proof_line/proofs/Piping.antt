@@ -43,7 +43,8 @@ use Rattle.proof_line.proofs.Holding.{Grown, pipe_grows}
 use Rattle.proof_line.proofs.Filling.{Up, Down, held_empty, held_same, held_weaker, none_held, few_frames, never, resting_empty, turned_empty, heard_empty, turn_turned, turn_heard, resting_host, heard_host}
 use Rattle.proof_world.proofs.Outer.{wrong as no_refusal}
 use Rattle.proof_line.proofs.Chipping.{IsFrame, IsGoing, going_keeps, drop_whole, takes_keep}
-use Rattle.proof_line.proofs.Hosting.{NoUnit, frames_alone, asked_none, any_of, no_more_nothing, tick_nothing, next_nothing, keeps_none, keeps_both, note_keeps, host_keeps, answer_keeps}
+use Rattle.proof_line.proofs.Hosting.{NoUnit, frames_alone, asked_none, no_more_nothing, tick_nothing, next_nothing, keeps_none, keeps_both, note_keeps, host_keeps, answer_keeps}
+use Rattle.proof_walk.proofs.Machines.{any_units as any_of}
 
 -- ---- between modes
 

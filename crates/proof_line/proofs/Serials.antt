@@ -1,5 +1,5 @@
 -- How the events of the serial line grow with entries.
-use Rattle.std.proofs.Common.{◌≡◌, ℕ, ◌+◌, Bool, false, if◌then◌else◌, List, [], ◌∷◌, ◌++◌, refl, sym, ap, ◌∙◌, append-nil, append_assoc}
+use Rattle.std.proofs.Common.{◌≡◌, ℕ, ◌+◌, Bool, false, if◌then◌else◌, List, [], ◌∷◌, ◌++◌, refl, sym, ap, ap₂, ◌∙◌, append-nil, append_assoc}
 use Rattle.std.specs.List.{AllByRecursion}
 use Rattle.serial_frame.specs.Items.{unit_text}
 use Rattle.serial_frame.specs.declared.unit.Unit.{Unit as LineUnit}
@@ -11,12 +11,12 @@ use Rattle.zw_text.specs.declared.entry.Entry.{Entry}
 use Rattle.zw_text.specs.declared.entry.Entry.TheVariants as entry
 use Rattle.zw_text.specs.Transcript.{line_of}
 use Rattle.law_wire.specs.law_transcript.Restarts.{begins_refused, ticks_asked}
-use Rattle.law_wire.specs.Serial.{SerialEvent, arriving_of, beginning_of, serial_events, serial_events_from, ticks_up_to}
+use Rattle.law_wire.specs.Serial.{SerialEvent, arriving_of, beginning_of, lacking_of, serial_events, serial_events_from, ticks_up_to}
 use Rattle.law_wire.specs.Serial.SerialEvent.{Writes}
 use Rattle.proof_walk.proofs.Entered.{IsMark, told_by_marks}
 use Rattle.proof_line.specs.Links.{told_from, due_from, tick_told}
 use Rattle.proof_line.proofs.Holding.{NoMark, TellsNothing, apart_mark, refused_then}
-use Rattle.proof_line.proofs.Arriving.{arriving_same, marks_of}
+use Rattle.proof_line.proofs.Arriving.{arriving_same, lacking_same, marks_of}
 use Rattle.proof_line.proofs.Tellings.{IsBeside}
 
 -- ---- what stands next says neither what became of the last unit nor that the last line was refused
@@ -39,8 +39,8 @@ serials_grow now due (entry.Time tick ∷ past) told none plain =
     ap (λ (l : List SerialEvent). ticks_up_to now tick ++ l) (serials_grow tick due past told none plain)
     ∙ sym (append_assoc (ticks_up_to now tick) (serial_events_from tick due past) (serial_events_from (told_from tick due past) (due_from due past) told))
 serials_grow now due (entry.Written side unit ∷ past) told none plain =
-    ap (λ (l : List (List ℕ)). Writes side unit l ∷ serial_events_from now due (past ++ told)) (arriving_same side unit past told none)
-    ∙ ap (λ (l : List SerialEvent). Writes side unit (arriving_of side unit past) ∷ l) (serials_grow now due past told none plain)
+    ap₂ (λ (l k : List (List ℕ)). Writes side unit l k ∷ serial_events_from now due (past ++ told)) (arriving_same side unit past told none) (lacking_same side unit past told none)
+    ∙ ap (λ (l : List SerialEvent). Writes side unit (arriving_of side unit past) (lacking_of side unit past) ∷ l) (serials_grow now due past told none plain)
 serials_grow now due (e ∷ past) told none plain = serials_grow now due past told none plain
 
 pub told_grows : (now due : ℕ) (past told : List Entry) → told_from now due (past ++ told) ≡ told_from (told_from now due past) (due_from due past) told
@@ -75,15 +75,22 @@ beside_serials past e is =
     )
 
 -- a unit, with what became of it, adds that it is written
+pub written_serials : (side : Side) (unit : List ℕ) (marks past : List Entry) → AllByRecursion IsMark marks
+    → (serial_events (past ++ entry.Written side unit ∷ marks) ≡ serial_events past ++ Writes side unit (arriving_of side unit marks) (lacking_of side unit marks) ∷ [])
+    × (tick_told (past ++ entry.Written side unit ∷ marks) ≡ tick_told past)
+written_serials side unit marks past are =
+    let none = marks_none (told_from 0 0 past) (due_from 0 past) marks are in (
+      serials_grow 0 0 past (entry.Written side unit ∷ marks) tt refl
+          ∙ ap (λ (l : List SerialEvent). serial_events past ++ Writes side unit (arriving_of side unit marks) (lacking_of side unit marks) ∷ l) none.0,
+      told_grows 0 0 past (entry.Written side unit ∷ marks) ∙ none.1,
+    )
+
 pub unit_serials : (side : Side) (way : WayState) (unit : LineUnit) (past : List Entry)
-    → (serial_events (past ++ told side way unit) ≡ serial_events past ++ Writes side (unit_text unit) (arriving_of side (unit_text unit) (marks_of side way unit)) ∷ [])
+    → (serial_events (past ++ told side way unit)
+    ≡ serial_events past ++ Writes side (unit_text unit) (arriving_of side (unit_text unit) (marks_of side way unit)) (lacking_of side (unit_text unit) (marks_of side way unit)) ∷ [])
     × (tick_told (past ++ told side way unit) ≡ tick_told past)
 unit_serials side way unit past =
-    let none = marks_none (told_from 0 0 past) (due_from 0 past) (marks_of side way unit) (told_by_marks side way.bytes (mark_for way.marks unit) (unit_text unit)) in (
-      serials_grow 0 0 past (told side way unit) tt refl
-          ∙ ap (λ (l : List SerialEvent). serial_events past ++ Writes side (unit_text unit) (arriving_of side (unit_text unit) (marks_of side way unit)) ∷ l) none.0,
-      told_grows 0 0 past (told side way unit) ∙ none.1,
-    )
+    written_serials side (unit_text unit) (marks_of side way unit) past (told_by_marks side way.bytes (mark_for way.marks unit) (unit_text unit))
 
 -- the number of a tick adds the ticks that were not told
 pub time_serials : (past : List Entry) (tick : ℕ)

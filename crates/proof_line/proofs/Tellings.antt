@@ -31,6 +31,25 @@ Tells Is side way [] entries = AllByRecursion Is entries
 Tells Is side way (unit ∷ units) entries =
     (before : List Entry) × (rest : List Entry) × (entries ≡ before ++ (told side way unit ++ rest)) × AllByRecursion Is before × Tells Is side (after way (Writes unit)) units rest
 
+-- the same with whatever became of each
+abbrev pub TellsSome : (Entry → Type 0) → Side → List LineUnit → List Entry → Type 0
+TellsSome Is side [] entries = AllByRecursion Is entries
+TellsSome Is side (unit ∷ units) entries =
+    (before : List Entry) × (marks : List Entry) × (rest : List Entry) × (entries ≡ before ++ ((entry.Written side (unit_text unit) ∷ marks) ++ rest)) × AllByRecursion Is before
+    × AllByRecursion IsMark marks × TellsSome Is side units rest
+
+pub tells_some : (Is : Entry → Type 0) (side : Side) (way : WayState) (units : List LineUnit) (entries : List Entry) → Tells Is side way units entries → TellsSome Is side units entries
+tells_some Is side way [] entries tells = tells
+tells_some Is side way (unit ∷ units) entries (before, rest, is, none, more) = (
+  before,
+  told_by side way.bytes (mark_for way.marks unit) (unit_text unit),
+  rest,
+  is,
+  none,
+  told_by_marks side way.bytes (mark_for way.marks unit) (unit_text unit),
+  tells_some Is side (after way (Writes unit)) units rest more,
+)
+
 module _ (Is : Entry → Type 0) (side : Side) where
   -- other entries before
   tells_later : (way : WayState) (units : List LineUnit) (before entries : List Entry) → AllByRecursion Is before → Tells Is side way units entries → Tells Is side way units (before ++ entries)

@@ -30,6 +30,7 @@ use Rattle.proof_world.specs.proof_serial.Chip.{HasFrames}
 use Rattle.proof_world.specs.proof_serial.Host.{AsksWell}
 use Rattle.proof_walk.specs.Phases.{Phase, Between, Said_line, Begun, Doing, To_tick, Ticked, Arriving, Giving, Ticking_devices, Ticking_chip, Ticking_decoder, Ticking_host, Sleeping, Submitting, Moving, Moved}
 use Rattle.proof_walk.specs.ByLine.{KnownOf, IsAsked}
+use Rattle.proof_walk.specs.Time.{KnowTime}
 use Rattle.proof_traffic.specs.Links.{KeepsItsLink}
 use Rattle.proof_line.specs.Pipes.{IsByHand, HearsNothing}
 use Rattle.proof_line.specs.Links.{AtLine, Brings, KnowsLink, LinkNow, MayEndNow, TicksNot, cleared_in, due_from, start_at, tick_told}
@@ -335,3 +336,11 @@ KnowLinks did (Moved has_moved passes ticks) past m = Round did (λ up down. Hav
 -- with the laws of a run that is cut short there
 abbrev pub KnowCuts : Did → Phase → KnownOf
 KnowCuts did here past m = Cuts did past × KnowLinks did here past m
+
+-- nothing is asked of an entry
+abbrev pub Anything : List Entry → Entry → Type 0
+Anything past entry = Unit {0}
+
+-- with time, for the steps that the chip's link did so far, whichever these are
+abbrev pub KnowAll : Phase → KnownOf
+KnowAll here past m = KnowTime here past m × ((did : Did) × KnowCuts did here past m)

@@ -23,7 +23,7 @@ use Rattle.law_wire.specs.law_transcript.Lists.{EachAfter, shown_after}
 use Rattle.law_wire.specs.law_transcript.Restarts.{ticks_asked}
 use Rattle.law_wire.specs.Clearing.{Cleared_there, clears, lost_at, to_clear}
 use Rattle.law_wire.specs.Serial.{SerialEvent, serial_events}
-use Rattle.law_wire.specs.Links.{Moment, CollidesAsTold, HasTicked, HearsInTime, LeavesFew, MayDo, Obeys, TicksInTime, WritesThere, arrivals_of, asked_for, clock_in, ends_round, is_stalled, line_in, lives, moments_of, most_left, other, round_of, since_start, stall_by, steps_in, texts_of}
+use Rattle.law_wire.specs.Links.{Moment, CollidesAsTold, FindsRoom, HasTicked, HearsInTime, LeavesFew, MayDo, Obeys, TicksInTime, WritesThere, arrivals_of, asked_for, clock_in, ends_round, is_stalled, line_in, lives, moments_of, most_left, other, round_of, since_start, stall_by, steps_in, texts_of}
 use Rattle.proof_world.specs.proof_serial.Way.{Carries}
 use Rattle.proof_line.specs.Arrivals.{AreTexts}
 
@@ -126,8 +126,8 @@ pub record IsAt (side : Side) (past : List Moment) (steps : List Step) (now : Li
   pub lost : shown_after (lost_at side) [] past ≡ now.lost
   pub starts : shown_after (start_at side) [] past ≡ now.starts
 
--- the steps of a side up to each of these events, and since
-pub record KnowsEvents (side : Side) (events : List SerialEvent) (now : LinkNow) : Type 0 where
+-- The steps of a side up to each of these events, and since. Where the units of the other side come through a pipe, just those found no room that had none.
+pub record KnowsEvents (piped : Bool) (side : Side) (events : List SerialEvent) (now : LinkNow) : Type 0 where
   pub parts : List (List Step)
   pub steps : List Step
   pub each : length parts ≡ length events
@@ -136,9 +136,14 @@ pub record KnowsEvents (side : Side) (events : List SerialEvent) (now : LinkNow)
   pub mute : AllByRecursion IsMute steps
   pub hears : Hears side (moments_of events parts) steps now.coming
   pub at : IsAt side (moments_of events parts) steps now
+  pub room : piped ≡ true → EachAfter (FindsRoom side) [] (moments_of events parts)
+
+-- by a transcript; and of the machine, where both sides write to pipes
+abbrev pub KnowsSide : Bool → Side → List Entry → LinkNow → Type 0
+KnowsSide piped side past now = KnowsEvents piped side (serial_events past) now
 
 abbrev pub KnowsLink : Side → List Entry → LinkNow → Type 0
-KnowsLink side past now = KnowsEvents side (serial_events past) now
+KnowsLink side past now = KnowsSide true side past now
 
 -- the link after a step, with this left on its way
 abbrev pub stepped : LinkNow → Step → LinkSide → List (List ℕ) → LinkNow

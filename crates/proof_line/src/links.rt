@@ -9,6 +9,9 @@ ghost use Rattle.proof_walk.specs.world_model.State.{first_machine};
 ghost use Rattle.proof_walk.specs.world_lines.Spoken.{Spoken, transcript_of};
 ghost use Rattle.proof_walk.specs.world_lines.Done.{AreDone};
 ghost use Rattle.proof_walk.specs.world_lines.Whole.{AreWhole};
+ghost use Rattle.proof_walk.specs.Phases.{Between};
+ghost use Rattle.proof_walk.specs.Walk.{WalkWhere};
+ghost use Rattle.proof_line.specs.Linked.{Anything, IsOrderly, KnowAll};
 
 use crate::lines_clear_nowhere_else;
 use proof_traffic::hosts_obey_the_line;
@@ -16,9 +19,20 @@ use proof_walk::time_goes_on;
 use proof_world::lines_keep_and_ask_well;
 use proof_world::serial::hosts_write_well;
 
+/// At each phase of a line, where the format carries what the host writes, and bytes are taken where there are some: each side of the line has done steps that
+/// obey its rules in the ticks of the transcript, has written just its units, has heard what arrived of the other side's since the host started, in order and
+/// by all bytes, and what it has not heard of that is on its way to it. The machine's links are those that these steps lead to.
+pub fn links_go_on()
+    ensures walk { WalkWhere IsOrderly Anything KnowAll }
+    ensures first { (keys : Keys) (records : Option (List (List ℕ))) (devices : List State) → KnowAll Between [] (first_machine keys records devices) }
+{
+    time_goes_on();
+    hosts_obey_the_line();
+}
+
 /// Over any lines from the first on, the last of which an allocation failure may have cut short, over a keeper that tells its records and has none at
-/// first, both sides keep the rules of the serial line in time, and with links that do so just what was on its way is told at each restart that is not
-/// refused, and nowhere else. Where all lines were run whole it is so up to the end of the last one.
+/// first, both sides keep the rules of the serial line in time, and with links that do so just the units find no room that had none, and just what was
+/// on its way is told at each restart that is not refused, and nowhere else. Where all lines were run whole it is so up to the end of the last one.
 pub fn lines_clear_the_line()
     ensures cut { (keys : Keys) (devices : List State) (lines : List Spoken) →
         AreDone (first_machine keys (Some []) devices) lines →
@@ -27,14 +41,13 @@ pub fn lines_clear_the_line()
         AreDone (first_machine keys (Some []) devices) lines → AreWhole (first_machine keys (Some []) devices) lines →
         ClearsLine true (transcript_of (first_machine keys (Some []) devices) lines) }
 {
-    time_goes_on();
-    hosts_obey_the_line();
+    links_go_on();
     hosts_write_well();
     lines_keep_and_ask_well();
     lines_clear_nowhere_else();
 }
 
-/// So both sides keep the rules of the serial line.
+/// So both sides keep the rules of the serial line, and just the units find no room that had none.
 pub fn lines_keep_links()
     ensures cut { (keys : Keys) (devices : List State) (lines : List Spoken) →
         AreDone (first_machine keys (Some []) devices) lines →

@@ -42,7 +42,3 @@ low_command class rest low =
 pub never_begins : (a b : Bool) → (a && false) && b ≡ false
 never_begins true b = refl
 never_begins false b = refl
-
-pub never_ends : (a : Bool) → a && false ≡ false
-never_ends true = refl
-never_ends false = refl

@@ -8,19 +8,17 @@ use Rattle.zw_base.specs.declared.property.Setting.{Setting}
 use Rattle.supervision.specs.Device.{Taken}
 use Rattle.supervision.specs.declared.session.TheConstants.{WORKING, SUCCESS}
 use Rattle.proof_course.specs.Parts.{numbered, successes}
-use Rattle.class_info.specs.declared.message.InfoMessage.TheVariants.{WakeUpNotification}
-use Rattle.class_info.specs.InfoSpelling.{form}
 use Rattle.device_kinds.specs.declared.change.Change.{Change}
 use Rattle.device_kinds.specs.declared.kind.Kind.{Kind}
 use Rattle.device_kinds.specs.declared.verdict.Verdict.{Verdict}
 use Rattle.device_kinds.specs.declared.verdict.Verdict.TheVariants.{NoSupport, Fails, Makes, Works}
-use Rattle.device_kinds.specs.Kind.{listens, main_name_of}
+use Rattle.device_kinds.specs.Kind.{main_name_of}
 use Rattle.device_stack.specs.State.{State, silent, fresh}
 use Rattle.device_kinds.specs.Judging.{setting_of, status_of}
-use Rattle.device_stack.specs.Ticking.{aged, works_out, ticked, woken, by_hand, set_by_hand}
+use Rattle.device_stack.specs.Ticking.{aged, works_out, ticked, by_hand, set_by_hand}
 use Rattle.device_sim.specs.Event.{DeviceEvent, Hears, Ticks, Wakes, Sets, outcome_of, device_after}
 use Rattle.device_sim.specs.Laws.{IsChanged, IsUntaken, IsMade, IsHeard, with_number, numbers}
-use Rattle.device_sim.proofs.OrderLemmas.{numbers_append}
+use Rattle.device_sim.proofs.OrderLemmas.{numbers_append, woken_by as wakes_by}
 use Rattle.proof_messages.specs.Ending.{one_at_work, HasEnded}
 
 -- ---- parts of what is said
@@ -202,14 +200,6 @@ ticks_by device finals false false n l is =
     )
 
 -- ---- a wake-up
-
-wakes_by : (device : State) → IsUntaken device (device_after device Wakes)
-unfolding device_after outcome_of woken
-wakes_by device = by (listens device.kind)
-  where
-    by : (b : Bool) → IsUntaken device (if b then silent device else record { device = record device { awake = true; active_at = device.clock }; replies = form WakeUpNotification ∷ [] }).device
-    by true = (refl, (refl, refl))
-    by false = (refl, (refl, refl))
 
 -- ---- an event
 

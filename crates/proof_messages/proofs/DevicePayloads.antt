@@ -33,7 +33,7 @@ use Rattle.device_stack.specs.Effects.{effect_of, late_answer, takes, after_effe
 use Rattle.device_kinds.specs.Segments.{segment_session}
 use Rattle.device_stack.specs.Hearing.{Answered, answers, answers_opened, answers_bytes, sent_openly, hears_openly, nonce_named, sent_sealed, hears_inside, hears_plain, hears_for, hears_sealed, seals_for, hears_nonces, hears_securely, assembles, repeats_segment, hears_segment, hears_in_segments, hears_by, active, hears}
 use Rattle.device_stack.specs.Ticking.{aged, works_out, ticked, woken, set_by_hand}
-use Rattle.device_kinds.specs.Sealing.{keys_of, unsealed_at}
+use Rattle.s0_crypto.specs.Sealing.{keys_of, unsealed_at}
 use Rattle.device_sim.specs.Event.{DeviceEvent, Hears, Ticks, Wakes, Sets, outcome_of, device_after}
 use Rattle.proof_messages.specs.Reporting.{CanBeAnswered, CanSay}
 use Rattle.proof_messages.proofs.DeviceReports.{opened_ends, spent, is_last}

@@ -73,10 +73,12 @@ use Rattle.device_stack.specs.Effects.{effect_of, takes, after_effect, answer_of
 use Rattle.device_kinds.specs.Segments.{segment_session}
 use Rattle.device_stack.specs.Hearing.{Answered, answers, answers_opened, answers_bytes, sent_openly, hears_openly, nonce_named, sent_sealed, hears_inside, hears_plain, hears_for, hears_sealed, seals_for, hears_nonces, hears_securely, assembles, repeats_segment, hears_segment, hears_in_segments, hears_by, active, hears}
 use Rattle.device_stack.specs.Ticking.{aged, works_out, ticked, woken, by_hand, main_told, tells_by_hand, set_by_hand}
-use Rattle.device_kinds.specs.Sealing.{keys_of, cipher_text_of, unsealed_at, sealed_text}
+use Rattle.s0_crypto.specs.Sealing.{keys_of, cipher_text_of, unsealed_at, sealed_text}
 use Rattle.device_sim.specs.Event.{DeviceEvent, Hears, Ticks, Wakes, Sets, outcome_of, device_after, device_replies}
-use Rattle.proof_messages.proofs.Bare.{bare, bare_opens, high_command, middle_command, low_command, never_begins, never_ends}
+use Rattle.proof_messages.proofs.Bare.{bare, bare_opens, high_command, middle_command, low_command, never_begins}
+use Rattle.host_model.proofs.Pumps.{and_false as never_ends}
 use Rattle.proof_messages.specs.Reporting.{TellsOwn, IsNoReport, TellsNone, TellsTrue, CanBeAnswered, CanSay}
+use Rattle.host_node.proofs.Keeps.{first_holds, second_holds}
 
 -- ---- statuses
 
@@ -99,12 +101,6 @@ status_said status is = none (status == 0) refl
         → status_byte (if b then statuses.NoSupport else if status == 1 then statuses.Working else if status == 2 then statuses.Fail else statuses.Success) ≡ status
     none true e = sym (eqb-true status 0 e)
     none false e = work (status == 1) refl (subst (λ (b : Bool). (((b || status == 1) || status == 2) || status == 255) ≡ true) e is)
-
-verdict_status : (verdict : Verdict) → IsStatus (status_of verdict)
-verdict_status NoSupport = refl
-verdict_status Fails = refl
-verdict_status (Makes settings) = refl
-verdict_status (Works settings) = refl
 
 -- ---- a message that is read
 
@@ -132,11 +128,6 @@ sealed_none : (payload : List ℕ) → heard_at payload ≡ Sealed → TellsNone
 sealed_none payload e = λ others heard. let bad : Sealed ≡ Messages others = sym e ∙ heard in cc
 
 -- ---- a bare text
-
-bare_none : (text : List ℕ) (read : Result InfoMessage ClassFault) → IsCommand false text → begins_with text 152 129 ≡ false → info_at text ≡ read
-    → ((message : InfoMessage) → read ≡ Ok message → IsNoReport (told_by 0 message)) → TellsNone text
-bare_none text (Ok message) is unsealed read none = told_none text (told_by 0 message) (none message refl) (one_told text bare text message unsealed (bare_opens text is) read)
-bare_none text (Err fault) is unsealed read none = unread_none text (none_told text bare text fault unsealed (bare_opens text is) read)
 
 pub same_ok : (a b : InfoMessage) → ◌≡◌ {A = Result InfoMessage ClassFault} (Ok a) (Ok b) → a ≡ b
 same_ok a b e = cc
@@ -448,14 +439,6 @@ none_unasked device plan commands = by plan.batch
     by : (b : Bool) → IsUnasked (if b then Ignores else effect_alone device.kind device.journal (end_of plan.channel) (info_at (only_of commands)))
     by true = tt
     by false = alone_unasked device (end_of plan.channel) (info_at (only_of commands))
-
-pub first_holds : (a b : Bool) → a && b ≡ true → a ≡ true
-first_holds true b e = refl
-first_holds false b e = cc
-
-pub second_holds : (a b : Bool) → a && b ≡ true → b ≡ true
-second_holds true b e = e
-second_holds false b e = cc
 
 asked_said : (device : State) (plan : Plan) (commands : List (List ℕ)) (asked : Supervised) → IsSaid device asked (effect_by device.kind device.journal device.sessions plan commands (Some asked))
 asked_said device plan commands asked = supervised (lists device.kind 0x6C)

@@ -1,23 +1,21 @@
 -- What a device makes of a segment of a message.
 use Rattle.std.proofs.Common.{◌≡◌, ◌≢◌, ℕ, zero, suc, ◌+◌, ◌-◌, ◌%◌, ◌<◌, ◌≤◌, ◌==◌, ◌⊎◌, inl, inr, Bool, true, false, ◌&&◌, nat_lt, if◌then◌else◌, Option, Some, None, List, [], ◌∷◌, length, map, refl, ap, sym, ◌∙◌, subst, arith}
-use Rattle.std.specs.Prelude.{nat_le, slice_index_or, is_some}
-use Rattle.std.specs.List.{AllByRecursion}
-use Rattle.std.proofs.lemmas.Bool.Decides.{Decides-eqb, nat_tests}
-use Rattle.zw_base.specs.Crc.{crc}
+use Rattle.std.specs.Prelude.{slice_index_or, is_some}
+use Rattle.std.proofs.lemmas.Bool.Decides.{Decides-eqb}
+use Rattle.std.proofs.lemmas.Bool.{false_from_ne_true as never_true}
 use Rattle.class_info.specs.declared.message.InfoMessage.TheVariants.{TransportComplete}
 use Rattle.class_info.specs.InfoSpelling.{form}
 use Rattle.encap.specs.Begins.{IsMisplaced}
-use Rattle.transport_segments.specs.Segment.{IsSegment, id_of, size_of, offset_of, payload_of, extension_of, check_of, covered_of}
-use Rattle.transport_segments.specs.Faults.{IsSound}
+use Rattle.transport_segments.specs.Segment.{IsSegment, id_of}
 use Rattle.transport_segments.specs.Places.{IsThere, IsLeastMissing, present}
 use Rattle.transport_segments.specs.Kept.{Reassembly, Empty, Partial}
 use Rattle.transport_segments.specs.Reassembly.{places_after}
 use Rattle.transport_segments.specs.Runs.{IsPart, Agrees}
-use Rattle.transport_segments.specs.Taking.{is_segment, is_sound, ends_its_datagram, first_missing, taken_by, taken_at, kept_after}
+use Rattle.transport_segments.specs.Taking.{is_segment, ends_its_datagram, first_missing, taken_by, taken_at, kept_after}
 use Rattle.transport_segments.specs.declared.assembler.Taken.TheVariants.{Kept, Need, Whole}
 use Rattle.transport_segments.proofs.PlacesLemmas.{there_at, missing_at}
 use Rattle.transport_segments.proofs.AgreeLemmas.{keeps_agreement}
-use Rattle.transport_segments.proofs.TakingLemmas.{segment_decides}
+use Rattle.transport_segments.proofs.TakingLemmas.{segment_decides, sound_taken as taken_is}
 use Rattle.device_kinds.specs.declared.kind.Kind.{Kind}
 use Rattle.device_kinds.specs.declared.kind.Kind.TheVariants.{Relay, Switch, Dimmer, Lock, Sensor, Thermostat, Strip, Configurable}
 use Rattle.device_kinds.specs.Kind.{lists}
@@ -27,34 +25,14 @@ use Rattle.device_stack.specs.Hearing.{hears_openly, assembles, repeats_segment,
 use Rattle.device_sim.specs.Event.{Hears, outcome_of, device_after, device_replies}
 use Rattle.proof_messages.specs.Asking.{IsLeft}
 use Rattle.proof_messages.specs.Others.{IsNoGet}
-use Rattle.proof_messages.specs.Reporting.{TellsNone}
 use Rattle.proof_messages.specs.Segments.{KeepsPart, KeepsSegment, MakesWhole}
 use Rattle.proof_messages.proofs.Bare.{never_begins}
 use Rattle.proof_messages.proofs.SessionMessages.{left}
 use Rattle.proof_messages.proofs.OtherMessages.{bare_no_get, openly_left, securely_left, if_awake}
 use Rattle.proof_messages.proofs.DeviceReports.{request_none}
+use Rattle.host_keep.proofs.NumbersFound.{same_number}
 
 -- ---- a sound segment is taken
-
-both : (a b : Bool) → a ≡ true → b ≡ true → a && b ≡ true
-both a b e f = rw (e, f) refl
-
-at_most : (a b : ℕ) → a ≤ b → nat_le a b ≡ true
-at_most a b le = grind (arith, nat_tests)
-
-sound_is : (bytes : List ℕ) → IsSound bytes → is_sound bytes ≡ true
-sound_is bytes sound =
-    let segment : is_segment bytes ≡ true = (segment_decides bytes).1 sound.sized.plain.intact.segment in
-    let check : (check_of bytes == crc (covered_of bytes)) ≡ true = (Decides-eqb (check_of bytes) (crc (covered_of bytes))).1 sound.sized.plain.intact.check in
-    let extension : (extension_of bytes == 0) ≡ true = (Decides-eqb (extension_of bytes) 0).1 sound.sized.plain.extension in
-    let some : nat_le 1 (size_of bytes) ≡ true = at_most 1 (size_of bytes) sound.sized.from_one in
-    let most : nat_le (size_of bytes) 512 ≡ true = at_most (size_of bytes) 512 sound.sized.to_most in
-    let inside : nat_le (offset_of bytes + length (payload_of bytes)) (size_of bytes) ≡ true = at_most (offset_of bytes + length (payload_of bytes)) (size_of bytes) sound.inside in
-    both _ _ (both _ _ (both _ _ (both _ _ (both _ _ segment check) extension) some) most) inside
-
-taken_is : (kept : Reassembly) (bytes : List ℕ) → IsSound bytes → taken_at kept bytes ≡ Some (taken_by (places_after kept bytes) (first_missing 0 (places_after kept bytes)))
-unfolding taken_at
-taken_is kept bytes sound = rw (sound_is bytes sound) refl
 
 none_missing : (from : ℕ) (places : List (Option ℕ)) → first_missing from places ≡ None → places ≡ map Some (present places)
 none_missing from [] e = refl
@@ -67,9 +45,6 @@ record IsFirstMissing (from : ℕ) (places : List (Option ℕ)) (first : ℕ) : 
   is : first ≡ from + at
   least : IsLeastMissing places at
   some : 1 ≤ length places
-
-same_number : (a b : ℕ) → Some a ≡ Some b → a ≡ b
-same_number a b e = cc
 
 one_missing : (from : ℕ) (places : List (Option ℕ)) (first : ℕ) → first_missing from places ≡ Some first → IsFirstMissing from places first
 one_missing from [] first e = cc
@@ -131,10 +106,6 @@ kept_part device message segment id first part agrees e = record {
   agrees = still_agrees message segment id device.reassembly first part agrees e;
 }
 
--- what is answered of segments alone is no report
-abbrev TellNone : List (List ℕ) → Type 0
-TellNone replies = AllByRecursion TellsNone replies
-
 assembled : (device : State) (message segment : List ℕ) (id : ℕ) → IsPart message id segment → Agrees message id device.reassembly
     → KeepsSegment message id device (assembles (active device) segment (taken_at device.reassembly segment)).device (assembles (active device) segment (taken_at device.reassembly segment)).replies
     ⊎ MakesWhole id (hears_openly (active device) message).device (hears_openly (active device) message).replies
@@ -194,10 +165,6 @@ next_segment device message segment drawn session awake kind part whole id agree
     (assembled device message segment (session % 16) part agrees))
 
 -- ---- any other
-
-pub never_true : (c : Bool) → (c ≡ true → ⊥) → c ≡ false
-never_true true not = absurd (not refl)
-never_true false not = refl
 
 differs : (a b : ℕ) → a ≢ b → (a == b) ≡ false
 differs a b not = never_true (a == b) (λ e. not ((Decides-eqb a b).0 e))

@@ -1,7 +1,8 @@
 -- What each event of a node, and of the host, leaves of nonces and of sealed texts.
-use Rattle.std.proofs.Common.{◌≡◌, ◌≢◌, ℕ, ◌+◌, ◌-◌, ◌<◌, ◌≤◌, ◌==◌, Bool, true, false, nat_lt, if◌then◌else◌, Option, Some, None, List, length, refl, ap, sym, ◌∙◌, subst, ◌⊎◌, inl, inr, arith}
+use Rattle.std.proofs.Common.{◌≡◌, ◌≢◌, ℕ, ◌+◌, ◌-◌, ◌<◌, ◌==◌, Bool, true, false, nat_lt, if◌then◌else◌, Option, Some, None, List, length, refl, ap, sym, ◌∙◌, subst, ◌⊎◌, inl, inr, arith}
 use Rattle.std.specs.Prelude.{◌&&◌, slice_set, slice_index_or}
 use Rattle.std.proofs.lemmas.List.{get_or-set_same, get_or-set_other, set_past}
+use Rattle.std.proofs.lemmas.Bool.{cases_lt}
 use Rattle.serial_link.specs.State.{tick_side}
 use Rattle.supervision.specs.Host.{told_of}
 use Rattle.supervision.specs.declared.host_node.Told.{Told}
@@ -126,9 +127,6 @@ node_leaves n node_restarts is = leaves_on n (as_recorded n) (after_node n node_
 
 cases_eq : (m n : ℕ) → (m ≡ n) ⊎ (m ≢ n)
 cases_eq m n = grind arith
-
-cases_lt : (n k : ℕ) → (n < k) ⊎ (k ≤ n)
-cases_lt n k = grind arith
 
 -- what holds of a place before and after one place is set, holds of each
 set_leaves : {A : Type 0} (R : A → A → Type 0) (xs : List A) (n m : ℕ) (x d : A) → ((a : A) → R a a) → (m ≡ n → R (slice_index_or xs n d) x) → R (slice_index_or xs m d) (slice_index_or (slice_set xs n x) m d)

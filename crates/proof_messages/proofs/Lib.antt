@@ -17,4 +17,5 @@ mod HostNonces
 pub mod SealedByNumber
 mod ShownNonces
 pub mod LockSessions
+pub mod SealedTexts
 mod Unnumbered

@@ -41,7 +41,7 @@ use Rattle.device_stack.specs.Effects.{effect_of, takes, after_effect}
 use Rattle.device_stack.specs.Hearing.{Answered, answers, sent_sealed, hears_inside, hears_plain, hears_for, hears_sealed, seals_for, takes_nonce, hears_nonces, hears_securely, hears_by, active, hears}
 use Rattle.device_stack.specs.Ticking.{aged, works_out, ticked, woken, by_hand, tells_by_hand, main_told, set_by_hand}
 use Rattle.device_kinds.specs.Telling.{report_of as value_report}
-use Rattle.device_kinds.specs.Sealing.{keys_of, unsealed_at, sealed_text}
+use Rattle.s0_crypto.specs.Sealing.{keys_of, unsealed_at, sealed_text}
 use Rattle.device_sim.specs.Event.{DeviceEvent, Hears, Ticks, Wakes, Sets, outcome_of, device_after, device_replies}
 use Rattle.proof_course.specs.NodeNonces.{taken_as}
 use Rattle.proof_messages.specs.Payloads.{IsOffer, IsUnnumbered}

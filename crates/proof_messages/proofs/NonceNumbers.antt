@@ -2,8 +2,8 @@
 use Rattle.std.proofs.Common.{◌≡◌, ℕ, zero, suc, ◌+◌, ◌-◌, ◌==◌, Bool, true, false, not, if◌then◌else◌, Option, Some, None, List, [], ◌∷◌, ◌++◌, length, drop, refl, ap, sym, ◌∙◌, subst, arith, length-append, length-drop}
 use Rattle.std.specs.Prelude.{◌%◌, ◌&&◌, slice_index, is_some}
 use Rattle.std.specs.Option.{ForSome}
-use Rattle.std.proofs.lemmas.Bool.{eqb-true, eq-eqb}
 use Rattle.std.proofs.lemmas.List.{append-nil}
+use Rattle.std.proofs.lemmas.Option.{none-some as none_is, same_Some as some_same}
 use Rattle.proof_course.specs.Parts.{numbered}
 use Rattle.proof_course.specs.NodeNonces as node
 use Rattle.proof_course.specs.NodeNonces.{taken_as}
@@ -12,7 +12,7 @@ use Rattle.s0_session.specs.declared.account.Account.{Account}
 use Rattle.s0_session.specs.Nonces.{new_nonce, nonce_given, after_give, nonce_spent, after_spend, unused}
 use Rattle.s0_session.specs.Sending.{seen_after, taken_from}
 use Rattle.proof_messages.specs.Numbers.{IsNonce, HasGiven, with_given}
-use Rattle.chip_functions.proofs.RowLaws.{none_is, some_is as some_same}
+use Rattle.host_model.proofs.Taken.{same_either as same_sides}
 
 -- ---- lists
 
@@ -113,15 +113,6 @@ offered_is nonces given live account drawn has = has.last (nonce_given account d
 
 abbrev names : Bool → ℕ → ℕ → Bool
 names live number given = live && (number % 256 == given % 256)
-
-pub same_sides : (a b : ℕ) → (a == b) ≡ (b == a)
-same_sides a b = by (a == b) (b == a) refl refl
-  where
-    by : (p q : Bool) → (a == b) ≡ p → (b == a) ≡ q → p ≡ q
-    by true true e f = refl
-    by false false e f = refl
-    by true false e f = absurd (grind (arith, let same : a ≡ b = eqb-true a b e in eq-eqb b a (sym same), f))
-    by false true e f = absurd (grind (arith, let same : b ≡ a = eqb-true b a f in eq-eqb a b (sym same), e))
 
 -- what is left of a live nonce, and what is found of it, by whether the first byte is the same
 account_spends : (nonces : List (List ℕ)) (given number : ℕ) (live : Bool) (account : Account) (nonce : List ℕ) → HasGiven nonces given live account → IsNonce nonces number nonce

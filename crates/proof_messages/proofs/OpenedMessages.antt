@@ -33,6 +33,7 @@ use Rattle.host_orders.specs.declared.actuator.Actuator.TheVariants.{Binary, Mul
 use Rattle.host_orders.specs.declared.carriage.Carriage.{Carriage}
 use Rattle.device_kinds.specs.Effects.{end_of}
 use Rattle.proof_messages.specs.Asking.{message_in, read_as, NamesNode}
+use Rattle.host_requests.proofs.Ending.{not_answered as first_of}
 
 -- ---- the commands are no wraps
 
@@ -169,10 +170,6 @@ value_in_range Multilevel (Level level) good = small_level level good
 
 pub mode_in_range : (mode : ℕ) → nat_lt 31 mode ≡ false → mode < 32
 mode_in_range mode good = grind (arith, nat_tests)
-
-pub first_of : (a b : Bool) → (a || b) ≡ false → a ≡ false
-first_of true b e = cc
-first_of false b e = refl
 
 pub second_of : (a b : Bool) → (a || b) ≡ false → b ≡ false
 second_of true b e = cc

@@ -46,7 +46,8 @@ use Rattle.proof_messages.specs.Asking.{IsLeft}
 use Rattle.proof_messages.specs.Others.{IsNoGet, IsOther}
 use Rattle.proof_messages.proofs.OpenedMessages.{ends_are, low_class, lock_class}
 use Rattle.proof_messages.proofs.SessionMessages.{left, awake_after, asleep_after}
-use Rattle.proof_messages.proofs.Bare.{bare, bare_opens, high_command, middle_command, never_begins, never_ends}
+use Rattle.proof_messages.proofs.Bare.{bare, bare_opens, high_command, middle_command, never_begins}
+use Rattle.host_model.proofs.Pumps.{and_false as never_ends}
 
 -- ---- the texts of the host
 

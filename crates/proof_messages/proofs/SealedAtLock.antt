@@ -38,8 +38,8 @@ use Rattle.device_kinds.specs.Kind.{lists, host_node}
 use Rattle.device_stack.specs.State.{State, Outcome, value_of, last_level_of}
 use Rattle.device_kinds.specs.Answers.{swapped, answer_plan, worded}
 use Rattle.device_kinds.specs.Judging.{judged_message}
-use Rattle.device_kinds.specs.Sealing.{keys_of, cipher_text_of, unsealed_at, sealed_text}
-use Rattle.device_kinds.proofs.SealingLemmas.{opened_is}
+use Rattle.s0_crypto.specs.Sealing.{keys_of, cipher_text_of, unsealed_at, sealed_text}
+use Rattle.s0_crypto.proofs.SealingLemmas.{opened_is}
 use Rattle.device_kinds.specs.Effects.{end_of, effect_in_session}
 use Rattle.device_stack.specs.Effects.{effect_of, answer_of, after_effect}
 use Rattle.device_stack.specs.Hearing.{Answered, answers, sent_sealed, hears_sealed, hears_securely, hears_by, active}
@@ -48,7 +48,10 @@ use Rattle.proof_messages.specs.Asking.{message_in, verdict_on, Follows}
 use Rattle.proof_messages.specs.Reporting.{HasAnswered}
 use Rattle.proof_messages.proofs.OpenedMessages.{message_opens, target_is}
 use Rattle.proof_messages.proofs.SessionMessages.{supervised_follows, awake_after}
-use Rattle.proof_messages.proofs.DeviceReports.{spent, own_heard, taken_own, first_holds, second_holds}
+use Rattle.proof_messages.proofs.DeviceReports.{spent, own_heard, taken_own}
+use Rattle.host_node.proofs.Keeps.{second_holds}
+use Rattle.host_node.proofs.Keeps.{first_holds}
+use Rattle.device_sim.proofs.NonceLemmas.{long_enough as not_short}
 
 -- ---- sealing and opening
 
@@ -99,9 +102,6 @@ pub sealed_opens : (keys : Keys) (own nonce plain : List ℕ) (ends : SealEnds) 
 sealed_opens keys own nonce plain ends eight = (is_sealed_text keys own nonce ends plain eight).opened
 
 -- ---- a lock that hears it
-
-not_short : (len : ℕ) → 20 ≤ len → nat_lt len 20 ≡ false
-not_short len long = grind (arith, nat_tests)
 
 spends_live : (account : Account) (nonce : List ℕ) (first : ℕ) → account.live ≡ Some nonce → first ≡ slice_index nonce 0 → nonce_spent account first ≡ Some nonce
 spends_live account nonce first live named =

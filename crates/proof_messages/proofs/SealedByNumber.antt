@@ -11,8 +11,8 @@ use Rattle.s0_crypto.proofs.MessageLemmas.{nonce_of_layout}
 use Rattle.s0_crypto.proofs.OpeningLemmas.{good_from_seals, length-code_of, one_plain_text}
 use Rattle.s0_crypto.proofs.StreamLemmas.{length-ofb_from}
 use Rattle.s0_session.specs.Nonces.{account_of, live_of, with_first, nonce_spent}
-use Rattle.device_kinds.specs.Sealing.{cipher_text_of, sealed_text}
-use Rattle.device_kinds.proofs.SealingLemmas.{sealed_is}
+use Rattle.s0_crypto.specs.Sealing.{cipher_text_of, sealed_text}
+use Rattle.s0_crypto.proofs.SealingLemmas.{sealed_is}
 use Rattle.host_heard.specs.Telling.{heard_at}
 use Rattle.host_heard.specs.declared.payload.Heard.{Heard}
 use Rattle.host_heard.specs.declared.payload.Heard.TheVariants.{Messages, Sealed}
@@ -27,7 +27,8 @@ use Rattle.proof_course.specs.NonceLaws.{NamesGiven}
 use Rattle.proof_messages.specs.Numbers.{IsNonce, HasGiven}
 use Rattle.proof_messages.specs.Payloads.{IsSealed}
 use Rattle.proof_messages.specs.Opened.{OpensAs}
-use Rattle.proof_messages.proofs.NonceNumbers.{found_live, none_named, same_sides}
+use Rattle.proof_messages.proofs.NonceNumbers.{found_live, none_named}
+use Rattle.host_model.proofs.Taken.{same_either as same_sides}
 use Rattle.proof_messages.proofs.Texts.{IsText, is_text}
 use Rattle.proof_messages.proofs.LockSessions.{some_same}
 use Rattle.proof_messages.proofs.DeviceReports.{same_messages as messages_same}

@@ -16,9 +16,9 @@ use Rattle.class_info.proofs.InfoLaws.{again}
 use Rattle.class_info.proofs.FormLaws.{form_spells}
 use Rattle.class_info.proofs.OwnLaws.{written_wholes}
 use Rattle.encap.specs.Opening.{begins_with}
-use Rattle.device_kinds.specs.Sealing.{cipher_text_of, sealed_text}
+use Rattle.s0_crypto.specs.Sealing.{cipher_text_of, sealed_text}
 use Rattle.proof_messages.specs.Payloads.{report_of}
-use Rattle.proof_messages.proofs.Bare.{never_ends}
+use Rattle.host_model.proofs.Pumps.{and_false as never_ends}
 
 -- ---- a Nonce Report
 

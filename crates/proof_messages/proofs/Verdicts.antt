@@ -42,7 +42,8 @@ use Rattle.device_kinds.specs.Values.{value_by}
 use Rattle.device_kinds.specs.Settings.{with_setting, merged}
 use Rattle.device_kinds.specs.Judging.{where_inside, level_meant, is_setpoint, configured, member_count, memberships, judged_members, judged_set, judged, judged_all, judged_message}
 use Rattle.proof_messages.specs.Asking.{verdict_on, MakesOnly}
-use Rattle.proof_messages.proofs.OpenedMessages.{reads, value_in_range, mode_in_range, setpoint_in_range, first_of, second_of}
+use Rattle.proof_messages.proofs.OpenedMessages.{reads, value_in_range, mode_in_range, setpoint_in_range, second_of}
+use Rattle.host_requests.proofs.Ending.{not_answered as first_of}
 
 -- ---- verdicts
 

@@ -1,7 +1,7 @@
 -- How a device ended its sessions (this project's own): a final status for each session that it took, but for the one that it is at work at; and
 -- a change by each session that ended with success, and by no other.
 use Rattle.std.specs.Prelude.{◌≡◌, ◌≢◌, ℕ, ◌+◌, ◌<◌, ◌==◌, if◌then◌else◌, List, [], ◌∷◌, length}
-use Rattle.supervision.specs.declared.session.TheConstants.{WORKING, SUCCESS}
+use Rattle.supervision.specs.declared.session.TheConstants.{WORKING}
 use Rattle.proof_course.specs.Parts.{numbered, successes}
 use Rattle.device_sim.specs.State.{State}
 use Rattle.device_sim.specs.Laws.{numbers}

@@ -1,5 +1,5 @@
 -- What the host makes of nonces and of what it seals, event by event (this project's own rule over the Security 0 Command Class).
-use Rattle.std.specs.Prelude.{◌≡◌, ◌≢◌, ◌⊎◌, ℕ, None}
+use Rattle.std.specs.Prelude.{◌≡◌, ◌≢◌, ◌⊎◌, ℕ, List, Some, None}
 use Rattle.s0_session.specs.Nonces.{account_of}
 use Rattle.host_node.specs.State.{NodeState}
 use Rattle.host_node.specs.declared.attempt.Plan.{Plan}
@@ -41,3 +41,8 @@ IsAside node event = Unit {0}
 pub record LeavesNonces (node : ℕ) (old new : HostState) : Type 0 where
   pub account : account_of new.nonces node ≡ account_of old.nonces node
   pub sealing : LeavesSealing (node_of old node) (node_of new node)
+
+-- a sealed text of a node is to be given, and a plain text waits for a nonce, that have this
+pub record HasTexts (OfText OfPlain : List ℕ → Type 0) (state : NodeState) : Type 0 where
+  pub text : (bytes : List ℕ) → state.text ≡ Some bytes → OfText bytes
+  pub pending : (bytes : List ℕ) → state.pending ≡ Some bytes → OfPlain bytes

@@ -4,7 +4,7 @@ use Rattle.s0_session.specs.Nonces.{nonce_given, after_give, after_spend}
 use Rattle.class_info.specs.InfoSpelling.{form}
 use Rattle.class_info.specs.declared.message.InfoMessage.TheVariants.{NonceGet}
 use Rattle.device_kinds.specs.declared.kind.Kind.TheVariants as kinds
-use Rattle.device_kinds.specs.Sealing.{sealed_text, keys_of}
+use Rattle.s0_crypto.specs.Sealing.{sealed_text, keys_of}
 use Rattle.device_kinds.specs.Kind.{host_node}
 use Rattle.device_stack.specs.State.{State}
 use Rattle.device_sim.specs.Event.{DeviceEvent, Hears, Ticks, Wakes, Sets}

@@ -7,7 +7,7 @@ use Rattle.encap.specs.Opening.{begins_with}
 use Rattle.air_frames.specs.Nonces.{nonce_in}
 use Rattle.s0_crypto.specs.declared.key_pair.Keys.{Keys}
 use Rattle.s0_crypto.specs.declared.ends.SealEnds.{SealEnds}
-use Rattle.device_kinds.specs.Sealing.{sealed_text}
+use Rattle.s0_crypto.specs.Sealing.{sealed_text}
 use Rattle.proof_messages.specs.Numbers.{IsNonce}
 
 -- a Nonce Report: class, command, and the eight bytes

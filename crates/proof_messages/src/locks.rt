@@ -3,7 +3,7 @@
 ghost use Rattle.std.specs.Prelude.{◌≡◌, ◌⊎◌, ℕ, List, length, slice_index, is_some, None};
 ghost use Rattle.s0_session.specs.Nonces.{nonce_spent};
 ghost use Rattle.device_kinds.specs.declared.kind.Kind.TheVariants as kinds;
-ghost use Rattle.device_kinds.specs.Sealing.{keys_of, sealed_text};
+ghost use Rattle.s0_crypto.specs.Sealing.{keys_of, sealed_text};
 ghost use Rattle.device_sim.specs.State.{State, fresh, host_node};
 ghost use Rattle.device_sim.specs.Event.{DeviceEvent, Hears, device_after, device_replies};
 ghost use Rattle.proof_course.specs.NodeNonces.{taken_as};

@@ -10,7 +10,7 @@ ghost use Rattle.encap.specs.declared.plan.Outer.TheVariants as outers;
 ghost use Rattle.host_orders.specs.Refusals.{IsFit};
 ghost use Rattle.host_orders.specs.Wrapping.{message_of};
 ghost use Rattle.host_orders.specs.declared.carriage.Carriage.{Carriage};
-ghost use Rattle.device_kinds.specs.Sealing.{keys_of, unsealed_at, sealed_text};
+ghost use Rattle.s0_crypto.specs.Sealing.{keys_of, unsealed_at, sealed_text};
 ghost use Rattle.device_kinds.specs.declared.kind.Kind.TheVariants as kinds;
 ghost use Rattle.device_sim.specs.State.{State, host_node};
 ghost use Rattle.device_sim.specs.Event.{Hears, device_after};

@@ -9,7 +9,7 @@ ghost use Rattle.host_orders.specs.Refusals.{IsFit};
 ghost use Rattle.host_orders.specs.Wrapping.{message_of};
 ghost use Rattle.host_orders.specs.declared.carriage.Carriage.{Carriage};
 ghost use Rattle.device_kinds.specs.declared.kind.Kind.TheVariants as kinds;
-ghost use Rattle.device_kinds.specs.Sealing.{keys_of};
+ghost use Rattle.s0_crypto.specs.Sealing.{keys_of};
 ghost use Rattle.device_sim.specs.State.{State, fresh, host_node};
 ghost use Rattle.device_sim.specs.Event.{Hears, device_after};
 ghost use Rattle.proof_messages.specs.Asking.{verdict_on, Follows};

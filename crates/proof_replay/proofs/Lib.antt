@@ -1,7 +1,11 @@
 mod Putting
+mod LineHeard
+mod CameItems
 mod Replaying
 mod Ran
 mod Serving
 mod Words
+mod From
+mod Begun
 mod Starting
 mod Orderly

@@ -51,6 +51,11 @@ alone_enters = record {
   is_put = λ puts o. record { told = entries_of puts; are = are_told puts; stamped = refl; time = refl };
 }
 
+-- whether the number of a tick is still to be entered
+abbrev pub awaiting : List HostOut → Bool
+awaiting [] = true
+awaiting (one ∷ puts) = false
+
 module _ (start : HostMachine) (keys : Keys) (records : Option (List (List ℕ))) (h : HostState) (came : List LineUnit) (left clock : ℕ) where
   -- no tick runs: nothing is added
   pub untimed : (here : Phase) (past told : List Entry)
@@ -62,6 +67,6 @@ module _ (start : HostMachine) (keys : Keys) (records : Option (List (List ℕ))
   -- in a tick its number is entered where anything is put out
   pub in_tick : (past : List Entry) (puts : List HostOut)
       → Run start Resting (past ++ stamp (clock_at clock true) (entries_of puts)) (at_time keys records h came left (time_of (has_entered (clock_at clock true) (entries_of puts))))
-      → (awaits : Bool) × Run start Resting (past ++ timed clock puts) (host_machine keys records h came clock left awaits)
-  in_tick past [] run = (true, run)
-  in_tick past (one ∷ puts) run = (false, run)
+      → Run start Resting (past ++ timed clock puts) (host_machine keys records h came clock left (awaiting puts))
+  in_tick past [] run = run
+  in_tick past (one ∷ puts) run = run

@@ -2,9 +2,9 @@
 use Rattle.std.proofs.Common.{◌≡◌, ℕ, zero, suc, ◌+◌, Bool, true, false, inl, inr, List, [], ◌∷◌, ◌++◌, refl, sym, ap, ◌∙◌, subst, append-nil, append_assoc}
 use Rattle.std.specs.Prelude.{Option, Some, None, length}
 use Rattle.std.specs.List.{flat_map}
-use Rattle.serial_frame.specs.Items.{unit_text}
 use Rattle.serial_frame.specs.Stream.{Rest}
 use Rattle.serial_frame.specs.declared.item.Item.{Item}
+use Rattle.serial_frame.specs.declared.item.Item.TheVariants.{Good, Refused as refused_item}
 use Rattle.serial_frame.specs.declared.unit.Unit.{Unit as LineUnit}
 use Rattle.s0_crypto.specs.declared.key_pair.Keys.{Keys}
 use Rattle.zw_words.specs.declared.side.Side.TheVariants.{Chip as by_chip}
@@ -17,7 +17,7 @@ use Rattle.zw_text.specs.declared.line.ReplayLine.TheVariants.{Plain, Chip}
 use Rattle.zw_text.specs.declared.entry.Refusal.{Refusal}
 use Rattle.zw_text.specs.declared.entry.Entry.{Entry}
 use Rattle.zw_text.specs.declared.entry.Entry.TheVariants as entry
-use Rattle.law_transcript.specs.Restarts.{ticks_of}
+use Rattle.law_transcript.specs.Restarts.{ticks_asked, ticks_of}
 use Rattle.host_orders.specs.Errands.{get_refusal, send_refusal}
 use Rattle.host_orders.specs.declared.refused.Refused.{Refused}
 use Rattle.host_model.specs.State.{HostState, node_of}
@@ -32,7 +32,7 @@ use Rattle.host_model.specs.declared.out.HostOut.{HostOut}
 use Rattle.host_requests.specs.declared.task.Task.TheVariants as task
 use Rattle.outside_model.specs.State.{OuterState}
 use Rattle.world_model.specs.State.{with_texts}
-use Rattle.world_model.specs.Events.{Event as WorldEvent}
+use Rattle.world_model.specs.Events.{Event as WorldEvent, shown_values}
 use Rattle.world_model.specs.Lines.{Asks as WorldAsks}
 use Rattle.world_model.specs.Refusals.{IsRefused}
 use Rattle.proof_serial.specs.Units.{good_units}
@@ -47,8 +47,12 @@ use Rattle.proof_requests.specs.proof_alone.Runs.{Run}
 use Rattle.proof_requests.specs.proof_alone.Runs.Run.{Stepped, Turned}
 use Rattle.proof_requests.proofs.InOrder.{asked_puts, is_asked}
 use Rattle.proof_requests.proofs.Hosting.{items_run, kept, pump_run, tick_and_pump}
-use Rattle.proof_replay.specs.Heard.{AreReplayed, IsRun, Replayed, came_of, heard_all, heard_at, heard_of, lone_after, plain_of}
-use Rattle.proof_replay.proofs.Putting.{alone_at, alone_enters, alone_next, alone_put, clock_at, in_tick, untimed}
+use Rattle.proof_line.specs.Arrivals.{AreTexts}
+use Rattle.proof_replay.specs.Heard.{AreReplayed, IsRun, Replayed, heard_all, heard_at, heard_of, lone_after, plain_of}
+use Rattle.proof_replay.specs.Linked.{KnowsLine, KnowsLineAt}
+use Rattle.proof_replay.proofs.CameItems.{came_texts, refused_answers}
+use Rattle.proof_replay.proofs.LineHeard.{HostsObey, alone_line, asked_alone, asked_plain, asked_ticks, bytes_line, came_so, pump_line, refused_line, refused_ticks, rests_at, tick_line, ticks_line, told_line, words_line}
+use Rattle.proof_replay.proofs.Putting.{alone_at, alone_enters, alone_next, alone_put, awaiting, clock_at, in_tick, untimed}
 
 -- ---- lists of events
 
@@ -68,10 +72,12 @@ may_rest m (event ∷ a) b may = may_rest (happens m event) a b may.1
 
 -- No line reads the records. So those of the run need not be the keeper's, but they stand so to them, and go on doing so.
 module _ (start : HostMachine) (keys : Keys) (Beside : Option (List (List ℕ)) → Option (List (List ℕ)) → Type 0)
-    (grows : (records held : Option (List (List ℕ))) (texts : List (List ℕ)) → Beside records held → Beside (with_texts records texts) (with_texts held texts)) where
-  -- a run to here, with nothing that came left
+    (grows : (records held : Option (List (List ℕ))) (texts : List (List ℕ)) → Beside records held → Beside (with_texts records texts) (with_texts held texts)) (obey : HostsObey) where
+  -- a run to here, with nothing that came left, and what is known of the line
   abbrev pub At : Phase → ℕ → Bool → List Entry → Lone → Type 0
-  At here left awaits past m = (held : Option (List (List ℕ))) × Beside m.records held × Run start here past (host_machine keys held m.host.state [] m.clock left awaits)
+  At here left awaits past m =
+      (held : Option (List (List ℕ))) × Beside m.records held × Run start here past (host_machine keys held m.host.state [] m.clock left awaits)
+      × KnowsLineAt here left awaits past m.clock m.host.state
 
   -- with the records of what was done
   grown : (m : Lone) (held : Option (List (List ℕ))) (events : List HostEvent) → Beside m.records held → Beside (kept m.records m.host.state events) (kept held m.host.state events)
@@ -111,13 +117,14 @@ module _ (start : HostMachine) (keys : Keys) (Beside : Option (List (List ℕ)) 
   pub pumped_run : (past : List Entry) (m : Lone) (pumped : List HostEvent) → Pumps m.host.state pumped → May m (Does_itself pumped) → At Open 0 false past m
       → At Resting 0 false (past ++ heard_at m (Does_itself pumped)) (happens m (Does_itself pumped))
   unfolding happens entries May
-  pumped_run past m pumped pumps may (held, beside, run) =
+  pumped_run past m pumped pumps may (held, beside, run, line) =
       let n : Lone = happens m (Does_itself pumped) in
       let now : Option (List (List ℕ)) = kept held m.host.state pumped in (
         now,
         grown m held pumped beside,
         untimed start keys now n.host.state [] 0 m.clock Resting past (entries_of (outs_all m.host.state pumped))
             (pump_run OuterState alone_at alone_put alone_next alone_enters start keys 0 pumped past held m.host.state [] (clock_at m.clock false) tt pumps may run),
+        rests_at obey (past ++ entries_of (outs_all m.host.state pumped)) m.clock 0 n.host.state (pump_line obey pumped m.host.state past m.clock 0 pumps may line),
       )
 
   pump_goes : (past : List Entry) (m : Lone) (events : List Event) → IsPump m events → MayAll m events → At Open 0 false past m → At Resting 0 false (past ++ heard_all m events) (happens_all m events)
@@ -126,35 +133,49 @@ module _ (start : HostMachine) (keys : Keys) (Beside : Option (List (List ℕ)) 
 
   -- ---- bytes of the chip
 
-  comes_run : (units : List LineUnit) (past : List Entry) (came : List LineUnit) (held : Option (List (List ℕ))) (m : Lone) → Run start Open past (host_machine keys held m.host.state came m.clock 0 false)
-      → Run start Open (past ++ came_of units) (host_machine keys held m.host.state (came ++ units) m.clock 0 false)
-  comes_run [] past came held m run =
+  comes_run : (items : List Item) (texts : List (List ℕ)) (past : List Entry) (came : List LineUnit) (held : Option (List (List ℕ))) (m : Lone) → AreTexts items texts
+      → Run start Open past (host_machine keys held m.host.state came m.clock 0 false)
+      → Run start Open (past ++ came_so items texts) (host_machine keys held m.host.state (came ++ good_units items) m.clock 0 false)
+  comes_run [] [] past came held m are run =
       subst (λ (l : List Entry). Run start Open l (host_machine keys held m.host.state (came ++ []) m.clock 0 false)) (sym (append-nil past))
       (subst (λ (l : List LineUnit). Run start Open past (host_machine keys held m.host.state l m.clock 0 false)) (sym (append-nil came)) run)
-  comes_run (unit ∷ units) past came held m run =
-      let one : Run start Open (past ++ entry.Written by_chip (unit_text unit) ∷ []) (host_machine keys held m.host.state (came ++ unit ∷ []) m.clock 0 false) =
-      Stepped (step.Comes unit) (tt, refl, refl, inr refl) refl refl run in
-      let all = comes_run units (past ++ entry.Written by_chip (unit_text unit) ∷ []) (came ++ unit ∷ []) held m one in
-      subst (λ (l : List Entry). Run start Open l (host_machine keys held m.host.state (came ++ unit ∷ units) m.clock 0 false))
-      (append_assoc past (entry.Written by_chip (unit_text unit) ∷ []) (came_of units))
-      (subst (λ (l : List LineUnit). Run start Open ((past ++ entry.Written by_chip (unit_text unit) ∷ []) ++ came_of units) (host_machine keys held m.host.state l m.clock 0 false))
-      (append_assoc came (unit ∷ []) units) all)
+  comes_run [] (text ∷ texts) past came held m are run = absurd are
+  comes_run (item ∷ items) [] past came held m are run = absurd are
+  comes_run (Good unit ∷ items) (text ∷ texts) past came held m are run =
+      let told : List Entry = entry.Written by_chip text ∷ [] in
+      let one : Run start Open (past ++ told) (host_machine keys held m.host.state (came ++ unit ∷ []) m.clock 0 false) =
+      Stepped (step.Comes unit) (tt, refl, refl, inr refl) (ap (λ (t : List ℕ). past ++ entry.Written by_chip t ∷ []) are.0.1) refl run in
+      let all = comes_run items texts (past ++ told) (came ++ unit ∷ []) held m are.1 one in
+      subst (λ (l : List Entry). Run start Open l (host_machine keys held m.host.state (came ++ unit ∷ good_units items) m.clock 0 false)) (append_assoc past told (came_so items texts))
+      (subst (λ (l : List LineUnit). Run start Open ((past ++ told) ++ came_so items texts) (host_machine keys held m.host.state l m.clock 0 false)) (append_assoc came (unit ∷ []) (good_units items)) all)
+  comes_run (refused_item refusal ∷ items) (text ∷ texts) past came held m are run =
+      let told : List Entry = entry.Written by_chip text ∷ entry.Garbled by_chip text ∷ [] in
+      let none = refused_answers refusal text are.0 in
+      let one : Run start Open (past ++ told) (host_machine keys held m.host.state came m.clock 0 false) =
+      Stepped (step.Misses text (entry.Garbled by_chip text ∷ [])) (tt, tt, refl, refl, (none, none)) refl refl run in
+      subst (λ (l : List Entry). Run start Open l (host_machine keys held m.host.state (came ++ good_units items) m.clock 0 false)) (append_assoc past told (came_so items texts))
+      (comes_run items texts (past ++ told) came held m are.1 one)
 
-  pub taken_run : (past : List Entry) (m : Lone) (bytes : List ℕ) (rest : Rest) (items : List Item) (judged : List HostEvent) → May m (Takes bytes rest items judged) → At Resting 0 false past m
+  pub taken_run : (past : List Entry) (m : Lone) (bytes : List ℕ) (rest : Rest) (items : List Item) (judged : List HostEvent) → May m (Takes bytes rest items judged) → At Open 0 false past m
       → At Open 0 false (past ++ heard_at m (Takes bytes rest items judged)) (happens m (Takes bytes rest items judged))
   unfolding happens entries May
-  taken_run past m bytes rest items judged may (held, beside, run) =
+  taken_run past m bytes rest items judged may (held, beside, run, line) =
       let n : Lone = happens m (Takes bytes rest items judged) in
       let now : Option (List (List ℕ)) = kept held m.host.state judged in
       let units : List LineUnit = good_units items in
-      let came : Run start Open (past ++ came_of units) (host_machine keys held m.host.state units m.clock 0 false) = comes_run units past [] held m (Turned refl run) in
+      let stream : List ℕ = m.host.decoder.bytes ++ bytes in
+      let puts : List Entry = entries_of (outs_all m.host.state judged) in
+      let (texts, are, same) = came_texts items stream rest.bytes may.feeds.reads in
+      let came : Run start Open (past ++ came_so items texts) (host_machine keys held m.host.state units m.clock 0 false) = comes_run items texts past [] held m are run in
       let all =
-      untimed start keys now n.host.state [] 0 m.clock Open (past ++ came_of units) (entries_of (outs_all m.host.state judged))
-      (items_run OuterState alone_at alone_put alone_next alone_enters start keys 0 items judged (past ++ came_of units) held m.host.state [] (clock_at m.clock false) may.judged may.may
-      (subst (λ (l : List LineUnit). Run start Open (past ++ came_of units) (host_machine keys held m.host.state l m.clock 0 false)) (sym (append-nil units)) came)) in
-      subst (λ (l : List Entry). At Open 0 false l n) (append_assoc past (came_of units) (entries_of (outs_all m.host.state judged))) (now, grown m held judged beside, all)
+      untimed start keys now n.host.state [] 0 m.clock Open (past ++ came_so items texts) puts
+      (items_run OuterState alone_at alone_put alone_next alone_enters start keys 0 items judged (past ++ came_so items texts) held m.host.state [] (clock_at m.clock false) may.judged may.may
+      (subst (λ (l : List LineUnit). Run start Open (past ++ came_so items texts) (host_machine keys held m.host.state l m.clock 0 false)) (sym (append-nil units)) came)) in
+      let known = bytes_line obey items texts judged m.host.state past m.clock 0 are may.judged may.may line in
+      subst (λ (l : List Entry). At Open 0 false (past ++ (l ++ puts)) n) (sym same)
+      (subst (λ (l : List Entry). At Open 0 false l n) (append_assoc past (came_so items texts) puts) (now, grown m held judged beside, all, known))
 
-  take_goes : (bytes : List ℕ) (past : List Entry) (m : Lone) (events : List Event) → IsTaking bytes m events → MayAll m events → At Resting 0 false past m
+  take_goes : (bytes : List ℕ) (past : List Entry) (m : Lone) (events : List Event) → IsTaking bytes m events → MayAll m events → At Open 0 false past m
       → At Open 0 false (past ++ heard_all m events) (happens_all m events)
   take_goes bytes past m events (rest, items, judged, are) may run =
       heard_one Open past m (Takes bytes rest items judged) events are (taken_run past m bytes rest items judged (may_one m (Takes bytes rest items judged) events are may) run)
@@ -167,8 +188,23 @@ module _ (start : HostMachine) (keys : Keys) (Beside : Option (List (List ℕ)) 
   pub asked_says : (line : Line) (past : List Entry) (m : Lone) (event : HostEvent) → IsAskedBy line m.host.state event → May m (Does_asked event) → At (Asked line) 0 false past m
       → At Open 0 false (past ++ answers m.host.state event) (happens m (Does_asked event))
   unfolding happens entries May
-  asked_says line past m event asked may (held, beside, run) =
-      (kept held m.host.state (event ∷ []), grown m held (event ∷ []) beside, Stepped (step.Asks event) (line, refl, asked, may, (λ (bad : false ≡ true). absurd cc), refl) refl refl run)
+  asked_says line past m event asked may (held, beside, run, line_asked) =
+      let h : HostState = m.host.state in
+      let k = line_asked in
+      let none : ticks_asked (line_of (entry.Said k.words)) ≡ 0 = ap ticks_asked k.read ∙ asked_ticks line h event asked in
+      let begun : KnowsLine (k.before ++ entry.Said k.words ∷ []) m.clock 0 h =
+      words_line obey k.before k.awaits m.clock h k.rests k.words [] (line ∷ []) (asked_plain line h event asked) k.read (λ now due. (refl, refl)) tt none in
+      let same : entries_of (outs_all h (event ∷ [])) ≡ [] = ap (λ (l : List HostOut). entries_of (l ++ [])) (asked_puts h event (is_asked line h event asked)) in
+      let done : KnowsLine ((k.before ++ entry.Said k.words ∷ []) ++ []) m.clock 0 (after_all h (event ∷ [])) =
+      subst (λ (l : List Entry). KnowsLine ((k.before ++ entry.Said k.words ∷ []) ++ l) m.clock 0 (after_all h (event ∷ []))) same
+      (alone_line obey (event ∷ []) h (k.before ++ entry.Said k.words ∷ []) m.clock 0 (asked_alone line h event asked, tt) may begun) in
+      let there : KnowsLine past m.clock 0 (after_all h (event ∷ [])) =
+      subst (λ (l : List Entry). KnowsLine l m.clock 0 (after_all h (event ∷ []))) (append-nil (k.before ++ entry.Said k.words ∷ []) ∙ sym k.is) done in (
+        kept held m.host.state (event ∷ []),
+        grown m held (event ∷ []) beside,
+        Stepped (step.Asks event) (line, refl, asked, may, (λ (bad : false ≡ true). absurd cc), refl) refl refl run,
+        told_line obey event h (after_all h (event ∷ [])) past m.clock 0 there,
+      )
 
   asked_run : (line : Line) (past : List Entry) (m : Lone) (event : HostEvent) → IsAskedBy line m.host.state event → May m (Does_asked event) → At (Asked line) 0 false past m
       → At Open 0 false (past ++ heard_at m (Does_asked event)) (happens m (Does_asked event))
@@ -190,7 +226,12 @@ module _ (start : HostMachine) (keys : Keys) (Beside : Option (List (List ℕ)) 
   refused_run : (line : Line) (past : List Entry) (m : Lone) (refusal : Refusal) → Same line m → May m (Refuses line refusal) → At (Asked line) 0 false past m
       → At Open 0 false (past ++ heard_at m (Refuses line refusal)) (happens m (Refuses line refusal))
   unfolding happens entries May
-  refused_run line past m refusal same may (held, beside, run) = (held, beside, Stepped (step.Refuses refusal) (line, refl, inl (same held refusal may), refl, refl) refl refl run)
+  refused_run line past m refusal same may (held, beside, run, asked) = (
+    held,
+    beside,
+    Stepped (step.Refuses refusal) (line, refl, inl (same held refusal may), refl, refl) refl refl run,
+    refused_line obey line past m.clock m.host.state refusal (refused_ticks line (alone m) refusal may) asked,
+  )
 
   refused_goes : (line : Line) (past : List Entry) (m : Lone) (refusal : Refusal) (events : List Event) → events ≡ Refuses line refusal ∷ [] → Same line m → Goes line past m events
   refused_goes line past m refusal events are same may run =
@@ -198,7 +239,12 @@ module _ (start : HostMachine) (keys : Keys) (Beside : Option (List (List ℕ)) 
 
   shown_run : (past : List Entry) (m : Lone) (node : ℕ) → At (Asked (lines.Store node)) 0 false past m → At Open 0 false (past ++ heard_at m (Shows_values node)) (happens m (Shows_values node))
   unfolding happens entries
-  shown_run past m node (held, beside, run) = (held, beside, Stepped (step.Shows node) (refl, refl, refl) refl refl run)
+  shown_run past m node (held, beside, run, k) =
+      let told : List Entry = shown_values m.host.state node ∷ [] in
+      let known : KnowsLine (k.before ++ entry.Said k.words ∷ told) m.clock 0 m.host.state =
+      words_line obey k.before k.awaits m.clock m.host.state k.rests k.words told (lines.Store node ∷ []) tt k.read (λ now due. (refl, refl)) (tt, tt) (ap ticks_asked k.read) in
+      let is : k.before ++ entry.Said k.words ∷ told ≡ past ++ told = sym (append_assoc k.before (entry.Said k.words ∷ []) told) ∙ ap (λ (l : List Entry). l ++ told) (sym k.is) in
+      (held, beside, Stepped (step.Shows node) (refl, refl, refl) refl refl run, subst (λ (l : List Entry). KnowsLine l m.clock 0 m.host.state) is known)
 
   by_rule : (line : Line) (past : List Entry) (m : Lone) (event : HostEvent) (rule : Option Refused) (there : List WorldEvent) (events : List Event) → WorldAsks rule line event there
       → events ≡ flat_map by_host there → (rule ≡ None → IsAskedBy line m.host.state event) → Same line m → Goes line past m events
@@ -253,15 +299,21 @@ module _ (start : HostMachine) (keys : Keys) (Beside : Option (List (List ℕ)) 
       → May m (Ticks (tick_events m.host.state ++ pumped)) → Rests (suc more) past m
       → Rests more (past ++ heard_at m (Ticks (tick_events m.host.state ++ pumped))) (happens m (Ticks (tick_events m.host.state ++ pumped)))
   unfolding happens entries May
-  tick_one past m pumped more pumps may (awaits, (held, beside, run)) =
+  tick_one past m pumped more pumps may (awaits, (held, beside, run, line)) =
       let h : HostState = m.host.state in
       let n : Lone = happens m (Ticks (tick_events h ++ pumped)) in
       let now : Option (List (List ℕ)) = kept held h (tick_events h ++ pumped) in
       let begun : Run start Risen past (host_machine keys held h [] (m.clock + 1) more true) = Stepped (step.Begins_tick more) (refl, refl, refl) (sym (append-nil past)) refl run in
-      let all =
-      in_tick start keys now n.host.state [] more (m.clock + 1) past (outs_all h (tick_events h ++ pumped))
-      (tick_and_pump OuterState alone_at alone_put alone_next alone_enters start keys more pumped past held h [] (clock_at (m.clock + 1) true) tt pumps may begun) in
-      (all.0, (now, grown m held (tick_events h ++ pumped) beside, all.1))
+      let puts : List HostOut = outs_all h (tick_events h ++ pumped) in (
+        awaiting puts,
+        (
+          now,
+          grown m held (tick_events h ++ pumped) beside,
+          in_tick start keys now n.host.state [] more (m.clock + 1) past puts
+              (tick_and_pump OuterState alone_at alone_put alone_next alone_enters start keys more pumped past held h [] (clock_at (m.clock + 1) true) tt pumps may begun),
+          tick_line obey pumped past awaits m.clock more h pumps may line,
+        ),
+      )
 
   ticks_goes : (count : ℕ) (past : List Entry) (m : Lone) (events : List Event) → AreTicks count m events → MayAll m events → Rests count past m
       → Rests 0 (past ++ heard_all m events) (happens_all m events)
@@ -279,12 +331,15 @@ module _ (start : HostMachine) (keys : Keys) (Beside : Option (List (List ℕ)) 
 
   plain_goes : (line : Line) (past : List Entry) (m : Lone) (events : List Event) → IsPlain line m events → is_replayed (first_word line) ≡ true → MayAll m events
       → At (Asked line) (ticks_of line) false past m → Rests 0 (past ++ heard_all m events) (happens_all m events)
-  plain_goes (lines.Tick count) past m events is replayed may (held, beside, run) = ticks_goes count past m events is may (false, (held, beside, Turned (inr (count, refl, refl)) run))
+  plain_goes (lines.Tick count) past m events is replayed may (held, beside, run, k) =
+      let line : KnowsLine past m.clock count m.host.state =
+      subst (λ (l : List Entry). KnowsLine l m.clock count m.host.state) (sym k.is) (ticks_line obey k.before k.awaits m.clock m.host.state k.rests k.words count k.read) in
+      ticks_goes count past m events is may (false, (held, beside, Turned (inr (count, refl, refl)) run, rests_at obey past m.clock count m.host.state line))
   plain_goes line past m events is replayed may run = (false, effect_then line past m events is replayed may run)
 
   line_goes : (past : List Entry) (m : Lone) (said : Replayed) → IsRun m said → Rests 0 past m
       → Rests 0 (past ++ entry.Said said.words ∷ heard_all m said.events) (happens_all m said.events)
-  line_goes past m said is rests = by said.line is.read is.replayed is.is
+  line_goes past m said is (awaits, (held, beside, run, rests)) = by said.line is.read is.replayed is.is
     where
       words : List Entry
       words = entry.Said said.words ∷ []
@@ -296,14 +351,25 @@ module _ (start : HostMachine) (keys : Keys) (Beside : Option (List (List ℕ)) 
           → Rests 0 (past ++ entry.Said said.words ∷ heard_all m said.events) (happens_all m said.events)
       by (Plain line) read replayed these =
           after_words
-          (plain_goes line (past ++ words) m said.events these replayed is.may (rests.1.0, rests.1.1, Stepped (step.Says said.words line) (refl, refl, read, refl) refl refl rests.1.2))
+          (plain_goes line (past ++ words) m said.events these replayed is.may (
+            held,
+            beside,
+            Stepped (step.Says said.words line) (refl, refl, read, refl) refl refl run,
+            record { before = past; words = said.words; awaits = awaits; is = refl; read = read; rests = rests },
+          ))
       by (Chip bytes) read replayed (first, rest, are, taking, pump) =
           let both : MayAll m (first ++ rest) = subst (MayAll m) are is.may in
+          let there : At Open 0 false (past ++ words) m = (
+            held,
+            beside,
+            Turned refl (Stepped (step.Says_nothing said.words) (refl, refl, read, refl) refl refl run),
+            words_line obey past awaits m.clock m.host.state rests said.words [] [] tt read (λ now due. (refl, refl)) tt (ap ticks_asked read),
+          ) in
           after_words (
             false,
             joined Resting 0 false (past ++ words) m first rest said.events are
                 (pump_goes ((past ++ words) ++ heard_all m first) (happens_all m first) rest pump (may_rest m first rest both)
-                (take_goes bytes (past ++ words) m first taking (may_first m first rest both) (rests.1.0, rests.1.1, Stepped (step.Says_nothing said.words) (refl, refl, read, refl) refl refl rests.1.2))),
+                (take_goes bytes (past ++ words) m first taking (may_first m first rest both) there)),
           )
 
   pub all_go : (past : List Entry) (m : Lone) (lines : List Replayed) → AreReplayed m lines → Rests 0 past m → Rests 0 (past ++ heard_of m lines) (lone_after m lines)

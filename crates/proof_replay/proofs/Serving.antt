@@ -18,7 +18,7 @@ use Rattle.zw_text.specs.declared.entry.Refusal.TheVariants as refusal
 use Rattle.host_orders.specs.Errands.{get_refusal, send_refusal}
 use Rattle.host_orders.specs.declared.refused.Refused.{Refused as Rule}
 use Rattle.host_orders.specs.declared.refused.Refused.TheVariants as refused
-use Rattle.law_transcript.specs.Restarts.{ticks_of}
+use Rattle.law_transcript.specs.Restarts.{ticks_asked, ticks_of}
 use Rattle.host_keep.specs.Keeping.{OptAdds}
 use Rattle.host_model.specs.State.{HostParts, HostState, node_of}
 use Rattle.host_model.specs.Asking.{interview_refusal, join_refusal, places_refusal, refusal_for}
@@ -39,7 +39,6 @@ use Rattle.port_run.specs.Steps.{Place, Step, Asks, Takes, Rests, Ticks, Pumps, 
 use Rattle.port_run.specs.Steps as port
 use Rattle.port_run.specs.declared.asking.Answer.{Answer}
 use Rattle.port_run.specs.declared.asking.Answer.TheVariants.{Taken, Command, Refused}
-use Rattle.proof_serial.specs.Units.{good_units}
 use Rattle.run_replay.specs.Machine.{Lone, alone, entries, entries_of, happens, May, timed}
 use Rattle.proof_requests.specs.proof_alone.State.{HostMachine, host_machine, with_world}
 use Rattle.proof_requests.specs.proof_alone.Steps as step
@@ -49,6 +48,8 @@ use Rattle.proof_requests.specs.proof_alone.Runs.{Run}
 use Rattle.proof_requests.specs.proof_alone.Runs.Run.{Stepped, Turned}
 use Rattle.proof_replay.specs.Heard.{came_of}
 use Rattle.proof_replay.specs.HostSteps.{AreOrderly, HearsPart, HearsSteps, IsServed, WithPump, chip_word, clock_after, lone_at, restart_word, tick_words}
+use Rattle.proof_replay.specs.Linked.{KnowsLine, KnowsLineAt}
+use Rattle.proof_replay.proofs.LineHeard.{HostsObey, refused_line, refused_ticks, rests_at, ticks_line, words_line}
 use Rattle.proof_replay.proofs.Replaying.{asked_says, pumped_run, taken_run, tick_one}
 use Rattle.proof_replay.proofs.Replaying as replaying
 
@@ -162,23 +163,25 @@ added events old new before outs did = record {
 }
 
 module _ (start : HostMachine) (keys : Keys) (Beside : Option (List (List ℕ)) → Option (List (List ℕ)) → Type 0)
-    (grows : (records held : Option (List (List ℕ))) (texts : List (List ℕ)) → Beside records held → Beside (with_texts records texts) (with_texts held texts)) where
+    (grows : (records held : Option (List (List ℕ))) (texts : List (List ℕ)) → Beside records held → Beside (with_texts records texts) (with_texts held texts)) (obey : HostsObey) where
   abbrev At : Phase → List Entry → Place → ℕ → Type 0
-  At here past place clock = replaying.At start keys Beside grows here 0 false past (lone_at place clock)
+  At here past place clock = replaying.At start keys Beside grows obey here 0 false past (lone_at place clock)
 
   abbrev pub Rests0 : List Entry → Lone → Type 0
-  Rests0 past m = replaying.Rests start keys Beside grows 0 past m
+  Rests0 past m = replaying.Rests start keys Beside grows obey 0 past m
 
   -- from what events make of a host to the place where they led
   moved : (here : Phase) (past : List Entry) (clock : ℕ) (awaits : Bool) (old new : Place) (events : List HostEvent) (outs : List HostOut)
       → Did events old.host.state new.host.state [] outs old.shelf new.shelf
       → (held : Option (List (List ℕ))) × Beside (with_texts old.shelf.records (texts_of (records_all old.host.state events))) held
-      × Run start here past (host_machine keys held (after_all old.host.state events) [] clock 0 awaits)
+      × Run start here past (host_machine keys held (after_all old.host.state events) [] clock 0 awaits) × KnowsLineAt here 0 awaits past clock (after_all old.host.state events)
       → (held : Option (List (List ℕ))) × Beside new.shelf.records held × Run start here past (host_machine keys held new.host.state [] clock 0 awaits)
-  moved here past clock awaits old new events outs did (held, beside, run) = (
+      × KnowsLineAt here 0 awaits past clock new.host.state
+  moved here past clock awaits old new events outs did (held, beside, run, line) = (
     held,
     subst (λ (r : Option (List (List ℕ))). Beside r held) (sym (adds_is old.shelf.records new.shelf.records (texts_of (records_all old.host.state events)) did.records)) beside,
     subst (λ (s : HostState). Run start here past (host_machine keys held s [] clock 0 awaits)) (sym did.state) run,
+    subst (λ (s : HostState). KnowsLineAt here 0 awaits past clock s) (sym did.state) line,
   )
 
   -- ---- a pump
@@ -187,7 +190,7 @@ module _ (start : HostMachine) (keys : Keys) (Beside : Option (List (List ℕ)) 
   unfolding happens entries May
   pump_part past clock old new outs (does, decoder) at =
       let m : Lone = lone_at old clock in
-      let run = pumped_run start keys Beside grows past m does.events does.are does.did.may at in (
+      let run = pumped_run start keys Beside grows obey past m does.events does.are does.did.may at in (
         false,
         subst (λ (l : List HostOut). At Resting (past ++ entries_of l) new clock) (sym does.did.outs)
             (moved Resting (past ++ entries_of (outs_all old.host.state does.events)) clock false old new does.events outs does.did run),
@@ -199,17 +202,23 @@ module _ (start : HostMachine) (keys : Keys) (Beside : Option (List (List ℕ)) 
   Part clock one old new both past = (part : List Entry) × HearsPart clock one old new both part × Rests0 (past ++ part) (lone_at new (clock_after one clock))
 
   -- words that are no line
-  none_said : (past : List Entry) (clock : ℕ) (place : Place) (said : List ℕ) → line_of (Said said) ≡ [] → Rests0 past (lone_at place clock) → At Resting (past ++ Said said ∷ []) place clock
-  none_said past clock place said none (awaits, (held, beside, run)) = (held, beside, Stepped (step.Says_nothing said) (refl, refl, none, refl) refl refl run)
+  none_said : (past : List Entry) (clock : ℕ) (place : Place) (said : List ℕ) → line_of (Said said) ≡ [] → Rests0 past (lone_at place clock) → At Open (past ++ Said said ∷ []) place clock
+  none_said past clock place said none (awaits, (held, beside, run, rests)) = (
+    held,
+    beside,
+    Turned refl (Stepped (step.Says_nothing said) (refl, refl, none, refl) refl refl run),
+    words_line obey past awaits clock place.host.state rests said [] [] tt none (λ now due. (refl, refl)) tt (ap ticks_asked none),
+  )
 
   -- the words of a line
   line_said : (past : List Entry) (clock : ℕ) (place : Place) (line : Line) (said : List ℕ) → line_of (Said said) ≡ line ∷ [] → ticks_of line ≡ 0 → Rests0 past (lone_at place clock)
       → At (Asked line) (past ++ Said said ∷ []) place clock
-  line_said past clock place line said read none (awaits, (held, beside, run)) = (
+  line_said past clock place line said read none (awaits, (held, beside, run, rests)) = (
     held,
     beside,
     subst (λ (n : ℕ). Run start (Asked line) (past ++ Said said ∷ []) (host_machine keys held place.host.state [] clock n false)) none
         (Stepped (step.Says said line) (refl, refl, read, refl) refl refl run),
+    record { before = past; words = said; awaits = awaits; is = refl; read = read; rests = rests },
   )
 
   refused_part : (past : List Entry) (clock : ℕ) (line : Line) (old new : Place) (both : WithPump (Asks line Refused) old new) → IsServed line → Rests0 past (lone_at old clock)
@@ -219,13 +228,15 @@ module _ (start : HostMachine) (keys : Keys) (Beside : Option (List (List ℕ)) 
       let by : Refuses line (lone_at old clock) = refuses line (lone_at old clock) old.shelf.faults both.mid.shelf.faults served both.ran.0.1 in
       let asked : List Entry = past ++ Said said ∷ [] in
       let before : List Entry = asked ++ entry.Refused by.entered ∷ [] in
-      let (held, beside, run) = line_said past clock old line said read (served_ticks line served) rests in
+      let (held, beside, run, k) = line_said past clock old line said read (served_ticks line served) rests in
+      let none : ticks_asked (line ∷ []) ≡ 0 = refused_ticks line (alone (lone_at old clock)) by.entered by.is in
       let told : Run start Open before (host_machine keys held old.host.state [] clock 0 false) =
       Stepped (step.Refuses by.entered) (line, refl, inl (by.whatever keys held), refl, refl) refl refl run in
       let there : At Open before both.mid clock = (
         held,
         subst (λ (r : Option (List (List ℕ))). Beside r held) (sym (none_added old.shelf.records both.mid.shelf.records still.records)) beside,
         subst (λ (p : HostParts). Run start Open before (host_machine keys held p.state [] clock 0 false)) (sym still.host) told,
+        subst (λ (p : HostParts). KnowsLine before clock 0 p.state) (sym still.host) (refused_line obey line asked clock old.host.state by.entered none k),
       ) in (
         Said said ∷ (entry.Refused by.entered ∷ entries_of both.rest),
         (said, read, by.entered, by.is, refl),
@@ -250,7 +261,7 @@ module _ (start : HostMachine) (keys : Keys) (Beside : Option (List (List ℕ)) 
       let there : At Open (before ++ told) mid clock =
       subst (λ (l : List Entry). At Open (before ++ l) mid clock) same
       (moved Open (before ++ answers h one.event) clock false old mid (one.event ∷ []) [] did
-      (asked_says start keys Beside grows line before (lone_at old clock) one.event one.asked did.may (line_said past clock old line said read one.no_ticks rests))) in (
+      (asked_says start keys Beside grows obey line before (lone_at old clock) one.event one.asked did.may (line_said past clock old line said read one.no_ticks rests))) in (
         Said said ∷ (told ++ entries_of rest),
         (said, read, refl),
         subst (λ (l : List Entry). Rests0 l (lone_at new clock)) (append_assoc before told (entries_of rest) ∙ append_assoc past (Said said ∷ []) (told ++ entries_of rest))
@@ -262,11 +273,11 @@ module _ (start : HostMachine) (keys : Keys) (Beside : Option (List (List ℕ)) 
   bytes_part past clock bytes old new both rests =
       let fed : Fed old.host bytes both.mid.host [] both.first old.shelf both.mid.shelf = both.ran in
       let before : List Entry = past ++ Said chip_word ∷ [] in
-      let came : List Entry = came_of (good_units fed.items) in
+      let came : List Entry = came_of fed.items (old.host.decoder.bytes ++ bytes) in
       let first : List Entry = entries_of both.first in
       let rest : List Entry = entries_of both.rest in
       let taken =
-      taken_run start keys Beside grows before (lone_at old clock) bytes both.mid.host.decoder fed.items fed.events
+      taken_run start keys Beside grows obey before (lone_at old clock) bytes both.mid.host.decoder fed.items fed.events
       (record { feeds = fed.feeds; stream = fed.stream; judged = fed.judged; may = fed.did.may }) (none_said past clock old chip_word chip_is rests) in
       let there : At Open (before ++ (came ++ first)) both.mid clock =
       subst (λ (l : List HostOut). At Open (before ++ (came ++ entries_of l)) both.mid clock) (sym fed.did.outs)
@@ -280,7 +291,7 @@ module _ (start : HostMachine) (keys : Keys) (Beside : Option (List (List ℕ)) 
 
   tick_part : (past : List Entry) (clock : ℕ) (old new : Place) (both : WithPump Ticks old new) → Rests0 past (lone_at old clock) → Part clock Ticks old new both past
   unfolding happens entries May
-  tick_part past clock old new both (awaits, (held, beside, run)) =
+  tick_part past clock old new both (awaits, (held, beside, run, rests)) =
       let h : HostState = old.host.state in
       let before : List Entry = past ++ Said tick_words ∷ [] in
       let outs : List HostOut = both.first ++ both.rest in
@@ -293,14 +304,21 @@ module _ (start : HostMachine) (keys : Keys) (Beside : Option (List (List ℕ)) 
       (added pumped.events both.mid new both.first both.rest pumped.did) in
       let pumps : pump_events (after_all h (tick_events h)) pumped.events = subst (λ (s : HostState). pump_events s pumped.events) first.state pumped.are in
       let (awaits', there) =
-      tick_one start keys Beside grows before (lone_at old clock) pumped.events 0 pumps did.may
-      (false, (held, beside, Turned (inr (1, refl, refl)) (Stepped (step.Says tick_words (lines.Tick 1)) (refl, refl, tick_is, refl) refl refl run))) in (
+      tick_one start keys Beside grows obey before (lone_at old clock) pumped.events 0 pumps did.may (
+        false,
+        (
+          held,
+          beside,
+          Turned (inr (1, refl, refl)) (Stepped (step.Says tick_words (lines.Tick 1)) (refl, refl, tick_is, refl) refl refl run),
+          rests_at obey before clock 1 h (ticks_line obey past awaits clock h rests tick_words 1 tick_is),
+        ),
+      ) in (
         Said tick_words ∷ timed (clock + 1) outs,
         refl,
         (
           awaits',
-          subst (λ (l : List Entry). replaying.At start keys Beside grows Resting 0 awaits' l (lone_at new (clock + 1))) (append_assoc past (Said tick_words ∷ []) (timed (clock + 1) outs))
-              (subst (λ (l : List HostOut). replaying.At start keys Beside grows Resting 0 awaits' (before ++ timed (clock + 1) l) (lone_at new (clock + 1))) (sym did.outs)
+          subst (λ (l : List Entry). replaying.At start keys Beside grows obey Resting 0 awaits' l (lone_at new (clock + 1))) (append_assoc past (Said tick_words ∷ []) (timed (clock + 1) outs))
+              (subst (λ (l : List HostOut). replaying.At start keys Beside grows obey Resting 0 awaits' (before ++ timed (clock + 1) l) (lone_at new (clock + 1))) (sym did.outs)
               (moved Resting (before ++ timed (clock + 1) (outs_all h (tick_events h ++ pumped.events))) (clock + 1) awaits' old new (tick_events h ++ pumped.events) outs did there)),
         ),
       )

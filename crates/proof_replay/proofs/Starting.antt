@@ -17,17 +17,25 @@ use Rattle.world_model.specs.State.{with_texts}
 use Rattle.world_model.specs.Events.{OpensFrom}
 use Rattle.port_run.specs.Steps.{Place, Step, Asks, Takes, Rests, Ticks, Pumps, AllRan}
 use Rattle.run_replay.specs.Machine.{Lone, entries_of}
+use Rattle.zw_words.specs.declared.side.Side.TheVariants.{Host}
 use Rattle.law_transcript.specs.Records.{KeepsRecords}
+use Rattle.law_wire.specs.Links.{KeepsLink}
+use Rattle.law_wire.specs.Serial.{ended}
 use Rattle.proof_requests.specs.law_host.Heard.{is_of_others}
+use Rattle.proof_requests.specs.proof_alone.Listening.{ListensAsTold}
 use Rattle.proof_requests.specs.proof_alone.State.{HostMachine, first_alone, host_machine}
 use Rattle.proof_requests.specs.proof_alone.Steps as step
 use Rattle.proof_requests.specs.proof_alone.Phases.{Phase, Asked, Open, Resting}
 use Rattle.proof_requests.specs.proof_alone.Runs.{Run}
 use Rattle.proof_requests.specs.proof_alone.Runs.Run.{Begins, Stepped}
-use Rattle.proof_asking.specs.proof_known.Known.{AreForHost, AreSaidToHost, IsSaidToHost}
+use Rattle.proof_asking.specs.proof_known.Known.{AreForHost, AreSaidToHost, IsSaidToHost, KnowsRecords}
 use Rattle.proof_asking.proofs.ForHost.{said_for_host}
-use Rattle.proof_replay.specs.HostSteps.{HaveHeard, HearsMore, HearsRun, Holds, IsRunSteps, restart_word}
-use Rattle.proof_replay.specs.Laws.{HostsKeepLaws}
+use Rattle.proof_replay.specs.HostSteps.{HaveHeard, HearsMore, HearsRun, Holds, IsRunSteps, StartsAfter, restart_word}
+use Rattle.proof_replay.specs.Laws.{HostsKeepLaws, KeepsFrom}
+use Rattle.proof_replay.specs.Linked.{KnowsLine, LineRests}
+use Rattle.proof_replay.proofs.Begun.{begun}
+use Rattle.proof_replay.proofs.From.{keeps_from}
+use Rattle.proof_replay.proofs.LineHeard.{HostsObey, first_rests, link_kept, open_kept, restart_line}
 use Rattle.proof_replay.proofs.Serving.{none_added, pump_part, restart_is, steps_go}
 use Rattle.proof_replay.proofs.Serving as serving
 use Rattle.proof_replay.proofs.Words.{never, run_said}
@@ -54,8 +62,9 @@ holds_last many (Some texts) held some agrees = agrees
 -- ---- the host that starts
 
 -- nothing was heard before, where the keeper holds nothing
-pub none_before : (keys : Keys) (number : ℕ) (told : Option (List (List ℕ))) → Holds number told (Some []) → HaveHeard keys number told []
-none_before keys number told holds = record { held = Some []; state = first_host keys; clock = 0; awaits = false; run = Begins; holds = holds; said = tt }
+pub none_before : HostsObey → (keys : Keys) (number : ℕ) (told : Option (List (List ℕ))) → Holds number told (Some []) → HaveHeard keys number told []
+none_before obey keys number told holds =
+    record { held = Some []; state = first_host keys; clock = 0; awaits = false; run = Begins; line = first_rests obey keys; holds = holds; said = tt }
 
 none_of : (records : List Record) → length records ≡ 0 → AreTextsOf records []
 none_of [] none = tt
@@ -92,23 +101,33 @@ kept_as_told keys whole heard told held agrees laws = record {
     records_kept = λ is. told_kept told held heard (agrees is) (laws.said.records_kept is);
   };
   notes = laws.notes;
+  opens = laws.opens;
   at_once = laws.at_once;
   in_turn = laws.in_turn;
   wakes = laws.wakes;
+  sleeps = laws.sleeps;
   holds = laws.holds;
   questions = laws.questions;
+  interviews = laws.interviews;
+  says_done = laws.says_done;
+  one_by_one = laws.one_by_one;
+  numbered = laws.numbered;
+  begins = laws.begins;
   ticks = laws.ticks;
   sends = laws.sends;
 }
 
-module _ (laws : (keys : Keys) (whole : Bool) (here : Phase) (heard : List Entry) (m : HostMachine) → Run (first_alone keys (Some [])) here heard m → (whole ≡ true → here ≡ Resting)
+module _ (laws : (keys : Keys) (whole : Bool) (here : Phase) (heard : List Entry) (m : HostMachine) → Run (first_alone keys (Some [])) here heard m → (whole ≡ true → (here ≡ Resting) × (m.left ≡ 0))
     → AreForHost heard → HostsKeepLaws keys whole heard m.records)
-    (keys : Keys) (number : ℕ) (told : Option (List (List ℕ))) (past : List Entry) (before : HaveHeard keys number told past) (place : Place) (opens : Opens keys number told place.host)
+    (recorded : (keys : Keys) (heard : List Entry) (m : HostMachine) → Run (first_alone keys (Some [])) Open heard m → IfSome m.records (KnowsRecords heard m.state))
+    (listening : (keys : Keys) (here : Phase) (heard : List Entry) (m : HostMachine) → Run (first_alone keys (Some [])) here heard m → ListensAsTold heard m.state)
+    (obey : HostsObey) (keys : Keys) (number : ℕ) (told : Option (List (List ℕ))) (past : List Entry) (before : HaveHeard keys number told past) (place : Place) (opens : Opens keys number told place.host)
     (adds : OptAdds told place.shelf.records []) where
   abbrev restarted : List Entry
   restarted = past ++ Said restart_word ∷ []
 
   started : (held : Option (List (List ℕ))) × Agrees place.shelf.records held × Run (first_alone keys (Some [])) Open restarted (host_machine keys held place.host.state [] before.clock 0 false)
+      × KnowsLine restarted before.clock 0 place.host.state
   started =
       let state : HostState = opened keys opens.records in
       let said : Run (first_alone keys (Some [])) (Asked lines.Restart) restarted (host_machine keys before.held before.state [] before.clock 0 false) =
@@ -118,7 +137,24 @@ module _ (laws : (keys : Keys) (whole : Bool) (here : Phase) (heard : List Entry
         before.held,
         subst (λ (r : Option (List (List ℕ))). Agrees r before.held) (sym (none_added told place.shelf.records adds)) (agrees_first number told before.held before.holds),
         subst (λ (h : HostParts). Run (first_alone keys (Some [])) Open restarted (host_machine keys before.held h.state [] before.clock 0 false)) (sym opens.state) there,
+        subst (λ (h : HostParts). KnowsLine restarted before.clock 0 h.state) (sym opens.state)
+            (restart_line obey past before.awaits before.clock before.state before.line restart_word state restart_is (obey.opened keys opens.records)),
       )
+
+  -- what stood before shows what the records give
+  starts_held : (held : Option (List (List ℕ))) (h : HostState) → ListensAsTold restarted h → IfSome held (KnowsRecords restarted h) → IfSome held (StartsAfter restarted)
+  starts_held None h listens knows = tt
+  starts_held (Some texts) h listens knows = begun past texts h knows listens
+
+  starts_told : (records held : Option (List (List ℕ))) → Agrees records held → IfSome held (StartsAfter restarted) → IfSome records (StartsAfter restarted)
+  starts_told None held agrees starts = tt
+  starts_told (Some texts) held agrees starts = subst (λ (o : Option (List (List ℕ))). IfSome o (StartsAfter restarted)) agrees starts
+
+  starts_so : IfSome place.shelf.records (StartsAfter restarted)
+  starts_so =
+      let (held, agrees, run, line) = started in
+      let m : HostMachine = host_machine keys held place.host.state [] before.clock 0 false in
+      starts_told place.shelf.records held agrees (starts_held held place.host.state (listening keys Open restarted m run) (recorded keys restarted m run))
 
   -- what was heard, after what had been
   all_heard : (heard : List Entry) → restarted ++ heard ≡ past ++ Said restart_word ∷ heard
@@ -127,29 +163,41 @@ module _ (laws : (keys : Keys) (whole : Bool) (here : Phase) (heard : List Entry
   all_said : (heard : List Entry) → AreSaidToHost heard → AreSaidToHost (past ++ Said restart_word ∷ heard)
   all_said heard said = all-append IsSaidToHost past (Said restart_word ∷ heard) before.said (ap is_of_others restart_is, said)
 
+  from_start : (whole : Bool) (heard : List Entry) (last : Place) → HostsKeepLaws keys whole (past ++ Said restart_word ∷ heard) last.shelf.records
+      → KeepsFrom keys restarted whole heard last.shelf.records
+  from_start whole heard last keeps =
+      keeps_from keys restarted whole heard last.shelf.records (subst (λ (l : List Entry). HostsKeepLaws keys whole l last.shelf.records) (sym (all_heard heard)) keeps)
+
   abbrev Rested : List Entry → Lone → Type 0
-  Rested all m = serving.Rests0 (first_alone keys (Some [])) keys Agrees agrees_on all m
+  Rested all m = serving.Rests0 (first_alone keys (Some [])) keys Agrees agrees_on obey all m
 
   hears_so : (whole : Bool) (steps : List Step) (last : Place) (heard : List Entry) (m : Lone) → IsRunSteps whole steps → HearsRun before.clock steps place last heard
       → Rested (restarted ++ heard) m → (whole ≡ true → m.records ≡ last.shelf.records) → HearsMore keys past before.clock whole steps place last
   hears_so whole steps last heard m orderly hears rests records =
-      let (awaits, (held, agrees, run)) = rests in
+      let (awaits, (held, agrees, run, rest)) = rests in
+      let line : LineRests (past ++ Said restart_word ∷ heard) awaits m.clock 0 m.host.state =
+      subst (λ (l : List Entry). LineRests l awaits m.clock 0 m.host.state) (all_heard heard) rest in
       let all : Run (first_alone keys (Some [])) Resting (past ++ Said restart_word ∷ heard) (host_machine keys held m.host.state [] m.clock 0 awaits) =
       subst (λ (l : List Entry). Run (first_alone keys (Some [])) Resting l (host_machine keys held m.host.state [] m.clock 0 awaits)) (all_heard heard) run in
       let said : AreSaidToHost (past ++ Said restart_word ∷ heard) = all_said heard (run_said before.clock whole steps place last heard orderly hears) in
+      let keeps : HostsKeepLaws keys whole (past ++ Said restart_word ∷ heard) last.shelf.records =
+      kept_as_told keys whole (past ++ Said restart_word ∷ heard) last.shelf.records held (λ is. subst (λ (r : Option (List (List ℕ))). Agrees r held) (records is) agrees)
+      (laws keys whole Resting (past ++ Said restart_word ∷ heard) (host_machine keys held m.host.state [] m.clock 0 awaits) all (λ is. (refl, refl))
+      (said_for_host (past ++ Said restart_word ∷ heard) said)) in
       record {
         heard = heard;
         hears = hears;
-        keeps =
-            kept_as_told keys whole (past ++ Said restart_word ∷ heard) last.shelf.records held (λ is. subst (λ (r : Option (List (List ℕ))). Agrees r held) (records is) agrees)
-            (laws keys whole Resting (past ++ Said restart_word ∷ heard) (host_machine keys held m.host.state [] m.clock 0 awaits) all (λ is. refl)
-            (said_for_host (past ++ Said restart_word ∷ heard) said));
+        keeps = keeps;
+        starts = starts_so;
+        from = from_start whole heard last keeps;
+        link = link_kept obey whole (past ++ Said restart_word ∷ heard) awaits m.clock m.host.state line;
         next = λ is many some. record {
           held = held;
           state = m.host.state;
           clock = m.clock;
           awaits = awaits;
           run = all;
+          line = line;
           holds = holds_last many last.shelf.records held some (subst (λ (r : Option (List (List ℕ))). Agrees r held) (records is) agrees);
           said = said;
         };
@@ -158,22 +206,26 @@ module _ (laws : (keys : Keys) (whole : Bool) (here : Phase) (heard : List Entry
   pub hears_more : (whole : Bool) (steps : List Step) (last : Place) (outs : List HostOut) → IsRunSteps whole steps → AllRan steps place last outs
       → HearsMore keys past before.clock whole steps place last
   hears_more whole [] last outs none ran =
-      let (held, agrees, run) = started in
+      let (held, agrees, run, line) = started in
       let all : Run (first_alone keys (Some [])) Open (past ++ Said restart_word ∷ []) (host_machine keys held place.host.state [] before.clock 0 false) = run in
+      let keeps : HostsKeepLaws keys whole (past ++ Said restart_word ∷ []) last.shelf.records =
+      kept_as_told keys whole (past ++ Said restart_word ∷ []) last.shelf.records held (λ is. absurd (never (sym none ∙ is)))
+      (laws keys whole Open (past ++ Said restart_word ∷ []) (host_machine keys held place.host.state [] before.clock 0 false) all (λ is. absurd (never (sym none ∙ is)))
+      (said_for_host (past ++ Said restart_word ∷ []) (all_said [] tt))) in
       record {
         heard = [];
         hears = (ran.0, refl);
-        keeps =
-            kept_as_told keys whole (past ++ Said restart_word ∷ []) last.shelf.records held (λ is. absurd (never (sym none ∙ is)))
-            (laws keys whole Open (past ++ Said restart_word ∷ []) (host_machine keys held place.host.state [] before.clock 0 false) all (λ is. absurd (never (sym none ∙ is)))
-            (said_for_host (past ++ Said restart_word ∷ []) (all_said [] tt)));
+        keeps = keeps;
+        starts = starts_so;
+        from = from_start whole [] last keeps;
+        link = subst (λ (b : Bool). KeepsLink Host (ended b (past ++ Said restart_word ∷ []))) (sym none) (open_kept obey restarted before.clock 0 place.host.state line);
         next = λ is many some. absurd (never (sym none ∙ is));
       }
   hears_more whole (Pumps ∷ steps) last outs orderly (mid, first, later, pumped, more, are) =
       let start = first_alone keys (Some []) in
       let (heard, hears, m, rests, records) =
-      steps_go start keys Agrees agrees_on whole steps (restarted ++ entries_of first) before.clock mid last later orderly more
-      (pump_part start keys Agrees agrees_on restarted before.clock place mid first pumped started) in
+      steps_go start keys Agrees agrees_on obey whole steps (restarted ++ entries_of first) before.clock mid last later orderly more
+      (pump_part start keys Agrees agrees_on obey restarted before.clock place mid first pumped started) in
       hears_so whole (Pumps ∷ steps) last (entries_of first ++ heard) m orderly (mid, first, heard, pumped, hears, refl)
       (subst (λ (l : List Entry). Rested l m) (append_assoc restarted (entries_of first) heard) rests) records
   hears_more whole (Asks line answer ∷ steps) last outs orderly ran = absurd orderly

@@ -1,8 +1,9 @@
 -- No line that the hosts of `replay` and `host` hear is for others.
-use Rattle.std.proofs.Common.{◌≡◌, ℕ, ◌+◌, Bool, true, false, List, [], ◌∷◌, ◌++◌, refl, sym, ap, ◌∙◌, subst}
+use Rattle.std.proofs.Common.{◌≡◌, ℕ, ◌+◌, Bool, true, false, List, [], ◌∷◌, ◌++◌, drop, length, refl, sym, ap, ◌∙◌, subst}
 use Rattle.std.specs.List.{flat_map}
 use Rattle.zw_base.proofs.Each.{all-append}
-use Rattle.serial_frame.specs.declared.unit.Unit.{Unit as LineUnit}
+use Rattle.serial_frame.specs.declared.item.Item.{Item}
+use Rattle.serial_frame.specs.declared.item.Item.TheVariants.{Good, Refused as refused_item}
 use Rattle.zw_text.specs.Line.{first_word, is_replayed}
 use Rattle.zw_text.specs.Transcript.{line_of}
 use Rattle.zw_text.specs.declared.line.Line.{Line}
@@ -21,7 +22,6 @@ use Rattle.host_model.specs.declared.out.HostOut.TheVariants.{Note, Write}
 use Rattle.port_run.specs.Lines.{is_served}
 use Rattle.port_run.specs.Steps.{Place, Step, Asks, Takes, Rests, Ticks, Pumps, Ran, asked_by}
 use Rattle.port_run.specs.declared.asking.Answer.TheVariants.{Taken, Command, Refused}
-use Rattle.proof_serial.specs.Units.{good_units}
 use Rattle.proof_device.proofs.HostOuts.{OutIs}
 use Rattle.proof_attempts.specs.proof_walk.Outside.{IsHostNote}
 use Rattle.proof_attempts.proofs.HostNotes.{NoteOuts, all_outs_note}
@@ -30,7 +30,7 @@ use Rattle.run_replay.specs.Machine.{Lone, Event, entries, entries_of, happens, 
 use Rattle.run_replay.specs.Machine as replay
 use Rattle.proof_asking.specs.proof_known.Known.{AreSaidToHost, IsSaidToHost}
 use Rattle.proof_asking.proofs.Events.{answers_are}
-use Rattle.proof_replay.specs.Heard.{AreReplayed, Replayed, came_of, heard_all, heard_at, heard_of, plain_of}
+use Rattle.proof_replay.specs.Heard.{AreReplayed, Replayed, came_as, came_of, heard_all, heard_at, heard_of, item_text, plain_of}
 use Rattle.proof_replay.specs.HostSteps.{AreOrderly, HearsPart, HearsRun, HearsSteps, IsPumpedStep, IsRunSteps, WithPump}
 use Rattle.proof_replay.proofs.Serving.{chip_is, tick_is}
 
@@ -55,9 +55,15 @@ timed_said : (tick : ℕ) (puts : List HostOut) → NoteOuts puts → AreSaidToH
 timed_said tick [] notes = tt
 timed_said tick (one ∷ puts) notes = (refl, outs_said (one ∷ puts) notes)
 
-came_said : (units : List LineUnit) → AreSaidToHost (came_of units)
-came_said [] = tt
-came_said (unit ∷ units) = (refl, came_said units)
+came_said : (items : List Item) (stream : List ℕ) → AreSaidToHost (came_of items stream)
+came_said [] stream = tt
+came_said (item ∷ items) stream =
+    all-append IsSaidToHost (came_as item (item_text item stream)) (came_of items (drop (length (item_text item stream)) stream)) (by item (item_text item stream))
+    (came_said items (drop (length (item_text item stream)) stream))
+  where
+    by : (item : Item) (text : List ℕ) → AreSaidToHost (came_as item text)
+    by (Good unit) text = (refl, tt)
+    by (refused_item refusal) text = (refl, (refl, tt))
 
 answers_said : (h : HostState) (event : HostEvent) → AreSaidToHost (answers h event)
 answers_said h event = answers_are IsSaidToHost (record { accepted = λ command node. refl; taken_back = λ command. refl }) h event
@@ -74,7 +80,7 @@ event_said m (replay.Does_itself events) = all_said m.host.state events
 event_said m (replay.Does_asked event) =
     all-append IsSaidToHost (entries_of (outs_all m.host.state (event ∷ []))) (answers m.host.state event) (all_said m.host.state (event ∷ [])) (answers_said m.host.state event)
 event_said m (replay.Takes bytes rest items events) =
-    all-append IsSaidToHost (came_of (good_units items)) (entries_of (outs_all m.host.state events)) (came_said (good_units items)) (all_said m.host.state events)
+    all-append IsSaidToHost (came_of items (m.host.decoder.bytes ++ bytes)) (entries_of (outs_all m.host.state events)) (came_said items (m.host.decoder.bytes ++ bytes)) (all_said m.host.state events)
 event_said m (replay.Ticks events) = timed_said (m.clock + 1) (outs_all m.host.state events) (all_outs_note m.host.state events)
 event_said m (replay.Refuses line refusal) = (refl, tt)
 event_said m (replay.Shows_values node) = (refl, tt)
@@ -131,11 +137,11 @@ part_said clock (Asks line Taken) old new both part pumped hears =
 part_said clock (Asks line (Command number)) old new both part pumped hears =
     asked_said line old.host.state (entries_of both.rest) part pumped.2 (pumped_said both.mid new both.rest both.pumped) hears
 part_said clock (Takes bytes) old new both part pumped hears =
-    let came : List Entry = came_of (good_units both.ran.items) in
+    let came : List Entry = came_of both.ran.items (old.host.decoder.bytes ++ bytes) in
     let first = outs_said both.first (subst NoteOuts (sym both.ran.did.outs) (all_outs_note old.host.state both.ran.events)) in
     subst AreSaidToHost (sym hears) (
       ap is_of_others chip_is,
-      all-append IsSaidToHost came (entries_of both.first ++ entries_of both.rest) (came_said (good_units both.ran.items))
+      all-append IsSaidToHost came (entries_of both.first ++ entries_of both.rest) (came_said both.ran.items (old.host.decoder.bytes ++ bytes))
           (all-append IsSaidToHost (entries_of both.first) (entries_of both.rest) first (pumped_said both.mid new both.rest both.pumped)),
     )
 part_said clock Ticks old new both part pumped hears =

@@ -1,15 +1,16 @@
--- Lines of `replay` as they are said, one after another, and what its host hears of them (this project's own rule): the units that came whole stand before what is made of them.
-use Rattle.std.specs.Prelude.{◌≡◌, ℕ, List, [], ◌∷◌, ◌++◌, map}
+-- Lines of `replay` as they are said, one after another, and what its host hears of them (this project's own rule): what came stands before what is made of it.
+use Rattle.std.specs.Prelude.{◌≡◌, ℕ, List, [], ◌∷◌, ◌++◌, drop, length, take}
 use Rattle.serial_frame.specs.Items.{unit_text}
-use Rattle.serial_frame.specs.declared.unit.Unit.{Unit as LineUnit}
+use Rattle.serial_frame.specs.declared.item.Item.{Item}
+use Rattle.serial_frame.specs.declared.item.Item.TheVariants.{Good, Refused}
+use Rattle.serial_frame.specs.declared.item.Refusal.TheVariants.{BadLength, Stray}
 use Rattle.zw_words.specs.declared.side.Side.TheVariants as side
 use Rattle.zw_text.specs.declared.line.Line.{Line}
 use Rattle.zw_text.specs.declared.line.ReplayLine.{ReplayLine}
 use Rattle.zw_text.specs.declared.line.ReplayLine.TheVariants.{Plain, Chip}
 use Rattle.zw_text.specs.declared.entry.Entry.{Entry}
-use Rattle.zw_text.specs.declared.entry.Entry.TheVariants.{Said, Written}
+use Rattle.zw_text.specs.declared.entry.Entry.TheVariants.{Garbled, Said, Written}
 use Rattle.zw_text.specs.Transcript.{line_of}
-use Rattle.proof_serial.specs.Units.{good_units}
 use Rattle.run_lines.specs.Lines.{TextLine}
 use Rattle.run_lines.specs.Pieces.{said_text}
 use Rattle.run_replay.specs.Machine.{Lone, Event, Takes, MayAll, entries, entries_all, happens, happens_all}
@@ -17,11 +18,25 @@ use Rattle.run_replay.specs.Lines.{IsLine, IsReplayed}
 
 -- ---- what is heard
 
-abbrev pub came_of : List LineUnit → List Entry
-came_of units = map (λ unit. Written side.Chip (unit_text unit)) units
+-- the bytes of the item with which a stream begins: of a frame that is refused, as many as its length says
+abbrev pub item_text : Item → List ℕ → List ℕ
+item_text (Good unit) stream = unit_text unit
+item_text (Refused (Stray byte)) stream = byte ∷ []
+item_text (Refused (BadLength count)) stream = 1 ∷ count ∷ []
+item_text (Refused refusal) (first ∷ count ∷ more) = first ∷ count ∷ take count more
+item_text (Refused refusal) stream = []
+
+-- a unit that came whole; of what is refused, that it did not
+abbrev pub came_as : Item → List ℕ → List Entry
+came_as (Good unit) text = Written side.Chip text ∷ []
+came_as (Refused refusal) text = Written side.Chip text ∷ Garbled side.Chip text ∷ []
+
+abbrev pub came_of : List Item → List ℕ → List Entry
+came_of [] stream = []
+came_of (item ∷ items) stream = came_as item (item_text item stream) ++ came_of items (drop (length (item_text item stream)) stream)
 
 abbrev pub heard_at : Lone → Event → List Entry
-heard_at m (Takes bytes rest items events) = came_of (good_units items) ++ entries m (Takes bytes rest items events)
+heard_at m (Takes bytes rest items events) = came_of items (m.host.decoder.bytes ++ bytes) ++ entries m (Takes bytes rest items events)
 heard_at m event = entries m event
 
 abbrev pub heard_all : Lone → List Event → List Entry
@@ -62,7 +77,7 @@ lone_after m (said ∷ more) = lone_after (happens_all m said.events) more
 
 -- ---- texts that ran
 
--- what is entered of them: the same without those units
+-- what is entered of them: the same without what came
 abbrev pub told_of : Lone → List Replayed → List Entry
 told_of m [] = []
 told_of m (said ∷ more) = Said said.words ∷ (entries_all m said.events ++ told_of (happens_all m said.events) more)

@@ -1,9 +1,10 @@
 -- What the host of `host` hears at its steps (this project's own rule). A line is its words, and one that was refused has its refusal. Bytes that were read are
--- the word `chip`, which is no line, and the units that came whole in them; a tick is a line `tick 1`; and a start from records is a line `restart` after what
+-- the word `chip`, which is no line, and what came in them; a tick is a line `tick 1`; and a start from records is a line `restart` after what
 -- hosts heard before.
-use Rattle.std.specs.Prelude.{◌≡◌, ℕ, ◌+◌, Bool, true, false, List, [], ◌∷◌, ◌++◌, codes, Option, Some, None, IsSome}
+use Rattle.std.specs.Prelude.{◌≡◌, ℕ, ◌+◌, Bool, true, false, List, [], ◌∷◌, ◌++◌, codes, Option, Some, None, IfSome, IsSome}
 use Rattle.std.specs.List.{flat_map}
 use Rattle.s0_crypto.specs.declared.key_pair.Keys.{Keys}
+use Rattle.zw_words.specs.declared.side.Side.TheVariants.{Host}
 use Rattle.zw_text.specs.Line.{first_word}
 use Rattle.zw_text.specs.Transcript.{line_of}
 use Rattle.zw_text.specs.declared.line.Line.{Line}
@@ -14,20 +15,24 @@ use Rattle.zw_text.specs.declared.entry.Refusal.{Refusal}
 use Rattle.host_model.specs.State.{HostState}
 use Rattle.host_model.specs.Outs.{answers}
 use Rattle.host_model.specs.declared.out.HostOut.{HostOut}
+use Rattle.law_wire.specs.Links.{KeepsLink}
+use Rattle.law_wire.specs.Serial.{ended}
 use Rattle.port_run.specs.Lines.{is_served}
 use Rattle.port_run.specs.Steps.{Place, Step, Asks, Takes, Rests, Ticks, Pumps, Ran, asked_by}
 use Rattle.port_run.specs.declared.asking.Answer.TheVariants.{Refused}
 use Rattle.port_run.specs.declared.line.PortLine.{PortLine}
 use Rattle.port_run.specs.declared.line.PortLine.TheVariants.{Plain, Wait}
-use Rattle.proof_serial.specs.Units.{good_units}
 use Rattle.world_model.specs.Refusals.{IsRefused}
 use Rattle.run_replay.specs.Machine.{Lone, alone, entries_of, timed}
+use Rattle.proof_requests.specs.law_host.Notes.{Start}
+use Rattle.proof_requests.specs.law_host.Starting.{StartsFrom}
 use Rattle.proof_requests.specs.proof_alone.State.{first_alone, host_machine}
 use Rattle.proof_requests.specs.proof_alone.Phases.{Resting}
 use Rattle.proof_requests.specs.proof_alone.Runs.{Run}
 use Rattle.proof_asking.specs.proof_known.Known.{AreSaidToHost}
 use Rattle.proof_replay.specs.Heard.{came_of}
-use Rattle.proof_replay.specs.Laws.{HostsKeepLaws}
+use Rattle.proof_replay.specs.Linked.{LineRests}
+use Rattle.proof_replay.specs.Laws.{HostsKeepLaws, KeepsFrom}
 
 -- ---- words
 
@@ -71,7 +76,7 @@ HearsPart clock (Asks line Refused) old new both part =
 HearsPart clock (Asks line answer) old new both part =
     (words : List ℕ) × (line_of (Said words) ≡ line ∷ []) × (part ≡ Said words ∷ (flat_map (answers old.host.state) (asked_by old.host.state line) ++ entries_of both.rest))
 HearsPart clock (Takes bytes) old new both part =
-    part ≡ Said chip_word ∷ (came_of (good_units both.ran.items) ++ (entries_of both.first ++ entries_of both.rest))
+    part ≡ Said chip_word ∷ (came_of both.ran.items (old.host.decoder.bytes ++ bytes) ++ (entries_of both.first ++ entries_of both.rest))
 HearsPart clock Ticks old new both part = part ≡ Said tick_words ∷ timed (clock + 1) (both.first ++ both.rest)
 HearsPart clock Rests old new both part = ⊥
 HearsPart clock Pumps old new both part = ⊥
@@ -118,6 +123,12 @@ IsRunSteps whole [] = whole ≡ false
 IsRunSteps whole (Pumps ∷ steps) = AreOrderly whole steps
 IsRunSteps whole (step ∷ steps) = ⊥
 
+-- ---- starts
+
+-- a host that starts from these records does so after these entries, which show what they give
+abbrev pub StartsAfter : List Entry → List (List ℕ) → Type 0
+StartsAfter before texts = (start : Start) × StartsFrom texts start × (start.before ≡ before)
+
 -- ---- hosts before
 
 -- a keeper that holds so many records tells these; or it tells none, and holds none
@@ -126,20 +137,24 @@ Holds number None held = (number ≡ 0) × (held ≡ Some [])
 Holds number (Some texts) held = held ≡ Some texts
 
 -- Hosts with these keys have heard this, in earlier runs, over a keeper that holds so many records now and tells these; so many ticks have passed. The last
--- one was at rest, and no line was for others.
+-- one was at rest, their links have kept the rules, and no line was for others.
 pub record HaveHeard (keys : Keys) (number : ℕ) (told : Option (List (List ℕ))) (past : List Entry) : Type 0 where
   pub held : Option (List (List ℕ))
   pub state : HostState
   pub clock : ℕ
   pub awaits : Bool
   pub run : Run (first_alone keys (Some [])) Resting past (host_machine keys held state [] clock 0 awaits)
+  pub line : LineRests past awaits clock 0 state
   pub holds : Holds number told held
   pub said : AreSaidToHost past
 
--- From its start a host did these steps and heard this, and over what hosts have heard by now these laws hold. Where it came to rest, and its keeper tells
--- its records, hosts have heard all that when the next one starts.
+-- From its start a host did these steps and heard this, and over what hosts have heard by now these laws hold, and their links kept the rules. What it heard itself keeps laws
+-- from what stood before, up to its start; that shows what its keeper's records give, where it tells them. Where it came to rest, and its keeper tells its records, hosts have heard all that when the next one starts.
 pub record HearsMore (keys : Keys) (past : List Entry) (clock : ℕ) (whole : Bool) (steps : List Step) (old new : Place) : Type 0 where
   pub heard : List Entry
   pub hears : HearsRun clock steps old new heard
   pub keeps : HostsKeepLaws keys whole (past ++ Said restart_word ∷ heard) new.shelf.records
+  pub link : KeepsLink Host (ended whole (past ++ Said restart_word ∷ heard))
+  pub starts : IfSome old.shelf.records (StartsAfter (past ++ Said restart_word ∷ []))
+  pub from : KeepsFrom keys (past ++ Said restart_word ∷ []) whole heard new.shelf.records
   pub next : whole ≡ true → (many : ℕ) → IsSome new.shelf.records → HaveHeard keys many new.shelf.records (past ++ Said restart_word ∷ heard)

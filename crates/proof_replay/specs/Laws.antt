@@ -1,16 +1,28 @@
 -- What a host keeps true over all that it heard, whatever that was (this project's own rule).
-use Rattle.std.specs.Prelude.{◌≡◌, ℕ, Bool, true, List, [], Option, Some}
+use Rattle.std.specs.Prelude.{◌≡◌, ℕ, Bool, true, false, List, [], ◌++◌, Option, Some, IfSome}
+use Rattle.zw_words.specs.declared.side.Side.TheVariants.{Host}
 use Rattle.zw_text.specs.declared.line.ReplayLine.{ReplayLine}
 use Rattle.zw_text.specs.declared.entry.Entry.{Entry}
 use Rattle.s0_crypto.specs.declared.key_pair.Keys.{Keys}
 use Rattle.host_core.specs.Network.{keys_of}
 use Rattle.host_keep.specs.Keeping.{OptAdds}
+use Rattle.law_transcript.specs.Answers.{AnswersAfter, MayCancel, refusals_by_host}
 use Rattle.law_transcript.specs.Lists.{EachAfter}
-use Rattle.law_transcript.specs.Payloads.{SendsWhatIsDue}
+use Rattle.law_transcript.specs.Once.{CarriesOnce}
+use Rattle.law_transcript.specs.Payloads.{BeginsWithUnit, MayRequest, SendsWhatIsDue}
+use Rattle.law_transcript.specs.Records.{KeepsRecords}
+use Rattle.law_transcript.specs.Sessions.{MayBegin}
+use Rattle.law_transcript.specs.Stores.{StoresConfirmed}
 use Rattle.proof_requests.specs.law_host.Heard.{listing_heard}
+use Rattle.proof_requests.specs.law_host.HostLegal.{ShowsValues}
+use Rattle.law_time.specs.Choice.{NumbersCallbacks, SendsOneByOne}
+use Rattle.law_time.specs.Errands.{SaysHowDone}
+use Rattle.law_wire.specs.Links.{KeepsLink}
+use Rattle.law_wire.specs.Serial.{ended}
 use Rattle.law_time.specs.Holds.{HoldsAsAsked}
+use Rattle.law_time.specs.Interviews.{EndsInterviews}
 use Rattle.law_time.specs.Questions.{AnswersQuestions}
-use Rattle.law_time.specs.Waking.{WakesAsTold}
+use Rattle.law_time.specs.Waking.{FallsAsleep, WakesAsTold}
 use Rattle.run_lines.specs.Lines.{TextLine}
 use Rattle.run_replay.specs.Machine.{Lone}
 use Rattle.proof_host.specs.Laws.{HostLaws}
@@ -19,16 +31,20 @@ use Rattle.proof_requests.specs.proof_alone.State.{HostMachine, first_alone}
 use Rattle.proof_requests.specs.proof_alone.Phases.{Resting}
 use Rattle.proof_requests.specs.proof_alone.Runs.{Run}
 use Rattle.proof_asking.specs.proof_known.Known.{AreForHost, KeepsWhatIsSaid}
-use Rattle.proof_asking.specs.proof_known.Noted.{NotesAtOnce, NotesInTurn, NotesWhatWasTold}
+use Rattle.proof_asking.specs.proof_known.Noted.{NotesAtOnce, NotesInTurn, NotesWhatOpens, NotesWhatWasTold}
 use Rattle.proof_replay.specs.Heard.{AreReplayed, AreSaid, Replayed, heard_of, told_of}
 
 -- One field a law. Orders, sessions and outcomes keep their laws.
 -- Each line has its answer; what is taken back, carried, stored and shown is so, and the records, where they are told, say what is shown.
--- A command ends, and values, old reports and what cannot be read are noted, only where a payload of the node was judged that tells it.
+-- A command ends, and values, old reports and what cannot be read are noted, only where a payload of the node was judged that tells it; what is sealed, in what it opens to.
 -- What cannot be read, a value and that a node is awake are noted at once, where a payload has them first; and all values that are told openly, in order.
 -- A node is taken to be awake where it tells so, and wherever it does.
+-- It falls asleep where its third attempt, or telling it that there is no more for it, has ended, and wherever one of these has.
 -- It is held awake where the report that ends its session may ask so, and wherever it does.
 -- The answers to questions stand where the first response to the last request was judged, and wherever it was.
+-- An interview is said to have succeeded or failed where its request ended so, and wherever a frame ended it; and so it is said how a Set or Get that a line asked for ended.
+-- A request that is new is sent, and a session begins, only where the last request is over; and each message has the callback id after that of the last one.
+-- Directly after a session that begins stands the unit that asks to send to its node.
 -- The number of a tick is above those before it, and lines have asked for so many ticks.
 -- Each payload that it asks its chip to send is a message of the last session of its node, by what the node listed, a nonce or a question for one, lets the node sleep, or was
 -- asked for by a line; where its keys are those of a network key, by what nodes told openly or sealed with that key.
@@ -36,26 +52,47 @@ pub record HostsKeepLaws (keys : Keys) (whole : Bool) (heard : List Entry) (reco
   pub orders : HostLaws heard
   pub said : KeepsWhatIsSaid whole heard records
   pub notes : NotesWhatWasTold heard
+  pub opens : NotesWhatOpens keys heard
   pub at_once : NotesAtOnce whole heard
   pub in_turn : NotesInTurn whole heard
   pub wakes : WakesAsTold heard
+  pub sleeps : FallsAsleep whole heard
   pub holds : HoldsAsAsked heard
   pub questions : AnswersQuestions heard
+  pub interviews : EndsInterviews heard
+  pub says_done : (key : List ℕ) → keys ≡ keys_of key → SaysHowDone listing_heard heard
+  pub one_by_one : SendsOneByOne heard
+  pub numbered : NumbersCallbacks heard
+  pub begins : BeginsWithUnit (ended whole heard)
   pub ticks : EachAfter MayCount [] heard
   pub sends : (key : List ℕ) → keys ≡ keys_of key → SendsWhatIsDue listing_heard key heard
 
--- A run of a host alone that began without records tells this, and ends at rest; none of its lines is for others; and the keeper holds what it held and the records
--- of that run, where it tells them.
+-- Of a host that starts with records, after what stood before: the fields of `IsHostLegal` that are proved of it, but for its link, whose rules are kept over all that
+-- stood. It goes by what nodes listed in their interviews, and by the whole of what it heard; where its keys are those of a network key, this key.
+pub record KeepsFrom (keys : Keys) (before : List Entry) (whole : Bool) (heard : List Entry) (records : Option (List (List ℕ))) : Type 0 where
+  pub answers : AnswersAfter before whole listing_heard (refusals_by_host listing_heard) heard
+  pub cancels : EachAfter MayCancel before heard
+  pub sessions : EachAfter MayBegin before heard
+  pub carries : (node : ℕ) → CarriesOnce node (before ++ heard)
+  pub stores : StoresConfirmed whole listing_heard (before ++ heard)
+  pub values : EachAfter (ShowsValues listing_heard) before (ended whole heard)
+  pub sends : (key : List ℕ) → keys ≡ keys_of key → EachAfter (MayRequest listing_heard key) before heard
+  pub records_kept : whole ≡ true → IfSome records (KeepsRecords (before ++ heard))
+
+-- A run of a host alone that began without records tells this, and ends at rest with no tick to come; none of its lines is for others; and the keeper holds what it held and the records
+-- of that run, where it tells them. The host's link kept the rules of the line.
 pub record IsHeardAlone (keys : Keys) (before after : Option (List (List ℕ))) (heard : List Entry) : Type 0 where
   pub last : HostMachine
   pub added : List (List ℕ)
   pub run : Run (first_alone keys (Some [])) Resting heard last
+  pub over : last.left ≡ 0
   pub for_host : AreForHost heard
   pub tells : last.records ≡ Some added
   pub adds : OptAdds before after added
+  pub link : KeepsLink Host (ended true heard)
 
--- Lines were run whole, and this transcript tells them. Over what the host heard of them, with the units that came, it keeps these laws, and the records are those that
--- were added to what the keeper had.
+-- Lines were run whole, and this transcript tells them. Over what the host heard of them, with what came, it keeps these laws, and its link the rules of the line; and the
+-- records are those that were added to what the keeper had.
 pub record HearsLines (keys : Keys) (lines : List (TextLine ReplayLine)) (old new : Lone) (transcript : List Entry) : Type 0 where
   pub story : List Replayed
   pub said : AreSaid lines story
@@ -64,3 +101,4 @@ pub record HearsLines (keys : Keys) (lines : List (TextLine ReplayLine)) (old ne
   pub added : List (List ℕ)
   pub adds : OptAdds old.records new.records added
   pub keeps : HostsKeepLaws keys true (heard_of old story) (Some added)
+  pub link : KeepsLink Host (ended true (heard_of old story))

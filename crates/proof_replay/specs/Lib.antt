@@ -1,4 +1,5 @@
 pub mod Heard
+pub mod Linked
 pub mod Laws
 pub mod HostSteps
 pub use Rattle.proof_requests.specs as proof_requests

@@ -15,6 +15,9 @@ ghost use Rattle.port_run.specs.Schedule.{CutRun, RunSteps, is_quiet};
 ghost use Rattle.proof_replay.specs.HostSteps.{HaveHeard, HearsMore, Holds, IsRunSteps, IsServedLine};
 
 use crate::replay::hosts_keep_laws;
+use proof_asking::known::hosts_record_what_is_shown;
+use proof_requests::alone::traffic::hosts_obey_the_line;
+use proof_requests::hosts_listen_as_told;
 
 /// Where a keeper holds nothing, no host has heard anything. A host that starts from the records that earlier ones left is told by a run of a host alone
 /// that goes on from what they heard, so it keeps the laws of hosts over all that. The steps of lines come as this needs, where they were cut short too.
@@ -29,4 +32,7 @@ pub fn served_steps_are_heard()
         CutRun is_quiet lines stop steps → IsRunSteps false steps }
 {
     hosts_keep_laws();
+    hosts_record_what_is_shown();
+    hosts_listen_as_told();
+    hosts_obey_the_line();
 }

@@ -17,14 +17,15 @@ ghost use Rattle.proof_asking.specs.proof_known.Known.{AreForHost};
 ghost use Rattle.proof_replay.specs.Heard.{AreReplayed, IsReadSo, Replayed, heard_of, lone_after};
 ghost use Rattle.proof_replay.specs.Laws.{HearsLines, HostsKeepLaws, IsHeardAlone};
 
-use proof_asking::hosts_send_what_is_due;
 use proof_asking::known::waking::hosts_wake_as_told;
 use proof_asking::known::{
     hosts_do_as_is_said, hosts_note_at_once, hosts_note_values_in_turn, hosts_note_what_was_told,
 };
-use proof_attempts::hosts_hold_as_asked;
+use proof_asking::{hosts_say_how_done, hosts_send_what_is_due};
+use proof_attempts::{hosts_fall_asleep_as_told, hosts_hold_as_asked};
+use proof_requests::alone::traffic::hosts_obey_the_line;
 use proof_requests::alone::{hosts_keep_their_tables, hosts_tell_time};
-use proof_requests::{hosts_answer_questions, hosts_listen_as_told};
+use proof_requests::{hosts_answer_questions, hosts_ask_one_by_one, hosts_end_interviews};
 
 /// Of any lines that are run whole, over any bytes and any keeper, what the host of `replay` heard is told by a run of a host alone that began without
 /// records and ends at rest. No line reads the records, so those of that run are added to what the keeper had.
@@ -32,12 +33,14 @@ pub fn replays_are_a_hosts()
     ensures { (key : List ℕ) (records : Option (List (List ℕ))) (lines : List Replayed) → AreReplayed (lone_of (first_replay key) records) lines →
         IsHeardAlone (keys_of key) records (lone_after (lone_of (first_replay key) records) lines).records
         (heard_of (lone_of (first_replay key) records) lines) }
-{}
+{
+    hosts_obey_the_line();
+}
 
 /// A host alone that begins without records keeps these laws, over a keeper that tells its records, where no line is refused that is for others.
 pub fn hosts_keep_laws()
     ensures { (keys : Keys) (whole : Bool) (here : Phase) (heard : List Entry) (m : HostMachine) → Run (first_alone keys (Some [])) here heard m →
-        (whole ≡ true → here ≡ Resting) → AreForHost heard → HostsKeepLaws keys whole heard m.records }
+        (whole ≡ true → (here ≡ Resting) × (m.left ≡ 0)) → AreForHost heard → HostsKeepLaws keys whole heard m.records }
 {
     hosts_keep_their_tables();
     hosts_do_as_is_said();
@@ -46,10 +49,13 @@ pub fn hosts_keep_laws()
     hosts_note_values_in_turn();
     hosts_tell_time();
     hosts_wake_as_told();
-    hosts_listen_as_told();
+    hosts_fall_asleep_as_told();
     hosts_hold_as_asked();
     hosts_send_what_is_due();
     hosts_answer_questions();
+    hosts_end_interviews();
+    hosts_say_how_done();
+    hosts_ask_one_by_one();
 }
 
 /// So the host of `replay` keeps them over what it heard of any texts that were run whole, each of which is read as its line by its words too, whatever its

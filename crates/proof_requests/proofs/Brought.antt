@@ -20,7 +20,7 @@ use Rattle.host_requests.specs.declared.next.Next.TheVariants.{Ends, GoesOn as g
 use Rattle.host_requests.specs.declared.under_way.UnderWay.{UnderWay}
 use Rattle.host_model.specs.State.{HostState}
 use Rattle.host_model.specs.After.{after}
-use Rattle.host_model.specs.Events.{HostEvent, Hears, Requests_do, Interviews, Interview_unkept, Line_ticks, Submits_abort, Submits_front, Starts, Gives_text, Gives_segment}
+use Rattle.host_model.specs.Events.{HostEvent, Queues, Hears, Requests_do, Interviews, Interview_unkept, Line_ticks, Submits_abort, Submits_front, Starts, Gives_text, Gives_segment}
 use Rattle.host_model.specs.Outs.{answer_to, outs}
 use Rattle.host_model.specs.declared.out.HostOut.TheVariants.{Write}
 use Rattle.proof_waking.specs.proof_alone.State.{HostMachine, done}
@@ -101,6 +101,7 @@ follows_behind : (unit : List ℕ) (event : HostEvent) → MayFollow unit event 
 follows_behind unit (Requests_do event moment) may well = well
 follows_behind unit (Interviews n listens classes update) may well = tt
 follows_behind unit (Interview_unkept n update) may well = tt
+follows_behind unit (Queues task) may well = absurd may
 follows_behind unit (Hears item) may well = absurd may
 follows_behind unit Line_ticks may well = absurd may
 follows_behind unit Submits_abort may well = absurd may

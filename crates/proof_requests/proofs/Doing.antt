@@ -1,16 +1,19 @@
 -- What events of a host make of its request: most leave it, the end of a request leaves all but the request, and what is submitted is the request from then on.
-use Rattle.std.proofs.Common.{◌≡◌, ℕ, Bool, true, false, if◌then◌else◌, List, refl, ap}
+use Rattle.std.proofs.Common.{◌≡◌, ℕ, Bool, true, false, if◌then◌else◌, List, [], ◌∷◌, refl, ap}
 use Rattle.std.specs.Prelude.{Option, Some, None}
 use Rattle.s0_session.specs.Nonces.{live_of}
 use Rattle.serial_link.specs.State.{Side}
 use Rattle.host_requests.specs.declared.end.End.{End}
 use Rattle.host_requests.specs.declared.end.How.{How}
 use Rattle.host_requests.specs.declared.task.Task.{Task}
-use Rattle.host_requests.specs.declared.task.Task.TheVariants.{NoMore, Offer}
+use Rattle.host_requests.specs.declared.task.Task.TheVariants.{Capabilities, First, MemoryId, NoMore, Offer, Second, Segment, Version}
 use Rattle.host_requests.specs.declared.task.Purpose.{Purpose}
 use Rattle.host_requests.specs.declared.task.Purpose.TheVariants.{Housekeeping, Attempt, Abort}
 use Rattle.host_requests.specs.State.{RequestsState}
 use Rattle.host_requests.specs.Events as requests
+use Rattle.host_requests.specs.Events.{with_tasks}
+use Rattle.host_requests.specs.Facts.{ArePaired, due_second}
+use Rattle.host_requests.proofs.Purposes.{due-append}
 use Rattle.host_node.specs.Events.NodeEvent.{Ticks as node_ticks}
 use Rattle.host_node.specs.Steps.{attempt_end, tick_end}
 use Rattle.host_node.specs.declared.attempt.Moment.{Moment}
@@ -30,7 +33,7 @@ abbrev pub asks_of : HostState → Side × RequestsState
 asks_of h = (h.side, h.requests)
 
 abbrev doing_by : Side × RequestsState → Doing
-doing_by p = record { turn = p.0.turn; under_way = p.1.under_way; leaving = record { owes = p.1.owes; first = p.1.first }; id = p.1.last_id }
+doing_by p = record { turn = p.0.turn; under_way = p.1.under_way; leaving = record { owes = p.1.owes; first = p.1.first }; id = p.1.last_id; due = due_second p.1.queue }
 
 -- what of it is tied is of these
 pub same_asks : (h g : HostState) → asks_of h ≡ asks_of g → doing_of h ≡ doing_of g
@@ -69,6 +72,7 @@ end_if_same h end moment = same_asks (after_end_if h end moment) h (end_if_asks 
 -- ---- events that leave the request
 
 abbrev pub IsBeside : HostEvent → Type 0
+IsBeside (Queues task) = ArePaired None (task ∷ [])
 IsBeside (Hears item) = ⊥
 IsBeside (Requests_do event moment) = ⊥
 IsBeside (Interviews n listens classes update) = ⊥
@@ -81,16 +85,20 @@ IsBeside (Gives_text n payload) = ⊥
 IsBeside (Gives_segment n more payload) = ⊥
 IsBeside event = Unit {0}
 
-queues_same : (h : HostState) (task : Task) → doing_of (queues_if_room h task) ≡ doing_of h
-queues_same h task = by (is_full h)
+-- tasks that wait make no second request due
+waits_same : (h : HostState) (tasks : List Task) → ArePaired None tasks → doing_of (record h { requests = with_tasks h.requests tasks }) ≡ doing_of h
+waits_same h tasks paired = ap (λ (due : Option ℕ). record (doing_of h) { due = due }) (due-append h.requests.queue tasks paired)
+
+queues_same : (h : HostState) (task : Task) → ArePaired None (task ∷ []) → doing_of (queues_if_room h task) ≡ doing_of h
+queues_same h task paired = by (is_full h)
   where
     by : (b : Bool) → doing_of (if b then h else requests_do h (requests.RequestsEvent.Pushes task)) ≡ doing_of h
     by true = refl
-    by false = refl
+    by false = waits_same h (task ∷ []) paired
 
 offers_same : (h : HostState) (n : ℕ) (nonce : Option (List ℕ)) → doing_of (offering h n nonce) ≡ doing_of h
 offers_same h n None = refl
-offers_same h n (Some nonce) = queues_same h (Offer n nonce)
+offers_same h n (Some nonce) = queues_same h (Offer n nonce) (refl, refl)
 
 pub holds_asks : (h : HostState) (n : ℕ) (held : Bool) → asks_of (holding h n held) ≡ asks_of h
 holds_asks h n true = refl
@@ -100,9 +108,9 @@ pub beside_same : (h : HostState) (event : HostEvent) → IsBeside event → doi
 beside_same h (Accepts order carriage) beside = refl
 beside_same h (Cancels command) beside = refl
 beside_same h (Joins n) beside = refl
-beside_same h (Queues task) beside = refl
-beside_same h (Queues_interview n) beside = refl
-beside_same h Queues_probe beside = refl
+beside_same h (Queues task) beside = waits_same h (task ∷ []) beside
+beside_same h (Queues_interview n) beside = waits_same h (First n ∷ Second n ∷ []) (refl, (refl, refl))
+beside_same h Queues_probe beside = waits_same h (Version ∷ MemoryId ∷ Capabilities ∷ []) (refl, (refl, (refl, refl)))
 beside_same h (Unreads n payload) beside = refl
 beside_same h (Is_unkept n) beside = refl
 beside_same h (Reports_old n id) beside = refl
@@ -115,12 +123,12 @@ beside_same h (Spends n) beside = refl
 beside_same h (Spends_unread n payload) beside = refl
 beside_same h (Takes_nonce n seen text) beside = refl
 beside_same h (Notifies n) beside = refl
-beside_same h (Resends n payload) beside = queues_same h _
+beside_same h (Resends n payload) beside = queues_same h (Segment n payload) (refl, refl)
 beside_same h (Hears_value n setting) beside = refl
 beside_same h (Has_no_room n property) beside = refl
 beside_same h (Node_ticks n) beside =
     same_asks (after h (Node_ticks n)) (node_does h n node_ticks) (attempt_asks (node_does h n node_ticks) (tick_end (node_of h n)) (open_command (node_of h n)))
-beside_same h (Queues_no_more n) beside = refl
+beside_same h (Queues_no_more n) beside = waits_same h (NoMore n ∷ []) (refl, refl)
 beside_same h (Drops_no_more n) beside = refl
 beside_same h (Begins n session command) beside = refl
 beside_same h (Begin_unkept n) beside = refl

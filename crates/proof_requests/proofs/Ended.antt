@@ -7,7 +7,7 @@ use Rattle.law_time.specs.Requests.{Answer, Failing, Judging, are_none, failing_
 use Rattle.law_transcript.specs.Units.{request_in}
 use Rattle.law_time.specs.Ends.{is_abort_frame, is_before_failing, is_sending, wait_by, waits_before_failing}
 use Rattle.proof_requests.specs.Standing.{Standing, counted, failing_in, first_ending, responses_in, sent_in, ticks_sent, wait_in, with_answer, with_copy, with_judging}
-use Rattle.proof_requests.specs.Asking.{Leaving, EndedByFrame, EndedByLine, EndedInSilence, HasEnded, WasGivenUp, WasSent, is_owed}
+use Rattle.proof_requests.specs.Asking.{Leaving, EndedByFrame, EndedByLine, EndedInSilence, HasEnded, WasDenied, WasGivenUp, WasIgnored, WasSent, is_owed}
 use Rattle.proof_requests.specs.Effects.{AnswerDoes, denied_at}
 use Rattle.proof_requests.proofs.Line.{answer_does, counted_four, counted_more, failing_four, first_stays, four_is, in_time, same_counted, ticks_one}
 use Rattle.proof_requests.proofs.Judging.{IsFirstNow, ending_kept, first_or_same, responses_judged}
@@ -224,11 +224,21 @@ pub record GaveUp (s : Standing) (now count : ℕ) : Type 0 where
   pub by_now : fails.tick ≤ now
   pub judged : fails.at_answer ≡ true → fails.frames ≤ count
 
+pub denied_fails : (s : Standing) (now count : ℕ) → s.copies ≡ 4 → (denied : WasDenied s now count) → failing_in s ≡ denied_at denied.answer ∷ []
+denied_fails s now count four denied =
+    failing_four s (four_is s.copies four)
+    (ap (λ (l : List Answer). take 1 (ticks_sent l)) denied.first ∙ ap (λ (l : List ℕ). take 1 l) (ticks_one denied.answer false denied.denies))
+    ∙ ap (λ (l : List Answer). failing_by l s.last ∷ []) denied.first
+
+pub ignored_fails : (s : Standing) (now : ℕ) → s.copies ≡ 4 → WasIgnored s now → failing_in s ≡ record { tick = s.last + 15; at_answer = false; frames = 0 } ∷ []
+ignored_fails s now four ignored =
+    failing_four s (four_is s.copies four) (ap (λ (l : List Answer). take 1 (ticks_sent l)) ignored.none) ∙ ap (λ (l : List Answer). failing_by l s.last ∷ []) ignored.none
+
 pub gave_up : (s : Standing) (now count : ℕ) → WasGivenUp s now count → GaveUp s now count
 gave_up s now count (four, inl denied) =
     let unsent : sent_in s ≡ [] = ap (λ (l : List Answer). take 1 (ticks_sent l)) denied.first ∙ ap (λ (l : List ℕ). take 1 l) (ticks_one denied.answer false denied.denies) in record {
       fails = denied_at denied.answer;
-      failing = failing_four s (four_is s.copies four) unsent ∙ ap (λ (l : List Answer). failing_by l s.last ∷ []) denied.first;
+      failing = denied_fails s now count four denied;
       unsent = unsent;
       by_now = denied.by_now;
       judged = λ at_answer. denied.judged;
@@ -236,7 +246,7 @@ gave_up s now count (four, inl denied) =
 gave_up s now count (four, inr ignored) =
     let unsent : sent_in s ≡ [] = ap (λ (l : List Answer). take 1 (ticks_sent l)) ignored.none in record {
       fails = record { tick = s.last + 15; at_answer = false; frames = 0 };
-      failing = failing_four s (four_is s.copies four) unsent ∙ ap (λ (l : List Answer). failing_by l s.last ∷ []) ignored.none;
+      failing = ignored_fails s now four ignored;
       unsent = unsent;
       by_now = ignored.by_now;
       judged = λ at_answer. absurd (let bad : false ≡ true = at_answer in cc);

@@ -30,19 +30,23 @@ use Rattle.proof_requests.proofs.UnderWay.{line_held, over_all, progress_over}
 
 -- ---- tests
 
-second_of : (a b c d : Bool) → b ≡ true → (a || b || c || d) ≡ true
+pub first_of_four : (a b c d : Bool) → a ≡ true → (a || b || c || d) ≡ true
+first_of_four true b c d is = refl
+first_of_four false b c d is = absurd (let bad : false ≡ true = is in cc)
+
+pub second_of : (a b c d : Bool) → b ≡ true → (a || b || c || d) ≡ true
 second_of true true c d is = refl
 second_of false true c d is = refl
 second_of a false c d is = absurd (let bad : false ≡ true = is in cc)
 
-third_of : (a b c d : Bool) → c ≡ true → (a || b || c || d) ≡ true
+pub third_of : (a b c d : Bool) → c ≡ true → (a || b || c || d) ≡ true
 third_of true true true d is = refl
 third_of true false true d is = refl
 third_of false true true d is = refl
 third_of false false true d is = refl
 third_of a b false d is = absurd (let bad : false ≡ true = is in cc)
 
-last_of_four : (a b c d : Bool) → d ≡ true → (a || b || c || d) ≡ true
+pub last_of_four : (a b c d : Bool) → d ≡ true → (a || b || c || d) ≡ true
 last_of_four true true true true is = refl
 last_of_four true true false true is = refl
 last_of_four true false true true is = refl
@@ -147,27 +151,28 @@ line_ends_none s now count leaving e = none_ends s early
         = ap (λ (l : List Judging). list_any (λ each. list_all (is_before_failing each) (failing_in s)) l) (sym is) ∙ e.no_frame in
         and_right (list_all (nat_lt one.tick) (wait_in s)) (list_all (is_before_failing one) (failing_in s)) (or_parts (list_all (is_before_failing one) (failing_in s)) false before).0
 
+line_silent : (s : Standing) (now count : ℕ) (leaving : Leaving) → EndedByLine s now count leaving → silence_in s ≡ []
+line_silent s now count leaving e =
+    ap (λ (l : List Judging). if are_none l then filter (λ wait. list_all (waits_before_failing wait) (failing_in s)) (wait_in s) else []) (line_ends_none s now count leaving e)
+    ∙ none_left (λ wait. list_all (waits_before_failing wait) (failing_in s)) (wait_in s) e.no_wait
+
+-- the line gives it up then
+pub line_gives : (s : Standing) (now count : ℕ) (leaving : Leaving) → EndedByLine s now count leaving → (fails : Failing) → failing_in s ≡ fails ∷ [] → giving_up_in s ≡ fails.tick ∷ []
+line_gives s now count leaving e fails is =
+    ap (λ (l : List Judging). if are_none l && are_none (silence_in s) then flat_map (λ one. one.tick ∷ []) (failing_in s) else []) (line_ends_none s now count leaving e)
+    ∙ ap (λ (l : List ℕ). if are_none l then flat_map (λ one. one.tick ∷ []) (failing_in s) else []) (line_silent s now count leaving e)
+    ∙ ap (λ (l : List Failing). flat_map (λ one. one.tick ∷ []) l) is
+
 by_line : (s : Standing) (now count : ℕ) (leaving : Leaving) → EndedByLine s now count leaving → IsOver s now leaving
 by_line s now count leaving e =
     let gave = gave_up s now count e.given_up in
     record {
       ended = third_of (not (are_none (ending_in s))) (list_any (λ tick. nat_le tick now) (silence_in s)) (list_any (λ tick. nat_le tick now) (giving_up_in s))
           (is_abort_frame s.frame && not (are_none (sent_in s)))
-          (ap (λ (l : List ℕ). list_any (λ tick. nat_le tick now) l) (giving gave.fails gave.failing) ∙ ap (λ (b : Bool). b || false) (le-leb gave.fails.tick now gave.by_now));
-      owed = no_silence s silence now ∙ sym e.paid;
+          (ap (λ (l : List ℕ). list_any (λ tick. nat_le tick now) l) (line_gives s now count leaving e gave.fails gave.failing) ∙ ap (λ (b : Bool). b || false) (le-leb gave.fails.tick now gave.by_now));
+      owed = no_silence s (line_silent s now count leaving e) now ∙ sym e.paid;
       brought = e.nothing ∙ sym (ap (λ (l : List Judging). brought_of (request_in s.frame) l) (line_ends_none s now count leaving e));
     }
-  where
-    silence : silence_in s ≡ []
-    silence =
-        ap (λ (l : List Judging). if are_none l then filter (λ wait. list_all (waits_before_failing wait) (failing_in s)) (wait_in s) else []) (line_ends_none s now count leaving e)
-        ∙ none_left (λ wait. list_all (waits_before_failing wait) (failing_in s)) (wait_in s) e.no_wait
-
-    giving : (fails : Failing) → failing_in s ≡ fails ∷ [] → giving_up_in s ≡ fails.tick ∷ []
-    giving fails is =
-        ap (λ (l : List Judging). if are_none l && are_none (silence_in s) then flat_map (λ one. one.tick ∷ []) (failing_in s) else []) (line_ends_none s now count leaving e)
-        ∙ ap (λ (l : List ℕ). if are_none l then flat_map (λ one. one.tick ∷ []) (failing_in s) else []) silence
-        ∙ ap (λ (l : List Failing). flat_map (λ one. one.tick ∷ []) l) is
 
 abbrev none_if : Bool → List ℕ
 none_if b = if b then [] else []

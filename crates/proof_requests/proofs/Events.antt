@@ -128,7 +128,7 @@ chip_does h request_ticks moment of_it = (at_tick, ticks_does h moment)
 chip_does h event moment of_it = absurd of_it
 
 -- that none came interviews no node
-failed_none : (first : Option ℕ) (o : Option UnderWay) (capability : ℕ) → interviewed_from first RequestFailed o ≡ Some capability → ⊥
+pub failed_none : (first : Option ℕ) (o : Option UnderWay) (capability : ℕ) → interviewed_from first RequestFailed o ≡ Some capability → ⊥
 failed_none first None capability is = let bad : None ≡ Some capability = is in cc
 failed_none first (Some u) capability is = let bad : None ≡ Some capability = is in cc
 

@@ -6,6 +6,7 @@ use Rattle.zw_text.specs.declared.entry.Entry.{Entry}
 use Rattle.law_time.specs.Moments.{Allows}
 use Rattle.law_time.specs.Waking.{may_wake}
 use Rattle.proof_host.specs.Laws.{MayStand}
+use Rattle.proof_messages.proofs.SealedTexts.{TextsLeft}
 use Rattle.proof_waking.specs.proof_walk.Time.{MayCount}
 use Rattle.proof_waking.specs.proof_alone.State.{first_alone}
 use Rattle.proof_waking.specs.proof_alone.Phases.{Resting}
@@ -18,7 +19,7 @@ use Rattle.proof_waking.specs.Judged.{KnowsJudged}
 use Rattle.proof_requests.specs.Walking.{Ground, KnowsAsked, KnowsCame, KnowsHost, KnowsQueue}
 use Rattle.proof_requests.proofs.Came.{came_walk}
 use Rattle.proof_requests.proofs.Queued.{PayloadsBring}
-use Rattle.proof_requests.proofs.Queueing.{queue_walk}
+use Rattle.proof_requests.proofs.Queueing.{first_texts, queue_walk}
 use Rattle.proof_requests.proofs.Stepping.{asked_walk, first_asked}
 
 -- a walk goes on any ground
@@ -33,15 +34,15 @@ host_walk tables time judged =
     over (both_know KnowsTables KnowsClock) MayCount (Allows may_wake) KnowsJudged (over KnowsTables MayStand MayCount KnowsClock tables (beside KnowsTables MayStand MayCount KnowsClock time))
     (beside (both_know KnowsTables KnowsClock) MayCount (Allows may_wake) KnowsJudged judged)
 
-pub asked_so : PayloadsBring → Walk (Allows may_wake) KnowsHost → Walk (Allows may_wake) (both_know Ground KnowsAsked)
-asked_so brings host =
+pub asked_so : PayloadsBring → TextsLeft → Walk (Allows may_wake) KnowsHost → Walk (Allows may_wake) (both_know Ground KnowsAsked)
+asked_so brings left host =
     let came : Walk (Allows may_wake) (both_know KnowsHost KnowsCame) =
     over KnowsHost (Allows may_wake) (Allows may_wake) KnowsCame host (came_walk KnowsHost (Allows may_wake)) in
     let ground : Walk (Allows may_wake) Ground =
-    over (both_know KnowsHost KnowsCame) (Allows may_wake) (Allows may_wake) KnowsQueue came (queue_walk brings (Allows may_wake)) in
+    over (both_know KnowsHost KnowsCame) (Allows may_wake) (Allows may_wake) KnowsQueue came (queue_walk brings left (Allows may_wake)) in
     over Ground (Allows may_wake) (Allows may_wake) KnowsAsked ground (asked_walk brings (Allows may_wake))
 
 pub first_so : (keys : Keys) → KnowsTables Resting [] (first_alone keys (Some [])) → KnowsJudged Resting [] (first_alone keys (Some []))
     → both_know Ground KnowsAsked Resting [] (first_alone keys (Some []))
 first_so keys tables judged =
-    (((((tables, first_clock (first_alone keys (Some [])) refl refl refl), judged), tt), (tt, tt)), first_asked (first_alone keys (Some [])) refl)
+    (((((tables, first_clock (first_alone keys (Some [])) refl refl refl), judged), tt), ((tt, refl, tt), tt, first_texts keys)), first_asked (first_alone keys (Some [])) refl)

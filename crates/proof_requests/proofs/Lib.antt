@@ -1,28 +1,34 @@
-mod Growing
-mod Standing
-mod Line
-mod Judging
-mod Ended
+pub mod Growing
+pub mod Standing
+pub mod Line
+pub mod Judging
+pub mod Ended
 mod OnLine
-mod UnderWay
-mod Saying
+pub mod UnderWay
+pub mod Saying
 pub mod Doing
 mod Moving
 mod Events
-mod Telling
-mod Spelled
+pub mod Telling
+pub mod Spelled
+pub mod Carried
 mod Came
-mod Queued
-mod Queueing
-mod Walking
-mod Stepping
-mod Ending
+pub mod Queued
+pub mod Queueing
+pub mod Walking
+pub mod Stepping
+pub mod Ending
 mod Grounds
 mod Brought
 mod Listening
-mod Questions
-mod Answered
-mod Answering
+pub mod EndsDone
+pub mod EndsHere
+pub mod EndsLate
+pub mod Untold
+pub mod EndsTold
+pub mod Questions
+mod Interviews
+mod Numbering
 pub use Rattle.proof_waking.proofs.Coming
 pub use Rattle.proof_waking.proofs.Hosting
 pub use Rattle.proof_waking.proofs.Stamps

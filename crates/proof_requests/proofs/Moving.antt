@@ -16,6 +16,7 @@ use Rattle.law_transcript.specs.Units.{request_in}
 use Rattle.law_time.specs.Judged.{is_acknowledgement}
 use Rattle.law_time.specs.Requests.{Answer, Judging}
 use Rattle.law_time.specs.Ends.{is_abort, is_abort_frame, is_sending}
+use Rattle.host_requests.specs.Facts.{first_asked}
 use Rattle.host_requests.specs.Frames.{frame_of, function_of, request_of}
 use Rattle.host_requests.specs.Next.{acknowledged, at_sent, at_tick, capability_at, is_answered, is_sent, on_with, owes_abort}
 use Rattle.host_requests.specs.declared.end.How.TheVariants.{LinkFailed}
@@ -30,7 +31,8 @@ use Rattle.host_requests.specs.declared.under_way.UnderWay.{UnderWay}
 use Rattle.host_model.specs.After.{gives_up}
 use Rattle.proof_waking.specs.proof_alone.Steps.{AreFrames}
 use Rattle.proof_requests.specs.Standing.{Prior, Standing, brought_before, brought_by, ends_now, first_standing, responses_in, sent_in, with_answer, with_copy, with_judging}
-use Rattle.proof_requests.specs.Asking.{IsKept, Leaving, nothing_left, AsProgress, AsksSo, Doing, EndedByFrame, EndedInSilence, IsCopied, IsPaused, IsSentBy, IsUnderWay, TieLine, TieUnderWay, WasGivenUp, doing_after, doing_from, doing_next, to_come}
+use Rattle.proof_requests.specs.Carrying.{CarriesSo}
+use Rattle.proof_requests.specs.Asking.{FollowsFirst, IsDue, IsKept, Leaving, nothing_left, AsProgress, AsksSo, Doing, EndedByFrame, EndedInSilence, IsCopied, IsPaused, IsSentBy, IsUnderWay, TieLine, TieUnderWay, WasGivenUp, doing_after, doing_from, doing_next, to_come}
 use Rattle.proof_requests.specs.Effects.{AnswerDoes}
 use Rattle.proof_requests.specs.Saying.{FrameSays, frame_next}
 use Rattle.proof_requests.specs.Saying.FrameSays.{Leaves, Again, Takes, Finishes}
@@ -98,7 +100,7 @@ abbrev pub left_of : Bool → Option ℕ → Leaving
 left_of owes first = record { owes = owes; first = first }
 
 module _ (s : Standing) (one : Judging) (now count : ℕ) (rest : List LineUnit) (f : FrameParts) (d : Doing) (first : Option ℕ)
-    (tick_is : one.tick ≡ now) (place : one.place ≡ count + 1) (unit_is : one.unit ≡ unit_text (Framed f)) (line : TieLine s now count (Framed f ∷ rest) d.turn) where
+    (tick_is : one.tick ≡ now) (place : one.place ≡ count + 1) (unit_is : one.unit ≡ unit_text (Framed f)) (line : TieLine s now count (Framed f ∷ rest) d.turn) (due : IsDue s.frame d.due) where
   line_on : TieLine (with_judging s one) now (count + 1) rest d.turn
   line_on = line_framed s one now count rest f d.turn line
 
@@ -107,13 +109,13 @@ module _ (s : Standing) (one : Judging) (now count : ℕ) (rest : List LineUnit)
 
   asks_with : (leaving : Leaving) (o : Option UnderWay) → TieUnderWay (with_judging s one) now now (count + 1) d.turn d.id leaving o
       → AsksSo (with_judging s one) now now (count + 1) rest (record d { under_way = o; leaving = leaving })
-  asks_with leaving o under_way = record { line = line_on; under_way = under_way }
+  asks_with leaving o under_way = record { line = line_on; under_way = under_way; due = due }
 
   -- one that ends it has
   pub finished_by : (u : UnderWay) → IsUnderWay s now d.turn d.id u → ends_now s one ≡ true → EndedByFrame (with_judging s one) now (count + 1) (left_of false (brought_by (request_in s.frame) one.unit))
   finished_by u is ends = frame_ends s one now count d.turn d.id tick_is place u (held_before s one now (count + 1) d.turn (line_held (with_judging s one) now (count + 1) rest d.turn line_on)) is ends
 
-  says_so : (u : UnderWay) (next : Next) → IsUnderWay s now d.turn d.id u → IsKept s d.leaving → FrameSays s one u next → AsksSo (with_judging s one) now now (count + 1) rest (doing_next d u next)
+  says_so : (u : UnderWay) (next : Next) → IsUnderWay s now d.turn d.id u → IsKept s d.leaving u.purpose → FrameSays s one u next → AsksSo (with_judging s one) now now (count + 1) rest (doing_next d u next)
   says_so u next is paid (Leaves next_is none ends) =
       subst (λ (n : Next). AsksSo (with_judging s one) now now (count + 1) rest (doing_next d u n)) (sym next_is)
       (asks_with d.leaving (Some u) (frame_leaves s one now count d.turn d.id tick_is place u is none ends, paid))
@@ -146,7 +148,7 @@ module _ (s : Standing) (one : Judging) (now count : ℕ) (rest : List LineUnit)
 
 pub frame_moves : (s : Standing) (one : Judging) (now count : ℕ) (rest : List LineUnit) (f : FrameParts) (d : Doing) (first : Option ℕ) → one.tick ≡ now → one.place ≡ count + 1
     → one.unit ≡ unit_text (Framed f) → AsksSo s now now count (Framed f ∷ rest) d → AsksSo (with_judging s one) now now (count + 1) rest (doing_after d (frame_next d.id first f))
-frame_moves s one now count rest f d first tick_is place unit_is asks = frame_from s one now count rest f d first tick_is place unit_is asks.line d.under_way asks.under_way
+frame_moves s one now count rest f d first tick_is place unit_is asks = frame_from s one now count rest f d first tick_is place unit_is asks.line asks.due d.under_way asks.under_way
 
 -- ---- an acknowledgement is judged
 
@@ -155,7 +157,7 @@ idle_busy Idle is busy = busy
 idle_busy (Copied f copies ticks) is busy = let bad = is in cc
 idle_busy (Paused f copies ticks) is busy = let bad = is in cc
 
-module _ (s : Standing) (now count : ℕ) (rest : List LineUnit) (d : Doing) (busy : IsBusy d.turn) (line : TieLine s now count (Ack ∷ rest) d.turn) where
+module _ (s : Standing) (now count : ℕ) (rest : List LineUnit) (d : Doing) (busy : IsBusy d.turn) (line : TieLine s now count (Ack ∷ rest) d.turn) (due : IsDue s.frame d.due) where
   sent_so : sent_in s ≡ now ∷ []
   sent_so = acknowledged_now s now count rest d.turn busy line
 
@@ -163,9 +165,9 @@ module _ (s : Standing) (now count : ℕ) (rest : List LineUnit) (d : Doing) (bu
   idle_then = record d { turn = Idle }
 
   acked : (leaving : Leaving) (o : Option UnderWay) → TieUnderWay s now now count Idle d.id leaving o → AsksSo s now now count rest (record idle_then { under_way = o; leaving = leaving })
-  acked leaving o under_way = record { line = line_acknowledged s now count rest d.turn line; under_way = under_way }
+  acked leaving o under_way = record { line = line_acknowledged s now count rest d.turn line; under_way = under_way; due = due }
 
-  sent_from : (p : Purpose) (progress : Progress) → IsUnderWay s now d.turn d.id (record { purpose = p; progress = progress }) → IsKept s d.leaving
+  sent_from : (p : Purpose) (progress : Progress) → IsUnderWay s now d.turn d.id (record { purpose = p; progress = progress }) → IsKept s d.leaving p
       → AsksSo s now now count rest (doing_next idle_then (record { purpose = p; progress = progress }) (at_sent (record { purpose = p; progress = progress })))
   sent_from Abort Submitted is paid =
       acked nothing_left None (inr (inr (inr (record {
@@ -176,7 +178,7 @@ module _ (s : Standing) (now count : ℕ) (rest : List LineUnit) (d : Doing) (bu
       }))))
   sent_from (Housekeeping task) Submitted is paid = goes_on (Housekeeping task) is paid refl
     where
-      goes_on : (p : Purpose) → IsUnderWay s now d.turn d.id (record { purpose = p; progress = Submitted }) → IsKept s d.leaving → acknowledged p ≡ GoesOn (Sent 15)
+      goes_on : (p : Purpose) → IsUnderWay s now d.turn d.id (record { purpose = p; progress = Submitted }) → IsKept s d.leaving p → acknowledged p ≡ GoesOn (Sent 15)
           → AsksSo s now now count rest (record idle_then { under_way = Some (record { purpose = p; progress = Sent 15 }) })
       goes_on p is paid so =
           let other : is_abort_frame s.frame ≡ false = ap (λ (l : List Request). list_any is_abort l) is.request ∙ ap (λ (b : Bool). b || false) (abort_none p d.id so) in
@@ -197,7 +199,7 @@ module _ (s : Standing) (now count : ℕ) (rest : List LineUnit) (d : Doing) (bu
 
 pub acknowledgement_moves : (s : Standing) (now count : ℕ) (rest : List LineUnit) (d : Doing) → IsBusy d.turn → AsksSo s now now count (Ack ∷ rest) d
     → AsksSo s now now count rest (doing_after (record d { turn = Idle }) at_sent)
-acknowledgement_moves s now count rest d busy asks = acked_from s now count rest d busy asks.line d.under_way asks.under_way
+acknowledgement_moves s now count rest d busy asks = acked_from s now count rest d busy asks.line asks.due d.under_way asks.under_way
 
 -- ---- NAK or CAN is judged
 
@@ -218,21 +220,21 @@ under_way_on s line_now now count turn after id leaving (Some u) was busy (is, p
 
 -- the line gives up the frame of the request
 given_up_from : (s : Standing) (now count : ℕ) (rest : List LineUnit) (d : Doing) (turn : Turn) (o : Option UnderWay) → IsHeld s now count turn → WasGivenUp s now count
-    → TieUnderWay s now now count turn d.id d.leaving o → AsksSo s now now count rest (doing_from (record d { turn = Idle }) (λ u. Ends LinkFailed) o)
-given_up_from s now count rest d turn None held given_up ended = record { line = inr given_up; under_way = ended }
-given_up_from s now count rest d turn (Some u) held given_up (is, paid) =
+    → IsDue s.frame d.due → TieUnderWay s now now count turn d.id d.leaving o → AsksSo s now now count rest (doing_from (record d { turn = Idle }) (λ u. Ends LinkFailed) o)
+given_up_from s now count rest d turn None held given_up due ended = record { line = inr given_up; under_way = ended; due = due }
+given_up_from s now count rest d turn (Some u) held given_up due (is, paid) =
     let gave = gave_up s now count given_up in
     let over = subst (λ (l : List ℕ). Over now l (responses_in s)) gave.unsent (progress_over s now count turn u.progress held is.progress) in
-    record { line = inr given_up; under_way = inr (inr (inl (line_ends s now count is.unended given_up over))) }
+    record { line = inr given_up; under_way = inr (inr (inl (line_ends s now count is.unended given_up over))); due = due }
 
 module _ (unit : LineUnit) (text : List ℕ) (denies : is_acknowledgement text ≡ false) where
   pub denial_moves : (s : Standing) (now count : ℕ) (rest : List LineUnit) (d : Doing)
       → to_come now count (unit ∷ rest) ≡ record { unit = text; tick = now; frames = count } ∷ to_come now count rest → AsksSo s now now count (unit ∷ rest) d
       → (turn : Turn) → d.turn ≡ turn → TieLine s now count (unit ∷ rest) turn → TieUnderWay s now now count turn d.id d.leaving d.under_way
       → AsksSo s now now count rest (if gives_up turn (turn_refused turn) then doing_after (record d { turn = turn_refused turn }) (λ u. Ends LinkFailed) else record d { turn = turn_refused turn })
-  denial_moves s now count rest d first asks Idle is line under_way = record { line = line; under_way = under_way }
+  denial_moves s now count rest d first asks Idle is line under_way = record { line = line; under_way = under_way; due = asks.due }
   denial_moves s now count rest d first asks (Paused f copies ticks) is line under_way =
-      record { line = line_denied unit text denies s now count rest (Paused f copies ticks) first line; under_way = under_way }
+      record { line = line_denied unit text denies s now count rest (Paused f copies ticks) first line; under_way = under_way; due = asks.due }
   denial_moves s now count rest d first asks (Copied f copies ticks) is line under_way = by (copies == 4) refl (line_denied unit text denies s now count rest (Copied f copies ticks) first line)
     where
       by : (four : Bool) → (copies == 4) ≡ four → TieLine s now count rest (if four then Idle else Paused f copies 0)
@@ -241,12 +243,12 @@ module _ (unit : LineUnit) (text : List ℕ) (denies : is_acknowledgement text �
           else record d { turn = if four then Idle else Paused f copies 0 })
       by true four tie =
           given_up_from s now count rest d (Copied f copies ticks) d.under_way (line_held s now count (unit ∷ rest) (Copied f copies ticks) line)
-          (denied_four unit text denies s now count rest f copies ticks first four line) under_way
-      by false four tie = record { line = tie; under_way = under_way_on s now now count (Copied f copies ticks) (Paused f copies 0) d.id d.leaving d.under_way tt tt under_way }
+          (denied_four unit text denies s now count rest f copies ticks first four line) asks.due under_way
+      by false four tie = record { line = tie; under_way = under_way_on s now now count (Copied f copies ticks) (Paused f copies 0) d.id d.leaving d.under_way tt tt under_way; due = asks.due }
 
 -- ---- a tick of the line
 
-waits_on : (s : Standing) (before now : ℕ) (turn : Turn) (progress : Progress) → now ≡ before + 1 → sent_in s ≡ [] → AsProgress s before turn progress → (one : Judging) (more : List Judging)
+pub waits_on : (s : Standing) (before now : ℕ) (turn : Turn) (progress : Progress) → now ≡ before + 1 → sent_in s ≡ [] → AsProgress s before turn progress → (one : Judging) (more : List Judging)
     → responses_in s ≡ one ∷ more → now ≤ one.tick + 65
 waits_on s before now turn Submitted next unsent (busy, none) one more are = absurd (let bad : [] ≡ one ∷ more = sym none ∙ are in cc)
 waits_on s before now turn (Sent left) next unsent (idle, none, other, sent, sent_is, since, some) one more are = absurd (let bad : [] ≡ one ∷ more = sym none ∙ are in cc)
@@ -268,18 +270,19 @@ under_way_later s before now count turn after id leaving (Some u) next on (is, p
 abbrev pub doing_ticked : Doing → Turn → Doing
 doing_ticked d turn = if gives_up turn (turn_ticked turn) then doing_after (record d { turn = turn_ticked turn }) (λ u. Ends LinkFailed) else record d { turn = turn_ticked turn }
 
-module _ (s : Standing) (before now count : ℕ) (came : List LineUnit) (d : Doing) (next : now ≡ before + 1) (frames : AreFrames came) where
+module _ (s : Standing) (before now count : ℕ) (came : List LineUnit) (d : Doing) (next : now ≡ before + 1) (frames : AreFrames came) (due : IsDue s.frame d.due) where
   ignored_from : (f : FrameParts) (copies ticks : ℕ) (o : Option UnderWay) → (ticks == 14) ≡ true → (copies == 4) ≡ true → IsCopied s before count came f copies ticks
       → TieUnderWay s before before count (Copied f copies ticks) d.id d.leaving o → AsksSo s now before count came (doing_from (record d { turn = Idle }) (λ u. Ends LinkFailed) o)
   ignored_from f copies ticks None last four line ended =
       let ignored = ignored_four s before now count came f copies ticks next frames last four line in
-      record { line = inr (ignored.0, inr ignored.1); under_way = ended_later s before now count count d.leaving (omega (arith, next)) (omega arith) ended }
+      record { line = inr (ignored.0, inr ignored.1); under_way = ended_later s before now count count d.leaving (omega (arith, next)) (omega arith) ended; due = due }
   ignored_from f copies ticks (Some u) last four line (is, paid) =
       let ignored = ignored_four s before now count came f copies ticks next frames last four line in
       let gave = gave_up s now count (ignored.0, inr ignored.1) in
       record {
         line = inr (ignored.0, inr ignored.1);
         under_way = inr (inr (inl (line_ignores s now count is.unended ignored.0 ignored.1 (waits_on s before now (Copied f copies ticks) u.progress next gave.unsent is.progress))));
+        due = due;
       }
 
   copied_from : (f : FrameParts) (copies ticks : ℕ) (o : Option UnderWay) → IsPaused s before count came f copies → TieUnderWay s before before count (Paused f copies ticks) d.id d.leaving o
@@ -302,6 +305,7 @@ module _ (s : Standing) (before now count : ℕ) (came : List LineUnit) (d : Doi
   line_tick_moves Idle is line under_way = record {
     line = line_ticks s before now count came Idle next frames line;
     under_way = under_way_later s before now count Idle Idle d.id d.leaving d.under_way next (λ progress so. so) under_way;
+    due = due;
   }
   line_tick_moves (Copied f copies ticks) is line under_way = by (ticks == 14) (copies == 4) refl refl (line_ticks s before now count came (Copied f copies ticks) next frames line)
     where
@@ -317,10 +321,12 @@ module _ (s : Standing) (before now count : ℕ) (came : List LineUnit) (d : Doi
       by true false last_is four_is tie = record {
         line = tie;
         under_way = under_way_later s before now count (Copied f copies ticks) (Paused f copies 0) d.id d.leaving d.under_way next (on (Paused f copies 0) tt) under_way;
+        due = due;
       }
       by false four last_is four_is tie = record {
         line = tie;
         under_way = under_way_later s before now count (Copied f copies ticks) (Copied f copies (ticks + 1)) d.id d.leaving d.under_way next (on (Copied f copies (ticks + 1)) tt) under_way;
+        due = due;
       }
   line_tick_moves (Paused f copies ticks) is line under_way = by (ticks + 1 == pause_after copies) (line_ticks s before now count came (Paused f copies ticks) next frames line)
     where
@@ -329,20 +335,21 @@ module _ (s : Standing) (before now count : ℕ) (came : List LineUnit) (d : Doi
           (if gives_up (Paused f copies ticks) (if b then Copied f (copies + 1) 0 else Paused f copies (ticks + 1))
           then doing_after (record d { turn = if b then Copied f (copies + 1) 0 else Paused f copies (ticks + 1) }) (λ u. Ends LinkFailed)
           else record d { turn = if b then Copied f (copies + 1) 0 else Paused f copies (ticks + 1) })
-      by true tie = record { line = tie; under_way = copied_from f copies ticks d.under_way line under_way }
+      by true tie = record { line = tie; under_way = copied_from f copies ticks d.under_way line under_way; due = due }
       by false tie = record {
         line = tie;
         under_way = under_way_later s before now count (Paused f copies ticks) (Paused f copies (ticks + 1)) d.id d.leaving d.under_way next
             (λ progress so. progress_on s s before (Paused f copies ticks) (Paused f copies (ticks + 1)) progress refl refl tt tt so) under_way;
+        due = due;
       }
 
 -- ---- a tick of the request
 
-module _ (s : Standing) (before now count : ℕ) (came : List LineUnit) (d : Doing) (next : now ≡ before + 1) (line : TieLine s now count came d.turn) where
+module _ (s : Standing) (before now count : ℕ) (came : List LineUnit) (d : Doing) (next : now ≡ before + 1) (line : TieLine s now count came d.turn) (due : IsDue s.frame d.due) where
   tick_to : (leaving : Leaving) (o : Option UnderWay) → TieUnderWay s now now count d.turn d.id leaving o → AsksSo s now now count came (record d { under_way = o; leaving = leaving })
-  tick_to leaving o under_way = record { line = line; under_way = under_way }
+  tick_to leaving o under_way = record { line = line; under_way = under_way; due = due }
 
-  goes_to : (p : Purpose) (progress later : Progress) → IsUnderWay s before d.turn d.id (record { purpose = p; progress = progress }) → IsKept s d.leaving → AsProgress s now d.turn later
+  goes_to : (p : Purpose) (progress later : Progress) → IsUnderWay s before d.turn d.id (record { purpose = p; progress = progress }) → IsKept s d.leaving p → AsProgress s now d.turn later
       → AsksSo s now now count came (record d { under_way = Some (record { purpose = p; progress = later }) })
   goes_to p progress later is paid so =
       tick_to d.leaving (Some (record { purpose = p; progress = later })) (record { frame = is.frame; request = is.request; unended = is.unended; progress = so }, paid)
@@ -350,18 +357,18 @@ module _ (s : Standing) (before now count : ℕ) (came : List LineUnit) (d : Doi
   last_one : (left : ℕ) → left ≤ 1 → 1 ≤ left → left ≡ 1
   last_one left few some = omega (arith, few, some)
 
-  sent_tick : (p : Purpose) (left : ℕ) (more : Bool) → nat_lt 1 left ≡ more → IsUnderWay s before d.turn d.id (record { purpose = p; progress = Sent left }) → IsKept s d.leaving
+  sent_tick : (p : Purpose) (left : ℕ) (more : Bool) → nat_lt 1 left ≡ more → IsUnderWay s before d.turn d.id (record { purpose = p; progress = Sent left }) → IsKept s d.leaving p
       → AsksSo s now now count came (doing_next d (record { purpose = p; progress = Sent left }) (on_with (if more then Some (Sent (left - 1)) else None)))
   sent_tick p left true so is paid = goes_to p (Sent left) (Sent (left - 1)) is paid (sent_ticks s before now left d.turn next (ltb-true 1 left so) is.progress)
   sent_tick p left false so is paid =
       let one : left ≡ 1 = last_one left (ltb-false 1 left so) is.progress.6 in
-      tick_to nothing_left None (inr (inl (sent_ends s before now count d.turn next is.unended (subst (λ (n : ℕ). AsProgress s before d.turn (Sent n)) one is.progress))))
+      tick_to nothing_left None (inr (inl (sent_ends s before now count d.turn next is.unended (subst (λ (n : ℕ). AsProgress s before d.turn (Sent n)) one is.progress)).0))
 
   answered_left : (sent : Bool) (left : ℕ) → AsProgress s before d.turn (Answered sent left) → 1 ≤ left
   answered_left true left (other, one, more, are, since, some, few, by) = some
   answered_left false left (other, one, more, are, since, some, few, by) = some
 
-  answered_tick : (p : Purpose) (sent : Bool) (left : ℕ) (more : Bool) → nat_lt 1 left ≡ more → IsUnderWay s before d.turn d.id (record { purpose = p; progress = Answered sent left }) → IsKept s d.leaving
+  answered_tick : (p : Purpose) (sent : Bool) (left : ℕ) (more : Bool) → nat_lt 1 left ≡ more → IsUnderWay s before d.turn d.id (record { purpose = p; progress = Answered sent left }) → IsKept s d.leaving p
       → AsksSo s now now count came (doing_next d (record { purpose = p; progress = Answered sent left }) (on_with (if more then Some (Answered sent (left - 1)) else None)))
   answered_tick p sent left true so is paid =
       goes_to p (Answered sent left) (Answered sent (left - 1)) is paid (answered_ticks s before now left d.turn sent next (ltb-true 1 left so) is.progress)
@@ -370,9 +377,9 @@ module _ (s : Standing) (before now count : ℕ) (came : List LineUnit) (d : Doi
       let owed : list_any is_sending (request_in s.frame) ≡ (function_of p == SEND_DATA) = ap (λ (l : List Request). list_any is_sending l) is.request ∙ sending_so p d.id in
       tick_to (left_of (function_of p == SEND_DATA) None) None
       (inr (inl (subst (λ (b : Bool). EndedInSilence s now (left_of b None)) owed
-      (answered_ends s before now count d.turn sent next is.unended (line_held s now count came d.turn line) (subst (λ (n : ℕ). AsProgress s before d.turn (Answered sent n)) one is.progress)))))
+      (answered_ends s before now count d.turn sent next is.unended (line_held s now count came d.turn line) (subst (λ (n : ℕ). AsProgress s before d.turn (Answered sent n)) one is.progress)).0)))
 
-  tick_from : (p : Purpose) (progress : Progress) → IsUnderWay s before d.turn d.id (record { purpose = p; progress = progress }) → IsKept s d.leaving
+  tick_from : (p : Purpose) (progress : Progress) → IsUnderWay s before d.turn d.id (record { purpose = p; progress = progress }) → IsKept s d.leaving p
       → AsksSo s now now count came (doing_next d (record { purpose = p; progress = progress }) (at_tick (record { purpose = p; progress = progress })))
   tick_from p Submitted is paid = goes_to p Submitted Submitted is paid is.progress
   tick_from p (Sent left) is paid = sent_tick p left (nat_lt 1 left) refl is paid
@@ -383,7 +390,7 @@ module _ (s : Standing) (before now count : ℕ) (came : List LineUnit) (d : Doi
   request_from (Some u) (is, paid) = tick_from u.purpose u.progress is paid
 
 pub request_tick_moves : (s : Standing) (before now count : ℕ) (came : List LineUnit) (d : Doing) → now ≡ before + 1 → AsksSo s now before count came d → AsksSo s now now count came (doing_after d at_tick)
-request_tick_moves s before now count came d next asks = request_from s before now count came d next asks.line d.under_way asks.under_way
+request_tick_moves s before now count came d next asks = request_from s before now count came d next asks.line asks.due d.under_way asks.under_way
 
 -- ---- a unit comes
 
@@ -414,17 +421,26 @@ answer_from s now count came unit turn id leaving (Some u) (is, paid) =
 pub answer_moves : (s : Standing) (now count : ℕ) (came : List LineUnit) (unit : LineUnit) (d : Doing) → IsAnswer unit → AsksSo s now now count came d
     → AsksSo (with_answer s (coming now count came unit)) now now count (came ++ unit ∷ []) d
 answer_moves s now count came unit d is asks =
-    record { line = line_answer_comes s now count came unit d.turn is asks.line; under_way = answer_from s now count came unit d.turn d.id d.leaving d.under_way asks.under_way }
+    record { line = line_answer_comes s now count came unit d.turn is asks.line; under_way = answer_from s now count came unit d.turn d.id d.leaving d.under_way asks.under_way; due = asks.due }
 
 pub frame_comes : (s : Standing) (line_now now count : ℕ) (came : List LineUnit) (f : FrameParts) (d : Doing) → AsksSo s line_now now count came d → AsksSo s line_now now count (came ++ Framed f ∷ []) d
-frame_comes s line_now now count came f d asks = record { line = line_frame_comes s line_now count came f d.turn asks.line; under_way = asks.under_way }
+frame_comes s line_now now count came f d asks = record { line = line_frame_comes s line_now count came f d.turn asks.line; under_way = asks.under_way; due = asks.due }
 
 -- ---- a request is submitted
 
+-- the first of an interview makes its second due
+due_then : (purpose : Purpose) (id : ℕ) (frame : List ℕ) → request_in frame ≡ request_of purpose id ∷ [] → IsDue frame (first_asked purpose)
+due_then (Housekeeping (First n)) id frame read = read
+due_then (Housekeeping task) id frame read = tt
+due_then (Attempt n more payload) id frame read = tt
+due_then Abort id frame read = tt
+
 pub submitted_moves : (purpose : Purpose) (id now count : ℕ) (prior : Prior) (came : List LineUnit) → AreFrames came → request_in (unit_text (Framed (frame_of purpose id))) ≡ request_of purpose id ∷ []
+    → FollowsFirst prior purpose → CarriesSo purpose
     → AsksSo (first_standing (unit_text (Framed (frame_of purpose id))) now prior) now now count came
-    (record { turn = Copied (frame_of purpose id) 1 0; under_way = Some (record { purpose = purpose; progress = Submitted }); leaving = record { owes = false; first = brought_before prior }; id = id })
-submitted_moves purpose id now count prior came frames read = record {
+    (record { turn = Copied (frame_of purpose id) 1 0; under_way = Some (record { purpose = purpose; progress = Submitted }); leaving = record { owes = false; first = brought_before prior }; id = id; due = first_asked purpose })
+submitted_moves purpose id now count prior came frames read follows carries = record {
   line = line_submitted (frame_of purpose id) now count prior came frames;
-  under_way = (record { frame = refl; request = read; unended = refl; progress = (tt, refl) }, (refl, refl));
+  under_way = (record { frame = refl; request = read; unended = refl; progress = (tt, refl) }, (refl, refl, follows, carries));
+  due = due_then purpose id (unit_text (Framed (frame_of purpose id))) read;
 }

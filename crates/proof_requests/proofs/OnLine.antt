@@ -13,7 +13,7 @@ use Rattle.law_time.specs.Judged.{is_acknowledgement}
 use Rattle.law_time.specs.Requests.{Answer, Judging}
 use Rattle.proof_waking.specs.proof_alone.Steps.{AreFrames}
 use Rattle.proof_requests.specs.Standing.{Prior, Standing, first_standing, sent_in, ticks_sent, with_answer, with_copy, with_judging}
-use Rattle.proof_requests.specs.Asking.{IsCopied, IsPaused, TieLine, WasGivenUp, WasIgnored, WasSent, frames_among, to_come}
+use Rattle.proof_requests.specs.Asking.{IsCopied, IsPaused, TieLine, WasDenied, WasGivenUp, WasIgnored, WasSent, frames_among, to_come}
 use Rattle.proof_requests.proofs.Line.{counted_copied, counted_few, few_is, four_is, none_to_come, ticks_more, ticks_none}
 use Rattle.proof_requests.proofs.Ended.{given_up_answered, given_up_judged, given_up_later, sent_answered, sent_later}
 
@@ -133,20 +133,26 @@ module _ (unit : LineUnit) (text : List ℕ) (denies : is_acknowledgement text �
   abbrev denial : ℕ → ℕ → Answer
   denial now count = record { unit = text; tick = now; frames = count }
 
-  -- the fourth is given up
-  pub denied_four : (s : Standing) (now count : ℕ) (rest : List LineUnit) (f : FrameParts) (copies ticks : ℕ) → to_come now count (unit ∷ rest) ≡ denial now count ∷ to_come now count rest
-      → (copies == 4) ≡ true → IsCopied s now count (unit ∷ rest) f copies ticks → WasGivenUp s now count
-  denied_four s now count rest f copies ticks first is tie =
+  -- the fourth is given up, then and there
+  pub was_denied : (s : Standing) (now count : ℕ) (rest : List LineUnit) (f : FrameParts) (copies ticks : ℕ) → to_come now count (unit ∷ rest) ≡ denial now count ∷ to_come now count rest
+      → (copies == 4) ≡ true → IsCopied s now count (unit ∷ rest) f copies ticks → (s.copies ≡ 4) × (denied : WasDenied s now count) × (denied.answer.tick ≡ now)
+  was_denied s now count rest f copies ticks first is tie =
       let four : s.copies ≡ 4 = tie.copies_are ∙ eqb-true copies 4 is in (
         four,
-        inl (record {
+        record {
           answer = denial now count;
           first = counted_copied s now count (unit ∷ rest) f copies ticks (four_is s.copies four) tie ∙ ap (λ (l : List Answer). take 1 l) first;
           denies = denies;
           by_now = omega arith;
           judged = omega arith;
-        }),
+        },
+        refl,
       )
+
+  pub denied_four : (s : Standing) (now count : ℕ) (rest : List LineUnit) (f : FrameParts) (copies ticks : ℕ) → to_come now count (unit ∷ rest) ≡ denial now count ∷ to_come now count rest
+      → (copies == 4) ≡ true → IsCopied s now count (unit ∷ rest) f copies ticks → WasGivenUp s now count
+  denied_four s now count rest f copies ticks first is tie =
+      let (four, denied, now_is) = was_denied s now count rest f copies ticks first is tie in (four, inl denied)
 
   pub line_denied : (s : Standing) (now count : ℕ) (rest : List LineUnit) (turn : Turn) → to_come now count (unit ∷ rest) ≡ denial now count ∷ to_come now count rest
       → TieLine s now count (unit ∷ rest) turn → TieLine s now count rest (turn_refused turn)

@@ -1,5 +1,5 @@
 -- What waits to be asked by a host alone can be read: each event adds such tasks alone.
-use Rattle.std.proofs.Common.{◌≡◌, ℕ, ◌≤◌, Bool, true, false, if◌then◌else◌, List, [], ◌∷◌, length, refl, sym, ap, subst, arith}
+use Rattle.std.proofs.Common.{◌≡◌, ℕ, ◌≤◌, Bool, true, false, if◌then◌else◌, List, [], ◌∷◌, ◌++◌, length, refl, sym, ap, subst, arith}
 use Rattle.std.specs.Prelude.{Option, Some, None, Result, Ok, Err}
 use Rattle.std.specs.Option.{option_or}
 use Rattle.std.specs.List.{AllByRecursion}
@@ -26,12 +26,15 @@ use Rattle.host_requests.specs.Events as requests
 use Rattle.host_requests.specs.Events.{RequestsEvent, interviewed_by, task_begun}
 use Rattle.host_requests.specs.Events.RequestsEvent.{Pushes, PushesInterview, PushesProbe, BeginsAbort, BeginsPrefix, BeginsAttempt, IsSent, Fails, Responds, CallsBack, Updates, Ticks, Forgets}
 use Rattle.host_requests.specs.Next.{at_callback, at_response, at_sent, at_tick, at_update, next_from, went_on}
+use Rattle.host_requests.specs.Facts.{ArePaired, due_second, first_of}
+use Rattle.host_requests.proofs.Purposes.{alone_paired, due-append, due-paired, paired-append}
 use Rattle.host_requests.specs.State.{RequestsState}
 use Rattle.host_requests.specs.declared.end.How.TheVariants.{LinkFailed}
 use Rattle.host_requests.specs.declared.next.Next.{Next}
 use Rattle.host_requests.specs.declared.next.Next.TheVariants.{Ends, GoesOn}
 use Rattle.host_requests.specs.declared.task.Task.{Task}
-use Rattle.host_requests.specs.declared.task.Task.TheVariants.{First, NoMore, Offer, Second, Segment}
+use Rattle.host_requests.specs.declared.task.Task.TheVariants.{Capabilities, First, MemoryId, NoMore, Offer, Second, Segment, Version}
+use Rattle.host_requests.specs.declared.task.Purpose.TheVariants.{Housekeeping}
 use Rattle.host_requests.specs.declared.under_way.UnderWay.{UnderWay}
 use Rattle.host_node.proofs.Searches.{what_is_least}
 use Rattle.host_node.specs.Search.{first_wanting, least_above, next_of}
@@ -53,16 +56,23 @@ use Rattle.host_model.specs.Taking.{FrameEvents, InterviewEvents, IsFollowed, No
 use Rattle.host_model.proofs.Own.{IsOwn}
 use Rattle.proof_waking.proofs.Always.{either, none, one}
 use Rattle.proof_waking.proofs.Followed.{FollowersAre, payload_all}
-use Rattle.proof_requests.specs.Walking.{AddsWell, CanBeRead, IsOfChip}
+use Rattle.proof_requests.specs.Carrying.{CarriesSo}
+use Rattle.proof_requests.specs.Walking.{AddsWell, AreRead, CanBeRead, IsOfChip}
+use Rattle.proof_requests.proofs.Carried.{open_none}
 use Rattle.proof_requests.proofs.Doing.{asks_of, attempt_asks, end_if_asks, holds_asks}
 use Rattle.proof_requests.proofs.Spelled.{source_is}
 
-abbrev pub AreRead : List Task → Type 0
-AreRead tasks = AllByRecursion CanBeRead tasks
-
 -- ---- tasks
 
-pub to_node : (n : ℕ) → IsNode n → AreRead (First n ∷ Second n ∷ [])
+-- others wait behind those that do
+more_read : (queue tasks : List Task) → AreRead queue → AllByRecursion CanBeRead tasks → ArePaired None tasks → AllByRecursion (λ task. CarriesSo (Housekeeping task)) tasks → AreRead (queue ++ tasks)
+more_read queue tasks are more paired carry = (
+  all-append CanBeRead queue tasks are.0 more,
+  subst (λ (due : Option ℕ). ArePaired due (queue ++ tasks)) (sym (due-append queue tasks paired)) (paired-append (due_second queue) queue tasks are.1 paired),
+  all-append (λ task. CarriesSo (Housekeeping task)) queue tasks are.2 carry,
+)
+
+pub to_node : (n : ℕ) → IsNode n → AllByRecursion CanBeRead (First n ∷ Second n ∷ [])
 to_node n is = ((λ id from to. is), ((λ id from to. is), tt))
 
 offer_read : (n : ℕ) (nonce : List ℕ) → IsNode n → CanBeRead (Offer n nonce)
@@ -110,16 +120,16 @@ request_read h event moment is are =
 
 -- ---- what an event adds
 
-room_read : (h : HostState) (task : Task) → CanBeRead task → AreRead h.requests.queue → AreRead (queues_if_room h task).requests.queue
-room_read h task is are = by (is_full h)
+room_read : (h : HostState) (task : Task) → CanBeRead task → ArePaired None (task ∷ []) → CarriesSo (Housekeeping task) → AreRead h.requests.queue → AreRead (queues_if_room h task).requests.queue
+room_read h task is paired carries are = by (is_full h)
   where
     by : (b : Bool) → AreRead (if b then h else requests_do h (Pushes task)).requests.queue
     by true = are
-    by false = all-append CanBeRead h.requests.queue (task ∷ []) are (is, tt)
+    by false = more_read h.requests.queue (task ∷ []) are (is, tt) paired (carries, tt)
 
 offering_read : (h : HostState) (n : ℕ) (live : Option (List ℕ)) → IsNode n → AreRead h.requests.queue → AreRead (offering h n live).requests.queue
 offering_read h n None is are = are
-offering_read h n (Some nonce) is are = room_read h (Offer n nonce) (offer_read n nonce is) are
+offering_read h n (Some nonce) is are = room_read h (Offer n nonce) (offer_read n nonce is) (refl, refl) tt are
 
 failing_read : (b : Bool) (h : HostState) → AreRead h.requests.queue → AreRead (failing_if b h).requests.queue
 failing_read true h are = request_read h Fails BeforeItsTick tt are
@@ -127,7 +137,8 @@ failing_read false h are = are
 
 front_read : (s : RequestsState) (queue : List Task) → AreRead queue → AreRead s.queue → AreRead (task_begun s queue).queue
 front_read s [] these are = are
-front_read s (task ∷ rest) these are = these.1
+front_read s (task ∷ rest) these are =
+    (these.0.1, subst (λ (due : Option ℕ). ArePaired due rest) (sym (due-paired (first_of task) rest these.1.1)) these.1.1, these.2.1)
 
 -- what an attempt gives, and a segment of an open session, has 1 to 46 bytes; a sealed text is not empty
 pub record PayloadsBring : Type 0 where
@@ -139,9 +150,10 @@ pub event_read : PayloadsBring → (h : HostState) (event : HostEvent) → May h
 event_read brings h (Accepts order carriage) may adds are = are
 event_read brings h (Cancels command) may adds are = are
 event_read brings h (Joins n) may adds are = are
-event_read brings h (Queues task) may adds are = all-append CanBeRead h.requests.queue (task ∷ []) are (adds, tt)
-event_read brings h (Queues_interview n) may adds are = all-append CanBeRead h.requests.queue (First n ∷ Second n ∷ []) are (to_node n adds)
-event_read brings h Queues_probe may adds are = all-append CanBeRead h.requests.queue _ are ((λ id from to. tt), ((λ id from to. tt), ((λ id from to. tt), tt)))
+event_read brings h (Queues task) may adds are = more_read h.requests.queue (task ∷ []) are (adds.0, tt) (alone_paired task may.0) (adds.1, tt)
+event_read brings h (Queues_interview n) may adds are = more_read h.requests.queue (First n ∷ Second n ∷ []) are (to_node n adds) (refl, (refl, refl)) (tt, (tt, tt))
+event_read brings h Queues_probe may adds are =
+    more_read h.requests.queue (Version ∷ MemoryId ∷ Capabilities ∷ []) are ((λ id from to. tt), ((λ id from to. tt), ((λ id from to. tt), tt))) (refl, (refl, (refl, refl))) (tt, (tt, (tt, tt)))
 event_read brings h (Hears item) may adds are = are
 event_read brings h (Requests_do event moment) may adds are = request_read h event moment adds are
 event_read brings h (Interviews n listens classes update) may adds are = subst AreRead (sym (told_queue h.requests (Updates update) tt)) are
@@ -159,13 +171,14 @@ event_read brings h (Spends_unread n payload) may adds are = are
 event_read brings h (Takes_nonce n seen text) may adds are = are
 event_read brings h (Notifies n) may adds are = are
 event_read brings h (Resends n payload) (k, found) adds are =
-    room_read h (Segment n payload) (segment_read n payload adds (brings.segments h (node_of h n) (open_session (node_of h n).book) k payload found).0) are
+    room_read h (Segment n payload) (segment_read n payload adds (brings.segments h (node_of h n) (open_session (node_of h n).book) k payload found).0) (refl, refl)
+    (open_none h (node_of h n) (open_session (node_of h n).book) k payload found) are
 event_read brings h (Hears_value n setting) may adds are = are
 event_read brings h (Has_no_room n property) may adds are = are
 event_read brings h Line_ticks may adds are = failing_read (gives_up h.side.turn (tick_side h.side).turn) (line_ticked h) are
 event_read brings h (Node_ticks n) may adds are =
     same_read (node_does h n node_ticks) (after h (Node_ticks n)) (attempt_asks (node_does h n node_ticks) (tick_end (node_of h n)) (open_command (node_of h n))) are
-event_read brings h (Queues_no_more n) may adds are = all-append CanBeRead h.requests.queue (NoMore n ∷ []) are (no_more_read n adds, tt)
+event_read brings h (Queues_no_more n) may adds are = more_read h.requests.queue (NoMore n ∷ []) are (no_more_read n adds, tt) (refl, refl) (tt, tt)
 event_read brings h (Drops_no_more n) may adds are = are
 event_read brings h Submits_abort may adds are = are
 event_read brings h Submits_front may adds are = front_read h.requests h.requests.queue are are

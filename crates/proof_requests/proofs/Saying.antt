@@ -120,7 +120,7 @@ protocol_answers body a b c d e f so =
 pub response_text : (func : ℕ) (body : List ℕ) (sum : ℕ) → response_in (framed (1 ∷ func ∷ body) sum) ≡ read_well (response_of func body)
 response_text func body sum = ap (λ (b : List ℕ). read_well (response_of func b)) (body_is body func sum)
 
-notice_text : (func : ℕ) (body : List ℕ) (sum : ℕ) → notice_in (framed (0 ∷ func ∷ body) sum) ≡ read_well (notice_of func body)
+pub notice_text : (func : ℕ) (body : List ℕ) (sum : ℕ) → notice_in (framed (0 ∷ func ∷ body) sum) ≡ read_well (notice_of func body)
 notice_text func body sum = ap (λ (b : List ℕ). read_well (notice_of func b)) (body_is body func sum)
 
 byte_text : (func : ℕ) (body : List ℕ) (sum : ℕ) → slice_index (body_in (framed (1 ∷ func ∷ body) sum)) 0 ≡ slice_index body 0
@@ -158,29 +158,29 @@ same_function (Housekeeping Capabilities) id = refl
 same_function (Attempt n more payload) id = refl
 same_function Abort id = refl
 
-record Sends (p : Purpose) (id : ℕ) : Type 0 where
-  node : ℕ
-  payload : List ℕ
-  request : request_of p id ≡ send node payload id
-  function : function_of p ≡ SEND_DATA
-  no_update : (update : Update) → purpose_ends_at_update update p ≡ false
+pub record Sends (p : Purpose) (id : ℕ) : Type 0 where
+  pub node : ℕ
+  pub payload : List ℕ
+  pub request : request_of p id ≡ send node payload id
+  pub function : function_of p ≡ SEND_DATA
+  pub no_update : (update : Update) → purpose_ends_at_update update p ≡ false
 
-record Informs (p : Purpose) (id : ℕ) : Type 0 where
-  node : ℕ
-  request : request_of p id ≡ RequestNodeInfo node
-  function : function_of p ≡ REQUEST_NODE_INFO
-  update : (update : Update) → purpose_ends_at_update update p ≡ is_update_of node update
+pub record Informs (p : Purpose) (id : ℕ) : Type 0 where
+  pub node : ℕ
+  pub request : request_of p id ≡ RequestNodeInfo node
+  pub function : function_of p ≡ REQUEST_NODE_INFO
+  pub update : (update : Update) → purpose_ends_at_update update p ≡ is_update_of node update
 
-record Answers (p : Purpose) (id : ℕ) : Type 0 where
-  ends : (first : Bool) (unit : List ℕ) → ends_by first unit (request_of p id) ≡ first
-  no_sending : (function_of p == SEND_DATA) ≡ false
-  no_information : (function_of p == REQUEST_NODE_INFO) ≡ false
-  no_update : (update : Update) → purpose_ends_at_update update p ≡ false
+pub record Answers (p : Purpose) (id : ℕ) : Type 0 where
+  pub ends : (first : Bool) (unit : List ℕ) → ends_by first unit (request_of p id) ≡ first
+  pub no_sending : (function_of p == SEND_DATA) ≡ false
+  pub no_information : (function_of p == REQUEST_NODE_INFO) ≡ false
+  pub no_update : (update : Update) → purpose_ends_at_update update p ≡ false
 
-abbrev Kinds : Purpose → ℕ → Type 0
+abbrev pub Kinds : Purpose → ℕ → Type 0
 Kinds p id = Sends p id ⊎ (Informs p id ⊎ Answers p id)
 
-kinds : (p : Purpose) (id : ℕ) → Kinds p id
+pub kinds : (p : Purpose) (id : ℕ) → Kinds p id
 kinds (Housekeeping (Plain n payload)) id = inl (record { node = n; payload = payload; request = refl; function = refl; no_update = λ update. refl })
 kinds (Housekeeping (Offer n nonce)) id = inl (record { node = n; payload = nonce_report nonce; request = refl; function = refl; no_update = λ update. refl })
 kinds (Housekeeping (Segment n payload)) id = inl (record { node = n; payload = payload; request = refl; function = refl; no_update = λ update. refl })

@@ -3,6 +3,7 @@ use Rattle.std.proofs.Common.{◌≡◌, ℕ, ◌≤◌, Bool, true, false, if�
 use Rattle.std.specs.Prelude.{◌&&◌, nat_le, Some, None, Result, Ok}
 use Rattle.std.proofs.lemmas.Bool.{and_parts, leb-true}
 use Rattle.std.proofs.lemmas.Nat.{mod_below}
+use Rattle.std.proofs.lemmas.Option.{none-some as none_is, same_Some as some_is}
 use Rattle.serial_frame.specs.Frame.{checksum, framed}
 use Rattle.serial_frame.specs.Items.{unit_text}
 use Rattle.serial_frame.specs.declared.unit.Unit.TheVariants.{Framed}
@@ -21,7 +22,7 @@ use Rattle.chip_functions.specs.Place.{Place, ◌>>=◌, byte_from, found_at, st
 use Rattle.chip_functions.specs.Request.{IsRequest, request_body, request_function, request_of as read_request}
 use Rattle.chip_functions.proofs.FieldLaws.{as_takes, bind_ok, found_ok, ok_is}
 use Rattle.chip_functions.proofs.RequestLaws.{request_only}
-use Rattle.chip_functions.proofs.RowLaws.{none_is, no_row, row_cases, some_is}
+use Rattle.chip_functions.proofs.RowLaws.{no_row, row_cases}
 use Rattle.law_transcript.specs.Units.{read_well, request_in}
 use Rattle.host_requests.specs.Frames.{frame_of, request_of}
 use Rattle.host_requests.specs.State.{next_id}

@@ -1,6 +1,6 @@
 -- At each step of a host alone, and wherever a part begins, what it asks is known.
-use Rattle.std.proofs.Common.{◌≡◌, ◌≤◌, ℕ, Bool, true, false, if◌then◌else◌, inl, inr, List, [], ◌∷◌, ◌++◌, length, map, refl, sym, ap, ◌∙◌, subst, append-nil, append_assoc}
-use Rattle.std.specs.Prelude.{Some}
+use Rattle.std.proofs.Common.{◌≡◌, ◌⊎◌, ◌≤◌, ℕ, Bool, true, false, if◌then◌else◌, inl, inr, List, [], ◌∷◌, ◌++◌, length, map, refl, sym, ap, ◌∙◌, subst, append-nil, append_assoc}
+use Rattle.std.specs.Prelude.{Option, Some, None, IsTrue}
 use Rattle.std.specs.List.{AllByRecursion}
 use Rattle.std.proofs.lemmas.Bool.{both_ways}
 use Rattle.zw_base.proofs.Each.{all-append, all-right, all-weaker}
@@ -21,6 +21,8 @@ use Rattle.law_transcript.specs.Restarts.{is_restart}
 use Rattle.law_time.specs.Moments.{clock}
 use Rattle.law_time.specs.Requests.{is_answer}
 use Rattle.host_requests.specs.Events.{task_begun}
+use Rattle.host_requests.specs.Facts.{due_second, first_asked as due_after, first_of}
+use Rattle.host_requests.proofs.Purposes.{due-paired}
 use Rattle.host_requests.specs.Events.RequestsEvent.{Ticks as request_ticks}
 use Rattle.serial_link.specs.declared.turn.Turn.TheVariants.{Copied}
 use Rattle.host_requests.specs.Frames.{frame_of}
@@ -43,6 +45,7 @@ use Rattle.host_model.specs.Events.{HostEvent, Accepts, Cancels, Hears, Requests
 use Rattle.host_model.specs.Outs.{answer_to, answers, outs, request_entries}
 use Rattle.host_model.specs.Pumping.{IsNext, no_more_event}
 use Rattle.host_model.specs.Ticking.{first_ticks, tick_events, ticking_nodes}
+use Rattle.host_model.specs.declared.out.HostOut.{HostOut}
 use Rattle.host_model.specs.declared.out.HostOut.TheVariants.{Write}
 use Rattle.host_model.proofs.Submitted.{SubmittedAre, next_is}
 use Rattle.world_model.specs.Events.{shown_values}
@@ -54,15 +57,18 @@ use Rattle.proof_waking.proofs.Timing.{clock_is}
 use Rattle.proof_waking.specs.Judged.{IsOfRequest, KnowsJudged, TieFrames}
 use Rattle.proof_waking.proofs.Followed.{MayFollow, frame_all}
 use Rattle.proof_waking.proofs.Parts.{IsNote, follow_notes}
-use Rattle.proof_requests.specs.Asking.{AsksNothing, Doing, TieAsked, doing_of}
-use Rattle.proof_requests.specs.Walking.{AsksBefore, Ground, HalfTick, IsNodeTick, IsRead, IsTied, KnowsAsked, KnowsTick, ReadsAs}
+use Rattle.proof_requests.specs.Standing.{prior_of}
+use Rattle.proof_requests.specs.Carrying.{CarriesSo}
+use Rattle.proof_requests.specs.Asking.{AsksNothing, Doing, FollowsFirst, TieAsked, doing_of}
+use Rattle.proof_requests.specs.Walking.{AreRead, AsksBefore, Ground, HalfTick, IsNodeTick, IsPaired, IsRead, IsTied, KnowsAsked, KnowsTick, ReadsAs}
+use Rattle.proof_requests.proofs.Carried.{open_none, start_none}
 use Rattle.proof_requests.proofs.Doing.{IsBeside, beside_same, same_asks}
 use Rattle.proof_requests.proofs.OnLine.{IsAnswer}
-use Rattle.proof_requests.proofs.Queued.{AreRead, PayloadsBring, served_is_node}
+use Rattle.proof_requests.proofs.Queued.{PayloadsBring, served_is_node}
 use Rattle.proof_requests.proofs.Queueing.{opened_asks}
 use Rattle.proof_requests.proofs.Spelled.{id_from, id_to, read_again}
 use Rattle.proof_requests.proofs.Telling.{IsQuiet, mark_quiet, tie_anew, tie_in_vain, tie_missed, tie_quiet, tie_said}
-use Rattle.proof_requests.proofs.Walking.{answer_comes_tie, at_end, event_quiet, frame_comes_tie, judges_acknowledgement, judges_can, judges_frame, judges_nak, line_ticks_tie, noted_notes, others_quiet, request_ticks_tie, same_doing, submits_tie, submitted_doing}
+use Rattle.proof_requests.proofs.Walking.{answer_comes_tie, at_end, event_quiet, frame_comes_tie, front_follows, judges_acknowledgement, judges_can, judges_frame, judges_nak, line_ticks_tie, noted_notes, others_quiet, owing_undue, request_ticks_tie, same_doing, submits_tie, submitted_doing}
 
 -- ---- where no part of the host runs
 
@@ -130,11 +136,11 @@ on_words line past m goes_on known =
     subst (λ (l : List Entry). TieAsked l m.clock m.clock m.came (doing_of m.state)) (sym known.are)
     (tie_said known.before known.words m.clock m.clock m.came (doing_of m.state) (ap is_restart known.read ∙ goes_on) known.tie)
 
-asked_on : (line : Line) (h : HostState) (event : HostEvent) → IsAskedBy line h event → is_restart (line ∷ []) ≡ false
+pub asked_on : (line : Line) (h : HostState) (event : HostEvent) → IsAskedBy line h event → is_restart (line ∷ []) ≡ false
 asked_on lines.Restart h event is = absurd is
 asked_on line h event is = refl
 
-none_on : (line : Line) → AsksNone line → is_restart (line ∷ []) ≡ false
+pub none_on : (line : Line) → AsksNone line → is_restart (line ∷ []) ≡ false
 none_on lines.Restart is = absurd is
 none_on line is = refl
 
@@ -143,14 +149,14 @@ beside_so event these same beside = subst IsBeside (sym same) beside
 
 pub asked_beside : (line : Line) (h : HostState) (event : HostEvent) → IsAskedBy line h event → IsBeside event
 asked_beside (lines.Command order) h event is = beside_so event _ is tt
-asked_beside (lines.Send node word) h event is = beside_so event _ is.1 tt
-asked_beside (lines.Get node end) h event is = beside_so event _ is.1 tt
+asked_beside (lines.Send node word) h event is = beside_so event _ is.1 (refl, refl)
+asked_beside (lines.Get node end) h event is = beside_so event _ is.1 (refl, refl)
 asked_beside (lines.Join node) h event is = beside_so event _ is tt
 asked_beside (lines.Interview node) h event is = beside_so event _ is.1 tt
 asked_beside (lines.Cancel command) h event is = beside_so event _ is tt
-asked_beside lines.Discover h event is = beside_so event _ is.1 tt
-asked_beside (lines.Neighbours node) h event is = beside_so event _ is.1 tt
-asked_beside (lines.Failed node) h event is = beside_so event _ is.1 tt
+asked_beside lines.Discover h event is = beside_so event _ is.1 (refl, refl)
+asked_beside (lines.Neighbours node) h event is = beside_so event _ is.1 (refl, refl)
+asked_beside (lines.Failed node) h event is = beside_so event _ is.1 (refl, refl)
 asked_beside lines.Probe h event is = beside_so event _ is.1 tt
 asked_beside line h event is = absurd is
 
@@ -175,7 +181,7 @@ restarts past m state fresh known =
     at_end past m.clock m.clock [] (doing_of state)
     (subst (λ (l : List Entry). TieAsked l m.clock m.clock [] (doing_of state)) (sym known.are)
     (tie_anew known.before known.words m.clock m.clock [] (doing_of state) (ap is_restart known.read)
-    (subst (AsksNothing []) (sym fresh) (record { unasked = refl; idle = refl; none = refl; paid = refl }))))
+    (subst (AsksNothing []) (sym fresh) (record { unasked = refl; idle = refl; none = refl; paid = refl; undue = refl }))))
 
 -- ---- the number of a tick
 
@@ -263,14 +269,14 @@ node_beside : (event : HostEvent) → IsNodeTick event → IsBeside event
 node_beside (Node_ticks n) is = tt
 node_beside event is = absurd is
 
-node_notes : (h : HostState) (event : HostEvent) → IsNodeTick event → AllByRecursion IsNote (outs h event)
+pub node_notes : (h : HostState) (event : HostEvent) → IsNodeTick event → AllByRecursion IsNote (outs h event)
 node_notes h (Node_ticks n) is = noted_notes (attempt_entries n (tick_end (node_of h n)) (open_command (node_of h n)))
 node_notes h event is = absurd is
 
-first_same : (first these : HostEvent) (left others : List HostEvent) → first ∷ left ≡ these ∷ others → first ≡ these
+pub first_same : (first these : HostEvent) (left others : List HostEvent) → first ∷ left ≡ these ∷ others → first ≡ these
 first_same first these left others is = cc
 
-left_same : (first these : HostEvent) (left others : List HostEvent) → first ∷ left ≡ these ∷ others → left ≡ others
+pub left_same : (first these : HostEvent) (left others : List HostEvent) → first ∷ left ≡ these ∷ others → left ≡ others
 left_same first these left others is = cc
 
 tick_does : (first : HostEvent) (left : List HostEvent) (past : List Entry) (m : HostMachine) (event : HostEvent) (told : List Entry) → event ≡ first → AreTold (outs m.state event) told → IsNumbered m told
@@ -323,7 +329,7 @@ sleep_beside : (full : Bool) (n : ℕ) → IsBeside (if full then Drops_no_more 
 sleep_beside true n = tt
 sleep_beside false n = tt
 
-sleep_notes : (h : HostState) (full : Bool) (n : ℕ) → AllByRecursion IsNote (outs h (if full then Drops_no_more n else Queues_no_more n))
+pub sleep_notes : (h : HostState) (full : Bool) (n : ℕ) → AllByRecursion IsNote (outs h (if full then Drops_no_more n else Queues_no_more n))
 sleep_notes h true n = (tt, tt)
 sleep_notes h false n = tt
 
@@ -338,14 +344,14 @@ free_of : (h : HostState) (event : HostEvent) → IsNext h event → IsFree h
 free_of h event next = next.0
 
 written_tie : (past told : List Entry) (m : HostMachine) (purpose : Purpose) (event : HostEvent) → doing_of (after m.state event) ≡ submitted_doing purpose m.state.requests.last_id m.state.requests.first
-    → AreFrames m.came → IsFree m.state → ReadsAs m.state purpose → ((e : Entry) (more : List Entry) → told ≡ e ∷ more → clock past ≡ m.clock)
+    → AreFrames m.came → IsFree m.state → FollowsFirst (prior_of past) purpose → CarriesSo purpose → ReadsAs m.state purpose → ((e : Entry) (more : List Entry) → told ≡ e ∷ more → clock past ≡ m.clock)
     → AreTold (Write (Framed (frame_of purpose (next_id m.state.requests.last_id))) ∷ []) told → IsTied past m → IsTied (past ++ told) (done m event)
-written_tie past told m purpose event does frames free read time is tie =
+written_tie past told m purpose event does frames free follows carries read time is tie =
     same_doing (past ++ told) m.clock m.clock m.came (submitted_doing purpose m.state.requests.last_id m.state.requests.first) (doing_of (after m.state event)) does
-    (submits_tie past told m.clock m.state.requests.last_id m.came (doing_of m.state) purpose frames free.free_line free.none_under_way read time is tie)
+    (submits_tie past told m.clock m.state.requests.last_id m.came (doing_of m.state) purpose frames free.free_line free.none_under_way follows carries read time is tie)
 
 -- which events a pump may submit
-abbrev IsSubmission : HostEvent → Type 0
+abbrev pub IsSubmission : HostEvent → Type 0
 IsSubmission Submits_abort = Unit {0}
 IsSubmission Submits_front = Unit {0}
 IsSubmission (Starts n plan more payload) = Unit {0}
@@ -355,7 +361,7 @@ IsSubmission (Begins n session command) = Unit {0}
 IsSubmission (Begin_unkept n) = Unit {0}
 IsSubmission event = ⊥
 
-submissions : SubmittedAre IsSubmission
+pub submissions : SubmittedAre IsSubmission
 submissions = record {
   abort = tt;
   front = tt;
@@ -366,11 +372,14 @@ submissions = record {
   unkept = λ n. tt;
 }
 
+owes_is : (b : Bool) → IsTrue b → b ≡ true
+owes_is b is = is
+
 -- the task that waited longest is under way
-front_does : (h : HostState) (queue : List Task) → h.requests.queue ≡ queue → (queue ≡ [] → ⊥) → h.requests.owes ≡ false
+front_does : (h : HostState) (queue : List Task) → h.requests.queue ≡ queue → IsPaired queue → (queue ≡ [] → ⊥) → h.requests.owes ≡ false
     → doing_of (after h Submits_front) ≡ submitted_doing (task_purpose h.requests.queue) h.requests.last_id h.requests.first
-front_does h [] is some paid = absurd (some refl)
-front_does h (task ∷ rest) is some paid =
+front_does h [] is paired some paid = absurd (some refl)
+front_does h (task ∷ rest) is paired some paid =
     front_by (h.requests.queue) is ∙ ap (λ (l : List Task). submitted_doing (task_purpose l) h.requests.last_id h.requests.first) (sym is)
   where
     front_by : (queue : List Task) → queue ≡ task ∷ rest
@@ -379,23 +388,43 @@ front_does h (task ∷ rest) is some paid =
     front_by [] are = absurd (let bad : [] ≡ task ∷ rest = are in cc)
     front_by (first ∷ others) are =
         let same : first ≡ task = cc in
-        ap (λ (t : Task). record (submitted_doing (Housekeeping t) h.requests.last_id h.requests.first) { leaving = record { owes = h.requests.owes; first = h.requests.first } }) same
+        let those : others ≡ rest = cc in
+        let due : due_second others ≡ first_of first =
+        ap due_second those ∙ due-paired (first_of task) rest paired.1 ∙ ap first_of (sym same) in
+        ap (λ (o : Option ℕ). record (submitted_doing (Housekeeping first) h.requests.last_id h.requests.first) { leaving = record { owes = h.requests.owes; first = h.requests.first }; due = o }) due
+        ∙ ap (λ (t : Task). record (submitted_doing (Housekeeping t) h.requests.last_id h.requests.first) { leaving = record { owes = h.requests.owes; first = h.requests.first } }) same
         ∙ ap (λ (b : Bool). record (submitted_doing (Housekeeping task) h.requests.last_id h.requests.first) { leaving = record { owes = b; first = h.requests.first } }) paid
 
-part_does : (h : HostState) (p : Purpose) (d : Doing) → d ≡ record (submitted_doing p h.requests.last_id h.requests.first) { leaving = record { owes = h.requests.owes; first = h.requests.first } } → h.requests.owes ≡ false
-    → d ≡ submitted_doing p h.requests.last_id h.requests.first
-part_does h p d is paid = is ∙ ap (λ (b : Bool). record (submitted_doing p h.requests.last_id h.requests.first) { leaving = record { owes = b; first = h.requests.first } }) paid
+part_does : (h : HostState) (p : Purpose) (d : Doing)
+    → d ≡ record (submitted_doing p h.requests.last_id h.requests.first) { leaving = record { owes = h.requests.owes; first = h.requests.first }; due = due_second h.requests.queue }
+    → h.requests.owes ≡ false → due_second h.requests.queue ≡ due_after p → d ≡ submitted_doing p h.requests.last_id h.requests.first
+part_does h p d is paid due =
+    is ∙ ap (λ (b : Bool). record (submitted_doing p h.requests.last_id h.requests.first) { leaving = record { owes = b; first = h.requests.first }; due = due_second h.requests.queue }) paid
+    ∙ ap (λ (o : Option ℕ). record (submitted_doing p h.requests.last_id h.requests.first) { due = o }) due
+
+abort_does : (h : HostState) → due_second h.requests.queue ≡ None → doing_of (after h Submits_abort) ≡ submitted_doing Abort h.requests.last_id h.requests.first
+abort_does h due = ap (λ (o : Option ℕ). record (submitted_doing Abort h.requests.last_id h.requests.first) { due = o }) due
+
+-- the second request of an interview is submitted directly after the first
+front_after : (past : List Entry) (m : HostMachine) (queue : List Task) → m.state.requests.queue ≡ queue → IsTied past m → FollowsFirst (prior_of past) (task_purpose queue)
+front_after past m [] is tie = tt
+front_after past m (task ∷ rest) is tie = front_follows past m.clock m.came (doing_of m.state) task (ap due_second is) tie
 
 -- what is written is read as it
 part_read : (h : HostState) (n : ℕ) (more : Bool) (payload : List ℕ) → next_of h.nodes h.served ≡ Some n → 1 ≤ length payload → ReadsAs h (Attempt n more payload)
 part_read h n more payload next some =
     read_again (Attempt n more payload) (next_id h.requests.last_id) (served_is_node h n next, some, id_from h.requests.last_id, id_to h.requests.last_id)
 
+-- and carries what it is for
+front_carries : (queue : List Task) → AllByRecursion (λ task. CarriesSo (Housekeeping task)) queue → CarriesSo (task_purpose queue)
+front_carries [] all = tt
+front_carries (task ∷ rest) all = all.0
+
 front_is_read : (h : HostState) (queue : List Task) → AreRead queue → ReadsAs h (task_purpose queue)
 front_is_read h [] are = read_again Abort (next_id h.requests.last_id) tt
-front_is_read h (task ∷ rest) are = read_again (Housekeeping task) (next_id h.requests.last_id) (are.0 (next_id h.requests.last_id) (id_from h.requests.last_id) (id_to h.requests.last_id))
+front_is_read h (task ∷ rest) are = read_again (Housekeeping task) (next_id h.requests.last_id) (are.0.0 (next_id h.requests.last_id) (id_from h.requests.last_id) (id_to h.requests.last_id))
 
-event_is_read : PayloadsBring → (h : HostState) (event : HostEvent) → HostFacts h → may_event h event → AreRead h.requests.queue → IsRead h event
+pub event_is_read : PayloadsBring → (h : HostState) (event : HostEvent) → HostFacts h → may_event h event → AreRead h.requests.queue → IsRead h event
 event_is_read brings h Submits_abort facts may are = read_again Abort (next_id h.requests.last_id) tt
 event_is_read brings h Submits_front facts may are = front_is_read h h.requests.queue are
 event_is_read brings h (Starts n plan more payload) facts may are = part_read h n more payload may.0.next (brings.starts h n plan more payload facts may.1).0
@@ -404,25 +433,87 @@ event_is_read brings h (Gives_segment n more payload) facts may are =
     part_read h n more payload may.0.next (brings.segments h (node_of h n) (open_session (node_of h n).book) (node_of h n).next_segment payload may.2).0
 event_is_read brings h event facts may are = tt
 
-submit_does : PayloadsBring → (past : List Entry) (m : HostMachine) (event : HostEvent) (told : List Entry) → IsSubmission event → IsNext m.state event → MayAll m.state (event ∷ []) → AreTold (outs m.state event) told
+-- a request of this purpose is submitted; or a session begins, or cannot
+pub record Submits (past : List Entry) (h : HostState) (event : HostEvent) : Type 0 where
+  pub purpose : Purpose
+  pub does : doing_of (after h event) ≡ submitted_doing purpose h.requests.last_id h.requests.first
+  pub puts : outs h event ≡ Write (Framed (frame_of purpose (next_id h.requests.last_id))) ∷ []
+  pub follows : FollowsFirst (prior_of past) purpose
+  pub carries : CarriesSo purpose
+  pub read : ReadsAs h purpose
+
+abbrev pub IsBeginning : HostEvent → Type 0
+IsBeginning (Begins n session command) = Unit {0}
+IsBeginning (Begin_unkept n) = Unit {0}
+IsBeginning event = ⊥
+
+module _ (brings : PayloadsBring) (past : List Entry) (m : HostMachine) (ground : Ground Submitting past m) (tie : IsTied past m) where
+  abbrev read_so : (event : HostEvent) → may_event m.state event → IsRead m.state event
+  read_so event may = event_is_read brings m.state event ground.0.0.0.0.0.facts.host may ground.1.0
+
+  -- a part of an attempt
+  part_submits : (event : HostEvent) (n : ℕ) (more : Bool) (payload : List ℕ) → outs m.state event ≡ Write (Framed (frame_of (Attempt n more payload) (next_id m.state.requests.last_id))) ∷ []
+      → doing_of (after m.state event) ≡ submitted_doing (Attempt n more payload) m.state.requests.last_id m.state.requests.first → CarriesSo (Attempt n more payload) → ReadsAs m.state (Attempt n more payload)
+      → Submits past m.state event
+  part_submits event n more payload puts does carries read = record { purpose = Attempt n more payload; does = does; puts = puts; follows = tt; carries = carries; read = read }
+
+  submits_so : (event : HostEvent) → IsSubmission event → IsNext m.state event → MayAll m.state (event ∷ []) → Submits past m.state event ⊎ IsBeginning event
+  submits_so Submits_abort sub next may =
+      inl (record {
+        purpose = Abort;
+        does = abort_does m.state (owing_undue past m.clock m.came (doing_of m.state) (free_of m.state Submits_abort next).none_under_way (owes_is m.state.requests.owes may.0.1) tie);
+        puts = refl;
+        follows = tt;
+        carries = tt;
+        read = read_so Submits_abort may.0;
+      })
+  submits_so Submits_front sub next may =
+      inl (record {
+        purpose = task_purpose m.state.requests.queue;
+        does = front_does m.state m.state.requests.queue refl ground.1.0.1 may.0.2 may.0.1;
+        puts = refl;
+        follows = front_after past m m.state.requests.queue refl tie;
+        carries = front_carries m.state.requests.queue ground.1.0.2;
+        read = read_so Submits_front may.0;
+      })
+  submits_so (Starts n plan more payload) sub next may =
+      inl (part_submits (Starts n plan more payload) n more payload refl
+      (part_does m.state (Attempt n more payload) (doing_of (after m.state (Starts n plan more payload))) refl may.0.0.paid (ap due_second may.0.0.no_task))
+      (start_none m.state n plan more payload may.0.1) (read_so (Starts n plan more payload) may.0))
+  submits_so (Gives_text n payload) sub next may =
+      inl (part_submits (Gives_text n payload) n false payload refl
+      (part_does m.state (Attempt n false payload) (doing_of (after m.state (Gives_text n payload))) refl may.0.0.paid (ap due_second may.0.0.no_task))
+      ((ground.1.2 n (served_is_node m.state n may.0.0.next)).text payload may.0.1) (read_so (Gives_text n payload) may.0))
+  submits_so (Gives_segment n more payload) sub next may =
+      inl (part_submits (Gives_segment n more payload) n more payload refl
+      (part_does m.state (Attempt n more payload) (doing_of (after m.state (Gives_segment n more payload))) refl may.0.0.paid (ap due_second may.0.0.no_task))
+      (open_none m.state (node_of m.state n) (open_session (node_of m.state n).book) (node_of m.state n).next_segment payload may.0.2) (read_so (Gives_segment n more payload) may.0))
+  submits_so (Begins n session command) sub next may = inr tt
+  submits_so (Begin_unkept n) sub next may = inr tt
+  submits_so event sub next may = absurd sub
+
+  pub submitted_is : (event : HostEvent) → IsNext m.state event → MayAll m.state (event ∷ []) → Submits past m.state event ⊎ IsBeginning event
+  submitted_is event next may = submits_so event (next_is IsSubmission submissions m.state event next) next may
+
+beginning_beside : (event : HostEvent) → IsBeginning event → IsBeside event
+beginning_beside (Begins n session command) is = tt
+beginning_beside (Begin_unkept n) is = tt
+beginning_beside event is = absurd is
+
+beginning_notes : (h : HostState) (event : HostEvent) → IsBeginning event → AllByRecursion IsNote (outs h event)
+beginning_notes h (Begins n session command) is = (tt, tt)
+beginning_notes h (Begin_unkept n) is = (tt, tt)
+beginning_notes h event is = absurd is
+
+submit_does : PayloadsBring → (past : List Entry) (m : HostMachine) (event : HostEvent) (told : List Entry) → IsNext m.state event → MayAll m.state (event ∷ []) → AreTold (outs m.state event) told
     → IsNumbered m told → Ground Submitting past m → IsTied past m → IsTied (past ++ told) (done m event)
-submit_does brings past m Submits_abort told sub next may is numbered ground tie =
-    written_tie past told m Abort Submits_abort refl ground.0.1 (free_of m.state Submits_abort next) (event_is_read brings m.state Submits_abort ground.0.0.0.0.0.facts.host may.0 ground.1.0) (time_told Submitting past told m ground numbered) is tie
-submit_does brings past m Submits_front told sub next may is numbered ground tie =
-    written_tie past told m (task_purpose m.state.requests.queue) Submits_front (front_does m.state m.state.requests.queue refl may.0.2 may.0.1) ground.0.1 (free_of m.state Submits_front next)
-    (event_is_read brings m.state Submits_front ground.0.0.0.0.0.facts.host may.0 ground.1.0) (time_told Submitting past told m ground numbered) is tie
-submit_does brings past m (Starts n plan more payload) told sub next may is numbered ground tie =
-    written_tie past told m (Attempt n more payload) (Starts n plan more payload) (part_does m.state (Attempt n more payload) (doing_of (after m.state (Starts n plan more payload))) refl may.0.0.paid) ground.0.1
-    (free_of m.state (Starts n plan more payload) next) (event_is_read brings m.state (Starts n plan more payload) ground.0.0.0.0.0.facts.host may.0 ground.1.0) (time_told Submitting past told m ground numbered) is tie
-submit_does brings past m (Gives_text n payload) told sub next may is numbered ground tie =
-    written_tie past told m (Attempt n false payload) (Gives_text n payload) (part_does m.state (Attempt n false payload) (doing_of (after m.state (Gives_text n payload))) refl may.0.0.paid) ground.0.1
-    (free_of m.state (Gives_text n payload) next) (event_is_read brings m.state (Gives_text n payload) ground.0.0.0.0.0.facts.host may.0 ground.1.0) (time_told Submitting past told m ground numbered) is tie
-submit_does brings past m (Gives_segment n more payload) told sub next may is numbered ground tie =
-    written_tie past told m (Attempt n more payload) (Gives_segment n more payload) (part_does m.state (Attempt n more payload) (doing_of (after m.state (Gives_segment n more payload))) refl may.0.0.paid) ground.0.1
-    (free_of m.state (Gives_segment n more payload) next) (event_is_read brings m.state (Gives_segment n more payload) ground.0.0.0.0.0.facts.host may.0 ground.1.0) (time_told Submitting past told m ground numbered) is tie
-submit_does brings past m (Begins n session command) told sub next may is numbered ground tie = beside_goes past m (Begins n session command) told tt (tt, tt) is tie
-submit_does brings past m (Begin_unkept n) told sub next may is numbered ground tie = beside_goes past m (Begin_unkept n) told tt (tt, tt) is tie
-submit_does brings past m event told sub next may is numbered ground tie = absurd sub
+submit_does brings past m event told next may is numbered ground tie = by (submitted_is brings past m ground tie event next may)
+  where
+    by : Submits past m.state event ⊎ IsBeginning event → IsTied (past ++ told) (done m event)
+    by (inl s) =
+        written_tie past told m s.purpose event s.does ground.0.1 (free_of m.state event next) s.follows s.carries s.read (time_told Submitting past told m ground numbered)
+        (subst (λ (l : List HostOut). AreTold l told) s.puts is) tie
+    by (inr begins) = beside_goes past m event told (beginning_beside event begins) (beginning_notes m.state event begins) is tie
 
 does : PayloadsBring → (here next : Phase) (past : List Entry) (m : HostMachine) (event : HostEvent) (told : List Entry) → May here m (Does event told) next → Ground here past m → KnowsAsked here past m
     → Goes next past m (Does event told)
@@ -435,7 +526,7 @@ does brings Sleeping next past m event told may ground known =
     leads next Sleeping past m (Does event told) next_is (sleep_does past m node event told is may.2 known)
 does brings Submitting next past m event told may ground known =
     leads next Submitting past m (Does event told) may.0.1
-    (submit_does brings past m event told (next_is IsSubmission submissions m.state event may.0.0) may.0.0 may.1 may.2 may.3 ground known)
+    (submit_does brings past m event told may.0.0 may.1 may.2 may.3 ground known)
 does brings (Ticking []) next past m event told may ground known = absurd may.0
 does brings (Behind []) next past m event told may ground known = absurd may.0
 does brings Resting next past m event told may ground known = absurd may.0
@@ -518,4 +609,4 @@ asked_walk brings First = record {
 -- a host that asks for nothing, and has said nothing
 pub first_asked : (m : HostMachine) → doing_of m.state ≡ doing_of (first_host m.keys) → KnowsAsked Resting [] m
 first_asked m fresh =
-    subst (λ (d : Doing). TieAsked [] m.clock m.clock m.came d) (sym fresh) (inl (record { unasked = refl; idle = refl; none = refl; paid = refl }))
+    subst (λ (d : Doing). TieAsked [] m.clock m.clock m.came d) (sym fresh) (inl (record { unasked = refl; idle = refl; none = refl; paid = refl; undue = refl }))

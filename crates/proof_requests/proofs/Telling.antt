@@ -77,7 +77,7 @@ mark_quiet (entry.Garbled Host unit) mark = tt
 mark_quiet (entry.Overrun Host) mark = tt
 mark_quiet e mark = absurd mark
 
-fresh_wordless : (told : List Entry) → AllByRecursion IsWordless told → begins_refused told ≡ false
+pub fresh_wordless : (told : List Entry) → AllByRecursion IsWordless told → begins_refused told ≡ false
 fresh_wordless [] all = refl
 fresh_wordless (entry.Refused refusal ∷ told) all = absurd all.0
 fresh_wordless (e ∷ told) all = refl
@@ -114,7 +114,7 @@ asks_by past told later count line_now now came d is stands counted asks =
     (subst (λ (s : Standing). AsksSo s line_now now count came d) (sym (ap standing_of is ∙ stands)) asks)
 
 nothing_grown : (past told : List Entry) (d : Doing) → asked (past ++ told) ≡ with_entries (asked past) told → AsksNothing past d → AsksNothing (past ++ told) d
-nothing_grown past told d is none = record { unasked = ap (λ (a : Asked). a.frame) is ∙ none.unasked; idle = none.idle; none = none.none; paid = none.paid }
+nothing_grown past told d is none = record { unasked = ap (λ (a : Asked). a.frame) is ∙ none.unasked; idle = none.idle; none = none.none; paid = none.paid; undue = none.undue }
 
 pub quiet_on : (past told : List Entry) → AllByRecursion IsQuiet told → asked (past ++ told) ≡ with_entries (asked past) told
 quiet_on past told all = asked_on past told (fresh_wordless told (all-weaker IsQuiet IsWordless quiet_wordless told all)) (all-weaker IsQuiet GoesOn quiet_goes told all)
@@ -262,7 +262,7 @@ tie_in_vain past words refusal line_now now came d tie =
 pub tie_anew : (past : List Entry) (words : List ℕ) (line_now now : ℕ) (came : List LineUnit) (d : Doing) → is_restart (line_of (entry.Said words)) ≡ true → AsksNothing [] d
     → TieAsked (past ++ entry.Said words ∷ []) line_now now came d
 tie_anew past words line_now now came d anew none =
-    inl (record { unasked = ap (λ (a : Asked). a.frame) (asked_anew past words anew); idle = none.idle; none = none.none; paid = none.paid })
+    inl (record { unasked = ap (λ (a : Asked). a.frame) (asked_anew past words anew); idle = none.idle; none = none.none; paid = none.paid; undue = none.undue })
 
 -- ---- a unit of the chip does not come as it was written
 

@@ -14,7 +14,7 @@ use Rattle.host_requests.specs.declared.under_way.Progress.{Progress}
 use Rattle.host_requests.specs.declared.under_way.Progress.TheVariants.{Submitted, Sent, Answered}
 use Rattle.host_requests.specs.declared.under_way.UnderWay.{UnderWay}
 use Rattle.proof_requests.specs.Standing.{brought_by, Standing, ends_now, failing_in, first_ending, responses_in, sent_in, ticks_sent, wait_in, with_judging}
-use Rattle.proof_requests.specs.Asking.{nothing_left, AsProgress, EndedByFrame, EndedByLine, EndedInSilence, IsSentBy, IsUnderWay, TieLine, WasGivenUp, WasIgnored, is_owed}
+use Rattle.proof_requests.specs.Asking.{Leaving, nothing_left, AsProgress, EndedByFrame, EndedByLine, EndedInSilence, IsSentBy, IsUnderWay, TieLine, WasGivenUp, WasIgnored, is_owed}
 use Rattle.proof_requests.proofs.Line.{GivesUpLater, IsFresh, IsOpenLine, copied_open, failing_four, failing_sent, four_is, paused_open}
 use Rattle.proof_requests.proofs.Judging.{and_true, ending_judged, responses_judged}
 use Rattle.proof_requests.proofs.Ended.{gave_up, wait_judged, wait_too_late, waiting}
@@ -252,16 +252,23 @@ later_fails wait now count (fails ∷ more) is (first, later) = ap (λ (b : Bool
         or_right (nat_lt wait fails.tick) (fails.at_answer && (wait == fails.tick))
         (ap (λ (b : Bool). b && (wait == fails.tick)) at_answer ∙ eq-eqb wait fails.tick (is ∙ sym same))
 
-silent_at : (s : Standing) (wait now count : ℕ) → wait_in s ≡ wait ∷ [] → wait ≡ now → first_ending s ≡ [] → GivesUpLater now count (failing_in s) → EndedInSilence s now (record { owes = is_owed s wait; first = None })
-silent_at s wait now count wait_is is none later = record {
-  tick = wait;
-  owed = refl;
-  nothing = refl;
-  wait = wait_is;
-  by_now = omega (arith, is);
-  late = ap (λ (l : List Judging). list_all (λ one. nat_le wait one.tick) l) none;
-  stands = later_fails wait now count (failing_in s) is later;
-}
+-- its wait ends at this tick
+abbrev pub SilentNow : Standing → ℕ → Leaving → Type 0
+SilentNow s now leaving = (e : EndedInSilence s now leaving) × (e.tick ≡ now)
+
+silent_at : (s : Standing) (wait now count : ℕ) → wait_in s ≡ wait ∷ [] → wait ≡ now → first_ending s ≡ [] → GivesUpLater now count (failing_in s) → SilentNow s now (record { owes = is_owed s wait; first = None })
+silent_at s wait now count wait_is is none later = (
+  record {
+    tick = wait;
+    owed = refl;
+    nothing = refl;
+    wait = wait_is;
+    by_now = omega (arith, is);
+    late = ap (λ (l : List Judging). list_all (λ one. nat_le wait one.tick) l) none;
+    stands = later_fails wait now count (failing_in s) is later;
+  },
+  is,
+)
 
 -- whether an abort is owed then
 owed_unanswered : (s : Standing) (tick : ℕ) → responses_in s ≡ [] → is_owed s tick ≡ false
@@ -275,9 +282,9 @@ owed_answered s one more are =
     (or_left (one.tick + 65 == one.tick + 65) (list_any (λ each. each.tick + 65 == one.tick + 65) more) (eq-eqb (one.tick + 65) (one.tick + 65) refl))
     ∙ and_true (list_any is_sending (request_in s.frame))
 
-pub sent_ends : (s : Standing) (before now count : ℕ) (turn : Turn) → now ≡ before + 1 → first_ending s ≡ [] → AsProgress s before turn (Sent 1) → EndedInSilence s now nothing_left
+pub sent_ends : (s : Standing) (before now count : ℕ) (turn : Turn) → now ≡ before + 1 → first_ending s ≡ [] → AsProgress s before turn (Sent 1) → SilentNow s now nothing_left
 sent_ends s before now count turn next none (idle, unanswered, other, sent, sent_is, since, some) =
-    subst (λ (b : Bool). EndedInSilence s now (record { owes = b; first = None })) (owed_unanswered s (sent + 15) unanswered)
+    subst (λ (b : Bool). SilentNow s now (record { owes = b; first = None })) (owed_unanswered s (sent + 15) unanswered)
     (silent_at s (sent + 15) now count
     (ap (λ (b : Bool). waiting b (sent_in s) (responses_in s)) other ∙ ap (λ (l : List ℕ). waiting false l (responses_in s)) sent_is
     ∙ ap (λ (l : List Judging). waiting false (sent ∷ []) l) unanswered)
@@ -285,9 +292,9 @@ sent_ends s before now count turn next none (idle, unanswered, other, sent, sent
     (subst (GivesUpLater now count) (sym (failing_sent s sent sent_is)) tt))
 
 pub answered_ends : (s : Standing) (before now count : ℕ) (turn : Turn) (sent : Bool) → now ≡ before + 1 → first_ending s ≡ [] → IsHeld s now count turn → AsProgress s before turn (Answered sent 1)
-    → EndedInSilence s now (record { owes = list_any is_sending (request_in s.frame); first = None })
+    → SilentNow s now (record { owes = list_any is_sending (request_in s.frame); first = None })
 answered_ends s before now count turn true next none held (other, one, more, are, since, some, few, (idle, sent, sent_is, in_time)) =
-    subst (λ (b : Bool). EndedInSilence s now (record { owes = b; first = None })) (owed_answered s one more are)
+    subst (λ (b : Bool). SilentNow s now (record { owes = b; first = None })) (owed_answered s one more are)
     (silent_at s (one.tick + 65) now count
     (ap (λ (b : Bool). waiting b (sent_in s) (responses_in s)) other ∙ ap (λ (l : List ℕ). waiting false l (responses_in s)) sent_is
     ∙ ap (λ (l : List Judging). waiting false (sent ∷ []) l) are
@@ -295,7 +302,7 @@ answered_ends s before now count turn true next none held (other, one, more, are
     (omega (arith, since, next)) none
     (subst (GivesUpLater now count) (sym (failing_sent s sent sent_is)) tt))
 answered_ends s before now count turn false next none held (other, one, more, are, since, some, few, busy) =
-    subst (λ (b : Bool). EndedInSilence s now (record { owes = b; first = None })) (owed_answered s one more are)
+    subst (λ (b : Bool). SilentNow s now (record { owes = b; first = None })) (owed_answered s one more are)
     (silent_at s (one.tick + 65) now count (wait (held.opened busy).fresh) (omega (arith, since, next)) none (held.opened busy).later)
   where
     waited : (sent : List ℕ) → sent_in s ≡ sent → waiting false sent (one ∷ more) ≡ (one.tick + 65) ∷ [] → wait_in s ≡ (one.tick + 65) ∷ []

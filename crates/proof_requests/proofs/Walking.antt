@@ -1,9 +1,9 @@
 -- At each step of a host alone what it asks is tied to its transcript.
 use Rattle.std.proofs.Common.{◌≡◌, ℕ, ◌+◌, ◌==◌, ◌&&◌, not, Bool, true, false, if◌then◌else◌, inl, inr, List, [], ◌∷◌, ◌++◌, length, refl, sym, ap, ◌∙◌, subst, append-nil, append_assoc, length-append, arith}
-use Rattle.std.specs.Prelude.{Option, Some, None, nat_lt}
-use Rattle.std.specs.List.{AllByRecursion}
+use Rattle.std.specs.Prelude.{Option, Some, None, nat_le, nat_lt}
+use Rattle.std.specs.List.{AllByRecursion, list_any}
 use Rattle.std.specs.Str.{bytes_eq}
-use Rattle.std.proofs.lemmas.Bool.{lt-ltb}
+use Rattle.std.proofs.lemmas.Bool.{both_ways, lt-ltb}
 use Rattle.std.proofs.lemmas.Slice.Eq.{bytes_eq-Decides}
 use Rattle.zw_base.proofs.Each.{all-append, all-weaker}
 use Rattle.serial_frame.specs.Frame.{FrameParts}
@@ -18,19 +18,24 @@ use Rattle.zw_words.specs.declared.side.Side.TheVariants.{Host, Chip}
 use Rattle.zw_text.specs.declared.entry.Entry.{Entry}
 use Rattle.zw_text.specs.declared.entry.Entry.TheVariants as entry
 use Rattle.chip_functions.specs.declared.request.Request.{Request}
+use Rattle.chip_functions.specs.declared.request.Request.TheVariants.{GetNodeProtocolInfo}
 use Rattle.law_transcript.specs.Units.{request_in}
 use Rattle.law_time.specs.Moments.{clock}
 use Rattle.law_time.specs.Judged.{acknowledged, frames_come, is_acknowledgement, is_data}
-use Rattle.law_time.specs.Ends.{ending}
+use Rattle.law_time.specs.Ends.{ending, is_sending}
 use Rattle.law_time.specs.Requests.{Answer, Judging, are_none, asked, copies as copies_of, is_answer, is_copy, is_new, sent_at}
 use Rattle.host_requests.specs.Events.RequestsEvent.{Fails as request_fails, IsSent as request_is_sent, Ticks as request_ticks}
+use Rattle.host_requests.specs.Facts.{first_asked, second_of}
 use Rattle.host_requests.specs.Next.{at_sent, at_tick}
 use Rattle.host_requests.specs.Frames.{frame_of, request_frame, request_of}
 use Rattle.host_requests.specs.State.{id_after, next_id}
 use Rattle.host_requests.specs.declared.end.How.TheVariants.{LinkFailed}
 use Rattle.host_requests.specs.declared.next.Next.{Next}
 use Rattle.host_requests.specs.declared.next.Next.TheVariants.{Ends}
+use Rattle.host_requests.specs.declared.task.Task.{Task}
+use Rattle.host_requests.specs.declared.task.Task.TheVariants.{Second}
 use Rattle.host_requests.specs.declared.task.Purpose.{Purpose}
+use Rattle.host_requests.specs.declared.task.Purpose.TheVariants.{Housekeeping}
 use Rattle.host_requests.specs.declared.under_way.Progress.TheVariants.{Submitted}
 use Rattle.host_requests.specs.declared.under_way.UnderWay.{UnderWay}
 use Rattle.host_node.specs.declared.attempt.Moment.TheVariants.{BeforeItsTick, BetweenTicks}
@@ -48,8 +53,9 @@ use Rattle.proof_waking.specs.proof_alone.Steps.{AreFrames, AreTold, IsOfOthers,
 use Rattle.proof_waking.specs.Judged.{TieFrames, frames_of}
 use Rattle.proof_waking.proofs.Apart.{acknowledged_frames}
 use Rattle.proof_waking.proofs.Parts.{IsNote}
-use Rattle.proof_requests.specs.Standing.{Prior, brought_before, brought_of, prior_of, Standing, first_standing, standing_of, with_answer, with_copy}
-use Rattle.proof_requests.specs.Asking.{Leaving, AsksNothing, AsksSo, Doing, IsPaused, TieAsked, TieLine, TieUnderWay, WasAsked, doing_after, doing_from, doing_of, frames_among, to_come}
+use Rattle.proof_requests.specs.Standing.{Prior, brought_before, brought_of, prior_of, Standing, first_standing, owes_abort_in, responses_in, silence_in, standing_of, with_answer, with_copy}
+use Rattle.proof_requests.specs.Carrying.{CarriesSo}
+use Rattle.proof_requests.specs.Asking.{FollowsFirst, IsDue, Leaving, AsksNothing, AsksSo, Doing, IsPaused, TieAsked, TieLine, TieUnderWay, WasAsked, doing_after, doing_from, doing_of, frames_among, to_come}
 use Rattle.proof_requests.specs.Saying.{frame_next}
 use Rattle.proof_requests.proofs.Ending.{over_so}
 use Rattle.proof_requests.proofs.Moving.{acknowledgement_moves, answer_moves, denial_moves, doing_ticked, frame_comes, frame_moves, line_tick_moves, request_tick_moves, submitted_moves}
@@ -89,7 +95,7 @@ pub noted_notes : (told : List Entry) → AllByRecursion IsNote (noted told)
 noted_notes [] = tt
 noted_notes (e ∷ told) = (tt, noted_notes told)
 
-event_hosts : (h : HostState) (event : HostEvent) → NoteOuts (outs h event)
+pub event_hosts : (h : HostState) (event : HostEvent) → NoteOuts (outs h event)
 event_hosts h event = subst NoteOuts (append-nil (outs h event)) (all_outs_note h (event ∷ []))
 
 pub event_quiet : (h : HostState) (event : HostEvent) (told : List Entry) → AllByRecursion IsNote (outs h event) → AreTold (outs h event) told → AllByRecursion IsQuiet told
@@ -99,7 +105,7 @@ event_quiet h event told notes is = quiet_told (outs h event) told notes (event_
 
 nothing_after : (past : List Entry) (d : Doing) (next : UnderWay → Next) → AsksNothing past d → AsksNothing past (doing_after d next)
 nothing_after past d next none =
-    subst (λ (o : Option UnderWay). AsksNothing past (doing_from d next o)) (sym none.none) (record { unasked = none.unasked; idle = none.idle; none = refl; paid = none.paid })
+    subst (λ (o : Option UnderWay). AsksNothing past (doing_from d next o)) (sym none.none) (record { unasked = none.unasked; idle = none.idle; none = refl; paid = none.paid; undue = none.undue })
 
 -- the same, where what it does is the same
 pub same_doing : (past : List Entry) (line_now now : ℕ) (came : List LineUnit) (d e : Doing) → e ≡ d → TieAsked past line_now now came d → TieAsked past line_now now came e
@@ -142,7 +148,7 @@ acknowledged_then h (Paused f copies ticks) is behind are =
 acknowledged_asks : (s : Standing) (now count : ℕ) (rest : List LineUnit) (d : Doing) (turn : Turn) → d.turn ≡ turn → AsksSo s now now count (Ack ∷ rest) d
     → AsksSo s now now count rest (if is_busy turn then doing_after (record d { turn = Idle }) at_sent else record d { turn = Idle })
 acknowledged_asks s now count rest d Idle is asks =
-    record { line = subst (TieLine s now count (Ack ∷ rest)) is asks.line; under_way = subst (λ (t : Turn). TieUnderWay s now now count t d.id d.leaving d.under_way) is asks.under_way }
+    record { line = subst (TieLine s now count (Ack ∷ rest)) is asks.line; under_way = subst (λ (t : Turn). TieUnderWay s now now count t d.id d.leaving d.under_way) is asks.under_way; due = asks.due }
 acknowledged_asks s now count rest d (Copied f copies ticks) is asks = acknowledgement_moves s now count rest d (subst IsBusy (sym is) tt) asks
 acknowledged_asks s now count rest d (Paused f copies ticks) is asks = acknowledgement_moves s now count rest d (subst IsBusy (sym is) tt) asks
 
@@ -155,7 +161,7 @@ judges_acknowledgement past now h rest behind are tie =
         → TieAsked past now now rest (if is_busy h.side.turn then doing_after (record (doing_of h) { turn = Idle }) at_sent else record (doing_of h) { turn = Idle })
     by (inl none) =
         inl (subst (λ (t : Turn). AsksNothing past (if is_busy t then doing_after (record (doing_of h) { turn = Idle }) at_sent else record (doing_of h) { turn = Idle })) (sym none.idle)
-        (record { unasked = none.unasked; idle = refl; none = none.none; paid = none.paid }))
+        (record { unasked = none.unasked; idle = refl; none = none.none; paid = none.paid; undue = none.undue }))
     by (inr (was, asks)) = inr (was, acknowledged_asks (standing_of (asked past)) now (acknowledged past) rest (doing_of h) h.side.turn refl asks)
 
 -- a denial
@@ -171,7 +177,7 @@ denial_tie : (past : List Entry) (now : ℕ) (unit : LineUnit) (text : List ℕ)
     → ((count : ℕ) → to_come now count (unit ∷ rest) ≡ record { unit = text; tick = now; frames = count } ∷ to_come now count rest)
     → TieAsked past now now (unit ∷ rest) d → TieAsked past now now rest (denied_doing d d.turn)
 denial_tie past now unit text rest d denies first (inl none) =
-    inl (subst (λ (t : Turn). AsksNothing past (denied_doing d t)) (sym none.idle) (record { unasked = none.unasked; idle = refl; none = none.none; paid = none.paid }))
+    inl (subst (λ (t : Turn). AsksNothing past (denied_doing d t)) (sym none.idle) (record { unasked = none.unasked; idle = refl; none = none.none; paid = none.paid; undue = none.undue }))
 denial_tie past now unit text rest d denies first (inr (was, asks)) =
     inr (was, denial_moves unit text denies (standing_of (asked past)) now (acknowledged past) rest d (first (acknowledged past)) asks d.turn refl asks.line asks.under_way)
 
@@ -210,42 +216,42 @@ request_ticks_tie past told before now came h next is tie =
 
 -- ---- the line's tick
 
--- told of a host that writes a frame, and of what it notes behind it
-record IsWritten (text : List ℕ) (told : List Entry) : Type 0 where
-  rest : List Entry
-  are : told ≡ entry.Written Host text ∷ rest
-  quiet : AllByRecursion IsQuiet rest
+-- told of a host that writes a frame, and of what became of it
+pub record IsWritten (text : List ℕ) (told : List Entry) : Type 0 where
+  pub rest : List Entry
+  pub are : told ≡ entry.Written Host text ∷ rest
+  pub marks : AllByRecursion IsOfUnit rest
+  pub quiet : AllByRecursion IsQuiet rest
 
-written_told : (f : FrameParts) (notes : List Entry) (told : List Entry) → NoteOuts (noted notes) → AreTold (Write (Framed f) ∷ noted notes) told → IsWritten (unit_text (Framed f)) told
-written_told f notes told hosts (marks, rest, is, all, more) = record {
-  rest = marks ++ rest;
-  are = is;
-  quiet = all-append IsQuiet marks rest (marks_quiet marks all) (quiet_told (noted notes) rest (noted_notes notes) hosts more);
-}
+pub written_told : (f : FrameParts) (told : List Entry) → AreTold (Write (Framed f) ∷ []) told → IsWritten (unit_text (Framed f)) told
+written_told f told (marks, rest, is, all, none) =
+    let became = all-append IsOfUnit marks rest all (subst (AllByRecursion IsOfUnit) (sym none) tt) in
+    record { rest = marks ++ rest; are = is; marks = became; quiet = marks_quiet (marks ++ rest) became }
 
 -- what is written at it, by the side of the line
-abbrev line_outs : HostState → Turn → List HostOut
+abbrev pub line_outs : HostState → Turn → List HostOut
 line_outs h turn = copy_out (copy_due turn) ++ noted (failing_entries (gives_up turn (turn_ticked turn)) (line_ticked h))
 
-quiet_line : (h : HostState) (turn : Turn) (told : List Entry) → copies_now turn ≡ false → NoteOuts (line_outs h turn) → AreTold (line_outs h turn) told → AllByRecursion IsQuiet told
-quiet_line h Idle told none hosts is = quiet_told (line_outs h Idle) told (noted_notes (failing_entries false (line_ticked h))) hosts is
-quiet_line h (Copied f copies ticks) told none hosts is =
-    quiet_told (line_outs h (Copied f copies ticks)) told (noted_notes (failing_entries (gives_up (Copied f copies ticks) (turn_ticked (Copied f copies ticks))) (line_ticked h))) hosts is
-quiet_line h (Paused f copies ticks) told none hosts is = by (ticks + 1 == pause_after copies) none hosts is
+pub line_notes : (h : HostState) (turn : Turn) → copies_now turn ≡ false → AllByRecursion IsNote (line_outs h turn)
+line_notes h Idle none = tt
+line_notes h (Copied f copies ticks) none = noted_notes (failing_entries (gives_up (Copied f copies ticks) (turn_ticked (Copied f copies ticks))) (line_ticked h))
+line_notes h (Paused f copies ticks) none = by (ticks + 1 == pause_after copies) none
   where
-    by : (b : Bool) → b ≡ false → NoteOuts (copy_out (if b then Some f else None) ++ noted (failing_entries (gives_up (Paused f copies ticks) (if b then Copied f (copies + 1) 0 else Paused f copies (ticks + 1))) (line_ticked h)))
-        → AreTold (copy_out (if b then Some f else None) ++ noted (failing_entries (gives_up (Paused f copies ticks) (if b then Copied f (copies + 1) 0 else Paused f copies (ticks + 1))) (line_ticked h))) told
-        → AllByRecursion IsQuiet told
-    by true none hosts is = absurd (let bad : true ≡ false = none in cc)
-    by false none hosts is = quiet_told [] told tt tt is
+    by : (b : Bool) → b ≡ false
+        → AllByRecursion IsNote (copy_out (if b then Some f else None) ++ noted (failing_entries (gives_up (Paused f copies ticks) (if b then Copied f (copies + 1) 0 else Paused f copies (ticks + 1))) (line_ticked h)))
+    by true none = absurd (let bad : true ≡ false = none in cc)
+    by false none = tt
 
-copy_line : (h : HostState) (f : FrameParts) (copies ticks : ℕ) (told : List Entry) → (ticks + 1 == pause_after copies) ≡ true → AreTold (line_outs h (Paused f copies ticks)) told
+pub quiet_line : (h : HostState) (turn : Turn) (told : List Entry) → copies_now turn ≡ false → NoteOuts (line_outs h turn) → AreTold (line_outs h turn) told → AllByRecursion IsQuiet told
+quiet_line h turn told none hosts is = quiet_told (line_outs h turn) told (line_notes h turn none) hosts is
+
+pub copy_line : (h : HostState) (f : FrameParts) (copies ticks : ℕ) (told : List Entry) → (ticks + 1 == pause_after copies) ≡ true → AreTold (line_outs h (Paused f copies ticks)) told
     → IsWritten (unit_text (Framed f)) told
 copy_line h f copies ticks told now is = by (ticks + 1 == pause_after copies) now is
   where
     by : (b : Bool) → b ≡ true → AreTold (copy_out (if b then Some f else None) ++ noted (failing_entries (gives_up (Paused f copies ticks) (if b then Copied f (copies + 1) 0 else Paused f copies (ticks + 1))) (line_ticked h))) told
         → IsWritten (unit_text (Framed f)) told
-    by true now is = written_told f [] told tt is
+    by true now is = written_told f told is
     by false now is = absurd (let bad : false ≡ true = now in cc)
 
 -- a copy is no new request
@@ -259,7 +265,7 @@ and_not : (a b : Bool) → b ≡ true → (a && not b) ≡ false
 and_not true b is = ap not is
 and_not false b is = refl
 
-is_old : (past : List Entry) (before : ℕ) (came : List LineUnit) (f : FrameParts) (copies ticks : ℕ) → AreFrames came → IsPaused (standing_of (asked past)) before (acknowledged past) came f copies
+pub is_old : (past : List Entry) (before : ℕ) (came : List LineUnit) (f : FrameParts) (copies ticks : ℕ) → AreFrames came → IsPaused (standing_of (asked past)) before (acknowledged past) came f copies
     → is_new (asked past) (unit_text (Framed f)) ≡ false
 is_old past before came f copies ticks frames line =
     and_not (is_data (unit_text (Framed f))) (is_copy (asked past) (unit_text (Framed f)))
@@ -312,10 +318,10 @@ module _ (past told : List Entry) (before now : ℕ) (came : List LineUnit) (h :
           let so : AreTold (line_outs h Idle) told = subst (λ (t : Turn). AreTold (line_outs h t) told) none.idle is in
           let hosts : NoteOuts (line_outs h Idle) = subst (λ (t : Turn). NoteOuts (line_outs h t)) none.idle (event_hosts h Line_ticks) in
           tie_quiet past told now before came (doing_ticked (doing_of h) h.side.turn) (quiet_line h Idle told refl hosts so)
-          (inl (subst (λ (t : Turn). AsksNothing past (doing_ticked (doing_of h) t)) (sym none.idle) (record { unasked = none.unasked; idle = refl; none = none.none; paid = none.paid })))
+          (inl (subst (λ (t : Turn). AsksNothing past (doing_ticked (doing_of h) t)) (sym none.idle) (record { unasked = none.unasked; idle = refl; none = none.none; paid = none.paid; undue = none.undue })))
       by (inr (was, asks)) =
           ticked_by h.side.turn refl is (event_hosts h Line_ticks) was asks.line
-          (line_tick_moves (standing_of (asked past)) before now (acknowledged past) came (doing_of h) next frames h.side.turn refl asks.line asks.under_way)
+          (line_tick_moves (standing_of (asked past)) before now (acknowledged past) came (doing_of h) next frames asks.due h.side.turn refl asks.line asks.under_way)
 
 -- ---- a request is submitted
 
@@ -332,12 +338,12 @@ and_full false b c is = refl
 and_other : (a b c : Bool) → a ≡ false → (a && b && c) ≡ false
 and_other a b c is = ap (λ (x : Bool). x && b && c) is
 
-turn_idle : (turn : Turn) → is_busy turn ≡ false → turn ≡ Idle
+pub turn_idle : (turn : Turn) → is_busy turn ≡ false → turn ≡ Idle
 turn_idle Idle free = refl
 turn_idle (Copied f copies ticks) free = absurd (let bad : true ≡ false = free in cc)
 turn_idle (Paused f copies ticks) free = absurd (let bad : true ≡ false = free in cc)
 
-is_fresh : (past : List Entry) (now : ℕ) (came : List LineUnit) (d : Doing) (f : FrameParts) → is_busy d.turn ≡ false → TieAsked past now now came d → is_new (asked past) (unit_text (Framed f)) ≡ true
+pub is_fresh : (past : List Entry) (now : ℕ) (came : List LineUnit) (d : Doing) (f : FrameParts) → is_busy d.turn ≡ false → TieAsked past now now came d → is_new (asked past) (unit_text (Framed f)) ≡ true
 is_fresh past now came d f free tie = ap not (by tie)
   where
     line_of_idle : (s : Standing) (count : ℕ) → TieLine s now count came d.turn → TieLine s now count came Idle
@@ -358,7 +364,7 @@ is_fresh past now came d f free tie = ap not (by tie)
 abbrev Begun : Purpose → ℕ → ℕ → ℕ → Prior → List LineUnit → Request → Type 0
 Begun purpose id now count prior came request =
     AsksSo (first_standing (unit_text (Framed (request_frame request))) now prior) now now count came
-    (record { turn = Copied (request_frame request) 1 0; under_way = Some (record { purpose = purpose; progress = Submitted }); leaving = record { owes = false; first = brought_before prior }; id = id })
+    (record { turn = Copied (request_frame request) 1 0; under_way = Some (record { purpose = purpose; progress = Submitted }); leaving = record { owes = false; first = brought_before prior }; id = id; due = first_asked purpose })
 
 -- what it is then
 abbrev pub submitted_doing : Purpose → ℕ → Option ℕ → Doing
@@ -367,6 +373,7 @@ submitted_doing purpose last first = record {
   under_way = Some (record { purpose = purpose; progress = Submitted });
   leaving = record { owes = false; first = first };
   id = id_after last purpose;
+  due = first_asked purpose;
 }
 
 -- what the request before it brought is kept
@@ -383,20 +390,50 @@ kept_of past now came d none (inr (was, asks)) = by d.under_way none asks.under_
     by None is ended = (over_so (standing_of (asked past)) now (acknowledged past) d.leaving ended).brought
     by (Some u) is under_way = absurd (let bad = is in cc)
 
+-- a second request that is due follows the first of its interview
+due_follows : (past : List Entry) (now : ℕ) (came : List LineUnit) (d : Doing) (n : ℕ) → d.due ≡ Some n → TieAsked past now now came d → request_in (asked past).frame ≡ GetNodeProtocolInfo n ∷ []
+due_follows past now came d n is (inl none) = absurd (let bad : Some n ≡ None = sym is ∙ none.undue in cc)
+due_follows past now came d n is (inr (was, asks)) = subst (IsDue (asked past).frame) is asks.due
+
+pub front_follows : (past : List Entry) (now : ℕ) (came : List LineUnit) (d : Doing) (task : Task) → d.due ≡ second_of task → TieAsked past now now came d
+    → FollowsFirst (prior_of past) (Housekeeping task)
+front_follows past now came d (Second n) is tie = due_follows past now came d n is tie
+front_follows past now came d task is tie = tt
+
+-- while one is due no abort is owed
+owed_none : (s : Standing) (now n : ℕ) → request_in s.frame ≡ GetNodeProtocolInfo n ∷ [] → owes_abort_in s now ≡ false
+owed_none s now n is =
+    ap (λ (l : List Request). list_any is_sending l && list_any (λ tick. nat_le tick now && list_any (λ one. one.tick + 65 == tick) (responses_in s)) (silence_in s)) is
+
+pub owing_undue : (past : List Entry) (now : ℕ) (came : List LineUnit) (d : Doing) → d.under_way ≡ None → d.leaving.owes ≡ true → TieAsked past now now came d → d.due ≡ None
+owing_undue past now came d none owes (inl nothing) = nothing.undue
+owing_undue past now came d none owes (inr (was, asks)) = by d.due refl
+  where
+    owed : (o : Option UnderWay) → o ≡ None → TieUnderWay (standing_of (asked past)) now now (acknowledged past) d.turn d.id d.leaving o → owes_abort_in (standing_of (asked past)) now ≡ d.leaving.owes
+    owed None is ended = (over_so (standing_of (asked past)) now (acknowledged past) d.leaving ended).owed
+    owed (Some u) is under_way = absurd (let bad = is in cc)
+
+    by : (due : Option ℕ) → d.due ≡ due → d.due ≡ None
+    by None is = is
+    by (Some n) is =
+        absurd (both_ways d.leaving.owes
+        (sym (owed d.under_way none asks.under_way) ∙ owed_none (standing_of (asked past)) now n (subst (IsDue (asked past).frame) is asks.due)) owes)
+
 pub submits_tie : (past told : List Entry) (now last : ℕ) (came : List LineUnit) (d : Doing) (purpose : Purpose) → AreFrames came → is_busy d.turn ≡ false → d.under_way ≡ None
+    → FollowsFirst (prior_of past) purpose → CarriesSo purpose
     → request_in (unit_text (Framed (frame_of purpose (next_id last)))) ≡ request_of purpose (next_id last) ∷ [] → ((e : Entry) (more : List Entry) → told ≡ e ∷ more → clock past ≡ now)
     → AreTold (Write (Framed (frame_of purpose (next_id last))) ∷ []) told → TieAsked past now now came d → TieAsked (past ++ told) now now came (submitted_doing purpose last d.leaving.first)
-submits_tie past told now last came d purpose frames free none read time is tie =
+submits_tie past told now last came d purpose frames free none follows carries read time is tie =
     let f : FrameParts = frame_of purpose (next_id last) in
     let unit : List ℕ = unit_text (Framed f) in
-    let wrote = written_told f [] told tt is in
+    let wrote = written_told f told is in
     let e : Entry = entry.Written Host unit in
     let after_it : Doing = submitted_doing purpose last (brought_before (prior_of past)) in
     let at : clock (past ++ e ∷ []) ≡ now = clock_same past (e ∷ []) (tt, tt) ∙ time e wrote.rest wrote.are in
     let asks : AsksSo (first_standing unit now (prior_of past)) now now (acknowledged past) came after_it =
     subst (Begun purpose (id_after last purpose) now (acknowledged past) (prior_of past) came) (sym (request_kept purpose last))
     (submitted_moves purpose (id_after last purpose) now (acknowledged past) (prior_of past) came frames
-    (subst (λ (q : Request). request_in (unit_text (Framed (request_frame q))) ≡ q ∷ []) (request_kept purpose last) read)) in
+    (subst (λ (q : Request). request_in (unit_text (Framed (request_frame q))) ≡ q ∷ []) (request_kept purpose last) read) follows carries) in
     let first : TieAsked (past ++ e ∷ []) now now came after_it =
     tie_new past unit now now came after_it (data_acknowledges_none unit refl) refl (is_fresh past now came d f free tie)
     (subst (λ (n : ℕ). AsksSo (first_standing unit n (prior_of past)) now now (acknowledged past) came after_it) (sym at) asks) in

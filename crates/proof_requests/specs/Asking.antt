@@ -2,6 +2,7 @@
 -- at, since within a tick the line counts first and the request after it.
 use Rattle.std.specs.Prelude.{◌≡◌, ◌⊎◌, ◌≤◌, ◌<◌, ℕ, ◌+◌, ◌==◌, ◌&&◌, nat_le, nat_lt, Bool, true, false, List, [], ◌∷◌, ◌++◌, Option, Some, None, is_none}
 use Rattle.std.specs.List.{AllByRecursion, list_all, list_any}
+use Rattle.chip_functions.specs.declared.request.Request.TheVariants.{GetNodeProtocolInfo}
 use Rattle.serial_frame.specs.Frame.{FrameParts}
 use Rattle.serial_frame.specs.Items.{unit_text}
 use Rattle.serial_frame.specs.declared.unit.Unit.{Unit as LineUnit}
@@ -14,16 +15,21 @@ use Rattle.law_transcript.specs.Units.{request_in}
 use Rattle.law_time.specs.Judged.{acknowledged, is_acknowledgement, is_data}
 use Rattle.law_time.specs.Requests.{Answer, Judging, asked, up_to_first}
 use Rattle.law_time.specs.Ends.{has_ended, owes_abort as law_owes_abort, is_abort_frame, is_before_failing, is_sending, waits_before_failing}
+use Rattle.host_requests.specs.Facts.{due_second}
 use Rattle.host_requests.specs.Frames.{frame_of, request_of}
 use Rattle.host_requests.specs.Next.{capability_at, owes_abort}
 use Rattle.host_requests.specs.declared.next.Next.{Next}
 use Rattle.host_requests.specs.declared.next.Next.TheVariants.{Ends, GoesOn}
+use Rattle.host_requests.specs.declared.task.Task.TheVariants.{Second}
+use Rattle.host_requests.specs.declared.task.Purpose.{Purpose}
+use Rattle.host_requests.specs.declared.task.Purpose.TheVariants.{Housekeeping}
 use Rattle.host_requests.specs.declared.under_way.Progress.{Progress}
 use Rattle.host_requests.specs.declared.under_way.Progress.TheVariants.{Submitted, Sent, Answered}
 use Rattle.host_requests.specs.declared.under_way.UnderWay.{UnderWay}
 use Rattle.host_model.specs.State.{HostState}
 use Rattle.proof_waking.specs.proof_alone.Steps.{AreFrames}
-use Rattle.proof_requests.specs.Standing.{Standing, brought_before, brought_by, counted, failing_in, first_ending, responses_in, sent_in, standing_of, wait_in}
+use Rattle.proof_requests.specs.Carrying.{CarriesSo}
+use Rattle.proof_requests.specs.Standing.{Prior, Standing, brought_before, brought_by, counted, failing_in, first_ending, responses_in, sent_in, standing_of, wait_in}
 
 -- ---- what came and was not judged
 
@@ -167,26 +173,38 @@ pub record EndedAsAbort (s : Standing) (now : ℕ) (leaving : Leaving) : Type 0 
 abbrev pub HasEnded : Standing → ℕ → ℕ → Leaving → Type 0
 HasEnded s now count leaving = EndedByFrame s now count leaving ⊎ (EndedInSilence s now leaving ⊎ (EndedByLine s now count leaving ⊎ EndedAsAbort s now leaving))
 
--- while one is under way no abort is owed, and what the one before it brought is kept
-abbrev pub IsKept : Standing → Leaving → Type 0
-IsKept s leaving = (leaving.owes ≡ false) × (leaving.first ≡ brought_before s.prior)
+-- the request before the second one of an interview was its first one
+abbrev pub FollowsFirst : Prior → Purpose → Type 0
+FollowsFirst prior (Housekeeping (Second n)) = request_in prior.frame ≡ GetNodeProtocolInfo n ∷ []
+FollowsFirst prior purpose = Unit {0}
+
+-- while one is under way no abort is owed, what the one before it brought is kept, and it carries what it is for
+abbrev pub IsKept : Standing → Leaving → Purpose → Type 0
+IsKept s leaving purpose = (leaving.owes ≡ false) × (leaving.first ≡ brought_before s.prior) × FollowsFirst s.prior purpose × CarriesSo purpose
 
 -- one that has ended has by the time that the line has counted to
 abbrev pub TieUnderWay : Standing → ℕ → ℕ → ℕ → Turn → ℕ → Leaving → Option UnderWay → Type 0
 TieUnderWay s line_now now count turn id leaving None = HasEnded s line_now count leaving
-TieUnderWay s line_now now count turn id leaving (Some u) = IsUnderWay s now turn id u × IsKept s leaving
+TieUnderWay s line_now now count turn id leaving (Some u) = IsUnderWay s now turn id u × IsKept s leaving u.purpose
 
 -- ---- a host
 
--- what of it is tied: its side of the line, the request under way, what the last end left, and the callback id given last
+-- what of it is tied: its side of the line, the request under way, what the last end left, the callback id given last, and the node whose second request of an interview is due
 pub record Doing : Type 0 where
   pub turn : Turn
   pub under_way : Option UnderWay
   pub leaving : Leaving
   pub id : ℕ
+  pub due : Option ℕ
 
 abbrev pub doing_of : HostState → Doing
-doing_of h = record { turn = h.side.turn; under_way = h.requests.under_way; leaving = record { owes = h.requests.owes; first = h.requests.first }; id = h.requests.last_id }
+doing_of h = record {
+  turn = h.side.turn;
+  under_way = h.requests.under_way;
+  leaving = record { owes = h.requests.owes; first = h.requests.first };
+  id = h.requests.last_id;
+  due = due_second h.requests.queue;
+}
 
 -- and after the request under way did so, where there is one
 abbrev pub doing_next : Doing → UnderWay → Next → Doing
@@ -206,16 +224,23 @@ pub record AsksNothing (past : List Entry) (d : Doing) : Type 0 where
   pub idle : d.turn ≡ Idle
   pub none : d.under_way ≡ None
   pub paid : d.leaving ≡ nothing_left
+  pub undue : d.due ≡ None
 
 -- a request was written, and what stands up to its first copy, with what follows that, is all
 pub record WasAsked (past : List Entry) : Type 0 where
   pub framed : is_data (asked past).frame ≡ true
   pub whole : up_to_first (asked past) ++ (asked past).following ≡ past
 
+-- the last request was the first one of the interview whose second is due
+abbrev pub IsDue : List ℕ → Option ℕ → Type 0
+IsDue frame None = Unit {0}
+IsDue frame (Some n) = request_in frame ≡ GetNodeProtocolInfo n ∷ []
+
 -- the line has counted to one time, and the request to another; so many frames were judged
 pub record AsksSo (s : Standing) (line_now now count : ℕ) (came : List LineUnit) (d : Doing) : Type 0 where
   pub line : TieLine s line_now count came d.turn
   pub under_way : TieUnderWay s line_now now count d.turn d.id d.leaving d.under_way
+  pub due : IsDue s.frame d.due
 
 abbrev pub TieAsked : List Entry → ℕ → ℕ → List LineUnit → Doing → Type 0
 TieAsked past line_now now came d = AsksNothing past d ⊎ (WasAsked past × AsksSo (standing_of (asked past)) line_now now (acknowledged past) came d)

@@ -1,8 +1,10 @@
 pub mod Standing
+pub mod Carrying
 pub mod Asking
 pub mod Effects
 pub mod Saying
 pub mod Walking
-pub mod Questions
+pub mod Ends
+pub mod Numbers
 pub use Rattle.proof_waking.specs.law_host as law_host
 pub use Rattle.proof_waking.specs.proof_alone as proof_alone

@@ -15,14 +15,15 @@ use Rattle.law_transcript.specs.Units.{request_in}
 use Rattle.law_time.specs.Requests.{asked}
 use Rattle.host_requests.specs.Events.{RequestsEvent}
 use Rattle.host_requests.specs.Events.RequestsEvent.{IsSent, Fails, Responds, CallsBack, Updates, Ticks}
+use Rattle.host_requests.specs.Facts.{ArePaired, due_second}
 use Rattle.host_requests.specs.Frames.{frame_of, request_of, task_request}
 use Rattle.host_requests.specs.State.{next_id}
 use Rattle.host_requests.specs.declared.task.Task.{Task}
 use Rattle.host_requests.specs.declared.under_way.UnderWay.{UnderWay}
 use Rattle.host_requests.specs.declared.task.Purpose.{Purpose}
-use Rattle.host_requests.specs.declared.task.Purpose.TheVariants.{Attempt, Abort}
+use Rattle.host_requests.specs.declared.task.Purpose.TheVariants.{Attempt, Abort, Housekeeping}
 use Rattle.host_node.specs.declared.attempt.Moment.TheVariants.{BeforeItsTick}
-use Rattle.host_model.specs.State.{HostState}
+use Rattle.host_model.specs.State.{HostState, node_of}
 use Rattle.host_model.specs.Events.{HostEvent, Queues, Queues_interview, Offers, Gives, Resends, Queues_no_more, Node_ticks, Requests_do, Submits_abort, Submits_front, Starts, Gives_text, Gives_segment}
 use Rattle.host_model.specs.After.{task_purpose}
 use Rattle.host_model.specs.Did.{after_all}
@@ -35,6 +36,8 @@ use Rattle.proof_waking.specs.proof_alone.Tables.{KnowsTables}
 use Rattle.proof_waking.specs.proof_alone.Time.{KnowsClock}
 use Rattle.proof_waking.specs.proof_alone.Listening.{KnowsListening}
 use Rattle.proof_waking.specs.Judged.{KnowsJudged}
+use Rattle.proof_messages.specs.Hosts.{HasTexts}
+use Rattle.proof_requests.specs.Carrying.{CarriesSo, is_errand}
 use Rattle.proof_requests.specs.Standing.{brought_before, prior_of}
 use Rattle.proof_requests.specs.Asking.{Doing, TieAsked, doing_of}
 
@@ -79,7 +82,7 @@ CanBeRead task = (id : ℕ) → 1 ≤ id → id ≤ 255 → IsRequest (task_requ
 
 -- what an event adds to those that wait can be
 abbrev pub AddsWell : HostEvent → Type 0
-AddsWell (Queues task) = CanBeRead task
+AddsWell (Queues task) = CanBeRead task × CarriesSo (Housekeeping task)
 AddsWell (Queues_interview n) = IsNode n
 AddsWell (Offers n) = IsNode n
 AddsWell (Gives n drawn) = IsNode n
@@ -93,8 +96,19 @@ abbrev pub AddAt : Phase → Type 0
 AddAt (Behind left) = AllByRecursion AddsWell left
 AddAt here = Unit {0}
 
+-- the tasks that wait are such; those of an interview stand in pairs, but that the first one's may be gone
+abbrev pub IsPaired : List Task → Type 0
+IsPaired queue = ArePaired (due_second queue) queue
+
+abbrev pub AreRead : List Task → Type 0
+AreRead queue = AllByRecursion CanBeRead queue × IsPaired queue × AllByRecursion (λ task. CarriesSo (Housekeeping task)) queue
+
+-- and no sealed text that a node is to be given is what a line asks for
+abbrev pub HaveTexts : HostState → Type 0
+HaveTexts h = (n : ℕ) → IsNode n → HasTexts (λ text. is_errand text ≡ false) (λ plain. Unit {0}) (node_of h n)
+
 abbrev pub KnowsQueue : Knowledge
-KnowsQueue here past m = AllByRecursion CanBeRead m.state.requests.queue × AddAt here
+KnowsQueue here past m = AreRead m.state.requests.queue × AddAt here × HaveTexts m.state
 
 abbrev pub KnowsHost : Knowledge
 KnowsHost = both_know (both_know KnowsTables KnowsClock) KnowsJudged

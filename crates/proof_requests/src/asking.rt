@@ -3,18 +3,12 @@
 ghost use Rattle.std.specs.Prelude.{Some, List, [], ℕ};
 ghost use Rattle.s0_crypto.specs.declared.key_pair.Keys.{Keys};
 ghost use Rattle.serial_frame.specs.declared.unit.Unit.{Unit as LineUnit};
-ghost use Rattle.device_sim.specs.State.{State};
 ghost use Rattle.zw_text.specs.declared.entry.Entry.{Entry};
-ghost use Rattle.proof_waking.specs.law_host.Heard.{heard_by_host};
-ghost use Rattle.world_model.specs.State.{first_machine};
-ghost use Rattle.world_lines.specs.Spoken.{Spoken, transcript_of};
-ghost use Rattle.world_lines.specs.Done.{AreDone};
 ghost use Rattle.law_time.specs.Moments.{Allows};
 ghost use Rattle.law_time.specs.Waking.{may_wake};
-ghost use Rattle.law_time.specs.Questions.{AnswersQuestions};
 ghost use Rattle.proof_waking.specs.proof_alone.State.{HostMachine, first_alone};
 ghost use Rattle.proof_waking.specs.proof_alone.Phases.{Phase, Resting};
-ghost use Rattle.proof_waking.specs.proof_alone.Runs.{Run, Told, Walk, both_know};
+ghost use Rattle.proof_waking.specs.proof_alone.Runs.{Run, Walk, both_know};
 ghost use Rattle.proof_requests.specs.Asking.{Doing, TellsOfHost, TieAsked, doing_of};
 ghost use Rattle.proof_waking.specs.proof_alone.Listening.{ListensAsTold};
 ghost use Rattle.proof_requests.specs.Walking.{Ground, KnowsAsked, KnowsInterviews};
@@ -22,9 +16,8 @@ ghost use Rattle.proof_requests.specs.Walking.{Ground, KnowsAsked, KnowsIntervie
 use host_keep::texts_give_one_thing;
 use host_model::attempts_have_what_they_give;
 use host_node::a_restart_needs_the_records_alone;
-use proof_waking::alone::{
-    hosts_keep_their_tables, hosts_tell_time, lines_are_a_hosts, what_is_heard_is_a_hosts,
-};
+use proof_messages::hosts_leave_nonces;
+use proof_waking::alone::{hosts_keep_their_tables, hosts_tell_time};
 use proof_waking::hosts_judge_as_told;
 
 /// In any run of a host alone, also where it starts again, over a keeper that tells its records and has none at first: the request of the host is as its
@@ -41,6 +34,7 @@ pub fn hosts_ask_as_told()
         TellsOfHost told m.clock m.came (doing_of m.state) }
 {
     attempts_have_what_they_give();
+    hosts_leave_nonces();
     hosts_keep_their_tables();
     hosts_tell_time();
     hosts_judge_as_told();
@@ -57,24 +51,4 @@ pub fn hosts_listen_as_told()
     texts_give_one_thing();
     a_restart_needs_the_records_alone();
     hosts_ask_as_told();
-}
-
-/// So the answers to questions stand where the first response to the last request was judged, directly after it, and wherever it was.
-pub fn hosts_answer_questions()
-    ensures { (keys : Keys) (told : List Entry) → Told (first_alone keys (Some [])) told → AnswersQuestions told }
-{
-    hosts_ask_as_told();
-}
-
-/// So it is over any lines from the first on, the last of which an allocation failure may have cut short, over a keeper that tells its records and has none at
-/// first; and of what a host heard of them.
-pub fn lines_answer_questions()
-    ensures lines { (keys : Keys) (devices : List State) (lines : List Spoken) → AreDone (first_machine keys (Some []) devices) lines →
-        AnswersQuestions (transcript_of (first_machine keys (Some []) devices) lines) }
-    ensures heard { (keys : Keys) (devices : List State) (lines : List Spoken) → AreDone (first_machine keys (Some []) devices) lines →
-        AnswersQuestions (heard_by_host (transcript_of (first_machine keys (Some []) devices) lines)) }
-{
-    lines_are_a_hosts();
-    what_is_heard_is_a_hosts();
-    hosts_answer_questions();
 }

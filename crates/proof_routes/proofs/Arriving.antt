@@ -81,9 +81,6 @@ mute_on past (e ∷ told) mute none =
 
 -- ---- dead hops
 
-hop_of : ℕ → ℕ → Hop
-hop_of from to = record { from = from; to = to }
-
 abbrev hop_listed : Option (ℕ × ℕ) → List Hop
 hop_listed None = []
 hop_listed (Some hop) = record { from = hop.0; to = hop.1 } ∷ []
@@ -147,7 +144,7 @@ apart_got [] at passage apart is = absurd (let none : None ≡ Some passage = is
 apart_got (one ∷ all) zero passage apart is = let same : one ≡ passage = (let both : Some one ≡ Some passage = is in cc) in subst IsApartFrom same apart.0
 apart_got (one ∷ all) (suc at) passage apart is = apart_got all at passage apart.1 is
 
-frame_got : (l : List AirFrame) (at : ℕ) (f : AirFrame) → slice_get l at ≡ Some f → (if nat_lt 0 (at + 1) then slice_get l (at + 1 - 1) else None) ≡ Some f
+pub frame_got : (l : List AirFrame) (at : ℕ) (f : AirFrame) → slice_get l at ≡ Some f → (if nat_lt 0 (at + 1) then slice_get l (at + 1 - 1) else None) ≡ Some f
 frame_got l at f is =
     ap (λ (b : Bool). if b then slice_get l (at + 1 - 1) else None) (lt-ltb 0 (at + 1) (omega arith))
     ∙ (ap (λ (n : ℕ). slice_get l n) (let same : at + 1 - 1 ≡ at = omega arith in same) ∙ is)

@@ -10,6 +10,7 @@ use Rattle.chip_sim.specs.Events.{with_link as table_link}
 use Rattle.mesh_sim.specs.Air.{with_link as net_link}
 use Rattle.law_wire.specs.Networks.{same_link, are_linked, with_link, learned_of, learned}
 use Rattle.proof_routes.specs.Networks.{HasLinks, IsApart}
+use Rattle.host_model.proofs.Taken.{same_either as same_number}
 
 -- ---- pairs
 
@@ -78,13 +79,6 @@ net_set net a b true apart x y = by (a == b) refl
     by : (e : Bool) → (a == b) ≡ e → linked (if e then net else record net { links = set.insert net.links (link_of a b) }) x y ≡ (if same_pair x y a b then true && not e else linked net x y)
     by true is = itself (same_pair x y a b) refl (eqb-true a b is)
     by false is = linked-insert net a b x y ∙ or_as (same_pair x y a b) (linked net x y)
-
-same_number : (a b : ℕ) → (a == b) ≡ (b == a)
-same_number a b = by (cases_eq a b)
-  where
-    by : (a ≡ b) ⊎ (a ≡ b → ⊥) → (a == b) ≡ (b == a)
-    by (inl same) = eq-eqb a b same ∙ sym (eq-eqb b a (sym same))
-    by (inr other) = ne_eqb a b other ∙ sym (ne_eqb b a (λ e. other (sym e)))
 
 link_symmetric : (k l : Link) → same_link k l ≡ same_link l k
 link_symmetric k l = ap₂ (λ (a b : Bool). a && b) (same_number k.low l.low) (same_number k.high l.high)

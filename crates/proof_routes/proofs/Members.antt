@@ -67,8 +67,3 @@ range_has a (suc n) x low high = by (cases_lt a x) (range_has (a + 1) n x)
     by : (a < x) ⊎ (x ≤ a) → (a + 1 ≤ x → x < (a + 1) + n → Has (range_with_len (a + 1) n) x) → Has (a ∷ range_with_len (a + 1) n) x
     by (inl above) rest = inr (rest (omega (arith, above)) (omega (arith, high)))
     by (inr below) rest = inl (omega (arith, below, low))
-
-pub has_range : (a n x : ℕ) → Has (range_with_len a n) x → (a ≤ x) × (x < a + n)
-has_range a zero x has = absurd has
-has_range a (suc n) x (inl same) = (omega (arith, same), omega (arith, same))
-has_range a (suc n) x (inr has) = let more = has_range (a + 1) n x has in let low = more.0 in let high = more.1 in (omega (arith, low), omega (arith, high))

@@ -1,8 +1,9 @@
 -- Each thing that happens outside the host keeps the tie, with what it enters: units and results, frames that are heard, what devices do, and what lines set besides networks.
-use Rattle.std.proofs.Common.{◌≡◌, ℕ, Bool, true, false, if◌then◌else◌, nat_le, List, [], ◌∷◌, refl, sym, subst, ◌∙◌, append-nil, arith, ap}
+use Rattle.std.proofs.Common.{ℕ, Bool, true, false, if◌then◌else◌, nat_le, List, [], ◌∷◌, refl, sym, subst, ◌∙◌, append-nil, arith, ap}
 use Rattle.std.specs.Prelude.{Option, Some, slice_set}
 use Rattle.std.specs.Option.{option_map}
 use Rattle.std.specs.List.{flat_map}
+use Rattle.std.proofs.lemmas.Bool.{false_from_ne_true as not_joined}
 use Rattle.zw_base.proofs.Each.{all-weaker}
 use Rattle.serial_frame.specs.Stream.{after_tick}
 use Rattle.serial_frame.specs.declared.item.Item.{Item}
@@ -55,10 +56,6 @@ change_quiet (entry.Dev node by setting) change = tt
 change_quiet e change = absurd change
 
 -- ---- the controller is never joined
-
-not_joined : (b : Bool) → (b ≡ true → ⊥) → b ≡ false
-not_joined true none = absurd (none refl)
-not_joined false none = refl
 
 module _ (devices : List State) where
   pub home_of : (past : List Entry) (w : Outside) → Tie devices past w → NotHome w.outer.air.joined

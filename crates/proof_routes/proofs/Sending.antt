@@ -471,9 +471,6 @@ entered_all net past (air_event.Changed node at ∷ events) hears own = let rest
 entered_all net past (air_event.ToChip frame from payload ∷ events) hears own = let rest = entered_all net past events hears own.1 in record { shown = rest.shown; marks = rest.marks; links = rest.links }
 entered_all net past (air_event.Done frame status dead ∷ events) hears own = let rest = entered_all net past events hears own.1 in record { shown = rest.shown; marks = rest.marks; links = rest.links }
 
-abbrev AreQuietly : List Entry → Type 0
-AreQuietly told = AllByRecursion IsQuiet told
-
 begins_frames : (o : OuterState) (node sessions : ℕ) (shown : List Passage) → HasPassages shown o.air.frames → HasPassages shown (begins o.air node sessions).frames
 begins_frames o node sessions shown has = by (nat_le (peer_of o.air.frames node).begun sessions)
   where

@@ -8,7 +8,7 @@ use Rattle.serial_frame.specs.Items.{unit_text}
 use Rattle.serial_frame.specs.declared.unit.Unit.{Unit as LineUnit}
 use Rattle.serial_frame.specs.declared.unit.Unit.TheVariants.{Ack, Nak, Can, Framed}
 use Rattle.supervision.specs.Host.{command_at as command_of_session}
-use Rattle.device_kinds.specs.Sealing.{keys_of}
+use Rattle.s0_crypto.specs.Sealing.{keys_of}
 use Rattle.zw_base.specs.declared.order.Order.{Order}
 use Rattle.zw_text.specs.declared.entry.Entry.{Entry}
 use Rattle.zw_text.specs.Transcript.{accepted, sessions}

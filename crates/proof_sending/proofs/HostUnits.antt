@@ -41,7 +41,7 @@ use Rattle.proof_air.specs.proof_walk.Outside.{IsNote}
 use Rattle.proof_air.proofs.HostNotes.{NoteOuts, is_note, all_outs_note}
 use Rattle.proof_air.proofs.Machines.{UnitsAre, answers_keep, outs_keep}
 use Rattle.proof_spoken.proofs.Entered.{IsMark, told_by_marks}
-use Rattle.proof_sending.proofs.OutsideUnits.{AreNotWritten, IsNotWritten, note_not, number_not}
+use Rattle.proof_sending.proofs.OutsideUnits.{AreNotWritten, IsNotWritten, note_not, number_not, mark_not}
 
 abbrev pub NoUnit : LineUnit → Type 0
 NoUnit unit = ⊥
@@ -91,10 +91,6 @@ event_first h (Resends n payload) = noted_first (dropped_if (is_full h) n)
 event_first h Line_ticks = copy_first (copy_due h.side.turn) (failing_entries (gives_up h.side.turn (tick_side h.side).turn) (line_ticked h))
 event_first h (Node_ticks n) = noted_first (attempt_entries n (tick_end (node_of h n)) (open_command (node_of h n)))
 event_first h event = tt
-
-mark_not : (e : Entry) → IsMark e → IsNotWritten e
-mark_not (entry.Written side unit) mark = absurd mark
-mark_not e mark = tt
 
 module _ (listing : List Entry → ℕ → List ℕ) (key : List ℕ) where
   abbrev Asks : List Entry → Entry → Type 0

@@ -33,7 +33,7 @@ IsNotWritten _ = Unit {0}
 abbrev pub AreNotWritten : List Entry → Type 0
 AreNotWritten told = AllByRecursion IsNotWritten told
 
-mark_not : (e : Entry) → IsMark e → IsNotWritten e
+pub mark_not : (e : Entry) → IsMark e → IsNotWritten e
 mark_not (entry.Written side unit) mark = absurd mark
 mark_not e mark = tt
 

@@ -1,10 +1,9 @@
 -- All that a host has to send stays due through its events, and what it writes is.
-use Rattle.std.proofs.Common.{◌≡◌, ◌≤◌, ◌<◌, ℕ, zero, suc, ◌&&◌, ◌+◌, Bool, true, false, inl, inr, List, [], ◌∷◌, ◌++◌, map, length, get_or, refl, sym, ap, subst, ◌∙◌, arith}
+use Rattle.std.proofs.Common.{◌≡◌, ℕ, zero, suc, ◌+◌, Bool, true, false, inl, inr, List, [], ◌∷◌, ◌++◌, refl, sym, ap, subst, ◌∙◌, arith}
 use Rattle.std.specs.Prelude.{Option, Some, None, ◌==◌, if◌then◌else◌, replicate}
 use Rattle.std.specs.List.{AllByRecursion}
 use Rattle.std.specs.Option.{option_or}
-use Rattle.std.proofs.lemmas.Bool.{cases_eq, cases_lt}
-use Rattle.std.proofs.lemmas.List.{get_or-set_same, get_or-set_other, set_past}
+use Rattle.std.proofs.lemmas.Bool.{cases_eq}
 use Rattle.zw_text.specs.declared.entry.Entry.{Entry}
 use Rattle.serial_frame.specs.Frame.{FrameParts}
 use Rattle.serial_frame.specs.declared.item.Item.{Item}
@@ -18,8 +17,8 @@ use Rattle.supervision.specs.Host.{open_session}
 use Rattle.s0_crypto.specs.declared.key_pair.Keys.{Keys}
 use Rattle.s0_session.specs.Nonces.{unused}
 use Rattle.chip_functions.specs.Field.{IsNode}
-use Rattle.device_kinds.specs.Sealing.{sealed_text}
-use Rattle.device_kinds.proofs.SealingLemmas.{sealed_is}
+use Rattle.s0_crypto.specs.Sealing.{sealed_text}
+use Rattle.s0_crypto.proofs.SealingLemmas.{sealed_is}
 use Rattle.host_keep.specs.Rows.{IsRecord}
 use Rattle.host_keep.specs.declared.record.Record.{Record}
 use Rattle.host_orders.specs.Wrapping.{message_of}
@@ -29,32 +28,31 @@ use Rattle.host_requests.specs.State.{next_id}
 use Rattle.host_requests.specs.declared.task.Task.{Task}
 use Rattle.host_requests.specs.declared.task.Purpose.{Purpose}
 use Rattle.host_requests.specs.declared.task.Purpose.TheVariants.{Attempt, Abort}
-use Rattle.host_node.specs.State.{NodeState, ends_to, has_work, is_idle, is_open, is_up, unknown}
-use Rattle.host_node.specs.Steps.{tick_end, after_occasion, after_restart, as_recorded, new_series}
+use Rattle.host_node.specs.State.{ends_to, has_work}
+use Rattle.host_node.specs.Steps.{tick_end}
 use Rattle.host_node.specs.Search.{least_above, next_of}
-use Rattle.host_node.specs.Events.{after as after_node}
-use Rattle.host_node.specs.Events.NodeEvent.{Interviews as node_interviews, Joins as node_joins}
-use Rattle.host_node.specs.TableState.{node_of as node_among, with_node as with_node_among, nodes_after, unknown_from, unknown_nodes}
+use Rattle.host_node.specs.TableState.{node_of as node_among}
 use Rattle.host_node.specs.declared.attempt.Plan.{Plan}
 use Rattle.host_node.specs.declared.attempt.Plan.TheVariants as plans
 use Rattle.host_node.proofs.Searches.{what_is_least}
-use Rattle.host_model.specs.State.{HostState, first_classes, first_host, first_nodes, node_of, command_at}
+use Rattle.host_model.specs.State.{HostState, first_host, node_of, command_at}
 use Rattle.host_model.specs.Ends.{attempt_entries}
 use Rattle.host_model.specs.Sessions.{open_command, settings_with}
 use Rattle.host_model.specs.Facts.{HostFacts}
 use Rattle.host_model.specs.After.{after, gives_up, is_busy, is_full, is_held, line_ticked, task_purpose}
 use Rattle.host_model.specs.May.{May}
-use Rattle.host_model.specs.Opening.{opened, restarting, restored_all}
+use Rattle.host_model.specs.Opening.{opened, restored_all}
 use Rattle.host_model.specs.Outs.{answer_to, copy_out, dropped_if, failing_entries, held_entries, noted, outs, request_entries, stored_entries}
 use Rattle.host_model.specs.Events.{HostEvent, Queues, Queues_interview, Queues_probe, Hears, Requests_do, Finishes, Offers, Gives, Takes_nonce, Resends, Line_ticks, Node_ticks, Queues_no_more, Submits_abort, Submits_front, Starts, Gives_text, Gives_segment, Begins}
 use Rattle.host_model.specs.declared.out.HostOut.{HostOut}
+use Rattle.proof_messages.specs.Hosts.{HasTexts}
+use Rattle.proof_messages.proofs.SealedTexts.{BringsText, TextsLeft, bare_texts, closed_bare, first_bare, has_place, restarting_bare, texts_go}
 use Rattle.proof_air.specs.Carrying.{TurnHas}
 use Rattle.proof_line.specs.proof_host.Facts.{Facts}
 use Rattle.proof_spoken.specs.proof_once.Tied.{KeepsOrders}
-use Rattle.proof_spoken.proofs.HostFits.{all_at}
-use Rattle.proof_sending.specs.Reasons.{Reason, IsCarriedBy, IsPart, IsToSeal, IsDueTask, IsDuePurpose, IsDueFrame, HasEight, HasTexts, IsReasoned, IsSealedSo, HasReason, WritesDue}
+use Rattle.proof_sending.specs.Reasons.{Reason, IsCarriedBy, IsPart, IsToSeal, IsDueTask, IsDuePurpose, IsDueFrame, HasEight, IsReasoned, IsSealedSo, HasReason, WritesDue}
 use Rattle.proof_sending.proofs.Waiting.{Brings, HostHas, all_restored, event_goes}
-use Rattle.proof_sending.proofs.Books.{BeginsNone, BringsText, EventKeeps, IsBare, SameBooks, TextsLeft, bare_texts, books_stay, closed_bare, others_stay, texts_go}
+use Rattle.proof_sending.proofs.Books.{BeginsNone, EventKeeps, SameBooks, books_stay, others_stay}
 use Rattle.proof_sending.proofs.Parts.{IsStarted, segment_part, start_is, texts_stay, waiting_stays}
 
 -- ---- the node that is served
@@ -70,9 +68,6 @@ served_is_node : (h : HostState) (n : ℕ) → next_of h.nodes h.served ≡ Some
 served_is_node h n e =
     let works : ℕ → Bool = λ node. has_work (node_among h.nodes node) in
     either_is_node (least_above works h.served) (least_above works 0) n e (least_is_node works h.served n) (least_is_node works 0 n)
-
-pub has_place : (h : HostState) (n : ℕ) → HostFacts h → IsNode n → n < length h.nodes
-has_place h n facts node = omega (arith, facts.nodes.places, node.1)
 
 -- ---- where a session begins
 
@@ -260,51 +255,6 @@ module _ (laws : Laws) (Holds : Reason → Type 0) (keys : Keys) where
 unused_eight : (count : ℕ) → AllByRecursion HasEight (replicate count unused)
 unused_eight zero = tt
 unused_eight (suc count) = (tt, unused_eight count)
-
-unknown_bare : (start count at : ℕ) → IsBare (get_or (unknown_from start count) at (unknown 0))
-unknown_bare start zero at = (refl, refl)
-unknown_bare start (suc count) zero = (refl, refl)
-unknown_bare start (suc count) (suc at) = unknown_bare (suc start) count at
-
-all_unknown_bare : (at : ℕ) → IsBare (get_or unknown_nodes at (unknown 0))
-unfolding unknown_nodes
-all_unknown_bare zero = (refl, refl)
-all_unknown_bare (suc at) = unknown_bare 1 232 at
-
--- one place more that is bare
-set_bare : (nodes : List NodeState) (at n : ℕ) (state : NodeState) → IsBare state → IsBare (node_among nodes n) → IsBare (node_among (with_node_among nodes at state) n)
-set_bare nodes at n state bare was = elim (cases_eq n at) [
-  | inl is ↦ elim (cases_lt at (length nodes)) [
-    | inl within ↦ subst (λ (k : ℕ). IsBare (node_among (with_node_among nodes at state) k)) (sym is)
-        (subst IsBare (sym (get_or-set_same nodes at state (unknown 0) within)) bare)
-    | inr past ↦ subst (λ (l : List NodeState). IsBare (node_among l n)) (sym (set_past nodes at state past)) was
-  ]
-  | inr other ↦ subst IsBare (sym (get_or-set_other nodes at n state (unknown 0) other)) was
-]
-
-first_bare : (n : ℕ) → IsBare (node_among first_nodes n)
-unfolding first_nodes
-first_bare n =
-    let joined : List NodeState = nodes_after unknown_nodes 2 node_joins in
-    let one : (k : ℕ) → IsBare (node_among joined k) = λ k. set_bare unknown_nodes 2 k (after_node (node_among unknown_nodes 2) node_joins) (all_unknown_bare 2) (all_unknown_bare k) in
-    set_bare joined 2 n (after_node (node_among joined 2) (node_interviews true first_classes)) (one 2) (one n)
-
-occasion_bare : (n : NodeState) → IsBare n → IsBare (after_occasion n)
-occasion_bare n bare = by (is_open n && is_up n && is_idle n.series)
-  where
-    by : (b : Bool) → IsBare (if b then new_series n else n)
-    by true = bare
-    by false = bare
-
-restarts_bare : (nodes : List NodeState) → AllByRecursion IsBare (map after_restart nodes)
-restarts_bare [] = tt
-restarts_bare (n ∷ nodes) = (occasion_bare (as_recorded n) (refl, refl), restarts_bare nodes)
-
-restarting_bare : (nodes : List NodeState) (n : ℕ) → 1 ≤ n → IsBare (node_among (restarting nodes) n)
-unfolding restarting
-restarting_bare [] n some = (refl, refl)
-restarting_bare (first ∷ nodes) zero some = absurd (omega (arith, some))
-restarting_bare (first ∷ nodes) (suc k) some = all_at IsBare (map after_restart nodes) k (unknown 0) (restarts_bare nodes) (refl, refl)
 
 module _ (Holds : Reason → Type 0) (keys : Keys) where
   first_waiting : (h : HostState) → HostHas keys (IsDueFrame Holds keys h) (IsDueTask Holds keys h) (first_host keys)

@@ -3,7 +3,7 @@
 use Rattle.law_transcript.specs.Nodes.{always}
 use Rattle.std.specs.Prelude.{◌≡◌, ◌⊎◌, ℕ, List, [], ◌∷◌, ◌++◌}
 use Rattle.std.specs.List.{AllByRecursion}
-use Rattle.device_kinds.specs.Sealing.{keys_of}
+use Rattle.s0_crypto.specs.Sealing.{keys_of}
 use Rattle.zw_base.specs.declared.order.Order.{Order}
 use Rattle.zw_text.specs.declared.line.Line.{Line}
 use Rattle.zw_text.specs.declared.line.Line.TheVariants as lines

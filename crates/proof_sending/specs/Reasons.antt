@@ -10,7 +10,7 @@ use Rattle.supervision.specs.Host.{begun_of, command_at as command_of_session}
 use Rattle.s0_crypto.specs.declared.key_pair.Keys.{Keys}
 use Rattle.s0_session.specs.declared.account.Account.{Account}
 use Rattle.chip_functions.specs.Field.{IsNode}
-use Rattle.device_kinds.specs.Sealing.{sealed_text}
+use Rattle.s0_crypto.specs.Sealing.{sealed_text}
 use Rattle.host_keep.specs.Kept.{Taken}
 use Rattle.host_orders.specs.Wrapping.{form_of, message_of}
 use Rattle.host_orders.specs.declared.carriage.Form.{Form}
@@ -23,13 +23,14 @@ use Rattle.host_requests.specs.Events.{RequestsEvent}
 use Rattle.host_requests.specs.Events.RequestsEvent.{Pushes, PushesInterview, PushesProbe}
 use Rattle.host_requests.specs.Frames.{frame_of}
 use Rattle.host_requests.specs.State.{next_id}
-use Rattle.host_node.specs.State.{NodeState, SealsText, ends_to}
+use Rattle.host_node.specs.State.{SealsText, ends_to}
 use Rattle.host_model.specs.State.{HostState, node_of}
 use Rattle.host_model.specs.Sessions.{nonce_get}
 use Rattle.host_model.specs.declared.out.HostOut.{HostOut}
 use Rattle.host_model.specs.declared.out.HostOut.TheVariants.{Write, Note}
 use Rattle.host_model.specs.Events.{HostEvent, Queues, Requests_do, Offers, Gives, Takes_nonce}
 use Rattle.law_transcript.specs.Payloads.{IsSegmentOf}
+use Rattle.proof_messages.specs.Hosts.{HasTexts}
 use Rattle.proof_air.specs.Carrying.{TurnHas}
 use Rattle.proof_line.specs.proof_host.Tables.{taken_at}
 
@@ -118,11 +119,6 @@ pub record HasWaiting (Frame : FrameParts → Type 0) (Waits : Task → Type 0) 
   pub frame : TurnHas Frame turn
   pub tasks : AllByRecursion Waits queue
   pub eight : AllByRecursion HasEight nonces
-
--- a sealed text of a node is to be given, and a plain text waits for a nonce, that have this
-pub record HasTexts (OfText OfPlain : List ℕ → Type 0) (state : NodeState) : Type 0 where
-  pub text : (bytes : List ℕ) → state.text ≡ Some bytes → OfText bytes
-  pub pending : (bytes : List ℕ) → state.pending ≡ Some bytes → OfPlain bytes
 
 -- all that a host has to send is due
 pub record IsReasoned (Holds : Reason → Type 0) (keys : Keys) (h : HostState) : Type 0 where

@@ -2,7 +2,7 @@
 
 ghost use Rattle.std.specs.Prelude.{Some, ℕ, List, []};
 ghost use Rattle.device_sim.specs.State.{State};
-ghost use Rattle.device_kinds.specs.Sealing.{keys_of};
+ghost use Rattle.s0_crypto.specs.Sealing.{keys_of};
 ghost use Rattle.law_transcript.specs.Nodes.{always, listing_of};
 ghost use Rattle.world_model.specs.State.{first_machine};
 ghost use Rattle.world_lines.specs.Spoken.{Spoken, transcript_of};

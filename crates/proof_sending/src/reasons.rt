@@ -20,7 +20,7 @@ ghost use Rattle.host_model.specs.Opening.{opened};
 ghost use Rattle.host_model.specs.Taking.{AreJudged};
 ghost use Rattle.serial_frame.specs.declared.item.Item.{Item};
 ghost use Rattle.host_model.specs.Outs.{outs};
-ghost use Rattle.device_kinds.specs.Sealing.{keys_of};
+ghost use Rattle.s0_crypto.specs.Sealing.{keys_of};
 ghost use Rattle.law_transcript.specs.Lists.{Has};
 ghost use Rattle.law_transcript.specs.Units.{Carried, sending_in};
 ghost use Rattle.proof_line.specs.proof_host.Facts.{AreBegun, Facts};

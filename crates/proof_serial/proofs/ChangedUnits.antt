@@ -5,14 +5,14 @@ use Rattle.std.proofs.Math.ListN.{set, length-set}
 use Rattle.std.proofs.lemmas.List.{append-nil, set-get_or, take_at, get_or_at}
 use Rattle.std.proofs.lemmas.Nat.{xor_comm}
 use Rattle.std.proofs.lemmas.Bool.{eqb-true, eqb-false}
-use Rattle.std.specs.Int.Bits.{xor_assoc, xor_self, xor_zero_l}
+use Rattle.std.specs.Int.Bits.{xor_self, xor_zero_l}
 use Rattle.serial_frame.specs.Frame.{FrameParts, checksum, framed}
 use Rattle.serial_frame.specs.Items.{counted_of, unit_text, ItemText}
 use Rattle.serial_frame.specs.Stream.{Reads}
 use Rattle.serial_frame.specs.declared.unit.Unit.TheVariants.{Framed}
 use Rattle.serial_frame.specs.declared.item.Item.TheVariants.{Good, Refused}
 use Rattle.serial_frame.specs.declared.item.Refusal.TheVariants.{BadSum}
-use Rattle.serial_frame.proofs.Changed.{frame_changed}
+use Rattle.serial_frame.proofs.Changed.{frame_changed, xor_back}
 use Rattle.serial_pipes.specs.State.{garbled, garbled_place}
 use Rattle.serial_pipes.specs.declared.marks.Garble.{Garble}
 use Rattle.proof_serial.specs.Way.{wanted_sum, found_sum, changed_item}
@@ -21,9 +21,6 @@ use Rattle.proof_serial.specs.Way.{wanted_sum, found_sum, changed_item}
 
 xor_nothing : (a : ℕ) → bit_xor a 0 ≡ a
 xor_nothing a = xor_comm a 0 ∙ xor_zero_l a
-
-xor_back : (a b : ℕ) → bit_xor a (bit_xor a b) ≡ b
-xor_back a b = sym (xor_assoc a a b) ∙ ap (λ (t : ℕ). bit_xor t b) (xor_self a) ∙ xor_zero_l b
 
 xor_moves : (a b : ℕ) → bit_xor a b ≡ a → b ≡ 0
 xor_moves a b e = sym (xor_back a b) ∙ ap (λ (t : ℕ). bit_xor a t) e ∙ xor_self a

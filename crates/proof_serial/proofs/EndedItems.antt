@@ -6,6 +6,7 @@ use Rattle.serial_frame.specs.Items.{ItemText}
 use Rattle.serial_frame.specs.Stream.{IsUnfinished, Reads, Rest, Feeds, no_rest, ticks_after}
 use Rattle.serial_frame.specs.declared.item.Item.{Item}
 use Rattle.serial_frame.proofs.First.{one_item, one_reading, whole_not_unfinished}
+use Rattle.serial_frame.proofs.Streams.{no_ticks, same_rest}
 
 -- items are added after
 pub reads_more : (bytes : List ℕ) (items : List Item) (text : List ℕ) (item : Item) → Reads bytes items [] → ItemText item text
@@ -52,10 +53,6 @@ feeds_more rest bytes items text item feeds is =
       ticks = sym (ticks_snoc rest.ticks items item);
     }
 
-no_ticks : (items : List Item) → ticks_after 0 items ≡ 0
-no_ticks [] = refl
-no_ticks (item ∷ items) = refl
-
 ticks_left : (ticks new : ℕ) (judged left : List Item) → new ≡ ticks_after ticks judged → 0 ≡ ticks_after ticks (judged ++ left) → 0 ≡ ticks_after new left
 ticks_left ticks new [] left e all = all ∙ ap (λ (t : ℕ). ticks_after t left) (sym e)
 ticks_left ticks new (one ∷ judged) left e all = sym (ap (λ (t : ℕ). ticks_after t left) e ∙ no_ticks left)
@@ -88,9 +85,6 @@ feeds_left old new count bytes items judged taken all =
 pub record AllOf (new : Rest) (items judged : List Item) : Type 0 where
   pub all : judged ≡ items
   pub rest : new ≡ no_rest
-
-pub same_rest : (r e : Rest) → r.bytes ≡ e.bytes → r.ticks ≡ e.ticks → r ≡ e
-same_rest r e bytes ticks = ap (λ (b : List ℕ). record { bytes = b; ticks = r.ticks }) bytes ∙ ap (λ (t : ℕ). record { bytes = e.bytes; ticks = t }) ticks
 
 pub feeds_all : (old new : Rest) (bytes : List ℕ) (items judged : List Item) → Feeds old (take (length bytes) bytes) new judged → Feeds old bytes no_rest items
     → AllOf new items judged

@@ -43,6 +43,7 @@ use Rattle.proof_spoken.specs.Said.{AllKnow, AllTell, IsTrueInterview, KnowsAgai
 use Rattle.proof_spoken.proofs.Classes.{IsNoInterview, LeavesRecords, classes_of, event_kept, joined_place, set_here, set_there}
 use Rattle.proof_spoken.proofs.RoutineNotes.{AreRoutine, IsRoutine, after_routine, event_routine}
 use Rattle.proof_spoken.proofs.Outside.{AreForeign, IsForeign, own_foreign, stamp_foreign, ticked_foreign, write_foreign}
+use Rattle.host_node.proofs.TableLists.{length-unknown_from as unknown_length}
 
 -- ---- what entries show of interviews
 
@@ -224,10 +225,6 @@ module _ (law : LeavesRecords) (listing : ℕ → List ℕ) where
       )
 
 -- ---- at first
-
-pub unknown_length : (from count : ℕ) → length (unknown_from from count) ≡ count
-unknown_length from zero = refl
-unknown_length from (suc count) = ap suc (unknown_length (suc from) count)
 
 unknown_classes : (from count m : ℕ) → (node_of (unknown_from from count) m).classes ≡ None
 unknown_classes from zero m = refl

@@ -16,7 +16,7 @@ use Rattle.proof_device.specs.outside_model.Chip.{put_out, chip_does}
 use Rattle.proof_device.specs.outside_model.Results.{owes_call, call_back}
 use Rattle.proof_device.specs.mesh_sim.Air.{AirState}
 use Rattle.proof_traffic.specs.Requests.{Traffic, called}
-use Rattle.proof_traffic.specs.OutsideTraffic.{flags, no_routes_due, Knows, Follows}
+use Rattle.proof_traffic.specs.OutsideTraffic.{flags, no_routes_due, Knows}
 use Rattle.proof_traffic.proofs.Mild.{AreMild, Untouched, each_mild, queued_mild}
 
 -- ---- one call comes
@@ -26,9 +26,6 @@ pub record Half (t : Traffic) (log : List Mark) (flights : List Flown) (o : Oute
   pub knows : Knows t o
   pub fly : Fly log flights o.air.frames
   pub joined : length o.chip.state.joined ≡ 233
-
-pub half_of : (t : Traffic) (log : List Mark) (flights : List Flown) (o : OuterState) → Follows t log flights o → Half t log flights o
-half_of t log flights o f = record { knows = f.knows; fly = f.fly; joined = f.joined }
 
 -- the first call came, and what is due and on the air is the same
 pub record Called (t : Traffic) (log : List Mark) (flights : List Flown) (o p : OuterState) : Type 0 where

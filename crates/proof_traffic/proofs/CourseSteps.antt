@@ -1,10 +1,10 @@
 -- Events of one list after another are steps of the course, one part after the other.
-use Rattle.std.proofs.Common.{◌≡◌, ℕ, ◌<◌, List, [], ◌∷◌, ◌++◌, refl, sym, subst, append_assoc, inl, inr}
+use Rattle.std.proofs.Common.{◌≡◌, ℕ, ◌<◌, List, [], ◌∷◌, ◌++◌, sym, subst, append_assoc, inl, inr}
 use Rattle.std.proofs.lemmas.List.{append-nil}
 use Rattle.serial_frame.specs.declared.item.Item.{Item}
 use Rattle.air_frames.specs.History.{Mark}
 use Rattle.proof_device.specs.device_sim.State.{State}
-use Rattle.proof_traffic.specs.Requests.{Traffic, Step}
+use Rattle.proof_traffic.specs.Requests.{Traffic}
 use Rattle.proof_traffic.specs.Requests as course
 use Rattle.proof_traffic.specs.OutsideTraffic.{AreNodes}
 use Rattle.proof_device.specs.GoingOn.{AreSame}
@@ -18,6 +18,7 @@ use Rattle.proof_serial.specs.Line.{IsWhole, WritesWell, AllWriteWell}
 use Rattle.proof_traffic.specs.OnAir.{IsFew, AlwaysFew}
 use Rattle.proof_traffic.specs.Course.{Follows, Goes}
 use Rattle.proof_traffic.proofs.Flights.{hosts_few}
+use Rattle.proof_traffic.proofs.JudgedItems.{steps-append as steps_both, may-append as may_both}
 
 -- ---- what is assumed of events
 
@@ -63,14 +64,6 @@ nodes_kept m events nodes =
     nodes_same m.outside.devices (happens_all m events).outside.devices (go_same m.outside.devices (happens_all m events).outside.devices (run_goes m events)) nodes
 
 -- ---- steps
-
-pub steps_both : (t : Traffic) (a b : List Step) → course.after_all t (a ++ b) ≡ course.after_all (course.after_all t a) b
-steps_both t [] b = refl
-steps_both t (step ∷ a) b = steps_both (course.after t step) a b
-
-pub may_both : (t : Traffic) (a b : List Step) → course.MayAll t a → course.MayAll (course.after_all t a) b → course.MayAll t (a ++ b)
-may_both t [] b first later = later
-may_both t (step ∷ a) b first later = (first.0, may_both (course.after t step) a b first.1 later)
 
 few_both : (m : Machine) (a b : List Event) → AlwaysFew m a → AlwaysFew (happens_all m a) b → AlwaysFew m (a ++ b)
 few_both m [] b first later = later

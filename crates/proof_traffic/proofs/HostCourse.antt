@@ -53,7 +53,9 @@ use Rattle.proof_traffic.proofs.Parts.{Airs, Laws}
 use Rattle.proof_traffic.proofs.Flights.{hosts_few, follows_on_air}
 use Rattle.proof_traffic.proofs.LostUnits.{words_written, words_both, written_part, host_words, part_both, Lost, loses}
 use Rattle.proof_traffic.proofs.Calm.{Calm, calm_same, calm_both, calm_entered, does_calm, takes_calm, enters_calm}
-use Rattle.proof_traffic.proofs.CourseSteps.{Fair, AllFair, fair_may, fair_well, steps_both, may_both, whole_of, nodes_kept, goes_both}
+use Rattle.proof_traffic.proofs.CourseSteps.{Fair, AllFair, fair_may, fair_well, whole_of, nodes_kept, goes_both}
+use Rattle.proof_traffic.proofs.JudgedItems.{may-append as may_both}
+use Rattle.proof_traffic.proofs.JudgedItems.{steps-append as steps_both}
 use Rattle.proof_traffic.proofs.Outside.{follows_calm, outside_goes}
 
 -- ---- events at which only the host writes

@@ -13,7 +13,7 @@ use Rattle.serial_frame.specs.declared.unit.Unit.TheVariants.{Ack, Nak, Can, Fra
 use Rattle.serial_frame.specs.declared.item.Item.{Item}
 use Rattle.serial_frame.specs.declared.item.Item.TheVariants.{Good, Refused}
 use Rattle.serial_frame.specs.declared.item.Refusal.TheVariants.{Stray, BadLength, BadSum, BadKind, Aborted}
-use Rattle.serial_link.specs.State.{Side, hear_outs, answer, outs_heard, outs_refused, outs_acknowledged, outs_ticked, collisions_after, pause_after, tick_side, copy_due}
+use Rattle.serial_link.specs.State.{Side, hear_outs, answer, outs_heard, outs_ticked, collisions_after, pause_after, tick_side, copy_due}
 use Rattle.serial_link.specs.Rules.{Step, SideObeys}
 use Rattle.serial_link.specs.declared.turn.Turn.{Turn}
 use Rattle.serial_link.specs.declared.turn.Turn.TheVariants.{Idle, Copied, Paused}
@@ -50,6 +50,7 @@ use Rattle.proof_serial.specs.Line.{host_unit, host_units}
 use Rattle.proof_serial.specs.Host.{AllAskWell, AsksWell}
 use Rattle.proof_traffic.specs.Links.{KeepsItsLink, host_link_steps, host_link_steps_all, with_steps, steps_since_start}
 use Rattle.proof_traffic.proofs.Quiet.{same_end_if, quiet_same}
+use Rattle.chip_sim.proofs.Links.{units_refused as refused_mute, units_acknowledged as acknowledged_mute}
 
 -- ---- at a start
 
@@ -185,16 +186,6 @@ no_units (entry ∷ entries) = no_units entries
 ended_mute : (given_up : Bool) → flat_map link_unit (if given_up then Failed 4 ∷ [] else []) ≡ []
 ended_mute true = refl
 ended_mute false = refl
-
-acknowledged_mute : (turn : Turn) → flat_map link_unit (outs_acknowledged turn) ≡ []
-acknowledged_mute Idle = refl
-acknowledged_mute (Copied f copies ticks) = refl
-acknowledged_mute (Paused f copies ticks) = refl
-
-pub refused_mute : (turn : Turn) → flat_map link_unit (outs_refused turn) ≡ []
-refused_mute Idle = refl
-refused_mute (Copied f copies ticks) = ended_mute (copies == 4)
-refused_mute (Paused f copies ticks) = refl
 
 heard_units : (turn : Turn) (item : Item) → host_units (answer_to item) ≡ flat_map link_unit (answer false item ++ outs_heard turn item)
 heard_units turn (Good Ack) = sym (acknowledged_mute turn)

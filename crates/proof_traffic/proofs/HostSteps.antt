@@ -9,7 +9,8 @@ use Rattle.proof_serial.proofs.EventLists.{after_all-append, outs_all-append}
 use Rattle.proof_traffic.specs.Requests.{Word, Traffic}
 use Rattle.proof_traffic.specs.Requests as course
 use Rattle.proof_traffic.specs.HostTraffic.{words_put, words_out, Knows, Writes, Goes}
-use Rattle.proof_traffic.proofs.CourseSteps.{steps_both as steps-append, may_both as may-append}
+use Rattle.proof_traffic.proofs.JudgedItems.{may-append}
+use Rattle.proof_traffic.proofs.JudgedItems.{steps-append}
 
 pub words-append : (a b : List HostOut) → words_out (a ++ b) ≡ words_out a ++ words_out b
 words-append a b = flat_map-append words_put a b

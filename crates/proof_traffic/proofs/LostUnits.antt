@@ -27,10 +27,6 @@ part_later : (part whole : List Word) (first : Word) → IsPart part whole → I
 part_later [] whole first is = tt
 part_later (word ∷ part) whole first is = inr is
 
-whole_part : (words : List Word) → IsPart words words
-whole_part [] = tt
-whole_part (word ∷ words) = inl (refl, whole_part words)
-
 pub part_both : (a x b y : List Word) → IsPart a x → IsPart b y → IsPart (a ++ b) (x ++ y)
 part_both [] [] b y first later = later
 part_both [] (word ∷ x) b y first later = part_later b (x ++ y) word (part_both [] x b y tt later)

@@ -55,11 +55,6 @@ has_among l number has = has_any l number has
 
 -- ---- commands that were accepted
 
-where_number : (b : Bool) (node command n number : ℕ) → (node == n) ≡ b → Has (if b then command ∷ [] else []) number → (node ≡ n) × (command ≡ number)
-where_number true node command n number e (inl is) = (eqb-true node n e, is)
-where_number true node command n number e (inr has) = absurd has
-where_number false node command n number e has = absurd has
-
 -- each number of a node was accepted for it
 node_among : (T : List Entry) (n number : ℕ) → Has (numbers_for n T) number → Has (accepted_for number T) n
 node_among T n number has = let one = shown_has (number_for n) T number has in has_shown (node_at number) T one.by n one.among (node_here n number one.by one.shows)

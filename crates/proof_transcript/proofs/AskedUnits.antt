@@ -38,7 +38,9 @@ use Rattle.proof_spoken.proofs.ChangedUnits.{changed_text}
 use Rattle.proof_spoken.proofs.Ways.{carries_more, same_room}
 use Rattle.proof_air.proofs.Bodies.{body_is}
 use Rattle.proof_transcript.specs.Carrying.{Underway, sends_in, sends_of}
-use Rattle.proof_transcript.proofs.Picked.{IsNoFrame, asked-append, picked_both, picked_same, same_sent}
+use Rattle.proof_transcript.proofs.Picked.{IsNoFrame, asked-append, same_sent}
+use Rattle.proof_air.proofs.Picked.{picked_same}
+use Rattle.proof_air.proofs.Picked.{picked_both}
 
 -- ---- the last unit
 

@@ -50,7 +50,7 @@ use Rattle.proof_transcript.proofs.CommandsWalking.{line_paired}
 -- ---- entries
 
 -- an entry that begins no session
-abbrev IsNoBegin : Entry → Type 0
+abbrev pub IsNoBegin : Entry → Type 0
 IsNoBegin (Begin node session command) = ⊥
 IsNoBegin entry = Unit {0}
 
@@ -67,7 +67,7 @@ host_none h (Begins n session command) none = absurd none
 host_none h event none = all-weaker IsCommon IsNoBegin common_none (entries_at h event) (event_common h event tt tt)
 
 -- after it anything may stand
-after_free : (last entry : Entry) → IsNoBegin last → FollowsBegin (last ∷ []) entry
+pub after_free : (last entry : Entry) → IsNoBegin last → FollowsBegin (last ∷ []) entry
 after_free (Begin node session command) entry none = absurd none
 after_free last entry none = tt
 
@@ -75,14 +75,14 @@ follows_cons : (first next : Entry) (rest : List Entry) (entry : Entry) → Foll
 follows_cons (Begin node session command) next rest entry follows = follows
 follows_cons first next rest entry follows = follows
 
-follows_last : (past : List Entry) (last entry : Entry) → FollowsBegin (last ∷ []) entry → FollowsBegin (past ++ last ∷ []) entry
+pub follows_last : (past : List Entry) (last entry : Entry) → FollowsBegin (last ∷ []) entry → FollowsBegin (past ++ last ∷ []) entry
 follows_last [] last entry follows = follows
 follows_last (x ∷ []) last entry follows = follows_cons x last [] entry follows
 follows_last (x ∷ y ∷ past) last entry follows = follows_cons x y (past ++ last ∷ []) entry (follows_last (y ∷ past) last entry follows)
 
 -- ---- where no unit is awaited
 
-abbrev Rests : List Entry → Type 0
+abbrev pub Rests : List Entry → Type 0
 Rests past = (entry : Entry) → FollowsBegin past entry
 
 record AreFollowed (past es : List Entry) : Type 0 where

@@ -49,7 +49,9 @@ use Rattle.proof_air.specs.Hearing.{KnowAir, MayHear}
 use Rattle.proof_air.proofs.Handling.{tie_here}
 use Rattle.proof_air.proofs.Judging.{StartsSo}
 use Rattle.proof_transcript.specs.Carrying.{IsWell, KnowUnderway, LineUnderway, Underway, sends_in, sends_of}
-use Rattle.proof_transcript.proofs.Picked.{AreQuiet, IsNoFrame, IsNoUnit, IsQuiet, none_sent, picked_both, picked_same, quiet_no_frame, quiet_no_unit, told_goes}
+use Rattle.proof_transcript.proofs.Picked.{AreQuiet, IsNoFrame, IsNoUnit, IsQuiet, none_sent, quiet_no_frame, quiet_no_unit, told_goes}
+use Rattle.proof_air.proofs.Picked.{picked_same}
+use Rattle.proof_air.proofs.Picked.{picked_both}
 use Rattle.proof_transcript.proofs.AskedUnits.{unit_goes}
 use Rattle.proof_transcript.proofs.SentFrames.{TakesNone, outcome_quiet, takes_no_units, takes_sent}
 

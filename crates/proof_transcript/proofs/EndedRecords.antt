@@ -2,7 +2,7 @@
 use Rattle.std.proofs.Common.{◌≡◌, ℕ, ◌==◌, ◌||◌, Bool, true, false, if◌then◌else◌, List, [], ◌∷◌, map, Option, Some, None, refl, sym, ap, ap₂, subst, ◌∙◌}
 use Rattle.std.specs.Prelude.{All}
 use Rattle.std.specs.Option.{option_or}
-use Rattle.std.proofs.lemmas.Bool.{eq-eqb, eqb-true}
+use Rattle.std.proofs.lemmas.Bool.{eq-eqb, eqb-true, or_left as or_here}
 use Rattle.std.proofs.lemmas.List.Elements.{All-head, All-tail}
 use Rattle.zw_text.specs.declared.entry.Entry.{Entry}
 use Rattle.zw_text.specs.declared.entry.Outcome.{Outcome}
@@ -19,29 +19,10 @@ use Rattle.host_model.proofs.Rising.{not_below, not_later, rise-left}
 use Rattle.host_model.proofs.Begun.{ended_so}
 use Rattle.proof_air.specs.proof_host.Facts.{AreShown}
 use Rattle.proof_air.specs.proof_host.Tables.{outcome_in, outcome_by as outcome_of_one, recorded}
+use Rattle.host_model.proofs.Ended.{not_begun, either_among as or_later}
+use Rattle.host_model.proofs.OpenSessions.{same_if as if_true}
 
 -- ---- sessions whose commands rise
-
--- a command of none of these sessions has no end in them
-not_begun : (sessions : List Session) (number : ℕ) → is_among (commands_of sessions) number ≡ false → ended_in sessions number ≡ None
-not_begun [] number none = refl
-not_begun (one ∷ more) number none = by (one.command == number) none (not_begun more number)
-  where
-    by : (t : Bool) → (t || is_among (commands_of more) number) ≡ false → (is_among (commands_of more) number ≡ false → ended_in more number ≡ None) → option_or (ended_in more number) (if t then Some one.ended else None) ≡ None
-    by true is later = absurd cc
-    by false is later = ap (λ (o : Option (Option FinalStatus)). option_or o None) (later is)
-
-if_true : (b : Bool) (ended : Option FinalStatus) → b ≡ true → option_or None (if b then Some ended else None) ≡ Some ended
-if_true true ended is = refl
-if_true false ended is = absurd cc
-
-or_later : (b : Bool) (numbers : List ℕ) (number : ℕ) → is_among numbers number ≡ true → (b || is_among numbers number) ≡ true
-or_later true numbers number among = refl
-or_later false numbers number among = among
-
-pub or_here : (b c : Bool) → b ≡ true → (b || c) ≡ true
-or_here true c is = refl
-or_here false c is = absurd cc
 
 first_ended : (one : Session) (more : List Session) → Rise (commands_of (one ∷ more)) → ended_in (one ∷ more) one.command ≡ Some one.ended
 first_ended one more rise =

@@ -1,13 +1,10 @@
 -- How many properties of a node a host would keep with those of an order is what the transcript shows.
-use Rattle.std.proofs.Common.{◌≡◌, ◌⊎◌, ◌≤◌, ℕ, zero, suc, ◌==◌, ◌&&◌, ◌||◌, Bool, true, false, cond, eqb, if◌then◌else◌, is_some, unwrap_or, inl, inr, List, [], ◌∷◌, ◌++◌, All, Option, Some, None, refl, sym, ap, subst, ◌∙◌, arith}
+use Rattle.std.proofs.Common.{◌≡◌, ◌⊎◌, ℕ, zero, suc, ◌==◌, ◌||◌, Bool, true, false, if◌then◌else◌, is_some, unwrap_or, inl, inr, List, [], ◌∷◌, ◌++◌, All, Option, Some, None, refl, sym, ap, subst, ◌∙◌}
 use Rattle.std.specs.Prelude.{IsTrue}
-use Rattle.std.specs.List.{AllByRecursion, IsDistinct, cons_option, filter_map, flat_map}
-use Rattle.std.specs.Set.{distinct_count, is_member, unique_keys}
+use Rattle.std.specs.List.{AllByRecursion, flat_map}
+use Rattle.std.specs.Set.{distinct_count}
 use Rattle.std.specs.FinMap as finmap
-use Rattle.std.specs.FinMap.{find, get-entries}
-use Rattle.std.proofs.lemmas.Bool.{eqb-true}
-use Rattle.std.proofs.lemmas.Map.Made.{length-le_from_is_member}
-use Rattle.std.proofs.lemmas.List.Folds.{list_any-append}
+use Rattle.std.proofs.lemmas.Bool.{eqb-true, or_right as or_later, or_cases as either_of, or_left as or_sooner}
 use Rattle.std.proofs.lemmas.List.Elements.{All-head, All-tail}
 use Rattle.zw_base.specs.PropertyOrder.{same_property}
 use Rattle.zw_base.specs.declared.order.Order.{Order}
@@ -21,92 +18,26 @@ use Rattle.law_transcript.specs.Lists.{Has}
 use Rattle.law_transcript.specs.Restarts.{since_restart}
 use Rattle.law_transcript.specs.Stores.{heard_value, last_value}
 use Rattle.value_store.specs.declared.stored.Stored.{Stored}
-use Rattle.value_store.specs.Values.{Key, Values, IsReserved, count_with, is_among, key_cmp, no_value, properties_of as stored_properties, property_at, stored_of}
+use Rattle.value_store.specs.Values.{Values, IsReserved, count_with, is_among, no_value, properties_of as stored_properties, stored_of}
 use Rattle.value_store.proofs.Keys.{same_property_laws}
 use Rattle.host_keep.specs.Kept.{Taken, properties_for}
 use Rattle.host_orders.specs.Settings.{properties_of, settings}
 use Rattle.host_model.specs.State.{HostState, Command, command_at}
 use Rattle.host_model.specs.Facts.{IsSound}
-use Rattle.host_model.proofs.Values.{one_property, same_key}
+use Rattle.host_model.proofs.Values.{one_property}
 use Rattle.proof_air.specs.proof_host.Facts.{Facts}
 use Rattle.proof_air.specs.proof_host.Laws.{accepted_for, numbers_for}
 use Rattle.proof_air.specs.proof_host.Tables.{nodes_by, taken_at, taken_by}
 use Rattle.proof_spoken.specs.proof_once.ByTable.{IsTable}
 use Rattle.proof_spoken.specs.proof_once.Tied.{settings_taken}
-use Rattle.proof_transcript.proofs.StoredPlaces.{IsSet, KeepsNoMore, or_later, either_of, append_among}
+use Rattle.proof_transcript.proofs.StoredPlaces.{IsSet, KeepsNoMore, append_among}
 use Rattle.supervision.proofs.OnceLemmas.{All-slice_get as at_place}
-use Rattle.proof_transcript.proofs.EndedRecords.{or_here as or_sooner}
+use Rattle.host_model.proofs.Counts.{count-alike as alike}
+use Rattle.host_model.proofs.Legal.{among-stored as among_stored}
 
 -- ---- counting
 
-abbrev once : List Property → List Property
-once l = unique_keys same_property l
-
-among_once : (l : List Property) (q : Property) → is_member same_property (once l) q ≡ is_member same_property l q
-among_once [] q = refl
-among_once (p ∷ l) q = by (is_member same_property l p) (same_property q p) refl refl (among_once l q)
-  where
-    by : (known same : Bool) → is_member same_property l p ≡ known → same_property q p ≡ same → is_member same_property (once l) q ≡ is_member same_property l q
-        → is_member same_property (cond known (once l) (p ∷ once l)) q ≡ (same || is_member same_property l q)
-    by true true e f rest = rest ∙ ap (λ (x : Property). is_member same_property l x) (one_property q p f) ∙ e
-    by true false e f rest = rest
-    by false true e f rest = ap (λ (b : Bool). b || is_member same_property (once l) q) f
-    by false false e f rest = ap (λ (b : Bool). b || is_member same_property (once l) q) f ∙ rest
-
-none_is : (p : Property) (l : List Property) → is_member same_property l p ≡ false → AllByRecursion (λ y. same_property p y ≡ false) l
-none_is p [] e = tt
-none_is p (x ∷ l) e = by (same_property p x) refl e (none_is p l)
-  where
-    by : (b : Bool) → same_property p x ≡ b → (b || is_member same_property l p) ≡ false → (is_member same_property l p ≡ false → AllByRecursion (λ y. same_property p y ≡ false) l)
-        → AllByRecursion (λ y. same_property p y ≡ false) (x ∷ l)
-    by true same e rest = absurd (let none : true ≡ false = e in cc)
-    by false same e rest = (same, rest e)
-
-distinct_once : (l : List Property) → IsDistinct same_property (once l)
-unfolding IsDistinct
-distinct_once [] = tt
-distinct_once (p ∷ l) = by (is_member same_property l p) refl (distinct_once l)
-  where
-    by : (known : Bool) → is_member same_property l p ≡ known → IsDistinct same_property (once l) → IsDistinct same_property (cond known (once l) (p ∷ once l))
-    by true e rest = rest
-    by false e rest = (none_is p (once l) (among_once l p ∙ e), rest)
-
-fewer : (xs ys : List Property) → ((q : Property) → is_member same_property xs q ≡ true → is_member same_property ys q ≡ true) → distinct_count same_property xs ≤ distinct_count same_property ys
-fewer xs ys all = length-le_from_is_member same_property_laws (once xs) (once ys) (distinct_once xs) (λ q there. among_once ys q ∙ all q (sym (among_once xs q) ∙ there))
-
-more_or : (a b c : Bool) → (b ≡ true → c ≡ true) → (a || b) ≡ true → (a || c) ≡ true
-more_or true b c goes is = refl
-more_or false b c goes is = goes is
-
-beside : (more xs ys : List Property) → ((q : Property) → is_member same_property xs q ≡ true → is_member same_property ys q ≡ true) → (q : Property)
-    → is_member same_property (more ++ xs) q ≡ true → is_member same_property (more ++ ys) q ≡ true
-beside more xs ys all q there =
-    list_any-append (same_property q) more ys
-    ∙ more_or (is_member same_property more q) (is_member same_property xs q) (is_member same_property ys q) (all q) (sym (list_any-append (same_property q) more xs) ∙ there)
-
-alike : (more xs ys : List Property) → ((q : Property) → is_member same_property xs q ≡ true → is_member same_property ys q ≡ true)
-    → ((q : Property) → is_member same_property ys q ≡ true → is_member same_property xs q ≡ true) → distinct_count same_property (more ++ xs) ≡ distinct_count same_property (more ++ ys)
-alike more xs ys one other =
-    let a = fewer (more ++ xs) (more ++ ys) (beside more xs ys one) in
-    let b = fewer (more ++ ys) (more ++ xs) (beside more ys xs other) in
-    omega (arith, a, b)
-
 -- ---- the store
-
-among_entries : (es : List (Key × Stored)) (n : ℕ) (q : Property) → is_member same_property (filter_map (property_at n) es) q ≡ is_some (find key_cmp (n, q) es)
-among_entries [] n q = refl
-among_entries (e ∷ es) n q =
-    by (eqb n e.0.0) (same_property q e.0.1) refl (among_entries es n q)
-    ∙ ap (λ b. is_some (cond b (Some e.1) (find key_cmp (n, q) es))) (sym (same_key n e.0.0 q e.0.1))
-  where
-    by : (b s : Bool) → same_property q e.0.1 ≡ s → is_member same_property (filter_map (property_at n) es) q ≡ is_some (find key_cmp (n, q) es)
-        → is_member same_property (cons_option (cond b (Some e.0.1) None) (filter_map (property_at n) es)) q ≡ is_some (cond (b && s) (Some e.1) (find key_cmp (n, q) es))
-    by true true so h = ap (λ t. t || is_member same_property (filter_map (property_at n) es) q) so
-    by true false so h = ap (λ t. t || is_member same_property (filter_map (property_at n) es) q) so ∙ h
-    by false s so h = h
-
-among_stored : (store : Values) (n : ℕ) (q : Property) → is_member same_property (stored_properties store n) q ≡ is_some (finmap.get store (n, q))
-among_stored store n q = among_entries (finmap.entries store) n q ∙ ap (λ (o : Option Stored). is_some o) (sym (get-entries store (n, q)))
 
 -- a value that was heard has a place
 heard_reserved : (o : Option Stored) → is_some (unwrap_or o no_value).heard ≡ true → is_some o ≡ true

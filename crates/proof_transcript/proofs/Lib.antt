@@ -4,10 +4,10 @@ mod TakenBack
 pub mod StoredValues
 mod Heard
 mod PairedEvents
-mod ServedNodes
+pub mod ServedNodes
 mod CommandsWalking
 mod AttemptUnits
-mod AttemptStarts
+pub mod AttemptStarts
 mod Outer
 mod Noted
 pub mod Hosts

@@ -66,7 +66,8 @@ use Rattle.proof_spoken.proofs.Results.{Gives as GivesOn, IsGiven, ends_go, give
 use Rattle.proof_air.proofs.Bodies.{body_is}
 use Rattle.proof_air.proofs.Judging.{JudgesNone, NoFrame, StartsSo, none_flies}
 use Rattle.proof_transcript.specs.Carrying.{sends_in, sends_of}
-use Rattle.proof_transcript.proofs.Picked.{AreQuiet, IsNoFrame, IsNoUnit, IsQuiet, none_sent, picked_both, quiet_no_frame, quiet_no_unit, sent-append}
+use Rattle.proof_transcript.proofs.Picked.{AreQuiet, IsNoFrame, IsNoUnit, IsQuiet, none_sent, quiet_no_frame, quiet_no_unit, sent-append}
+use Rattle.proof_air.proofs.Picked.{picked_both}
 use Rattle.law_transcript.proofs.Deciding.{not_true as not_own}
 
 -- an event at which the chip takes no bytes

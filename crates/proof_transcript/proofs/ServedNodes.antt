@@ -7,6 +7,7 @@ use Rattle.std.proofs.lemmas.List.{get_or_past, get_or-set_same, get_or-set_othe
 use Rattle.host_requests.specs.declared.task.Task.{Task}
 use Rattle.host_node.specs.State.{NodeState, has_work, unknown}
 use Rattle.host_node.specs.Steps.{after_begin}
+use Rattle.host_node.specs.declared.attempt.Plan.{Plan}
 use Rattle.host_node.specs.declared.series.Series.{Series}
 use Rattle.host_node.specs.declared.series.Series.TheVariants.{Idle, Due, Running}
 use Rattle.host_node.specs.Search.{least_above, next_of}
@@ -16,7 +17,7 @@ use Rattle.host_model.specs.State.{HostState, node_of}
 use Rattle.host_model.specs.After.{after, is_full}
 use Rattle.host_model.specs.Did.{after_all}
 use Rattle.host_model.specs.May.{IsFree, IsServed}
-use Rattle.host_model.specs.Events.{HostEvent, Begins, Queues_no_more, Drops_no_more}
+use Rattle.host_model.specs.Events.{HostEvent, Begins, Queues_no_more, Drops_no_more, Starts}
 use Rattle.host_model.specs.Pumping.{GivesNext, IsNext, IsNextOf, IsNextOfNodes, IsPumped, IsServedBy, LetsSleep, Pumps, Submits}
 use Rattle.host_model.proofs.Pumps.{next_works}
 use Rattle.proof_air.specs.world_model.Events.{Event, Host_does}
@@ -103,15 +104,24 @@ begins_served h n session command false [] free paid waits is =
 -- ---- what comes after
 
 -- a node whose attempt is due is served by starting it
-due_starts : (h : HostState) (n : ℕ) (event : HostEvent) → IsServed h n → (node_of h n).series ≡ Due → IsNext h event → (rest : List Event) → StartsNext n (Host_does event ∷ rest)
-due_starts h n event served due next rest =
+pub record StartsOf (n : ℕ) (event : HostEvent) : Type 0 where
+  pub plan : Plan
+  pub more : Bool
+  pub payload : List ℕ
+  pub is : event ≡ Starts n plan more payload
+
+pub due_starts : (h : HostState) (n : ℕ) (event : HostEvent) → IsServed h n → (node_of h n).series ≡ Due → IsNext h event → StartsOf n event
+due_starts h n event served due next =
     let a = subst (λ (owes : Bool). IsNextOf h owes h.requests.queue event) served.paid next.1 in
     let b = subst (λ (queue : List Task). IsNextOf h false queue event) served.no_task a in
     let c = subst (λ (o : Option ℕ). IsNextOfNodes h o event) served.next b in
     let (plan, more, payload, start, is) = subst (λ (s : Series). IsServedBy h n s event) due c in
-    subst (λ (e : HostEvent). StartsNext n (Host_does e ∷ rest)) (sym is) refl
+    record { plan = plan; more = more; payload = payload; is = is }
 
-not_pumped : (h : HostState) (n : ℕ) → IsServed h n → IsPumped h → ⊥
+started_next : (n : ℕ) (event : HostEvent) (rest : List Event) → StartsOf n event → StartsNext n (Host_does event ∷ rest)
+started_next n event rest starts = subst (λ (e : HostEvent). StartsNext n (Host_does e ∷ rest)) (sym starts.is) refl
+
+pub not_pumped : (h : HostState) (n : ℕ) → IsServed h n → IsPumped h → ⊥
 not_pumped h n served (inl busy) = busy served.free
 not_pumped h n served (inr nothing) = absurd (none (sym nothing.no_work ∙ served.next))
   where
@@ -120,11 +130,15 @@ not_pumped h n served (inr nothing) = absurd (none (sym nothing.no_work ∙ serv
 
 then_starts : (h : HostState) (n : ℕ) (events : List HostEvent) → IsServed h n → (node_of h n).series ≡ Due → Submits h events → StartsNext n (map Host_does events)
 then_starts h n [] served due submits = absurd (not_pumped h n served submits)
-then_starts h n (event ∷ events) served due (next, more) = due_starts h n event served due next (map Host_does events)
+then_starts h n (event ∷ events) served due (next, more) = started_next n event (map Host_does events) (due_starts h n event served due next)
 
-following_begin : (h : HostState) (n session command : ℕ) (events : List HostEvent) → IsNext h (Begins n session command) → Submits (after h (Begins n session command)) events
-    → StartsNext n (map Host_does events)
-following_begin h n session command events (free, next) submits =
+-- where a session of a node begins, that is the node that is served, and its attempt is due
+pub record IsBegun (h : HostState) (n : ℕ) : Type 0 where
+  pub served : IsServed h n
+  pub due : (node_of h n).series ≡ Due
+
+pub begun_so : (h : HostState) (n session command : ℕ) → IsNext h (Begins n session command) → IsBegun (after h (Begins n session command)) n
+begun_so h n session command (free, next) =
     let served = begins_served h n session command h.requests.owes h.requests.queue free refl refl next in
     let within = place_of h.nodes n (next_works h.nodes h.served n served.next) in
     let begun = after_begin (node_of h n) in
@@ -136,7 +150,12 @@ following_begin h n session command events (free, next) submits =
       no_task = served.no_task;
       next = next_still h.nodes h.served n begun within refl served.next;
     } in
-    then_starts now n events is due submits
+    record { served = is; due = due }
+
+following_begin : (h : HostState) (n session command : ℕ) (events : List HostEvent) → IsNext h (Begins n session command) → Submits (after h (Begins n session command)) events
+    → StartsNext n (map Host_does events)
+following_begin h n session command events next submits =
+    let begun = begun_so h n session command next in then_starts (after h (Begins n session command)) n events begun.served begun.due submits
 
 -- ---- the pump
 

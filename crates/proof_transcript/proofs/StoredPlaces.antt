@@ -3,7 +3,7 @@ use Rattle.std.proofs.Common.{◌≡◌, ◌⊎◌, ℕ, zero, suc, ◌+◌, ◌
 use Rattle.std.specs.Prelude.{IsTrue}
 use Rattle.std.specs.List.{flat_map}
 use Rattle.std.specs.FinMap as finmap
-use Rattle.std.proofs.lemmas.Bool.{eqb-true, eq-eqb}
+use Rattle.std.proofs.lemmas.Bool.{eqb-true, eq-eqb, or_right as or_later, or_cases as either_of, and_parts as both}
 use Rattle.std.proofs.lemmas.List.Folds.{list_any-append}
 use Rattle.zw_base.specs.PropertyOrder.{same_property}
 use Rattle.zw_base.specs.declared.order.Order.{Order}
@@ -47,7 +47,6 @@ use Rattle.proof_air.specs.proof_host.Tables.{taken_at, taken_by}
 use Rattle.proof_spoken.specs.proof_once.Tied.{KeepsOrders}
 use Rattle.proof_spoken.proofs.Orders.{push_is}
 use Rattle.supervision.proofs.OnceLemmas.{All-slice_get as at_place}
-use Rattle.host_model.proofs.Tests.{both_true as both}
 use Rattle.proof_air.proofs.Effects.{held_store}
 
 -- a command of the node sets the property
@@ -62,14 +61,6 @@ abbrev pub KeepsNoMore : HostState → Type 0
 KeepsNoMore h = (n : ℕ) (p : Property) → IsReserved h.store n p → IsSet h.commands n p ⊎ IsTrue (is_some (stored_of h.store n p).heard)
 
 -- ---- lists
-
-pub or_later : (a b : Bool) → b ≡ true → (a || b) ≡ true
-or_later true b is = refl
-or_later false b is = is
-
-pub either_of : (a b : Bool) → (a || b) ≡ true → (a ≡ true) ⊎ (b ≡ true)
-either_of true b is = inl refl
-either_of false b is = inr is
 
 -- what holds of all holds at a place
 pub of_session : (P : ℕ → Type 0) (l : List ℕ) (session command : ℕ) → All P l → command_of_session l session ≡ Some command → P command

@@ -10,6 +10,7 @@ pub use Rattle.proof_alone.proofs.Listening
 pub use Rattle.proof_alone.proofs.Apart as proof_alone_Apart
 pub use Rattle.proof_alone.proofs.Untimed
 pub use Rattle.proof_alone.proofs.HostNotes
+pub use Rattle.proof_alone.proofs.HostOuts
 pub use Rattle.proof_alone.proofs.Bodies
 pub use Rattle.proof_alone.proofs.InOrder
 pub use Rattle.proof_alone.proofs.Answering

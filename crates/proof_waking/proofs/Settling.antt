@@ -1,7 +1,7 @@
 -- What a host put out behind the last frame that it judged; so no node owes here that it counts as awake, but where the event that says so comes next.
 use Rattle.std.proofs.Common.{◌≡◌, ℕ, not, Bool, true, false, if◌then◌else◌, List, [], ◌∷◌, ◌++◌, refl, sym, ap, ◌∙◌, subst, append-nil, append_assoc}
 use Rattle.std.specs.List.{AllByRecursion, flat_map, list_any}
-use Rattle.std.proofs.lemmas.Bool.{and_left, and_parts, and_right, both_ways, or_left, or_right}
+use Rattle.std.proofs.lemmas.Bool.{and_left, and_parts, and_right, both_ways, or_left, or_right, false_from_ne_true as unless}
 use Rattle.zw_base.proofs.Each.{all-right, all-weaker}
 use Rattle.serial_frame.specs.Items.{unit_text}
 use Rattle.serial_frame.specs.declared.unit.Unit.TheVariants.{Framed}
@@ -161,10 +161,6 @@ owed_left past left frame follows owes =
 
 undirected : (past : List Entry) → is_directly_after past ≡ false → owes_waking past ≡ false
 undirected past none = and_left (is_directly_after past) (wakes_by (brought_here past)) none
-
-unless : (b : Bool) → (b ≡ true → ⊥) → b ≡ false
-unless true never = absurd (never refl)
-unless false never = refl
 
 pub owes_settled : (past : List Entry) → Settled past → owes_waking past ≡ false
 owes_settled past settled = by (is_following past) refl

@@ -44,10 +44,6 @@ then here middle last First Second one two m events (first, rest, are, is_first,
 pub then_turn : (here middle last : Phase) (Kind : Machine → List Event → Type 0) → Leads here Kind middle → ((m : Machine) → Turns middle m last) → Leads here Kind last
 then_turn here middle last Kind one turns m events is = same (events ++ []) (sym (append-nil events)) (join (one m events is) (Turned (turns (happens_all m events)) Ends))
 
--- a part begins before these
-pub turn_first : (here middle last : Phase) (Kind : Machine → List Event → Type 0) → ((m : Machine) → Turns here m middle) → Leads middle Kind last → Leads here Kind last
-turn_first here middle last Kind turns one m events is = Turned (turns m) (one m events is)
-
 -- ---- where an allocation failure cut them short
 
 pub nothing : (here : Phase) → Begins here Nothing

@@ -75,7 +75,7 @@ UnitsAre Is [] = Unit {0}
 UnitsAre Is (Write unit ∷ outs) = Is unit × UnitsAre Is outs
 UnitsAre Is (Note note ∷ outs) = UnitsAre Is outs
 
-any_units : (outs : List HostOut) → UnitsAre (λ unit. Unit {0}) outs
+pub any_units : (outs : List HostOut) → UnitsAre (λ unit. Unit {0}) outs
 any_units [] = tt
 any_units (Write unit ∷ outs) = (tt, any_units outs)
 any_units (Note note ∷ outs) = any_units outs

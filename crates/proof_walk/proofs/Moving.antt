@@ -6,7 +6,7 @@ use Rattle.proof_device.specs.outside_model.State.{Outside}
 use Rattle.proof_walk.specs.Outside.{Knowing, Moves}
 
 -- where two lists are none together, each is
-both_none : {A : Type 0} (xs ys : List A) → xs ++ ys ≡ [] → (xs ≡ []) × (ys ≡ [])
+pub both_none : {A : Type 0} (xs ys : List A) → xs ++ ys ≡ [] → (xs ≡ []) × (ys ≡ [])
 both_none [] ys none = (refl, none)
 both_none (x ∷ xs) ys none = let is : x ∷ (xs ++ ys) ≡ [] = none in absurd cc
 

@@ -30,10 +30,6 @@ asked_in_order h (Queues_interview n) asked = asked
 asked_in_order h (Requests_do event moment) asked = asked
 asked_in_order h _ asked = tt
 
--- in every state of the host
-abbrev pub AlwaysAsked : HostEvent → Type 0
-AlwaysAsked event = (h : HostState) → IsAsked h event
-
 abbrev pub AlwaysInOrder : HostEvent → Type 0
 AlwaysInOrder event = (h : HostState) → IsInOrder h event
 

@@ -21,7 +21,8 @@ use Rattle.proof_device.specs.world_model.State.{Machine, with_texts}
 use Rattle.proof_device.specs.world_model.Events.{Event, Outside_does, Host_does, Host_takes, Decoder_ticks, Refuses, Shows_values, Restarts, OpensFrom, happens, entries, May}
 use Rattle.proof_device.specs.world_model.Did.{happens_all, MayAll}
 use Rattle.proof_host.specs.Facts.{Facts, StartsAs}
-use Rattle.proof_host.proofs.HostsFromRecords.{legal_both, nothing_kept, nothing_legal, KeptStarts, KeptGoesOn, EventsHold, EventsAreLegal, OpenedHolds, OpenedFacts}
+use Rattle.proof_host.proofs.HostsFromRecords.{nothing_kept, nothing_legal, KeptStarts, KeptGoesOn, EventsHold, EventsAreLegal, OpenedHolds, OpenedFacts}
+use Rattle.host_model.proofs.Recorded.{legal-append as legal_both}
 use Rattle.proof_world.specs.Restarts.{StartsWell, AllStartWell, KeepsWell, AllKeepWell, BeginsEmpty, AreHeld, IsHeld}
 
 -- ---- texts

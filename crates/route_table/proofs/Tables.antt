@@ -62,9 +62,6 @@ linked-network_of t valid a b la lb =
       | inr (inr falling) ↦ shown_at t.rows a b b a (omega arith) (omega arith) ∙ is_shown t.rows b a falling la ∙ valid.both_ways b a
     ]
 
-pub repeats-network_of : (t : Inside) → (n : ℕ) → n < 256 → repeats (network_of t) n ≡ has t.repeaters n
-repeats-network_of t n ln = contains-nodes_of t.repeaters n ∙ ap (λ b. b && has t.repeaters n) (lt-ltb n 256 ln)
-
 joined : (a b l h : ℕ) (x : Bool) → a < 256 → b < 256 → a ≢ b → (ltb h 256 && (ltb l h && cond (are_ends a b l h) true x)) ≡ (eqb l (min a b) && eqb h (max a b) || ltb h 256 && (ltb l h && x))
 joined a b l h x la lb differ = grind (arith, nat_tests)
 
@@ -120,16 +117,6 @@ links_of-itself rows a =
     contains-links_of rows q
     ∙ parted_itself a q.low q.high (hears rows q.low q.high)
     ∙ sym (set.contains-remove link_cmp_total (links_of rows) (link_of a a) q ∙ (λ i. not (tied_links q (link_of a a) i) && contains-links_of rows q i)))
-
-pub both_ways-marked : (old new : List NodeSet) (a b : ℕ) (live : Bool) → ((x y : ℕ) → hears old x y ≡ hears old y x) → Marked old new a b live → (x y : ℕ) → hears new x y ≡ hears new y x
-both_ways-marked old new a b live both each x y =
-    let turned : are_ends a b x y ≡ are_ends a b y x = grind (arith, nat_tests) in
-    each x y ∙ (λ i. cond (turned i) live (both x y i)) ∙ sym (each y x)
-
-pub not_itself-marked : (old new : List NodeSet) (a b : ℕ) (live : Bool) → a ≢ b → ((x : ℕ) → hears old x x ≡ false) → Marked old new a b live → (x : ℕ) → hears new x x ≡ false
-not_itself-marked old new a b live differ none each x =
-    let apart : are_ends a b x x ≡ false = grind (arith, nat_tests) in
-    each x x ∙ (λ i. cond (apart i) live (none x i))
 
 pub nodes_of-marked : (old new : NodeSet) (n : ℕ) → n < 256 → ((q : ℕ) → has new q ≡ cond (eqb q n) true (has old q)) → nodes_of new ≡ set.insert (nodes_of old) n
 nodes_of-marked old new n low each =

@@ -10,8 +10,6 @@ use Rattle.run_lines.specs.declared.status.Status.{Status}
 use Rattle.run_lines.specs.declared.status.Status.TheVariants as status
 use Rattle.run_words.specs.Valid.{AreWordsFor, IsAnswered}
 use Rattle.run_words.specs.declared.asked.Asked.{Asked}
-use Rattle.run_words.specs.declared.asked.WordsFault.{WordsFault}
-use Rattle.run_words.specs.declared.asked.WordsFault.TheVariants.{Usage as no_command, NoMemory as no_words}
 use Rattle.run_tools.specs.Check.{HasChecked}
 use Rattle.run_tools.specs.Events.{EventsRan}
 use Rattle.run_include.specs.Run.{IncludeRan}
@@ -141,11 +139,3 @@ as_asked {asked} {given} {words} {key} {ended} {old} {new} is runs = subst (λ (
 pub named_runs : (given : Asked) (key : List ℕ) (ended : Status) (old new : Around) (words : List (List ℕ)) → ((asked : Asked) → AreWordsFor asked words → IsAnswered asked (Ok given))
     → Runs given words key ended old new → (asked : Asked) → AreWordsFor asked words → Runs asked words key ended old new ⊎ Refuses status.NoMemory ended old new
 named_runs given key ended old new words valid runs asked are = inl (subst (λ (a : Asked). Runs a words key ended old new) (valid asked are) runs)
-
-abbrev fault_code : WordsFault → ℕ
-fault_code no_command = 1
-fault_code no_words = 2
-
--- words that are refused name no command
-pub never_refused : no_command ≡ no_words → ⊥
-never_refused e = let codes_are : 1 ≡ 2 = ap fault_code e in absurd (omega (arith, codes_are))

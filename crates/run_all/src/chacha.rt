@@ -46,6 +46,11 @@ impl ChaChaDraw {
 }
 
 impl Draw for ChaChaDraw {
+    ghost use Rattle.std.specs.Prelude.{◌≡◌, ◌+◌, ◌%◌, ◌^◌};
+    ghost use Rattle.run_all.specs.Words.{two_words};
+
+    ghost draws = { λ old drawn new. (drawn ≡ two_words old) × (new ≡ record old { word_pos = (old.word_pos + 2) % 2 ^ 68 }) };
+
     fn next(&mut self) -> [u8; 8] {
         self.draw()
     }

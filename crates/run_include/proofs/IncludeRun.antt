@@ -67,9 +67,9 @@ nothing_done line world = record {
   tells = λ key T reached. subst (λ (es : List IncludeEntry). Reached key es world) (sym (append-nil T)) reached;
 }
 
-module _ {A B C : Type 0} where
+module _ {A B : Type 0} where
   -- a text that is not read
-  pub not_read : (fault : ReadLineFault) (old : Borrowed WorldState A B C) (text : List ℕ) (pieces : List (List ℕ)) → Gives (Err fault) (line_at text) → pieces ≡ []
+  pub not_read : (fault : ReadLineFault) (old : Borrowed WorldState A B) (text : List ℕ) (pieces : List (List ℕ)) → Gives (Err fault) (line_at text) → pieces ≡ []
       → RefusesBy fault IncludeStops (fault_by line_at text) old text old pieces
   not_read (bad_text fault) old text pieces gives none = (ap fault_in gives, refl)
   not_read no_text_memory old text pieces gives none = go (line_at text) refl gives
@@ -81,15 +81,15 @@ module _ {A B C : Type 0} where
           ([], [], nothing_done (record { text = text; line = line }) old.machine, ap (λ (ps : List (List ℕ)). ps ++ []) (sym none))
       go (Err fault) read ok = absurd (grind (arith, ok))
 
-  told : (status : Status) (left left' : Option (List ℕ)) (old new : Borrowed WorldState A B C) (sink sink' : Option (List ℕ))
+  told : (status : Status) (left left' : Option (List ℕ)) (old new : Borrowed WorldState A B) (sink sink' : Option (List ℕ))
       → HasRun status (fault_by line_at) IncludeRuns IncludeStops IncludeEnds left left' old new sink sink'
       → LinesTold status line_at LineRan PartRan transcript_text IsTable left left' old.machine new.machine sink sink'
   told status left left' old new sink sink' h =
-      lines_told line_at LineRan PartRan pieces_of transcript_text IsTable IncludeRuns IncludeStops IncludeEnds (λ (x : Borrowed WorldState A B C). Unit {0}) (λ (x : Borrowed WorldState A B C). x.machine)
+      lines_told line_at LineRan PartRan pieces_of transcript_text IsTable IncludeRuns IncludeStops IncludeEnds (λ (x : Borrowed WorldState A B). Unit {0}) (λ (x : Borrowed WorldState A B). x.machine)
       refl (λ a b. map-append entry_line a b) pieces_text (λ x words y out is r. (tt, r)) (λ x words y out is r. r) (λ x out e. e) status left left' old new sink sink' h tt
 
   pub include_ran : (key : List ℕ) → ((T : List IncludeEntry) (world : WorldState) → Reached key T world → Added key T world)
-      → (status : Status) (left left' : Option (List ℕ)) (old new : Borrowed WorldState A B C) (sink sink' : Option (List ℕ))
+      → (status : Status) (left left' : Option (List ℕ)) (old new : Borrowed WorldState A B) (sink sink' : Option (List ℕ))
       → HasRun status (fault_by line_at) IncludeRuns IncludeStops IncludeEnds left left' old new sink sink' → old.machine ≡ first_world key → Reached key [] old.machine
       → IncludeRan status key left left' sink sink'
   include_ran key law status left left' old new sink sink' h start reached =

@@ -49,13 +49,13 @@ AnswersLine text line old new pieces = DoesText LineRan pieces_of text (Ok (Some
 abbrev pub StopsLine : List ℕ → IncludeLine → WorldState → WorldState → List (List ℕ) → Type 0
 StopsLine text line old new pieces = StopsText PartRan pieces_of text (Ok (Some line)) old new pieces
 
-abbrev pub IncludeRuns : {A B C : Type 0} → Borrowed WorldState A B C → List ℕ → Borrowed WorldState A B C → List (List ℕ) → Type 0
+abbrev pub IncludeRuns : {A B : Type 0} → Borrowed WorldState A B → List ℕ → Borrowed WorldState A B → List (List ℕ) → Type 0
 IncludeRuns old text new pieces = DoesText LineRan pieces_of text (line_at text) old.machine new.machine pieces
 
-abbrev pub IncludeStops : {A B C : Type 0} → Borrowed WorldState A B C → List ℕ → Borrowed WorldState A B C → List (List ℕ) → Type 0
+abbrev pub IncludeStops : {A B : Type 0} → Borrowed WorldState A B → List ℕ → Borrowed WorldState A B → List (List ℕ) → Type 0
 IncludeStops old text new pieces = StopsText PartRan pieces_of text (line_at text) old.machine new.machine pieces
 
-abbrev pub IncludeEnds : {A B C : Type 0} → Borrowed WorldState A B C → List (List ℕ) → Type 0
+abbrev pub IncludeEnds : {A B : Type 0} → Borrowed WorldState A B → List (List ℕ) → Type 0
 IncludeEnds last pieces = IsTable last.machine pieces
 
 -- ---- the run

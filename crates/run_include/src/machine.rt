@@ -34,12 +34,10 @@ impl IncludeMachine {
     }
 }
 
-impl<D: Draw> Machine<(), D, ()> for IncludeMachine {
+impl<D: Draw> Machine<D, ()> for IncludeMachine {
     ghost use Rattle.include_text.specs.Line.{line_at};
     ghost use Rattle.run_lines.specs.Lines.{fault_by};
     ghost use Rattle.run_include.specs.Run.{IncludeRuns, IncludeStops, IncludeEnds};
-
-    ghost ready = { λ first. Unit {0} };
 
     ghost refuses = { fault_by line_at };
 
@@ -51,15 +49,14 @@ impl<D: Draw> Machine<(), D, ()> for IncludeMachine {
 
     fn run_line(
         &mut self,
-        _first: &mut (),
-        second: &mut D,
-        _third: &mut (),
+        first: &mut D,
+        _second: &mut (),
         text: &[u8],
         out: &mut List<Bytes>,
     ) -> Result<(), ReadLineFault> {
         match read_include(self.alloc, text) {
             Ok(Some(line)) => {
-                self.run_one(text, &line, second, out)?;
+                self.run_one(text, &line, first, out)?;
                 Ok(())
             }
             Ok(None) => Ok(()),
@@ -67,13 +64,7 @@ impl<D: Draw> Machine<(), D, ()> for IncludeMachine {
         }
     }
 
-    fn end(
-        &self,
-        _first: &(),
-        _second: &D,
-        _third: &(),
-        out: &mut List<Bytes>,
-    ) -> Result<(), NoMemory> {
+    fn end(&self, _first: &D, _second: &(), out: &mut List<Bytes>) -> Result<(), NoMemory> {
         let mut entries = List::new(self.alloc);
         self.world.table(&mut entries)?;
         add_entries(self.alloc, entries.as_slice(), out)

@@ -37,7 +37,7 @@ pub fn run_include<S: Source, K: Sink, D: Draw>(
         return Status::NoMemory;
     };
     let mut machine = IncludeMachine::new(alloc, world);
-    run_scenario(alloc, source, sink, &mut machine, &mut (), draw, &mut ())
+    run_scenario(alloc, source, sink, &mut machine, draw, &mut ())
 }
 
 /// The world in which nothing has happened.

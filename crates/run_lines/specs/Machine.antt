@@ -4,15 +4,14 @@ use Rattle.zw_words.specs.declared.fault.LineFault.{LineFault}
 use Rattle.zw_words.specs.declared.fault.ReadLineFault.{ReadLineFault}
 use Rattle.zw_words.specs.declared.fault.ReadLineFault.TheVariants.{Bad, NoMemory}
 
--- a machine and the three things that it is borrowed
-pub record Borrowed (M A B C : Type 0) : Type 0 where
+-- a machine and the two things that it is borrowed
+pub record Borrowed (M A B : Type 0) : Type 0 where
   pub machine : M
   pub first : A
   pub second : B
-  pub third : C
 
-abbrev pub borrowed : {M A B C : Type 0} → M → A → B → C → Borrowed M A B C
-borrowed machine first second third = record { machine = machine; first = first; second = second; third = third }
+abbrev pub borrowed : {M A B : Type 0} → M → A → B → Borrowed M A B
+borrowed machine first second = record { machine = machine; first = first; second = second }
 
 -- why a text was not run, or not whole: it is no line, and nothing was done; or there was no memory
 abbrev pub RefusesBy : {X : Type 0} → ReadLineFault → (X → List ℕ → X → List (List ℕ) → Type 0) → Option LineFault

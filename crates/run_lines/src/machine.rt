@@ -7,46 +7,39 @@ ghost use Rattle.zw_words.specs.declared.fault.LineFault.{LineFault as Fault};
 use zw_base::{Bytes, List, NoMemory};
 use zw_words::ReadLineFault;
 
-/// A machine that runs the lines of a scenario, with three things that it is borrowed for each line (as its devices, a keeper
-/// and a source of drawn bytes).
-pub trait Machine<A, B, C> {
-    /// What the first thing has to meet, and meets again after each line.
-    ghost ready: { A → Type 0 };
-
+/// A machine that runs the lines of a scenario, with two things that it is borrowed for each line (as a source of drawn bytes
+/// and a keeper).
+pub trait Machine<A, B> {
     /// Why a text is not a line, if it is not.
     ghost refuses: { Items ℕ → Option Fault };
 
     /// What the text of a line makes of the machine and what it is borrowed, and the pieces that it is answered by.
-    ghost runs: { Borrowed Self A B C → Items ℕ → Borrowed Self A B C → Items (Items ℕ) → Type 0 };
+    ghost runs: { Borrowed Self A B → Items ℕ → Borrowed Self A B → Items (Items ℕ) → Type 0 };
 
     /// The same where there was no memory for all of it.
-    ghost stops: { Borrowed Self A B C → Items ℕ → Borrowed Self A B C → Items (Items ℕ) → Type 0 };
+    ghost stops: { Borrowed Self A B → Items ℕ → Borrowed Self A B → Items (Items ℕ) → Type 0 };
 
     /// The last pieces, after all lines.
-    ghost ends: { Borrowed Self A B C → Items (Items ℕ) → Type 0 };
+    ghost ends: { Borrowed Self A B → Items (Items ℕ) → Type 0 };
 
     /// Runs the text of a line. Each piece of the answer is a line with its line feed.
     fn run_line(
         &mut self,
         first: &mut A,
         second: &mut B,
-        third: &mut C,
         text: &[u8],
         out: &mut List<Bytes>,
     ) -> Result<(), ReadLineFault>
-        requires ready { ready first.old }
         requires short { length text.now ≤ 1024 }
         requires empty { out.old.items ≡ [] }
         ensures is_line { OnOk result (refuses text.now ≡ None) }
-        ensures ok { OnOk result (runs (borrowed self.old first.old second.old third.old) text.now
-            (borrowed self.new first.new second.new third.new) out.new.items) }
-        ensures err { IfErr result (λ fault. RefusesBy fault stops (refuses text.now) (borrowed self.old first.old second.old third.old) text.now
-            (borrowed self.new first.new second.new third.new) out.new.items) }
-        ensures still_ready { ready first.new };
+        ensures ok { OnOk result (runs (borrowed self.old first.old second.old) text.now
+            (borrowed self.new first.new second.new) out.new.items) }
+        ensures err { IfErr result (λ fault. RefusesBy fault stops (refuses text.now) (borrowed self.old first.old second.old) text.now
+            (borrowed self.new first.new second.new) out.new.items) };
 
     /// Adds the last pieces.
-    fn end(&self, first: &A, second: &B, third: &C, out: &mut List<Bytes>) -> Result<(), NoMemory>
-        requires ready { ready first.now }
+    fn end(&self, first: &A, second: &B, out: &mut List<Bytes>) -> Result<(), NoMemory>
         requires empty { out.old.items ≡ [] }
-        ensures ok { OnOk result (ends (borrowed self.now first.now second.now third.now) out.new.items) };
+        ensures ok { OnOk result (ends (borrowed self.now first.now second.now) out.new.items) };
 }

@@ -1,11 +1,12 @@
 //! Lines that are read, run and answered.
 
-ghost use Rattle.std.specs.Prelude.{◌≡◌, ◌≤◌, [], None, length, OnOk, IfErr, IsErrOf};
+ghost use Rattle.std.specs.Prelude.{◌≡◌, ◌≤◌, ◌⊎◌, [], None, length, OnOk, IfErr, IsErrOf};
 ghost use Rattle.std.specs.Io.KnownBytes.{Appends};
 ghost use Rattle.zw_base.specs.Faults.{Rose};
 ghost use Rattle.run_lines.specs.Machine.{borrowed};
 ghost use Rattle.run_lines.specs.Run.{LinesRan};
 ghost use Rattle.run_lines.specs.Text.{TextRan, TextFails, end_of, end_at};
+ghost use Rattle.run_lines.specs.Writing.{text_of};
 
 use crate::writing::write_pieces;
 use crate::{LineReader, Machine, Next};
@@ -42,19 +43,16 @@ pub enum TextFault {
 }
 
 /// Runs the lines of a source one after another, each as soon as it was read, and writes each answer before it goes on.
-pub(crate) fn run_lines<A, B, C, M: Machine<A, B, C>, S: Source, K: Sink>(
+pub(crate) fn run_lines<A, B, M: Machine<A, B>, S: Source, K: Sink>(
     alloc: Global,
     source: &mut S,
     sink: &mut K,
     machine: &mut M,
     first: &mut A,
     second: &mut B,
-    third: &mut C,
 ) -> LinesEnd
-    requires { M.ready first.old }
     ensures ran { LinesRan result M.refuses M.runs M.stops (S.left source.old) (S.left source.new)
-        (borrowed machine.old first.old second.old third.old) (borrowed machine.new first.new second.new third.new) (K.written sink.old) (K.written sink.new) }
-    ensures ready { M.ready first.new }
+        (borrowed machine.old first.old second.old) (borrowed machine.new first.new second.new) (K.written sink.old) (K.written sink.new) }
     ensures source_never_falls { S.faults source.old ≤ S.faults source.new }
     ensures sink_never_falls { K.faults sink.old ≤ K.faults sink.new }
     ensures read_fault { result ≡ LinesEnd.ReadFailed → Rose (S.faults source.old) (S.faults source.new) }
@@ -67,15 +65,7 @@ pub(crate) fn run_lines<A, B, C, M: Machine<A, B, C>, S: Source, K: Sink>(
             Next::Line => pieces.clear(),
             next => return end_of(next, number),
         }
-        match run_text(
-            sink,
-            machine,
-            first,
-            second,
-            third,
-            reader.line(),
-            &mut pieces,
-        ) {
+        match run_text(sink, machine, first, second, reader.line(), &mut pieces) {
             Ok(()) => {}
             Err(fault) => return end_at(fault, number),
         }
@@ -113,28 +103,27 @@ pub fn end_at(fault: TextFault, number: u32) -> LinesEnd
 }
 
 /// Runs the text of a line and writes the answer, each piece of it at once.
-fn run_text<A, B, C, M: Machine<A, B, C>, K: Sink>(
+fn run_text<A, B, M: Machine<A, B>, K: Sink>(
     sink: &mut K,
     machine: &mut M,
     first: &mut A,
     second: &mut B,
-    third: &mut C,
     text: &[u8],
     pieces: &mut List<Bytes>,
 ) -> Result<(), TextFault>
-    requires ready { M.ready first.old }
     requires short { length text.now ≤ 1024 }
     requires empty { pieces.old.items ≡ [] }
     ensures is_line { OnOk result (M.refuses text.now ≡ None) }
-    ensures ok { OnOk result (TextRan M.runs (borrowed machine.old first.old second.old third.old) text.now
-        (borrowed machine.new first.new second.new third.new) (Appends (K.written sink.old) (K.written sink.new))) }
-    ensures err { IfErr result (λ fault. TextFails fault M.runs M.stops (M.refuses text.now) (borrowed machine.old first.old second.old third.old) text.now
-        (borrowed machine.new first.new second.new third.new) (K.written sink.old) (K.written sink.new)) }
-    ensures ready { M.ready first.new }
+    ensures ok { OnOk result (TextRan M.runs (borrowed machine.old first.old second.old) text.now
+        (borrowed machine.new first.new second.new) (Appends (K.written sink.old) (K.written sink.new))) }
+    ensures err { IfErr result (λ fault. TextFails fault M.runs M.stops (M.refuses text.now) (borrowed machine.old first.old second.old) text.now
+        (borrowed machine.new first.new second.new) (K.written sink.old) (K.written sink.new)) }
     ensures never_falls { K.faults sink.old ≤ K.faults sink.new }
     ensures failed { IsErrOf result TextFault.Write → Rose (K.faults sink.old) (K.faults sink.new) }
+    ensures told { IsErrOf result TextFault.NoMemory → Rose (K.faults sink.old) (K.faults sink.new)
+        ⊎ Appends (K.written sink.old) (K.written sink.new) (text_of pieces.new.items) }
 {
-    match machine.run_line(first, second, third, text, pieces) {
+    match machine.run_line(first, second, text, pieces) {
         Ok(()) => match write_pieces(sink, pieces.as_slice()) {
             Ok(()) => Ok(()),
             Err(_) => Err(TextFault::Write),

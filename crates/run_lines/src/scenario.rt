@@ -16,19 +16,16 @@ use zw_text::Entry;
 use zw_words::LineFault;
 
 /// Runs the lines of a source, up to the first that is invalid, and writes what the machine answers and the last lines.
-pub fn run_scenario<A, B, C, M: Machine<A, B, C>, S: Source, K: Sink>(
+pub fn run_scenario<A, B, M: Machine<A, B>, S: Source, K: Sink>(
     alloc: Global,
     source: &mut S,
     sink: &mut K,
     machine: &mut M,
     first: &mut A,
     second: &mut B,
-    third: &mut C,
 ) -> Status
-    requires { M.ready first.old }
     ensures ran { HasRun result M.refuses M.runs M.stops M.ends (S.left source.old) (S.left source.new)
-        (borrowed machine.old first.old second.old third.old) (borrowed machine.new first.new second.new third.new) (K.written sink.old) (K.written sink.new) }
-    ensures ready { M.ready first.new }
+        (borrowed machine.old first.old second.old) (borrowed machine.new first.new second.new) (K.written sink.old) (K.written sink.new) }
     ensures source_never_falls { S.faults source.old ≤ S.faults source.new }
     ensures sink_never_falls { K.faults sink.old ≤ K.faults sink.new }
     ensures read_fault { result ≡ Status.ReadFault → Rose (S.faults source.old) (S.faults source.new) }
@@ -36,30 +33,27 @@ pub fn run_scenario<A, B, C, M: Machine<A, B, C>, S: Source, K: Sink>(
     ensures complete { HasGoodInput M.refuses (S.left source.old) → (Rose (S.faults source.old) (S.faults source.new) → ⊥)
         → (Rose (K.faults sink.old) (K.faults sink.new) → ⊥) → IsDone result }
 {
-    run_to_status(alloc, source, sink, machine, first, second, third)
+    run_to_status(alloc, source, sink, machine, first, second)
 }
 
 /// The same, as its statuses tell it.
-fn run_to_status<A, B, C, M: Machine<A, B, C>, S: Source, K: Sink>(
+fn run_to_status<A, B, M: Machine<A, B>, S: Source, K: Sink>(
     alloc: Global,
     source: &mut S,
     sink: &mut K,
     machine: &mut M,
     first: &mut A,
     second: &mut B,
-    third: &mut C,
 ) -> Status
-    requires { M.ready first.old }
     ensures ran { HasRun result M.refuses M.runs M.stops M.ends (S.left source.old) (S.left source.new)
-        (borrowed machine.old first.old second.old third.old) (borrowed machine.new first.new second.new third.new) (K.written sink.old) (K.written sink.new) }
-    ensures ready { M.ready first.new }
+        (borrowed machine.old first.old second.old) (borrowed machine.new first.new second.new) (K.written sink.old) (K.written sink.new) }
     ensures source_never_falls { S.faults source.old ≤ S.faults source.new }
     ensures sink_never_falls { K.faults sink.old ≤ K.faults sink.new }
     ensures read_fault { result ≡ Status.ReadFault → Rose (S.faults source.old) (S.faults source.new) }
     ensures write_fault { result ≡ Status.WriteFault → Rose (K.faults sink.old) (K.faults sink.new) }
 {
-    match run_lines(alloc, source, sink, machine, first, second, third) {
-        LinesEnd::All => end_well(alloc, sink, machine, first, second, third),
+    match run_lines(alloc, source, sink, machine, first, second) {
+        LinesEnd::All => end_well(alloc, sink, machine, first, second),
         LinesEnd::Bad { line, fault } => end_badly(alloc, sink, line, fault),
         LinesEnd::ReadFailed => Status::ReadFault,
         LinesEnd::TooMuch => Status::InputTooLong,
@@ -69,22 +63,20 @@ fn run_to_status<A, B, C, M: Machine<A, B, C>, S: Source, K: Sink>(
 }
 
 /// Writes the last lines of the machine.
-fn end_well<A, B, C, M: Machine<A, B, C>, K: Sink>(
+fn end_well<A, B, M: Machine<A, B>, K: Sink>(
     alloc: Global,
     sink: &mut K,
     machine: &M,
     first: &A,
     second: &B,
-    third: &C,
 ) -> Status
-    requires { M.ready first.now }
-    ensures closes { ClosesWell M.ends result (borrowed machine.now first.now second.now third.now) (K.written sink.old) (K.written sink.new) }
+    ensures closes { ClosesWell M.ends result (borrowed machine.now first.now second.now) (K.written sink.old) (K.written sink.new) }
     ensures never_falls { K.faults sink.old ≤ K.faults sink.new }
     ensures failed { result ≡ Status.WriteFault → Rose (K.faults sink.old) (K.faults sink.new) }
     ensures no_read { result ≡ Status.ReadFault → ⊥ }
 {
     let mut pieces = List::new(alloc);
-    if machine.end(first, second, third, &mut pieces).is_err() {
+    if machine.end(first, second, &mut pieces).is_err() {
         return Status::NoMemory;
     }
     match write_pieces(sink, pieces.as_slice()) {

@@ -1,6 +1,6 @@
 //! Pieces written to a sink.
 
-ghost use Rattle.std.specs.Prelude.{◌≤◌, OnOk, OnErr};
+ghost use Rattle.std.specs.Prelude.{◌≡◌, ◌≤◌, OnOk, OnErr};
 ghost use Rattle.std.specs.Io.KnownBytes.{Appends};
 ghost use Rattle.zw_base.specs.Faults.{Rose};
 ghost use Rattle.run_lines.specs.Writing.{text_of, AppendsPrefix};
@@ -13,6 +13,7 @@ pub fn write_pieces<K: Sink>(sink: &mut K, pieces: &[Bytes]) -> Result<(), Faile
     ensures prefix { OnErr result (AppendsPrefix (K.written sink.old) (K.written sink.new) (text_of pieces.now)) }
     ensures never_falls { K.faults sink.old ≤ K.faults sink.new }
     ensures failed { OnErr result (Rose (K.faults sink.old) (K.faults sink.new)) }
+    ensures uncounted { OnOk result (K.faults sink.new ≡ K.faults sink.old) }
 {
     for piece in pieces {
         if write_piece(sink, piece.as_slice()).is_err() {
@@ -28,6 +29,7 @@ pub fn write_piece<K: Sink>(sink: &mut K, piece: &[u8]) -> Result<(), Failed>
     ensures prefix { OnErr result (AppendsPrefix (K.written sink.old) (K.written sink.new) piece.now) }
     ensures never_falls { K.faults sink.old ≤ K.faults sink.new }
     ensures failed { OnErr result (Rose (K.faults sink.old) (K.faults sink.new)) }
+    ensures uncounted { OnOk result (K.faults sink.new ≡ K.faults sink.old) }
 {
     let mut done = 0;
     while done < piece.len() {

@@ -3,7 +3,6 @@ use Rattle.std.proofs.Common.{◌≡◌, ℕ, ◌+◌, ◌≤◌, Bool, false, L
 use Rattle.std.specs.Prelude.{Option, Some, None, Result, Ok, Err, OnOk, OnErr, ◌&&◌}
 use Rattle.std.specs.List.{flat_map}
 use Rattle.std.proofs.lemmas.List.{append-nil}
-use Rattle.zw_base.specs.Faults.{Rose}
 use Rattle.serial_frame.specs.Stream.{Rest}
 use Rattle.zw_base.specs.declared.order.Order.{Order}
 use Rattle.zw_text.specs.declared.line.Line.{Line}
@@ -12,112 +11,36 @@ use Rattle.zw_text.specs.declared.entry.Entry.{Entry}
 use Rattle.zw_text.specs.declared.entry.Entry.TheVariants.{Refused as refused_entry, Accepted, Out, Json}
 use Rattle.zw_text.specs.declared.entry.Ended.TheVariants.{Cancelled}
 use Rattle.zw_text.specs.declared.entry.Refusal.{Refusal}
-use Rattle.zw_text.specs.declared.entry.Refusal.TheVariants.{KeeperFault as keeper_fault}
 use Rattle.value_store.specs.Values.{held_of}
 use Rattle.value_store.specs.ValueText.{values_text}
 use Rattle.host_orders.specs.declared.refused.Refused.{Refused}
-use Rattle.host_orders.specs.declared.refused.Refused.TheVariants.{NotJoined, NotInterviewed, Unsupported, BadValue, Unsupervised, TooLong, MailboxFull, StoreFull, Secured, QueueFull, AlreadyJoined, KeeperFault, NoMemory}
 use Rattle.host_orders.specs.Refusals.{Refuses as RefusesBy}
 use Rattle.host_orders.specs.Errands.{RefusesOrNone}
 use Rattle.host_keep.specs.Keeping.{OptAdds}
-use Rattle.host_model.specs.State.{HostState, HostParts}
+use Rattle.host_model.specs.State.{HostParts}
 use Rattle.host_model.specs.Events.{HostEvent, Accepts, Cancels}
 use Rattle.host_model.specs.Events.{Joins as joins_host}
 use Rattle.host_model.specs.Did.{Did, RoseIf, RoseBy, is_unkept, one_if, unkept_in, records_all, texts_of}
 use Rattle.host_model.proofs.EventLists.{rose_one, rose_none, unkept_alone}
-use Rattle.host_model.specs.Asking.{carriage_for, Waits}
+use Rattle.host_model.specs.Asking.{carriage_for}
 use Rattle.host_model.specs.declared.out.HostOut.{HostOut}
 use Rattle.host_model.specs.Outs.{answers}
 use Rattle.host_core.specs.Calls.{DoesAlone, Are, scene}
 use Rattle.host_core.specs.Calls as calls
-use Rattle.host_parts.specs.Choices.{Judges}
-use Rattle.host_core.specs.Orders.{KeptOrRefused, CancelsOrNot}
-use Rattle.host_core.specs.declared.orders.CancelFault.{CancelFault}
-use Rattle.host_core.specs.declared.orders.CancelFault.TheVariants as cancel
-use Rattle.world_model.specs.Refusals.{shown, IsRefused, IsRefusedBy, IsRefusedOrUnkept, IsUncancelled}
+use Rattle.world_model.specs.Refusals.{shown, IsRefused, IsRefusedBy}
 use Rattle.world_model.specs.Events.{Host_does, Refuses as refuses_there, Shows_values as shows_there}
 use Rattle.world_model.specs.Events.{Event as MachineEvent}
-use Rattle.world_model.specs.Did.{is_keeper_fault}
+use Rattle.host_model.specs.Refusals.{is_keeper_fault}
 use Rattle.world_model.specs.Lines.{IsDone}
 use Rattle.world_model.specs.Lines.{Asks as AsksThere}
 use Rattle.world_model.proofs.Hosting.{adds_is}
 use Rattle.run_replay.specs.Machine.{Lone, Event, Does_asked, Refuses, Shows_values, Run, Does, Stops, May, happens, entries, entries_of, alone, asks_keeper}
 use Rattle.run_replay.specs.Lines.{IsEffect, by_host}
-use Rattle.run_replay.specs.Asking.{Answers, Enters, shown_uncancelled}
+use Rattle.run_replay.specs.Asking.{Answers, Enters}
 use Rattle.run_replay.proofs.EventLists.{ran_one, stopped_in, stopped_still}
 use Rattle.host_core.specs.Calls.{shelf_of}
 use Rattle.run_replay.proofs.Hosting.{at, hosted_is, none_entered}
-
--- ---- what is entered of a refusal
-
-abbrev fault_in : Option Refusal → Bool
-fault_in None = false
-fault_in (Some entered) = is_keeper_fault entered
-
-abbrev IsNothing : Option Refusal → Type 0
-IsNothing None = Unit {0}
-IsNothing (Some entered) = ⊥
-
-abbrev given : Option Refusal → Refusal
-given None = keeper_fault
-given (Some entered) = entered
-
--- the keeper failed where that is entered
-rose_shown : (refused : Refused) (f g : ℕ) → (refused ≡ KeeperFault → Rose f g) → RoseIf (fault_in (shown refused)) f g
-rose_shown NotJoined f g rose = tt
-rose_shown NotInterviewed f g rose = tt
-rose_shown (Unsupported class) f g rose = tt
-rose_shown BadValue f g rose = tt
-rose_shown Unsupervised f g rose = tt
-rose_shown (TooLong bytes) f g rose = tt
-rose_shown (MailboxFull waiting) f g rose = tt
-rose_shown (StoreFull properties) f g rose = tt
-rose_shown Secured f g rose = tt
-rose_shown (QueueFull waiting) f g rose = tt
-rose_shown AlreadyJoined f g rose = tt
-rose_shown KeeperFault f g rose = rose refl
-rose_shown NoMemory f g rose = tt
-
-pub rose_entered : (refused : Refused) (entered : Refusal) (f g : ℕ) → shown refused ≡ Some entered → (refused ≡ KeeperFault → Rose f g) → RoseIf (is_keeper_fault entered) f g
-rose_entered refused entered f g is rose = subst (λ (x : Option Refusal). RoseIf (fault_in x) f g) is (rose_shown refused f g rose)
-
--- a rule that applies
-by_rule : (rule : Option Refused) (refused : Refused) (entered : Refusal) → rule ≡ Some refused → shown refused ≡ Some entered → IsRefusedBy rule entered
-by_rule rule refused entered is seen = subst (λ (x : Option Refused). IsRefusedBy x entered) (sym is) seen
-
--- a rule refuses, or the keeper failed
-unkept : (rule : Option Refused) (why : Refused) (entered : Refusal) → shown why ≡ Some entered → why ≡ KeeperFault → rule ≡ None → IsRefusedOrUnkept rule entered
-unkept rule why entered seen fault none = inr (none, sym (ap given (sym (ap shown fault) ∙ seen)))
-
-unseen : {A : Type 0} (why : Refused) (entered : Refusal) → shown why ≡ Some entered → why ≡ NoMemory → A
-unseen why entered seen none = absurd (subst IsNothing (sym (ap shown none) ∙ seen) tt)
-
-pub judged_as : (answer : Result ℕ Refused) (why : Refused) (rule : Option Refused) (entered : Refusal) → answer ≡ Err why → shown why ≡ Some entered → Judges answer rule → IsRefusedOrUnkept rule entered
-judged_as answer why rule entered is seen judges = split (subst (λ (x : Result ℕ Refused). Judges x rule) is judges)
-  where
-    split : Judges (Err why) rule → IsRefusedOrUnkept rule entered
-    split (inl by) = inl (by_rule rule why entered by seen)
-    split (inr (inl none)) = unseen why entered seen none
-    split (inr (inr fault)) = unkept rule why entered seen fault.0 fault.1
-
-pub kept_as : (why : Refused) (rule : Option Refused) (entered : Refusal) → shown why ≡ Some entered → KeptOrRefused {A = Unit {0}} (Err why) rule → IsRefusedOrUnkept rule entered
-kept_as why rule entered seen (inl by) = inl (by_rule rule why entered by seen)
-kept_as why rule entered seen (inr (none, inl fault)) = unkept rule why entered seen fault none
-kept_as why rule entered seen (inr (none, inr no_memory)) = unseen why entered seen no_memory
-
--- the same of a command that is not cancelled
-pub uncancelled_as : (A : Type 0) (h : HostState) (command : ℕ) (fault : CancelFault) (entered : Refusal) → shown_uncancelled command fault ≡ Some entered → CancelsOrNot {A = A} (Err fault) (Waits h command) → IsUncancelled h command entered
-uncancelled_as A h command cancel.NotWaiting entered seen judges = inl (judges, sym (ap given seen))
-uncancelled_as A h command cancel.KeeperFault entered seen judges = inr (judges, sym (ap given seen))
-uncancelled_as A h command cancel.NoMemory entered seen judges = absurd (subst IsNothing seen tt)
-
-pub uncancelled_rose : (command : ℕ) (fault : CancelFault) (entered : Refusal) (f g : ℕ) → shown_uncancelled command fault ≡ Some entered → (fault ≡ cancel.KeeperFault → Rose f g) → RoseIf (is_keeper_fault entered) f g
-uncancelled_rose command fault entered f g seen rose = subst (λ (x : Option Refusal). RoseIf (fault_in x) f g) seen (by_fault fault rose)
-  where
-    by_fault : (fault : CancelFault) → (fault ≡ cancel.KeeperFault → Rose f g) → RoseIf (fault_in (shown_uncancelled command fault)) f g
-    by_fault cancel.NotWaiting rose = tt
-    by_fault cancel.KeeperFault rose = rose refl
-    by_fault cancel.NoMemory rose = tt
+use Rattle.host_core.proofs.Refusing.{IsNothing, by_rule}
 
 -- no record was added
 none_more : (r r' : Option (List (List ℕ))) → OptAdds r r' [] → r' ≡ r

@@ -83,39 +83,39 @@ part_of line s u done = record {
 
 -- ---- the run
 
-module _ {A B C : Type 0} (shelf : C → Shelf) where
-  abbrev pub point : Borrowed ReplayState A B C → Point
-  point x = point_of x.machine (shelf x.third)
+module _ {A B : Type 0} (shelf : B → Shelf) where
+  abbrev pub point : Borrowed ReplayState A B → Point
+  point x = point_of x.machine (shelf x.second)
 
-  abbrev pub Runs : Borrowed ReplayState A B C → List ℕ → Borrowed ReplayState A B C → List (List ℕ) → Type 0
+  abbrev pub Runs : Borrowed ReplayState A B → List ℕ → Borrowed ReplayState A B → List (List ℕ) → Type 0
   Runs old text new pieces = ReplayRuns (point old) text (point new) pieces
 
-  abbrev pub StopsAt : Borrowed ReplayState A B C → List ℕ → Borrowed ReplayState A B C → List (List ℕ) → Type 0
+  abbrev pub StopsAt : Borrowed ReplayState A B → List ℕ → Borrowed ReplayState A B → List (List ℕ) → Type 0
   StopsAt old text new pieces = ReplayStops (point old) text (point new) pieces
 
-  abbrev pub Ends : Borrowed ReplayState A B C → List (List ℕ) → Type 0
+  abbrev pub Ends : Borrowed ReplayState A B → List (List ℕ) → Type 0
   Ends last pieces = IsTable (point last) pieces
 
   -- a text that is not read
-  pub not_read : (fault : ReadLineFault) (old : Borrowed ReplayState A B C) (text : List ℕ) (pieces : List (List ℕ)) → Gives (Err fault) (replay_at text) → pieces ≡ []
+  pub not_read : (fault : ReadLineFault) (old : Borrowed ReplayState A B) (text : List ℕ) (pieces : List (List ℕ)) → Gives (Err fault) (replay_at text) → pieces ≡ []
       → RefusesBy fault StopsAt (fault_by replay_at text) old text old pieces
   not_read (bad_text fault) old text pieces gives none = (ap fault_in gives, refl)
   not_read no_text_memory old text pieces gives none = no_line text (point old) pieces none (replay_at text) gives
 
-  told : (status : Status) (left left' : Option (List ℕ)) (old new : Borrowed ReplayState A B C) (sink sink' : Option (List ℕ))
+  told : (status : Status) (left left' : Option (List ℕ)) (old new : Borrowed ReplayState A B) (sink sink' : Option (List ℕ))
       → HasRun status (fault_by replay_at) Runs StopsAt Ends left left' old new sink sink'
       → LinesTold status replay_at LineRan PartRan transcript_text IsTable left left' (point old) (point new) sink sink'
   told status left left' old new sink sink' h =
-      lines_told replay_at LineRan PartRan (pieces_of false) transcript_text IsTable Runs StopsAt Ends (λ (x : Borrowed ReplayState A B C). Unit {0}) point
+      lines_told replay_at LineRan PartRan (pieces_of false) transcript_text IsTable Runs StopsAt Ends (λ (x : Borrowed ReplayState A B). Unit {0}) point
       refl (pieces-append false) (pieces_text false) (λ x words y out q r. (tt, r)) (λ x words y out q r. r) (λ x out e. e) status left left' old new sink sink' h tt
 
-  pub replay_ran : (key : List ℕ) (status : Status) (left left' : Option (List ℕ)) (old new : Borrowed ReplayState A B C) (sink sink' : Option (List ℕ))
+  pub replay_ran : (key : List ℕ) (status : Status) (left left' : Option (List ℕ)) (old new : Borrowed ReplayState A B) (sink sink' : Option (List ℕ))
       → HasRun status (fault_by replay_at) Runs StopsAt Ends left left' old new sink sink' → old.machine ≡ first_replay key
-      → ReplayRan status key left left' (shelf old.third) (shelf new.third) sink sink'
+      → ReplayRan status key left left' (shelf old.second) (shelf new.second) sink sink'
   replay_ran key status left left' old new sink sink' h start = record {
     point = point new;
     told = subst (λ (r : ReplayState). LinesTold status replay_at LineRan PartRan transcript_text IsTable left left'
-        (point_of r (shelf old.third)) (point new) sink sink') start (told status left left' old new sink sink' h);
+        (point_of r (shelf old.second)) (point new) sink sink') start (told status left left' old new sink sink' h);
     records_are = refl;
     faults_are = refl;
   }

@@ -51,10 +51,6 @@ ticks_stop (Err fault) count i s t u so_far stops = stopped_later so_far.prefix 
 
 -- ---- lines
 
-pub on_ok : {T E P : Type 0} (r : Result T E) → P → OnOk r P
-on_ok (Ok x) p = p
-on_ok (Err e) p = tt
-
 pub ok_then : {T E P Q : Type 0} (r : Result T E) → OnOk r P → (P → Q) → OnOk r Q
 ok_then (Ok x) p go = go p
 ok_then (Err e) p go = tt

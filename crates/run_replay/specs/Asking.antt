@@ -1,12 +1,9 @@
 -- What is entered of what a line asks of the host (this project's own).
-use Rattle.std.specs.Prelude.{◌≡◌, ℕ, List, [], ◌∷◌, ◌++◌, Option, Some, None, Result, Ok, Err}
+use Rattle.std.specs.Prelude.{◌≡◌, List, [], ◌∷◌, ◌++◌, Option, Some, Result, Ok, Err}
 use Rattle.zw_text.specs.declared.entry.Entry.{Entry}
 use Rattle.zw_text.specs.declared.entry.Entry.TheVariants.{Refused as refused_entry}
 use Rattle.zw_text.specs.declared.entry.Refusal.{Refusal}
-use Rattle.zw_text.specs.declared.entry.Refusal.TheVariants.{NotWaiting, KeeperFault}
 use Rattle.host_orders.specs.declared.refused.Refused.{Refused}
-use Rattle.host_core.specs.declared.orders.CancelFault.{CancelFault}
-use Rattle.host_core.specs.declared.orders.CancelFault.TheVariants as cancel
 use Rattle.world_model.specs.Refusals.{shown}
 
 -- the refusal that is shown so is entered, and nothing else
@@ -17,9 +14,3 @@ Enters seen before all = (refusal : Refusal) × (seen ≡ Some refusal) × (all 
 abbrev pub Answers : {A : Type 0} → Result A Refused → List Entry → List Entry → Type 0
 Answers (Ok value) before all = all ≡ before
 Answers (Err refused) before all = Enters (shown refused) before all
-
--- what is entered of a command that is not cancelled; an allocation failure is no refusal
-abbrev pub shown_uncancelled : ℕ → CancelFault → Option Refusal
-shown_uncancelled command cancel.NotWaiting = Some (NotWaiting command)
-shown_uncancelled command cancel.KeeperFault = Some KeeperFault
-shown_uncancelled command cancel.NoMemory = None

@@ -17,12 +17,12 @@ use Rattle.host_model.specs.Did.{MayAll as MayAllHost, after_all, outs_all, reco
 use Rattle.host_model.specs.declared.out.HostOut.{HostOut}
 use Rattle.host_model.specs.declared.out.HostOut.TheVariants.{Write, Note}
 use Rattle.host_model.specs.Outs.{answers}
-use Rattle.host_core.specs.Network.{keys_of}
+use Rattle.s0_crypto.specs.Sealing.{keys_of}
 use Rattle.outside_model.specs.State.{first_outer}
 use Rattle.world_model.specs.State.{Machine, machine, with_texts}
 use Rattle.world_model.specs.Refusals.{IsRefused}
 use Rattle.world_model.specs.Events.{shown_values}
-use Rattle.world_model.specs.Did.{is_keeper_fault}
+use Rattle.host_model.specs.Refusals.{is_keeper_fault}
 use Rattle.host_keep.specs.Keeping.{Shelf}
 
 -- ---- states

@@ -71,7 +71,9 @@ impl Replay {
     // A Set that is not reported is asked for.
     fn send(&mut self, node: NodeId, word: Word, out: &mut List<Entry>) -> Result<(), NoMemory>
         ensures ok { OnOk result ((records : Option (Items (Items ℕ))) (faults : ℕ) →
-            Does (IsEffect (line.Send node word)) (scene self.old (shelf_of records faults) out.old.items) (scene self.new (shelf_of records faults) out.new.items)) }
+            Does (IsEffect (line.Send node word))
+            (scene self.old (shelf_of records faults) out.old.items)
+            (scene self.new (shelf_of records faults) out.new.items)) }
         ensures err { OnErr result (out.new.items ≡ out.old.items) }
     {
         let answer = self.host.send(node, word);
@@ -81,7 +83,9 @@ impl Replay {
     // A Get is asked for.
     fn get(&mut self, node: NodeId, end: EndPoint, out: &mut List<Entry>) -> Result<(), NoMemory>
         ensures ok { OnOk result ((records : Option (Items (Items ℕ))) (faults : ℕ) →
-            Does (IsEffect (line.Get node end)) (scene self.old (shelf_of records faults) out.old.items) (scene self.new (shelf_of records faults) out.new.items)) }
+            Does (IsEffect (line.Get node end))
+            (scene self.old (shelf_of records faults) out.old.items)
+            (scene self.new (shelf_of records faults) out.new.items)) }
         ensures err { OnErr result (out.new.items ≡ out.old.items) }
     {
         let answer = self.host.get(node, end);
@@ -91,7 +95,9 @@ impl Replay {
     // An interview is asked for.
     fn interview(&mut self, node: NodeId, out: &mut List<Entry>) -> Result<(), NoMemory>
         ensures ok { OnOk result ((records : Option (Items (Items ℕ))) (faults : ℕ) →
-            Does (IsEffect (line.Interview node)) (scene self.old (shelf_of records faults) out.old.items) (scene self.new (shelf_of records faults) out.new.items)) }
+            Does (IsEffect (line.Interview node))
+            (scene self.old (shelf_of records faults) out.old.items)
+            (scene self.new (shelf_of records faults) out.new.items)) }
         ensures err { OnErr result (out.new.items ≡ out.old.items) }
     {
         let answer = self.host.interview(node);
@@ -101,7 +107,9 @@ impl Replay {
     // Which nodes hear a node is asked for.
     fn neighbours(&mut self, node: NodeId, out: &mut List<Entry>) -> Result<(), NoMemory>
         ensures ok { OnOk result ((records : Option (Items (Items ℕ))) (faults : ℕ) →
-            Does (IsEffect (line.Neighbours node)) (scene self.old (shelf_of records faults) out.old.items) (scene self.new (shelf_of records faults) out.new.items)) }
+            Does (IsEffect (line.Neighbours node))
+            (scene self.old (shelf_of records faults) out.old.items)
+            (scene self.new (shelf_of records faults) out.new.items)) }
         ensures err { OnErr result (out.new.items ≡ out.old.items) }
     {
         let answer = self.host.ask(Question::Neighbours(node));
@@ -111,7 +119,9 @@ impl Replay {
     // Whether the chip counts a node as failed is asked for.
     fn failed(&mut self, node: NodeId, out: &mut List<Entry>) -> Result<(), NoMemory>
         ensures ok { OnOk result ((records : Option (Items (Items ℕ))) (faults : ℕ) →
-            Does (IsEffect (line.Failed node)) (scene self.old (shelf_of records faults) out.old.items) (scene self.new (shelf_of records faults) out.new.items)) }
+            Does (IsEffect (line.Failed node))
+            (scene self.old (shelf_of records faults) out.old.items)
+            (scene self.new (shelf_of records faults) out.new.items)) }
         ensures err { OnErr result (out.new.items ≡ out.old.items) }
     {
         let answer = self.host.ask(Question::Failed(node));
@@ -172,7 +182,9 @@ impl Replay {
     // The stored values of a node are shown.
     fn store(&mut self, node: NodeId, out: &mut List<Entry>) -> Result<(), NoMemory>
         ensures ok { OnOk result ((records : Option (Items (Items ℕ))) (faults : ℕ) →
-            Does (IsEffect (line.Store node)) (scene self.old (shelf_of records faults) out.old.items) (scene self.new (shelf_of records faults) out.new.items)) }
+            Does (IsEffect (line.Store node))
+            (scene self.old (shelf_of records faults) out.old.items)
+            (scene self.new (shelf_of records faults) out.new.items)) }
         ensures err { OnErr result (out.new.items ≡ out.old.items) }
     {
         let text = self.host.json(self.alloc, node)?;

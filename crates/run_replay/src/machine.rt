@@ -40,34 +40,31 @@ impl ReplayMachine {
     }
 }
 
-impl<D: Draw, P: Keeper> Machine<(), D, P> for ReplayMachine {
+impl<D: Draw, P: Keeper> Machine<D, P> for ReplayMachine {
     ghost use Rattle.zw_text.specs.Line.{replay_at};
     ghost use Rattle.run_lines.specs.Lines.{fault_by};
     ghost use Rattle.run_replay.specs.Replay.{point_of, ReplayRuns, ReplayStops, IsTable};
 
-    ghost ready = { λ first. Unit {0} };
-
     ghost refuses = { fault_by replay_at };
 
-    ghost runs = { λ old text new pieces. ReplayRuns (point_of old.machine (P.shelf old.third)) text
-        (point_of new.machine (P.shelf new.third)) pieces };
+    ghost runs = { λ old text new pieces. ReplayRuns (point_of old.machine (P.shelf old.second)) text
+        (point_of new.machine (P.shelf new.second)) pieces };
 
-    ghost stops = { λ old text new pieces. ReplayStops (point_of old.machine (P.shelf old.third)) text
-        (point_of new.machine (P.shelf new.third)) pieces };
+    ghost stops = { λ old text new pieces. ReplayStops (point_of old.machine (P.shelf old.second)) text
+        (point_of new.machine (P.shelf new.second)) pieces };
 
-    ghost ends = { λ last pieces. IsTable (point_of last.machine (P.shelf last.third)) pieces };
+    ghost ends = { λ last pieces. IsTable (point_of last.machine (P.shelf last.second)) pieces };
 
     fn run_line(
         &mut self,
-        _first: &mut (),
-        second: &mut D,
-        third: &mut P,
+        first: &mut D,
+        second: &mut P,
         text: &[u8],
         out: &mut List<Bytes>,
     ) -> Result<(), ReadLineFault> {
         match read_replay(self.alloc, text) {
             Ok(Some(line)) => {
-                self.run_one(text, &line, second, third, out)?;
+                self.run_one(text, &line, first, second, out)?;
                 Ok(())
             }
             Ok(None) => Ok(()),
@@ -75,13 +72,7 @@ impl<D: Draw, P: Keeper> Machine<(), D, P> for ReplayMachine {
         }
     }
 
-    fn end(
-        &self,
-        _first: &(),
-        _second: &D,
-        _third: &P,
-        out: &mut List<Bytes>,
-    ) -> Result<(), NoMemory> {
+    fn end(&self, _first: &D, _second: &P, out: &mut List<Bytes>) -> Result<(), NoMemory> {
         let mut entries = List::new(self.alloc);
         self.replay.table(&mut entries)?;
         add_entries(self.alloc, false, entries.as_slice(), out)

@@ -2,12 +2,13 @@
 
 ghost use Rattle.std.specs.Prelude.{◌≡◌, Some, IfOk, OnOk, OnErr};
 ghost use Rattle.world_model.specs.Refusals.{shown};
-ghost use Rattle.run_replay.specs.Asking.{Answers, Enters, shown_uncancelled};
+ghost use Rattle.host_core.specs.Orders.{shown_uncancelled};
+ghost use Rattle.run_replay.specs.Asking.{Answers, Enters};
 
-use host_core::CancelFault;
+use host_core::{CancelFault, refusal_of, uncancelled_as};
 use host_orders::Refused;
 use zw_base::{List, NoMemory};
-use zw_text::{Entry, Refusal};
+use zw_text::Entry;
 
 /// The host refuses a line; an allocation failure is no refusal.
 pub fn refuse(refused: Refused, out: &mut List<Entry>) -> Result<(), NoMemory>
@@ -41,37 +42,5 @@ pub fn unless_refused(answer: Result<(), Refused>, out: &mut List<Entry>) -> Res
     match answer {
         Ok(()) => Ok(()),
         Err(refused) => refuse(refused, out),
-    }
-}
-
-/// What is entered of a refusal of the host.
-fn refusal_of(refused: Refused) -> Result<Refusal, NoMemory>
-    ensures { IfOk result (λ refusal. shown refused ≡ Some refusal) }
-{
-    match refused {
-        Refused::NotJoined => Ok(Refusal::NotJoined),
-        Refused::NotInterviewed => Ok(Refusal::NotInterviewed),
-        Refused::Unsupported(class) => Ok(Refusal::Unsupported { class }),
-        Refused::BadValue => Ok(Refusal::BadValue),
-        Refused::Unsupervised => Ok(Refusal::Unsupervised),
-        Refused::TooLong(bytes) => Ok(Refusal::TooLong { bytes }),
-        Refused::MailboxFull(waiting) => Ok(Refusal::MailboxFull { waiting }),
-        Refused::StoreFull(properties) => Ok(Refusal::StoreFull { properties }),
-        Refused::Secured => Ok(Refusal::Secured),
-        Refused::QueueFull(waiting) => Ok(Refusal::QueueFull { waiting }),
-        Refused::AlreadyJoined => Ok(Refusal::AlreadyJoined),
-        Refused::KeeperFault => Ok(Refusal::KeeperFault),
-        Refused::NoMemory => Err(NoMemory),
-    }
-}
-
-/// What is entered of a command that is not taken back.
-fn uncancelled_as(command: u32, fault: CancelFault) -> Result<Refusal, NoMemory>
-    ensures { IfOk result (λ refusal. shown_uncancelled command fault ≡ Some refusal) }
-{
-    match fault {
-        CancelFault::NotWaiting => Ok(Refusal::NotWaiting { command }),
-        CancelFault::KeeperFault => Ok(Refusal::KeeperFault),
-        CancelFault::NoMemory => Err(NoMemory),
     }
 }

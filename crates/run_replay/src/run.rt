@@ -24,7 +24,8 @@ pub fn run_replay<S: Source, K: Sink, D: Draw, P: Keeper>(
     draw: &mut D,
     keeper: &mut P,
 ) -> Status
-    ensures ran { ReplayRan result key (S.left source.old) (S.left source.new) (P.shelf keeper.old) (P.shelf keeper.new) (K.written sink.old) (K.written sink.new) }
+    ensures ran { ReplayRan result key (S.left source.old) (S.left source.new) (P.shelf keeper.old) (P.shelf keeper.new)
+        (K.written sink.old) (K.written sink.new) }
     ensures source_never_falls { S.faults source.old ≤ S.faults source.new }
     ensures sink_never_falls { K.faults sink.old ≤ K.faults sink.new }
     ensures read_fault { result ≡ Status.ReadFault → Rose (S.faults source.old) (S.faults source.new) }
@@ -36,5 +37,5 @@ pub fn run_replay<S: Source, K: Sink, D: Draw, P: Keeper>(
         return Status::NoMemory;
     };
     let mut machine = ReplayMachine::new(alloc, replay);
-    run_scenario(alloc, source, sink, &mut machine, &mut (), draw, keeper)
+    run_scenario(alloc, source, sink, &mut machine, draw, keeper)
 }

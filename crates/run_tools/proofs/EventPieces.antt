@@ -1,5 +1,5 @@
 -- Pieces of a line of events.
-use Rattle.std.proofs.Common.{◌≡◌, ℕ, List, [], ◌∷◌, ◌++◌, map, take, drop, sym, ap, ◌∙◌, append_assoc, take-append-drop, Result, Ok, Err, OnErr}
+use Rattle.std.proofs.Common.{◌≡◌, ℕ, List, [], ◌∷◌, ◌++◌, map, take, drop, sym, ap, ◌∙◌, append_assoc, take-append-drop}
 use Rattle.std.proofs.lemmas.List.{map-append}
 
 -- what is there so far is a prefix of all
@@ -23,8 +23,3 @@ first_there old items more x none is = (more, ap (λ ys. ys ++ more) (sym (is �
 pub leading_following : {B : Type 0} (old mid items more : List B) (x : B) → old ≡ [] → mid ≡ old ++ x ∷ [] → (rest : List B) × (mid ++ more ≡ items ++ rest)
     → (rest : List B) × (x ∷ more ≡ items ++ rest)
 leading_following old mid items more x none is prefix = (prefix.0, ap (λ ys. ys ++ more) (sym (is ∙ ap (λ ys. ys ++ x ∷ []) none)) ∙ prefix.1)
-
--- what follows at an error
-pub on_err : {T E : Type 0} (r : Result T E) (P Q : Type 0) → (P → Q) → OnErr r P → OnErr r Q
-on_err (Ok x) P Q f p = tt
-on_err (Err e) P Q f p = f p

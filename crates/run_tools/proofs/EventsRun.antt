@@ -93,12 +93,12 @@ names-more [] text found read all = subst (λ (ls : List EventLine). All NamesNo
 names-more (line ∷ prefix) text found read all =
     All-cons NamesNode line (prefix ++ listed found) (all 0 line (omega arith)) (names-more prefix text found read (λ k d lt. all (suc k) d (omega (arith, lt))))
 
-module _ {A B C : Type 0} where
-  texts_ran : (old : Borrowed FlowState A B C) (texts : List (List ℕ)) (new : Borrowed FlowState A B C) (pieces : List (List ℕ)) → RunsAll event_fault EventRuns old texts new pieces
+module _ {A B : Type 0} where
+  texts_ran : (old : Borrowed FlowState A B) (texts : List (List ℕ)) (new : Borrowed FlowState A B) (pieces : List (List ℕ)) → RunsAll event_fault EventRuns old texts new pieces
       → TextsRan old.machine texts new.machine pieces
-  texts_ran old [] new pieces ran = record { lines = []; are = refl; names = All-nil NamesNode; world = ap (λ (x : Borrowed FlowState A B C). x.machine) ran.0; text = ap text_of ran.1 }
+  texts_ran old [] new pieces ran = record { lines = []; are = refl; names = All-nil NamesNode; world = ap (λ (x : Borrowed FlowState A B). x.machine) ran.0; text = ap text_of ran.1 }
   texts_ran old (text ∷ texts) new pieces ran =
-      let mid : Borrowed FlowState A B C = ran.0 in
+      let mid : Borrowed FlowState A B = ran.0 in
       let found : Option EventLine = ran.4.found in
       let read : IsReadAs text found = read_as text found ran.4.read in
       let one : (ran.1 ≡ pieces_of found old.machine) × (mid.machine ≡ after_all old.machine (listed found)) = does-pieces found old.machine mid.machine ran.1 ran.4.does in
@@ -115,7 +115,7 @@ module _ {A B C : Type 0} where
       }
 
   -- a text that is not read
-  pub not_read : (fault : ReadLineFault) (old : Borrowed FlowState A B C) (text : List ℕ) (pieces : List (List ℕ)) → Gives (Err fault) (event_at text) → pieces ≡ []
+  pub not_read : (fault : ReadLineFault) (old : Borrowed FlowState A B) (text : List ℕ) (pieces : List (List ℕ)) → Gives (Err fault) (event_at text) → pieces ≡ []
       → RefusesBy fault EventStops (event_fault text) old text old pieces
   not_read (bad_text fault) old text pieces gives none = (ap fault_in gives, refl)
   not_read no_text_memory old text pieces gives none = go (event_at text) refl gives
@@ -127,7 +127,7 @@ module _ {A B C : Type 0} where
 
   -- ---- the run
 
-  whole : (end : LinesEnd) (status : Status) (left left' : Option (List ℕ)) (old new : Borrowed FlowState A B C) (sink mid sink' : Option (List ℕ))
+  whole : (end : LinesEnd) (status : Status) (left left' : Option (List ℕ)) (old new : Borrowed FlowState A B) (sink mid sink' : Option (List ℕ))
       → (l : LinesRan end event_fault EventRuns EventStops left left' old new sink mid) → RunsAll event_fault EventRuns old l.texts new l.pieces
       → Closes EventEnds end status new mid sink' → old.machine ≡ all_silent → ((lines : List EventLine) → All NamesNode lines → Flow (run all_silent lines))
       → EventsRan status left left' sink sink'
@@ -149,7 +149,7 @@ module _ {A B C : Type 0} where
         closes = closes-as EventEnds IsTable new (after_all all_silent t.lines) (λ last e. e ∙ ap (λ (w : FlowState). map entry_line (table_of w)) world) mid sink' end status closes;
       }
 
-  in_part : (status : Status) (left left' : Option (List ℕ)) (old new : Borrowed FlowState A B C) (sink mid sink' : Option (List ℕ))
+  in_part : (status : Status) (left left' : Option (List ℕ)) (old new : Borrowed FlowState A B) (sink mid sink' : Option (List ℕ))
       → (l : LinesRan NoMemory event_fault EventRuns EventStops left left' old new sink mid) → StopsInLast event_fault EventRuns EventStops old l.texts new l.pieces
       → (status ≡ no_memory) × (sink' ≡ mid) → old.machine ≡ all_silent → ((lines : List EventLine) → All NamesNode lines → Flow (run all_silent lines))
       → EventsRan status left left' sink sink'
@@ -184,7 +184,7 @@ module _ {A B C : Type 0} where
         closes = closes;
       }
 
-  by_end : (end : LinesEnd) (status : Status) (left left' : Option (List ℕ)) (old new : Borrowed FlowState A B C) (sink mid sink' : Option (List ℕ))
+  by_end : (end : LinesEnd) (status : Status) (left left' : Option (List ℕ)) (old new : Borrowed FlowState A B) (sink mid sink' : Option (List ℕ))
       → (l : LinesRan end event_fault EventRuns EventStops left left' old new sink mid) → Closes EventEnds end status new mid sink' → old.machine ≡ all_silent
       → ((lines : List EventLine) → All NamesNode lines → Flow (run all_silent lines)) → EventsRan status left left' sink sink'
   by_end all_run status left left' old new sink mid sink' l closes start flows = whole all_run status left left' old new sink mid sink' l l.ran closes start flows
@@ -198,7 +198,7 @@ module _ {A B C : Type 0} where
       go (inl ran) = whole NoMemory status left left' old new sink mid sink' l ran closes start flows
       go (inr stop) = in_part status left left' old new sink mid sink' l stop closes start flows
 
-  pub events_ran : (status : Status) (left left' : Option (List ℕ)) (old new : Borrowed FlowState A B C) (sink sink' : Option (List ℕ))
+  pub events_ran : (status : Status) (left left' : Option (List ℕ)) (old new : Borrowed FlowState A B) (sink sink' : Option (List ℕ))
       → HasRun status event_fault EventRuns EventStops EventEnds left left' old new sink sink' → old.machine ≡ all_silent
       → ((lines : List EventLine) → All NamesNode lines → Flow (run all_silent lines)) → EventsRan status left left' sink sink'
   events_ran status left left' old new sink sink' h start flows = by_end h.end status left left' old new sink h.mid sink' h.lines h.closes start flows

@@ -72,12 +72,12 @@ abbrev pub pieces_of : Option EventLine → FlowState → List (List ℕ)
 pieces_of None world = []
 pieces_of (Some line) world = line_pieces world line
 
-pub record EventRuns {A B C : Type 0} (old : Borrowed FlowState A B C) (text : List ℕ) (new : Borrowed FlowState A B C) (pieces : List (List ℕ)) : Type 0 where
+pub record EventRuns {A B : Type 0} (old : Borrowed FlowState A B) (text : List ℕ) (new : Borrowed FlowState A B) (pieces : List (List ℕ)) : Type 0 where
   pub found : Option EventLine
   pub read : event_at text ≡ Ok found
   pub does : Does found old.machine new.machine pieces
 
-pub record EventStops {A B C : Type 0} (old : Borrowed FlowState A B C) (text : List ℕ) (new : Borrowed FlowState A B C) (pieces : List (List ℕ)) : Type 0 where
+pub record EventStops {A B : Type 0} (old : Borrowed FlowState A B) (text : List ℕ) (new : Borrowed FlowState A B) (pieces : List (List ℕ)) : Type 0 where
   pub found : Option EventLine
   pub read : event_at text ≡ Ok found
   pub rest : List (List ℕ)
@@ -87,7 +87,7 @@ pub record EventStops {A B C : Type 0} (old : Borrowed FlowState A B C) (text : 
 abbrev pub IsTable : FlowState → List (List ℕ) → Type 0
 IsTable world pieces = pieces ≡ map entry_line (table_of world)
 
-abbrev pub EventEnds : {A B C : Type 0} → Borrowed FlowState A B C → List (List ℕ) → Type 0
+abbrev pub EventEnds : {A B : Type 0} → Borrowed FlowState A B → List (List ℕ) → Type 0
 EventEnds last pieces = IsTable last.machine pieces
 
 -- ---- the run

@@ -35,10 +35,8 @@ impl EventMachine {
     }
 }
 
-impl Machine<(), (), ()> for EventMachine {
+impl Machine<(), ()> for EventMachine {
     ghost use Rattle.run_tools.specs.Events.{event_fault, EventRuns, EventStops, EventEnds};
-
-    ghost ready = { λ first. Unit {0} };
 
     ghost refuses = { event_fault };
 
@@ -52,7 +50,6 @@ impl Machine<(), (), ()> for EventMachine {
         &mut self,
         _first: &mut (),
         _second: &mut (),
-        _third: &mut (),
         text: &[u8],
         out: &mut List<Bytes>,
     ) -> Result<(), ReadLineFault> {
@@ -66,13 +63,7 @@ impl Machine<(), (), ()> for EventMachine {
         }
     }
 
-    fn end(
-        &self,
-        _first: &(),
-        _second: &(),
-        _third: &(),
-        out: &mut List<Bytes>,
-    ) -> Result<(), NoMemory> {
+    fn end(&self, _first: &(), _second: &(), out: &mut List<Bytes>) -> Result<(), NoMemory> {
         let mut entries = List::new(self.alloc);
         self.world.table(&mut entries)?;
         add_entries(self.alloc, entries.as_slice(), out)

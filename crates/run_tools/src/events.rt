@@ -26,5 +26,5 @@ pub fn run_events<S: Source, K: Sink>(alloc: Global, source: &mut S, sink: &mut 
         return Status::NoMemory;
     };
     let mut machine = EventMachine::new(alloc, world);
-    run_scenario(alloc, source, sink, &mut machine, &mut (), &mut (), &mut ())
+    run_scenario(alloc, source, sink, &mut machine, &mut (), &mut ())
 }

@@ -3,6 +3,7 @@ use Rattle.std.proofs.Common.{◌≡◌, ℕ, ◌+◌, ◌-◌, ◌<◌, ◌≤�
 use Rattle.std.proofs.lemmas.List.{take_at, drop_at, take-append-drop, drop-drop, drop_more}
 use Rattle.std.proofs.lemmas.List.FromFn.{fill_by_all}
 use Rattle.s0_crypto.specs.Opening.{nonce_in, cipher_text_in, code_in}
+use Rattle.aes_block.proofs.Tables.{joined}
 
 pub length_of_layout : (nonce text code : List ℕ) (named : ℕ) {bytes : List ℕ} → length nonce ≡ 8 → length code ≡ 8
     → bytes ≡ 0x98 ∷ 0x81 ∷ (nonce ++ (text ++ named ∷ code)) → length bytes ≡ length text + 19
@@ -53,9 +54,6 @@ layout_built nonce text code named e0 e1 e2 e3 e4 e5 =
     let built : _ ≡ ((((0x98 ∷ 0x81 ∷ []) ++ nonce) ++ text) ++ named ∷ []) ++ code
     = e5 ∙ ap (λ l. l ++ code) (e4 ∙ ap (λ l. l ++ named ∷ []) (e3 ∙ ap (λ l. l ++ text) (e2 ∙ ap (λ l. l ++ nonce) (e1 ∙ ap (λ l. l ++ 0x98 ∷ 0x81 ∷ []) e0)))) in
     built ∙ simp append_assoc
-
-joined : {xs ys us vs : List ℕ} → xs ≡ ys → us ≡ vs → xs ++ us ≡ ys ++ vs
-joined p q = cc
 
 -- eight bytes are their list
 eight_bytes : (xs : List ℕ) → length xs ≡ 8

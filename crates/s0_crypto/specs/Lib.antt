@@ -1,3 +1,4 @@
 pub mod Modes
 pub mod Seal
 pub mod Opening
+pub mod Sealing

@@ -2,7 +2,8 @@
 //!
 //! It promises that `seal` and `unseal` relate plain texts and messages exactly as `specs/Seal.antt` says, that what
 //! was sealed opens to its plain text and no other, and that each refusal of `unseal` comes exactly for its cause.
-//! `specs/Modes.antt` defines the modes of AES-128, and `specs/Opening.antt` the parts of a message.
+//! `specs/Modes.antt` defines the modes of AES-128, `specs/Opening.antt` the parts of a message, and `specs/Sealing.antt`
+//! what opens, and what is sealed, as functions.
 #![tactic(auto)]
 
 mod code;
@@ -19,6 +20,6 @@ pub use ends::SealEnds;
 pub use fault::SealFault;
 pub use key_pair::Keys;
 pub use network_keys::keys;
-pub use opening::unseal;
+pub use opening::{open, unseal};
 pub use sealing::seal;
 pub use zw_base::{Bytes, NoMemory, NodeId};

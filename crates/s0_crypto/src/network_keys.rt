@@ -1,15 +1,15 @@
 //! The keys that a network key gives.
 
-ghost use Rattle.std.specs.Prelude.{◌≡◌, replicate};
-ghost use Rattle.aes_block.specs.Cipher.{aes};
+ghost use Rattle.std.specs.Prelude.{◌≡◌};
+ghost use Rattle.s0_crypto.specs.Sealing.{keys_of};
 
 use crate::Keys;
 use aes_block::Aes128;
 
 /// The keys of a network: what its key makes of 16 times 0xAA, and of 16 times 0x55.
+#[tactic(auto, unfolding(crate::specs::Sealing::keys_of))]
 pub fn keys(network: [u8; 16]) -> Keys
-    ensures encrypt { result.encrypt ≡ aes network (replicate 16 0xAA) }
-    ensures code { result.code ≡ aes network (replicate 16 0x55) }
+    ensures { result ≡ keys_of network }
 {
     let network = Aes128::new(network);
     Keys {

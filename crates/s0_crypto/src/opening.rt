@@ -4,11 +4,12 @@ ghost use Rattle.std.specs.Prelude.{◌≡◌, ℕ, ◌-◌, ◌≤◌, ◌<◌,
 ghost use Rattle.s0_crypto.specs.Modes.{key_block, ofb_from};
 ghost use Rattle.s0_crypto.specs.Seal.{Seals};
 ghost use Rattle.s0_crypto.specs.Opening.{nonce_in, IsBadlyCoded, HasOtherSequence, IsGood};
+ghost use Rattle.s0_crypto.specs.Sealing.{keys_of, unsealed_at};
 
 use crate::code::code;
 use crate::join::join;
 use crate::key_stream::add_after_first;
-use crate::{Keys, SealEnds, SealFault};
+use crate::{Keys, SealEnds, SealFault, keys};
 use aes_block::Aes128;
 use std::alloc::Global;
 use zw_base::{Bytes, NoMemory};
@@ -97,4 +98,27 @@ pub fn unseal(
         return Err(SealFault::NoMemory);
     };
     Ok(plain)
+}
+
+/// The plain text of a message for a nonce of its receiver, where it opens under a network's key.
+pub fn open(
+    alloc: Global,
+    key: [u8; 16],
+    nonce: [u8; 8],
+    ends: &SealEnds,
+    bytes: &[u8],
+) -> Result<Option<Bytes>, NoMemory>
+    requires long { 20 ≤ length bytes.now }
+    requires class { slice_index bytes.now 0 ≡ 0x98 }
+    requires command { slice_index bytes.now 1 ≡ 0x81 }
+    requires named { slice_index bytes.now (length bytes.now - 9) ≡ slice_index nonce 0 }
+    ensures { IfOk result (λ plain. plain ≡ unsealed_at (keys_of key) nonce ends.now bytes.now) }
+{
+    match unseal(alloc, &keys(key), nonce, ends, bytes) {
+        Ok(plain) => Ok(Some(plain)),
+        Err(SealFault::NoMemory) => Err(NoMemory),
+        Err(SealFault::Short) => Ok(None),
+        Err(SealFault::BadCode { .. }) => Ok(None),
+        Err(SealFault::Sequence(_)) => Ok(None),
+    }
 }

@@ -1,8 +1,7 @@
 -- What each call does to the count, the live nonce and the nonces spent of a node, and what any calls do.
-use Rattle.std.proofs.Common.{◌≡◌, ◌≢◌, ℕ, ◌+◌, ◌<◌, ◌≤◌, ◌==◌, ◌⊎◌, inl, inr, Bool, true, false, if◌then◌else◌, Option, Some, None, List, [], ◌∷◌, ◌++◌, length, replicate, set, get_or, refl, ap, sym, ◌∙◌, subst, arith, length-set, get_or-set_same, get_or-set_other}
+use Rattle.std.proofs.Common.{◌≡◌, ◌≢◌, ℕ, ◌+◌, ◌<◌, ◌≤◌, ◌==◌, ◌⊎◌, inl, inr, Bool, true, false, if◌then◌else◌, Option, Some, None, List, [], ◌∷◌, length, set, get_or, refl, sym, subst, arith, length-set, get_or-set_same, get_or-set_other}
 use Rattle.std.specs.Option.{is_some, is_none}
 use Rattle.std.proofs.lemmas.Bool.Decides.{eqb_tells}
-use Rattle.std.proofs.lemmas.List.{replicate-append-replicate}
 use Rattle.s0_session.specs.declared.account.Account.{Account}
 use Rattle.s0_session.specs.Nonces.{unused, account_of, live_of, given_of, after_give, after_spend, nonce_spent, restored_account, answer_from, given_from, with_first, live_after}
 use Rattle.s0_session.specs.Calls.{Call, Give, Spend, Restore, after_call, after_calls, new_in, spent_in, lost_in, restored_in, news, spends, losses, restores, live_count}
@@ -177,7 +176,3 @@ pub one_spent : (node : ℕ) (book : List Account) (calls : List Call) → node 
 one_spent node book calls below none =
     bounded (spends node book calls) (losses node book calls) (live_count node (after_calls book calls)) (live_count node book) (news node book calls)
     (live_all node book calls below) none (count_at_most_one (live_of book node))
-
--- one account more
-pub one_more : (n i : ℕ) (xs ys : List Account) → xs ≡ replicate n unused → ys ≡ xs ++ unused ∷ [] → n + 1 ≡ i → ys ≡ replicate i unused
-one_more n i xs ys e f next = f ∙ ap (λ l. l ++ unused ∷ []) e ∙ replicate-append-replicate n 1 unused ∙ ap (λ k. replicate k unused) next

@@ -15,7 +15,7 @@ use Rattle.serial_frame.specs.declared.item.Item.TheVariants.{Refused}
 use Rattle.serial_frame.specs.declared.item.Refusal.TheVariants.{BadSum}
 
 -- exclusive or with one byte is undone by the same byte
-xor_back : (a b : ℕ) → bit_xor a (bit_xor a b) ≡ b
+pub xor_back : (a b : ℕ) → bit_xor a (bit_xor a b) ≡ b
 xor_back a b = sym (xor_assoc a a b) ∙ ap (λ (t : ℕ). bit_xor t b) (xor_self a) ∙ xor_zero_l b
 
 xor_same : (a b c : ℕ) → bit_xor a b ≡ bit_xor a c → b ≡ c

@@ -179,7 +179,7 @@ splits-item item items idle tail old piece new is_idle leaves text more (b ∷ b
       splits,
     )
 
-no_ticks : (items : List Item) → ticks_after 0 items ≡ 0
+pub no_ticks : (items : List Item) → ticks_after 0 items ≡ 0
 no_ticks [] = refl
 no_ticks (item ∷ items) = refl
 
@@ -367,7 +367,7 @@ idle_same (mark ∷ idle) s (mark ∷ idle') s' i i' h h' e =
     let tail : idle ++ s ≡ idle' ++ s' = cc in
     idle_same idle s idle' s' i i' h h' tail
 
-same_rest : (r e : Rest) → r.bytes ≡ e.bytes → r.ticks ≡ e.ticks → r ≡ e
+pub same_rest : (r e : Rest) → r.bytes ≡ e.bytes → r.ticks ≡ e.ticks → r ≡ e
 same_rest r e bytes ticks = ap (λ (b : List ℕ). record { bytes = b; ticks = r.ticks }) bytes ∙ ap (λ (t : ℕ). record { bytes = e.bytes; ticks = t }) ticks
 
 -- two items at the prefix of one stream are the same

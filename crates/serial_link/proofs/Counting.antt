@@ -5,7 +5,6 @@ use Rattle.std.proofs.lemmas.List.Concat.{flat_map-append}
 use Rattle.std.proofs.lemmas.Bool.{le-ltb, lt-ltb}
 use Rattle.std.specs.Prelude.{nat_lt, ◌==◌, if◌then◌else◌}
 use Rattle.serial_frame.specs.Frame.{FrameParts}
-use Rattle.serial_frame.specs.Stream.{Signal, byte, mark, marks_of, piece_of}
 use Rattle.serial_frame.specs.declared.item.Item.{Item}
 use Rattle.serial_frame.specs.declared.item.Item.TheVariants.{Good, Refused}
 use Rattle.serial_frame.specs.declared.item.Refusal.TheVariants.{Stray, BadLength, BadSum, BadKind, Aborted}
@@ -28,19 +27,6 @@ asks_of-append (s ∷ a) b = omega (arith, asks_of-append a b)
 pub cans_of-append : (a b : List Step) → cans_of (a ++ b) ≡ cans_of a + cans_of b
 cans_of-append [] b = omega arith
 cans_of-append (s ∷ a) b = omega (arith, cans_of-append a b)
-
-pub marks_of-append : (s t : List Signal) → marks_of (s ++ t) ≡ marks_of s + marks_of t
-marks_of-append [] t = omega arith
-marks_of-append (byte b ∷ s) t = marks_of-append s t
-marks_of-append (mark ∷ s) t = omega (arith, marks_of-append s t)
-
-pub marks_of-piece : (p : List ℕ) → marks_of (piece_of p) ≡ 0
-marks_of-piece [] = refl
-marks_of-piece (b ∷ p) = marks_of-piece p
-
-pub piece_of-append : (p q : List ℕ) → piece_of (p ++ q) ≡ piece_of p ++ piece_of q
-piece_of-append [] q = refl
-piece_of-append (b ∷ p) q = ap (λ (t : List Signal). byte b ∷ t) (piece_of-append p q)
 
 -- one more step that puts out its answer
 pub answers-append : (past h : List Step) (s : Step) → Answers past h → answers_of s.outs ≡ answer_due (collides (past ++ h)) s.event → Answers past (h ++ s ∷ [])

@@ -22,10 +22,6 @@ past-append : (a b : List (List Step)) → ArePast a → ArePast b → ArePast (
 past-append [] b h k = k
 past-append (x ∷ a) b (here, h) k = (here, past-append a b h k)
 
--- all steps of past lives
-joined : List (List Step) → List Step
-joined past = flat_map (λ (steps : List Step). steps) past
-
 -- the last life goes on
 turns-continue : (h : List Step) (turn turn' : Turn) (s : Step) → Turns h turn → ((now : List Step) → Stands turn now → Stands turn' (now ++ s ∷ [])) → Turns (h ++ s ∷ []) turn'
 turns-continue h turn turn' s turns goes =

@@ -18,7 +18,8 @@ use Rattle.serial_link.specs.declared.out.LinkOut.{LinkOut}
 use Rattle.serial_link.specs.declared.out.LinkOut.TheVariants.{Write}
 use Rattle.serial_link.specs.declared.turn.Turn.{Turn}
 use Rattle.serial_link.specs.declared.turn.Turn.TheVariants.{Idle, Copied, Paused}
-use Rattle.serial_link.proofs.Counting.{marks_of-append, ticks_of-append, asks_of-append, cans_of-append, answers-append, collision_left, own_heard, answers_heard, cans_heard, own_ticked, answers_ticked, cans_ticked, items_heard, no_ticks_heard}
+use Rattle.serial_link.proofs.Counting.{ticks_of-append, asks_of-append, cans_of-append, answers-append, collision_left, own_heard, answers_heard, cans_heard, own_ticked, answers_ticked, cans_ticked, items_heard, no_ticks_heard}
+use Rattle.serial_frame.proofs.Streams.{marks_of-append}
 use Rattle.serial_link.proofs.Lives.{turns-submit, turns-idle, turns-wait, turns-pause, turns-ended, turns-sent, turns-copy}
 
 -- what a copy or a pause that stands says of its ticks

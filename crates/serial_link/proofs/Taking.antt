@@ -10,7 +10,9 @@ use Rattle.serial_link.specs.Rules.{Step, outs_of, SideObeys, Obeys, KeepsRules}
 use Rattle.serial_link.specs.Calls.{heard_steps, Takes, OnlyTakes}
 use Rattle.serial_link.specs.declared.out.LinkOut.{LinkOut}
 use Rattle.serial_link.specs.declared.turn.Turn.{Turn}
-use Rattle.serial_link.proofs.Counting.{marks_of-piece, piece_of-append, hear_all-append, heard_steps-append, outs_of-append}
+use Rattle.serial_link.proofs.Counting.{hear_all-append, heard_steps-append, outs_of-append}
+use Rattle.serial_frame.proofs.Streams.{piece_of-append}
+use Rattle.serial_frame.proofs.Streams.{marks_of-piece}
 use Rattle.serial_link.proofs.RulesKept.{keeps, side_hears_all}
 
 -- bytes read on from where others ended

@@ -266,7 +266,7 @@ report_in_time host device report agree fits fresh =
 -- whole calls
 
 -- an id that is heard is taken as new, or leaves the device as it was
-after_get-cases : (device : Taken) (id : ℕ) → (after_get device id ≡ device) ⊎ ((session : ℕ) × (heard_of device id ≡ New session))
+pub after_get-cases : (device : Taken) (id : ℕ) → (after_get device id ≡ device) ⊎ ((session : ℕ) × (heard_of device id ≡ New session))
 after_get-cases device id =
     elim (is_new device id) as (λ b. ((if b then record { taken = device.taken + 1; status = WORKING } else device) ≡ device) ⊎ ((session : ℕ) × ((if b then New (device.taken + 1) else (if is_again device id then Again device.status else Old)) ≡ New session))) [
       | true ↦ inr (device.taken + 1, refl)

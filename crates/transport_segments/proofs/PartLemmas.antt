@@ -34,6 +34,10 @@ check-with_check prefix =
     let low' : get_or (with_check prefix) (length (with_check prefix) - 1) 0 ≡ crc prefix % 256 = low ∙ ap (λ (n : ℕ). get_or pair n 0) first in
     omega arith
 
+-- what may be sent in segments: 1 to 512 items
+abbrev pub IsLong : List ℕ → Type 0
+IsLong datagram = (1 ≤ length datagram) × (length datagram ≤ 512)
+
 -- what is needed of the fields
 record Fields (bytes payload : List ℕ) (offset : ℕ) : Type 0 where
   segment : IsSegment bytes
@@ -68,12 +72,12 @@ subsequent_fields command low tag last payload from to some =
     }
 
 -- a segment with these fields is a part
-part_of : (datagram : List ℕ) (id : ℕ) (bytes payload : List ℕ) (offset : ℕ) → IsDatagram datagram → Fields bytes payload offset
+part_of : (datagram : List ℕ) (id : ℕ) (bytes payload : List ℕ) (offset : ℕ) → IsLong datagram → Fields bytes payload offset
     → size_of bytes ≡ length datagram → id_of bytes ≡ id → extension_of bytes ≡ 0 → offset + length payload ≤ length datagram
     → ((at : ℕ) → at < length payload → get_or payload at 0 ≡ get_or datagram (offset + at) 0) → IsPart datagram id bytes
 part_of datagram id bytes payload offset is fields size session plain inside same =
-    let from_one : 1 ≤ length datagram = is.from_one in
-    let to_most : length datagram ≤ 512 = is.to_most in
+    let from_one : 1 ≤ length datagram = is.0 in
+    let to_most : length datagram ≤ 512 = is.1 in
     let len : length (payload_of bytes) ≡ length payload = ap length fields.payload_is in
     let place : offset_of bytes ≡ offset = fields.offset_is in
     record {
@@ -92,7 +96,7 @@ part_of datagram id bytes payload offset is fields size session plain inside sam
     }
 
 -- one that carries these bytes from that offset on, as it is written
-part_at : (datagram : List ℕ) (id offset : ℕ) (payload : List ℕ) → IsDatagram datagram → id ≤ 15 → 1 ≤ length payload
+pub part_at : (datagram : List ℕ) (id offset : ℕ) (payload : List ℕ) → IsLong datagram → id ≤ 15 → 1 ≤ length payload
     → offset + length payload ≤ length datagram
     → ((at : ℕ) → at < length payload → get_or payload at 0 ≡ get_or datagram (offset + at) 0)
     → IsPart datagram id (segment_text id (length datagram) offset payload)
@@ -103,7 +107,7 @@ part_at datagram id offset payload is small some inside same =
     size = length datagram
 
     fits : length datagram ≤ 512
-    fits = is.to_most
+    fits = is.1
 
     headed : offset ≡ 0 → IsPart datagram id (segment_text id (length datagram) offset payload)
     headed zeroth =
@@ -141,7 +145,7 @@ are_parts datagram segment id segments is small parts among =
     let each : slice_get segments among.0 ≡ Some (segment_text id (length datagram) (39 * among.0) (slice_at datagram among.0)) = parts.each among.0 within in
     let same : segment_text id (length datagram) (39 * among.0) (slice_at datagram among.0) ≡ segment = some_same (sym each ∙ among.1) in
     subst (λ (s : List ℕ). IsPart datagram id s) same
-    (part_at datagram id (39 * among.0) (slice_at datagram among.0) is small (omega arith) (omega arith)
+    (part_at datagram id (39 * among.0) (slice_at datagram among.0) (is.from_one, is.to_most) small (omega arith) (omega arith)
     (λ at less. get_or-take 39 (drop (39 * among.0) datagram) at 0 (omega arith) ∙ get_or-drop (39 * among.0) datagram at 0))
   where
     some_same : {x y : List ℕ} → Some x ≡ Some y → x ≡ y

@@ -50,12 +50,6 @@ full-present (Some first ∷ places) full =
     ap (λ more. Some first ∷ more) (full-present places (λ at within. full (suc at) (omega arith)))
 full-present (None ∷ places) full = let here = full zero (omega arith) in absurd (cc)
 
-pub full-append : (xs ys : List (Option ℕ)) → IsFull xs → IsFull ys → IsFull (xs ++ ys)
-unfolding IsFull
-full-append [] ys left right at within = right at within
-full-append (x ∷ xs) ys left right zero within = left zero (omega arith)
-full-append (x ∷ xs) ys left right (suc at) within = full-append xs ys (λ k less. left (suc k) (omega arith)) right at (omega arith)
-
 pub full_left : (xs ys : List (Option ℕ)) → IsFull (xs ++ ys) → IsFull xs
 unfolding IsFull
 full_left [] ys full at within = absurd (omega arith)

@@ -131,7 +131,7 @@ takes_is kept next bytes (Whole datagram) takes = whole_is (places_after kept by
 takes_is kept next bytes (Need at) takes = answer_is (places_after kept bytes) (Need at) takes.0
 takes_is kept next bytes Kept takes = answer_is (places_after kept bytes) Kept takes.0
 
-sound_taken : (kept : Reassembly) (bytes : List ℕ) → IsSound bytes → taken_at kept bytes ≡ Some (taken_by (places_after kept bytes) (first_missing 0 (places_after kept bytes)))
+pub sound_taken : (kept : Reassembly) (bytes : List ℕ) → IsSound bytes → taken_at kept bytes ≡ Some (taken_by (places_after kept bytes) (first_missing 0 (places_after kept bytes)))
 unfolding taken_at
 sound_taken kept bytes sound = rw ((sound_decides bytes).1 sound) refl
 

@@ -2,7 +2,7 @@
 use Rattle.std.proofs.Common.{◌≡◌, ℕ, length, List, [], ◌∷◌, ◌++◌, Some, None, refl, sym, ap, ◌∙◌, subst, append_assoc, append-nil}
 use Rattle.std.proofs.lemmas.Grind.{flat_map-append}
 use Rattle.zw_words.specs.declared.side.Side.{Side}
-use Rattle.serial_frame.specs.Stream.{Reads, Rest, FeedsOne, no_rest}
+use Rattle.serial_frame.specs.Stream.{Reads, Rest, FeedsOne}
 use Rattle.serial_frame.specs.declared.item.Item.{Item}
 use Rattle.unit_report.specs.Named.{item_line, lines_text, AreOfItems, Shows, Named, rest_lines}
 use Rattle.unit_report.specs.Report.{AddsItems}
@@ -40,11 +40,6 @@ pub record SoFar (side : Side) (bytes old new pending : List ℕ) : Type 0 where
   pub of_items : AreOfItems side items above
   pub added : new ≡ old ++ lines_text above
   pub reads : (later : List Item) (rest : List ℕ) → Reads pending later rest → Reads bytes (items ++ later) rest
-
-pub so_far-start : (side : Side) (bytes old : List ℕ) (decoder : Rest) → decoder ≡ no_rest → SoFar side bytes old old (decoder.bytes ++ bytes)
-so_far-start side bytes old decoder is =
-    subst (λ (d : Rest). SoFar side bytes old old (d.bytes ++ bytes)) (sym is)
-    (record { items = []; above = []; of_items = refl; added = sym (append-nil old); reads = λ later rest reads. reads })
 
 pub so_far-more : (side : Side) (bytes old new text left piece : List ℕ) (held next : Rest) (item : Item) → SoFar side bytes old new (held.bytes ++ piece)
     → FeedsOne held piece next (Some item) left → Shows (AreOfItems side (item ∷ [])) text → SoFar side bytes old (new ++ text) (next.bytes ++ left)

@@ -2,7 +2,7 @@ pub mod Keys
 mod Sorted
 mod Places
 mod Kept
-mod Reserved
+pub mod Reserved
 mod Seen
 mod Floats
 mod Listed

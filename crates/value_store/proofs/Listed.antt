@@ -12,15 +12,12 @@ use Rattle.std.proofs.lemmas.Bool.Decides.{nat_tests}
 use Rattle.zw_base.specs.PropertyOrder.{same_property}
 use Rattle.zw_base.specs.declared.property.Property.{Property}
 use Rattle.value_store.specs.declared.stored.Held.{Held}
-use Rattle.value_store.specs.Values.{Key, has_value, held_at, if_valued, key_cmp, listed_of, property_cmp}
+use Rattle.value_store.specs.Values.{has_value, held_at, if_valued, key_cmp, listed_of, property_cmp}
 use Rattle.value_store.specs.Entries.{Entries, IsInOrder}
 use Rattle.value_store.proofs.Keys.{key_total}
 use Rattle.value_store.proofs.Sorted.{and_left, and_right, below_at, find_absent}
-use Rattle.value_store.proofs.Reserved.{is_less, same_key, tie}
-
--- a key below all is not found
-not_found : (key : Key) (es : Entries) → below_all key_cmp key es ≡ true → find key_cmp key es ≡ None
-not_found key es below = find_absent key_total key es (λ j d within. ap is_eq (below_at key_total key es below j d within))
+use Rattle.value_store.proofs.Reserved.{same_key, tie}
+use Rattle.value_store.proofs.Sorted.{is_less}
 
 -- the list of a node's properties says of each what is found, where it has a value
 pub listed-find : (es : Entries) (n : ℕ) (q : Property) → IsInOrder es → listed_of (filter_map (held_at n) es) q ≡ if_valued (find key_cmp (n, q) es)

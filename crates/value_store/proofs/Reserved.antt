@@ -2,7 +2,7 @@
 use Rattle.std.proofs.Common.{◌≡◌, ℕ, suc, ◌+◌, ◌≤◌, Bool, true, false, not, cond, ◌&&◌, ◌||◌, T, eqb, List, [], ◌∷◌, ◌++◌, length, Option, Some, None, is_some, unwrap_or, refl, sym, ap, subst, ◌∙◌, arith, true≢false}
 use Rattle.std.specs.declared.cmp.Ordering.{Ordering}
 use Rattle.std.specs.declared.cmp.Ordering.TheVariants.{Less, Equal, Greater}
-use Rattle.std.specs.Ordering.{is_eq, is_lt, nat_cmp, ordering_then}
+use Rattle.std.specs.Ordering.{is_eq, nat_cmp, ordering_then}
 use Rattle.std.specs.Cmp.Lexicographic.{slice_cmp}
 use Rattle.std.specs.List.{AllByRecursion, IsDistinct, cons_option}
 use Rattle.std.proofs.lemmas.Bool.{eqb-true, eq-eqb}
@@ -17,9 +17,9 @@ use Rattle.value_store.specs.declared.stored.Stored.{Stored}
 use Rattle.value_store.specs.Values.{Key, key_cmp, no_value, is_among}
 use Rattle.value_store.specs.Entries.{Entries, IsInOrder, IsWithinLimit, keeping, keeping_all, properties_among}
 use Rattle.value_store.proofs.Keys.{key_total, same_property_laws}
-use Rattle.value_store.proofs.Sorted.{and_left, and_right}
+use Rattle.value_store.proofs.Sorted.{and_left, and_right, is_less}
 
-same_and : (n m : ℕ) (o : Ordering) → is_eq (ordering_then (nat_cmp n m) o) ≡ (eqb n m && is_eq o)
+pub same_and : (n m : ℕ) (o : Ordering) → is_eq (ordering_then (nat_cmp n m) o) ≡ (eqb n m && is_eq o)
 same_and n m o = grind (arith, nat_tests)
 
 -- two keys tie where they are of one node and one property
@@ -111,11 +111,6 @@ member-find (e ∷ es) n q =
 apart : (b s : Bool) (o : Ordering) → o ≡ Less → is_eq o ≡ (b && s) → b ≡ true → s ≡ false
 apart true s o less both one = sym both ∙ ap is_eq less
 apart false s o less both one = absurd (true≢false (sym one))
-
-pub is_less : (o : Ordering) → is_lt o ≡ true → o ≡ Less
-is_less Less h = refl
-is_less Equal h = absurd (true≢false (sym h))
-is_less Greater h = absurd (true≢false (sym h))
 
 -- a property below all others of its node differs from each
 differs : (n : ℕ) (p : Property) (es : Entries) → below_all key_cmp (n, p) es ≡ true → AllByRecursion (λ y. same_property p y ≡ false) (properties_among es n)

@@ -132,12 +132,12 @@ counted_host es f g rose falls = record { rose = subst (λ (n : ℕ). RoseBy n f
 
 -- ---- what is routed moves no device
 
-still_note : (w : Outside) (begun : Option (ℕ × ℕ)) (entry : Entry) → (happens_all_outside w (noted_by begun entry)).devices ≡ w.devices
+pub still_note : (w : Outside) (begun : Option (ℕ × ℕ)) (entry : Entry) → (happens_all_outside w (noted_by begun entry)).devices ≡ w.devices
 unfolding devices_after
 still_note w None entry = refl
 still_note w (Some begun) entry = refl
 
-still_one : (w : Outside) (x : HostOut) → (happens_all_outside w (routed_one x)).devices ≡ w.devices
+pub still_one : (w : Outside) (x : HostOut) → (happens_all_outside w (routed_one x)).devices ≡ w.devices
 unfolding devices_after
 still_one w (Write unit) = refl
 still_one w (Note entry) = still_note w (begun_in entry) entry

@@ -1,10 +1,10 @@
 -- Schedules one after another, and those of what is outside the host.
-use Rattle.std.proofs.Common.{ℕ, zero, suc, ◌+◌, Bool, true, false, List, [], ◌∷◌, ◌++◌, map, refl, sym, subst, inl, inr}
+use Rattle.std.proofs.Common.{ℕ, ◌+◌, Bool, true, false, List, [], ◌∷◌, ◌++◌, map, refl, sym, subst, inl, inr}
 use Rattle.zw_text.specs.declared.entry.Entry.{Entry}
 use Rattle.outside_model.specs.State.{Outside, OuterState}
 use Rattle.outside_model.specs.Events.{OuterEvent, AreOwn}
 use Rattle.outside_model.specs.Did.{RunOf as RunOfOutside}
-use Rattle.outside_model.specs.Schedules.{TakesBy, Arrivals, Givings, DeviceTicks, IsRepeat, IsWake, IsSet}
+use Rattle.outside_model.specs.Schedules.{TakesBy, IsRepeat, IsWake, IsSet}
 use Rattle.world_model.specs.State.{Machine, with_outside}
 use Rattle.world_model.specs.Events.{Event, Outside_does}
 use Rattle.world_model.specs.Did.{Schedule, Scene, Stops, Does, Then, ThenPrefix}
@@ -32,24 +32,6 @@ pub takes_own : (b : Bool) (bytes : List ℕ) (o : OuterState) (es : List OuterE
 takes_own true bytes o es takes = subst (λ (l : List OuterEvent). AreOwn l) (sym takes) tt
 takes_own false [] o es takes = subst (λ (l : List OuterEvent). AreOwn l) (sym takes) tt
 takes_own false (byte ∷ bytes) o es takes = subst (λ (l : List OuterEvent). AreOwn l) (sym takes.are) (refl, tt)
-
-pub arrivals_own : (k : ℕ) (es : List OuterEvent) → Arrivals k es → AreOwn es
-arrivals_own zero es arrive = subst (λ (l : List OuterEvent). AreOwn l) (sym arrive) tt
-arrivals_own (suc k) es arrive =
-    let (drawn, route, rest, are, more) = arrive in
-    subst (λ (l : List OuterEvent). AreOwn l) (sym are) (refl, arrivals_own k rest more)
-
-pub givings_own : (k : ℕ) (es : List OuterEvent) → Givings k es → AreOwn es
-givings_own zero es gives = subst (λ (l : List OuterEvent). AreOwn l) (sym gives) tt
-givings_own (suc k) es gives =
-    let (route, rest, are, more) = gives in
-    subst (λ (l : List OuterEvent). AreOwn l) (sym are) (refl, givings_own k rest more)
-
-pub ticks_own : (place k : ℕ) (es : List OuterEvent) → DeviceTicks place k es → AreOwn es
-ticks_own place zero es ticks = subst (λ (l : List OuterEvent). AreOwn l) (sym ticks) tt
-ticks_own place (suc k) es ticks =
-    let (drawn, route, rest, are, more) = ticks in
-    subst (λ (l : List OuterEvent). AreOwn l) (sym are) (refl, ticks_own (place + 1) k rest more)
 
 pub repeat_own : (number : ℕ) (es : List OuterEvent) → IsRepeat number es → AreOwn es
 repeat_own number es repeat =

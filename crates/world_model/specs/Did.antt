@@ -1,10 +1,9 @@
 -- What was done, as lists of events (this project's own).
-use Rattle.std.specs.Prelude.{◌≡◌, ◌⊎◌, ℕ, ◌+◌, ◌≤◌, Bool, true, false, List, [], ◌∷◌, ◌++◌, Option, Some, None}
+use Rattle.std.specs.Prelude.{◌≡◌, ◌⊎◌, ℕ, ◌+◌, ◌≤◌, List, [], ◌∷◌, ◌++◌, Option, Some, None}
 use Rattle.std.specs.List.{AllByRecursion}
 use Rattle.zw_text.specs.declared.entry.Entry.{Entry}
-use Rattle.zw_text.specs.declared.entry.Refusal.{Refusal}
-use Rattle.zw_text.specs.declared.entry.Refusal.TheVariants.{KeeperFault}
 use Rattle.host_model.specs.Did.{is_unkept, unkept_in as unkept_by_host, one_if, RoseBy}
+use Rattle.host_model.specs.Refusals.{is_keeper_fault}
 use Rattle.outside_model.specs.Events.{OuterEvent}
 use Rattle.world_model.specs.State.{Machine}
 use Rattle.world_model.specs.Events.{Event, Outside_does, Host_does, Host_takes, Decoder_ticks, Refuses, Shows_values, Restarts, happens, entries, May}
@@ -30,10 +29,6 @@ AllAlong Has m [] = Unit {0}
 AllAlong Has m (event ∷ events) = Has m event × AllAlong Has (happens m event) events
 
 -- ---- faults of the keeper
-
-abbrev pub is_keeper_fault : Refusal → Bool
-is_keeper_fault KeeperFault = true
-is_keeper_fault refusal = false
 
 -- how many things were not done at an event, since the keeper failed
 abbrev pub unkept_of : Event → ℕ

@@ -5,43 +5,13 @@ use Rattle.zw_text.specs.declared.line.Line.{Line}
 use Rattle.zw_text.specs.declared.line.Line.TheVariants.{Command, Send, Get, Join, Interview, Cancel, Discover, Neighbours, Failed, Probe, Restart}
 use Rattle.zw_text.specs.declared.entry.Refusal.{Refusal}
 use Rattle.zw_text.specs.declared.entry.Refusal.TheVariants as refusal
-use Rattle.host_orders.specs.declared.refused.Refused.{Refused}
-use Rattle.host_orders.specs.declared.refused.Refused.TheVariants as refused
 use Rattle.host_orders.specs.Errands.{send_refusal, get_refusal}
 use Rattle.host_keep.specs.Legal.{IsFirstBad}
-use Rattle.host_model.specs.State.{HostState, node_of}
+use Rattle.host_model.specs.State.{node_of}
 use Rattle.host_model.specs.May.{known_of}
-use Rattle.host_model.specs.Asking.{refusal_for, join_refusal, places_refusal, interview_refusal, Waits}
+use Rattle.host_model.specs.Asking.{refusal_for, join_refusal, places_refusal, interview_refusal}
+pub use Rattle.host_model.specs.Refusals.{shown, IsRefusedBy, IsRefusedOrUnkept, IsUncancelled}
 use Rattle.world_model.specs.State.{Machine}
-
--- what is entered of a refusal; an allocation failure is none
-abbrev pub shown : Refused → Option Refusal
-shown refused.NotJoined = Some refusal.NotJoined
-shown refused.NotInterviewed = Some refusal.NotInterviewed
-shown (refused.Unsupported class) = Some (refusal.Unsupported class)
-shown refused.BadValue = Some refusal.BadValue
-shown refused.Unsupervised = Some refusal.Unsupervised
-shown (refused.TooLong bytes) = Some (refusal.TooLong bytes)
-shown (refused.MailboxFull waiting) = Some (refusal.MailboxFull waiting)
-shown (refused.StoreFull properties) = Some (refusal.StoreFull properties)
-shown refused.Secured = Some refusal.Secured
-shown (refused.QueueFull waiting) = Some (refusal.QueueFull waiting)
-shown refused.AlreadyJoined = Some refusal.AlreadyJoined
-shown refused.KeeperFault = Some refusal.KeeperFault
-shown refused.NoMemory = None
-
--- a rule refuses, and that is entered
-abbrev pub IsRefusedBy : Option Refused → Refusal → Type 0
-IsRefusedBy None entered = ⊥
-IsRefusedBy (Some refused) entered = shown refused ≡ Some entered
-
--- the same, or no rule does and the keeper failed
-abbrev pub IsRefusedOrUnkept : Option Refused → Refusal → Type 0
-IsRefusedOrUnkept rule entered = IsRefusedBy rule entered ⊎ ((rule ≡ None) × (entered ≡ refusal.KeeperFault))
-
--- a command is not cancelled that does not wait, or whose record was not kept
-abbrev pub IsUncancelled : HostState → ℕ → Refusal → Type 0
-IsUncancelled h command entered = ((Waits h command → ⊥) × (entered ≡ refusal.NotWaiting command)) ⊎ (Waits h command × (entered ≡ refusal.KeeperFault))
 
 -- the records give no host: this is the first that is invalid or may not follow those before it. Of a keeper that does not tell its records
 -- nothing is said

@@ -113,11 +113,6 @@ pub some_more : (h1 h2 h3 : HostParts) (a b c : OuterState) (x y z : List HostOu
     → TakesSome h1 h2 a b x y s t → (k : ℕ) × (1 ≤ k) × TakesBytes k h2 h3 b c y z t u → TakesSome h1 h3 a c x z s u
 some_more h1 h2 h3 a b c x y z s t u first later = (first.0 + later.0, takes_more first.0 later.0 h1 h2 h3 a b c x y z s t u first.1 later.2)
 
-pub fewer_left : (h1 h2 : HostParts) (b c : OuterState) (y z : List HostOut) (t u : Shelf) → (k : ℕ) × (1 ≤ k) × TakesBytes k h1 h2 b c y z t u → length c.to_host.bytes < length b.to_host.bytes
-fewer_left h1 h2 b c y z t u (k, some, taken) =
-    let left : length c.to_host.bytes ≡ length b.to_host.bytes - k = ap (λ (l : List ℕ). length l) taken.left ∙ length-drop k b.to_host.bytes in
-    omega (arith, some, taken.some, left)
-
 pub all_taken : (h1 h2 : HostParts) (a b : OuterState) (x y : List HostOut) (s t : Shelf) → length b.to_host.bytes ≤ 0 → TakesSome h1 h2 a b x y s t → TakesBytes (length a.to_host.bytes) h1 h2 a b x y s t
 all_taken h1 h2 a b x y s t none (count, taken) =
     let left : length b.to_host.bytes ≡ length a.to_host.bytes - count = ap (λ (l : List ℕ). length l) taken.left ∙ length-drop count a.to_host.bytes in

@@ -14,7 +14,8 @@ use Rattle.world_model.specs.Did.{Schedule, Scene, Does, Nothing, PrefixOf, Then
 use Rattle.world_model.specs.Settling.{Settles}
 use Rattle.world_model.specs.Ticking.{IsClockTick, IsDelivery, IsGiving, IsDeviceTick, IsChipTick, IsOutsideTick, IsHostTick, IsTick}
 use Rattle.world_model.specs.Prefixes.{SettlesPrefix, OutsideTickPrefix, TickPrefix}
-use Rattle.world_model.proofs.Schedules.{did_then, stopped_first, stopped_then, arrivals_own, givings_own, ticks_own}
+use Rattle.outside_model.proofs.Own.{arrivals_own, givings_own, ticks_own}
+use Rattle.world_model.proofs.Schedules.{did_then, stopped_first, stopped_then}
 use Rattle.world_step.specs.Scene.{scene_of}
 use Rattle.world_step.proofs.Scenes.{did_one, did_quiet, did_of, prefixes_of, prefix_of, stopped_out}
 use Rattle.host_core.specs.Calls.{shelf_of}

@@ -50,7 +50,9 @@ impl Sides {
             Does (Passes 64) (scene_of keys self.old.host self.old.outer ds (P.shelf keeper.old) out.old.items)
             (scene_of keys self.new.host self.new.outer ds (P.shelf keeper.new) out.new.items)) }
         ensures err { OnErr result ((keys : Keys) (ds : Items State) →
-            Stops (PassesPrefix 64) (scene_of keys self.old.host self.old.outer ds (P.shelf keeper.old) out.old.items) (scene_of keys self.new.host self.new.outer ds (P.shelf keeper.new) out.new.items)) }
+            Stops (PassesPrefix 64)
+            (scene_of keys self.old.host self.old.outer ds (P.shelf keeper.old) out.old.items)
+            (scene_of keys self.new.host self.new.outer ds (P.shelf keeper.new) out.new.items)) }
         ensures never_fewer { P.number keeper.old ≤ P.number keeper.new }
         ensures reads { P.reads keeper.new ≡ P.reads keeper.old }
     {

@@ -63,7 +63,9 @@ impl Sides {
         out: &mut List<Entry>,
     ) -> Result<bool, NoMemory>
         ensures ok { IfOk result (λ moved. (keys : Keys) (ds : Items State) →
-            Does (HostPart moved) (scene_of keys self.old.host self.old.outer ds (P.shelf keeper.old) out.old.items) (scene_of keys self.new.host self.new.outer ds (P.shelf keeper.new) out.new.items)) }
+            Does (HostPart moved)
+            (scene_of keys self.old.host self.old.outer ds (P.shelf keeper.old) out.old.items)
+            (scene_of keys self.new.host self.new.outer ds (P.shelf keeper.new) out.new.items)) }
         ensures err { OnErr result ((keys : Keys) (ds : Items State) →
             Stops Nothing (scene_of keys self.old.host self.old.outer ds (P.shelf keeper.old) out.old.items)
             (scene_of keys self.new.host self.new.outer ds (P.shelf keeper.new) out.new.items)) }

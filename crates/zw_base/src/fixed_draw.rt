@@ -1,6 +1,6 @@
 //! Drawn bytes that were fixed beforehand. They serve tests.
 
-ghost use Rattle.std.specs.Prelude.{◌≡◌, ◌≤◌, length, drop, replicate, IfOk, slice_get, unwrap_or};
+ghost use Rattle.std.specs.Prelude.{◌≡◌, IfOk};
 
 use crate::{Draw, List, NoMemory};
 use std::alloc::Global;
@@ -33,10 +33,11 @@ impl FixedDraw {
 }
 
 impl Draw for FixedDraw {
-    fn next(&mut self) -> [u8; 8]
-        ensures drawn { result ≡ unwrap_or (slice_get self.old 0) (replicate 8 0) }
-        ensures rest { self.new ≡ drop 1 self.old }
-    {
+    ghost use Rattle.std.specs.Prelude.{◌≡◌, drop, replicate, slice_get, unwrap_or};
+
+    ghost draws = { λ old drawn new. (drawn ≡ unwrap_or (slice_get old 0) (replicate 8 0)) × (new ≡ drop 1 old) };
+
+    fn next(&mut self) -> [u8; 8] {
         match self.values.as_slice().get(self.at) {
             Some(value) => {
                 let drawn = *value;

@@ -1,6 +1,6 @@
 //! The outside of the program: a source of bytes, a sink for bytes, and drawn bytes.
 
-ghost use Rattle.std.specs.Prelude.{ℕ, List as Items, Option, ◌<◌, ◌≤◌, length, IfOk, OnErr};
+ghost use Rattle.std.specs.Prelude.{◌≡◌, ℕ, List as Items, Option, ◌<◌, ◌≤◌, length, IfOk, OnOk, OnErr};
 ghost use Rattle.std.specs.Io.{ReadsAtMost, WritesAtMost};
 ghost use Rattle.std.specs.Io.KnownBytes.{ReadConsumes, WriteAppends};
 ghost use Rattle.zw_base.specs.Faults.{Rose};
@@ -22,7 +22,8 @@ pub trait Source {
         ensures at_most { ReadsAtMost result into.new }
         ensures consumes { ReadConsumes (left self.old) (left self.new) result into.new }
         ensures never_falls { faults self.old ≤ faults self.new }
-        ensures failed { OnErr result (Rose (faults self.old) (faults self.new)) };
+        ensures failed { OnErr result (Rose (faults self.old) (faults self.new)) }
+        ensures uncounted { OnOk result (faults self.new ≡ faults self.old) };
 }
 
 /// Where bytes go.
@@ -39,10 +40,16 @@ pub trait Sink {
         ensures takes { IfOk result (λ taken. 0 < length piece.now → 0 < taken) }
         ensures appends { WriteAppends (written self.old) (written self.new) result piece.now }
         ensures never_falls { faults self.old ≤ faults self.new }
-        ensures failed { OnErr result (Rose (faults self.old) (faults self.new)) };
+        ensures failed { OnErr result (Rose (faults self.old) (faults self.new)) }
+        ensures uncounted { OnOk result (faults self.new ≡ faults self.old) };
 }
 
-/// Where drawn bytes come from. It never fails, and nothing is claimed of its bytes.
+/// Where drawn bytes come from. It never fails, and nothing is claimed of its bytes but what it says that it may draw.
 pub trait Draw {
-    fn next(&mut self) -> [u8; 8];
+    /// From the first, these bytes may be drawn, and the last is then left.
+    ghost draws: { Self → Items ℕ → Self → Type 0 };
+
+    /// Draws the next bytes.
+    fn next(&mut self) -> [u8; 8]
+        ensures { draws self.old result self.new };
 }

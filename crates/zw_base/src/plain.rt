@@ -1,6 +1,6 @@
 //! A source and a sink that never fail. They serve callers that count no faults.
 
-ghost use Rattle.std.specs.Prelude.{◌≡◌, ◌<◌, ◌≤◌, ◌++◌, length, min, take, drop, [], IfOk, OnErr, IsOk, Some, None};
+ghost use Rattle.std.specs.Prelude.{◌≡◌, ℕ, ◌<◌, ◌≤◌, ◌++◌, length, min, take, drop, [], IfOk, OnOk, OnErr, IsOk, Some, None};
 ghost use Rattle.std.specs.Io.{ReadsAtMost, WritesAtMost};
 ghost use Rattle.std.specs.Io.KnownBytes.{ReadConsumes, WriteAppends};
 ghost use Rattle.zw_base.specs.Faults.{Rose};
@@ -47,6 +47,7 @@ impl Source for PlainSource {
         ensures consumes { ReadConsumes (Some self.old) (Some self.new) result into.new }
         ensures never_falls { 0 ≤ 0 }
         ensures failed { OnErr result (Rose 0 0) }
+        ensures uncounted { OnOk result (◌≡◌ {A = ℕ} 0 0) }
         ensures gives { IfOk result (λ n. n ≡ min (length into.new) (length self.old)) }
         ensures never_fails { IsOk result }
     {
@@ -92,6 +93,7 @@ impl Sink for PlainSink {
         ensures appends { WriteAppends None None result piece.now }
         ensures never_falls { 0 ≤ 0 }
         ensures failed { OnErr result (Rose 0 0) }
+        ensures uncounted { OnOk result (◌≡◌ {A = ℕ} 0 0) }
         ensures whole { result ≡ Ok (length piece.now) }
     {
         Ok(piece.len())

@@ -74,7 +74,7 @@ payload-back p are short =
     ap (λ (bytes : List ℕ). cond (ltb 46 (length bytes)) [] bytes) (hex-back p are)
     ∙ ap (λ t. cond t [] p) (le-ltb 46 (length p) short)
 
-ends-solid : (a b : ℕ) → IsNode a → IsNode b → Solid (ends_word a b)
+pub ends-solid : (a b : ℕ) → IsNode a → IsNode b → Solid (ends_word a b)
 ends-solid a b low high =
     lacks-append solid_byte (decimal a) (codes ">" ++ decimal b) (number-solid a (node64 a low)) (number-solid b (node64 b high))
 

@@ -1,14 +1,14 @@
 -- No two entries have one text, and no two transcripts.
 use Rattle.std.proofs.Common.{◌≡◌, ℕ, cond, eqb, not, List, [], ◌∷◌, ◌++◌, map, arith, ap, ap₂, refl, ◌∙◌, sym, append_assoc}
 use Rattle.std.specs.List.{list_all}
-use Rattle.std.proofs.lemmas.Bool.{and_parts}
+use Rattle.std.proofs.lemmas.Bool.{and_parts, not-true as not_that}
 use Rattle.std.proofs.lemmas.List.Sums.{sum_by-cons}
 use Rattle.zw_text.specs.Entry.{entry_text, transcript_text}
 use Rattle.zw_text.specs.Fits.{EntryFits, IsOneLine, feeds}
 use Rattle.zw_text.specs.declared.entry.Entry.{Entry}
 use Rattle.zw_parse.specs.Reading.{parts, text_back}
 use Rattle.zw_parse.specs.Lines.{AreLines}
-use Rattle.zw_parse.proofs.Pieces.{Lacks, not_that, parts-at}
+use Rattle.zw_parse.proofs.Pieces.{Lacks, parts-at}
 use Rattle.zw_parse.proofs.Back.{one_if, taken}
 
 pub one-entry : (first second : Entry) → EntryFits first → EntryFits second → entry_text first ≡ entry_text second → first ≡ second
@@ -51,7 +51,7 @@ pub one-transcript : (first second : List Entry) → AreLines first → AreLines
 one-transcript first second a b same = sym (again first a) ∙ ap transcript_back same ∙ again second b
 
 -- a text that lacks line feeds has none
-feeds-none : (text : List ℕ) → Lacks 10 text → feeds text ≡ 0
+pub feeds-none : (text : List ℕ) → Lacks 10 text → feeds text ≡ 0
 feeds-none [] lacks = refl
 feeds-none (b ∷ bs) lacks =
     let halves = and_parts (not (eqb b 10)) (list_all (λ x. not (eqb x 10)) bs) lacks in

@@ -4,7 +4,7 @@ use Rattle.std.specs.List.{AllByRecursion, join_with_byte, list_all}
 use Rattle.std.proofs.Common.{take, length-append, Bor}
 use Rattle.std.proofs.Math.Seq.{take-append_seam}
 use Rattle.zw_parse.specs.Reading.{at, but_last, hex_back, last_of, ok_or_none, parts}
-use Rattle.std.proofs.lemmas.Bool.{and_from, and_parts}
+use Rattle.std.proofs.lemmas.Bool.{and_from, and_parts, not-true as not_that}
 use Rattle.std.proofs.lemmas.Fmt.{decimal_is_IsNumeral}
 use Rattle.std.proofs.lemmas.List.Elements.{All-from_recursion}
 use Rattle.std.proofs.lemmas.List.Splits.{slice_split_at, slice_split_none}
@@ -15,10 +15,6 @@ use Rattle.hex.proofs.HexLemmas.{decode_of-encode_upper}
 -- a text in which each byte is another than c
 abbrev pub Lacks : ℕ → List ℕ → Type 0
 Lacks c text = list_all (λ b. not (eqb b c)) text ≡ true
-
-pub not_that : (b : Bool) → not b ≡ true → b ≡ false
-not_that false e = refl
-not_that true e = cc
 
 apart : (c : ℕ) (text : List ℕ) → Lacks c text → AllByRecursion (λ b. eqb b c ≡ false) text
 apart c [] lacks = tt

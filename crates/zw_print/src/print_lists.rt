@@ -82,7 +82,8 @@ pub fn print_sessions(text: &mut String, node: NodeId, sessions: &[u32]) -> Resu
 }
 
 fn write_sessions(text: &mut String, node: NodeId, sessions: &[u32]) -> Result<(), AllocError>
-    ensures { OnOk result (string_bytes text.new ≡ string_bytes text.old ++ (codes "node " ++ (decimal node ++ (codes " sessions " ++ list_text sessions.now)))) }
+    ensures { OnOk result (string_bytes text.new ≡ string_bytes text.old ++
+        (codes "node " ++ (decimal node ++ (codes " sessions " ++ list_text sessions.now)))) }
 {
     let node = node.number();
     write!(text, "node {node} sessions ")?;

@@ -65,7 +65,8 @@ pub fn print_named(text: &mut String, word: &str, n: u64, name: &str) -> Result<
 
 /// `accepted I node N`
 pub fn print_accepted(text: &mut String, command: u32, node: NodeId) -> Result<(), AllocError>
-    ensures { OnOk result (string_bytes text.new ≡ string_bytes text.old ++ join_with_byte 32 (codes "accepted" ∷ decimal command ∷ codes "node" ∷ decimal node ∷ [])) }
+    ensures { OnOk result (string_bytes text.new ≡ string_bytes text.old ++
+        join_with_byte 32 (codes "accepted" ∷ decimal command ∷ codes "node" ∷ decimal node ∷ [])) }
 {
     text.push_str("accepted")?;
     push_count(text, u64::from(command))?;
@@ -80,7 +81,8 @@ pub fn print_begin(
     session: u64,
     command: u32,
 ) -> Result<(), AllocError>
-    ensures { OnOk result (string_bytes text.new ≡ string_bytes text.old ++ join_with_byte 32 (codes "begin" ∷ decimal node ∷ decimal session ∷ decimal command ∷ [])) }
+    ensures { OnOk result (string_bytes text.new ≡ string_bytes text.old ++
+        join_with_byte 32 (codes "begin" ∷ decimal node ∷ decimal session ∷ decimal command ∷ [])) }
 {
     let node = node.number();
     write!(text, "begin {node} {session} {command}")
@@ -153,7 +155,8 @@ pub fn print_setting_of(
     node: NodeId,
     setting: Setting,
 ) -> Result<(), AllocError>
-    ensures { OnOk result (string_bytes text.new ≡ string_bytes text.old ++ join_with_byte 32 (word.now ∷ decimal node ∷ property_word setting.property ∷ decimal setting.value ∷ [])) }
+    ensures { OnOk result (string_bytes text.new ≡ string_bytes text.old ++
+        join_with_byte 32 (word.now ∷ decimal node ∷ property_word setting.property ∷ decimal setting.value ∷ [])) }
 {
     text.push_str(word)?;
     push_count(text, u64::from(node.number()))?;
@@ -261,7 +264,8 @@ pub fn print_refusal(alloc: Global, text: &mut String, refusal: Refusal) -> Resu
 }
 
 fn print_unsupported(alloc: Global, text: &mut String, class: u8) -> Result<(), AllocError>
-    ensures { OnOk result (string_bytes text.new ≡ string_bytes text.old ++ join_with_byte 32 (codes "refused" ∷ codes "unsupported" ∷ encode_upper (class ∷ []) ∷ [])) }
+    ensures { OnOk result (string_bytes text.new ≡ string_bytes text.old ++
+        join_with_byte 32 (codes "refused" ∷ codes "unsupported" ∷ encode_upper (class ∷ []) ∷ [])) }
 {
     let class = hex::encode_upper(alloc, [class].as_slice())?;
     write!(text, "refused unsupported {class}")

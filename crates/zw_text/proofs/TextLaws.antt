@@ -22,7 +22,7 @@ use Rattle.zw_text.proofs.LineAgain.{by_again}
 -- ---- first words
 
 -- what a search found passes
-found_passes : {A : Type 0} (p : A → Bool) (xs : List A) (x : A) → find p xs ≡ some x → p x ≡ true
+pub found_passes : {A : Type 0} (p : A → Bool) (xs : List A) (x : A) → find p xs ≡ some x → p x ≡ true
 found_passes p [] x e = absurd (not_some x e)
 found_passes p (y ∷ ys) x e =
     elim (chosen (p y) (some y) (find p ys) (some x) e) [
@@ -74,11 +74,11 @@ word_again WRestart = refl
 -- ---- the words of a text
 
 -- the words of a text that is short enough
-record Opened (text : List ℕ) (ws : List (List ℕ)) : Type 0 where
-  short : length text ≤ 1024
-  either : ((is_remark text ≡ true) × ([] ≡ ws)) ⊎ ((is_remark text ≡ false) × (words (without_return text) ≡ ws))
+pub record Opened (text : List ℕ) (ws : List (List ℕ)) : Type 0 where
+  pub short : length text ≤ 1024
+  pub either : ((is_remark text ≡ true) × ([] ≡ ws)) ⊎ ((is_remark text ≡ false) × (words (without_return text) ≡ ws))
 
-opened : (text : List ℕ) (ws : List (List ℕ)) → line_words text ≡ Ok ws → Opened text ws
+pub opened : (text : List ℕ) (ws : List (List ℕ)) → line_words text ≡ Ok ws → Opened text ws
 unfolding line_words
 opened text ws e =
     elim (chosen (ltb 1024 (length text)) _ _ _ e) [
@@ -90,16 +90,16 @@ opened text ws e =
           ]
     ]
 
-opens : (text : List ℕ) (ws : List (List ℕ)) → MayBeLine text → words (without_return text) ≡ ws → line_words text ≡ Ok ws
+pub opens : (text : List ℕ) (ws : List (List ℕ)) → MayBeLine text → words (without_return text) ≡ ws → line_words text ≡ Ok ws
 unfolding line_words
 opens text ws may are = rw (le-ltb 1024 (length text) may.short, may.no_remark, are) refl
 
 -- a text without words
-no_words : (text : List ℕ) → Opened text [] → IsNoLine text
+pub no_words : (text : List ℕ) → Opened text [] → IsNoLine text
 no_words text o = record { short = o.short; empty = elim o.either [ inl remark ↦ inl remark.0 | inr line ↦ inr line.1 ] }
 
 -- a text with words may be a line
-some_words : (text w : List ℕ) (rest : List (List ℕ)) → Opened text (w ∷ rest) → MayBeLine text × (words (without_return text) ≡ w ∷ rest)
+pub some_words : (text w : List ℕ) (rest : List (List ℕ)) → Opened text (w ∷ rest) → MayBeLine text × (words (without_return text) ≡ w ∷ rest)
 some_words text w rest o =
     elim o.either [ inl remark ↦ absurd (nil_cons w rest remark.1) | inr line ↦ (record { short = o.short; no_remark = line.0 }, line.1) ]
   where

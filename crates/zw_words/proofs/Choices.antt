@@ -1,5 +1,5 @@
 -- Choices and steps, taken apart.
-use Rattle.std.proofs.Common.{◌≡◌, Bool, true, false, cond, ◌&&◌, Option, Some, None, Result, Ok, Err, refl, ◌⊎◌, inl, inr}
+use Rattle.std.proofs.Common.{◌≡◌, Bool, true, false, cond, Option, Some, None, Result, Ok, Err, refl, ◌⊎◌, inl, inr}
 use Rattle.std.specs.Prelude.{option_and_then}
 use Rattle.zw_words.specs.declared.fault.LineFault.{LineFault}
 use Rattle.zw_words.specs.Fields.{◌>>=◌, make}
@@ -32,11 +32,6 @@ ok_is x y e = cc
 
 pub not_ok : {A : Type 0} (f : LineFault) (y : A) → failed f ≡ done y → ⊥
 not_ok f y e = cc
-
--- a test that is true only where both are
-pub both : (a b : Bool) → (a && b) ≡ true → (a ≡ true) × (b ≡ true)
-both true b e = (refl, e)
-both false b e = absurd cc
 
 -- a value that was kept, where the test is true
 pub kept : {A : Type 0} (b : Bool) (x y : A) → cond b (some x) nothing ≡ some y → (b ≡ true) × (x ≡ y)

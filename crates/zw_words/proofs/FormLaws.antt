@@ -5,7 +5,7 @@ use Rattle.std.specs.List.{AllPass, AllByRecursion, list_all, position_or_len}
 use Rattle.std.specs.Str.{all_ascii_digits}
 use Rattle.std.specs.Char.{is_ascii_hexdigit}
 use Rattle.std.specs.Int.{is_in_range}
-use Rattle.std.proofs.lemmas.Bool.{eqb-true, ltb-true, lt-ltb, leb-true, le-leb}
+use Rattle.std.proofs.lemmas.Bool.{eqb-true, ltb-true, lt-ltb, leb-true, le-leb, and_parts as both}
 use Rattle.std.proofs.lemmas.Fmt.{decimal-digits_value, decimal_digit, decimal_is_IsNumeral, decimal_nonempty, digits_decimal, digits_value-decimal, first_decimal}
 use Rattle.std.proofs.lemmas.List.Sums.{AllPass-from_list_all, list_all-from_AllPass}
 use Rattle.std.proofs.lemmas.Str.Parse.{IsNumeralModel, digit_at, numerals_by_fold}
@@ -25,7 +25,7 @@ use Rattle.zw_words.specs.declared.side.Side.{Side}
 use Rattle.zw_words.specs.declared.side.Side.TheVariants.{Host, Chip}
 use Rattle.zw_words.specs.Forms.{begins_number, between_in, decoded, digits_after, digits_in, end_after, hex_in, hex_length, node_in, number_in, side_in, target_at, target_in, value_in, within}
 use Rattle.zw_words.specs.Texts.{side_word, target_word, value_word}
-use Rattle.zw_words.proofs.Choices.{both, chosen, kept, not_some, some, some_is, then_some}
+use Rattle.zw_words.proofs.Choices.{chosen, kept, not_some, some, some_is, then_some}
 
 -- ---- hex
 

@@ -16,9 +16,8 @@ use Rattle.zw_text.specs.declared.entry.Ended.TheVariants.{Cancelled}
 use Rattle.value_store.specs.Values.{held_of}
 use Rattle.value_store.specs.ValueText.{values_text}
 use Rattle.zw_text.specs.declared.entry.Refusal.{Refusal}
-use Rattle.zw_text.specs.declared.entry.Refusal.TheVariants.{KeeperFault as keeper_fault}
 use Rattle.host_orders.specs.declared.refused.Refused.{Refused}
-use Rattle.host_orders.specs.declared.refused.Refused.TheVariants.{NotJoined, NotInterviewed, Unsupported, BadValue, Unsupervised, TooLong, MailboxFull, StoreFull, Secured, QueueFull, AlreadyJoined, KeeperFault, NoMemory}
+use Rattle.host_orders.specs.declared.refused.Refused.TheVariants.{NotJoined, NotInterviewed, Unsupported, BadValue, Secured, QueueFull, KeeperFault}
 use Rattle.host_orders.specs.Classes.{lists, class_of}
 use Rattle.host_orders.specs.Refusals.{Known, Refuses, classes_of, first_some, unless, unsupported, is_bad_word}
 use Rattle.host_orders.specs.Errands.{RefusesOrNone, send_refusal, sendable_refusal, get_refusal, gettable_refusal, gettable_of, gettable_class, secured, queue_full, sendable_of}
@@ -28,34 +27,33 @@ use Rattle.host_model.specs.State.{HostState, HostParts}
 use Rattle.host_model.specs.Events.{HostEvent, Accepts, Cancels}
 use Rattle.host_model.specs.Events.{Joins as joins_host}
 use Rattle.host_model.specs.Did.{Did, RoseIf, after_all, outs_all, records_all, texts_of}
-use Rattle.host_model.specs.Asking.{places_refusal, carriage_for, Waits}
+use Rattle.host_model.specs.Asking.{places_refusal, carriage_for}
 use Rattle.host_model.specs.declared.out.HostOut.{HostOut}
 use Rattle.host_model.specs.Outs.{answers}
 use Rattle.host_model.proofs.Silence.{Silent}
 use Rattle.host_core.specs.Calls.{DoesAlone, Are, scene, shelf_of}
 use Rattle.host_core.specs.Calls as calls
-use Rattle.host_parts.specs.Choices.{Judges}
-use Rattle.host_core.specs.Orders.{KeptOrRefused, CancelsOrNot, question_event, places_of}
+use Rattle.host_core.specs.Orders.{question_event, places_of}
 use Rattle.host_core.specs.declared.orders.Question.{Question}
 use Rattle.host_core.specs.declared.orders.Question.TheVariants.{Members, Neighbours, Failed, Probe}
-use Rattle.host_core.specs.declared.orders.CancelFault.{CancelFault}
-use Rattle.host_core.specs.declared.orders.CancelFault.TheVariants as cancel
 use Rattle.outside_model.specs.State.{OuterState, Outside, outside}
 use Rattle.outside_model.specs.Events.{Host_notes, Joins, Discovers}
 use Rattle.outside_model.specs.Did.{Goes, GoesFor, happens_all as happens_all_outside, entries_all as entries_all_outside}
 use Rattle.outside_model.specs.Schedules.{IsOne}
 use Rattle.world_model.specs.State.{Machine, machine, routed, with_texts}
-use Rattle.world_model.specs.Refusals.{shown, IsRefused, IsRefusedBy, IsRefusedOrUnkept, IsUncancelled}
+use Rattle.world_model.specs.Refusals.{shown, IsRefused, IsRefusedBy}
 use Rattle.world_model.specs.Events.{Event, Host_does, Outside_does, Refuses as refuses, Shows_values, notes, happens, entries, May}
-use Rattle.world_model.specs.Did.{Run, Does, Nothing, Stops, is_keeper_fault}
+use Rattle.world_model.specs.Did.{Run, Does, Nothing, Stops}
+use Rattle.host_model.specs.Refusals.{is_keeper_fault}
 use Rattle.world_model.specs.Lines.{Asks, IsDone, IsDiscovery, IsEffect}
 use Rattle.world_model.proofs.EventLists.{counted_kept, ran_both}
 use Rattle.world_model.proofs.Hosting.{adds_is}
 use Rattle.world_model.proofs.Outside.{ran_outside}
 use Rattle.world_step.specs.Scene.{scene_of}
 use Rattle.world_step.proofs.Scenes.{ran_hosted, nothing_goes, quiet_goes, stopped_hosted, stopped_still}
-use Rattle.zw_world.specs.Effects.{Answers, IsAsked, shown_uncancelled}
+use Rattle.zw_world.specs.Effects.{Answers, IsAsked}
 use Rattle.zw_world.proofs.Scenes.{ran_refuses, quiet_run, none_more, did_as}
+use Rattle.host_core.proofs.Refusing.{IsNothing, rose_entered, by_rule}
 
 -- ---- which rules are no fault of the keeper
 
@@ -126,44 +124,9 @@ get_fair known queued end = unknown_fair known (gettable_refusal (classes_of kno
 
 -- ---- what is entered of a refusal
 
-abbrev pub fault_in : Option Refusal → Bool
-fault_in None = false
-fault_in (Some entered) = is_keeper_fault entered
-
 abbrev pub So : Bool → Type 0
 So true = Unit {0}
 So false = ⊥
-
-abbrev pub IsNothing : Option Refusal → Type 0
-IsNothing None = Unit {0}
-IsNothing (Some entered) = ⊥
-
-abbrev given : Option Refusal → Refusal
-given None = keeper_fault
-given (Some entered) = entered
-
--- the keeper failed where that is entered
-rose_shown : (refused : Refused) (f g : ℕ) → (refused ≡ KeeperFault → Rose f g) → RoseIf (fault_in (shown refused)) f g
-rose_shown NotJoined f g rose = tt
-rose_shown NotInterviewed f g rose = tt
-rose_shown (Unsupported class) f g rose = tt
-rose_shown BadValue f g rose = tt
-rose_shown Unsupervised f g rose = tt
-rose_shown (TooLong bytes) f g rose = tt
-rose_shown (MailboxFull waiting) f g rose = tt
-rose_shown (StoreFull properties) f g rose = tt
-rose_shown Secured f g rose = tt
-rose_shown (QueueFull waiting) f g rose = tt
-rose_shown AlreadyJoined f g rose = tt
-rose_shown KeeperFault f g rose = rose refl
-rose_shown NoMemory f g rose = tt
-
-pub rose_entered : (refused : Refused) (entered : Refusal) (f g : ℕ) → shown refused ≡ Some entered → (refused ≡ KeeperFault → Rose f g) → RoseIf (is_keeper_fault entered) f g
-rose_entered refused entered f g is rose = subst (λ (x : Option Refusal). RoseIf (fault_in x) f g) is (rose_shown refused f g rose)
-
--- a rule that applies
-by_rule : (rule : Option Refused) (refused : Refused) (entered : Refusal) → rule ≡ Some refused → shown refused ≡ Some entered → IsRefusedBy rule entered
-by_rule rule refused entered is seen = subst (λ (x : Option Refused). IsRefusedBy x entered) (sym is) seen
 
 fair_rose : (rule : Option Refused) (refused : Refused) (f : ℕ) → is_fault rule ≡ false → rule ≡ Some refused → refused ≡ KeeperFault → Rose f f
 fair_rose rule refused f fair is fault =
@@ -273,43 +236,6 @@ refused_done line these entered keys host host' o o' ds r r' before all f g same
       (subst (λ (x : HostParts). Run (refuses line entered ∷ []) (scene_of keys host o ds (shelf_of r f) before) (scene_of keys x o' ds (shelf_of r g) all)) (sym same)
       (ran_refuses line entered keys host o o' ds r before all f g may goes rose falls)),
 )
-
-given_is : (entered : Refusal) → Some keeper_fault ≡ Some entered → entered ≡ keeper_fault
-given_is entered is = sym (ap given is)
-
--- a rule refuses, or the keeper failed
-unkept : (rule : Option Refused) (why : Refused) (entered : Refusal) → shown why ≡ Some entered → why ≡ KeeperFault → rule ≡ None → IsRefusedOrUnkept rule entered
-unkept rule why entered seen fault none = inr (none, given_is entered (sym (ap shown fault) ∙ seen))
-
-unseen : {A : Type 0} (why : Refused) (entered : Refusal) → shown why ≡ Some entered → why ≡ NoMemory → A
-unseen why entered seen none = absurd (subst IsNothing (sym (ap shown none) ∙ seen) tt)
-
-pub judged_as : (answer : Result ℕ Refused) (why : Refused) (rule : Option Refused) (entered : Refusal) → answer ≡ Err why → shown why ≡ Some entered → Judges answer rule → IsRefusedOrUnkept rule entered
-judged_as answer why rule entered is seen judges = split (subst (λ (x : Result ℕ Refused). Judges x rule) is judges)
-  where
-    split : Judges (Err why) rule → IsRefusedOrUnkept rule entered
-    split (inl by) = inl (by_rule rule why entered by seen)
-    split (inr (inl none)) = unseen why entered seen none
-    split (inr (inr fault)) = unkept rule why entered seen fault.0 fault.1
-
-pub kept_as : (why : Refused) (rule : Option Refused) (entered : Refusal) → shown why ≡ Some entered → KeptOrRefused {A = Unit {0}} (Err why) rule → IsRefusedOrUnkept rule entered
-kept_as why rule entered seen (inl by) = inl (by_rule rule why entered by seen)
-kept_as why rule entered seen (inr (none, inl fault)) = unkept rule why entered seen fault none
-kept_as why rule entered seen (inr (none, inr no_memory)) = unseen why entered seen no_memory
-
--- the same of a command that is not cancelled
-pub uncancelled_as : (A : Type 0) (h : HostState) (command : ℕ) (fault : CancelFault) (entered : Refusal) → shown_uncancelled command fault ≡ Some entered → CancelsOrNot {A = A} (Err fault) (Waits h command) → IsUncancelled h command entered
-uncancelled_as A h command cancel.NotWaiting entered seen judges = inl (judges, sym (ap given seen))
-uncancelled_as A h command cancel.KeeperFault entered seen judges = inr (judges, sym (ap given seen))
-uncancelled_as A h command cancel.NoMemory entered seen judges = absurd (subst IsNothing seen tt)
-
-pub uncancelled_rose : (command : ℕ) (fault : CancelFault) (entered : Refusal) (f g : ℕ) → shown_uncancelled command fault ≡ Some entered → (fault ≡ cancel.KeeperFault → Rose f g) → RoseIf (is_keeper_fault entered) f g
-uncancelled_rose command fault entered f g seen rose = subst (λ (x : Option Refusal). RoseIf (fault_in x) f g) seen (by_fault fault rose)
-  where
-    by_fault : (fault : CancelFault) → (fault ≡ cancel.KeeperFault → Rose f g) → RoseIf (fault_in (shown_uncancelled command fault)) f g
-    by_fault cancel.NotWaiting rose = tt
-    by_fault cancel.KeeperFault rose = rose refl
-    by_fault cancel.NoMemory rose = tt
 
 -- a node joins: the host, and then the air and the chip
 pub joins : (node : ℕ) (keys : Keys) (host host' : HostParts) (o o' : OuterState) (ds : List State) (r r' : Option (List (List ℕ))) (before : List Entry) (f g : ℕ)

@@ -26,7 +26,8 @@ use Rattle.outside_model.proofs.EventLists.{ran_both as ran_both_outside}
 use Rattle.world_model.specs.State.{Machine, machine}
 use Rattle.world_model.specs.Refusals.{IsUnopened, HasBad}
 use Rattle.world_model.specs.Events.{Event, Outside_does, Refuses, Restarts, OpensFrom, happens, entries, May}
-use Rattle.world_model.specs.Did.{Nothing, Run, Does, Stops, is_keeper_fault}
+use Rattle.world_model.specs.Did.{Nothing, Run, Does, Stops}
+use Rattle.host_model.specs.Refusals.{is_keeper_fault}
 use Rattle.world_model.specs.Prefixes.{RestartPrefix}
 use Rattle.world_model.specs.Lines.{IsRestart, restart_events}
 use Rattle.world_model.proofs.EventLists.{counted_kept, ran_both, stopped_later}
@@ -36,7 +37,7 @@ use Rattle.world_step.proofs.Scenes.{stopped_still}
 use Rattle.zw_world.specs.Effects.{ClearsInPart, shown_unopened}
 use Rattle.world_model.proofs.Hosting.{stopped_by}
 use Rattle.zw_world.proofs.Scenes.{ran_refuses, none_more, did_as}
-use Rattle.zw_world.proofs.Asking.{fault_in, IsNothing}
+use Rattle.host_core.proofs.Refusing.{fault_in, IsNothing}
 use Rattle.host_core.specs.Calls.{shelf_of}
 
 -- ---- the new host

@@ -19,7 +19,8 @@ use Rattle.outside_model.specs.Schedules.{IsOne as IsOneOutside}
 use Rattle.world_model.specs.State.{Machine, machine, with_outside}
 use Rattle.world_model.specs.Refusals.{IsRefused}
 use Rattle.world_model.specs.Events.{Event, Outside_does, Refuses, happens, entries, May}
-use Rattle.world_model.specs.Did.{Schedule, Scene, Run, Does, PrefixOf, Stops, These, is_keeper_fault}
+use Rattle.world_model.specs.Did.{Schedule, Scene, Run, Does, PrefixOf, Stops, These}
+use Rattle.host_model.specs.Refusals.{is_keeper_fault}
 use Rattle.world_model.specs.Settling.{Outside as OutsideOf}
 use Rattle.world_model.proofs.EventLists.{counted_one}
 use Rattle.world_model.proofs.Outside.{ran_outside}

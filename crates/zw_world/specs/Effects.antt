@@ -1,20 +1,18 @@
 -- What calls of the world tell of the effect of a line (this project's own).
-use Rattle.std.specs.Prelude.{◌≡◌, ◌⊎◌, ℕ, Bool, true, false, List, [], ◌∷◌, Option, Some, None, Result, Ok, Err}
+use Rattle.std.specs.Prelude.{◌≡◌, ◌⊎◌, Bool, true, false, List, [], ◌∷◌, Option, Some, None, Result, Ok, Err}
 use Rattle.zw_words.specs.declared.side.Side.TheVariants as side
 use Rattle.zw_text.specs.declared.line.Line.{Line}
 use Rattle.zw_text.specs.declared.line.Line.TheVariants.{Command, Join, Cancel, Restart, Repeat, Wake, Local, Show, Tick, Cut, Stall, Drop, Garble, Collide, Lose, LoseAck, Link, Unlink, Discover, Neighbours as neighbours, Failed as failed, Probe as probe}
 use Rattle.zw_text.specs.declared.entry.Entry.{Entry}
 use Rattle.zw_text.specs.declared.entry.Entry.TheVariants.{Refused as refused_entry}
 use Rattle.zw_text.specs.declared.entry.Refusal.{Refusal}
-use Rattle.zw_text.specs.declared.entry.Refusal.TheVariants.{NotWaiting, KeeperFault, BadRecord}
+use Rattle.zw_text.specs.declared.entry.Refusal.TheVariants.{KeeperFault, BadRecord}
 use Rattle.host_orders.specs.declared.refused.Refused.{Refused}
 use Rattle.host_model.specs.Asking.{places_refusal}
 use Rattle.host_core.specs.declared.orders.Question.{Question}
 use Rattle.host_core.specs.declared.orders.Question.TheVariants.{Members, Neighbours, Failed, Probe}
 use Rattle.host_core.specs.declared.opening.OpenFault.{OpenFault}
 use Rattle.host_core.specs.declared.opening.OpenFault.TheVariants as opening
-use Rattle.host_core.specs.declared.orders.CancelFault.{CancelFault}
-use Rattle.host_core.specs.declared.orders.CancelFault.TheVariants as cancel
 use Rattle.host_core.specs.Orders.{places_of, question_event}
 use Rattle.outside_model.specs.State.{OuterState}
 use Rattle.outside_model.specs.Events.{Host_notes, Clears_pipe}
@@ -68,12 +66,6 @@ line_of Probe = probe
 -- a question is asked for, or refused
 abbrev pub IsAsked : Question → Schedule
 IsAsked question m events = Asks (places_refusal m.host.state (places_of question)) (line_of question) (question_event question) events
-
--- what is entered of a command that is not cancelled; an allocation failure is no refusal
-abbrev pub shown_uncancelled : ℕ → CancelFault → Option Refusal
-shown_uncancelled command cancel.NotWaiting = Some (NotWaiting command)
-shown_uncancelled command cancel.KeeperFault = Some KeeperFault
-shown_uncancelled command cancel.NoMemory = None
 
 -- on an allocation failure the bytes on their way to the chip are lost, and those to the host are not; or neither, and nothing is entered
 abbrev pub ClearsInPart : OuterState → List Entry → List Entry → Type 0

@@ -4,7 +4,7 @@ use Rattle.serial_frame.specs.Stream.{no_rest}
 use Rattle.s0_crypto.specs.declared.key_pair.Keys.{Keys}
 use Rattle.device_sim.specs.State.{State}
 use Rattle.zw_text.specs.declared.entry.Entry.{Entry}
-use Rattle.host_core.specs.Network.{keys_of}
+use Rattle.s0_crypto.specs.Sealing.{keys_of}
 use Rattle.host_model.specs.State.{HostParts, first_host}
 use Rattle.outside_model.specs.State.{OuterState, first_outer}
 use Rattle.world_model.specs.State.{Machine, machine}

@@ -146,7 +146,9 @@ impl World {
     // A Set that is not reported is asked for.
     fn send(&mut self, node: NodeId, word: Word, out: &mut List<Entry>) -> Result<(), NoMemory>
         ensures ok { OnOk result ((ds : Items State) (records : Option (Items (Items ℕ))) (faults : ℕ) →
-            Does (IsEffect (line.Send node word)) (scene self.old ds (shelf_of records faults) out.old.items) (scene self.new ds (shelf_of records faults) out.new.items)) }
+            Does (IsEffect (line.Send node word))
+            (scene self.old ds (shelf_of records faults) out.old.items)
+            (scene self.new ds (shelf_of records faults) out.new.items)) }
         ensures err { OnErr result (out.new.items ≡ out.old.items) }
     {
         let answer = self.sides.host.send(node, word);
@@ -156,7 +158,9 @@ impl World {
     // A Get is asked for.
     fn get(&mut self, node: NodeId, end: EndPoint, out: &mut List<Entry>) -> Result<(), NoMemory>
         ensures ok { OnOk result ((ds : Items State) (records : Option (Items (Items ℕ))) (faults : ℕ) →
-            Does (IsEffect (line.Get node end)) (scene self.old ds (shelf_of records faults) out.old.items) (scene self.new ds (shelf_of records faults) out.new.items)) }
+            Does (IsEffect (line.Get node end))
+            (scene self.old ds (shelf_of records faults) out.old.items)
+            (scene self.new ds (shelf_of records faults) out.new.items)) }
         ensures err { OnErr result (out.new.items ≡ out.old.items) }
     {
         let answer = self.sides.host.get(node, end);
@@ -166,7 +170,9 @@ impl World {
     // An interview is asked for.
     fn interview(&mut self, node: NodeId, out: &mut List<Entry>) -> Result<(), NoMemory>
         ensures ok { OnOk result ((ds : Items State) (records : Option (Items (Items ℕ))) (faults : ℕ) →
-            Does (IsEffect (line.Interview node)) (scene self.old ds (shelf_of records faults) out.old.items) (scene self.new ds (shelf_of records faults) out.new.items)) }
+            Does (IsEffect (line.Interview node))
+            (scene self.old ds (shelf_of records faults) out.old.items)
+            (scene self.new ds (shelf_of records faults) out.new.items)) }
         ensures err { OnErr result (out.new.items ≡ out.old.items) }
     {
         let answer = self.sides.host.interview(node);
@@ -186,7 +192,9 @@ impl World {
     // The chip's table becomes the live links between known nodes, and then the members are asked for.
     fn discover(&mut self, out: &mut List<Entry>) -> Result<(), NoMemory>
         ensures ok { OnOk result ((ds : Items State) (records : Option (Items (Items ℕ))) (faults : ℕ) →
-            Does (IsEffect line.Discover) (scene self.old ds (shelf_of records faults) out.old.items) (scene self.new ds (shelf_of records faults) out.new.items)) }
+            Does (IsEffect line.Discover)
+            (scene self.old ds (shelf_of records faults) out.old.items)
+            (scene self.new ds (shelf_of records faults) out.new.items)) }
         ensures err { OnErr result (out.new.items ≡ out.old.items) }
     {
         self.sides.outer.discover();
@@ -248,7 +256,9 @@ impl World {
     // The stored values of a node are shown.
     fn store(&mut self, node: NodeId, out: &mut List<Entry>) -> Result<(), NoMemory>
         ensures ok { OnOk result ((ds : Items State) (records : Option (Items (Items ℕ))) (faults : ℕ) →
-            Does (IsEffect (line.Store node)) (scene self.old ds (shelf_of records faults) out.old.items) (scene self.new ds (shelf_of records faults) out.new.items)) }
+            Does (IsEffect (line.Store node))
+            (scene self.old ds (shelf_of records faults) out.old.items)
+            (scene self.new ds (shelf_of records faults) out.new.items)) }
         ensures err { OnErr result (out.new.items ≡ out.old.items) }
     {
         let text = self.sides.host.json(self.sides.alloc, node)?;

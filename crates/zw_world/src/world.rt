@@ -28,7 +28,7 @@ impl Model for World {
     ghost use Rattle.std.specs.Coded.{codes};
     ghost use Rattle.value_store.specs.Values.{values_code};
     ghost use Rattle.route_table.specs.Network.{network_code};
-    ghost use Rattle.host_core.specs.Network.{keys_of};
+    ghost use Rattle.s0_crypto.specs.Sealing.{keys_of};
     ghost use Rattle.zw_world.specs.World.{WorldState};
 
     ghost Value = { WorldState };

@@ -6,7 +6,8 @@ mod gathering;
 mod opening;
 mod records;
 
-ghost use Rattle.std.specs.Prelude.{◌<◌, ◌^◌, length};
+ghost use Rattle.std.specs.Prelude.{◌≡◌, ◌<◌, ◌^◌, length, map};
+ghost use Rattle.proof_commands.specs.Mesh.{mesh};
 
 use crate::devices::{FIRST, KEY, LAST, Made, make_device};
 use crate::gathering::{Gathered, GatheringSink, MOST_WAITING, WritingSource, write_waiting};
@@ -17,12 +18,11 @@ use proof_commands::run;
 use run_all::ChaChaDraw;
 use run_lines::Status;
 use run_words::USAGE;
-use std::alloc::Global;
 use std::cell::RefCell;
 use std::env;
 use std::io::ErrorKind;
 use std::process::ExitCode;
-use zw_base::{Failed, NoMemory, Sink, Source, StdSink, StdSource, read_node};
+use zw_base::{Failed, NoMemory, StdSink, StdSource, read_node};
 
 fn main(rt: HostRuntime) -> ExitCode {
     let status = match start(&rt) {
@@ -45,7 +45,10 @@ fn start(rt: &HostRuntime) -> Result<Status, Status> {
         None => None,
     };
     let mut records = make_records(rt, name)?;
-    let status = run_over_standard(rt, words, &mut records);
+    let status = match run_with_devices(rt, words, &mut records) {
+        Ok(status) => status,
+        Err(NoMemory) => Status::NoMemory,
+    };
     if let Some(name) = name {
         say_faults(rt, name, records.faults());
     }
@@ -69,36 +72,18 @@ fn words_of(rt: &HostRuntime) -> Result<Vec<String>, Status> {
     Ok(words)
 }
 
-// Runs the command over the real input and output.
-fn run_over_standard(rt: &HostRuntime, words: &[String], records: &mut Records) -> Status {
-    let most = if is_host(words) { 0 } else { MOST_WAITING };
-    let gathered = RefCell::new(Gathered::new(rt.alloc(), StdSink::new(rt.stdout()), most));
-    let mut source = WritingSource::new(StdSource::new(rt.stdin()), &gathered);
-    let mut sink = GatheringSink::new(&gathered);
-    let status = match run_with_devices(rt.alloc(), words, &mut source, &mut sink, records) {
-        Ok(status) => status,
-        Err(NoMemory) => Status::NoMemory,
-    };
-    match write_waiting(&gathered) {
-        Err(Failed) if status != Status::NoMemory => Status::WriteFault,
-        _ => status,
-    }
-}
-
 // Makes a device for each node, and runs the command over them.
-fn run_with_devices<S: Source, K: Sink>(
-    alloc: Global,
+fn run_with_devices(
+    rt: &HostRuntime,
     words: &[String],
-    source: &mut S,
-    sink: &mut K,
     records: &mut Records,
 ) -> Result<Status, NoMemory> {
-    let mut devices: Vec<Box<dyn Device>> = Vec::new(alloc);
+    let mut devices: Vec<Box<dyn Device>> = Vec::new(rt.alloc());
     for number in FIRST..=LAST {
         let Some(node) = read_node(number) else {
             continue;
         };
-        let device: Box<dyn Device> = match make_device(alloc, node)? {
+        let device: Box<dyn Device> = match make_device(rt.alloc(), node)? {
             Made::Recorder(device) => device,
             Made::Configurable(device) => device,
             Made::Relay(device) => device,
@@ -111,20 +96,36 @@ fn run_with_devices<S: Source, K: Sink>(
         };
         devices.push(device)?;
     }
-    Ok(run_over(alloc, words, source, sink, &mut devices, records))
+    Ok(run_over_standard(rt, words, &mut devices, records))
 }
 
-// Runs the command over these devices.
-fn run_over<S: Source, K: Sink>(
-    alloc: Global,
+// Runs the command over these devices, and the real input and output.
+fn run_over_standard(
+    rt: &HostRuntime,
     words: &[String],
-    source: &mut S,
-    sink: &mut K,
     devices: &mut Vec<Box<dyn Device>>,
     records: &mut Records,
 ) -> Status
-    requires { length devices.old.items < 2 ^ 64 }
+    requires few { length devices.old.items < 2 ^ 64 }
+    requires made { map (λ d. state d) devices.old.items ≡ mesh KEY }
 {
+    let most = if is_host(words) { 0 } else { MOST_WAITING };
+    let gathered = RefCell::new(Gathered::new(rt.alloc(), StdSink::new(rt.stdout()), most));
+    let mut source = WritingSource::new(StdSource::new(rt.stdin()), &gathered);
+    let mut sink = GatheringSink::new(&gathered);
     let mut draw = ChaChaDraw::new([0; 32]);
-    run(alloc, words, source, sink, devices, KEY, &mut draw, records)
+    let status = run(
+        rt.alloc(),
+        words,
+        &mut source,
+        &mut sink,
+        devices,
+        KEY,
+        &mut draw,
+        records,
+    );
+    match write_waiting(&gathered) {
+        Err(Failed) if status != Status::NoMemory => Status::WriteFault,
+        _ => status,
+    }
 }

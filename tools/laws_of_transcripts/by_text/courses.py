@@ -191,7 +191,7 @@ def goes_on(link, event, own):
     """Each way in which a side goes on up to an event."""
     if event.name != "SerialEvent.Writes":
         return [link] if link.ends() else []
-    side, unit, arriving = event.fields
+    side, unit, arriving, _ = event.fields
     if side.name == own:
         return link.ways(tuple(unit))
     link.ahead += [tuple(one) for one in tuple_of(arriving)]

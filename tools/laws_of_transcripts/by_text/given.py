@@ -289,7 +289,7 @@ def line_at(words):
 
 
 def line_of(words):
-    """The same, made anew."""
+    """The same, made anew: bytes of the chip are no line of a scenario."""
     if not words:
         return ok(NONE)
     word, values = words[0], words[1:]
@@ -305,8 +305,8 @@ def line_of(words):
         return ok(some(WORLD.variant("Line.Send", int(values[0]), values[1])))
     if word == "get":
         return ok(some(WORLD.variant("Line.Get", *end_point_of(values[0]))))
-    if word == "chip":
-        return ok(some(WORLD.variant("Line.Chip", tuple(bytes.fromhex(values[0])))))
+    if word not in WITH_NUMBERS:
+        return WORLD.variant("Err", 0)
     return ok(some(WORLD.variant("Line." + WITH_NUMBERS[word], *(int(value) for value in values))))
 
 

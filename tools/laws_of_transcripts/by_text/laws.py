@@ -100,6 +100,7 @@ def test_of(path, wants, heeds, key):
 
 DEPTH, STACK = 200000, 1 << 29
 LINKS = ("HearsInTime", "TicksInTime", "CollidesAsTold", "WritesThere")
+ROOM = ("FindsRoom",)
 
 
 def ended(entries):
@@ -110,14 +111,14 @@ def ended(entries):
 Broken = namedtuple("Broken", "law whole part place entry")
 
 
-def links_broken(entries, side):
-    """Where `KeepsLink` breaks: a part of it and the place of an event of the serial line, where it breaks with all steps that were found; and the moments."""
+def links_broken(entries, side, laws=LINKS):
+    """Where `KeepsLink` breaks, or what `KeepsLinks` says besides: a part of it and the place of an event of the serial line, where it breaks with all steps that were found; and the moments."""
     events = tuple_of(NAMES.get("law_wire.specs.Serial.serial_events").code(entries))
     found, place = parts_of(NAMES, events, side.name == "Side.Chip")
     first = (("writes", place), None)
     for parts in found:
         moments = moments_of(events, parts)
-        broken = moments_broken(moments, side)
+        broken = moments_broken(moments, side, laws)
         if broken is None:
             return None, moments
         if parts is found[0]:
@@ -125,9 +126,9 @@ def links_broken(entries, side):
     return first
 
 
-def moments_broken(moments, side):
+def moments_broken(moments, side, laws):
     """The same of these moments."""
-    for name in LINKS:
+    for name in laws:
         claim = NAMES.get("law_wire.specs.Links." + name).code
         for place, (past, one) in enumerate(steps_of(moments)):
             if not (claim(side, one) if name == "WritesThere" else claim(side, past, one)):
@@ -218,7 +219,7 @@ class Reading:
         """Both links, and what a restart clears."""
         last, moments = ended(entries) if self.whole else entries, []
         for side in "ch":
-            broken, found = links_broken(last, SIDES[side])
+            broken, found = links_broken(last, SIDES[side], LINKS + ROOM)
             moments.append(found)
             if broken:
                 self.breaks("KeepsLinks", "IsLegal", broken[0], broken[1], "side %s, by events of the line" % side)

@@ -32,4 +32,4 @@ pub returns-in_ok-give-in-None-clause-ok : goal.returns-in_ok-give-in-None-claus
 returns-in_ok-give-in-None-clause-ok g c =
     let a : Scene = scene c.args.core.now.state c.args.out.now.items (g.P.Keeper.shelf c.args.keeper.now) in
     let b : Scene = scene c.give.new.core.state c.give.new.out.items (g.P.Keeper.shelf c.give.new.keeper) in
-    nonce_given c.args.node c.draw_bytes-drawn.result c.in_ok-give-in-None.field-0 a b (sym c.live.ensures ∙ c.in-None.is) (search rules) c.draw_bytes-drawn.ensures c.in_ok-give-in-None.ensures.in_range c.in_ok-give-in-None.ensures.kept (ap (λ (p : HostParts). p.state) c.in_ok-give-in-None.ensures.state) c.in_ok-give-in-None.ensures.outs c.give.ensures.never_falls
+    nonce_given c.args.node c.draw_bytes-drawn.result c.in_ok-give-in-None.field-0 a b (sym c.live.ensures ∙ c.in-None.is) (search rules) c.draw_bytes-drawn.ensures.bytes c.in_ok-give-in-None.ensures.in_range c.in_ok-give-in-None.ensures.kept (ap (λ (p : HostParts). p.state) c.in_ok-give-in-None.ensures.state) c.in_ok-give-in-None.ensures.outs c.give.ensures.never_falls

@@ -1,5 +1,5 @@
 -- What is kept of a session that has not ended is what the life shows, of each node, and its message is due again.
-use Rattle.std.proofs.Common.{◌≡◌, ℕ, ◌==◌, Bool, true, false, if◌then◌else◌, List, [], ◌∷◌, ◌++◌, inl, refl, sym, ap, subst, ◌∙◌}
+use Rattle.std.proofs.Common.{◌≡◌, ℕ, ◌==◌, Bool, true, if◌then◌else◌, List, [], ◌∷◌, ◌++◌, inl, refl, sym, ap, subst, ◌∙◌}
 use Rattle.std.specs.Prelude.{Some, None, Option, IfSome}
 use Rattle.std.specs.List.{AllByRecursion, list_any}
 use Rattle.zw_words.specs.declared.side.Side.TheVariants.{Host}

@@ -24,7 +24,7 @@ use Rattle.law_host.specs.Heard.{heard_by_host}
 use Rattle.law_host.specs.HostLegal.{ShowsValues}
 use Rattle.law_host.specs.Notes.{NotesWhatHappens, first_start}
 use Rattle.law_host.specs.Worked.{all_kept}
-use Rattle.law_wire.proofs.Judging.{keeps_link}
+use Rattle.law_wire.proofs.Judging.{both_links, keeps_link}
 use Rattle.law_wire.proofs.Moves.{acts_of}
 use Rattle.law_transcript.proofs.Computing.{computing_devices}
 use Rattle.law_time.proofs.Computing.{computing}
@@ -37,12 +37,11 @@ whole = ended true plain_exchange
 
 -- the host starts once, so nothing is lost
 clears : ClearsLine true plain_exchange
-unfolding computing keeps_link
+unfolding computing keeps_link both_links
 clears = record {
-  links = record {
-    chip = keeps_link Chip whole (acts_of Chip whole) refl refl refl refl refl;
-    host = keeps_link Host whole (acts_of Host whole) refl refl refl refl refl;
-  };
+  links = both_links true plain_exchange
+      (keeps_link Chip whole (acts_of Chip whole) refl refl refl refl refl)
+      (keeps_link Host whole (acts_of Host whole) refl refl refl refl refl) refl refl;
   each = tt;
   only = refl;
 }

@@ -3,7 +3,7 @@ use Rattle.std.proofs.Common.{◌≡◌, Bool, true, false, ℕ, List, [], ◌�
 use Rattle.std.specs.Prelude.{Option, Some, None, drop, take}
 use Rattle.std.proofs.Math.Seq.{take-append_seam}
 use Rattle.std.specs.List.{AllByRecursion}
-use Rattle.device_kinds.specs.Sealing.{keys_of, sealed_text, unsealed_at}
+use Rattle.s0_crypto.specs.Sealing.{keys_of, sealed_text, unsealed_at}
 use Rattle.host_heard.specs.Telling.{heard_at}
 use Rattle.zw_text.specs.declared.entry.Entry.{Entry}
 use Rattle.law_host.specs.Following.{ended_whole}
@@ -11,7 +11,7 @@ use Rattle.law_host.specs.Messages.{Hearing}
 use Rattle.law_host.specs.Nonces.{IsOffer, IsOpening, UsesNonces}
 use Rattle.law_host.specs.Course.{Course}
 use Rattle.law_host.specs.Notes.{course_of, first_start}
-use Rattle.law_host.specs.Worked.{after_counting, after_nonce_asked, first_given, given_new, given_otherwise, given_skipped, new_over_restart, nonce_again, other_given, sealed_left_out, sealed_over_restart, unopened_left_out}
+use Rattle.law_host.specs.Worked.{after_counting, after_nonce_asked, first_given, given_new, given_otherwise, given_skipped, new_over_restart, nonce_again, sealed_left_out, sealed_over_restart, unopened_left_out}
 use Rattle.law_transcript.specs.Worked.{network_key, the_lock}
 use Rattle.law_transcript.proofs.Deciding.{not_true}
 use Rattle.law_transcript.proofs.Sealing.{changed_code, opened_changed, opened_report, other_nonce, report_code, report_ends, report_nonce, report_plain, report_with, sealed_otherwise, set_code, set_ends, set_own, set_plain, set_with}

@@ -2,7 +2,7 @@ use Rattle.law_time.specs.Heeds.{heeds_of}
 use Rattle.std.proofs.Common.{[], ◌∷◌, refl}
 use Rattle.std.specs.Prelude.{drop}
 use Rattle.law_host.specs.Notes.{first_start}
-use Rattle.law_host.specs.Worked.{after_begun, after_later_nonce, after_lock_begun, after_sessions, after_sleeper_begun, after_values, after_waking, all_kept, begun_unkept, failure_told, held_at_failure, last_session, other_told, told_openly, unread_payload, unread_sealed, unsupported_told, value_heard, value_unstored, woken, work_told}
+use Rattle.law_host.specs.Worked.{after_begun, after_later_nonce, after_lock_begun, after_sessions, after_sleeper_begun, after_values, after_waking, all_kept, begun_unkept, failure_told, held_at_failure, last_session, other_told, report_refused, told_openly, unread_payload, unread_sealed, unsupported_told, value_heard, value_unstored, woken, work_told}
 use Rattle.law_time.specs.WorkedEnds.{asleep_given_up, asleep_in_silence, given_up_at_answer, interview_refused, interview_uninformed}
 use Rattle.law_time.specs.WorkedTurns.{dropped_after_report}
 use Rattle.law_time.specs.WorkedWaits.{answered_errands, waited_attempts}
@@ -102,6 +102,10 @@ returns-clause-unstored c = noted [] (heeds_of (the_switch ∷ [])) after_values
 pub returns-clause-working : goal.returns-clause-working
 unfolding computing
 returns-clause-working c = noted [] (heeds_of (the_switch ∷ [])) after_begun work_told all_kept refl
+
+pub returns-clause-changed : goal.returns-clause-changed
+unfolding computing
+returns-clause-changed c = noted [] (heeds_of (the_switch ∷ [])) after_begun report_refused all_kept refl
 
 pub returns-clause-none_live : goal.returns-clause-none_live
 unfolding computing

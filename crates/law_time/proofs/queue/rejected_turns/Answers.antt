@@ -1,9 +1,11 @@
 use Rattle.law_time.specs.Heeds.{heeds_of}
-use Rattle.std.proofs.Common.{[], ◌∷◌, refl}
+use Rattle.std.proofs.Common.{[], ◌∷◌, codes, refl}
 use Rattle.law_time.specs.Choice.{may_send}
 use Rattle.law_time.specs.WrongBetween.{told_again_as_chip_writes}
 use Rattle.law_time.specs.WrongQueue.{aborted_unasked, sent_before_abort, sent_before_report}
 use Rattle.law_time.specs.WrongRequests.{sent_out_of_turn, sent_unasked}
+use Rattle.law_time.specs.WorkedTurns.{asked_as_heard, asked_at_once}
+use Rattle.law_time.specs.WorkedWaits.{the_keeper}
 use Rattle.law_time.specs.WrongWaits.{told_while_waiting}
 use Rattle.zw_text.specs.declared.entry.Ended.TheVariants as endings
 use Rattle.law_wire.specs.law_transcript.Worked.{the_lock, the_sensor, the_switch, the_plug}
@@ -11,7 +13,7 @@ use Rattle.law_time.specs.WrongEntries.{sent_after_end}
 use Rattle.law_time.proofs.Computing.{computing}
 use Rattle.law_wire.proofs.Deciding.{broken}
 use Rattle.law_time.proofs.queue.rejected_turns.Goals as goal
-use Rattle.law_time.specs.WrongTurns.{asked_over_restart, probed_out_of_turn, reported_unkept, resent_beyond, resent_inside, resent_of_other, resent_of_plain, resent_when_ended, sent_again, sent_asleep, sent_by_other_command, sent_by_other_waking, sent_by_refused_restart, sent_fifth, sent_for_nothing, sent_in_time, sent_over_restart, sent_refused, sent_to_other, sent_too_soon, sent_when_ended, told_asleep, told_listening, told_out_of_turn, told_though_held, told_unjoined, told_unknown, told_while_held, aborted_early}
+use Rattle.law_time.specs.WrongTurns.{asked_over_restart, probed_out_of_turn, reported_before_told, reported_unkept, resent_beyond, resent_inside, resent_of_other, resent_of_plain, resent_when_ended, sent_again, sent_asleep, sent_by_other_command, sent_by_other_waking, sent_by_refused_restart, sent_fifth, sent_for_nothing, sent_in_time, sent_over_restart, sent_refused, sent_to_other, sent_too_soon, sent_when_ended, told_asleep, told_before_report, told_listening, told_out_of_turn, told_though_held, told_unjoined, told_unknown, told_while_held, aborted_early}
 
 pub returns-clause-out_of_turn : goal.returns-clause-out_of_turn
 unfolding computing
@@ -168,3 +170,15 @@ returns-clause-aborted_early c = broken (may_send (heeds_of (the_switch ∷ []))
 pub returns-clause-again_as_chip_writes : goal.returns-clause-again_as_chip_writes
 unfolding computing
 returns-clause-again_as_chip_writes c = broken (may_send (heeds_of (the_switch ∷ the_sensor ∷ []))) told_again_as_chip_writes refl
+
+pub returns-clause-before_nonce : goal.returns-clause-before_nonce
+unfolding computing
+returns-clause-before_nonce c = broken (may_send (heeds_of (the_keeper ∷ []))) (told_before_report (asked_at_once (codes "chip"))) refl
+
+pub returns-clause-before_nonce_heard : goal.returns-clause-before_nonce_heard
+unfolding computing
+returns-clause-before_nonce_heard c = broken (may_send (heeds_of (the_keeper ∷ []))) (told_before_report (asked_as_heard (codes "chip"))) refl
+
+pub returns-clause-in_two_lines : goal.returns-clause-in_two_lines
+unfolding computing
+returns-clause-in_two_lines c = broken (may_send (heeds_of (the_keeper ∷ []))) reported_before_told refl

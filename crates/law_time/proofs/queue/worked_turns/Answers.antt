@@ -1,5 +1,5 @@
 use Rattle.law_time.specs.Heeds.{heeds_of}
-use Rattle.std.proofs.Common.{[], ◌∷◌, refl}
+use Rattle.std.proofs.Common.{[], ◌∷◌, codes, refl}
 use Rattle.law_time.specs.Choice.{may_send}
 use Rattle.law_time.specs.WorkedBetween.{told_after_restart, told_as_chip_writes}
 use Rattle.law_time.specs.WorkedQueue.{resent_segments, silent_attempt}
@@ -9,7 +9,7 @@ use Rattle.law_time.proofs.Computing.{computing}
 use Rattle.law_wire.proofs.Deciding.{kept}
 use Rattle.law_time.proofs.queue.worked_turns.Goals as goal
 use Rattle.law_time.specs.WorkedEnds.{aborted_at_fourth}
-use Rattle.law_time.specs.WorkedTurns.{again_after_cancelled, again_by_command, again_by_restart, again_by_waking, again_in_time, asked_after_abort, asked_after_unkept, asked_over_refused, asked_without_abort, discovered, first_resent, nonce_reported, probed, reported_beside_unkept, second_resent, told_again, told_awake, told_by_number, told_by_time, told_held, told_unheld, told_once, told_twice, told_as_numbered, told_by_time_as_numbered, copied_after_overrun, asked_after_interview}
+use Rattle.law_time.specs.WorkedTurns.{again_after_cancelled, again_by_command, again_by_restart, again_by_waking, again_in_time, asked_as_heard, asked_at_once, asked_after_abort, asked_after_unkept, asked_over_refused, both_frames, asked_without_abort, discovered, first_resent, nonce_reported, probed, reported_beside_unkept, second_resent, told_after_report, told_again, told_awake, told_by_number, told_by_time, told_held, told_unheld, told_once, told_twice, told_as_numbered, told_by_time_as_numbered, copied_after_overrun, asked_after_interview}
 
 pub returns-clause-lines : goal.returns-clause-lines
 unfolding computing
@@ -182,3 +182,15 @@ returns-clause-as_chip_writes c = kept (may_send (heeds_of (the_switch ∷ the_s
 pub returns-clause-after_restart : goal.returns-clause-after_restart
 unfolding computing
 returns-clause-after_restart c = kept (may_send (heeds_of (the_keeper ∷ []))) told_after_restart refl
+
+pub returns-clause-in_one_line : goal.returns-clause-in_one_line
+unfolding computing
+returns-clause-in_one_line c = kept (may_send (heeds_of (the_keeper ∷ []))) (told_after_report (asked_at_once both_frames)) refl
+
+pub returns-clause-in_one_read : goal.returns-clause-in_one_read
+unfolding computing
+returns-clause-in_one_read c = kept (may_send (heeds_of (the_keeper ∷ []))) (told_after_report (asked_at_once (codes "chip"))) refl
+
+pub returns-clause-as_heard : goal.returns-clause-as_heard
+unfolding computing
+returns-clause-as_heard c = kept (may_send (heeds_of (the_keeper ∷ []))) (told_after_report (asked_as_heard (codes "chip"))) refl

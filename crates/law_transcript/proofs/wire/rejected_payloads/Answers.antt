@@ -1,7 +1,7 @@
 use Rattle.std.proofs.Common.{◌≡◌, ℕ, suc, ◌*◌, List, [], ◌∷◌, length, slice_index, refl, inl, inr, ap, subst, ◌∙◌, arith}
 use Rattle.std.specs.Prelude.{replicate, take, codes, ⊤}
 use Rattle.class_info.specs.InfoReading.{nonce_at}
-use Rattle.device_kinds.specs.Sealing.{sealed_text}
+use Rattle.s0_crypto.specs.Sealing.{sealed_text}
 use Rattle.host_heard.specs.Telling.{heard_at}
 use Rattle.host_heard.specs.declared.told.Told.{Told}
 use Rattle.host_heard.specs.declared.told.Told.TheVariants.{NonceGet, NonceReport}

@@ -9,7 +9,7 @@ use Rattle.law_wire.proofs.Computing.{reckoning}
 use Rattle.law_wire.proofs.NothingHeard.{answers_nothing, host_answers_nothing}
 use Rattle.law_wire.proofs.Overspeaking.{AreSame, writes_same}
 use Rattle.law_wire.proofs.Parts.{fill, all_texts, nothing_heard}
-use Rattle.law_wire.proofs.Rejecting.{no_answer, no_collision, fourth_early, fourth_late, third_early, third_late, too_early, too_late, kept_waits}
+use Rattle.law_wire.proofs.Rejecting.{no_answer, no_collision, no_overrun, fourth_early, fourth_late, third_early, third_late, too_early, too_late, kept_waits}
 use Rattle.law_wire.proofs.Silence.{BeginsFrame, silent}
 use Rattle.law_wire.proofs.links.rejected_links.Goals as goal
 
@@ -99,3 +99,9 @@ returns-clause-fourth_early c = λ law. fourth_early law.chip
 
 pub returns-clause-fourth_late : goal.returns-clause-fourth_late
 returns-clause-fourth_late c = λ law. fourth_late law.chip
+
+-- ---- a unit without room
+
+pub returns-clause-overrun : goal.returns-clause-overrun
+unfolding reckoning
+returns-clause-overrun c = λ law. no_overrun law.chip.parts law.chip.each law.up

@@ -1,7 +1,7 @@
 use Rattle.std.proofs.Common.{[], ap, ◌∙◌, arith}
 use Rattle.device_sim.specs.State.{State}
 use Rattle.device_sim.specs.Event.{Ticks}
-use Rattle.outside_step.proofs.Answered.{on_err}
+use Rattle.mesh_sim.proofs.StepLists.{on_err}
 use Rattle.outside_calls.proofs.Single.{entered}
 use Rattle.outside_calls.proofs.Ticking.{tick_keeps_node, has_told, has_acted}
 use Rattle.outside_calls.proofs.acting.tick_one.Goals as goal

@@ -1,4 +1,4 @@
-use Rattle.std.proofs.Common.{ap, length, arith}
+use Rattle.std.proofs.Common.{ap, length, refl, arith}
 use Rattle.port_run.proofs.Answered.{count_more}
 use Rattle.port_run.specs.Steps.{place}
 use Rattle.port_run.proofs.LineByLine.{no_line, one_line, lines_broke, lines_over}
@@ -10,8 +10,8 @@ loop-line-init g c = record {
   room = omega (arith, c.requires.room);
   count = ap length c.requires.empty;
   within = omega arith;
-  source_falls = omega arith;
-  sink_falls = omega arith;
+  source_same = refl;
+  sink_same = refl;
 }
 
 pub loop-line-preserved : goal.loop-line-preserved
@@ -21,8 +21,8 @@ loop-line-preserved g c = record {
   room = omega (arith, c.loop-line.invariant.room, c.put.ensures.room);
   count = count_more _ _ _ _ c.put.ensures.items c.loop-line.invariant.count;
   within = c.in-Ok.ensures.within;
-  source_falls = omega (arith, c.loop-line.invariant.source_falls, c.in-Ok.ensures.source_never_falls);
-  sink_falls = omega (arith, c.loop-line.invariant.sink_falls, c.in-Ok.ensures.sink_never_falls);
+  source_same = grind (arith, c.loop-line.invariant.source_same, c.in-Ok.ensures.source_uncounted);
+  sink_same = grind (arith, c.loop-line.invariant.sink_same, c.in-Ok.ensures.sink_uncounted);
 }
 
 pub returns-in-Err-clause-err : goal.returns-in-Err-clause-err

@@ -13,6 +13,6 @@ invariant-loop-line g l = record {
   room : length l.lines ≤ l.answers.room + l.line-index;
   count : length l.answers.items ≡ l.line-index;
   within : l.taken ≤ MAX_INPUT;
-  source_falls : g.S.Source.faults l.fn.source ≤ g.S.Source.faults l.source;
-  sink_falls : g.K.Sink.faults l.fn.sink ≤ g.K.Sink.faults l.sink;
+  source_same : g.S.Source.faults l.source ≡ g.S.Source.faults l.fn.source;
+  sink_same : g.K.Sink.faults l.sink ≡ g.K.Sink.faults l.fn.sink;
 }

@@ -1,17 +1,17 @@
-use Rattle.std.proofs.Common.{arith}
+use Rattle.std.proofs.Common.{arith, refl}
 use Rattle.port_run.specs.Steps.{place}
 use Rattle.port_run.proofs.StepLists.{went_nothing}
 use Rattle.port_run.proofs.Ticking.{ticks_went, ticks_broke, ticks_all}
 use Rattle.port_run.proofs.steps.tick_all.Goals as goal
 
 pub loop-init : goal.loop-init
-loop-init g c = record { went = λ l n. went_nothing (place c.args.host.now (g.P.Keeper.shelf c.args.keeper.now)) (g.K.Sink.written c.args.sink.now) l n; within = omega arith; falls = omega arith }
+loop-init g c = record { went = λ l n. went_nothing (place c.args.host.now (g.P.Keeper.shelf c.args.keeper.now)) (g.K.Sink.written c.args.sink.now) l n; within = omega arith; same = refl }
 
 pub loop-preserved : goal.loop-preserved
 loop-preserved g c = record {
   went = ticks_went c.loop.counter (place c.args.host.now (g.P.Keeper.shelf c.args.keeper.now)) (place c.loop.host (g.P.Keeper.shelf c.loop.keeper)) (place c.tick_and_pump.new.host (g.P.Keeper.shelf c.tick_and_pump.new.keeper)) (g.K.Sink.written c.args.sink.now) (g.K.Sink.written c.loop.sink) (g.K.Sink.written c.tick_and_pump.new.sink) c.loop.invariant.went c.in_default.ensures.ok;
   within = omega (arith, c.loop-test.true);
-  falls = omega (arith, c.loop.invariant.falls, c.in_default.ensures.never_falls);
+  same = grind (arith, c.loop.invariant.same, c.in_default.ensures.uncounted);
 }
 
 pub returns-in-Err-clause-err : goal.returns-in-Err-clause-err

@@ -7,16 +7,16 @@ pub loop-left-init : goal.loop-left-init
 loop-left-init g c = record {
   so_far = no_turn g.C.Clock.may_tell c.args.ticks (place c.args.host.now (g.P.Keeper.shelf c.args.keeper.now)) (g.K.Sink.written c.args.sink.now) (g.S.Source.left c.args.source.now) c.args.taken.now;
   within = c.requires;
-  source_falls = omega arith;
-  sink_falls = omega arith;
+  source_same = refl;
+  sink_same = refl;
 }
 
 pub loop-left-preserved : goal.loop-left-preserved
 loop-left-preserved g c = record {
   so_far = one_turn g.C.Clock.may_tell c.args.ticks c.loop-left.left _ c.in-Ok.passed (place c.args.host.now (g.P.Keeper.shelf c.args.keeper.now)) (place c.loop-left.host (g.P.Keeper.shelf c.loop-left.keeper)) (place c.turn.new.host (g.P.Keeper.shelf c.turn.new.keeper)) (g.K.Sink.written c.args.sink.now) (g.K.Sink.written c.loop-left.sink) (g.K.Sink.written c.turn.new.sink) (g.S.Source.left c.args.source.now) (g.S.Source.left c.loop-left.source) (g.S.Source.left c.turn.new.source) c.args.taken.now c.loop-left.taken c.turn.new.taken c.loop-left.invariant.so_far (omega (arith, c.loop-left-test.true)) refl c.in-Ok.ensures.ok;
   within = c.in-Ok.ensures.within;
-  source_falls = omega (arith, c.loop-left.invariant.source_falls, c.in-Ok.ensures.source_never_falls);
-  sink_falls = omega (arith, c.loop-left.invariant.sink_falls, c.in-Ok.ensures.sink_never_falls);
+  source_same = grind (arith, c.loop-left.invariant.source_same, c.in-Ok.ensures.source_uncounted);
+  sink_same = grind (arith, c.loop-left.invariant.sink_same, c.in-Ok.ensures.sink_uncounted);
 }
 
 pub returns-in-Err-clause-err : goal.returns-in-Err-clause-err

@@ -1,4 +1,4 @@
-use Rattle.std.proofs.Common.{◌+◌, ◌-◌, ◌≤◌, List}
+use Rattle.std.proofs.Common.{◌≡◌, ◌+◌, ◌-◌, ◌≤◌, List}
 use Rattle.run_lines.specs.declared.reader.TheConstants.{MAX_INPUT}
 use Rattle.port_run.specs.Steps.{place, Step}
 use Rattle.port_run.specs.Schedule.{Waited}
@@ -11,8 +11,8 @@ invariant-loop-left g l = record {
       × Went steps (place l.fn.host (g.P.Keeper.shelf l.fn.keeper)) (place l.host (g.P.Keeper.shelf l.keeper))
       (g.K.Sink.written l.fn.sink) (g.K.Sink.written l.sink) (g.S.Source.left l.fn.source) (g.S.Source.left l.source) l.fn.taken l.taken;
   within : l.taken ≤ MAX_INPUT;
-  source_falls : g.S.Source.faults l.fn.source ≤ g.S.Source.faults l.source;
-  sink_falls : g.K.Sink.faults l.fn.sink ≤ g.K.Sink.faults l.sink;
+  source_same : g.S.Source.faults l.source ≡ g.S.Source.faults l.fn.source;
+  sink_same : g.K.Sink.faults l.sink ≡ g.K.Sink.faults l.fn.sink;
 }
 
 abbrev pub decreases-loop-left : goal.decreases-loop-left

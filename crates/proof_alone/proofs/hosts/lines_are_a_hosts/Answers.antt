@@ -7,8 +7,8 @@ use Rattle.proof_line.specs.world_lines.Done.{events_of}
 use Rattle.proof_line.proofs.SpokenLines.{all_lines, all_may, lines_of}
 use Rattle.proof_line.proofs.Where.{where_lead, where_whole}
 use Rattle.proof_alone.specs.State.{first_alone}
-use Rattle.proof_alone.specs.Reading.{IsFine, ReadsMarked}
-use Rattle.proof_alone.proofs.ReadingWalk.{Anything, all_fine, all_told, first_reads, keeper_told, reading_walk}
+use Rattle.proof_alone.specs.Reading.{Anything, IsFine, ReadsMarked}
+use Rattle.proof_alone.proofs.ReadingWalk.{all_fine, all_told, first_reads, keeper_told, reading_walk}
 use Rattle.proof_alone.proofs.hosts.lines_are_a_hosts.Goals as goal
 
 pub returns-clause-told : goal.returns-clause-told

@@ -1,7 +1,7 @@
 -- The walk goes along each run, from a host that has nothing to send.
 use Rattle.std.proofs.Common.{ℕ, List, [], refl}
 use Rattle.std.specs.Prelude.{Some}
-use Rattle.device_kinds.specs.Sealing.{keys_of}
+use Rattle.s0_crypto.specs.Sealing.{keys_of}
 use Rattle.zw_text.specs.declared.entry.Entry.{Entry}
 use Rattle.law_transcript.specs.Payloads.{SendsWhatIsDue}
 use Rattle.proof_known.specs.law_host.Heard.{listing_heard}

@@ -15,13 +15,13 @@ use Rattle.proof_attempts.proofs.Lasting.{law_along}
 use Rattle.proof_attempts.proofs.holds.hosts_hold_as_asked.Goals as goal
 
 pub returns : goal.returns
-returns c = λ keys hears told run.
-    law_along keys KnowsHeard KnowsUnowed
+returns c = λ keys told run.
+    (law_along keys KnowsHeard KnowsUnowed
     (λ here told m run. (
       (
         (run_keeps MayStand KnowsTables c.hosts_keep_their_tables.ensures.walk [] run (c.hosts_keep_their_tables.ensures.first keys)).1,
         (run_keeps (Allows may_wake) KnowsJudged c.hosts_judge_as_told.ensures.walk [] run (c.hosts_judge_as_told.ensures.first (first_alone keys (Some [])) refl)).1,
       ),
-      hears here told m run,
+      c.hosts_listen_as_told.ensures.run keys here told m run,
     ))
-    (Allows may_hold) (kept_walk (λ past e. Unit {0})) refl run.0 told run.1 run.2
+    (Allows may_hold) (kept_walk (λ past e. Unit {0})) refl run.0 told run.1 run.2).0

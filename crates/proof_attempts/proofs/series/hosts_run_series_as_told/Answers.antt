@@ -29,12 +29,12 @@ numbers_along keys tables first here told m run n =
     numbers_from n not_accepting [] told refl (each-weaker MayAnswer AsOrdered (λ past e may. may.order) [] told each)
 
 pub returns-clause-along : goal.returns-clause-along
-returns-clause-along c = λ keys hears.
+returns-clause-along c = λ keys.
     along keys KnowsSeries (KnowsSince RunsAsTold)
     (λ here told m run. (
       (
         (
-          (c.hosts_know_their_work.ensures keys here told m run, hears here told m run),
+          (c.hosts_know_their_work.ensures keys here told m run, c.hosts_listen_as_told.ensures.run keys here told m run),
           numbers_along keys c.hosts_keep_their_tables.ensures.walk (c.hosts_keep_their_tables.ensures.first keys) here told m run,
         ),
         (run_keeps MayStand (both_know KnowsTables (KnowsSince CountsAwake)) c.hosts_count_awake.ensures.walk [] run (c.hosts_count_awake.ensures.first keys)).1.1,
@@ -44,4 +44,4 @@ returns-clause-along c = λ keys hears.
     (since_walk RunsAsTold KnowsSeries runs_last) (first_runs keys)
 
 pub returns-clause-rests : goal.returns-clause-rests
-returns-clause-rests c = λ keys hears told m run n from to. (returns-clause-along c keys hears Resting told m run n from to).runs
+returns-clause-rests c = λ keys told m run n from to. (returns-clause-along c keys Resting told m run n from to).runs

@@ -1,7 +1,7 @@
 use Rattle.std.proofs.Common.{List, [], Some, refl, sym, ap, subst, ◌∙◌}
 use Rattle.s0_crypto.specs.declared.key_pair.Keys.{Keys}
 use Rattle.device_kinds.specs.Kind.{lists}
-use Rattle.device_kinds.specs.Sealing.{keys_of}
+use Rattle.s0_crypto.specs.Sealing.{keys_of}
 use Rattle.device_kinds.specs.declared.kind.Kind.{Kind}
 use Rattle.proof_device.specs.GoingOn.{AreSame, GoOn}
 use Rattle.proof_device.proofs.ShownChanges.{adds_by, stays_apart}

@@ -19,8 +19,14 @@ returns c = λ key old new. record {
     written = c.stories_tell_of_commands.ensures.written key old new;
     records = c.stories_leave_records.ensures key old new;
     sends = c.stories_send_what_is_due.ensures key old new;
-    wakes = c.stories_wake_as_told.ensures key old new;
-    questions = c.stories_answer_questions.ensures key old new;
+    wakes = c.stories_wake_as_told.ensures.wakes key old new;
+    sleeps = c.stories_wake_as_told.ensures.sleeps key old new;
+    holds = c.stories_wake_as_told.ensures.holds key old new;
+    questions = c.stories_answer_questions.ensures.questions key old new;
+    interviews = c.stories_answer_questions.ensures.interviews key old new;
+    says_done = c.stories_answer_questions.ensures.done key old new;
+    one_by_one = c.stories_ask_one_by_one.ensures.one key old new;
+    numbered = c.stories_ask_one_by_one.ensures.numbered key old new;
     heard = c.stories_are_heard.ensures key old new;
   };
   of_devices = record {

@@ -2,7 +2,7 @@
 use Rattle.std.proofs.Common.{◌≡◌, ℕ, List, [], ◌++◌, inl, inr, Some, Ok, ap, sym, subst, ◌∙◌}
 use Rattle.std.specs.List.{AllByRecursion}
 use Rattle.s0_crypto.specs.declared.key_pair.Keys.{Keys}
-use Rattle.device_kinds.specs.Sealing.{keys_of as device_keys}
+use Rattle.s0_crypto.specs.Sealing.{keys_of as device_keys}
 use Rattle.device_kinds.specs.Kind.{lists}
 use Rattle.device_kinds.specs.declared.kind.Kind.{Kind}
 use Rattle.device_sim.specs.State.{State}

@@ -1,7 +1,7 @@
 -- The lines of a story were said, and what hosts send has its reason in lines that were said.
 use Rattle.std.proofs.Common.{ℕ, List, [], Some}
 use Rattle.s0_crypto.specs.declared.key_pair.Keys.{Keys}
-use Rattle.device_kinds.specs.Sealing.{keys_of as device_keys}
+use Rattle.s0_crypto.specs.Sealing.{keys_of as device_keys}
 use Rattle.device_sim.specs.State.{State}
 use Rattle.zw_text.specs.declared.entry.Entry.{Entry}
 use Rattle.run_all.specs.host_core.Network.{keys_of}

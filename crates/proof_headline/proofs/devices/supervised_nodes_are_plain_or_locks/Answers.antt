@@ -1,6 +1,6 @@
 -- A plain device and a lock begin their courses; the orders for a plain node go unsealed.
 use Rattle.std.proofs.Common.{inl, inr}
-use Rattle.device_kinds.specs.Sealing.{keys_of}
+use Rattle.s0_crypto.specs.Sealing.{keys_of}
 use Rattle.proof_headline.proofs.Sorting.{plain_or_lock}
 use Rattle.proof_headline.proofs.devices.supervised_nodes_are_plain_or_locks.Goals as goal
 

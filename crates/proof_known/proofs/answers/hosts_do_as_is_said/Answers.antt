@@ -20,7 +20,7 @@ by_whole c keys true here told m run rests fine =
       carries = (c.hosts_answer_what_is_asked.ensures.told keys told (here, m, run)).1;
       stores = c.hosts_keep_what_is_said.ensures.stores keys told true (here, m, run);
       values = c.hosts_show_what_they_keep.ensures.whole keys told (m, at_rest);
-      records_kept = λ is. c.hosts_record_what_is_shown.ensures keys told m at_rest;
+      records_kept = λ is. c.hosts_record_what_is_shown.ensures.told keys told m at_rest;
     }
 by_whole c keys false here told m run rests fine = record {
   answers = c.hosts_answer_lines.ensures.told keys told (here, m, run) fine;

@@ -1,15 +1,18 @@
 -- From its start on, by its steps; and how these come.
 use Rattle.port_run.specs.Schedule.{is_quiet}
+use Rattle.proof_replay.proofs.LineHeard.{obeys}
 use Rattle.proof_replay.proofs.Orderly.{cut_orderly, run_orderly}
 use Rattle.proof_replay.proofs.Starting.{hears_more, none_before}
 use Rattle.proof_replay.proofs.port.served_steps_are_heard.Goals as goal
 
 pub returns-clause-first : goal.returns-clause-first
-returns-clause-first c = none_before
+returns-clause-first c =
+    none_before (obeys c.hosts_obey_the_line.ensures.first c.hosts_obey_the_line.ensures.opened c.hosts_obey_the_line.ensures.each c.hosts_obey_the_line.ensures.units)
 
 pub returns-clause-more : goal.returns-clause-more
 returns-clause-more c = λ keys number told past before place opens adds whole steps last outs orderly ran.
-    hears_more c.hosts_keep_laws.ensures keys number told past before place opens adds whole steps last outs orderly ran
+    hears_more c.hosts_keep_laws.ensures c.hosts_record_what_is_shown.ensures.open c.hosts_listen_as_told.ensures.run
+    (obeys c.hosts_obey_the_line.ensures.first c.hosts_obey_the_line.ensures.opened c.hosts_obey_the_line.ensures.each c.hosts_obey_the_line.ensures.units) keys number told past before place opens adds whole steps last outs orderly ran
 
 pub returns-clause-runs : goal.returns-clause-runs
 returns-clause-runs c = run_orderly is_quiet

@@ -3,11 +3,14 @@ use Rattle.std.proofs.Common.{◌≡◌, Bool, true, false, List, [], refl, subs
 use Rattle.std.specs.Prelude.{Some}
 use Rattle.s0_crypto.specs.declared.key_pair.Keys.{Keys}
 use Rattle.zw_text.specs.declared.entry.Entry.{Entry}
+use Rattle.law_time.specs.Waking.{FallsAsleep}
 use Rattle.proof_requests.specs.proof_alone.State.{HostMachine, first_alone}
 use Rattle.proof_requests.specs.proof_alone.Phases.{Phase, Resting}
 use Rattle.proof_requests.specs.proof_alone.Runs.{Run, Told, ToldWhole}
+use Rattle.law_transcript.specs.Payloads.{BeginsWithUnit}
+use Rattle.law_wire.specs.Serial.{ended}
 use Rattle.proof_asking.specs.proof_known.Noted.{NotesAtOnce, NotesInTurn}
-use Rattle.device_kinds.specs.Sealing.{keys_of as device_keys}
+use Rattle.s0_crypto.specs.Sealing.{keys_of as device_keys}
 use Rattle.host_core.specs.Network.{keys_of}
 use Rattle.proof_replay.proofs.replay.hosts_keep_laws.Goals as goal
 
@@ -18,23 +21,39 @@ same_keys key = refl
 
 -- a law of runs, and of those that end at rest
 by_whole : (Law : Bool → List Entry → Type 0) (start : HostMachine) → ((heard : List Entry) → ToldWhole start heard → Law true heard) → ((heard : List Entry) → Told start heard → Law false heard)
-    → (whole : Bool) (here : Phase) (heard : List Entry) (m : HostMachine) → Run start here heard m → (whole ≡ true → here ≡ Resting) → Law whole heard
-by_whole Law start full part true here heard m run rests = full heard (m, subst (λ (p : Phase). Run start p heard m) (rests refl) run)
+    → (whole : Bool) (here : Phase) (heard : List Entry) (m : HostMachine) → Run start here heard m → (whole ≡ true → (here ≡ Resting) × (m.left ≡ 0)) → Law whole heard
+by_whole Law start full part true here heard m run rests = full heard (m, subst (λ (p : Phase). Run start p heard m) (rests refl).0 run)
 by_whole Law start full part false here heard m run rests = part heard (here, m, run)
+
+-- and one that needs that no tick is to come
+sleeps_by : (start : HostMachine) → ((heard : List Entry) (m : HostMachine) → Run start Resting heard m → m.left ≡ 0 → FallsAsleep true heard) → ((heard : List Entry) → Told start heard → FallsAsleep false heard)
+    → (whole : Bool) (here : Phase) (heard : List Entry) (m : HostMachine) → Run start here heard m → (whole ≡ true → (here ≡ Resting) × (m.left ≡ 0)) → FallsAsleep whole heard
+sleeps_by start full part true here heard m run rests = full heard m (subst (λ (p : Phase). Run start p heard m) (rests refl).0 run) (rests refl).1
+sleeps_by start full part false here heard m run rests = part heard (here, m, run)
 
 pub returns : goal.returns
 returns c = λ keys whole here heard m run rests fine. record {
   orders = c.hosts_keep_their_tables.ensures.laws keys heard (here, m, run);
-  said = c.hosts_do_as_is_said.ensures keys whole here heard m run rests fine;
-  notes = c.hosts_note_what_was_told.ensures keys heard (here, m, run);
+  said = c.hosts_do_as_is_said.ensures keys whole here heard m run (λ is. (rests is).0) fine;
+  notes = c.hosts_note_what_was_told.ensures.told keys heard (here, m, run);
+  opens = c.hosts_note_what_was_told.ensures.opened keys heard (here, m, run);
   at_once =
       by_whole (λ (b : Bool) (l : List Entry). NotesAtOnce b l) (first_alone keys (Some [])) (c.hosts_note_at_once.ensures.whole keys) (c.hosts_note_at_once.ensures.told keys) whole here heard m run rests;
   in_turn =
       by_whole (λ (b : Bool) (l : List Entry). NotesInTurn b l) (first_alone keys (Some [])) (c.hosts_note_values_in_turn.ensures.whole keys (Some []))
       (c.hosts_note_values_in_turn.ensures.told keys (Some [])) whole here heard m run rests;
   wakes = c.hosts_wake_as_told.ensures keys (Some []) heard (here, m, run);
-  holds = c.hosts_hold_as_asked.ensures keys (λ here told m run. c.hosts_listen_as_told.ensures.run keys here told m run) heard (here, m, run);
+  sleeps =
+      sleeps_by (first_alone keys (Some [])) (c.hosts_fall_asleep_as_told.ensures.whole keys) (c.hosts_fall_asleep_as_told.ensures.told keys) whole here heard m run rests;
+  holds = c.hosts_hold_as_asked.ensures keys heard (here, m, run);
   questions = c.hosts_answer_questions.ensures keys heard (here, m, run);
+  interviews = c.hosts_end_interviews.ensures keys heard (here, m, run);
+  says_done = λ key same. c.hosts_say_how_done.ensures key heard (subst (λ (k : Keys). Told (first_alone k (Some [])) heard) (same ∙ same_keys key) (here, m, run));
+  one_by_one = (c.hosts_ask_one_by_one.ensures.told keys heard (here, m, run)).0;
+  numbered = (c.hosts_ask_one_by_one.ensures.told keys heard (here, m, run)).1;
+  begins =
+      by_whole (λ (b : Bool) (l : List Entry). BeginsWithUnit (ended b l)) (first_alone keys (Some [])) (c.hosts_ask_one_by_one.ensures.whole keys)
+      (λ (l : List Entry) told. (c.hosts_ask_one_by_one.ensures.told keys l told).2) whole here heard m run rests;
   ticks = c.hosts_tell_time.ensures.counts keys (Some []) heard (here, m, run);
   sends = λ key same. c.hosts_send_what_is_due.ensures.told key heard (subst (λ (k : Keys). Told (first_alone k (Some [])) heard) (same ∙ same_keys key) (here, m, run));
 }

@@ -1,5 +1,5 @@
 -- One line after another, from the host at its beginning.
-use Rattle.std.proofs.Common.{◌≡◌, ℕ, List, [], ◌++◌, false, refl, ap, ◌∙◌, append_assoc}
+use Rattle.std.proofs.Common.{◌≡◌, ℕ, List, [], ◌++◌, false, true, refl, ap, ◌∙◌, append_assoc}
 use Rattle.std.specs.Prelude.{Option, Some, None}
 use Rattle.host_core.specs.Network.{keys_of}
 use Rattle.host_keep.specs.Keeping.{OptAdds}
@@ -10,6 +10,7 @@ use Rattle.proof_requests.specs.proof_alone.State.{first_alone, host_machine}
 use Rattle.proof_requests.specs.proof_alone.Runs.Run.{Begins}
 use Rattle.proof_asking.proofs.ForHost.{said_for_host}
 use Rattle.proof_replay.specs.Heard.{heard_of, lone_after}
+use Rattle.proof_replay.proofs.LineHeard.{first_rests, link_kept, obeys}
 use Rattle.proof_replay.proofs.Replaying.{all_go}
 use Rattle.proof_replay.proofs.Words.{replayed_said}
 use Rattle.proof_replay.proofs.replay.replays_are_a_hosts.Goals as goal
@@ -26,15 +27,18 @@ more_added (Some kept) records texts more adds =
 pub returns : goal.returns
 returns c = λ key records lines are.
     let m = lone_of (first_replay key) records in
-    let (awaits, (held, (texts, tells, adds), run)) =
+    let obey = obeys c.hosts_obey_the_line.ensures.first c.hosts_obey_the_line.ensures.opened c.hosts_obey_the_line.ensures.each c.hosts_obey_the_line.ensures.units in
+    let (awaits, (held, (texts, tells, adds), run, line)) =
     all_go (first_alone (keys_of key) (Some [])) (keys_of key) (Added records)
-    (λ r h more (some, same, adds). (some ++ more, ap (λ (o : Option (List (List ℕ))). with_texts o more) same, more_added records r some more adds)) [] m lines are
-    (false, (Some [], ([], refl, none_added records), Begins)) in
+    (λ r h more (some, same, adds). (some ++ more, ap (λ (o : Option (List (List ℕ))). with_texts o more) same, more_added records r some more adds)) obey [] m lines are
+    (false, (Some [], ([], refl, none_added records), Begins, first_rests obey (keys_of key))) in
     record {
       last = host_machine (keys_of key) held (lone_after m lines).host.state [] (lone_after m lines).clock 0 awaits;
       added = texts;
       run = run;
+      over = refl;
       for_host = said_for_host (heard_of m lines) (replayed_said m lines are);
       tells = tells;
       adds = adds;
+      link = link_kept obey true (heard_of m lines) awaits (lone_after m lines).clock (lone_after m lines).host.state line;
     }

@@ -22,9 +22,9 @@ by_whole c keys devices lines true are all =
     let start = first_alone keys (Some []) in
     let past = transcript_of (first_machine keys (Some []) devices) lines in
     let fine = c.hosts_answer_lines.ensures.heard keys past (c.lines_are_a_hosts.ensures.told keys devices lines are) in
-    let (m, run, same) = c.lines_are_a_hosts.ensures.keeper keys devices lines are (all refl) in
+    let (m, run, same, over) = c.lines_are_a_hosts.ensures.keeper keys devices lines are (all refl) in
     subst (λ (r : Option (List (List ℕ))). HostsKeepLaws keys true (heard_by_host past) r) same
-    (c.hosts_keep_laws.ensures keys true Resting (heard_by_host past) m (c.what_is_heard_is_a_hosts.ensures.run start Resting past m run) (λ is. refl) fine)
+    (c.hosts_keep_laws.ensures keys true Resting (heard_by_host past) m (c.what_is_heard_is_a_hosts.ensures.run start Resting past m run) (λ is. (refl, over)) fine)
 by_whole c keys devices lines false are all =
     let start = first_alone keys (Some []) in
     let m = first_machine keys (Some []) devices in

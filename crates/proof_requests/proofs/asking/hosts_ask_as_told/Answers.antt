@@ -15,7 +15,9 @@ use Rattle.proof_requests.proofs.asking.hosts_ask_as_told.Goals as goal
 pub returns-clause-walk : goal.returns-clause-walk
 returns-clause-walk c =
     let laws = c.attempts_have_what_they_give.ensures in
+    let leave = c.hosts_leave_nonces.ensures in
     asked_so (record { starts = laws.first_payload; segments = laws.segment_payload; texts = laws.text_payload })
+    (record { aside = leave.aside; starts = leave.starts; seals = leave.seals; sends = leave.sends })
     (host_walk c.hosts_keep_their_tables.ensures.walk c.hosts_tell_time.ensures.walk c.hosts_judge_as_told.ensures.walk)
 
 pub returns-clause-first : goal.returns-clause-first

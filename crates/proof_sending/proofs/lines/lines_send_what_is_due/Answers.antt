@@ -1,6 +1,6 @@
 -- The walk goes along all lines, from a host that has nothing to send.
 use Rattle.std.proofs.Common.{[], Some, refl}
-use Rattle.device_kinds.specs.Sealing.{keys_of}
+use Rattle.s0_crypto.specs.Sealing.{keys_of}
 use Rattle.law_transcript.specs.Nodes.{listing_of, always}
 use Rattle.world_model.specs.State.{first_machine}
 use Rattle.world_lines.specs.Done.{events_of}

@@ -1,5 +1,5 @@
 -- What it writes has its reason by the tables, and the tables are what the transcript shows.
-use Rattle.device_kinds.specs.Sealing.{keys_of}
+use Rattle.s0_crypto.specs.Sealing.{keys_of}
 use Rattle.host_model.specs.Outs.{outs}
 use Rattle.law_transcript.specs.Lists.{Has}
 use Rattle.proof_sending.proofs.Dues.{puts_due}

@@ -6,8 +6,7 @@ use Rattle.run_lines.proofs.running.run_lines.Given as goal
 abbrev pub invariant-loop-number : goal.invariant-loop-number
 invariant-loop-number g l = record {
   so_far : SoFar g.M.Machine.refuses g.M.Machine.runs g.M.Machine.stops (g.S.Source.left l.fn.source) (g.S.Source.left l.source) l.reader
-      (borrowed l.fn.machine l.fn.first l.fn.second l.fn.third) (borrowed l.machine l.first l.second l.third) (g.K.Sink.written l.fn.sink) (g.K.Sink.written l.sink) l.number;
-  ready : g.M.Machine.ready l.first;
+      (borrowed l.fn.machine l.fn.first l.fn.second) (borrowed l.machine l.first l.second) (g.K.Sink.written l.fn.sink) (g.K.Sink.written l.sink) l.number;
   source_falls : g.S.Source.faults l.fn.source ≤ g.S.Source.faults l.source;
   sink_falls : g.K.Sink.faults l.fn.sink ≤ g.K.Sink.faults l.sink;
 }

@@ -11,5 +11,5 @@ pub loop-done-preserved : goal.loop-done-preserved
 loop-done-preserved g c = record {
   within = written_within c.loop-done.done c.in_ok-done.field-0 c.args.piece.now c.loop-done.invariant.within c.in_ok-done.ensures.at_most;
   written = written_more _ _ _ c.loop-done.done c.in_ok-done.field-0 c.args.piece.now c.loop-done.invariant.written c.in_ok-done.ensures.appends;
-  falls = omega (arith, c.loop-done.invariant.falls, c.in_ok-done.ensures.never_falls);
+  same = omega (arith, c.loop-done.invariant.same, c.in_ok-done.ensures.uncounted);
 }

@@ -3,7 +3,8 @@ use Rattle.event_flow.specs.declared.entry.EventEntry.{EventEntry}
 use Rattle.event_flow.specs.Steps.{entries}
 use Rattle.run_lines.proofs.Pieces.{OnErr-always}
 use Rattle.run_tools.specs.Events.{entry_line, line_pieces, said_line}
-use Rattle.run_tools.proofs.EventPieces.{all_left, first_there, leading_following, on_err}
+use Rattle.run_tools.proofs.EventPieces.{all_left, first_there, leading_following}
+use Rattle.run_lines.proofs.Growing.{on_err}
 use Rattle.run_tools.proofs.event_machine.run_event.Goals as goal
 
 pub returns-in_err-said_line-clause-prefix : goal.returns-in_err-said_line-clause-prefix

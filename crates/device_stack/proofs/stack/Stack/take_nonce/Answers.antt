@@ -4,7 +4,6 @@ use Rattle.device_stack.specs.State.{State, Outcome}
 use Rattle.device_stack.specs.Hearing.{takes_nonce}
 use Rattle.device_stack.specs.contracts.stack.Stack.{the_view}
 use Rattle.device_kinds.proofs.SizeLemmas.{sealed_payload, only_payload}
-use Rattle.device_kinds.proofs.SealingLemmas.{same_keys}
 use Rattle.device_stack.proofs.NonceLemmas.{takes_as}
 use Rattle.device_stack.proofs.stack.Stack.take_nonce.Goals as goal
 
@@ -27,7 +26,7 @@ returns-clause-ok c =
     c.in_ok-message.ensures.sealed c.in-Some.message (ap Ok c.in-Some.is) in
     rw (← c.self.view_is)
     (ap (λ (o : Outcome). o.device) (sym (takes_as (the_view c.self.inside) c.keys.result c.args.nonce c.args.drawn c.in-Some.message c.offer.new.self
-    (same_keys c.keys.result c.self.inside.key c.keys.ensures.encrypt c.keys.ensures.code) s)))
+    c.keys.ensures s)))
 
 pub returns-clause-replies : goal.returns-clause-replies
 returns-clause-replies c =
@@ -37,7 +36,7 @@ returns-clause-replies c =
     ∙ ap (λ (o : List (List ℕ)). o ++ c.payload.result ∷ []) c.requires
     ∙ ap (λ (b : List ℕ). b ∷ []) (c.payload.ensures ∙ c.as_slice.ensures)
     ∙ ap (λ (o : Outcome). o.replies) (sym (takes_as (the_view c.self.inside) c.keys.result c.args.nonce c.args.drawn c.in-Some.message c.offer.new.self
-    (same_keys c.keys.result c.self.inside.key c.keys.ensures.encrypt c.keys.ensures.code) s))
+    c.keys.ensures s))
     ∙ ap (λ (d : State). (takes_nonce d c.args.nonce c.args.drawn).replies) c.self.view_is
 
 pub returns-clause-sizes : goal.returns-clause-sizes

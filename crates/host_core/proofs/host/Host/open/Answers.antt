@@ -3,13 +3,13 @@ use Rattle.std.proofs.Common.{◌≡◌, ℕ, List, Option, Err, Result, refl, s
 use Rattle.s0_crypto.specs.declared.key_pair.Keys.{Keys}
 use Rattle.host_keep.specs.Legal.{IsFirstBad}
 use Rattle.host_model.specs.State.{first_host}
-use Rattle.host_core.specs.Network.{keys_of}
+use Rattle.s0_crypto.specs.Sealing.{keys_of}
 use Rattle.host_core.specs.Opening.{Takes, MayTakeNone}
 use Rattle.host_core.specs.Recorded.{TablesAreTold}
 use Rattle.host_core.specs.declared.opening.OpenFault.{OpenFault}
 use Rattle.host_core.specs.declared.opening.OpenFault.TheVariants.{BadRecord}
 use Rattle.host_model.proofs.EventLists.{rose_less}
-use Rattle.host_core.proofs.Opened.{TookUp, fresh, same_keys, took_none, took_more, first_bad, opens, read_none, read_more, read_on}
+use Rattle.host_core.proofs.Opened.{TookUp, fresh, took_none, took_more, first_bad, opens, read_none, read_more, read_on}
 use Rattle.host_core.proofs.host.Host.open.Goals as goal
 
 fault_is : {A : Type 0} (fault : OpenFault) (at : ℕ) → (let r : Result A OpenFault = Err fault in r) ≡ Err (BadRecord at) → fault ≡ BadRecord at
@@ -20,7 +20,7 @@ loop-at-init g c =
     let keys = keys_of c.args.key in
     record {
       took = took_none keys (g.P.Keeper.shelf c.args.keeper.now).records c.in_ok-core.core (c.legal_records_restore_the_host.ensures.nothing (first_host keys))
-          (c.in_ok-core.ensures ∙ ap (λ (k : Keys). fresh (first_host k)) (same_keys c.keys.result keys c.keys.ensures.encrypt c.keys.ensures.code));
+          (c.in_ok-core.ensures ∙ ap (λ (k : Keys). fresh (first_host k)) c.keys.ensures);
       number = refl;
       records = refl;
       reads = read_none (g.P.Keeper.reads c.args.keeper.now);

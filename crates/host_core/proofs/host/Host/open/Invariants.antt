@@ -1,6 +1,6 @@
 use Rattle.std.proofs.Common.{◌≡◌, ◌≤◌}
 use Rattle.host_model.specs.Did.{RoseBy}
-use Rattle.host_core.specs.Network.{keys_of}
+use Rattle.s0_crypto.specs.Sealing.{keys_of}
 use Rattle.host_core.proofs.Opened.{TookUp}
 use Rattle.host_core.proofs.host.Host.open.Given as goal
 

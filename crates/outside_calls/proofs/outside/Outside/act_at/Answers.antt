@@ -1,7 +1,8 @@
 use Rattle.std.proofs.Common.{inr}
 use Rattle.mesh_sim.proofs.Lists.{seen_at, seen_set}
 use Rattle.outside_calls.specs.Acting.{act_event}
-use Rattle.outside_step.proofs.Answered.{on_ok, on_err}
+use Rattle.outside_step.proofs.Answered.{on_ok}
+use Rattle.mesh_sim.proofs.StepLists.{on_err}
 use Rattle.outside_calls.proofs.Moves.{moved, acted_at, act_enters}
 use Rattle.outside_calls.proofs.outside.Outside.act_at.Goals as goal
 

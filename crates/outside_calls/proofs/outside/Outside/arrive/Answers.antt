@@ -1,5 +1,5 @@
 use Rattle.std.proofs.Common.{refl}
-use Rattle.outside_step.proofs.Answered.{on_err}
+use Rattle.mesh_sim.proofs.StepLists.{on_err}
 use Rattle.outside_calls.specs.contracts.outside.Outside.{the_view}
 use Rattle.outside_calls.proofs.Airing.{arrived_ok, arrived_err, arrival_cut_err}
 use Rattle.outside_calls.proofs.outside.Outside.arrive.Goals as goal

@@ -1,6 +1,6 @@
 use Rattle.std.proofs.Common.{[], ◌-◌, refl, ap, arith, ◌∙◌}
 use Rattle.outside_model.specs.State.{OuterState}
-use Rattle.outside_step.proofs.Answered.{on_err}
+use Rattle.mesh_sim.proofs.StepLists.{on_err}
 use Rattle.outside_calls.proofs.Counted.{arrivals, ran_more, ran_all, ran_stops}
 use Rattle.outside_model.proofs.EventLists.{ran_nothing}
 use Rattle.outside_calls.proofs.Landing.{arrive_moves}

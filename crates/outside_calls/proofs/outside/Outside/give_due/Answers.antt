@@ -2,7 +2,7 @@ use Rattle.std.proofs.Common.{[], length, refl, ap, arith}
 use Rattle.outside_model.specs.State.{OuterState}
 use Rattle.outside_model.specs.Did.{PrefixOf}
 use Rattle.outside_model.specs.Schedules.{Givings}
-use Rattle.outside_step.proofs.Answered.{on_err}
+use Rattle.mesh_sim.proofs.StepLists.{on_err}
 use Rattle.outside_calls.proofs.Single.{stops_now}
 use Rattle.outside_calls.proofs.Counted.{givings, ran_more, ran_all, ran_stops}
 use Rattle.outside_model.proofs.EventLists.{ran_nothing}

@@ -1,7 +1,7 @@
 use Rattle.std.proofs.Common.{[]}
 use Rattle.mesh_sim.proofs.Lists.{seen_at, seen_set}
 use Rattle.device_sim.specs.Event.{Ticks}
-use Rattle.outside_step.proofs.Answered.{on_err}
+use Rattle.mesh_sim.proofs.StepLists.{on_err}
 use Rattle.outside_calls.proofs.Moves.{moved, acted_at, acted_enters}
 use Rattle.outside_calls.proofs.outside.Outside.tick_at.Goals as goal
 

@@ -1,5 +1,5 @@
 use Rattle.std.proofs.Common.{[], refl, arith, ◌∙◌}
-use Rattle.outside_step.proofs.Answered.{on_err}
+use Rattle.mesh_sim.proofs.StepLists.{on_err}
 use Rattle.outside_model.specs.State.{outside}
 use Rattle.outside_model.specs.Did.{PrefixOf}
 use Rattle.outside_model.specs.Schedules.{DeviceTicks}

@@ -5,9 +5,10 @@ use Rattle.zw_text.specs.declared.line.Line.TheVariants.{Cancel}
 use Rattle.host_core.specs.declared.orders.CancelFault.{CancelFault}
 use Rattle.host_model.specs.Events.{Cancels}
 use Rattle.world_model.specs.Events.{Host_does}
-use Rattle.run_replay.specs.Asking.{shown_uncancelled}
+use Rattle.host_core.specs.Orders.{shown_uncancelled}
 use Rattle.run_replay.specs.contracts.replay.Replay.{the_view}
-use Rattle.run_replay.proofs.Asking.{cancelled, event_stops, refusal_done, refusal_stops, uncancelled_as, uncancelled_rose}
+use Rattle.host_core.proofs.Refusing.{uncancelled_as, uncancelled_rose}
+use Rattle.run_replay.proofs.Asking.{cancelled, event_stops, refusal_done, refusal_stops}
 use Rattle.run_replay.proofs.replay.Replay.cancel.Goals as goal
 
 pub returns-clause-ok : goal.returns-clause-ok

@@ -8,7 +8,8 @@ use Rattle.host_model.specs.Asking.{carriage_for, refusal_for}
 use Rattle.world_model.specs.Refusals.{shown}
 use Rattle.world_model.specs.Events.{Host_does}
 use Rattle.run_replay.specs.contracts.replay.Replay.{the_view}
-use Rattle.run_replay.proofs.Asking.{accepted, event_stops, refusal_done, refusal_stops, judged_as, rose_entered}
+use Rattle.host_core.proofs.Refusing.{judged_as, rose_entered}
+use Rattle.run_replay.proofs.Asking.{accepted, event_stops, refusal_done, refusal_stops}
 use Rattle.run_replay.proofs.replay.Replay.command.Goals as goal
 
 pub returns-clause-ok : goal.returns-clause-ok

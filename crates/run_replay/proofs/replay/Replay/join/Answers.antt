@@ -9,7 +9,8 @@ use Rattle.outside_model.specs.Events.{Joins}
 use Rattle.world_model.specs.Refusals.{shown}
 use Rattle.world_model.specs.Events.{Host_does, Outside_does}
 use Rattle.run_replay.specs.contracts.replay.Replay.{the_view}
-use Rattle.run_replay.proofs.Asking.{joined, refusal_done, refusal_stops, kept_as, rose_entered}
+use Rattle.host_core.proofs.Refusing.{kept_as, rose_entered}
+use Rattle.run_replay.proofs.Asking.{joined, refusal_done, refusal_stops}
 use Rattle.run_replay.proofs.replay.Replay.join.Goals as goal
 
 pub returns-clause-ok : goal.returns-clause-ok

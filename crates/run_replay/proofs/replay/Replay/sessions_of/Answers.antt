@@ -4,7 +4,7 @@ use Rattle.std.specs.Prelude.{Some}
 use Rattle.supervision.specs.Host.{command_at}
 use Rattle.host_model.specs.State.{node_of}
 use Rattle.run_replay.specs.Machine.{ReplayState}
-use Rattle.run_replay.proofs.Listing.{session_more}
+use Rattle.world_model.proofs.Listing.{session_more}
 use Rattle.run_replay.proofs.replay.Replay.sessions_of.Goals as goal
 
 pub loop-session-preserved : goal.loop-session-preserved

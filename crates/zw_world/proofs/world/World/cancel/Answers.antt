@@ -5,9 +5,10 @@ use Rattle.zw_text.specs.declared.line.Line.TheVariants.{Cancel}
 use Rattle.host_core.specs.declared.orders.CancelFault.{CancelFault}
 use Rattle.host_model.specs.Events.{Cancels}
 use Rattle.world_model.specs.Events.{Host_does}
-use Rattle.zw_world.specs.Effects.{shown_uncancelled}
+use Rattle.host_core.specs.Orders.{shown_uncancelled}
 use Rattle.zw_world.specs.contracts.world.World.{the_view}
-use Rattle.zw_world.proofs.Asking.{cancelled, event_stops, refusal_done, refusal_stops, uncancelled_as, uncancelled_rose}
+use Rattle.host_core.proofs.Refusing.{uncancelled_as, uncancelled_rose}
+use Rattle.zw_world.proofs.Asking.{cancelled, event_stops, refusal_done, refusal_stops}
 use Rattle.zw_world.proofs.world.World.cancel.Goals as goal
 
 pub returns-in-Ok-clause-ok : goal.returns-in-Ok-clause-ok

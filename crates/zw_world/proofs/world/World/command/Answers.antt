@@ -10,7 +10,8 @@ use Rattle.world_model.specs.Events.{Host_does}
 use Rattle.world_step.proofs.Scenes.{ok_then}
 use Rattle.zw_world.specs.contracts.world.World.{the_view}
 use Rattle.zw_world.proofs.KeeperLines.{refuses_next}
-use Rattle.zw_world.proofs.Asking.{accepted, event_stops, refusal_done, refusal_stops, judged_as, rose_entered}
+use Rattle.host_core.proofs.Refusing.{judged_as, rose_entered}
+use Rattle.zw_world.proofs.Asking.{accepted, event_stops, refusal_done, refusal_stops}
 use Rattle.zw_world.proofs.world.World.command.Goals as goal
 
 pub returns-in-Ok-clause-ok : goal.returns-in-Ok-clause-ok

@@ -10,7 +10,8 @@ use Rattle.world_model.specs.Refusals.{shown}
 use Rattle.world_model.specs.Events.{Host_does, Outside_does}
 use Rattle.world_step.proofs.Scenes.{ok_then, err_then, on_err}
 use Rattle.zw_world.specs.contracts.world.World.{the_view}
-use Rattle.zw_world.proofs.Asking.{joined, event_stops, refusal_done, refusal_stops, kept_as, rose_entered}
+use Rattle.host_core.proofs.Refusing.{kept_as, rose_entered}
+use Rattle.zw_world.proofs.Asking.{joined, event_stops, refusal_done, refusal_stops}
 use Rattle.zw_world.proofs.world.World.join.Goals as goal
 
 pub returns-in-Ok-clause-ok : goal.returns-in-Ok-clause-ok

@@ -1,0 +1,84 @@
+-- At first node 2 is joined, and the host has to do with it alone.
+use Rattle.std.proofs.Common.{◌≡◌, ℕ, zero, suc, Bool, true, false, inl, inr, List, replicate, refl, sym, ◌∙◌, subst, arith}
+use Rattle.std.proofs.lemmas.Bool.{cases_eq}
+use Rattle.std.proofs.lemmas.List.{get_or-set_other}
+use Rattle.std.specs.Prelude.{Option, slice_set}
+use Rattle.std.specs.List.{AllByRecursion}
+use Rattle.s0_crypto.specs.declared.key_pair.Keys.{Keys}
+use Rattle.air_frames.specs.Frames.{no_frames}
+use Rattle.chip_sim.specs.Nodes.{is_marked, none_marked}
+use Rattle.device_sim.specs.State.{State}
+use Rattle.host_node.specs.Events.NodeEvent.{Joins, Interviews}
+use Rattle.host_node.specs.State.{NodeState, unknown}
+use Rattle.host_node.specs.Events.{after as after_node}
+use Rattle.host_node.specs.TableState.{node_of as node_among, unknown_from, unknown_nodes}
+use Rattle.host_model.specs.Facts.{HostFacts}
+use Rattle.host_model.specs.State.{HostState, first_classes, first_host, first_nodes, with_node}
+use Rattle.outside_model.specs.State.{first_outer}
+use Rattle.world_model.specs.State.{first_machine}
+use Rattle.proof_serial.proofs.HostFits.{all_at}
+use Rattle.proof_serial.proofs.HostRuns.{first_fits}
+use Rattle.proof_calm.specs.Homeward.{SpeaksHome}
+use Rattle.proof_calm.specs.Known.{IsBlank, IsMember}
+use Rattle.proof_calm.specs.Tied.{IsPeopled}
+use Rattle.proof_calm.proofs.Knowing.{AreBlank, set_blank}
+
+-- ---- the nodes that are joined
+
+two_joined : List Bool
+two_joined = slice_set none_marked 2 true
+
+all_false : (count : ℕ) → AllByRecursion (λ (b : Bool). b ≡ false) (replicate count false)
+all_false zero = tt
+all_false (suc count) = (refl, all_false count)
+
+unmarked : (n : ℕ) → is_marked none_marked n ≡ false
+unfolding none_marked
+unmarked n = all_at (λ (b : Bool). b ≡ false) (replicate 233 false) n false (all_false 233) refl
+
+only_two : (n : ℕ) → is_marked two_joined n ≡ true → n ≡ 2
+unfolding two_joined
+only_two n is = elim (cases_eq n 2) [
+  | inl same ↦ same
+  | inr apart ↦ absurd (let no : true ≡ false = sym is ∙ (get_or-set_other none_marked 2 n true false apart ∙ unmarked n) in cc)
+]
+
+two_member : (n : ℕ) → n ≡ 2 → IsMember two_joined n
+unfolding two_joined none_marked
+two_member n is = subst (IsMember two_joined) (sym is) (record { is_node = (omega arith, omega arith); is_joined = refl })
+
+-- ---- the others
+
+blank_one : (k : ℕ) → IsBlank (unknown k)
+blank_one k = record { unlisted = refl; idle = refl; none_waits = refl; asleep = refl; none_ticks = refl }
+
+blank_from : (number count : ℕ) → AllByRecursion IsBlank (unknown_from number count)
+blank_from number zero = tt
+blank_from number (suc more) = (blank_one number, blank_from (suc number) more)
+
+all_blank : AllByRecursion IsBlank unknown_nodes
+unfolding unknown_nodes
+all_blank = (blank_one 1, blank_from 1 232)
+
+blank_nodes : (keys : Keys) → AreBlank two_joined first_nodes
+unfolding first_nodes
+blank_nodes keys =
+    let h : HostState = record (first_host keys) { nodes = unknown_nodes } in
+    let joins : NodeState = after_node (node_among unknown_nodes 2) Joins in
+    let member = two_member 2 refl in
+    let once = set_blank two_joined h 2 joins member.is_joined (λ n other. all_at IsBlank unknown_nodes n (unknown 0) all_blank (blank_one 0)) in
+    let g : HostState = with_node h 2 joins in
+    set_blank two_joined g 2 (after_node (node_among g.nodes 2) (Interviews true first_classes)) member.is_joined once
+
+first_speaks : SpeaksHome two_joined first_outer
+unfolding first_outer two_joined none_marked no_frames
+first_speaks = record { frames = tt; nodes = λ n is. two_member n (only_two n is) }
+
+pub first_peopled : (facts : (keys : Keys) → HostFacts (first_host keys)) (keys : Keys) (records : Option (List (List ℕ))) (devices : List State) → IsPeopled (first_machine keys records devices)
+unfolding first_outer two_joined
+first_peopled facts keys records devices = record {
+  facts = facts keys;
+  fits = first_fits keys;
+  knows = record { others = blank_nodes keys; tasks = tt; request = tt };
+  speaks = first_speaks;
+}

@@ -1,0 +1,132 @@
+-- Each node that the host serves is joined, and each request that it submits asks to send a payload of 1 to 46 bytes to such a node.
+use Rattle.std.proofs.Common.{◌≡◌, ◌≢◌, ◌≤◌, ℕ, Bool, true, false, if◌then◌else◌, List, [], ◌∷◌, length, refl, sym, ap, ◌∙◌, subst, arith}
+use Rattle.std.specs.Option.{is_none}
+use Rattle.std.specs.Prelude.{Option, Some, None, nat_lt}
+use Rattle.std.specs.List.{AllByRecursion}
+use Rattle.supervision.specs.Host.{open_session}
+use Rattle.chip_sim.specs.Nodes.{is_marked}
+use Rattle.host_requests.specs.State.{next_id}
+use Rattle.host_requests.specs.declared.task.Purpose.TheVariants.{Attempt}
+use Rattle.host_requests.specs.declared.task.Task.{Task}
+use Rattle.host_requests.specs.declared.task.Task.TheVariants.{NoMore, Offer, Segment}
+use Rattle.host_node.specs.Search.{first_wanting, least_above, next_of}
+use Rattle.host_node.specs.State.{NodeState, unknown, has_waiting, has_work, is_false, is_up, wants_no_more}
+use Rattle.host_node.specs.TableState.{node_of as node_among}
+use Rattle.host_node.specs.declared.attempt.Plan.{Plan}
+use Rattle.host_node.specs.declared.series.Series.{Series}
+use Rattle.host_node.specs.declared.series.Series.TheVariants.{Idle}
+use Rattle.host_node.proofs.Searches.{what_is_least}
+use Rattle.host_model.specs.After.{is_full, task_purpose}
+use Rattle.host_model.specs.Events.{HostEvent, Drops_no_more, Node_ticks, Queues_no_more}
+use Rattle.host_model.specs.Facts.{HostFacts}
+use Rattle.host_model.specs.May.{IsStart, May}
+use Rattle.host_model.specs.Pumping.{IsNext, no_more_event}
+use Rattle.host_model.specs.Sessions.{open_segment}
+use Rattle.host_model.specs.State.{HostState, node_of}
+use Rattle.host_model.proofs.Pumps.{next_works}
+use Rattle.host_model.proofs.Submitted.{SubmittedAre, next_is}
+use Rattle.proof_serial.specs.Host.{FitsIn, FitsTask, HasShortText, HostFits}
+use Rattle.proof_serial.proofs.HostFits.{all_at}
+use Rattle.proof_calm.specs.Known.{IsBlank, IsMember, IsTaskFor, KnowsMembers}
+use Rattle.proof_calm.specs.Tied.{AsksAt, AsksToSend}
+use Rattle.proof_calm.proofs.Knowing.{IsNamed}
+use Rattle.proof_calm.proofs.Rested.{all_four, range_by}
+
+-- what is proved of what a host gives
+pub record Payloads : Type 0 where
+  pub starts : (h : HostState) (n : ℕ) (plan : Plan) (more : Bool) (payload : List ℕ) → HostFacts h → IsStart h n plan more payload → (1 ≤ length payload) × (length payload ≤ 46)
+  pub segments : (h : HostState) (node : NodeState) (session : Option ℕ) (k : ℕ) (payload : List ℕ) → open_segment h node session k ≡ Some payload → (1 ≤ length payload) × (length payload ≤ 46)
+  pub text : (h : HostState) (n : ℕ) (payload : List ℕ) → HostFacts h → (node_of h n).text ≡ Some payload → 1 ≤ length payload
+
+-- ---- a blank node
+
+blank_idle : (n : NodeState) → IsBlank n → has_work n ≡ true → ⊥
+blank_idle n blank works =
+    let as_idle : has_work (record n { series = Idle }) ≡ true = subst (λ (s : Series). has_work (record n { series = s }) ≡ true) blank.idle works in
+    let all = all_four (is_none (open_session n.book)) (has_waiting n) (is_up n) (is_false n.blocked) as_idle in
+    let none : has_waiting n ≡ false = ap (λ (l : List ℕ). nat_lt 0 (length l)) blank.none_waits in
+    let wrong : true ≡ false = sym all.1 ∙ none in cc
+
+blank_still : (n : NodeState) → IsBlank n → wants_no_more n ≡ true → ⊥
+blank_still n blank wants = let wrong : false ≡ true = subst (λ (a : Bool). wants_no_more (record n { awake = a }) ≡ true) blank.asleep wants in cc
+
+module _ (joined : List Bool) (h : HostState) (knows : KnowsMembers joined h) where
+  -- a node that is not blank is joined
+  known_by : (n : ℕ) → (IsBlank (node_of h n) → ⊥) → is_marked joined n ≡ true
+  known_by n some = by (is_marked joined n) refl
+    where
+      by : (b : Bool) → is_marked joined n ≡ b → is_marked joined n ≡ true
+      by true is = is
+      by false is = absurd (some (knows.others n is))
+
+  pub next_member : (n : ℕ) → next_of h.nodes h.served ≡ Some n → IsMember joined n
+  next_member n is =
+      let works : ℕ → Bool = λ node. has_work (node_among h.nodes node) in
+      record {
+        is_node = range_by works h.served 0 (least_above works h.served) (least_above works 0) n refl refl is;
+        is_joined = known_by n (λ blank. blank_idle (node_of h n) blank (next_works h.nodes h.served n is));
+      }
+
+  wanting_member : (n : ℕ) → first_wanting h.nodes ≡ Some n → IsMember joined n
+  wanting_member n is =
+      let least = what_is_least (λ node. wants_no_more (node_among h.nodes node)) 0 n is in
+      record { is_node = (omega (arith, least.from), omega (arith, least.to)); is_joined = known_by n (λ blank. blank_still (node_of h n) blank least.is_one) }
+
+  pub no_more_named : (n : ℕ) → first_wanting h.nodes ≡ Some n → IsNamed joined (no_more_event h n)
+  no_more_named n is = by (is_full h)
+    where
+      by : (full : Bool) → IsNamed joined (if full then Drops_no_more n else Queues_no_more n)
+      by true = (wanting_member n is).is_joined
+      by false = wanting_member n is
+
+  pub tick_named : (n : ℕ) → May h (Node_ticks n) → IsNamed joined (Node_ticks n)
+  tick_named n may = known_by n (λ blank. let wrong : true ≡ false = sym may ∙ blank.none_ticks in cc)
+
+  pub listed_named : (n : ℕ) (classes : List ℕ) → (node_of h n).classes ≡ Some classes → is_marked joined n ≡ true
+  listed_named n classes listed = known_by n (λ blank. let wrong : Some classes ≡ None = sym listed ∙ blank.unlisted in cc)
+
+  -- ---- what is submitted next
+
+  module _ (payloads : Payloads) (facts : HostFacts h) (fits : HostFits h) where
+    attempt_asks : (n id : ℕ) (more : Bool) (payload : List ℕ) → IsMember joined n → 1 ≤ length payload → length payload ≤ 46 → AsksToSend joined (Attempt n more payload) id
+    attempt_asks n id more payload member some few = record { node = n; payload = payload; is = refl; is_node = member.is_node; some = some; few = few; is_joined = member.is_joined }
+
+    front_asks : (tasks : List Task) (id : ℕ) → tasks ≢ [] → AllByRecursion (IsTaskFor joined) tasks → AllByRecursion FitsTask tasks → AsksToSend joined (task_purpose tasks) id
+    front_asks [] id some are fit = absurd (some refl)
+    front_asks (Offer n nonce ∷ tasks) id some are fit =
+        let short = fit.0 in
+        record { node = n; payload = 152 ∷ 128 ∷ nonce; is = refl; is_node = are.0.is_node; some = omega arith; few = omega (arith, short); is_joined = are.0.is_joined }
+    front_asks (Segment n payload ∷ tasks) id some are fit =
+        record { node = n; payload = payload; is = refl; is_node = are.0.0.is_node; some = are.0.1; few = fit.0; is_joined = are.0.0.is_joined }
+    front_asks (NoMore n ∷ tasks) id some are fit =
+        record { node = n; payload = 132 ∷ 8 ∷ []; is = refl; is_node = are.0.is_node; some = omega arith; few = omega arith; is_joined = are.0.is_joined }
+    front_asks (task ∷ tasks) id some are fit = absurd are.0
+
+    text_short : (n : ℕ) (payload : List ℕ) → (node_of h n).text ≡ Some payload → length payload ≤ 46
+    text_short n payload is = subst (FitsIn 46) is (all_at HasShortText h.nodes n (unknown 0) fits.texts tt)
+
+    pub next_asks : (event : HostEvent) → h.requests.owes ≡ false → IsNext h event → May h event → AsksAt joined h event × IsNamed joined event
+    next_asks event paid next may = next_is Is each h event next may
+      where
+        id : ℕ
+        id = next_id h.requests.last_id
+
+        Is : HostEvent → Type 0
+        Is e = May h e → AsksAt joined h e × IsNamed joined e
+
+        each : SubmittedAre Is
+        each = record {
+          abort = λ may_it. absurd (let owes = may_it.1 in cc);
+          front = λ may_it. (front_asks h.requests.queue id may_it.2 knows.tasks fits.queue, tt);
+          starts = λ n plan more payload may_it.
+              let short = payloads.starts h n plan more payload facts may_it.1 in
+              let member = next_member n may_it.0.next in
+              (attempt_asks n id more payload member short.0 short.1, member);
+          text = λ n payload may_it. let member = next_member n may_it.0.next in (attempt_asks n id false payload member (payloads.text h n payload facts may_it.1) (text_short n payload may_it.1), member);
+          segment = λ n more payload may_it.
+              let short = payloads.segments h (node_of h n) (open_session (node_of h n).book) (node_of h n).next_segment payload may_it.2 in
+              let member = next_member n may_it.0.next in
+              (attempt_asks n id more payload member short.0 short.1, member);
+          begins = λ n session command may_it. (tt, (next_member n may_it.0.next).is_joined);
+          unkept = λ n may_it. (tt, (next_member n may_it.0.next).is_joined);
+        }

@@ -1,0 +1,48 @@
+-- Which nodes the host has to do with, while quiet lines are said (this project's own rule): those that are joined to the chip, and no others.
+use Rattle.std.specs.Prelude.{◌≡◌, ℕ, ◌≤◌, Bool, false, true, List, [], length, Option, Some, None}
+use Rattle.std.specs.List.{AllByRecursion}
+use Rattle.chip_functions.specs.Field.{IsNode}
+use Rattle.chip_sim.specs.Nodes.{is_marked}
+use Rattle.host_requests.specs.declared.task.Purpose.{Purpose}
+use Rattle.host_requests.specs.declared.task.Purpose.TheVariants.{Attempt, Housekeeping}
+use Rattle.host_requests.specs.declared.task.Task.{Task}
+use Rattle.host_requests.specs.declared.task.Task.TheVariants.{NoMore, Offer, Segment}
+use Rattle.host_requests.specs.declared.under_way.UnderWay.{UnderWay}
+use Rattle.host_node.specs.State.{NodeState, needs_tick}
+use Rattle.host_node.specs.declared.series.Series.TheVariants.{Idle}
+use Rattle.host_model.specs.State.{HostState, node_of}
+
+-- a node that is joined
+pub record IsMember (joined : List Bool) (n : ℕ) : Type 0 where
+  pub is_node : IsNode n
+  pub is_joined : is_marked joined n ≡ true
+
+-- nothing was asked of a node, or heard from it
+pub record IsBlank (n : NodeState) : Type 0 where
+  pub unlisted : n.classes ≡ None
+  pub idle : n.series ≡ Idle
+  pub none_waits : n.waiting ≡ []
+  pub asleep : n.awake ≡ false
+  pub none_ticks : needs_tick n ≡ false
+
+-- a task that sends a payload to such a node
+abbrev pub IsTaskFor : List Bool → Task → Type 0
+IsTaskFor joined (Offer n nonce) = IsMember joined n
+IsTaskFor joined (Segment n payload) = IsMember joined n × (1 ≤ length payload)
+IsTaskFor joined (NoMore n) = IsMember joined n
+IsTaskFor joined task = ⊥
+
+abbrev pub IsPurposeFor : List Bool → Purpose → Type 0
+IsPurposeFor joined (Attempt n more payload) = IsMember joined n
+IsPurposeFor joined (Housekeeping task) = IsTaskFor joined task
+IsPurposeFor joined purpose = ⊥
+
+abbrev pub IsRequestFor : List Bool → Option UnderWay → Type 0
+IsRequestFor joined None = Unit {0}
+IsRequestFor joined (Some request) = IsPurposeFor joined request.purpose
+
+-- each node that is not joined is blank, and each task and the request under way are for nodes that are
+pub record KnowsMembers (joined : List Bool) (h : HostState) : Type 0 where
+  pub others : (n : ℕ) → is_marked joined n ≡ false → IsBlank (node_of h n)
+  pub tasks : AllByRecursion (IsTaskFor joined) h.requests.queue
+  pub request : IsRequestFor joined h.requests.under_way

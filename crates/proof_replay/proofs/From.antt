@@ -1,0 +1,36 @@
+-- What hosts keep over all that they heard, a host that starts with records keeps from its start on.
+use Rattle.std.proofs.Common.{ℕ, Bool, true, false, List, [], ◌∷◌, ◌++◌, subst, append_assoc}
+use Rattle.std.specs.Prelude.{Option}
+use Rattle.s0_crypto.specs.declared.key_pair.Keys.{Keys}
+use Rattle.zw_text.specs.declared.entry.Entry.{Entry}
+use Rattle.zw_text.specs.declared.entry.Entry.TheVariants.{Said}
+use Rattle.law_transcript.specs.Answers.{MayAnswer, MayCancel, refusals_by_host}
+use Rattle.law_transcript.specs.Lists.{EachAfter}
+use Rattle.law_transcript.specs.Payloads.{MayRequest}
+use Rattle.law_transcript.specs.Sessions.{MayBegin}
+use Rattle.law_wire.specs.Serial.{ended}
+use Rattle.proof_host.proofs.Over.{each-right as each_from}
+use Rattle.proof_requests.specs.law_host.Heard.{listing_heard}
+use Rattle.proof_requests.specs.law_host.HostLegal.{ShowsValues}
+use Rattle.proof_replay.specs.Laws.{HostsKeepLaws, KeepsFrom}
+
+-- the end of a whole run stands after all of it
+ended_from : (Law : List Entry → Entry → Type 0) (whole : Bool) (before heard : List Entry) → EachAfter Law [] (ended whole (before ++ heard)) → EachAfter Law before (ended whole heard)
+ended_from Law true before heard all = each_from Law [] before (heard ++ Said [] ∷ []) (subst (λ (l : List Entry). EachAfter Law [] l) (append_assoc before heard (Said [] ∷ [])) all)
+ended_from Law false before heard all = each_from Law [] before heard all
+
+pub keeps_from : (keys : Keys) (before : List Entry) (whole : Bool) (heard : List Entry) (records : Option (List (List ℕ))) → HostsKeepLaws keys whole (before ++ heard) records
+    → KeepsFrom keys before whole heard records
+keeps_from keys before whole heard records laws = record {
+  answers = record {
+    between = each_from (MayAnswer listing_heard (refusals_by_host listing_heard)) [] before heard laws.said.answers.between;
+    in_the_end = laws.said.answers.in_the_end;
+  };
+  cancels = each_from MayCancel [] before heard laws.said.cancels;
+  sessions = each_from MayBegin [] before heard laws.said.sessions;
+  carries = laws.said.carries;
+  stores = laws.said.stores;
+  values = ended_from (ShowsValues listing_heard) whole before heard laws.said.values;
+  sends = λ key same. each_from (MayRequest listing_heard key) [] before heard (laws.sends key same);
+  records_kept = laws.said.records_kept;
+}

@@ -1,0 +1,11 @@
+-- Each entry that tells of an end answers as it may.
+use Rattle.std.specs.Prelude.{[]}
+use Rattle.law_time.specs.Moments.{Allows}
+use Rattle.law_time.specs.Questions.{may_answer}
+use Rattle.proof_host.proofs.Lists.{each-weaker}
+use Rattle.proof_requests.specs.Ends.{TellsEnd}
+use Rattle.proof_requests.proofs.Questions.{answers_may}
+use Rattle.proof_requests.proofs.ends.hosts_answer_questions.Goals as goal
+
+pub returns : goal.returns
+returns c = λ keys told run. each-weaker TellsEnd (Allows may_answer) answers_may [] told (c.hosts_tell_of_ends.ensures.told keys told run)
