@@ -11,7 +11,7 @@ use Rattle.serial_link.specs.Rules.{SideObeys, Step}
 use Rattle.proof_walk.specs.outside_model.State.{OuterState}
 use Rattle.proof_line.specs.Pipes.{ClearsNowhereElse}
 use Rattle.proof_line.specs.Links.{AtLine, KnowsLink, LinkNow}
-use Rattle.proof_line.specs.Linked.{CutsBy, HasStarts, Cuts}
+use Rattle.proof_line.specs.Linked.{CutsBy, HasStarts}
 use Rattle.proof_line.proofs.LinkKnown.{keeps_link, keeps_lost, keeps_parts, keeps_starts, keeps_room}
 use Rattle.proof_line.proofs.LinkCourse.{course_mute}
 use Rattle.proof_line.proofs.LinkChip.{obeyed}

@@ -40,7 +40,7 @@ use Rattle.proof_traffic.specs.Links.{KeepsItsLink, host_link_steps}
 use Rattle.proof_walk.specs.Phases.{Phase, Between, Said_line, Begun, Doing, To_tick, Ticked, Arriving, Giving, Ticking_devices, Ticking_chip, Ticking_decoder, Ticking_host, Sleeping, Submitting, Moving, Moved, Turns, Goes}
 use Rattle.proof_walk.specs.Time.{KnowTime, MayCount}
 use Rattle.proof_walk.specs.Walk.{Walk, WalkWhere}
-use Rattle.proof_line.specs.Links.{AtLine, KeepsSoFar, KnowsLink, LinkNow, MayEndNow, due_from, most_of, KnowsSide}
+use Rattle.proof_line.specs.Links.{AtLine, KeepsSoFar, LinkNow, MayEndNow, due_from, most_of, KnowsSide}
 use Rattle.proof_line.specs.Linked.{◌⊕◌, began, did_at, flags_of, rounds_in, said, UnlessTicks, BeginsLast, CutsBy, Did, HasStarts, Cuts, IsOrderly, KnowCuts, KnowLinks, KnowsBoth, LinksBegun, LinksDone, LinksLeft, HaveTickedOnce, InTick, Round, Anything, KnowAll}
 use Rattle.proof_line.proofs.LinkKnown.{no_steps}
 use Rattle.proof_line.proofs.LinkTold.{brings_none}
