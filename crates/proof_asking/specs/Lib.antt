@@ -1,4 +1,5 @@
 pub mod Asking
+pub mod Numbers
 pub use Rattle.proof_known.specs as proof_known
 pub use Rattle.proof_sending.specs as proof_sending
 pub use Rattle.proof_requests.specs as proof_requests

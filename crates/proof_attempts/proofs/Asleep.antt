@@ -66,12 +66,12 @@ use Rattle.host_model.specs.declared.out.HostOut.{HostOut}
 use Rattle.host_model.proofs.Submitted.{next_is}
 use Rattle.world_model.specs.Events.{shown_values}
 use Rattle.proof_host.specs.Facts.{Facts}
-use Rattle.proof_waking.specs.proof_alone.State.{HostMachine}
-use Rattle.proof_waking.specs.proof_alone.Steps.{AreFrames, AreTold, DidNotCome, IsOfOthers, IsOfUnit, Step, Tells, Comes, Misses, Says, Says_nothing, Asks, Refuses, Shows, Restarts, Begins_tick, Numbers, Judges, Does, entries}
-use Rattle.proof_waking.specs.proof_alone.Phases.{Phase, Resting, Asked, Risen, Ticking, Open, Behind, Sleeping, Submitting, IsBetween, IsJudgedNow, IsNumbered, May}
-use Rattle.proof_waking.specs.proof_alone.Runs.{WalkOver, both_know}
-use Rattle.proof_waking.specs.Judged.{IsOfRequest, KnowsJudged, TieFrames}
-use Rattle.proof_waking.proofs.Followed.{MayFollow, frame_all}
+use Rattle.proof_requests.specs.proof_alone.State.{HostMachine}
+use Rattle.proof_requests.specs.proof_alone.Steps.{AreFrames, AreTold, DidNotCome, IsOfOthers, IsOfUnit, Step, Tells, Comes, Misses, Says, Says_nothing, Asks, Refuses, Shows, Restarts, Begins_tick, Numbers, Judges, Does, entries}
+use Rattle.proof_requests.specs.proof_alone.Phases.{Phase, Resting, Asked, Risen, Ticking, Open, Behind, Sleeping, Submitting, IsBetween, IsJudgedNow, IsNumbered, May}
+use Rattle.proof_requests.specs.proof_alone.Runs.{WalkOver, both_know}
+use Rattle.proof_requests.specs.proof_waking.Judged.{IsOfRequest, KnowsJudged, TieFrames}
+use Rattle.proof_requests.proofs.proof_waking_Followed.{MayFollow, frame_all}
 use Rattle.proof_requests.specs.Asking.{Doing, TieAsked, TieUnderWay, doing_of}
 use Rattle.proof_requests.specs.Ends.{AreToldOf, EndsBy, EndsFrom, EndsHere, GivenUp, KnowsEnds, LineEnds, TellsNoEnd, next_at}
 use Rattle.proof_requests.specs.Standing.{failing_in, standing_of, wait_in}

@@ -45,8 +45,8 @@ use Rattle.host_model.specs.May.{May}
 use Rattle.host_model.proofs.Submitted.{SleepersAre, SubmittedAre, next_is, no_more_is}
 use Rattle.world_model.specs.Events.{OpensFrom}
 use Rattle.proof_work.specs.Doing.{IsDone, IsTold}
-use Rattle.proof_waking.specs.proof_alone.Steps.{IsAskedBy}
-use Rattle.proof_waking.specs.proof_alone.Phases.{Phase, Resting, Ticking, Behind, Sleeping, Submitting, GoesBy}
+use Rattle.proof_requests.specs.proof_alone.Steps.{IsAskedBy}
+use Rattle.proof_requests.specs.proof_alone.Phases.{Phase, Resting, Ticking, Behind, Sleeping, Submitting, GoesBy}
 use Rattle.proof_requests.proofs.Doing.{asks_of, attempt_asks, end_if_asks, holds_asks}
 use Rattle.proof_requests.proofs.Queued.{served_is_node, wanting_is_node}
 use Rattle.proof_requests.proofs.Queueing.{opened_asks}

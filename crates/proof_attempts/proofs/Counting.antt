@@ -26,11 +26,11 @@ use Rattle.host_model.specs.declared.out.HostOut.{HostOut}
 use Rattle.host_model.specs.declared.out.HostOut.TheVariants.{Note, Write}
 use Rattle.world_model.specs.Events.{OpensFrom}
 use Rattle.proof_host.specs.Entries.{notes_of}
-use Rattle.proof_waking.specs.proof_alone.Steps.{AreTold, IsAskedBy}
-use Rattle.proof_waking.specs.proof_alone.Tables.{KnowsTables}
-use Rattle.proof_waking.proofs.proof_alone_Apart.{AreOfLine, marks_are, told_are}
-use Rattle.proof_waking.proofs.InOrder.{asked_puts, is_asked}
-use Rattle.proof_waking.proofs.Apart.{IsWordless, said_anew, said_in_vain, said_on, wordless_more}
+use Rattle.proof_requests.specs.proof_alone.Steps.{AreTold, IsAskedBy}
+use Rattle.proof_requests.specs.proof_alone.Tables.{KnowsTables}
+use Rattle.proof_requests.proofs.proof_alone_Apart.{AreOfLine, marks_are, told_are}
+use Rattle.proof_requests.proofs.InOrder.{asked_puts, is_asked}
+use Rattle.proof_requests.proofs.proof_waking_Apart.{IsWordless, said_anew, said_in_vain, said_on, wordless_more}
 use Rattle.proof_work.specs.proof_walk.Outside.{IsHostNote}
 use Rattle.proof_work.proofs.HostNotes.{NoteOuts, all_outs_note}
 use Rattle.proof_attempts.specs.Since.{IsLoose, Lasts}

@@ -40,7 +40,7 @@ use Rattle.host_model.specs.After.{after, failing_if, finishing, gives_up, givin
 use Rattle.host_model.specs.Events.{HostEvent, Accepts, Cancels, Joins, Hears, Requests_do, Interviews, Works, Finishes, Offers, Gives, Takes_nonce, Notifies, Resends, Line_ticks, Node_ticks, Queues_no_more, Drops_no_more, Starts, Gives_text, Gives_segment, Begins, Begin_unkept}
 use Rattle.host_model.specs.May.{May}
 use Rattle.proof_work.specs.Work.{HostWork}
-use Rattle.proof_waking.specs.proof_alone.Phases.{Asked, Open, Resting}
+use Rattle.proof_requests.specs.proof_alone.Phases.{Asked, Open, Resting}
 use Rattle.proof_attempts.specs.Since.{Lasts}
 use Rattle.proof_attempts.specs.Waiting.{WaitInOrder, WaitsWell}
 use Rattle.proof_attempts.specs.Waking.{KnowsWork}

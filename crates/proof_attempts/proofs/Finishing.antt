@@ -43,7 +43,7 @@ use Rattle.host_node.specs.declared.attempt.Moment.TheVariants.{BetweenTicks}
 use Rattle.host_model.specs.Events.{HostEvent, Accepts, Queues, Requests_do, Line_ticks, Node_ticks, Begins, Interviews, Interview_unkept, Unreads, Is_unkept, Reports_old, Works, Finishes, Offers, Gives, Spends, Spends_unread, Takes_nonce, Notifies, Resends, Hears_value, Has_no_room}
 use Rattle.host_model.specs.May.{says_listens}
 use Rattle.host_model.specs.Taking.{AreTaken, FinalEvents, FrameEvents, InterviewEvents, IsOpened, IsTaken, NonceGetEvents, NonceReportEvents, NoticeEvents, PayloadEvents, ReportEvents, ResponseEvents, SealedEvents, is_secure, resent, value_event, value_events}
-use Rattle.proof_waking.proofs.Always.{either, none, one}
+use Rattle.proof_requests.proofs.proof_waking_Always.{either, none, one}
 use Rattle.proof_work.proofs.Bodies.{body_is}
 
 -- ---- by which reports

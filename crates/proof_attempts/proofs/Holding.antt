@@ -30,15 +30,15 @@ use Rattle.proof_work.specs.proof_walk.ByLine.{IsAsked}
 use Rattle.proof_work.specs.proof_walk.Outside.{IsHostNote}
 use Rattle.proof_work.proofs.HostNotes.{NoteOuts, all_outs_note}
 use Rattle.proof_work.proofs.Untimed.{AreUntimed, IsUntimed, same_time}
-use Rattle.proof_waking.specs.proof_alone.State.{HostMachine}
-use Rattle.proof_waking.specs.proof_alone.Steps.{AreTold, IsAskedBy}
-use Rattle.proof_waking.specs.proof_alone.Phases.{Phase, Resting, Asked, Risen, Ticking, Open, Behind, Sleeping, Submitting, GoesBy, IsNumbered, Turns}
-use Rattle.proof_waking.specs.proof_alone.Time.{TieClock, passing}
-use Rattle.proof_waking.proofs.proof_alone_Apart.{AreOfLine, told_are}
-use Rattle.proof_waking.proofs.InOrder.{asked_puts, is_asked}
-use Rattle.proof_waking.proofs.Apart.{IsWordless}
+use Rattle.proof_requests.specs.proof_alone.State.{HostMachine}
+use Rattle.proof_requests.specs.proof_alone.Steps.{AreTold, IsAskedBy}
+use Rattle.proof_requests.specs.proof_alone.Phases.{Phase, Resting, Asked, Risen, Ticking, Open, Behind, Sleeping, Submitting, GoesBy, IsNumbered, Turns}
+use Rattle.proof_requests.specs.proof_alone.Time.{TieClock, passing}
+use Rattle.proof_requests.proofs.proof_alone_Apart.{AreOfLine, told_are}
+use Rattle.proof_requests.proofs.InOrder.{asked_puts, is_asked}
+use Rattle.proof_requests.proofs.proof_waking_Apart.{IsWordless}
 use Rattle.proof_attempts.specs.Since.{InTick, IsBetweenTicks, IsLoose, IsOfItem, Lasts, TicksAt, is_to_tick, node_clock}
-use Rattle.proof_waking.specs.proof_alone.Listening.{KnowsListening}
+use Rattle.proof_requests.specs.proof_alone.Listening.{KnowsListening}
 use Rattle.proof_attempts.specs.Waking.{HeldAsTold, KnowsHearing, KnowsWork, TellsAwake, Waking, one_less, releases_of, waking_before, waking_in, waking_step}
 use Rattle.proof_attempts.proofs.Ahead.{ahead_from, ahead_joined}
 use Rattle.proof_attempts.proofs.Counting.{answers_quiet, answers_wordless, each_starts, first_waking, loose_quiet, loose_wordless, told_notes, told_wordless}

@@ -40,14 +40,14 @@ use Rattle.host_model.proofs.Own.{IsOwn}
 use Rattle.host_model.proofs.Submitted.{SleepersAre, SubmittedAre, next_is, no_more_is}
 use Rattle.proof_host.specs.Facts.{Facts}
 use Rattle.proof_host.proofs.Lists.{each-append}
-use Rattle.proof_waking.specs.proof_alone.State.{HostMachine}
-use Rattle.proof_waking.specs.proof_alone.Steps.{AreTold, IsOfOthers, Step, Tells as Tells_of_others, Comes, Misses, Says, Says_nothing, Asks, Refuses, Shows, Restarts, Begins_tick, Numbers, Judges, Does, entries}
-use Rattle.proof_waking.specs.proof_alone.Phases.{Phase, Ticking, Behind, Sleeping, Submitting, GoesBy, May}
-use Rattle.proof_waking.specs.proof_alone.Runs.{WalkOver}
-use Rattle.proof_waking.proofs.proof_alone_Apart.{missed_are}
-use Rattle.proof_waking.specs.Judged.{IsBehindFrame, IsOfRequest, KnowsJudged}
-use Rattle.proof_waking.proofs.Apart.{IsApart, apart_judged}
-use Rattle.proof_waking.proofs.Settling.{brought_is}
+use Rattle.proof_requests.specs.proof_alone.State.{HostMachine}
+use Rattle.proof_requests.specs.proof_alone.Steps.{AreTold, IsOfOthers, Step, Tells as Tells_of_others, Comes, Misses, Says, Says_nothing, Asks, Refuses, Shows, Restarts, Begins_tick, Numbers, Judges, Does, entries}
+use Rattle.proof_requests.specs.proof_alone.Phases.{Phase, Ticking, Behind, Sleeping, Submitting, GoesBy, May}
+use Rattle.proof_requests.specs.proof_alone.Runs.{WalkOver}
+use Rattle.proof_requests.proofs.proof_alone_Apart.{missed_are}
+use Rattle.proof_requests.specs.proof_waking.Judged.{IsBehindFrame, IsOfRequest, KnowsJudged}
+use Rattle.proof_requests.proofs.proof_waking_Apart.{IsApart, apart_judged}
+use Rattle.proof_requests.proofs.proof_waking_Settling.{brought_is}
 use Rattle.proof_attempts.specs.Kept.{KnowsHeard, KnowsUnowed}
 use Rattle.proof_attempts.proofs.Finishing.{Brings, Tells, frame_brings}
 use Rattle.proof_attempts.proofs.Opening.{OpenLast, open_last}

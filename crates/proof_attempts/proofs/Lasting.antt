@@ -15,13 +15,13 @@ use Rattle.law_transcript.specs.Restarts.{is_restart}
 use Rattle.host_model.specs.State.{HostState}
 use Rattle.host_model.specs.Events.{HostEvent}
 use Rattle.world_model.specs.Events.{shown_values}
-use Rattle.proof_waking.specs.proof_alone.State.{HostMachine, first_alone}
-use Rattle.proof_waking.specs.proof_alone.Steps.{DidNotCome, IsOfOthers, Step, Tells, Comes, Misses, Says, Says_nothing, Asks, Refuses, Shows, Restarts, Begins_tick, Numbers, Judges, Does, entries, happens}
-use Rattle.proof_waking.specs.proof_alone.Phases.{Phase, Resting, Asked, Risen, Ticking, Open, Behind, Sleeping, Submitting, GoesBy, IsBetween, May, Turns}
-use Rattle.proof_waking.specs.proof_alone.Runs.{Knowledge, Run, Walk, WalkOver, both_know}
-use Rattle.proof_waking.specs.proof_alone.Runs.Run.{Begins, Turned, Stepped}
-use Rattle.proof_waking.proofs.Running.{run_keeps}
-use Rattle.proof_waking.proofs.Judging.{asked_on, nothing_on}
+use Rattle.proof_requests.specs.proof_alone.State.{HostMachine, first_alone}
+use Rattle.proof_requests.specs.proof_alone.Steps.{DidNotCome, IsOfOthers, Step, Tells, Comes, Misses, Says, Says_nothing, Asks, Refuses, Shows, Restarts, Begins_tick, Numbers, Judges, Does, entries, happens}
+use Rattle.proof_requests.specs.proof_alone.Phases.{Phase, Resting, Asked, Risen, Ticking, Open, Behind, Sleeping, Submitting, GoesBy, IsBetween, May, Turns}
+use Rattle.proof_requests.specs.proof_alone.Runs.{Knowledge, Run, Walk, WalkOver, both_know}
+use Rattle.proof_requests.specs.proof_alone.Runs.Run.{Begins, Turned, Stepped}
+use Rattle.proof_requests.proofs.Running.{run_keeps}
+use Rattle.proof_requests.proofs.proof_waking_Judging.{asked_on, nothing_on}
 use Rattle.proof_attempts.specs.Since.{AlongRuns, BeforeWords, IsElse, IsLoose, KnowsSince, Lasts, TieOf, WalkBoth}
 
 -- ---- entries

@@ -19,11 +19,11 @@ use Rattle.host_model.specs.After.{after}
 use Rattle.host_model.specs.Did.{after_all}
 use Rattle.host_model.specs.Events.{HostEvent, Node_ticks}
 use Rattle.host_model.specs.Ticking.{first_ticks, tick_events, ticking_nodes}
-use Rattle.proof_waking.specs.proof_alone.State.{HostMachine, done}
-use Rattle.proof_waking.specs.proof_alone.Steps.{AreFrames, Step, Tells, Comes, Misses, Says, Says_nothing, Asks, Refuses, Shows, Restarts, Begins_tick, Numbers, Judges, Does, entries, happens}
-use Rattle.proof_waking.specs.proof_alone.Phases.{Phase, Resting, Asked, Risen, Ticking, Open, Behind, Sleeping, Submitting, GoesBy, May, Turns}
-use Rattle.proof_waking.specs.proof_alone.Runs.{Knowledge, both_know}
-use Rattle.proof_waking.specs.Judged.{KnowsJudged}
+use Rattle.proof_requests.specs.proof_alone.State.{HostMachine, done}
+use Rattle.proof_requests.specs.proof_alone.Steps.{AreFrames, Step, Tells, Comes, Misses, Says, Says_nothing, Asks, Refuses, Shows, Restarts, Begins_tick, Numbers, Judges, Does, entries, happens}
+use Rattle.proof_requests.specs.proof_alone.Phases.{Phase, Resting, Asked, Risen, Ticking, Open, Behind, Sleeping, Submitting, GoesBy, May, Turns}
+use Rattle.proof_requests.specs.proof_alone.Runs.{Knowledge, both_know}
+use Rattle.proof_requests.specs.proof_waking.Judged.{KnowsJudged}
 use Rattle.proof_requests.specs.Asking.{Doing, TieAsked, doing_of}
 use Rattle.proof_requests.specs.Walking.{CameAt, Ground as RequestsGround, KnowsAsked}
 use Rattle.proof_requests.proofs.Doing.{beside_same}

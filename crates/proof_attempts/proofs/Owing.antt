@@ -15,7 +15,7 @@ use Rattle.law_time.specs.Judged.{directly_step, is_data, is_directly_after, is_
 use Rattle.law_time.specs.Moments.{Allows, now_at}
 use Rattle.law_time.specs.Requests.{asked, is_copy}
 use Rattle.law_time.specs.Waking.{given_up_at, is_awake_sleeper, is_given_up_on, is_still_awake, may_sleep, moves_on, nodes_told, owes_no_sleep, owes_sleep, owes_sleep_to_given_up, owes_sleep_to_told}
-use Rattle.proof_waking.specs.proof_alone.Steps.{IsOfUnit}
+use Rattle.proof_requests.specs.proof_alone.Steps.{IsOfUnit}
 use Rattle.proof_requests.proofs.Untold.{directly_one}
 use Rattle.proof_attempts.specs.Asleep.{OwesNone}
 use Rattle.proof_attempts.proofs.Opening.{last_is}

@@ -42,15 +42,15 @@ use Rattle.zw_base.proofs.Each.{all-right}
 use Rattle.supervision.specs.Host.{open_session}
 use Rattle.host_model.specs.Sessions.{open_command}
 use Rattle.world_model.specs.Events.{OpensFrom}
-use Rattle.proof_waking.proofs.Apart.{IsWordless}
+use Rattle.proof_requests.proofs.proof_waking_Apart.{IsWordless}
 use Rattle.proof_work.specs.Work.{HostWork, times_due, told_at, told_in}
 use Rattle.proof_work.specs.proof_walk.ByLine.{IsAsked}
-use Rattle.proof_waking.specs.proof_alone.State.{HostMachine, done}
-use Rattle.proof_waking.specs.proof_alone.Steps.{AreTold, Says, happens}
-use Rattle.proof_waking.specs.proof_alone.Phases.{Phase, Resting, Asked, Ticking, Open, Behind, Sleeping, Submitting, GoesBy, IsNumbered}
-use Rattle.proof_waking.specs.proof_alone.Time.{TieClock}
-use Rattle.proof_waking.proofs.proof_alone_Apart.{AreOfLine}
-use Rattle.proof_waking.proofs.InOrder.{is_asked}
+use Rattle.proof_requests.specs.proof_alone.State.{HostMachine, done}
+use Rattle.proof_requests.specs.proof_alone.Steps.{AreTold, Says, happens}
+use Rattle.proof_requests.specs.proof_alone.Phases.{Phase, Resting, Asked, Ticking, Open, Behind, Sleeping, Submitting, GoesBy, IsNumbered}
+use Rattle.proof_requests.specs.proof_alone.Time.{TieClock}
+use Rattle.proof_requests.proofs.proof_alone_Apart.{AreOfLine}
+use Rattle.proof_requests.proofs.InOrder.{is_asked}
 use Rattle.proof_attempts.specs.Series.{IsSeries, KnowsSeries, NodeAsTold, RunsAsTold, again_ticked, looked_at, series_so_far}
 use Rattle.proof_attempts.specs.Since.{IsElse, IsLoose, IsOfItem, Lasts, is_to_tick}
 use Rattle.proof_attempts.specs.Waiting.{WaitInOrder}

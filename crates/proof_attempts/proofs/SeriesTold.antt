@@ -17,9 +17,9 @@ use Rattle.host_model.specs.declared.out.HostOut.{HostOut}
 use Rattle.host_model.specs.declared.out.HostOut.TheVariants.{Note, Write}
 use Rattle.proof_host.specs.Entries.{notes_of}
 use Rattle.proof_work.proofs.Untimed.{AreUntimed, IsUntimed, same_time}
-use Rattle.proof_waking.specs.proof_alone.Steps.{AreTold, IsOfUnit}
-use Rattle.proof_waking.specs.proof_alone.Time.{passing}
-use Rattle.proof_waking.proofs.Apart.{IsWordless}
+use Rattle.proof_requests.specs.proof_alone.Steps.{AreTold, IsOfUnit}
+use Rattle.proof_requests.specs.proof_alone.Time.{passing}
+use Rattle.proof_requests.proofs.proof_waking_Apart.{IsWordless}
 use Rattle.proof_attempts.specs.Series.{series_so_far}
 use Rattle.proof_attempts.specs.Since.{IsLoose}
 use Rattle.proof_attempts.proofs.SeriesSteps.{series_one, waits_on}

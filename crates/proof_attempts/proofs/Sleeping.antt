@@ -43,7 +43,7 @@ use Rattle.host_model.specs.State.{HostState, node_of}
 use Rattle.host_model.specs.Sessions.{open_command}
 use Rattle.host_model.specs.Facts.{IsCommandOf}
 use Rattle.host_model.specs.Ends.{PartEnd, Good, Passed_over, Bad, asleep_entry, attempt_entries, end_entries, failed_entry, neighbours_entry, out_entry, part_end, part_entries}
-use Rattle.proof_waking.proofs.Apart.{wordless_more}
+use Rattle.proof_requests.proofs.proof_waking_Apart.{wordless_more}
 use Rattle.proof_requests.specs.Ends.{EndsHere}
 use Rattle.proof_requests.proofs.Untold.{directly_one}
 use Rattle.proof_attempts.specs.Asleep.{OwesNone}

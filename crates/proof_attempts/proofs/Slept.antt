@@ -47,11 +47,11 @@ use Rattle.host_model.specs.Events.{HostEvent, Accepts, Cancels, Hears, Intervie
 use Rattle.s0_crypto.specs.declared.key_pair.Keys.{Keys}
 use Rattle.proof_work.specs.Work.{HostWork, MayBeTold, times_told, told_at, told_for}
 use Rattle.proof_work.proofs.HostOuts.{SharedAre, outs_are}
-use Rattle.proof_waking.specs.proof_alone.State.{HostMachine, done}
-use Rattle.proof_waking.specs.proof_alone.Steps.{AreTold, Does, IsOfUnit}
-use Rattle.proof_waking.specs.proof_alone.Phases.{Phase, Resting, Submitting, GoesBy, May}
-use Rattle.proof_waking.proofs.Apart.{IsWordless}
-use Rattle.proof_waking.proofs.proof_alone_Apart.{AreOfLine}
+use Rattle.proof_requests.specs.proof_alone.State.{HostMachine, done}
+use Rattle.proof_requests.specs.proof_alone.Steps.{AreTold, Does, IsOfUnit}
+use Rattle.proof_requests.specs.proof_alone.Phases.{Phase, Resting, Submitting, GoesBy, May}
+use Rattle.proof_requests.proofs.proof_waking_Apart.{IsWordless}
+use Rattle.proof_requests.proofs.proof_alone_Apart.{AreOfLine}
 use Rattle.proof_requests.specs.Asking.{Doing, TieAsked, TieUnderWay, doing_of}
 use Rattle.proof_requests.specs.Standing.{GoesOn, standing_of, with_entries}
 use Rattle.proof_requests.specs.Walking.{KnowsAsked}

@@ -45,8 +45,8 @@ use Rattle.host_model.specs.declared.out.HostOut.{HostOut}
 use Rattle.host_model.specs.declared.out.HostOut.TheVariants.{Note, Write}
 use Rattle.proof_work.proofs.HostOuts.{OutsAre, OwnIs, SharedAre, outs_are}
 use Rattle.proof_work.proofs.Shown.{shown_one}
-use Rattle.proof_waking.specs.proof_alone.Steps.{AreTold}
-use Rattle.proof_waking.proofs.proof_alone_Apart.{AreOfLine, marks_are}
+use Rattle.proof_requests.specs.proof_alone.Steps.{AreTold}
+use Rattle.proof_requests.proofs.proof_alone_Apart.{AreOfLine, marks_are}
 
 -- ---- entries
 

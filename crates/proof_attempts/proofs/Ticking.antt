@@ -16,9 +16,9 @@ use Rattle.host_model.specs.After.{after, gives_up, is_busy}
 use Rattle.host_model.specs.Events.{HostEvent, Accepts, Begins, Hears, Line_ticks, Node_ticks, Queues, Requests_do}
 use Rattle.host_model.specs.Taking.{IsFollowed, told_if}
 use Rattle.host_model.specs.Ticking.{ticking_nodes}
-use Rattle.proof_waking.specs.proof_alone.State.{HostMachine}
-use Rattle.proof_waking.specs.proof_alone.Phases.{Phase, Resting, Asked, Risen, Ticking, Open, Behind, Sleeping, Submitting, GoesBy, Turns}
-use Rattle.proof_waking.specs.proof_alone.Runs.{Knowledge}
+use Rattle.proof_requests.specs.proof_alone.State.{HostMachine}
+use Rattle.proof_requests.specs.proof_alone.Phases.{Phase, Resting, Asked, Risen, Ticking, Open, Behind, Sleeping, Submitting, GoesBy, Turns}
+use Rattle.proof_requests.specs.proof_alone.Runs.{Knowledge}
 use Rattle.proof_attempts.proofs.Finishing.{Brings, frame_brings}
 use Rattle.proof_attempts.specs.Since.{AreNodeTicks, InTick, IsOfItem, Lasts, TicksAt, TicksLeft, is_to_tick}
 

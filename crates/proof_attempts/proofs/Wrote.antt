@@ -32,12 +32,12 @@ use Rattle.host_model.specs.Pumping.{IsNext, no_more_event}
 use Rattle.host_model.specs.declared.out.HostOut.TheVariants.{Write}
 use Rattle.host_model.proofs.Submitted.{SleepersAre, next_is, no_more_is}
 use Rattle.proof_work.proofs.HostNotes.{NoteOuts}
-use Rattle.proof_waking.specs.proof_alone.State.{HostMachine}
-use Rattle.proof_waking.specs.proof_alone.Steps.{AreFrames, AreTold, Does, IsOfUnit}
-use Rattle.proof_waking.specs.proof_alone.Phases.{Phase, Ticking, Behind, Sleeping, Submitting, May}
-use Rattle.proof_waking.specs.Judged.{IsOfRequest, KnowsJudged}
-use Rattle.proof_waking.proofs.Followed.{MayFollow, frame_all}
-use Rattle.proof_waking.proofs.Parts.{IsNote}
+use Rattle.proof_requests.specs.proof_alone.State.{HostMachine}
+use Rattle.proof_requests.specs.proof_alone.Steps.{AreFrames, AreTold, Does, IsOfUnit}
+use Rattle.proof_requests.specs.proof_alone.Phases.{Phase, Ticking, Behind, Sleeping, Submitting, May}
+use Rattle.proof_requests.specs.proof_waking.Judged.{IsOfRequest, KnowsJudged}
+use Rattle.proof_requests.proofs.proof_waking_Followed.{MayFollow, frame_all}
+use Rattle.proof_requests.proofs.proof_waking_Parts.{IsNote}
 use Rattle.proof_requests.specs.Asking.{TieAsked, TieLine, doing_of}
 use Rattle.proof_requests.specs.Standing.{standing_of}
 use Rattle.proof_work.specs.Doing.{IsTold}

@@ -10,8 +10,8 @@ use Rattle.law_time.specs.Ends.{has_ended, is_ending_here}
 use Rattle.law_time.specs.Waking.{has_slept, is_told, owes_sleep_to_given_up}
 use Rattle.host_requests.specs.declared.under_way.UnderWay.{UnderWay}
 use Rattle.host_model.specs.Events.{HostEvent, Node_ticks}
-use Rattle.proof_waking.specs.proof_alone.Phases.{Phase, Ticking}
-use Rattle.proof_waking.specs.proof_alone.Runs.{Knowledge, both_know}
+use Rattle.proof_requests.specs.proof_alone.Phases.{Phase, Ticking}
+use Rattle.proof_requests.specs.proof_alone.Runs.{Knowledge, both_know}
 use Rattle.proof_requests.specs.Ends.{KnowsEnds}
 use Rattle.proof_attempts.specs.Since.{KnowsSince}
 use Rattle.proof_attempts.specs.Slept.{KnowsTelling, SleepsIfTold}

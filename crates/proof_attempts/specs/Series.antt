@@ -12,8 +12,8 @@ use Rattle.host_node.specs.State.{NodeState, has_waiting, is_idle, is_open as ha
 use Rattle.host_node.specs.Steps.{after_again_tick, after_hold_tick}
 use Rattle.host_model.specs.State.{HostState, node_of}
 use Rattle.proof_host.specs.Laws.{numbers_for}
-use Rattle.proof_waking.specs.proof_alone.Phases.{Phase, Risen, Ticking}
-use Rattle.proof_waking.specs.proof_alone.Runs.{Knowledge, both_know}
+use Rattle.proof_requests.specs.proof_alone.Phases.{Phase, Risen, Ticking}
+use Rattle.proof_requests.specs.proof_alone.Runs.{Knowledge, both_know}
 use Rattle.proof_attempts.specs.Since.{KnowsSince, TieOf, is_to_tick}
 use Rattle.proof_attempts.specs.Waiting.{WaitInOrder}
 use Rattle.proof_attempts.specs.Waking.{CountsAwake, KnowsHearing}

@@ -22,12 +22,12 @@ use Rattle.host_model.specs.Events.{HostEvent, Accepts, Begins, Hears, Line_tick
 use Rattle.host_model.specs.After.{after}
 use Rattle.host_model.specs.Outs.{answers}
 use Rattle.world_model.specs.Events.{OpensFrom}
-use Rattle.proof_waking.specs.proof_alone.State.{HostMachine, done, first_alone}
-use Rattle.proof_waking.specs.proof_alone.Steps.{Does, IsAskedBy, Says, Step, entries, happens}
-use Rattle.proof_waking.specs.proof_alone.Phases.{Phase, Resting, Asked, Risen, Ticking, Open, Behind, IsJudgedNow, IsNumbered, May, Turns}
-use Rattle.proof_waking.specs.proof_alone.Runs.{Knowledge, Run, both_know}
-use Rattle.proof_waking.specs.proof_alone.Tables.{KnowsTables}
-use Rattle.proof_waking.specs.proof_alone.Time.{KnowsClock}
+use Rattle.proof_requests.specs.proof_alone.State.{HostMachine, done, first_alone}
+use Rattle.proof_requests.specs.proof_alone.Steps.{Does, IsAskedBy, Says, Step, entries, happens}
+use Rattle.proof_requests.specs.proof_alone.Phases.{Phase, Resting, Asked, Risen, Ticking, Open, Behind, IsJudgedNow, IsNumbered, May, Turns}
+use Rattle.proof_requests.specs.proof_alone.Runs.{Knowledge, Run, both_know}
+use Rattle.proof_requests.specs.proof_alone.Tables.{KnowsTables}
+use Rattle.proof_requests.specs.proof_alone.Time.{KnowsClock}
 
 -- ---- nodes in a tick
 

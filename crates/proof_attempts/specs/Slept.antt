@@ -10,7 +10,7 @@ use Rattle.host_requests.specs.Frames.{request_of}
 use Rattle.host_requests.specs.State.{RequestsState}
 use Rattle.host_requests.specs.declared.under_way.UnderWay.{UnderWay}
 use Rattle.proof_requests.specs.Walking.{Ground as RequestsGround, KnowsAsked}
-use Rattle.proof_waking.specs.proof_alone.Runs.{Knowledge, both_know}
+use Rattle.proof_requests.specs.proof_alone.Runs.{Knowledge, both_know}
 use Rattle.proof_work.specs.Work.{told_at}
 use Rattle.proof_attempts.specs.Carried.{CarriesOthers}
 use Rattle.proof_attempts.specs.Since.{KnowsSince, TieOf}

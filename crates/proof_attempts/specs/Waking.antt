@@ -13,8 +13,8 @@ use Rattle.host_model.specs.State.{HostState, node_of}
 use Rattle.host_model.specs.Events.{HostEvent, Node_ticks}
 use Rattle.host_model.specs.Facts.{HostFacts}
 use Rattle.proof_work.specs.Work.{times_told}
-use Rattle.proof_waking.specs.proof_alone.Listening.{KnowsListening}
-use Rattle.proof_waking.specs.proof_alone.Runs.{Knowledge, both_know}
+use Rattle.proof_requests.specs.proof_alone.Listening.{KnowsListening}
+use Rattle.proof_requests.specs.proof_alone.Runs.{Knowledge, both_know}
 use Rattle.proof_attempts.specs.Since.{KnowsSince, KnowsTicks, TieOf, node_clock}
 use Rattle.proof_attempts.specs.Working.{WorksInOrder}
 

@@ -5,16 +5,18 @@ ghost use Rattle.s0_crypto.specs.declared.key_pair.Keys.{Keys};
 ghost use Rattle.device_sim.specs.State.{State};
 ghost use Rattle.zw_text.specs.declared.entry.Entry.{Entry};
 ghost use Rattle.law_time.specs.Holds.{HoldsAsAsked};
-ghost use Rattle.proof_waking.specs.law_host.Heard.{heard_by_host};
+ghost use Rattle.proof_requests.specs.law_host.Heard.{heard_by_host};
 ghost use Rattle.world_model.specs.State.{first_machine};
 ghost use Rattle.world_lines.specs.Spoken.{Spoken, transcript_of};
 ghost use Rattle.world_lines.specs.Done.{AreDone};
-ghost use Rattle.proof_waking.specs.proof_alone.State.{first_alone};
-ghost use Rattle.proof_waking.specs.proof_alone.Runs.{Told};
+ghost use Rattle.proof_requests.specs.proof_alone.State.{first_alone};
+ghost use Rattle.proof_requests.specs.proof_alone.Runs.{Told};
 
 use proof_requests::hosts_listen_as_told;
-use proof_waking::alone::{hosts_keep_their_tables, lines_are_a_hosts, what_is_heard_is_a_hosts};
-use proof_waking::hosts_judge_as_told;
+use proof_requests::waking::alone::{
+    hosts_keep_their_tables, lines_are_a_hosts, what_is_heard_is_a_hosts,
+};
+use proof_requests::waking::hosts_judge_as_told;
 
 /// In any run of a host alone, over a keeper that tells its records and has none at first: a node is held where the report that ends its session may ask so,
 /// and wherever it does.

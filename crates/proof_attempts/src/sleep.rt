@@ -5,21 +5,21 @@ ghost use Rattle.s0_crypto.specs.declared.key_pair.Keys.{Keys};
 ghost use Rattle.device_sim.specs.State.{State};
 ghost use Rattle.zw_text.specs.declared.entry.Entry.{Entry};
 ghost use Rattle.law_time.specs.Waking.{FallsAsleep};
-ghost use Rattle.proof_waking.specs.law_host.Heard.{heard_by_host};
+ghost use Rattle.proof_requests.specs.law_host.Heard.{heard_by_host};
 ghost use Rattle.world_model.specs.State.{first_machine};
 ghost use Rattle.world_lines.specs.Spoken.{Spoken, transcript_of};
 ghost use Rattle.world_lines.specs.Done.{AreDone};
 ghost use Rattle.world_lines.specs.Whole.{AreWhole};
-ghost use Rattle.proof_waking.specs.proof_alone.State.{HostMachine, first_alone};
-ghost use Rattle.proof_waking.specs.proof_alone.Phases.{Resting};
-ghost use Rattle.proof_waking.specs.proof_alone.Runs.{Run, Told};
+ghost use Rattle.proof_requests.specs.proof_alone.State.{HostMachine, first_alone};
+ghost use Rattle.proof_requests.specs.proof_alone.Phases.{Resting};
+ghost use Rattle.proof_requests.specs.proof_alone.Runs.{Run, Told};
 ghost use Rattle.proof_attempts.specs.Asleep.{KnowsSleep};
 ghost use Rattle.proof_attempts.specs.Since.{AlongRuns};
 
 use crate::waking::hosts_count_awake;
 use crate::work::hosts_know_their_work;
+use proof_requests::waking::alone::{lines_are_a_hosts, what_is_heard_is_a_hosts};
 use proof_requests::{hosts_ask_as_told, hosts_listen_as_told, hosts_tell_of_ends};
-use proof_waking::alone::{lines_are_a_hosts, what_is_heard_is_a_hosts};
 use proof_work::work_in_order_means;
 
 /// Along each run of a host alone, over a keeper that tells its records and has none at first: each No More Information that it asks its chip to send tells a

@@ -7,16 +7,16 @@ ghost use Rattle.law_time.specs.Holds.{held_until};
 ghost use Rattle.law_time.specs.Waking.{counts_awake};
 ghost use Rattle.host_model.specs.State.{node_of};
 ghost use Rattle.proof_host.specs.Laws.{MayStand};
-ghost use Rattle.proof_waking.specs.proof_alone.State.{HostMachine, first_alone};
-ghost use Rattle.proof_waking.specs.proof_alone.Phases.{Resting};
-ghost use Rattle.proof_waking.specs.proof_alone.Runs.{Run, Walk, both_know};
-ghost use Rattle.proof_waking.specs.proof_alone.Tables.{KnowsTables};
+ghost use Rattle.proof_requests.specs.proof_alone.State.{HostMachine, first_alone};
+ghost use Rattle.proof_requests.specs.proof_alone.Phases.{Resting};
+ghost use Rattle.proof_requests.specs.proof_alone.Runs.{Run, Walk, both_know};
+ghost use Rattle.proof_requests.specs.proof_alone.Tables.{KnowsTables};
 ghost use Rattle.proof_attempts.specs.Since.{AlongRuns, KnowsSince};
 ghost use Rattle.proof_attempts.specs.Waking.{CountsAwake, HeldAsTold};
 
 use crate::work::hosts_know_their_work;
 use proof_requests::hosts_listen_as_told;
-use proof_waking::alone::hosts_keep_their_tables;
+use proof_requests::waking::alone::hosts_keep_their_tables;
 use proof_work::work_in_order_means;
 
 /// In any run of a host alone, also where it starts again, over a keeper that tells its records and has none at first: at each step, and wherever a part

@@ -4,10 +4,10 @@ ghost use Rattle.std.specs.Prelude.{Some, List, [], ℕ};
 ghost use Rattle.s0_crypto.specs.declared.key_pair.Keys.{Keys};
 ghost use Rattle.zw_text.specs.declared.entry.Entry.{Entry};
 ghost use Rattle.proof_host.specs.Laws.{MayStand};
-ghost use Rattle.proof_waking.specs.proof_alone.State.{HostMachine, first_alone};
-ghost use Rattle.proof_waking.specs.proof_alone.Phases.{Phase, Resting};
-ghost use Rattle.proof_waking.specs.proof_alone.Runs.{Run, Walk, both_know};
-ghost use Rattle.proof_waking.specs.proof_alone.Tables.{KnowsTables};
+ghost use Rattle.proof_requests.specs.proof_alone.State.{HostMachine, first_alone};
+ghost use Rattle.proof_requests.specs.proof_alone.Phases.{Phase, Resting};
+ghost use Rattle.proof_requests.specs.proof_alone.Runs.{Run, Walk, both_know};
+ghost use Rattle.proof_requests.specs.proof_alone.Tables.{KnowsTables};
 ghost use Rattle.proof_work.specs.Rests.{IsTended};
 ghost use Rattle.proof_work.specs.Work.{HostWork};
 ghost use Rattle.proof_attempts.specs.Since.{AlongRuns, KnowsSince};
@@ -15,7 +15,7 @@ ghost use Rattle.proof_attempts.specs.Waiting.{WaitInOrder};
 ghost use Rattle.proof_attempts.specs.Waking.{KnowsWork};
 ghost use Rattle.proof_attempts.specs.Working.{WorksInOrder};
 
-use proof_waking::alone::{hosts_keep_their_tables, hosts_tell_time};
+use proof_requests::waking::alone::{hosts_keep_their_tables, hosts_tell_time};
 use proof_work::{
     hosts_are_tended, hosts_do_these, hosts_keep_their_work, turns_of_a_pump_leave_nothing,
 };

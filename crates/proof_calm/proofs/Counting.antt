@@ -204,21 +204,27 @@ pub done_aside : (heading : Heading) (number status : ℕ) (dead : Option (ℕ �
 done_aside Outward number status dead = (tt, tt)
 done_aside Homeward number status dead = tt
 
-changed_aside : (node first count : ℕ) → AllByRecursion IsAside (changed node first count)
-changed_aside node first zero = tt
-changed_aside node first (suc more) = (tt, changed_aside node (first + 1) more)
+-- what is told where a device hears
+module _ (Is : AirEvent → Type 0) (hears : (frame : ℕ) → Is (air_event.Heard frame)) (changes : (node at : ℕ) → Is (air_event.Changed node at))
+    (sends : (frame from to : ℕ) (route : Route) (payload : List ℕ) → Is (air_event.Sent frame from to route payload)) where
+  changed_all : (node first count : ℕ) → AllByRecursion Is (changed node first count)
+  changed_all node first zero = tt
+  changed_all node first (suc more) = (changes node _, changed_all node (first + 1) more)
 
-answers_aside : (air : AirState) (node : ℕ) (way : Option Route) (replies : List (List ℕ)) → AllByRecursion IsAside (answers air node way replies)
-answers_aside air node way [] = tt
-answers_aside air node way (reply ∷ replies) = (tt, answers_aside (departing air node Homeward way reply) node way replies)
+  answers_all : (air : AirState) (node : ℕ) (way : Option Route) (replies : List (List ℕ)) → AllByRecursion Is (answers air node way replies)
+  answers_all air node way [] = tt
+  answers_all air node way (reply ∷ replies) = (sends _ _ _ _ _, answers_all (departing air node Homeward way reply) node way replies)
 
-answers_if_aside : (b : Bool) (air : AirState) (node : ℕ) (way : Option Route) (replies : List (List ℕ)) → AllByRecursion IsAside (answers_if b air node way replies)
-answers_if_aside true air node way replies = answers_aside air node way replies
-answers_if_aside false air node way replies = tt
+  answers_if_all : (b : Bool) (air : AirState) (node : ℕ) (way : Option Route) (replies : List (List ℕ)) → AllByRecursion Is (answers_if b air node way replies)
+  answers_if_all true air node way replies = answers_all air node way replies
+  answers_if_all false air node way replies = tt
+
+  pub outs_all : (at : Mesh) (device : Option State) (number node : ℕ) (route : Option Route) (event : DeviceEvent) → AllByRecursion Is (outs_at at device number node route event)
+  outs_all at None number node route event = tt
+  outs_all at (Some device) number node route event = (hears number, all-append Is (changed node _ _) (answers_if (is_joined at.air node) at.air node _ _) (changed_all node _ _) (answers_if_all (is_joined at.air node) at.air node _ _))
 
 pub outs_aside : (at : Mesh) (device : Option State) (number node : ℕ) (route : Option Route) (event : DeviceEvent) → AllByRecursion IsAside (outs_at at device number node route event)
-outs_aside at None number node route event = tt
-outs_aside at (Some device) number node route event = (tt, all-append IsAside (changed node _ _) (answers_if (is_joined at.air node) at.air node _ _) (changed_aside node _ _) (answers_if_aside (is_joined at.air node) at.air node _ _))
+outs_aside at device number node route event = outs_all IsAside (λ frame. tt) (λ changed place. tt) (λ frame from to way payload. tt) at device number node route event
 
 fate_more : (devices : List State) (o : OuterState) (at : Mesh) (number : ℕ) (frame : Flown) (fate : Fate) (drawn : List ℕ) (route : Option Route) → OneMore o (each (deals devices) o (arrival_outs_as at number frame fate drawn route)).outer
 fate_more devices o at number frame Lost drawn route = one_more_of o _ (all_no_more devices o (arrival_outs_as at number frame Lost drawn route) (tt, done_aside frame.heading number 1 None))

@@ -1,11 +1,15 @@
 -- At first node 2 is joined, and the host has to do with it alone.
-use Rattle.std.proofs.Common.{◌≡◌, ℕ, zero, suc, Bool, true, false, inl, inr, List, replicate, refl, sym, ◌∙◌, subst, arith}
+use Rattle.std.proofs.Common.{◌≡◌, ◌≢◌, ℕ, zero, suc, Bool, true, false, inl, inr, List, [], replicate, refl, sym, ◌∙◌, subst, arith}
 use Rattle.std.proofs.lemmas.Bool.{cases_eq}
 use Rattle.std.proofs.lemmas.List.{get_or-set_other}
-use Rattle.std.specs.Prelude.{Option, slice_set}
+use Rattle.std.specs.Prelude.{All, AllPairs, IsTrue, Option, slice_set}
 use Rattle.std.specs.List.{AllByRecursion}
 use Rattle.s0_crypto.specs.declared.key_pair.Keys.{Keys}
+use Rattle.route_table.specs.Network.{Network, linked, no_network, repeats}
+use Rattle.route_table.specs.Walk.{Walk}
+use Rattle.route_table.proofs.Networks.{linked-insert}
 use Rattle.air_frames.specs.Frames.{no_frames}
+use Rattle.chip_sim.specs.Events.{with_repeater}
 use Rattle.chip_sim.specs.Nodes.{is_marked, none_marked}
 use Rattle.device_sim.specs.State.{State}
 use Rattle.host_node.specs.Events.NodeEvent.{Joins, Interviews}
@@ -20,6 +24,7 @@ use Rattle.proof_serial.proofs.HostFits.{all_at}
 use Rattle.proof_serial.proofs.HostRuns.{first_fits}
 use Rattle.proof_calm.specs.Homeward.{SpeaksHome}
 use Rattle.proof_calm.specs.Known.{IsBlank, IsMember}
+use Rattle.proof_calm.specs.Live.{HasLive}
 use Rattle.proof_calm.specs.Tied.{IsPeopled}
 use Rattle.proof_calm.proofs.Knowing.{AreBlank, set_blank}
 
@@ -74,6 +79,32 @@ first_speaks : SpeaksHome two_joined first_outer
 unfolding first_outer two_joined none_marked no_frames
 first_speaks = record { frames = tt; nodes = λ n is. two_member n (only_two n is) }
 
+no_pairs : AllPairs (λ (a b : ℕ). a ≢ b) []
+no_pairs = λ i j d below low. absurd (omega (arith, below, low))
+
+none_all : (P : ℕ → Type 0) → All P []
+none_all P = λ k d low. absurd (omega (arith, low))
+
+-- node 2 hears node 1
+direct : (net : Network) → linked net 1 2 ≡ true → Walk net 2 []
+direct net hears = record {
+  few = omega arith;
+  different = no_pairs;
+  inner = none_all (λ n. (n ≢ 1) × (n ≢ 2));
+  marked = none_all (λ n. IsTrue (repeats net n));
+  hops = hears;
+}
+
+first_live : HasLive first_outer
+unfolding first_outer two_joined no_frames
+first_live = record {
+  fly = tt;
+  known = λ a b is. is;
+  reaches = λ n is.
+      let hears : linked first_outer.chip.state.table 1 2 ≡ true = linked-insert (with_repeater no_network 2 true) 1 2 1 2 in
+      subst (λ (k : ℕ). (k ≢ 1) × ((walk : List ℕ) × Walk first_outer.chip.state.table k walk)) (sym (only_two n is)) (λ same. absurd cc, ([], direct first_outer.chip.state.table hears));
+}
+
 pub first_peopled : (facts : (keys : Keys) → HostFacts (first_host keys)) (keys : Keys) (records : Option (List (List ℕ))) (devices : List State) → IsPeopled (first_machine keys records devices)
 unfolding first_outer two_joined
 first_peopled facts keys records devices = record {
@@ -81,4 +112,5 @@ first_peopled facts keys records devices = record {
   fits = first_fits keys;
   knows = record { others = blank_nodes keys; tasks = tt; request = tt };
   speaks = first_speaks;
+  live = first_live;
 }

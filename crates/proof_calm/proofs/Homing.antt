@@ -46,7 +46,7 @@ use Rattle.proof_calm.proofs.Counting.{IsAside, done_aside, outs_aside}
 use Rattle.proof_calm.proofs.Pending.{IsFromOf}
 use Rattle.proof_calm.proofs.Unmarked.{hosts, nothing_asked}
 
-all_left : {A : Type 0} (P : A → Type 0) (k : ℕ) (xs : List A) → AllByRecursion P xs → AllByRecursion P (drop k xs)
+pub all_left : {A : Type 0} (P : A → Type 0) (k : ℕ) (xs : List A) → AllByRecursion P xs → AllByRecursion P (drop k xs)
 all_left P zero xs all = all
 all_left P (suc k) [] all = tt
 all_left P (suc k) (x ∷ xs) all = all_left P k xs all.1

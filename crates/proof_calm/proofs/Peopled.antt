@@ -42,6 +42,7 @@ use Rattle.proof_calm.proofs.Idle.{host_idles}
 use Rattle.proof_calm.proofs.Judging.{TieBy, units_named}
 use Rattle.proof_calm.proofs.Knowing.{IsNamed, all_know, event_knows, same_requests}
 use Rattle.proof_calm.proofs.Links.{event_members}
+use Rattle.proof_calm.proofs.Living.{event_lives}
 use Rattle.proof_calm.proofs.Reading.{goods}
 use Rattle.proof_calm.proofs.Requested.{moved_frames}
 use Rattle.proof_calm.proofs.Serving.{Payloads, listed_named, next_asks, no_more_named, tick_named}
@@ -224,4 +225,5 @@ module _ (payloads : Payloads) (air : Airs) (facts_kept : FactsKept) (opened : O
         fits = fit.fits;
         knows = subst (λ (l : List Bool). KnowsMembers l n.host.state) (sym joined) (known_on here next m event goes may line_at tie at);
         speaks = subst (λ (l : List Bool). SpeaksHome l n.outside.outer) (sym joined) (event_speaks m.outside.outer.chip.state.joined m event covers may at.speaks);
+        live = event_lives m event covers may at.live;
       }

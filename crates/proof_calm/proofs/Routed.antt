@@ -168,7 +168,7 @@ sent_carried node payload (Some route) some = (tt, tt)
 -- ---- each has one
 
 -- what the chip knows of nodes, when it judges what it hears
-abbrev Of : ChipState → Network × List Bool
+abbrev pub Of : ChipState → Network × List Bool
 Of s = (s.table, s.joined)
 
 performed_of : (request : Request) (s : ChipState) → Of (performed request s) ≡ Of s
@@ -200,7 +200,7 @@ requested_of : (request : Option Request) (s : ChipState) → Of (requested requ
 requested_of None s = refl
 requested_of (Some request) s = performed_of request (given_if s (reply_to s request)) ∙ given_of s (reply_to s request)
 
-judged_of : (frame : Option FrameParts) (s : ChipState) → Of (judged_frame frame s) ≡ Of s
+pub judged_of : (frame : Option FrameParts) (s : ChipState) → Of (judged_frame frame s) ≡ Of s
 judged_of None s = refl
 judged_of (Some frame) s = requested_of (asked frame) s
 

@@ -101,6 +101,7 @@ use Rattle.proof_calm.proofs.Routed.{arrives_routed, calm_routed, counts_routed,
 use Rattle.host_model.specs.Pumping.{HasNothing, IsPumped}
 use Rattle.proof_serial.proofs.HostRuns.{FactsKept, OpenedFacts}
 use Rattle.proof_calm.specs.Tied.{AsksAt, IsPeopled, PumpedAt}
+use Rattle.proof_calm.specs.Live.{HasLive}
 use Rattle.proof_calm.proofs.Homing.{arrival_from}
 use Rattle.proof_calm.proofs.Peopled.{next_asked, peopled_on}
 use Rattle.proof_calm.proofs.Serving.{Payloads}
@@ -656,27 +657,27 @@ module _ (air : Airs) where
   as_routed : (m : Machine) (event is : Event) → event ≡ is → IsRouted (happens m is).outside.outer → IsRouted (happens m event).outside.outer
   as_routed m event is same routed = subst (λ (e : Event). IsRouted (happens m e).outside.outer) (sym same) routed
 
-  routed_on : (here next : Phase) (m : Machine) (event : Event) → Goes here m event next → May m event → IsOrderly m event → IsServed m event → LineAt here m → IsRouted m.outside.outer → IsRouted (happens m event).outside.outer
-  routed_on (Said_line line) next m event (is, to) may orderly served line_at routed = as_routed m event (Outside_does Begins_line) is (line_routed m routed)
-  routed_on (Doing line (first ∷ left)) next m event (is, to) may orderly served line_at routed = as_routed m event first is (effect_routed m first line_at.0.0 routed)
-  routed_on (To_tick (suc ticks)) next m event (is, to) may orderly served line_at routed = as_routed m event (Outside_does Begins_tick) is (tick_routed m routed)
-  routed_on (Arriving (suc frames) ticks) next m event (drawn, route, is, to) may orderly served line_at routed = as_routed m event (Outside_does (Arrives drawn route)) is (arrives_routed m drawn route routed)
-  routed_on (Giving (suc results) ticks) next m event (route, is, to) may orderly served line_at routed = as_routed m event (Outside_does (Gives route)) is (gives_routed m route routed)
-  routed_on (Ticking_devices place (suc count) ticks) next m event (drawn, route, is, to) may orderly served line_at routed =
+  routed_on : (here next : Phase) (m : Machine) (event : Event) → Goes here m event next → May m event → HasLive m.outside.outer → IsServed m event → LineAt here m → IsRouted m.outside.outer → IsRouted (happens m event).outside.outer
+  routed_on (Said_line line) next m event (is, to) may live served line_at routed = as_routed m event (Outside_does Begins_line) is (line_routed m routed)
+  routed_on (Doing line (first ∷ left)) next m event (is, to) may live served line_at routed = as_routed m event first is (effect_routed m first line_at.0.0 routed)
+  routed_on (To_tick (suc ticks)) next m event (is, to) may live served line_at routed = as_routed m event (Outside_does Begins_tick) is (tick_routed m routed)
+  routed_on (Arriving (suc frames) ticks) next m event (drawn, route, is, to) may live served line_at routed = as_routed m event (Outside_does (Arrives drawn route)) is (arrives_routed m drawn route routed)
+  routed_on (Giving (suc results) ticks) next m event (route, is, to) may live served line_at routed = as_routed m event (Outside_does (Gives route)) is (gives_routed m route routed)
+  routed_on (Ticking_devices place (suc count) ticks) next m event (drawn, route, is, to) may live served line_at routed =
       as_routed m event (Outside_does (Device_ticks place drawn route)) is (device_routed m place drawn route routed)
-  routed_on (Ticking_chip ticks) next m event (is, to) may orderly served line_at routed = as_routed m event (Outside_does Chip_ticks) is (counts_routed m routed)
-  routed_on (Ticking_decoder ticks) next m event (is, to) may orderly served line_at routed = as_routed m event Decoder_ticks is (decoder_routed m routed)
-  routed_on (Ticking_host (first ∷ events) ticks) next m event (is, to) may orderly served line_at routed = as_routed m event (Host_does first) is (does_routed m first routed)
-  routed_on (Sleeping passes ticks) next m event (node, wants, is, to) may orderly served line_at routed =
+  routed_on (Ticking_chip ticks) next m event (is, to) may live served line_at routed = as_routed m event (Outside_does Chip_ticks) is (counts_routed m routed)
+  routed_on (Ticking_decoder ticks) next m event (is, to) may live served line_at routed = as_routed m event Decoder_ticks is (decoder_routed m routed)
+  routed_on (Ticking_host (first ∷ events) ticks) next m event (is, to) may live served line_at routed = as_routed m event (Host_does first) is (does_routed m first routed)
+  routed_on (Sleeping passes ticks) next m event (node, wants, is, to) may live served line_at routed =
       as_routed m event (Host_does (no_more_event m.host.state node)) is (does_routed m (no_more_event m.host.state node) routed)
-  routed_on (Submitting passes ticks) next m event (asked, next_is, is, to) may orderly served line_at routed = as_routed m event (Host_does asked) is (does_routed m asked routed)
-  routed_on (Moving passes ticks) next m event (rest, ways, is, to) may orderly served line_at routed =
+  routed_on (Submitting passes ticks) next m event (asked, next_is, is, to) may live served line_at routed = as_routed m event (Host_does asked) is (does_routed m asked routed)
+  routed_on (Moving passes ticks) next m event (rest, ways, is, to) may live served line_at routed =
       as_routed m event (Outside_does (Chip_takes (length m.outside.outer.to_chip.bytes) rest ways)) is
-      (takes_routed m rest ways (part_unmarked passes m line_at) (subst (May m) is may) (subst (IsServed m) is served) (subst (IsOrderly m) is orderly) routed)
-  routed_on (Moved b passes ticks) next m event (rest, items, done, is, to) may orderly served line_at routed =
+      (takes_routed m rest ways (part_unmarked passes m line_at) (subst (May m) is may) (subst (IsServed m) is served) live.reaches routed)
+  routed_on (Moved b passes ticks) next m event (rest, items, done, is, to) may live served line_at routed =
       as_routed m event (Host_takes (length m.outside.outer.to_host.bytes) rest items done) is
       (calm_routed m.outside.outer (happens m (Host_takes (length m.outside.outer.to_host.bytes) rest items done)).outside.outer (takes_calm air m (length m.outside.outer.to_host.bytes) rest items done) routed)
-  routed_on here next m event goes may orderly served line_at routed = absurd goes
+  routed_on here next m event goes may live served line_at routed = absurd goes
 
 -- ---- the frame of the request is on the line until it is acknowledged
 
@@ -888,7 +889,7 @@ module _ (laws : Outsides) (ids : Ids) (payloads : Payloads) where
             let served : IsServed m event = event_served here next m event goes may orderly at.0 at.2 at.6 at.7 in
             let later : LineAt next (happens m event) = (lines.event here next past m event goes may served (λ said. at.0)).1 quiet in
             let room : RoomAt next (happens m event) = event_room laws.air here next m event goes may orderly at.0 at.2 at.6 at.3 in
-            (later, event_awaits laws here next m event goes may at.0 at.1, room, routed_on laws.air here next m event goes may orderly served at.0 at.3, lines_on stays here next m event goes may at.0 at.6 at.4, pumped_on here next m event goes at.5, event_ties here next m event goes may orderly at.0 at.1 at.2 at.6 at.7 later room, peopled_on payloads laws.air facts_kept opened here next m event goes may orderly at.0 at.6 at.7),
+            (later, event_awaits laws here next m event goes may at.0 at.1, room, routed_on laws.air here next m event goes may at.7.live served at.0 at.3, lines_on stays here next m event goes may at.0 at.6 at.4, pumped_on here next m event goes at.5, event_ties here next m event goes may orderly at.0 at.1 at.2 at.6 at.7 later room, peopled_on payloads laws.air facts_kept opened here next m event goes may orderly at.0 at.6 at.7),
       );
       turn = λ here next past m turns known quiet.
           let at = known quiet in

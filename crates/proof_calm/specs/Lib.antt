@@ -10,5 +10,6 @@ pub mod Awaited
 pub mod Routed
 pub mod Known
 pub mod Homeward
+pub mod Live
 pub mod Undisturbed
 pub mod Tied

@@ -31,7 +31,7 @@ use Rattle.host_model.specs.Events.{HostEvent, Line_ticks, Requests_do, Node_tic
 use Rattle.host_model.specs.Facts.{HostFacts}
 use Rattle.host_model.specs.Pumping.{HasNothing, IsPumped}
 use Rattle.host_model.specs.State.{HostState}
-use Rattle.outside_model.specs.Events.{OuterEvent, Begins_tick, Chip_takes}
+use Rattle.outside_model.specs.Events.{OuterEvent, Begins_tick}
 use Rattle.outside_model.specs.State.{OuterState}
 use Rattle.world_model.specs.Events.{Event, Outside_does}
 use Rattle.world_model.specs.State.{Machine}
@@ -42,9 +42,10 @@ use Rattle.proof_calm.specs.Awaited.{Awaits, AwaitsAt}
 use Rattle.proof_calm.specs.Calls.{answer_taken}
 use Rattle.proof_calm.specs.Homeward.{SpeaksHome}
 use Rattle.proof_calm.specs.Known.{IsMember, KnowsMembers}
+use Rattle.proof_calm.specs.Live.{HasLive}
 use Rattle.proof_calm.specs.Quiet.{AreQuiet}
 use Rattle.proof_calm.specs.Resting.{LineAt, LineRests}
-use Rattle.proof_calm.specs.Routed.{IsRouted, Reaches}
+use Rattle.proof_calm.specs.Routed.{IsRouted}
 use Rattle.proof_calm.specs.Undisturbed.{HasNone, IsTaken}
 
 -- ---- frames of the chip
@@ -224,12 +225,13 @@ PumpedAt (Begun line) m = IsPumped m.host.state
 PumpedAt (To_tick ticks) m = IsPumped m.host.state
 PumpedAt here m = Unit {0}
 
--- the host has to do with joined nodes alone, these alone speak on the air, and what the host gives is short
+-- the host has to do with joined nodes alone, these alone speak on the air, what the host gives is short, and no hop is dead
 pub record IsPeopled (m : Machine) : Type 0 where
   pub facts : HostFacts m.host.state
   pub fits : HostFits m.host.state
   pub knows : KnowsMembers m.outside.outer.chip.state.joined m.host.state
   pub speaks : SpeaksHome m.outside.outer.chip.state.joined m.outside.outer
+  pub live : HasLive m.outside.outer
 
 abbrev pub KnowTied : Phase → List Entry → Machine → Type 0
 KnowTied here past m =
@@ -261,10 +263,9 @@ AsksAt joined h (Gives_text n payload) = AsksToSend joined (Attempt n false payl
 AsksAt joined h (Gives_segment n more payload) = AsksToSend joined (Attempt n more payload) (next_id h.requests.last_id)
 AsksAt joined h event = Unit {0}
 
--- as a tick begins, at most 31 frames are on the air; and where the chip takes what is on its way to it, its table has a walk to each joined node
+-- as a tick begins, at most 31 frames are on the air
 abbrev pub IsOrderlyOutside : Machine → OuterEvent → Type 0
 IsOrderlyOutside m Begins_tick = to_arrive m ≤ 31
-IsOrderlyOutside m (Chip_takes count rest ways) = Reaches m.outside.outer.chip.state.table m.outside.outer.chip.state.joined
 IsOrderlyOutside m event = Unit {0}
 
 -- and what the machine says no length of is short

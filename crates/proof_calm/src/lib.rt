@@ -6,13 +6,13 @@
 //! (`the_line_rests`), where the chip takes the payload of each frame of the host; and the chip sends one payload at most then, for the host's only frame on
 //! the air (`the_chip_sends_one`). It takes each that is of 1 to 46 bytes and for a joined node, where it sends nothing (`the_chip_takes_payloads`); and the
 //! host's request stays under way until its call comes (`calls_end_requests`). Which nodes are joined, and the links of the air, stay
-//! (`quiet_lines_leave_the_network`). Where few frames are on the air and the chip's table reaches each joined node, the host asks to send to joined nodes
-//! alone, the chip takes each payload, and each request ends by its one call (`requests_stay_tied`). There is no code here.
-//! The definitions are in `specs/`: `Marks`, `Quiet` (what is known at each phase while only quiet lines were said), `Passes` (which units are on their way,
-//! and which frames of each side are on the line), `Settling` (where a settling stands, and in how many passes it ends), `Resting` (what is known of the line
-//! at each phase), `Sending`, `Calls`, `Networks`, `Awaited` (which calls are to come), `Routed` (that each payload has a route), `Known` and `Homeward` (that
-//! joined nodes alone are known and speak), `Tied` (where the request is), and `Undisturbed` (all that is so of the machine between the lines and ticks of a
-//! stretch; of this the line, what the chip sends and the request are proved).
+//! (`quiet_lines_leave_the_network`). Where few frames are on the air, the host asks to send to joined nodes alone, the chip takes each payload and has a
+//! route for it, and each request ends by its one call (`requests_stay_tied`). There is no code here.
+//! The definitions are in `specs/`: `Marks`, `Quiet` (what is known at each phase while only quiet lines were said), `Passes` (which units are on their
+//! way, and which frames of each side are on the line), `Settling` (where a settling stands, and in how many passes it ends), `Resting` (what is known of
+//! the line at each phase), `Sending`, `Calls`, `Networks`, `Awaited` (which calls are to come), `Routed` and `Live` (that each payload has a route, and
+//! no hop is dead), `Known` and `Homeward` (that joined nodes alone are known and speak), `Tied` (where the request is), and `Undisturbed` (all that is
+//! so of the machine between the lines and ticks of a stretch; of this the line, what the chip sends and the request are proved).
 #![tactic(auto)]
 
 mod calls;

@@ -81,11 +81,11 @@ use proof_devices::routes::{
 };
 use proof_devices::{devices_did, lines_meet_what_is_due, lines_repeat_what_is_asked};
 use proof_host::{asides_keep_facts, laws_follow};
-use proof_replay::asking::lines_say_how_done;
+use proof_replay::asking::{lines_ask_one_by_one, lines_say_how_done};
 use proof_replay::attempts::{lines_fall_asleep_as_told, lines_hold_as_asked};
 use proof_replay::known::waking::lines_wake_as_told;
 use proof_replay::lines_that_ran_are_heard;
-use proof_replay::requests::{lines_answer_questions, lines_ask_one_by_one, lines_end_interviews};
+use proof_replay::requests::{lines_answer_questions, lines_end_interviews};
 use proof_replay::sending::line::{
     lines_clear_at_restarts, lines_clear_nowhere_else, lines_clear_the_line,
     lines_collide_when_asked, lines_keep_links, lines_mark_units, lines_overrun_only_when_full,

@@ -16,3 +16,5 @@ mod Turning
 mod InTurn
 mod AtOnce
 pub use Rattle.proof_waking.proofs.Running
+pub use Rattle.proof_transcript.proofs.AttemptStarts
+pub use Rattle.proof_transcript.proofs.ServedNodes

@@ -17,11 +17,11 @@ use Rattle.law_transcript.specs.Restarts.{is_restart, since_restart_from}
 use Rattle.law_time.specs.Ends.{ending}
 use Rattle.law_time.specs.Requests.{asked_before}
 use Rattle.law_time.specs.Interviews.{listening_at, listens, says_listening}
-use Rattle.proof_requests.specs.law_host.Course.{Book, book_of}
-use Rattle.proof_requests.specs.law_host.Heard.{listing_heard}
-use Rattle.proof_requests.specs.law_host.Starting.{book_kept}
-use Rattle.proof_requests.specs.law_host.Starting as starting
-use Rattle.proof_requests.specs.proof_alone.Listening.{ListensAsTold}
+use Rattle.proof_asking.specs.proof_requests.law_host.Course.{Book, book_of}
+use Rattle.proof_asking.specs.proof_requests.law_host.Heard.{listing_heard}
+use Rattle.proof_asking.specs.proof_requests.law_host.Starting.{book_kept}
+use Rattle.proof_asking.specs.proof_requests.law_host.Starting as starting
+use Rattle.proof_asking.specs.proof_requests.proof_alone.Listening.{ListensAsTold}
 use Rattle.proof_asking.specs.proof_known.Known.{KnowsRecords}
 use Rattle.proof_replay.specs.HostSteps.{StartsAfter, restart_word}
 use Rattle.proof_replay.proofs.Serving.{restart_is}

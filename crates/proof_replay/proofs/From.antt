@@ -10,8 +10,8 @@ use Rattle.law_transcript.specs.Payloads.{MayRequest}
 use Rattle.law_transcript.specs.Sessions.{MayBegin}
 use Rattle.law_wire.specs.Serial.{ended}
 use Rattle.proof_host.proofs.Over.{each-right as each_from}
-use Rattle.proof_requests.specs.law_host.Heard.{listing_heard}
-use Rattle.proof_requests.specs.law_host.HostLegal.{ShowsValues}
+use Rattle.proof_asking.specs.proof_requests.law_host.Heard.{listing_heard}
+use Rattle.proof_asking.specs.proof_requests.law_host.HostLegal.{ShowsValues}
 use Rattle.proof_replay.specs.Laws.{HostsKeepLaws, KeepsFrom}
 
 -- the end of a whole run stands after all of it

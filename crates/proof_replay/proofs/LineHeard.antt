@@ -43,8 +43,8 @@ use Rattle.host_node.specs.declared.attempt.Moment.TheVariants.{BeforeItsTick}
 use Rattle.run_replay.specs.Machine.{entries_of, entry_of, timed}
 use Rattle.world_model.specs.State.{Machine}
 use Rattle.world_model.specs.Refusals.{IsRefused}
-use Rattle.proof_requests.specs.proof_alone.Steps.{IsAskedBy}
-use Rattle.proof_requests.proofs.InOrder.{is_asked}
+use Rattle.proof_asking.specs.proof_requests.proof_alone.Steps.{IsAskedBy}
+use Rattle.proof_asking.proofs.InOrder.{is_asked}
 use Rattle.proof_line.specs.proof_walk.ByLine.{IsAsked}
 use Rattle.proof_attempts.proofs.HostNotes.{NoteOuts, all_outs_note}
 use Rattle.proof_line.proofs.Untimed.{AreUntimed, IsUntimed}

@@ -12,13 +12,13 @@ use Rattle.outside_model.specs.State.{OuterState, first_outer}
 use Rattle.outside_model.specs.Events.{has_entered, stamp}
 use Rattle.run_replay.specs.Machine.{entries_of, entry_of, timed}
 use Rattle.proof_attempts.proofs.Times.{time_of}
-use Rattle.proof_requests.specs.proof_alone.State.{HostMachine, host_machine}
-use Rattle.proof_requests.specs.proof_alone.Steps.{AreTold}
-use Rattle.proof_requests.specs.proof_alone.Phases.{Phase, Resting}
-use Rattle.proof_requests.specs.proof_alone.Runs.{Run}
-use Rattle.proof_requests.proofs.Coming.{at_time}
-use Rattle.proof_requests.proofs.Hosting.{Enters}
-use Rattle.proof_requests.proofs.Stamps.{entered_still, stamp_both}
+use Rattle.proof_asking.specs.proof_requests.proof_alone.State.{HostMachine, host_machine}
+use Rattle.proof_asking.specs.proof_requests.proof_alone.Steps.{AreTold}
+use Rattle.proof_asking.specs.proof_requests.proof_alone.Phases.{Phase, Resting}
+use Rattle.proof_asking.specs.proof_requests.proof_alone.Runs.{Run}
+use Rattle.proof_asking.proofs.Coming.{at_time}
+use Rattle.proof_asking.proofs.Hosting.{Enters}
+use Rattle.proof_asking.proofs.Stamps.{entered_still, stamp_both}
 
 abbrev pub clock_at : ℕ → Bool → OuterState
 clock_at clock in_tick = record first_outer { clock = clock; in_tick = in_tick; stamped = false }

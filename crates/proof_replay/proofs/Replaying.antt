@@ -39,14 +39,14 @@ use Rattle.proof_serial.specs.Units.{good_units}
 use Rattle.run_replay.specs.Machine.{Lone, Event, Does_asked, Does_itself, Takes, Ticks, Refuses, Shows_values, May, MayAll, alone, Then, entries, entries_of, happens, happens_all}
 use Rattle.run_replay.specs.Lines.{AreTicks, IsEffect, IsLine, IsPlain, IsPump, IsReplayed, IsTaking, by_host}
 use Rattle.run_replay.proofs.EventLists.{happens_all-append}
-use Rattle.proof_requests.specs.proof_alone.State.{HostMachine, host_machine, with_world}
-use Rattle.proof_requests.specs.proof_alone.Steps as step
-use Rattle.proof_requests.specs.proof_alone.Steps.{IsAskedBy}
-use Rattle.proof_requests.specs.proof_alone.Phases.{Phase, Resting, Asked, Risen, Open}
-use Rattle.proof_requests.specs.proof_alone.Runs.{Run}
-use Rattle.proof_requests.specs.proof_alone.Runs.Run.{Stepped, Turned}
-use Rattle.proof_requests.proofs.InOrder.{asked_puts, is_asked}
-use Rattle.proof_requests.proofs.Hosting.{items_run, kept, pump_run, tick_and_pump}
+use Rattle.proof_asking.specs.proof_requests.proof_alone.State.{HostMachine, host_machine, with_world}
+use Rattle.proof_asking.specs.proof_requests.proof_alone.Steps as step
+use Rattle.proof_asking.specs.proof_requests.proof_alone.Steps.{IsAskedBy}
+use Rattle.proof_asking.specs.proof_requests.proof_alone.Phases.{Phase, Resting, Asked, Risen, Open}
+use Rattle.proof_asking.specs.proof_requests.proof_alone.Runs.{Run}
+use Rattle.proof_asking.specs.proof_requests.proof_alone.Runs.Run.{Stepped, Turned}
+use Rattle.proof_asking.proofs.InOrder.{asked_puts, is_asked}
+use Rattle.proof_asking.proofs.Hosting.{items_run, kept, pump_run, tick_and_pump}
 use Rattle.proof_line.specs.Arrivals.{AreTexts}
 use Rattle.proof_replay.specs.Heard.{AreReplayed, IsRun, Replayed, heard_all, heard_at, heard_of, lone_after, plain_of}
 use Rattle.proof_replay.specs.Linked.{KnowsLine, KnowsLineAt}

@@ -40,12 +40,12 @@ use Rattle.port_run.specs.Steps as port
 use Rattle.port_run.specs.declared.asking.Answer.{Answer}
 use Rattle.port_run.specs.declared.asking.Answer.TheVariants.{Taken, Command, Refused}
 use Rattle.run_replay.specs.Machine.{Lone, alone, entries, entries_of, happens, May, timed}
-use Rattle.proof_requests.specs.proof_alone.State.{HostMachine, host_machine, with_world}
-use Rattle.proof_requests.specs.proof_alone.Steps as step
-use Rattle.proof_requests.specs.proof_alone.Steps.{IsAskedBy}
-use Rattle.proof_requests.specs.proof_alone.Phases.{Phase, Resting, Asked, Open}
-use Rattle.proof_requests.specs.proof_alone.Runs.{Run}
-use Rattle.proof_requests.specs.proof_alone.Runs.Run.{Stepped, Turned}
+use Rattle.proof_asking.specs.proof_requests.proof_alone.State.{HostMachine, host_machine, with_world}
+use Rattle.proof_asking.specs.proof_requests.proof_alone.Steps as step
+use Rattle.proof_asking.specs.proof_requests.proof_alone.Steps.{IsAskedBy}
+use Rattle.proof_asking.specs.proof_requests.proof_alone.Phases.{Phase, Resting, Asked, Open}
+use Rattle.proof_asking.specs.proof_requests.proof_alone.Runs.{Run}
+use Rattle.proof_asking.specs.proof_requests.proof_alone.Runs.Run.{Stepped, Turned}
 use Rattle.proof_replay.specs.Heard.{came_of}
 use Rattle.proof_replay.specs.HostSteps.{AreOrderly, HearsPart, HearsSteps, IsServed, WithPump, chip_word, clock_after, lone_at, restart_word, tick_words}
 use Rattle.proof_replay.specs.Linked.{KnowsLine, KnowsLineAt}

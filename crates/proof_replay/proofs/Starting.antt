@@ -21,13 +21,13 @@ use Rattle.zw_words.specs.declared.side.Side.TheVariants.{Host}
 use Rattle.law_transcript.specs.Records.{KeepsRecords}
 use Rattle.law_wire.specs.Links.{KeepsLink}
 use Rattle.law_wire.specs.Serial.{ended}
-use Rattle.proof_requests.specs.law_host.Heard.{is_of_others}
-use Rattle.proof_requests.specs.proof_alone.Listening.{ListensAsTold}
-use Rattle.proof_requests.specs.proof_alone.State.{HostMachine, first_alone, host_machine}
-use Rattle.proof_requests.specs.proof_alone.Steps as step
-use Rattle.proof_requests.specs.proof_alone.Phases.{Phase, Asked, Open, Resting}
-use Rattle.proof_requests.specs.proof_alone.Runs.{Run}
-use Rattle.proof_requests.specs.proof_alone.Runs.Run.{Begins, Stepped}
+use Rattle.proof_asking.specs.proof_requests.law_host.Heard.{is_of_others}
+use Rattle.proof_asking.specs.proof_requests.proof_alone.Listening.{ListensAsTold}
+use Rattle.proof_asking.specs.proof_requests.proof_alone.State.{HostMachine, first_alone, host_machine}
+use Rattle.proof_asking.specs.proof_requests.proof_alone.Steps as step
+use Rattle.proof_asking.specs.proof_requests.proof_alone.Phases.{Phase, Asked, Open, Resting}
+use Rattle.proof_asking.specs.proof_requests.proof_alone.Runs.{Run}
+use Rattle.proof_asking.specs.proof_requests.proof_alone.Runs.Run.{Begins, Stepped}
 use Rattle.proof_asking.specs.proof_known.Known.{AreForHost, AreSaidToHost, IsSaidToHost, KnowsRecords}
 use Rattle.proof_asking.proofs.ForHost.{said_for_host}
 use Rattle.proof_replay.specs.HostSteps.{HaveHeard, HearsMore, HearsRun, Holds, IsRunSteps, StartsAfter, restart_word}

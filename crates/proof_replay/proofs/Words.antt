@@ -12,7 +12,7 @@ use Rattle.zw_text.specs.declared.line.ReplayLine.{ReplayLine}
 use Rattle.zw_text.specs.declared.line.ReplayLine.TheVariants.{Plain, Chip}
 use Rattle.zw_text.specs.declared.entry.Entry.{Entry}
 use Rattle.zw_text.specs.declared.entry.Entry.TheVariants as entry
-use Rattle.proof_requests.specs.law_host.Heard.{is_of_others}
+use Rattle.proof_asking.specs.proof_requests.law_host.Heard.{is_of_others}
 use Rattle.host_model.specs.State.{HostState}
 use Rattle.host_model.specs.Events.{HostEvent}
 use Rattle.host_model.specs.Did.{outs_all}

@@ -24,11 +24,11 @@ use Rattle.port_run.specs.declared.line.PortLine.{PortLine}
 use Rattle.port_run.specs.declared.line.PortLine.TheVariants.{Plain, Wait}
 use Rattle.world_model.specs.Refusals.{IsRefused}
 use Rattle.run_replay.specs.Machine.{Lone, alone, entries_of, timed}
-use Rattle.proof_requests.specs.law_host.Notes.{Start}
-use Rattle.proof_requests.specs.law_host.Starting.{StartsFrom}
-use Rattle.proof_requests.specs.proof_alone.State.{first_alone, host_machine}
-use Rattle.proof_requests.specs.proof_alone.Phases.{Resting}
-use Rattle.proof_requests.specs.proof_alone.Runs.{Run}
+use Rattle.proof_asking.specs.proof_requests.law_host.Notes.{Start}
+use Rattle.proof_asking.specs.proof_requests.law_host.Starting.{StartsFrom}
+use Rattle.proof_asking.specs.proof_requests.proof_alone.State.{first_alone, host_machine}
+use Rattle.proof_asking.specs.proof_requests.proof_alone.Phases.{Resting}
+use Rattle.proof_asking.specs.proof_requests.proof_alone.Runs.{Run}
 use Rattle.proof_asking.specs.proof_known.Known.{AreSaidToHost}
 use Rattle.proof_replay.specs.Heard.{came_of}
 use Rattle.proof_replay.specs.Linked.{LineRests}

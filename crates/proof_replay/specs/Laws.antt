@@ -13,8 +13,8 @@ use Rattle.law_transcript.specs.Payloads.{BeginsWithUnit, MayRequest, SendsWhatI
 use Rattle.law_transcript.specs.Records.{KeepsRecords}
 use Rattle.law_transcript.specs.Sessions.{MayBegin}
 use Rattle.law_transcript.specs.Stores.{StoresConfirmed}
-use Rattle.proof_requests.specs.law_host.Heard.{listing_heard}
-use Rattle.proof_requests.specs.law_host.HostLegal.{ShowsValues}
+use Rattle.proof_asking.specs.proof_requests.law_host.Heard.{listing_heard}
+use Rattle.proof_asking.specs.proof_requests.law_host.HostLegal.{ShowsValues}
 use Rattle.law_time.specs.Choice.{NumbersCallbacks, SendsOneByOne}
 use Rattle.law_time.specs.Errands.{SaysHowDone}
 use Rattle.law_wire.specs.Links.{KeepsLink}
@@ -27,9 +27,9 @@ use Rattle.run_lines.specs.Lines.{TextLine}
 use Rattle.run_replay.specs.Machine.{Lone}
 use Rattle.proof_host.specs.Laws.{HostLaws}
 use Rattle.proof_attempts.specs.proof_walk.Time.{MayCount}
-use Rattle.proof_requests.specs.proof_alone.State.{HostMachine, first_alone}
-use Rattle.proof_requests.specs.proof_alone.Phases.{Resting}
-use Rattle.proof_requests.specs.proof_alone.Runs.{Run}
+use Rattle.proof_asking.specs.proof_requests.proof_alone.State.{HostMachine, first_alone}
+use Rattle.proof_asking.specs.proof_requests.proof_alone.Phases.{Resting}
+use Rattle.proof_asking.specs.proof_requests.proof_alone.Runs.{Run}
 use Rattle.proof_asking.specs.proof_known.Known.{AreForHost, KeepsWhatIsSaid}
 use Rattle.proof_asking.specs.proof_known.Noted.{NotesAtOnce, NotesInTurn, NotesWhatOpens, NotesWhatWasTold}
 use Rattle.proof_replay.specs.Heard.{AreReplayed, AreSaid, Replayed, heard_of, told_of}

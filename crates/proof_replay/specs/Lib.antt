@@ -2,5 +2,5 @@ pub mod Heard
 pub mod Linked
 pub mod Laws
 pub mod HostSteps
-pub use Rattle.proof_requests.specs as proof_requests
+pub use Rattle.proof_asking.specs.proof_requests as proof_requests
 pub use Rattle.proof_asking.specs.proof_sending as proof_sending

@@ -15,8 +15,7 @@ mod sim;
 
 pub use port::served_steps_are_heard;
 pub use proof_asking as asking;
-pub use proof_asking::{known, sending};
+pub use proof_asking::{known, requests, sending};
 pub use proof_attempts as attempts;
-pub use proof_requests as requests;
 pub use replay::{hosts_keep_laws, replays_are_a_hosts, texts_that_ran_are_heard};
 pub use sim::lines_that_ran_are_heard;

@@ -16,8 +16,8 @@ ghost use Rattle.proof_replay.specs.HostSteps.{HaveHeard, HearsMore, Holds, IsRu
 
 use crate::replay::hosts_keep_laws;
 use proof_asking::known::hosts_record_what_is_shown;
-use proof_requests::alone::traffic::hosts_obey_the_line;
-use proof_requests::hosts_listen_as_told;
+use proof_asking::requests::alone::traffic::hosts_obey_the_line;
+use proof_asking::requests::hosts_listen_as_told;
 
 /// Where a keeper holds nothing, no host has heard anything. A host that starts from the records that earlier ones left is told by a run of a host alone
 /// that goes on from what they heard, so it keeps the laws of hosts over all that. The steps of lines come as this needs, where they were cut short too.

@@ -10,9 +10,9 @@ ghost use Rattle.host_core.specs.Network.{keys_of};
 ghost use Rattle.run_lines.specs.Lines.{AllRan, TextLine};
 ghost use Rattle.run_replay.specs.Machine.{first_replay, lone_of};
 ghost use Rattle.run_replay.specs.Replay.{LineRan, Point, point_of};
-ghost use Rattle.proof_requests.specs.proof_alone.State.{HostMachine, first_alone};
-ghost use Rattle.proof_requests.specs.proof_alone.Phases.{Phase, Resting};
-ghost use Rattle.proof_requests.specs.proof_alone.Runs.{Run};
+ghost use Rattle.proof_asking.specs.proof_requests.proof_alone.State.{HostMachine, first_alone};
+ghost use Rattle.proof_asking.specs.proof_requests.proof_alone.Phases.{Phase, Resting};
+ghost use Rattle.proof_asking.specs.proof_requests.proof_alone.Runs.{Run};
 ghost use Rattle.proof_asking.specs.proof_known.Known.{AreForHost};
 ghost use Rattle.proof_replay.specs.Heard.{AreReplayed, IsReadSo, Replayed, heard_of, lone_after};
 ghost use Rattle.proof_replay.specs.Laws.{HearsLines, HostsKeepLaws, IsHeardAlone};
@@ -21,11 +21,11 @@ use proof_asking::known::waking::hosts_wake_as_told;
 use proof_asking::known::{
     hosts_do_as_is_said, hosts_note_at_once, hosts_note_values_in_turn, hosts_note_what_was_told,
 };
-use proof_asking::{hosts_say_how_done, hosts_send_what_is_due};
+use proof_asking::requests::alone::traffic::hosts_obey_the_line;
+use proof_asking::requests::alone::{hosts_keep_their_tables, hosts_tell_time};
+use proof_asking::requests::{hosts_answer_questions, hosts_end_interviews};
+use proof_asking::{hosts_ask_one_by_one, hosts_say_how_done, hosts_send_what_is_due};
 use proof_attempts::{hosts_fall_asleep_as_told, hosts_hold_as_asked};
-use proof_requests::alone::traffic::hosts_obey_the_line;
-use proof_requests::alone::{hosts_keep_their_tables, hosts_tell_time};
-use proof_requests::{hosts_answer_questions, hosts_ask_one_by_one, hosts_end_interviews};
 
 /// Of any lines that are run whole, over any bytes and any keeper, what the host of `replay` heard is told by a run of a host alone that began without
 /// records and ends at rest. No line reads the records, so those of that run are added to what the keeper had.

@@ -3,7 +3,7 @@
 ghost use Rattle.std.specs.Prelude.{◌≡◌, Bool, true, Some, List, [], ℕ};
 ghost use Rattle.s0_crypto.specs.declared.key_pair.Keys.{Keys};
 ghost use Rattle.device_sim.specs.State.{State};
-ghost use Rattle.proof_requests.specs.law_host.Heard.{heard_by_host};
+ghost use Rattle.proof_asking.specs.proof_requests.law_host.Heard.{heard_by_host};
 ghost use Rattle.world_model.specs.State.{first_machine};
 ghost use Rattle.world_lines.specs.Spoken.{Spoken, after_all, transcript_of};
 ghost use Rattle.world_lines.specs.Done.{AreDone};
@@ -12,7 +12,7 @@ ghost use Rattle.proof_replay.specs.Laws.{HostsKeepLaws};
 
 use crate::replay::hosts_keep_laws;
 use proof_asking::known::hosts_answer_lines;
-use proof_requests::alone::{lines_are_a_hosts, what_is_heard_is_a_hosts};
+use proof_asking::requests::alone::{lines_are_a_hosts, what_is_heard_is_a_hosts};
 
 /// Over any lines from the first on, the last of which an allocation failure may have cut short, over a keeper that tells its records and had none at first,
 /// the host of `sim` keeps the laws of hosts over what it heard of them; where all were run whole, of one that came to rest.

@@ -3,12 +3,12 @@ pub mod Standing
 pub mod Line
 pub mod Judging
 pub mod Ended
-mod OnLine
+pub mod OnLine
 pub mod UnderWay
 pub mod Saying
 pub mod Doing
 mod Moving
-mod Events
+pub mod Events
 pub mod Telling
 pub mod Spelled
 pub mod Carried
@@ -28,8 +28,18 @@ pub mod Untold
 pub mod EndsTold
 pub mod Questions
 mod Interviews
-mod Numbering
+pub use Rattle.proof_waking.proofs.HostOuts
+pub use Rattle.proof_waking.proofs.Running
 pub use Rattle.proof_waking.proofs.Coming
 pub use Rattle.proof_waking.proofs.Hosting
 pub use Rattle.proof_waking.proofs.Stamps
 pub use Rattle.proof_waking.proofs.InOrder
+pub use Rattle.proof_waking.proofs.Always as proof_waking_Always
+pub use Rattle.proof_waking.proofs.Answering as proof_waking_Answering
+pub use Rattle.proof_waking.proofs.Apart as proof_waking_Apart
+pub use Rattle.proof_waking.proofs.Carrying as proof_waking_Carrying
+pub use Rattle.proof_waking.proofs.Followed as proof_waking_Followed
+pub use Rattle.proof_waking.proofs.Judging as proof_waking_Judging
+pub use Rattle.proof_waking.proofs.Parts as proof_waking_Parts
+pub use Rattle.proof_waking.proofs.Settling as proof_waking_Settling
+pub use Rattle.proof_waking.proofs.proof_alone_Apart

@@ -5,6 +5,6 @@ pub mod Effects
 pub mod Saying
 pub mod Walking
 pub mod Ends
-pub mod Numbers
 pub use Rattle.proof_waking.specs.law_host as law_host
 pub use Rattle.proof_waking.specs.proof_alone as proof_alone
+pub use Rattle.proof_waking.specs as proof_waking

@@ -6,8 +6,7 @@
 //! and what it judged, that answers are judged as they come, and that what waits to be asked can be read as the request that it is.
 //! By what the request before the last one brought, each node listens by the transcript as in the host (`hosts_listen_as_told`). Where the request ends in
 //! the host it ends by the transcript, in the same way and there, and what tells of ends stands just so (`hosts_tell_of_ends`): so questions are answered where
-//! the first response to them is judged (`hosts_answer_questions`), and interviews end as the transcript tells (`hosts_end_interviews`). And requests stand one
-//! after another, their messages with the callback ids in turn (`hosts_ask_one_by_one`).
+//! the first response to them is judged (`hosts_answer_questions`), and interviews end as the transcript tells (`hosts_end_interviews`).
 //! The definitions are in `specs/`: `Standing` (what the rules look at, and their words over that), `Effects` and `Saying` (what an answer and a frame of the
 //! chip make of it), `Carrying` (what a request carries), `Asking` (the tie), `Walking` (the tie at each phase, and its ground), `Ends` (how a request ends,
 //! and what is to be told of it) and `Numbers` (the callback ids). `proofs/Growing` has the last request after more entries, `proofs/Standing` how it stands
@@ -16,13 +15,12 @@
 //! `Walking` and `Stepping` the walk, and `Ending` what follows. Of its ground `Came` has the units that came, `Spelled` requests as they are read, `Carried`
 //! what they carry, `Queued` and `Queueing` those that wait, and `Grounds` all of it. `Brought` has what an interview is told, and `Listening` what it says.
 //! `EndsHere` has what a frame that is judged ends, `EndsLate` waits and the line, `EndsDone` the word for it, `Untold` entries that tell of no end, and
-//! `EndsTold` the walk over them; `Questions` and `Interviews` read their laws off it. `Numbering` is the walk over requests and their ids.
+//! `EndsTold` the walk over them; `Questions` and `Interviews` read their laws off it.
 #![tactic(auto)]
 
 mod asking;
 mod ends;
 mod entries;
-mod numbers;
 
 pub use asking::{hosts_ask_as_told, hosts_listen_as_told};
 pub use ends::{
@@ -30,5 +28,5 @@ pub use ends::{
     lines_end_interviews,
 };
 pub use entries::requests_stand_by_entries;
-pub use numbers::{hosts_ask_one_by_one, lines_ask_one_by_one};
+pub use proof_waking as waking;
 pub use proof_waking::alone;

@@ -5,10 +5,10 @@ use Rattle.law_time.specs.Holds.{may_hold}
 use Rattle.law_time.specs.Moments.{Allows}
 use Rattle.law_time.specs.Waking.{may_wake}
 use Rattle.proof_host.specs.Laws.{MayStand}
-use Rattle.proof_waking.specs.proof_alone.State.{first_alone}
-use Rattle.proof_waking.specs.proof_alone.Tables.{KnowsTables}
-use Rattle.proof_waking.proofs.Running.{run_keeps}
-use Rattle.proof_waking.specs.Judged.{KnowsJudged}
+use Rattle.proof_requests.specs.proof_alone.State.{first_alone}
+use Rattle.proof_requests.specs.proof_alone.Tables.{KnowsTables}
+use Rattle.proof_requests.proofs.Running.{run_keeps}
+use Rattle.proof_requests.specs.proof_waking.Judged.{KnowsJudged}
 use Rattle.proof_attempts.specs.Kept.{KnowsHeard, KnowsUnowed}
 use Rattle.proof_attempts.proofs.KeptAwake.{kept_walk}
 use Rattle.proof_attempts.proofs.Lasting.{law_along}

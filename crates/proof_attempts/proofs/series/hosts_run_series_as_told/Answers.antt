@@ -5,15 +5,15 @@ use Rattle.s0_crypto.specs.declared.key_pair.Keys.{Keys}
 use Rattle.zw_text.specs.Transcript.{not_accepting}
 use Rattle.proof_host.specs.Laws.{MayStand}
 use Rattle.proof_host.proofs.Lists.{each-weaker}
-use Rattle.proof_waking.specs.proof_alone.Answering.{AsOrdered, MayAnswer}
-use Rattle.proof_waking.specs.proof_alone.Phases.{Resting}
-use Rattle.proof_waking.specs.proof_alone.Runs.{Walk, both_know}
-use Rattle.proof_waking.specs.proof_alone.State.{first_alone}
-use Rattle.proof_waking.specs.proof_alone.Tables.{KnowsTables}
-use Rattle.proof_waking.specs.proof_alone.Words.{KnowsWords}
-use Rattle.proof_waking.proofs.Answering.{answers_walk}
-use Rattle.proof_waking.proofs.Carrying.{numbers_from}
-use Rattle.proof_waking.proofs.Running.{over, run_keeps}
+use Rattle.proof_requests.specs.proof_alone.Answering.{AsOrdered, MayAnswer}
+use Rattle.proof_requests.specs.proof_alone.Phases.{Resting}
+use Rattle.proof_requests.specs.proof_alone.Runs.{Walk, both_know}
+use Rattle.proof_requests.specs.proof_alone.State.{first_alone}
+use Rattle.proof_requests.specs.proof_alone.Tables.{KnowsTables}
+use Rattle.proof_requests.specs.proof_alone.Words.{KnowsWords}
+use Rattle.proof_requests.proofs.proof_waking_Answering.{answers_walk}
+use Rattle.proof_requests.proofs.proof_waking_Carrying.{numbers_from}
+use Rattle.proof_requests.proofs.Running.{over, run_keeps}
 use Rattle.proof_attempts.specs.Series.{KnowsNumbers, KnowsSeries, RunsAsTold}
 use Rattle.proof_attempts.specs.Since.{AlongRuns, KnowsSince}
 use Rattle.proof_attempts.specs.Waking.{CountsAwake}

@@ -6,9 +6,9 @@ use Rattle.zw_text.specs.declared.entry.Entry.{Entry}
 use Rattle.law_transcript.specs.Lists.{EachAfter}
 use Rattle.law_time.specs.Moments.{Allows}
 use Rattle.law_time.specs.Waking.{may_sleep}
-use Rattle.proof_waking.specs.proof_alone.Phases.{Phase, Resting}
-use Rattle.proof_waking.specs.proof_alone.Runs.{Run}
-use Rattle.proof_waking.specs.proof_alone.State.{HostMachine, first_alone}
+use Rattle.proof_requests.specs.proof_alone.Phases.{Phase, Resting}
+use Rattle.proof_requests.specs.proof_alone.Runs.{Run}
+use Rattle.proof_requests.specs.proof_alone.State.{HostMachine, first_alone}
 use Rattle.proof_attempts.specs.Asleep.{KnowsSleep, KnowsSlept, OwesNone}
 use Rattle.proof_attempts.specs.Since.{AlongRuns}
 use Rattle.proof_attempts.proofs.Asleep.{first_sleep, rests_asleep, sleep_walk}

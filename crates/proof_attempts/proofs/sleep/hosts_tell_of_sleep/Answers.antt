@@ -2,9 +2,9 @@
 use Rattle.std.proofs.Common.{◌≡◌, [], false, true}
 use Rattle.s0_crypto.specs.declared.key_pair.Keys.{Keys}
 use Rattle.proof_host.specs.Laws.{MayStand}
-use Rattle.proof_waking.specs.proof_alone.Runs.{both_know}
-use Rattle.proof_waking.specs.proof_alone.Tables.{KnowsTables}
-use Rattle.proof_waking.proofs.Running.{run_keeps}
+use Rattle.proof_requests.specs.proof_alone.Runs.{both_know}
+use Rattle.proof_requests.specs.proof_alone.Tables.{KnowsTables}
+use Rattle.proof_requests.proofs.Running.{run_keeps}
 use Rattle.proof_requests.specs.Ends.{KnowsEnds, TellsEnd}
 use Rattle.proof_requests.specs.Walking.{Ground, KnowsAsked}
 use Rattle.proof_attempts.specs.Asleep.{KnowsTicking, KnowsUnended}

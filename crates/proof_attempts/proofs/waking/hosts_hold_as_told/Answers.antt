@@ -1,5 +1,5 @@
 -- The tie lasts over the work of the host and which nodes listen, and is so at first.
-use Rattle.proof_waking.specs.proof_alone.Phases.{Resting}
+use Rattle.proof_requests.specs.proof_alone.Phases.{Resting}
 use Rattle.proof_attempts.specs.Since.{KnowsSince}
 use Rattle.proof_attempts.specs.Waking.{HeldAsTold, KnowsHearing}
 use Rattle.proof_attempts.proofs.Holding.{first_held, held_lasts}

@@ -4,11 +4,11 @@ use Rattle.std.specs.Prelude.{Some}
 use Rattle.s0_crypto.specs.declared.key_pair.Keys.{Keys}
 use Rattle.proof_host.specs.Laws.{MayStand}
 use Rattle.proof_work.specs.proof_walk.Time.{MayCount}
-use Rattle.proof_waking.specs.proof_alone.Runs.{Walk, both_know}
-use Rattle.proof_waking.specs.proof_alone.State.{first_alone}
-use Rattle.proof_waking.specs.proof_alone.Tables.{KnowsTables}
-use Rattle.proof_waking.specs.proof_alone.Time.{KnowsClock, TieClock}
-use Rattle.proof_waking.proofs.Running.{over, run_keeps}
+use Rattle.proof_requests.specs.proof_alone.Runs.{Walk, both_know}
+use Rattle.proof_requests.specs.proof_alone.State.{first_alone}
+use Rattle.proof_requests.specs.proof_alone.Tables.{KnowsTables}
+use Rattle.proof_requests.specs.proof_alone.Time.{KnowsClock, TieClock}
+use Rattle.proof_requests.proofs.Running.{over, run_keeps}
 use Rattle.proof_attempts.specs.Since.{InTick, KnowsSince, KnowsTicks}
 use Rattle.proof_attempts.specs.Waking.{KnowsWork}
 use Rattle.proof_attempts.specs.Working.{WorksInOrder}

@@ -1,9 +1,9 @@
 -- The facts of work last over the tables, and are so at first.
 use Rattle.std.proofs.Common.{[]}
 use Rattle.proof_host.specs.Laws.{MayStand}
-use Rattle.proof_waking.specs.proof_alone.Runs.{both_know}
-use Rattle.proof_waking.specs.proof_alone.Tables.{KnowsTables}
-use Rattle.proof_waking.proofs.Running.{run_keeps}
+use Rattle.proof_requests.specs.proof_alone.Runs.{both_know}
+use Rattle.proof_requests.specs.proof_alone.Tables.{KnowsTables}
+use Rattle.proof_requests.proofs.Running.{run_keeps}
 use Rattle.proof_attempts.specs.Since.{KnowsSince}
 use Rattle.proof_attempts.specs.Working.{WorksInOrder}
 use Rattle.proof_attempts.proofs.Lasting.{over_both, since_walk}

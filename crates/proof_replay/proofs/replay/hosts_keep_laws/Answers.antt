@@ -4,9 +4,9 @@ use Rattle.std.specs.Prelude.{Some}
 use Rattle.s0_crypto.specs.declared.key_pair.Keys.{Keys}
 use Rattle.zw_text.specs.declared.entry.Entry.{Entry}
 use Rattle.law_time.specs.Waking.{FallsAsleep}
-use Rattle.proof_requests.specs.proof_alone.State.{HostMachine, first_alone}
-use Rattle.proof_requests.specs.proof_alone.Phases.{Phase, Resting}
-use Rattle.proof_requests.specs.proof_alone.Runs.{Run, Told, ToldWhole}
+use Rattle.proof_asking.specs.proof_requests.proof_alone.State.{HostMachine, first_alone}
+use Rattle.proof_asking.specs.proof_requests.proof_alone.Phases.{Phase, Resting}
+use Rattle.proof_asking.specs.proof_requests.proof_alone.Runs.{Run, Told, ToldWhole}
 use Rattle.law_transcript.specs.Payloads.{BeginsWithUnit}
 use Rattle.law_wire.specs.Serial.{ended}
 use Rattle.proof_asking.specs.proof_known.Noted.{NotesAtOnce, NotesInTurn}

@@ -6,8 +6,8 @@ use Rattle.host_keep.specs.Keeping.{OptAdds}
 use Rattle.host_model.proofs.EventLists.{none_added}
 use Rattle.world_model.specs.State.{with_texts}
 use Rattle.run_replay.specs.Machine.{first_replay, lone_of}
-use Rattle.proof_requests.specs.proof_alone.State.{first_alone, host_machine}
-use Rattle.proof_requests.specs.proof_alone.Runs.Run.{Begins}
+use Rattle.proof_asking.specs.proof_requests.proof_alone.State.{first_alone, host_machine}
+use Rattle.proof_asking.specs.proof_requests.proof_alone.Runs.Run.{Begins}
 use Rattle.proof_asking.proofs.ForHost.{said_for_host}
 use Rattle.proof_replay.specs.Heard.{heard_of, lone_after}
 use Rattle.proof_replay.proofs.LineHeard.{first_rests, link_kept, obeys}

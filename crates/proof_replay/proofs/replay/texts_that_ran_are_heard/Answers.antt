@@ -5,7 +5,7 @@ use Rattle.host_core.specs.Network.{keys_of}
 use Rattle.host_keep.specs.Keeping.{OptAdds}
 use Rattle.run_replay.specs.Machine.{Lone, first_replay, lone_of}
 use Rattle.run_replay.specs.Replay.{point_of}
-use Rattle.proof_requests.specs.proof_alone.Phases.{Resting}
+use Rattle.proof_asking.specs.proof_requests.proof_alone.Phases.{Resting}
 use Rattle.proof_replay.specs.Heard.{heard_of}
 use Rattle.proof_replay.specs.Laws.{HostsKeepLaws}
 use Rattle.proof_replay.proofs.Ran.{are_replayed}

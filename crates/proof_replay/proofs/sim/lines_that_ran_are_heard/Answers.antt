@@ -3,13 +3,13 @@ use Rattle.std.proofs.Common.{◌≡◌, ℕ, Bool, true, false, List, [], refl,
 use Rattle.std.specs.Prelude.{Option, Some}
 use Rattle.s0_crypto.specs.declared.key_pair.Keys.{Keys}
 use Rattle.device_sim.specs.State.{State}
-use Rattle.proof_requests.specs.law_host.Heard.{heard_by_host}
+use Rattle.proof_asking.specs.proof_requests.law_host.Heard.{heard_by_host}
 use Rattle.world_model.specs.State.{first_machine}
 use Rattle.world_lines.specs.Spoken.{Spoken, after_all, transcript_of}
 use Rattle.world_lines.specs.Done.{AreDone}
 use Rattle.world_lines.specs.Whole.{AreWhole}
-use Rattle.proof_requests.specs.proof_alone.State.{first_alone}
-use Rattle.proof_requests.specs.proof_alone.Phases.{Resting}
+use Rattle.proof_asking.specs.proof_requests.proof_alone.State.{first_alone}
+use Rattle.proof_asking.specs.proof_requests.proof_alone.Phases.{Resting}
 use Rattle.proof_replay.specs.Laws.{HostsKeepLaws}
 use Rattle.proof_replay.proofs.Starting.{kept_as_told}
 use Rattle.proof_replay.proofs.Words.{never}

@@ -2,9 +2,9 @@
 use Rattle.std.specs.Prelude.{Some, []}
 use Rattle.world_model.specs.State.{first_machine}
 use Rattle.world_lines.specs.Spoken.{transcript_of}
-use Rattle.proof_waking.specs.law_host.Heard.{heard_by_host}
-use Rattle.proof_waking.specs.proof_alone.State.{first_alone}
-use Rattle.proof_requests.proofs.numbers.lines_ask_one_by_one.Goals as goal
+use Rattle.proof_requests.specs.law_host.Heard.{heard_by_host}
+use Rattle.proof_requests.specs.proof_alone.State.{first_alone}
+use Rattle.proof_asking.proofs.numbers.lines_ask_one_by_one.Goals as goal
 
 pub returns-clause-lines : goal.returns-clause-lines
 returns-clause-lines c = λ keys devices lines are.

@@ -55,20 +55,20 @@ use Rattle.host_model.specs.Outs.{answer_to, answers, outs}
 use Rattle.host_model.specs.Pumping.{IsNext, IsPumped}
 use Rattle.host_model.specs.declared.out.HostOut.{HostOut}
 use Rattle.host_model.specs.declared.out.HostOut.TheVariants.{Note, Write}
-use Rattle.proof_transcript.proofs.AttemptStarts.{IsNoBegin, after_free, follows_last}
-use Rattle.proof_transcript.proofs.ServedNodes.{begun_so, due_starts, not_pumped}
-use Rattle.proof_waking.specs.proof_alone.State.{HostMachine, done}
-use Rattle.proof_waking.specs.proof_alone.Steps.{AreFrames, AreTold, DidNotCome, IsOfOthers, IsOfUnit, Step, Tells, Comes, Misses, Says, Says_nothing, Asks, Refuses, Shows, Restarts, Begins_tick, Numbers, Judges, Does, entries, happens}
-use Rattle.proof_waking.specs.proof_alone.Phases.{Phase, Resting, Asked, Risen, Ticking, Open, Behind, Sleeping, Submitting, IsBetween, IsNumbered, May, Turns}
-use Rattle.proof_waking.specs.proof_alone.Runs.{WalkOver, both_know}
-use Rattle.proof_waking.specs.Judged.{IsOfRequest, KnowsJudged}
-use Rattle.proof_waking.proofs.Apart.{IsWordless, said_anew, said_in_vain, said_on, wordless_more}
-use Rattle.proof_waking.proofs.Followed.{MayFollow, frame_all}
-use Rattle.proof_waking.proofs.HostOuts.{OutsAre, OwnIs, SharedAre, outs_are}
-use Rattle.proof_waking.proofs.Parts.{IsNote}
+use Rattle.proof_known.proofs.AttemptStarts.{IsNoBegin, after_free, follows_last}
+use Rattle.proof_known.proofs.ServedNodes.{begun_so, due_starts, not_pumped}
+use Rattle.proof_requests.specs.proof_alone.State.{HostMachine, done}
+use Rattle.proof_requests.specs.proof_alone.Steps.{AreFrames, AreTold, DidNotCome, IsOfOthers, IsOfUnit, Step, Tells, Comes, Misses, Says, Says_nothing, Asks, Refuses, Shows, Restarts, Begins_tick, Numbers, Judges, Does, entries, happens}
+use Rattle.proof_requests.specs.proof_alone.Phases.{Phase, Resting, Asked, Risen, Ticking, Open, Behind, Sleeping, Submitting, IsBetween, IsNumbered, May, Turns}
+use Rattle.proof_requests.specs.proof_alone.Runs.{WalkOver, both_know}
+use Rattle.proof_requests.specs.proof_waking.Judged.{IsOfRequest, KnowsJudged}
+use Rattle.proof_requests.proofs.proof_waking_Apart.{IsWordless, said_anew, said_in_vain, said_on, wordless_more}
+use Rattle.proof_requests.proofs.proof_waking_Followed.{MayFollow, frame_all}
+use Rattle.proof_requests.proofs.HostOuts.{OutsAre, OwnIs, SharedAre, outs_are}
+use Rattle.proof_requests.proofs.proof_waking_Parts.{IsNote}
 use Rattle.proof_requests.specs.Standing.{GoesOn as EntryGoesOn, standing_of}
 use Rattle.proof_requests.specs.Asking.{Doing, IsPaused, TieAsked, TieLine, doing_after, doing_from, doing_next, doing_of}
-use Rattle.proof_requests.specs.Numbers.{Awaits, CountsBefore, CountsIds, KnowsRequests, MaySend, Rests, ids_in}
+use Rattle.proof_asking.specs.Numbers.{Awaits, CountsBefore, CountsIds, KnowsRequests, MaySend, Rests, ids_in}
 use Rattle.proof_requests.specs.Walking.{AddsWell, Ground, IsNodeTick, IsOfChip, KnowsAsked, KnowsTick}
 use Rattle.proof_requests.proofs.Doing.{beside_same, same_asks}
 use Rattle.proof_requests.proofs.Ended.{gave_up}

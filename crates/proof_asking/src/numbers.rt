@@ -5,21 +5,21 @@ ghost use Rattle.s0_crypto.specs.declared.key_pair.Keys.{Keys};
 ghost use Rattle.device_sim.specs.State.{State};
 ghost use Rattle.zw_text.specs.declared.entry.Entry.{Entry};
 ghost use Rattle.law_transcript.specs.Payloads.{BeginsWithUnit};
-ghost use Rattle.law_wire.specs.Serial.{ended};
+ghost use Rattle.proof_requests.specs.law_host.law_wire.Serial.{ended};
 ghost use Rattle.law_time.specs.Choice.{NumbersCallbacks, SendsOneByOne};
 ghost use Rattle.world_model.specs.State.{first_machine};
 ghost use Rattle.world_lines.specs.Spoken.{Spoken, transcript_of};
 ghost use Rattle.world_lines.specs.Done.{AreDone};
-ghost use Rattle.proof_waking.specs.law_host.Heard.{heard_by_host};
-ghost use Rattle.proof_waking.specs.proof_alone.State.{first_alone};
-ghost use Rattle.proof_waking.specs.proof_alone.Runs.{Told, ToldWhole, Walk, both_know};
-ghost use Rattle.proof_waking.specs.proof_alone.Phases.{Resting};
-ghost use Rattle.proof_requests.specs.Numbers.{KnowsRequests, MaySend};
+ghost use Rattle.proof_requests.specs.law_host.Heard.{heard_by_host};
+ghost use Rattle.proof_requests.specs.proof_alone.State.{first_alone};
+ghost use Rattle.proof_requests.specs.proof_alone.Runs.{Told, ToldWhole, Walk, both_know};
+ghost use Rattle.proof_requests.specs.proof_alone.Phases.{Resting};
+ghost use Rattle.proof_asking.specs.Numbers.{KnowsRequests, MaySend};
 ghost use Rattle.proof_requests.specs.Walking.{Ground, KnowsAsked};
 
-use crate::asking::hosts_ask_as_told;
 use host_model::attempts_have_what_they_give;
-use proof_waking::alone::{lines_are_a_hosts, what_is_heard_is_a_hosts};
+use proof_requests::alone::{lines_are_a_hosts, what_is_heard_is_a_hosts};
+use proof_requests::hosts_ask_as_told;
 
 /// In any run of a host alone, over a keeper that tells its records and has none at first: a request that is new is sent, and a session begins, only where the
 /// last request is over by its transcript; each message that it asks its chip to send has the callback id that follows that of the last one since it started,

@@ -5,12 +5,12 @@ use Rattle.law_transcript.specs.Payloads.{FollowsBegin}
 use Rattle.law_time.specs.Moments.{Allows}
 use Rattle.law_time.specs.Waking.{may_wake}
 use Rattle.proof_host.proofs.Lists.{each-append}
-use Rattle.proof_waking.specs.proof_alone.Runs.{both_know}
-use Rattle.proof_waking.proofs.Running.{over, run_keeps}
-use Rattle.proof_requests.specs.Numbers.{KnowsRequests, MaySend}
+use Rattle.proof_requests.specs.proof_alone.Runs.{both_know}
+use Rattle.proof_requests.proofs.Running.{over, run_keeps}
+use Rattle.proof_asking.specs.Numbers.{KnowsRequests, MaySend}
 use Rattle.proof_requests.specs.Walking.{Ground, KnowsAsked}
-use Rattle.proof_requests.proofs.Numbering.{all_kept, requests_walk}
-use Rattle.proof_requests.proofs.numbers.hosts_ask_one_by_one.Goals as goal
+use Rattle.proof_asking.proofs.Numbering.{all_kept, requests_walk}
+use Rattle.proof_asking.proofs.numbers.hosts_ask_one_by_one.Goals as goal
 
 pub returns-clause-walk : goal.returns-clause-walk
 returns-clause-walk c =

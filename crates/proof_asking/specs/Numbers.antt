@@ -12,12 +12,12 @@ use Rattle.law_transcript.specs.Units.{request_in, sending_in}
 use Rattle.law_time.specs.Moments.{Allows}
 use Rattle.law_time.specs.Requests.{asked}
 use Rattle.law_time.specs.Choice.{id_of, last_id, may_follow, may_number}
-use Rattle.proof_waking.specs.proof_alone.Phases.{Asked, Submitting}
+use Rattle.proof_requests.specs.proof_alone.Phases.{Asked, Submitting}
 use Rattle.host_node.specs.declared.series.Series.TheVariants.{Due}
 use Rattle.host_model.specs.May.{IsServed}
 use Rattle.host_model.specs.State.{node_of}
-use Rattle.proof_waking.specs.proof_alone.State.{HostMachine}
-use Rattle.proof_waking.specs.proof_alone.Runs.{Knowledge, both_know}
+use Rattle.proof_requests.specs.proof_alone.State.{HostMachine}
+use Rattle.proof_requests.specs.proof_alone.Runs.{Knowledge, both_know}
 
 -- an entry may follow the last request, a message has the next id, and directly after a session that begins stands its unit
 abbrev pub MaySend : List Entry → Entry → Type 0

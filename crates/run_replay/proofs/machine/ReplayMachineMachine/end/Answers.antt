@@ -4,7 +4,7 @@ use Rattle.run_lines.proofs.Growing.{on_ok}
 use Rattle.run_replay.specs.Machine.{ReplayState}
 use Rattle.run_replay.specs.Replay.{IsTable, point_of}
 use Rattle.run_replay.proofs.ReplayRun.{is_table}
-use Rattle.run_replay.proofs.machine.ReplayMachineMachineUnit.end.Goals as goal
+use Rattle.run_replay.proofs.machine.ReplayMachineMachine.end.Goals as goal
 
 pub returns : goal.returns
 returns g c = record {

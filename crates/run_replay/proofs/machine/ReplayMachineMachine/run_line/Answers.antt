@@ -1,6 +1,6 @@
 use Rattle.run_replay.proofs.Steps.{replayed}
 use Rattle.run_replay.proofs.ReplayRun.{not_read}
-use Rattle.run_replay.proofs.machine.ReplayMachineMachineUnit.run_line.Goals as goal
+use Rattle.run_replay.proofs.machine.ReplayMachineMachine.run_line.Goals as goal
 
 pub run_one-requires-clause-replayed : goal.run_one-requires-clause-replayed
 run_one-requires-clause-replayed g c = replayed c.args.text.now c.in-Ok-Some.line (rw c.in-Ok-Some.field-0-is at c.in-Ok-Some.ensures.found)
