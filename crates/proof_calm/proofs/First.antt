@@ -25,6 +25,7 @@ use Rattle.proof_serial.proofs.HostRuns.{first_fits}
 use Rattle.proof_calm.specs.Homeward.{SpeaksHome}
 use Rattle.proof_calm.specs.Known.{IsBlank, IsMember}
 use Rattle.proof_calm.specs.Live.{HasLive}
+use Rattle.proof_calm.specs.Routed.{Reaches}
 use Rattle.proof_calm.specs.Tied.{IsPeopled}
 use Rattle.proof_calm.proofs.Knowing.{AreBlank, set_blank}
 
@@ -95,15 +96,15 @@ direct net hears = record {
   hops = hears;
 }
 
+first_reaches : Reaches first_outer.chip.state.table two_joined
+unfolding first_outer
+first_reaches n is =
+    let hears : linked first_outer.chip.state.table 1 2 ≡ true = linked-insert (with_repeater no_network 2 true) 1 2 1 2 in
+    subst (λ (k : ℕ). (k ≢ 1) × ((walk : List ℕ) × Walk first_outer.chip.state.table k walk)) (sym (only_two n is)) (λ same. absurd cc, ([], direct first_outer.chip.state.table hears))
+
 first_live : HasLive first_outer
-unfolding first_outer two_joined no_frames
-first_live = record {
-  fly = tt;
-  known = λ a b is. is;
-  reaches = λ n is.
-      let hears : linked first_outer.chip.state.table 1 2 ≡ true = linked-insert (with_repeater no_network 2 true) 1 2 1 2 in
-      subst (λ (k : ℕ). (k ≢ 1) × ((walk : List ℕ) × Walk first_outer.chip.state.table k walk)) (sym (only_two n is)) (λ same. absurd cc, ([], direct first_outer.chip.state.table hears));
-}
+unfolding first_outer two_joined none_marked no_frames
+first_live = record { fly = tt; known = λ a b is. is; reaches = first_reaches; hears = first_reaches; none_marked = refl }
 
 pub first_peopled : (facts : (keys : Keys) → HostFacts (first_host keys)) (keys : Keys) (records : Option (List (List ℕ))) (devices : List State) → IsPeopled (first_machine keys records devices)
 unfolding first_outer two_joined

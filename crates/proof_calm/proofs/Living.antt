@@ -1,5 +1,5 @@
--- At each event of quiet lines and ticks, no frame on the air has a dead hop unless it is lost; so the chip forgets no link.
-use Rattle.std.proofs.Common.{◌≡◌, ◌||◌, nat_le, nat_lt, if◌then◌else◌, ℕ, ◌+◌, ◌-◌, ◌==◌, Bool, true, false, List, [], ◌∷◌, ◌++◌, length, reverse, take, drop, refl, sym, ap, ◌∙◌, subst, arith}
+-- At each event of quiet lines and ticks, no frame on the air is lost or has a dead hop; so the chip forgets no link.
+use Rattle.std.proofs.Common.{◌≡◌, ◌≢◌, ◌||◌, nat_le, nat_lt, if◌then◌else◌, ℕ, ◌+◌, ◌-◌, ◌==◌, Bool, true, false, List, [], ◌∷◌, ◌++◌, length, reverse, take, drop, refl, sym, ap, ◌∙◌, subst, arith}
 use Rattle.std.proofs.lemmas.List.{length-reverse, length-take-le, reverse-append, take_at}
 use Rattle.std.specs.Prelude.{Option, Some, None, option_map, slice_get, slice_set}
 use Rattle.std.specs.Option.{is_none, unwrap_or}
@@ -13,7 +13,7 @@ use Rattle.serial_frame.specs.declared.item.Refusal.TheVariants.{Stray, BadLengt
 use Rattle.serial_frame.specs.declared.unit.Unit.TheVariants.{Ack, Nak, Can, Framed}
 use Rattle.route_table.specs.Network.{Network, linked}
 use Rattle.route_table.specs.Route.{via}
-use Rattle.route_table.specs.Walk.{Hops}
+use Rattle.route_table.specs.Walk.{Hops, Walk}
 use Rattle.route_table.specs.declared.route.Route.{Route}
 use Rattle.route_table.proofs.Networks.{linked-both_ways}
 use Rattle.air_frames.specs.Flown.{Flown, flown}
@@ -58,6 +58,7 @@ use Rattle.proof_work.proofs.proof_walk_Machines.{machine_keeps}
 use Rattle.proof_work.specs.Phases.{AsksNothing}
 use Rattle.proof_calm.specs.Live.{HasLive, IsLive, LiveBy}
 use Rattle.proof_calm.specs.Marks.{IsQuietEvent}
+use Rattle.proof_calm.specs.Routed.{Reaches}
 use Rattle.proof_calm.proofs.Counting.{outs_all}
 use Rattle.proof_calm.proofs.Homing.{all_left}
 use Rattle.proof_calm.proofs.Routed.{Of, judged_of}
@@ -84,57 +85,57 @@ turned net a (c ∷ over) b hops =
 
 -- a way home that there is
 abbrev IsGood : Network → ℕ → Option Route → Type 0
-IsGood net node way = is_none way ≡ false → dead_hop net node (via (unwrap_or way no_route)) 1 ≡ None
+IsGood net node way = (is_none way ≡ false) × (dead_hop net node (via (unwrap_or way no_route)) 1 ≡ None)
 
-way_good : (net : Network) (node : ℕ) (route : Option Route) → IsRoute net node route → IsGood net node (option_map backwards route)
-way_good net node None is kept = absurd cc
-way_good net node (Some route) least kept =
+-- so a node that the air has a walk to has one
+way_good : (net : Network) (node : ℕ) (route : Option Route) → IsRoute net node route → (node ≢ 1) × ((walk : List ℕ) × Walk net node walk) → IsGood net node (option_map backwards route)
+way_good net node None is there = absurd (is there.0 there.1.0 there.1.1)
+way_good net node (Some route) least there =
     let few = least.few in
     let places = least.places in
     let taken : length (take route.count route.hops) ≡ route.count = length-take-le route.count route.hops (omega (arith, few, places)) in
     let first : via (backwards route) ≡ reverse (via route) = take_at (reverse (via route)) (drop route.count route.hops) route.count (length-reverse (via route) ∙ taken) in
-    ap (λ (l : List ℕ). dead_hop net node l 1) first ∙ live_way net net (λ a b is. is) node (reverse (via route)) 1 (turned net 1 (via route) node least.walk.hops)
-
-or_right : (a b : Bool) → (a || b) ≡ false → b ≡ false
-or_right true b is = absurd cc
-or_right false b is = is
+    (refl, ap (λ (l : List ℕ). dead_hop net node l 1) first ∙ live_way net net (λ a b is. is) node (reverse (via route)) 1 (turned net 1 (via route) node least.walk.hops))
 
 -- ---- the air
 
 module _ (table : Network) where
   abbrev Alive : AirState → Type 0
-  Alive air = AllByRecursion (IsLive air.network) air.frames.frames × ((a b : ℕ) → linked table a b ≡ true → linked air.network a b ≡ true)
+  Alive air = AllByRecursion (IsLive air.network) air.frames.frames × ((a b : ℕ) → linked table a b ≡ true → linked air.network a b ≡ true) × Reaches air.network air.joined × (air.losing ≡ 0)
 
   departs_alive : (air : AirState) (node : ℕ) (heading : Heading) (route : Option Route) (payload : List ℕ)
-      → (is_none route ≡ false → dead_hop_by heading air.network node (via (unwrap_or route no_route)) ≡ None) → Alive air → Alive (departing air node heading route payload)
+      → (is_none route ≡ false) × (dead_hop_by heading air.network node (via (unwrap_or route no_route)) ≡ None) → Alive air → Alive (departing air node heading route payload)
   unfolding putting
   departs_alive air node heading route payload good alive =
       let d : Departure = record { node = node; heading = heading; route = unwrap_or route no_route; lost = nat_lt 0 air.losing || is_none route; payload = payload } in
       let peer = showing (peer_of air.frames node) heading payload in
-      (all_left (IsLive air.network) _ (air.frames.frames ++ flown d peer ∷ []) (all-append (IsLive air.network) air.frames.frames (flown d peer ∷ []) alive.0 (λ kept. good (or_right (nat_lt 0 air.losing) (is_none route) kept), tt)), alive.1)
+      let kept : (nat_lt 0 air.losing || is_none route) ≡ false = ap (λ (count : ℕ). nat_lt 0 count || is_none route) alive.3 ∙ good.0 in
+      (all_left (IsLive air.network) _ (air.frames.frames ++ flown d peer ∷ []) (all-append (IsLive air.network) air.frames.frames (flown d peer ∷ []) alive.0 ((kept, good.1), tt)), alive.1, alive.2, ap (λ (count : ℕ). count - 1) alive.3)
 
   lands_alive : (air : AirState) → Alive air → Alive (landed air)
   unfolding landing
-  lands_alive air alive = (all_left (IsLive air.network) _ air.frames.frames alive.0, alive.1)
+  lands_alive air alive = (all_left (IsLive air.network) _ air.frames.frames alive.0, alive.1, alive.2, alive.3)
 
   answers_alive : (air : AirState) (node : ℕ) (way : Option Route) (replies : List (List ℕ)) → IsGood air.network node way → Alive air → Alive (answered air node way replies)
   answers_alive air node way [] good alive = alive
   answers_alive air node way (reply ∷ replies) good alive = answers_alive (departing air node Homeward way reply) node way replies good (departs_alive air node Homeward way reply good alive)
 
-  answers_if_alive : (b : Bool) (air : AirState) (node : ℕ) (way : Option Route) (replies : List (List ℕ)) → IsGood air.network node way → Alive air → Alive (answered_if b air node way replies)
-  answers_if_alive true air node way replies good alive = answers_alive air node way replies good alive
-  answers_if_alive false air node way replies good alive = alive
+  answers_if_alive : (b : Bool) (air : AirState) (node : ℕ) (route : Option Route) (replies : List (List ℕ)) → is_joined air node ≡ b → IsRoute air.network node route → Alive air
+      → Alive (answered_if b air node (option_map backwards route) replies)
+  answers_if_alive true air node route replies is way alive = answers_alive air node (option_map backwards route) replies (way_good air.network node route way (alive.2 node is)) alive
+  answers_if_alive false air node route replies is way alive = alive
 
   -- a device that does something of itself has a way where it says something
-  acts_alive : (b : Bool) (air : AirState) (node : ℕ) (route : Option Route) (replies : List (List ℕ)) → HasWay air.network node replies route → Alive air → Alive (answered_if b air node (option_map backwards route) replies)
-  acts_alive false air node route replies has alive = alive
-  acts_alive true air node route [] has alive = alive
-  acts_alive true air node route (reply ∷ replies) has alive = answers_alive air node (option_map backwards route) (reply ∷ replies) (way_good air.network node route has) alive
+  acts_alive : (b : Bool) (air : AirState) (node : ℕ) (route : Option Route) (replies : List (List ℕ)) → is_joined air node ≡ b → HasWay air.network node replies route → Alive air
+      → Alive (answered_if b air node (option_map backwards route) replies)
+  acts_alive false air node route replies is has alive = alive
+  acts_alive true air node route [] is has alive = alive
+  acts_alive true air node route (reply ∷ replies) is has alive = answers_if_alive true air node route (reply ∷ replies) is has alive
 
   heard_alive : (at : Mesh) (place : ℕ) (device : Option State) (node : ℕ) (route : Option Route) (event : DeviceEvent) → IsRoute at.air.network node route → Alive at.air → Alive (heard_at at place device node route event).air
   heard_alive at place None node route event is alive = alive
   heard_alive at place (Some device) node route event is alive =
-      answers_if_alive (is_joined at.air node) at.air node (option_map backwards route) (device_replies device event) (way_good at.air.network node route is) alive
+      answers_if_alive (is_joined at.air node) at.air node route (device_replies device event) refl is alive
 
   arrives_alive : (at : Mesh) (frame : Flown) (fate : Fate) (drawn : List ℕ) (route : Option Route) → MayArrive at frame fate route → Alive at.air → Alive (arriving_as at frame fate drawn route).air
   arrives_alive at frame Lost drawn route may alive = lands_alive at.air alive
@@ -194,7 +195,7 @@ never_dead net devices frame from to live is = by frame.lost refl is
   where
     by : (lost : Bool) → frame.lost ≡ lost → (if lost then Lost else fate_by (dead_hop_of net frame) frame.heading (listener_of frame.node devices)) ≡ Dead from to → ⊥
     by true lost same = cc
-    by false kept same = dead_none (dead_hop_of net frame) frame.heading (listener_of frame.node devices) from to (live kept) same
+    by false kept same = dead_none (dead_hop_of net frame) frame.heading (listener_of frame.node devices) from to live.1 same
 
 fate_unbroken : (at : Mesh) (number : ℕ) (frame : Flown) (fate : Fate) (drawn : List ℕ) (route : Option Route) → fate_of at.air.network at.devices frame ≡ fate → IsLive at.air.network frame
     → AreUnbroken (arrival_outs_as at number frame fate drawn route)
@@ -310,11 +311,14 @@ item_goes s item way may =
 
 -- ---- what is outside the host
 
+alive_of : (o : OuterState) → HasLive o → Alive o.chip.state.table o.air
+alive_of o live = (live.fly, live.known, live.hears, live.none_marked)
+
 puts_live : (o : OuterState) (out : ChipOut) → GoesOver o.chip.state.table out → HasLive o → HasLive (put_out o out).outer
 puts_live o (Write unit) over live = live
 puts_live o (OnAir to route payload) over live =
-    let alive = departs_alive o.chip.state.table o.air to Outward (Some route) payload (λ kept. live_way o.chip.state.table o.air.network live.known 1 (via route) to over.walk.hops) (live.fly, live.known) in
-    record { fly = alive.0; known = alive.1; reaches = live.reaches }
+    let alive = departs_alive o.chip.state.table o.air to Outward (Some route) payload (refl, live_way o.chip.state.table o.air.network live.known 1 (via route) to over.walk.hops) (alive_of o live) in
+    record { fly = alive.0; known = alive.1; reaches = live.reaches; hears = alive.2; none_marked = alive.3 }
 puts_live o NoRoute over live = live
 puts_live o (AskInfo node) over live = live
 puts_live o Full over live = live
@@ -334,7 +338,7 @@ does_live : (o : OuterState) (event : ChipEvent) → Of (after o.chip.state even
 unfolding chip_does
 does_live o event keeps over live =
     puts_all_live (with_chip o (after o.chip.state event)) (outs o.chip.state event) (subst (λ (of : Network × List Bool). AllGoOver of.0 (outs o.chip.state event)) (sym keeps) over)
-    (subst (λ (of : Network × List Bool). LiveBy of.0 of.1 o.air.network o.air.frames.frames) (sym keeps) live)
+    (subst (λ (of : Network × List Bool). LiveBy of.0 of.1 o.air.network o.air.joined o.air.losing o.air.frames.frames) (sym keeps) live)
 
 abbrev Leaves : OuterState → Outcome → Type 0
 Leaves o x = HasLive o → HasLive x.outer
@@ -357,8 +361,8 @@ hears_live o from payload live = does_live o (chip_hears from payload) refl (sai
 
 with_air_of : (o p : OuterState) → IsSameChip o p → HasLive o → HasLive p
 with_air_of o p is live =
-    subst (λ (s : ChipState). LiveBy s.table s.joined p.air.network p.air.frames.frames) (sym is.chip)
-    (subst (λ (air : AirState). LiveBy o.chip.state.table o.chip.state.joined air.network air.frames.frames) (sym is.air) live)
+    subst (λ (s : ChipState). LiveBy s.table s.joined p.air.network p.air.joined p.air.losing p.air.frames.frames) (sym is.chip)
+    (subst (λ (air : AirState). LiveBy o.chip.state.table o.chip.state.joined air.network air.joined air.losing air.frames.frames) (sym is.air) live)
 
 calls : Calls Leaves
 calls = record {
@@ -436,13 +440,13 @@ law = record {
       (λ live. does_live (record w.outer { chip = record { decoder = after_tick w.outer.chip.decoder; state = w.outer.chip.state } }) Ticked refl (said_go w.outer.chip.state.table _ (ticked_said w.outer.chip.state.port)) live);
   gives = λ w route may. comes w (gives w.outer w.devices w.outer.due route) w.devices (due_goes Leaves calls w.outer w.devices w.outer.due route);
   steps = λ w step hearing may awaits past told lives.
-      let alive = steps_alive w.outer.chip.state.table (mesh_of w) step hearing may (lives.0.fly, lives.0.known) in
-      (tt, (record { fly = alive.0; known = alive.1; reaches = lives.0.reaches }, steps_unbroken (mesh_of w) step hearing lives.0.fly));
+      let alive = steps_alive w.outer.chip.state.table (mesh_of w) step hearing may (alive_of w.outer lives.0) in
+      (tt, (record { fly = alive.0; known = alive.1; reaches = lives.0.reaches; hears = alive.2; none_marked = alive.3 }, steps_unbroken (mesh_of w) step hearing lives.0.fly));
   deals = λ w event events awaits past told lives. (nothing_asked past (deals w.devices w.outer event).entries, (deals_live w.devices w.outer event lives.1.0 lives.0, lives.1.1));
   acts = λ w place device event route found may. comes w (acts w.outer device event route) (slice_set w.devices place (device_after device event))
       (λ live.
-      let alive = acts_alive w.outer.chip.state.table (is_joined w.outer.air device.node) w.outer.air device.node route (device_replies device event) may (live.fly, live.known) in
-      record { fly = alive.0; known = alive.1; reaches = live.reaches });
+      let alive = acts_alive w.outer.chip.state.table (is_joined w.outer.air device.node) w.outer.air device.node route (device_replies device event) refl may (alive_of w.outer live) in
+      record { fly = alive.0; known = alive.1; reaches = live.reaches; hears = alive.2; none_marked = alive.3 });
 }
 
 pub event_lives : (m : Machine) (event : Event) → CoversOuter IsQuietEvent event → May m event → HasLive m.outside.outer → HasLive (happens m event).outside.outer

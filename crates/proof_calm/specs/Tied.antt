@@ -225,7 +225,7 @@ PumpedAt (Begun line) m = IsPumped m.host.state
 PumpedAt (To_tick ticks) m = IsPumped m.host.state
 PumpedAt here m = Unit {0}
 
--- the host has to do with joined nodes alone, these alone speak on the air, what the host gives is short, and no hop is dead
+-- the host has to do with joined nodes alone, these alone speak on the air, what the host gives is short, and no frame is lost
 pub record IsPeopled (m : Machine) : Type 0 where
   pub facts : HostFacts m.host.state
   pub fits : HostFits m.host.state

@@ -11,7 +11,7 @@
 //! The definitions are in `specs/`: `Marks`, `Quiet` (what is known at each phase while only quiet lines were said), `Passes` (which units are on their
 //! way, and which frames of each side are on the line), `Settling` (where a settling stands, and in how many passes it ends), `Resting` (what is known of
 //! the line at each phase), `Sending`, `Calls`, `Networks`, `Awaited` (which calls are to come), `Routed` and `Live` (that each payload has a route, and
-//! no hop is dead), `Known` and `Homeward` (that joined nodes alone are known and speak), `Tied` (where the request is), and `Undisturbed` (all that is
+//! no frame is lost), `Known` and `Homeward` (that joined nodes alone are known and speak), `Tied` (where the request is), and `Undisturbed` (all that is
 //! so of the machine between the lines and ticks of a stretch; of this the line, what the chip sends and the request are proved).
 #![tactic(auto)]
 

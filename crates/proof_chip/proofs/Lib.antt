@@ -39,7 +39,8 @@ mod Leaving
 mod Bringing
 mod Going
 mod Homing
-mod Idling
+mod Beginning
+mod Staying
 mod Acting
 mod Keeping
 mod Judges

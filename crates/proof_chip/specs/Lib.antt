@@ -5,5 +5,6 @@ pub mod Knowing
 pub mod Sending
 pub mod Calling
 pub mod Tally
+pub mod Staying
 pub mod Served
 pub use Rattle.proof_line.specs.proof_world as proof_world

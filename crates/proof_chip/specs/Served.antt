@@ -3,8 +3,7 @@ use Rattle.std.specs.Prelude.{Bool, true, false, List, []}
 use Rattle.serial_link.specs.Rules.{Step}
 use Rattle.zw_words.specs.declared.side.Side.TheVariants.{Chip}
 use Rattle.zw_text.specs.declared.entry.Entry.{Entry}
-use Rattle.zw_text.specs.declared.entry.Entry.TheVariants.{Said}
-use Rattle.law_wire.specs.Answering.{DropsWhenFull, MayStay}
+use Rattle.law_wire.specs.Answering.{DropsWhenFull}
 use Rattle.law_wire.specs.Asked.{course_of}
 use Rattle.law_wire.specs.Links.{KeepsLink, joined}
 use Rattle.law_wire.specs.Serial.{ended}
@@ -17,12 +16,14 @@ use Rattle.proof_air.specs.proof_walk.Walk.{both_know}
 use Rattle.proof_air.specs.Hearing.{KnowAir as KnowHistory}
 use Rattle.proof_air.specs.Landing.{KnowLanding}
 use Rattle.proof_routes.specs.Knowing.{KnowNetworks}
-use Rattle.proof_line.specs.Linked.{KnowCuts}
+use Rattle.proof_line.specs.Linked.{Did, KnowCuts}
 use Rattle.proof_chip.specs.Bringing.{BringsInOrder}
 use Rattle.proof_chip.specs.Calling.{KnowCalls}
 use Rattle.proof_chip.specs.Knowing.{KnownNodes}
 use Rattle.proof_chip.specs.Sending.{KnowAir}
+use Rattle.proof_chip.specs.Staying.{KnowStays, MayBegin}
 use Rattle.proof_chip.specs.Tally.{KnowTally}
+use Rattle.law_transcript.specs.Lists.{EachAfter}
 
 abbrev pub KnowMembers : Phase → List Entry → Machine → Type 0
 KnowMembers here past m = KnownNodes past m
@@ -31,22 +32,23 @@ KnowMembers here past m = KnownNodes past m
 abbrev pub KnowBeside : List State → Phase → List Entry → Machine → Type 0
 KnowBeside devices = both_know (both_know (both_know (both_know (both_know KnowHistory KnowTime) KnowLanding) (KnowNetworks devices)) KnowMembers) KnowCalls
 
--- by the same steps of the chip's link both links are known, what goes on the air, and how many frames the chip has for the host
+-- by the same steps of the chip's link both links are known, what goes on the air, how many frames the chip has for the host, and that none waited for an idle link where a line or tick began
 abbrev pub KnowServing : List State → Phase → List Entry → Machine → Type 0
-KnowServing devices here past m = KnowBeside devices here past m × ((did : List Step) × KnowCuts did here past m × KnowAir devices did here past m × KnowTally devices did here past m)
+KnowServing devices here past m =
+    KnowBeside devices here past m × ((did : Did) × KnowCuts did here past m × KnowAir devices did.steps here past m × KnowTally devices did.steps here past m × KnowStays devices did here past m)
 
 -- ---- of a run
 
--- where a whole run is over none waits unless the chip's link is busy, as at the beginning of a further line
-abbrev pub MayRest : Bool → List State → List (List Step) → List Entry → Type 0
-MayRest true devices parts transcript = MayStay devices parts transcript (Said [])
-MayRest false devices parts transcript = Unit {0}
+-- of a whole run: where a line that is no `tick`, or a tick, begins, and where the run is over, none waits unless the chip's link is busy
+abbrev pub WaitsForLink : Bool → List State → List (List Step) → List Entry → Type 0
+WaitsForLink true devices parts transcript = EachAfter (MayBegin devices parts) [] (ended true transcript)
+WaitsForLink false devices parts transcript = Unit {0}
 
 -- the chip's link keeps the rules, and by what that link did the controller puts on the air just what it takes, the chip brings the host what was heard in order, and it drops a frame only
--- where 32 wait; and where a run is over, none waits unless the link is busy
+-- where 32 wait; and of a whole run, none waits where a line or tick begins unless the link is busy
 pub record AirsByLink (whole : Bool) (devices : List State) (transcript : List Entry) : Type 0 where
   pub link : KeepsLink Chip (ended whole transcript)
   pub airs : AirsWhatIsTaken devices (course_of (joined link.parts)) (ended whole transcript)
   pub brings : BringsInOrder (course_of (joined link.parts)) transcript
   pub drops : DropsWhenFull devices (course_of (joined link.parts)) (ended whole transcript)
-  pub rests : MayRest whole devices link.parts transcript
+  pub waits : WaitsForLink whole devices link.parts transcript

@@ -5,8 +5,8 @@
 //! `nodes_go_on`; `calls_go_on`; and over all of these, with the walk of both links (`proof_line`), `chips_air_what_is_taken`.
 //! The definitions are in `specs/`: `Serving` (what the chip's link did and was given, beside the transcript), `Knowing` (what is known of it at each phase
 //! of a line), `Sending` (which SendData it has under way, and what that needs to be known of chip and transcript), `Calling` (the results that it waits
-//! for), `Tally` (how many frames it has for the host, by the transcript and by what it was given), `Served` (all of that with both links, by the same
-//! steps) and `Bringing` (that what was heard is brought in order, with worked transcripts).
+//! for), `Tally` (how many frames it has for the host, by the transcript and by what it was given), `Staying` (that none waits where a line or tick
+//! begins), `Served` (all of that with both links, by the same steps) and `Bringing` (that what was heard is brought in order, with worked transcripts).
 #![tactic(auto)]
 
 mod aired;

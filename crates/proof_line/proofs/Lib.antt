@@ -23,6 +23,7 @@ mod Roomy
 pub mod Rooming
 mod Moments
 pub mod Serials
+pub mod LinkStarts
 mod LinkSteps
 pub mod LinkKnown
 mod LinkUntil

@@ -28,8 +28,8 @@ use Rattle.proof_walk.specs.world_model.Events.{Outside_does, happens, entries}
 use Rattle.proof_world.specs.proof_serial.Chip.{HasFrames}
 use Rattle.proof_world.specs.proof_serial.Line.{AreAtRest}
 use Rattle.proof_traffic.specs.Links.{KeepsItsLink}
-use Rattle.proof_line.specs.Links.{AtLine, Brings, KnowsEvents, KnowsLink, KnowsSide, LinkNow, MayEndNow, begun_line, cleared_in, due_from, stalls_in, tick_told}
-use Rattle.proof_line.specs.Linked.{ArePartsOf, Cuts, KnowsBoth, LinksBefore, LinksBegun, LinksDone, MayBothEnd}
+use Rattle.proof_line.specs.Links.{AtLine, Brings, KnowsEvents, KnowsLink, LinkNow, MayEndNow, begun_line, cleared_in, due_from, stalls_in, tick_told, KnowsSide}
+use Rattle.proof_line.specs.Linked.{HasStarts, began, said, Cuts, CutsBy, Did, KnowsBoth, LinksBefore, LinksBegun, LinksDone, MayBothEnd}
 use Rattle.proof_line.proofs.Rooming.{not_awaited}
 use Rattle.proof_line.proofs.Numbering.{ticked_none}
 use Rattle.proof_line.proofs.LinkSteps.{asks_by}
@@ -38,7 +38,7 @@ use Rattle.proof_line.proofs.LinkLines.{Says, chip_is_asked, says, stall_until}
 use Rattle.proof_line.proofs.LinkTime.{cleared_grow, timed_clears, timed_serials}
 use Rattle.proof_line.proofs.LinkChip.{obeyed}
 use Rattle.proof_line.proofs.LinkGiven.{brings_same}
-use Rattle.proof_line.proofs.LinkEnds.{all_told, cuts_of, parts_of}
+use Rattle.proof_line.proofs.LinkEnds.{all_told, cuts_of, starts_of}
 use Rattle.proof_line.proofs.LinkTicks.{Then, in_round}
 
 -- ---- lines of which the links only know that they begin
@@ -50,6 +50,21 @@ IsOrdinary (lines.Stall ticks) = ⊥
 IsOrdinary lines.Collide = ⊥
 IsOrdinary lines.Restart = ⊥
 IsOrdinary line = Unit {0}
+
+pub ordinary_said : (line : Line) → IsOrdinary line → (did : Did) → said line did ≡ began did
+ordinary_said (lines.Tick count) plain did = absurd plain
+ordinary_said line plain did = refl
+
+-- what was done where a line begins that is counted so
+pub record Counts (did earlier : Did) (up : LinkNow) (until : ℕ) : Type 0 where
+  pub life : (begun_line up until).life ≡ did.steps
+  pub starts : (begun_line up until).starts ≡ did.starts
+
+pub counts_so : (did earlier : Did) (up : LinkNow) (until : ℕ) → did ≡ began earlier → up.life ≡ earlier.steps → up.starts ≡ earlier.starts → Counts did earlier up until
+counts_so did earlier up until is life starts = record {
+  life = life ∙ sym (ap (λ (d : Did). d.steps) is);
+  starts = ap₂ (λ (l : List (List Step)) (steps : List Step). l ++ steps ∷ []) starts life ∙ sym (ap (λ (d : Did). d.starts) is);
+}
 
 -- so is a line that does nothing
 abbrev pub AreOrdinary : List Line → Type 0
@@ -116,7 +131,7 @@ module _ {piped : Bool} (side : Side) (timed all : List Entry) (now : LinkNow) (
 -- ---- both
 
 -- where the machine is that has just begun the line
-module _ {did : List Step} (before : List Entry) (first : Machine) (is_tick : Bool) (up down : LinkNow) (both : KnowsBoth did is_tick before first up down) (may : MayBothEnd up down) where
+module _ {did : Did} (before : List Entry) (first : Machine) (is_tick : Bool) (up down : LinkNow) (both : KnowsBoth did is_tick before first up down) (may : MayBothEnd up down) where
   abbrev o : OuterState
   o = first.outside.outer
 
@@ -141,21 +156,21 @@ module _ {did : List Step} (before : List Entry) (first : Machine) (is_tick : Bo
       begins.clears ∙ sym (timed_clears before o) ∙ both.line.clears
       ∙ sym (ap₂ (λ (a b : List ℕ). to_clear a b) begins.chip_is.3 begins.host_is.3)
 
-  pub begins_cuts : (tail : List Entry) (later after_it : LinkNow) → Begins tail later after_it → Cuts later.life (before ++ tail)
+  pub begins_cuts : (tail : List Entry) (later after_it : LinkNow) → Begins tail later after_it → CutsBy later.life (before ++ tail)
   begins_cuts tail later after_it begins =
       cuts_of (before ++ tail) later after_it begins.chip begins.host (all_told (clears (before ++ tail)) (to_clear later.lost after_it.lost) (cleared_so tail later after_it begins))
 
-  pub begins_parts : (tail : List Entry) (later after_it : LinkNow) (begins : Begins tail later after_it) → ArePartsOf later.life (begins_cuts tail later after_it begins).links.chip.parts
+  pub begins_starts : (tail : List Entry) (later after_it : LinkNow) (begins : Begins tail later after_it) → HasStarts (before ++ tail) (begins_cuts tail later after_it begins).links.chip.parts later.starts
   unfolding begins_cuts
-  begins_parts tail later after_it begins =
-      parts_of (before ++ tail) later after_it begins.chip begins.host (all_told (clears (before ++ tail)) (to_clear later.lost after_it.lost) (cleared_so tail later after_it begins))
+  begins_starts tail later after_it begins =
+      starts_of (before ++ tail) later after_it begins.chip begins.host (all_told (clears (before ++ tail)) (to_clear later.lost after_it.lost) (cleared_so tail later after_it begins))
 
   -- of a machine at which it has begun, and that is at their time
-  pub begins_both : (tail : List Entry) (n : Machine) (now : List Step) (later after_it : LinkNow) → later.life ≡ now → Begins tail later after_it → n.outside.outer.in_tick ≡ false → n.outside.outer.clock ≡ o.clock
+  pub begins_both : (tail : List Entry) (n : Machine) (now : Did) (later after_it : LinkNow) → later.life ≡ now.steps → later.starts ≡ now.starts → Begins tail later after_it → n.outside.outer.in_tick ≡ false → n.outside.outer.clock ≡ o.clock
       → n.outside.outer.to_chip.bytes ≡ o.to_chip.bytes → n.outside.outer.to_host.bytes ≡ o.to_host.bytes → later.until ≡ n.outside.outer.stalled_until → after_it.until ≡ n.outside.outer.stalled_until
       → later.link ≡ n.outside.outer.chip.state.port.side → WaitsWell n.outside.outer.chip.state.port → after_it.link ≡ n.host.state.side → KeepsItsLink after_it.life n.host.state
       → HasFrames n.outside.outer.chip.state.port × AreAtRest n → KnowsBoth now false (before ++ tail) n later after_it
-  begins_both tail n now later after_it life begins quiet clock to_chip to_host up_until down_until chip_link waits host_link keeps whole =
+  begins_both tail n now later after_it life starts begins quiet clock to_chip to_host up_until down_until chip_link waits host_link keeps whole =
       let all : List Entry = before ++ tail in
       let none : ticked_entry n.outside.outer ≡ [] = ticked_none n.outside.outer (not_awaited n.outside.outer quiet) in
       let up_clock : later.clock ≡ n.outside.outer.clock = begins.chip_is.1 ∙ both.chip_time.clock ∙ sym clock in
@@ -178,6 +193,7 @@ module _ {did : List Step} (before : List Entry) (first : Machine) (is_tick : Bo
         chip_time = record { clock = up_clock; until = up_until };
         host_time = record { clock = begins.host_is.1 ∙ both.host_time.clock ∙ sym clock; until = down_until };
         life = life;
+        starts = starts;
         chip_round = begins.chip_is.0;
         host_round = begins.host_is.0;
         host_link = host_link;
@@ -276,7 +292,7 @@ refused_said before words refusal clock due = says before words (entry.Refused r
 
 -- ---- a line that was counted
 
-pub done_of : {did : List Step} (past : List Entry) (n : Machine) (up down : LinkNow) → n.outside.outer.in_tick ≡ false → KnowsBoth did false past n up down → LinksDone did past n
+pub done_of : {did : Did} (past : List Entry) (n : Machine) (up down : LinkNow) → n.outside.outer.in_tick ≡ false → KnowsBoth did false past n up down → LinksDone did past n
 done_of past n up down quiet both = (
   (
     up,
@@ -288,13 +304,13 @@ done_of past n up down quiet both = (
 )
 
 -- the machine begins the line
-pub begins_line : {did : List Step} (line : Line) (past : List Entry) (m : Machine) → Cuts did past → LinksBefore did line past m → Then did (LinksBegun did line) past m (Outside_does Begins_line)
+pub begins_line : {did : Did} (line : Line) (past : List Entry) (m : Machine) → Cuts did past → LinksBefore did line past m → Then did (LinksBegun did line) past m (Outside_does Begins_line)
 unfolding happens entries outcome
 begins_line {did} line past m cuts just = (
   subst (Cuts did) (sym (append-nil past)) cuts,
   (
     m,
-    record { before = just.before; words = just.words; read = just.read; is = append-nil past ∙ just.is; is_tick = just.is_tick; both = just.both; due = just.due },
+    record { before = just.before; words = just.words; read = just.read; is = append-nil past ∙ just.is; is_tick = just.is_tick; earlier = just.earlier; counts = just.counts; both = just.both; due = just.due },
     record { quiet = refl; clock = refl; until = refl; to_chip = refl; to_host = refl; port = refl; decoder = refl; host = refl },
   ),
 )

@@ -92,6 +92,7 @@ pub record StaysInRound (old new : LinkNow) : Type 0 where
   pub until : new.until ≡ old.until
   pub lost : new.lost ≡ old.lost
   pub ticks : ticks_of new.round ≡ ticks_of old.round
+  pub starts : new.starts ≡ old.starts
 
 -- with these steps this is left on its way, and the link is that of the chip
 pub record Judges (steps : List Step) (past : List Entry) (now : LinkNow) (side : LinkSide) (rest : List (List ℕ)) : Type 0 where
@@ -111,7 +112,7 @@ chip_judges_known [] o past now left knows link waits may hears = record {
   knows = subst (λ (l : List Entry). KnowsLink Chip l now) (sym (append-nil past)) knows;
   link = link;
   left = hears.0;
-  stays = record { is_tick = refl; brought = refl; clock = refl; until = refl; lost = refl; ticks = refl };
+  stays = record { is_tick = refl; brought = refl; clock = refl; until = refl; lost = refl; ticks = refl; starts = refl };
 }
 chip_judges_known (way ∷ ways) o past now left knows link waits may hears =
     let s : ChipState = o.chip.state in
@@ -139,7 +140,7 @@ chip_judges_known (way ∷ ways) o past now left knows link waits may hears =
       knows = subst (λ (l : List Entry). KnowsLink Chip l later.later) (append_assoc past one.entries (each chip_does one.outer (judged_all ways)).entries) later.knows;
       link = later.link ∙ ap (λ (t : ChipState). (after_all t (judged_all ways)).port.side) is;
       left = later.left;
-      stays = record { is_tick = later.stays.is_tick; brought = later.stays.brought; clock = later.stays.clock; until = later.stays.until; lost = later.stays.lost; ticks = later.stays.ticks ∙ same };
+      stays = record { is_tick = later.stays.is_tick; brought = later.stays.brought; clock = later.stays.clock; until = later.stays.until; lost = later.stays.lost; ticks = later.stays.ticks ∙ same; starts = later.stays.starts };
     }
   where
     judged_tick_none : (s : ChipState) → ticks_of (link_steps s (Judged way.0 way.1)) ≡ 0

@@ -11,14 +11,14 @@ use Rattle.serial_link.specs.Rules.{SideObeys, Step}
 use Rattle.proof_walk.specs.outside_model.State.{OuterState}
 use Rattle.proof_line.specs.Pipes.{ClearsNowhereElse}
 use Rattle.proof_line.specs.Links.{AtLine, KnowsLink, LinkNow}
-use Rattle.proof_line.specs.Linked.{ArePartsOf, Cuts}
-use Rattle.proof_line.proofs.LinkKnown.{keeps_link, keeps_lost, keeps_parts, keeps_room}
+use Rattle.proof_line.specs.Linked.{CutsBy, HasStarts}
+use Rattle.proof_line.proofs.LinkKnown.{keeps_link, keeps_lost, keeps_parts, keeps_starts, keeps_room}
 use Rattle.proof_line.proofs.LinkCourse.{course_mute}
 use Rattle.proof_line.proofs.LinkChip.{obeyed}
 
 -- ---- a run that was cut short
 
-pub cuts_of : (past : List Entry) (up down : LinkNow) → KnowsLink Chip past up → KnowsLink Host past down → AreTold (clears past) (to_clear up.lost down.lost) → Cuts up.life past
+pub cuts_of : (past : List Entry) (up down : LinkNow) → KnowsLink Chip past up → KnowsLink Host past down → AreTold (clears past) (to_clear up.lost down.lost) → CutsBy up.life past
 cuts_of past up down chip host told =
     let of_chip : KeepsLink Chip past = keeps_link Chip past up chip in
     let of_host : KeepsLink Host past = keeps_link Host past down host in
@@ -32,10 +32,10 @@ cuts_of past up down chip host told =
           sym (ap course_of life ∙ course_mute (joined of_chip.parts) chip.steps up.link (subst (λ (l : List Step). SideObeys l up.link) life (obeyed Chip (serial_events past) up chip)) chip.mute);
     }
 
-pub parts_of : (past : List Entry) (up down : LinkNow) (chip : KnowsLink Chip past up) (host : KnowsLink Host past down) (told : AreTold (clears past) (to_clear up.lost down.lost))
-    → ArePartsOf up.life (cuts_of past up down chip host told).links.chip.parts
+pub starts_of : (past : List Entry) (up down : LinkNow) (chip : KnowsLink Chip past up) (host : KnowsLink Host past down) (told : AreTold (clears past) (to_clear up.lost down.lost))
+    → HasStarts past (cuts_of past up down chip host told).links.chip.parts up.starts
 unfolding cuts_of
-parts_of past up down chip host told = record { since = chip.steps; is = keeps_parts past up chip; mute = chip.mute }
+starts_of past up down chip host told = keeps_starts Chip past up chip
 
 one_told : (over : Bool) (entries due : List Entry) → entries ≡ due → IsTold over entries due
 one_told true entries due is = is
@@ -51,17 +51,17 @@ all_told (one ∷ there) (due ∷ dues) is =
     (one_told one.is_over one.entries due first, all_told there dues rest)
 
 -- all is told
-pub line_cuts : (past : List Entry) (o : OuterState) (up down : LinkNow) → AtLine past o up down → Cuts up.life past
+pub line_cuts : (past : List Entry) (o : OuterState) (up down : LinkNow) → AtLine past o up down → CutsBy up.life past
 line_cuts past o up down line = cuts_of past up down line.chip line.host (all_told (clears past) (to_clear up.lost down.lost) line.clears)
 
 -- with steps that have the same course
-pub cuts_as : (did now : List Step) (past : List Entry) → course_of did ≡ course_of now → Cuts did past → Cuts now past
+pub cuts_as : (did now : List Step) (past : List Entry) → course_of did ≡ course_of now → CutsBy did past → CutsBy now past
 cuts_as did now past same cuts = record { links = cuts.links; each = cuts.each; course = cuts.course ∙ same }
 
-pub parts_as : (did now : List Step) (past : List Entry) (same : course_of did ≡ course_of now) (cuts : Cuts did past) → ArePartsOf now cuts.links.chip.parts
-    → ArePartsOf now (cuts_as did now past same cuts).links.chip.parts
+pub starts_as : (did now : List Step) (past : List Entry) (same : course_of did ≡ course_of now) (cuts : CutsBy did past) (starts : List (List Step)) → HasStarts past cuts.links.chip.parts starts
+    → HasStarts past (cuts_as did now past same cuts).links.chip.parts starts
 unfolding cuts_as
-parts_as did now past same cuts are = are
+starts_as did now past same cuts starts has = has
 
 -- and of the last restart a prefix
 pub some_told : (there : List Cleared_there) (dues : List (List Entry)) (told more : List Entry) → map (λ (one : Cleared_there). one.entries) there ≡ dues
@@ -76,10 +76,10 @@ some_told (one ∷ there) (due ∷ dues) told more is =
 
 -- ---- with nothing else told
 
-pub cut_clears : {did : List Step} (past : List Entry) → Cuts did past → ClearsNowhereElse false past → ClearsLine false past
+pub cut_clears : {did : List Step} (past : List Entry) → CutsBy did past → ClearsNowhereElse false past → ClearsLine false past
 cut_clears past cuts only = record { links = cuts.links; each = cuts.each; only = only }
 
-pub whole_clears : {did : List Step} (past : List Entry) → Cuts did (past ++ Said [] ∷ []) → ClearsNowhereElse true past → ClearsLine true past
+pub whole_clears : {did : List Step} (past : List Entry) → CutsBy did (past ++ Said [] ∷ []) → ClearsNowhereElse true past → ClearsLine true past
 whole_clears past cuts only = record {
   links = record { chip = cuts.links.chip; host = cuts.links.host; up = cuts.links.up; down = cuts.links.down };
   each = cuts.each;

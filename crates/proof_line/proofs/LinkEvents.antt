@@ -26,7 +26,7 @@ use Rattle.proof_world.proofs.Outer.{entered_still}
 use Rattle.proof_traffic.specs.Links.{KeepsItsLink}
 use Rattle.proof_walk.proofs.Times.{IsWithin, outcome_time}
 use Rattle.proof_line.specs.Links.{AtLine, Brings, IsMute, KnowsLink, LinkNow, tick_told, with_arriving}
-use Rattle.proof_line.specs.Linked.{Cuts, IsTimed, KnowsBoth}
+use Rattle.proof_line.specs.Linked.{◌⊕◌, Cuts, Did, IsTimed, KnowsBoth}
 use Rattle.proof_line.proofs.Numbering.{Enters, enters_timed, outer_enters, ticked_none}
 use Rattle.proof_line.proofs.Tellings.{IsBeside, Tells}
 use Rattle.proof_line.proofs.HostTelling.{hosts_time}
@@ -45,12 +45,13 @@ pub record SameRound (old new : LinkNow) : Type 0 where
   pub is_tick : new.is_tick ≡ old.is_tick
   pub clock : new.clock ≡ old.clock
   pub until : new.until ≡ old.until
+  pub starts : new.starts ≡ old.starts
 
 same_timed : (o n : OuterState) (old new : LinkNow) → n.clock ≡ o.clock → n.stalled_until ≡ o.stalled_until → SameRound old new → IsTimed o old → IsTimed n new
 same_timed o n old new clock until same timed = record { clock = same.clock ∙ timed.clock ∙ sym clock; until = same.until ∙ timed.until ∙ sym until }
 
 -- what is on its way is whole, and stays so
-pub whole_both : {did : List Step} (is_tick : Bool) (past : List Entry) (m : Machine) (up down : LinkNow) → KnowsBoth did is_tick past m up down → IsWhole m
+pub whole_both : {did : Did} (is_tick : Bool) (past : List Entry) (m : Machine) (up down : LinkNow) → KnowsBoth did is_tick past m up down → IsWhole m
 whole_both is_tick past m up down both = record {
   up = both.chip_way.items;
   down = both.line.way.items;
@@ -61,7 +62,7 @@ whole_both is_tick past m up down both = record {
   frames = both.frames;
 }
 
-pub later_both : {did : List Step} (is_tick : Bool) (past : List Entry) (m : Machine) (event : Event) (up down : LinkNow) → KnowsBoth did is_tick past m up down → May m event → TakesWhole m event → WritesWell m event
+pub later_both : {did : Did} (is_tick : Bool) (past : List Entry) (m : Machine) (event : Event) (up down : LinkNow) → KnowsBoth did is_tick past m up down → May m event → TakesWhole m event → WritesWell m event
     → HasFrames (happens m event).outside.outer.chip.state.port × AreAtRest (happens m event)
 later_both is_tick past m event up down both may takes well =
     let whole = whole_both is_tick past m up down both in
@@ -69,18 +70,21 @@ later_both is_tick past m event up down both may takes well =
 
 -- ---- any event
 
+pub none_more : (did : Did) → did ⊕ [] ≡ did
+none_more did = ap (λ (l : List Step). record { steps = l; starts = did.starts }) (append-nil did.steps)
+
 -- the chip's link did more, and wrote nothing where nothing is told
-pub record DidMore (did now : List Step) (told : List Entry) : Type 0 where
+pub record DidMore (did now : Did) (told : List Entry) : Type 0 where
   pub more : List Step
-  pub is : now ≡ did ++ more
+  pub is : now ≡ did ⊕ more
   pub quiet : told ≡ [] → AllByRecursion IsMute more
 
-pub no_more : (did : List Step) (told : List Entry) → DidMore did did told
-no_more did told = record { more = []; is = sym (append-nil did); quiet = λ none. tt }
+pub no_more : (did : Did) (told : List Entry) → DidMore did did told
+no_more did told = record { more = []; is = sym (none_more did); quiet = λ none. tt }
 
 -- where this is entered
-pub goes_both : {did now : List Step} (is_tick : Bool) (past told : List Entry) (m n : Machine) (told_all : List Entry) (up later down after_it : LinkNow) → KnowsBoth did is_tick past m up down → Cuts did past
-    → DidMore did now told → later.life ≡ now
+pub goes_both : {did now : Did} (is_tick : Bool) (past told : List Entry) (m n : Machine) (told_all : List Entry) (up later down after_it : LinkNow) → KnowsBoth did is_tick past m up down → Cuts did past
+    → DidMore did now told → later.life ≡ now.steps
     → Enters m.outside.outer n.outside.outer told_all told → n.outside.outer.clock ≡ m.outside.outer.clock → n.outside.outer.stalled_until ≡ m.outside.outer.stalled_until
     → AtLine ((past ++ ticked_entry m.outside.outer) ++ told) n.outside.outer later after_it → SameRound up later → SameRound down after_it → Brings n.outside.outer.to_chip later.coming
     → after_it.link ≡ n.host.state.side → KeepsItsLink after_it.life n.host.state → HasFrames n.outside.outer.chip.state.port × AreAtRest n → Cuts now (past ++ told_all) × KnowsBoth now is_tick (past ++ told_all) n later after_it
@@ -93,6 +97,7 @@ goes_both {did} {now} is_tick past told m n told_all up later down after_it both
     chip_time = same_timed m.outside.outer n.outside.outer up later clock until same_up both.chip_time;
     host_time = same_timed m.outside.outer n.outside.outer down after_it clock until same_down both.host_time;
     life = life;
+    starts = same_up.starts ∙ both.starts ∙ sym (ap (λ (d : Did). d.starts) grows.is);
     chip_round = same_up.is_tick ∙ both.chip_round;
     host_round = same_down.is_tick ∙ both.host_round;
     host_link = link;
@@ -118,16 +123,16 @@ goes_both {did} {now} is_tick past told m n told_all up later down after_it both
     nothing_more none = ap (λ (l : List Entry). past ++ l) none ∙ append-nil past
 
     -- what it did more wrote nothing
-    same_course : told ≡ [] → course_of did ≡ course_of now
+    same_course : told ≡ [] → course_of did.steps ≡ course_of now.steps
     same_course none =
-        sym (ap course_of grows.is
-        ∙ course_mute did grows.more later.link
-        (subst (λ (l : List Step). SideObeys l later.link) (life ∙ grows.is) (obeyed Chip (serial_events ((past ++ ticked_entry m.outside.outer) ++ told)) later at.chip)) (grows.quiet none))
+        sym (ap (λ (d : Did). course_of d.steps) grows.is
+        ∙ course_mute did.steps grows.more later.link
+        (subst (λ (l : List Step). SideObeys l later.link) (life ∙ ap (λ (d : Did). d.steps) grows.is) (obeyed Chip (serial_events ((past ++ ticked_entry m.outside.outer) ++ told)) later at.chip)) (grows.quiet none))
 
     cuts_then : Enters m.outside.outer n.outside.outer told_all told → Cuts now (past ++ told_all)
-    cuts_then (inl (none, nothing, same)) = subst (Cuts now) (sym (nothing_more nothing)) (cuts_as did now past (same_course none) cuts)
+    cuts_then (inl (none, nothing, same)) = subst (Cuts now) (sym (nothing_more nothing)) (cuts_as did.steps now.steps past (same_course none) cuts)
     cuts_then (inr (is, ended)) =
-        cuts_as later.life now (past ++ told_all) (ap course_of life) (line_cuts (past ++ told_all) n.outside.outer later after_it (unstamped (ticked_none n.outside.outer ended)))
+        cuts_as later.life now.steps (past ++ told_all) (ap course_of life) (line_cuts (past ++ told_all) n.outside.outer later after_it (unstamped (ticked_none n.outside.outer ended)))
 
     behind_then : Enters m.outside.outer n.outside.outer told_all told → tick_told (past ++ told_all) ≤ n.outside.outer.clock
     behind_then (inl (none, nothing, same)) =
@@ -169,8 +174,8 @@ pub record ChipSays (o : OuterState) (x : Outcome) (units : List LineUnit) (late
   pub link : later.link ≡ x.outer.chip.state.port.side
   pub waits : WaitsWell x.outer.chip.state.port
 
-pub chip_writes_both : {did now : List Step} (is_tick : Bool) (past : List Entry) (m : Machine) (event : OuterEvent) (up later down : LinkNow) (units : List LineUnit) → IsWithin event → StallsNot event
-    → KnowsBoth did is_tick past m up down → Cuts did past → DidMore did now (outcome m.outside event).entries → later.life ≡ now → KnowsLink Chip ((past ++ ticked_entry m.outside.outer) ++ (outcome m.outside event).entries) later → ChipSays m.outside.outer (outcome m.outside event) units later → SameRound up later
+pub chip_writes_both : {did now : Did} (is_tick : Bool) (past : List Entry) (m : Machine) (event : OuterEvent) (up later down : LinkNow) (units : List LineUnit) → IsWithin event → StallsNot event
+    → KnowsBoth did is_tick past m up down → Cuts did past → DidMore did now (outcome m.outside event).entries → later.life ≡ now.steps → KnowsLink Chip ((past ++ ticked_entry m.outside.outer) ++ (outcome m.outside event).entries) later → ChipSays m.outside.outer (outcome m.outside event) units later → SameRound up later
     → later.lost ≡ up.lost → HasFrames (happens m (Outside_does event)).outside.outer.chip.state.port × AreAtRest (happens m (Outside_does event))
     → Cuts now (past ++ entries m (Outside_does event))
     × KnowsBoth now is_tick (past ++ entries m (Outside_does event)) (happens m (Outside_does event)) later (with_arriving down (arriving_all Chip m.outside.outer.to_host units))
@@ -197,14 +202,14 @@ chip_writes_both is_tick past m event up later down units within apart both cuts
     goes_both is_tick past x.entries m (happens m (Outside_does event)) (stamp x.outer x.entries) up later down (with_arriving down arriving) both cuts grows life
     (outer_enters o x.outer x.entries (outcome_time m.outside event within)) (clock_stays m event within) (until_stays m event apart)
     (line_other (timed ++ x.entries) x.outer later (with_arriving down arriving) n (ap (λ (c : ChipParts). c.state.port) still.chip) (ap (λ (w : WayState). w.bytes) still.to_host) line)
-    same (record { is_tick = refl; clock = refl; until = refl }) (subst (λ (w : WayState). Brings w later.coming) (sym still.to_chip) says.way) both.host_link both.keeps whole
+    same (record { is_tick = refl; clock = refl; until = refl; starts = refl }) (subst (λ (w : WayState). Brings w later.coming) (sym still.to_chip) says.way) both.host_link both.keeps whole
 
 -- the chip is given something, or it goes on beside the line
-abbrev pub Grown : (did steps : List Step) → Bool → List Entry → Machine → LinkNow → LinkNow → Type 0
+abbrev pub Grown : (did : Did) (steps : List Step) → Bool → List Entry → Machine → LinkNow → LinkNow → Type 0
 Grown did steps is_tick past m up down =
-    (later : LinkNow) × (after_it : LinkNow) × (Cuts (did ++ steps) past × KnowsBoth (did ++ steps) is_tick past m later after_it) × GrowsChip steps up later × GrowsHost down after_it
+    (later : LinkNow) × (after_it : LinkNow) × (Cuts (did ⊕ steps) past × KnowsBoth (did ⊕ steps) is_tick past m later after_it) × GrowsChip steps up later × GrowsHost down after_it
 
-pub given_both : {did : List Step} (steps : List Step) (is_tick : Bool) (past : List Entry) (m : Machine) (event : OuterEvent) (up down : LinkNow) → IsWithin event → StallsNot event
+pub given_both : {did : Did} (steps : List Step) (is_tick : Bool) (past : List Entry) (m : Machine) (event : OuterEvent) (up down : LinkNow) → IsWithin event → StallsNot event
     → KnowsBoth did is_tick past m up down → Cuts did past → (up.is_tick ≡ true → ticks_of up.round ≡ 0) → GoesGiven steps m.outside.outer (outcome m.outside event) → (outcome m.outside event).outer.to_chip.bytes ≡ m.outside.outer.to_chip.bytes
     → HasFrames (happens m (Outside_does event)).outside.outer.chip.state.port × AreAtRest (happens m (Outside_does event))
     → Grown did steps is_tick (past ++ entries m (Outside_does event)) (happens m (Outside_does event)) up down
@@ -226,8 +231,8 @@ given_both {did} steps is_tick past m event up down within apart both cuts early
           (outer_enters o x.outer x.entries (outcome_time m.outside event within)) (clock_stays m event within)
           (until_stays m event apart)
           (line_other (timed ++ x.entries) x.outer got.up_later got.down_later n (ap (λ (c : ChipParts). c.state.port) still.chip) (ap (λ (w : WayState). w.bytes) still.to_host) got.at.line)
-          (record { is_tick = up_grows.is_tick; clock = up_grows.clock; until = up_grows.until })
-          (record { is_tick = down_grows.is_tick; clock = down_grows.clock; until = down_grows.until })
+          (record { is_tick = up_grows.is_tick; clock = up_grows.clock; until = up_grows.until; starts = up_grows.starts })
+          (record { is_tick = down_grows.is_tick; clock = down_grows.clock; until = down_grows.until; starts = down_grows.starts })
           (brings_same o.to_chip n.to_chip got.up_later.coming (ap (λ (w : WayState). w.bytes) still.to_chip ∙ to_chip)
           (subst (λ (l : List (List ℕ)). Brings o.to_chip l) (sym up_grows.coming) both.chip_way))
           (down_grows.link ∙ both.host_link) (subst (λ (l : List Step). KeepsItsLink l m.host.state) (sym down_grows.life) both.keeps) whole,
@@ -246,7 +251,7 @@ pub record HostSays (m n : Machine) (units : List LineUnit) (told_all told : Lis
   pub to_chip : n.outside.outer.to_chip ≡ written_all m.outside.outer.to_chip units
   pub fit : AllByRecursion IsUnit units
 
-pub host_writes_both : {did : List Step} (is_tick : Bool) (past : List Entry) (m n : Machine) (up down after_it : LinkNow) (units : List LineUnit) (told_all told : List Entry) → KnowsBoth did is_tick past m up down
+pub host_writes_both : {did : Did} (is_tick : Bool) (past : List Entry) (m n : Machine) (up down after_it : LinkNow) (units : List LineUnit) (told_all told : List Entry) → KnowsBoth did is_tick past m up down
     → Cuts did past
     → HostSays m n units told_all told → KnowsLink Host ((past ++ ticked_entry m.outside.outer) ++ told) after_it → SameRound down after_it → after_it.lost ≡ down.lost → after_it.link ≡ n.host.state.side
     → KeepsItsLink after_it.life n.host.state → Brings n.outside.outer.to_host after_it.coming → HasFrames n.outside.outer.chip.state.port × AreAtRest n
@@ -270,5 +275,5 @@ host_writes_both {did} is_tick past m n up down after_it units told_all told bot
       clears = apart.clears ∙ both.line.clears ∙ ap (λ (l : List ℕ). to_clear up.lost l) (sym lost);
     } in
     goes_both is_tick past told m n told_all up later down after_it both cuts (no_more did told) both.life says.enters (ap (λ (t : Bool × ℕ × ℕ). t.1) says.time) (ap (λ (t : Bool × ℕ × ℕ). t.2) says.time) line
-    (record { is_tick = refl; clock = refl; until = refl }) same (subst (λ (w : WayState). Brings w (up.coming ++ arriving)) (sym says.to_chip) (brings_more Host units o.to_chip up.coming says.fit both.chip_way))
+    (record { is_tick = refl; clock = refl; until = refl; starts = refl }) same (subst (λ (w : WayState). Brings w (up.coming ++ arriving)) (sym says.to_chip) (brings_more Host units o.to_chip up.coming says.fit both.chip_way))
     link keeps whole

@@ -68,9 +68,11 @@ pub record GrowsChip (steps : List Step) (old new : LinkNow) : Type 0 where
   pub until : new.until ≡ old.until
   pub coming : new.coming ≡ old.coming
   pub ticks : ticks_of new.round ≡ ticks_of old.round
+  pub starts : new.starts ≡ old.starts
 
 pub record GrowsHost (old new : LinkNow) : Type 0 where
   pub is_tick : new.is_tick ≡ old.is_tick
+  pub starts : new.starts ≡ old.starts
   pub clock : new.clock ≡ old.clock
   pub until : new.until ≡ old.until
   pub life : new.life ≡ old.life
@@ -139,8 +141,8 @@ module _ (past : List Entry) (o : OuterState) (up down : LinkNow) where
     up_later = up;
     down_later = down;
     at = at;
-    chip_grows = record { life = sym (append-nil up.life); is_tick = refl; clock = refl; until = refl; coming = refl; ticks = refl };
-    host_grows = record { is_tick = refl; clock = refl; until = refl; life = refl; round = refl; link = refl };
+    chip_grows = record { life = sym (append-nil up.life); is_tick = refl; clock = refl; until = refl; coming = refl; ticks = refl; starts = refl };
+    host_grows = record { is_tick = refl; clock = refl; until = refl; life = refl; round = refl; link = refl; starts = refl };
   }
 
 -- one after the other
@@ -162,6 +164,7 @@ then_given one more middle all p q up down first later =
         until = b.until ∙ a.until;
         coming = b.coming ∙ a.coming;
         ticks = b.ticks ∙ a.ticks;
+        starts = b.starts ∙ a.starts;
       };
       host_grows = record {
         is_tick = d.is_tick ∙ c.is_tick;
@@ -170,6 +173,7 @@ then_given one more middle all p q up down first later =
         life = d.life ∙ c.life;
         round = d.round ∙ c.round;
         link = d.link ∙ c.link;
+        starts = d.starts ∙ c.starts;
       };
     }
 
@@ -222,8 +226,8 @@ event_given o e given none may =
               };
               early = λ tick. same ∙ at.early tick;
             };
-            chip_grows = record { life = refl; is_tick = refl; clock = refl; until = refl; coming = refl; ticks = same };
-            host_grows = record { is_tick = refl; clock = refl; until = refl; life = refl; round = refl; link = refl };
+            chip_grows = record { life = refl; is_tick = refl; clock = refl; until = refl; coming = refl; ticks = same; starts = refl };
+            host_grows = record { is_tick = refl; clock = refl; until = refl; life = refl; round = refl; link = refl; starts = refl };
           };
     }
   where

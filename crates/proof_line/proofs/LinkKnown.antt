@@ -17,10 +17,11 @@ use Rattle.zw_text.specs.declared.line.Line.{Line}
 use Rattle.law_wire.specs.law_transcript.Lists.{EachAfter}
 use Rattle.law_wire.specs.law_transcript.Restarts.{is_restart}
 use Rattle.law_wire.specs.Clearing.{lost_by}
-use Rattle.law_wire.specs.Serial.{SerialEvent, arriving_of, lacking_of, serial_events}
+use Rattle.law_wire.specs.law_transcript.Lists.{shown_after}
+use Rattle.law_wire.specs.Serial.{SerialEvent, arriving_of, serial_events, lacking_of}
 use Rattle.law_wire.specs.Serial.SerialEvent.{Line_begins, Tick_begins, Writes}
-use Rattle.law_wire.specs.Links.{FindsRoom, HasTicked, KeepsLink, LeavesFew, Moment, Round, WriteLast, arrivals_of, ends_round, most_left, stall_by, MayDo, Obeys, WritesThere, arrival_of, clock_in, has_room, is_let_in, is_stalled, joined, moments_of, other, round_of, steps_in, texts_of, unit_by}
-use Rattle.proof_line.specs.Links.{Does, Hears, IsAt, IsMute, KeepsSoFar, KnowsEvents, KnowsLink, KnowsSide, LinkNow, MayEnd, MayEndNow, MayHear, MayStep, TakesTexts, begun_line, begun_tick, life_of, most_of, round_steps, stalls_in, stepped, with_arriving}
+use Rattle.law_wire.specs.Links.{HasTicked, KeepsLink, LeavesFew, Moment, Round, WriteLast, arrivals_of, ends_round, most_left, stall_by, MayDo, Obeys, WritesThere, arrival_of, clock_in, is_stalled, joined, moments_of, other, round_of, steps_in, texts_of, unit_by, FindsRoom, has_room, is_let_in}
+use Rattle.proof_line.specs.Links.{Does, Hears, IsAt, IsMute, KeepsSoFar, KnowsEvents, KnowsLink, LinkNow, MayEnd, MayEndNow, MayHear, MayStep, TakesTexts, begun_line, begun_tick, life_of, most_of, round_steps, stalls_in, start_at, stepped, with_arriving, KnowsSide}
 use Rattle.proof_walk.proofs.Entered.{IsMark, told_by_marks}
 use Rattle.proof_walk.proofs.Lists.{each-append}
 use Rattle.proof_line.proofs.Moments.{arrivals_one, moments_one, round_one}
@@ -28,7 +29,7 @@ use Rattle.proof_line.proofs.Serials.{beside_serials, written_serials}
 use Rattle.proof_line.proofs.Standing.{same_itself}
 use Rattle.proof_line.proofs.Arriving.{flat, let_in, marks_of}
 use Rattle.proof_line.proofs.Tellings.{IsBeside}
-use Rattle.proof_line.proofs.LinkSteps.{asks_by, clock_one, does_more, does_on, ends_part, hears_next, hears_now, hears_on, hears_same, life_same, lost_same, mute_last, round_same, stalls_one, unit_may_end, writes_last}
+use Rattle.proof_line.proofs.LinkSteps.{asks_by, clock_one, does_more, does_on, ends_part, hears_next, hears_on, hears_same, life_same, lost_same, mute_last, round_same, stalls_one, starts_next, starts_same, unit_may_end, writes_last, hears_now}
 
 -- ---- moments
 
@@ -73,6 +74,12 @@ pub keeps_parts : (past : List Entry) (now : LinkNow) (knows : KnowsLink Chip pa
 unfolding keeps_link
 keeps_parts past now knows = sym knows.at.life ∙ ap (λ (l : List (List Step)). joined l ++ knows.steps) (parts_again (serial_events past) knows.parts knows.each)
 
+-- and where each line or tick began it had done just these
+pub keeps_starts : (side : Side) (past : List Entry) (now : LinkNow) (knows : KnowsLink side past now)
+    → shown_after (start_at side) [] (moments_of (serial_events past) (keeps_link side past now knows).parts) ≡ now.starts
+unfolding keeps_link
+keeps_starts side past now knows = knows.at.starts
+
 -- ---- a step
 
 at_step : (side : Side) (past : List Moment) (steps : List Step) (now : LinkNow) (step : Step) (new : LinkSide) (left : List (List ℕ)) → IsAt side past steps now
@@ -85,6 +92,7 @@ at_step side past steps now step new left at = record {
   life = sym (append_assoc (steps_in (life_of side past)) steps (step ∷ [])) ∙ ap (λ (l : List Step). l ++ step ∷ []) at.life;
   round = sym (append_assoc (steps_in (round_of past).moments) steps (step ∷ [])) ∙ ap (λ (l : List Step). l ++ step ∷ []) at.round;
   lost = at.lost;
+  starts = at.starts;
 }
 
 -- what it hears, if it hears, is the first of what comes
@@ -147,7 +155,7 @@ relinked side events now new obeys knows = record {
   does = record { obeys = subst (λ (l : List Step). SideObeys l new) (sym knows.at.life) obeys; may = knows.does.may; asks = knows.does.asks };
   mute = knows.mute;
   hears = knows.hears;
-  at = record { is_tick = knows.at.is_tick; brought = knows.at.brought; clock = knows.at.clock; until = knows.at.until; life = knows.at.life; round = knows.at.round; lost = knows.at.lost };
+  at = record { is_tick = knows.at.is_tick; brought = knows.at.brought; clock = knows.at.clock; until = knows.at.until; life = knows.at.life; round = knows.at.round; lost = knows.at.lost; starts = knows.at.starts };
   room = knows.room;
 }
 
@@ -190,6 +198,7 @@ at_unit side on past steps now unit arriving lacking at =
       life = life_same side past one refl ∙ at.life;
       round = same.0 ∙ at.round;
       lost = lost_same side past one refl ∙ at.lost;
+      starts = starts_same side past one refl ∙ at.starts;
     }
 
 most_is : (side : Side) (past : List Moment) (brought : ℕ) → length (arrivals_of (other side) (round_of past).moments) ≡ brought → most_left side past ≡ most_of side brought
@@ -260,6 +269,7 @@ module _ {piped : Bool} (side : Side) (events : List SerialEvent) (now : LinkNow
         life = life_same side Before one plain ∙ knows.at.life;
         round = ap (λ (r : Round). steps_in r.moments ++ []) begins;
         lost = lost_same side Before one plain ∙ knows.at.lost;
+        starts = starts_next side Before one now.starts now.life refl knows.at.starts knows.at.life;
       })
 
   -- a unit of either side
@@ -291,6 +301,7 @@ module _ {piped : Bool} (side : Side) (events : List SerialEvent) (now : LinkNow
         life = life_same side Before one refl ∙ knows.at.life;
         round = ap (λ (r : Round). steps_in r.moments ++ []) begins;
         lost = lost_same side Before one refl ∙ knows.at.lost;
+        starts = starts_next side Before one now.starts now.life refl knows.at.starts knows.at.life;
       })
     where
       ticks_ask_none : (side : Side) → asks_by side Tick_begins ≡ 0

@@ -21,7 +21,7 @@ use Rattle.proof_line.specs.Links.{Does, Hears, IsAt, KeepsSoFar, KnowsEvents, L
 use Rattle.proof_walk.proofs.Lists.{each-append}
 use Rattle.proof_line.proofs.Moments.{moments_one, round_one, steps_one}
 use Rattle.proof_line.proofs.Serials.{serials_grow, told_grows}
-use Rattle.proof_line.proofs.LinkSteps.{asked_next, clock_one, does_again, does_asked, ends_part, hears_again, hears_on, hears_same, lost_again, lost_same, mute_last, stalls_one, start_again}
+use Rattle.proof_line.proofs.LinkSteps.{asked_next, clock_one, does_again, does_asked, ends_part, hears_again, hears_on, hears_same, lost_again, lost_same, mute_last, stalls_one, start_again, starts_next}
 use Rattle.proof_line.proofs.LinkKnown.{event_known, may_end, no_steps, one_more}
 
 -- ---- the words of a line
@@ -79,6 +79,7 @@ module _ (events : List SerialEvent) (now : LinkNow) where
         life = ap (λ (l : List Moment). steps_in l ++ []) (start_again before one refl);
         round = ap (λ (r : Round). steps_in r.moments ++ []) begins;
         lost = lost_again Host before one now.coming refl knows.hears ∙ ap (λ (l : List ℕ). l ++ bytes_in now.coming ∷ []) knows.at.lost;
+        starts = starts_next Host before one now.starts now.life refl knows.at.starts knows.at.life;
       })
 
   -- the chip's goes on
@@ -102,6 +103,7 @@ module _ (events : List SerialEvent) (now : LinkNow) where
         life = life ∙ knows.at.life;
         round = ap (λ (r : Round). steps_in r.moments ++ []) begins;
         lost = lost_again Chip before one now.coming refl knows.hears ∙ ap (λ (l : List ℕ). l ++ bytes_in now.coming ∷ []) knows.at.lost;
+        starts = starts_next Chip before one now.starts now.life refl knows.at.starts knows.at.life;
       })
 
   -- ---- a collision
@@ -141,6 +143,7 @@ module _ (events : List SerialEvent) (now : LinkNow) where
           life = ap (λ (l : List Step). l ++ step ∷ []) (steps_one before one ∙ knows.at.life);
           round = ap (λ (r : Round). steps_in r.moments ++ step ∷ []) begins;
           lost = lost_same Chip before one refl ∙ knows.at.lost;
+          starts = starts_next Chip before one now.starts now.life refl knows.at.starts knows.at.life;
         });
         room = λ in_pipe. subst (λ (l : List Moment). EachAfter (FindsRoom Chip) [] l) is_one (each-append (FindsRoom Chip) [] before (one ∷ []) (knows.room in_pipe) (refl, tt));
       }

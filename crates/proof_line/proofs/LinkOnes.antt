@@ -25,7 +25,7 @@ use Rattle.proof_walk.specs.world_model.State.{Machine}
 use Rattle.proof_walk.specs.world_model.Events.{Event, Outside_does, happens, entries}
 use Rattle.proof_traffic.specs.Links.{KeepsItsLink}
 use Rattle.proof_line.specs.Links.{AtLine, Brings, LinkNow, begun_line, cleared_in, due_from, tick_told}
-use Rattle.proof_line.specs.Linked.{ArePartsOf, Cuts, KnowsBoth, LinksBegun, LinksDone, LinksEnded, LinksOne, MayBothEnd}
+use Rattle.proof_line.specs.Linked.{HasStarts, began, ◌⊕◌, Cuts, CutsBy, Did, KnowsBoth, LinksBegun, LinksDone, LinksEnded, LinksOne, MayBothEnd}
 use Rattle.proof_line.proofs.LinkKnown.{no_steps}
 use Rattle.proof_line.proofs.Rooming.{not_awaited}
 use Rattle.proof_line.proofs.Numbering.{ticked_none}
@@ -33,9 +33,9 @@ use Rattle.proof_line.proofs.LinkTime.{timed_clears}
 use Rattle.proof_line.proofs.ChipAccounts.{event_steps, outer_steps}
 use Rattle.proof_line.proofs.LinkCourse.{course_mute}
 use Rattle.proof_line.proofs.LinkChip.{obeyed}
-use Rattle.proof_line.proofs.LinkEnds.{all_told, cuts_as, cuts_of, parts_as}
+use Rattle.proof_line.proofs.LinkEnds.{all_told, cuts_as, cuts_of, starts_as}
 use Rattle.proof_line.proofs.LinkTicks.{Then}
-use Rattle.proof_line.proofs.LinkBegins.{IsOrdinary, alone_said, asked_step, asked_up, begins_both, begins_cuts, begins_parts, collides, done_of, ordinary, ordinary_restarts, said_clears, stalls, ticks_said}
+use Rattle.proof_line.proofs.LinkBegins.{counts_so, IsOrdinary, alone_said, asked_step, asked_up, begins_both, begins_cuts, begins_starts, collides, done_of, ordinary, ordinary_restarts, said_clears, stalls, ticks_said}
 use Rattle.proof_line.proofs.LinkPlain.{begun_whole, then_more}
 use Rattle.proof_line.proofs.LinkRestarts.{restart_said}
 use Rattle.proof_walk.proofs.Clock.{asked-append as asked_both}
@@ -52,19 +52,19 @@ due_is due (entry.Said words ∷ rest) =
     whole
 due_is due (e ∷ rest) = due_is due rest
 
-module _ {did : List Step} (past : List Entry) (m : Machine) (is_tick : Bool) (up down : LinkNow) (both : KnowsBoth did is_tick past m up down) (may : MayBothEnd up down) (due : due_from 0 past ≡ m.outside.outer.clock) where
+module _ {did : Did} (past : List Entry) (m : Machine) (is_tick : Bool) (up down : LinkNow) (both : KnowsBoth did is_tick past m up down) (may : MayBothEnd up down) (due : due_from 0 past ≡ m.outside.outer.clock) where
   -- these words, which are no restart
   plain_clears : (words : List ℕ) (line : List Line) → line_of (entry.Said words) ≡ line → is_restart line ≡ false → cleared_in (past ++ entry.Said words ∷ []) ≡ cleared_in past
   plain_clears words line read plain = said_clears past words (ap is_restart read ∙ plain)
 
-  ordinary_cuts : (words : List ℕ) (line : Line) → line_of (entry.Said words) ≡ line ∷ [] → IsOrdinary line → Cuts up.life (past ++ entry.Said words ∷ [])
+  ordinary_cuts : (words : List ℕ) (line : Line) → line_of (entry.Said words) ≡ line ∷ [] → IsOrdinary line → CutsBy up.life (past ++ entry.Said words ∷ [])
   ordinary_cuts words line read plain =
       begins_cuts past m is_tick up down both may (entry.Said words ∷ []) (begun_line up up.until) (begun_line down down.until)
       (ordinary past m is_tick up down both may (entry.Said words ∷ []) (line ∷ []) plain (alone_said past words (line ∷ []) m.outside.outer.clock read due)
       (plain_clears words (line ∷ []) read (ordinary_restarts (line ∷ []) plain)))
 
   -- the collision that a line asks for writes nothing
-  asked_cuts : (words : List ℕ) → line_of (entry.Said words) ≡ lines.Collide ∷ [] → Cuts up.life (past ++ entry.Said words ∷ [])
+  asked_cuts : (words : List ℕ) → line_of (entry.Said words) ≡ lines.Collide ∷ [] → CutsBy up.life (past ++ entry.Said words ∷ [])
   asked_cuts words read =
       let all : List Entry = past ++ entry.Said words ∷ [] in
       let later : LinkNow = asked_up past m is_tick up down both may in
@@ -74,7 +74,7 @@ module _ {did : List Step} (past : List Entry) (m : Machine) (is_tick : Bool) (u
       cuts_as later.life up.life all (course_mute up.life asked later.link (obeyed Chip (serial_events all) later begins.chip) (refl, tt))
       (begins_cuts past m is_tick up down both may (entry.Said words ∷ []) later (begun_line down down.until) begins)
 
-  line_cut : (words : List ℕ) (line : Line) → line_of (entry.Said words) ≡ line ∷ [] → Cuts up.life (past ++ entry.Said words ∷ [])
+  line_cut : (words : List ℕ) (line : Line) → line_of (entry.Said words) ≡ line ∷ [] → CutsBy up.life (past ++ entry.Said words ∷ [])
   line_cut words (lines.Tick count) read =
       let got = ticks_said past m is_tick up down both may (entry.Said words ∷ []) count (alone_said past words (lines.Tick count ∷ []) m.outside.outer.clock read due) in
       cuts_of (past ++ entry.Said words ∷ []) up down got.0 got.1
@@ -89,29 +89,31 @@ module _ {did : List Step} (past : List Entry) (m : Machine) (is_tick : Bool) (u
   line_cut words line read = ordinary_cuts words line read tt
 
   pub words_cut : (words : List ℕ) (line : Line) → line_of (entry.Said words) ≡ line ∷ [] → Cuts did (past ++ entry.Said words ∷ [])
-  words_cut words line read = cuts_as up.life did (past ++ entry.Said words ∷ []) (ap course_of both.life) (line_cut words line read)
+  words_cut words line read = cuts_as up.life did.steps (past ++ entry.Said words ∷ []) (ap course_of both.life) (line_cut words line read)
 
   -- where the run ends
   pub ended_cuts : Cuts did (past ++ entry.Said [] ∷ [])
   unfolding words line_words
   ended_cuts =
-      cuts_as up.life did (past ++ entry.Said [] ∷ []) (ap course_of both.life)
+      cuts_as up.life did.steps (past ++ entry.Said [] ∷ []) (ap course_of both.life)
       (begins_cuts past m is_tick up down both may (entry.Said [] ∷ []) (begun_line up up.until) (begun_line down down.until)
       (ordinary past m is_tick up down both may (entry.Said [] ∷ []) [] tt (alone_said past [] [] m.outside.outer.clock refl due) (plain_clears [] [] refl refl)))
 
-  pub ended_parts : ArePartsOf did ended_cuts.links.chip.parts
+  pub ended_starts : HasStarts (past ++ entry.Said [] ∷ []) ended_cuts.links.chip.parts (began did).starts
   unfolding words line_words ended_cuts
-  ended_parts =
+  ended_starts =
+      let all : List Entry = past ++ entry.Said [] ∷ [] in
       let begins =
       ordinary past m is_tick up down both may (entry.Said [] ∷ []) [] tt (alone_said past [] [] m.outside.outer.clock refl due) (plain_clears [] [] refl refl) in
-      let cuts : Cuts up.life (past ++ entry.Said [] ∷ []) = begins_cuts past m is_tick up down both may (entry.Said [] ∷ []) (begun_line up up.until) (begun_line down down.until) begins in
-      parts_as up.life did (past ++ entry.Said [] ∷ []) (ap course_of both.life) cuts
-      (subst (λ (l : List Step). ArePartsOf l cuts.links.chip.parts) both.life
-      (begins_parts past m is_tick up down both may (entry.Said [] ∷ []) (begun_line up up.until) (begun_line down down.until) begins))
+      let cuts : CutsBy up.life all = begins_cuts past m is_tick up down both may (entry.Said [] ∷ []) (begun_line up up.until) (begun_line down down.until) begins in
+      subst (HasStarts all (cuts_as up.life did.steps all (ap course_of both.life) cuts).links.chip.parts)
+      (ap₂ (λ (l : List (List Step)) (steps : List Step). l ++ steps ∷ []) both.starts both.life)
+      (starts_as up.life did.steps all (ap course_of both.life) cuts (up.starts ++ up.life ∷ [])
+      (begins_starts past m is_tick up down both may (entry.Said [] ∷ []) (begun_line up up.until) (begun_line down down.until) begins))
 
 -- ---- a `tick`
 
-pub ticks_begun : {did : List Step} (count : ℕ) (past : List Entry) (m : Machine) → LinksBegun did (lines.Tick count) past m → LinksEnded did past m
+pub ticks_begun : {did : Did} (count : ℕ) (past : List Entry) (m : Machine) → LinksBegun did (lines.Tick count) past m → LinksEnded did past m
 ticks_begun {did} count past m (first, just, begun) =
     let (up, down, both, may) = just.both in
     let o : OuterState = first.outside.outer in
@@ -133,7 +135,7 @@ ticks_begun {did} count past m (first, just, begun) =
       many = both.line.many;
       clears = said_clears just.before just.words (ap is_restart just.read) ∙ sym (timed_clears just.before o) ∙ both.line.clears;
     } in
-    let known : KnowsBoth did just.is_tick all m up down =
+    let known : KnowsBoth just.earlier just.is_tick all m up down =
     record {
       line = subst (λ (l : List Entry). AtLine l m.outside.outer up down) (sym (ap (λ (l : List Entry). all ++ l) none ∙ append-nil all)) line;
       behind = omega (arith, told, clock);
@@ -141,6 +143,7 @@ ticks_begun {did} count past m (first, just, begun) =
       chip_time = record { clock = both.chip_time.clock ∙ sym begun.clock; until = both.chip_time.until ∙ sym begun.until };
       host_time = record { clock = both.host_time.clock ∙ sym begun.clock; until = both.host_time.until ∙ sym begun.until };
       life = both.life;
+      starts = both.starts;
       chip_round = both.chip_round;
       host_round = both.host_round;
       host_link = both.host_link ∙ sym (ap (λ (h : HostParts). h.state.side) begun.host);
@@ -148,7 +151,7 @@ ticks_begun {did} count past m (first, just, begun) =
       frames = whole.0;
       rests = whole.1;
     } in
-    subst (λ (l : List Entry). LinksEnded did l m) (sym just.is) (just.is_tick, (up, down, known, may))
+    subst (λ (d : Did). LinksEnded d past m) (sym just.counts) (subst (λ (l : List Entry). LinksEnded just.earlier l m) (sym just.is) (just.is_tick, (up, down, known, may)))
 
 -- ---- one event
 
@@ -156,7 +159,7 @@ one_left : (first event : Event) (left : List Event) → first ∷ left ≡ even
 one_left first event left is = let head : first ≡ event = cc in let tail : left ≡ [] = cc in (head, tail)
 
 -- bytes are stalled
-stalls_go : {did : List Step} (count : ℕ) (past : List Entry) (m : Machine) → Cuts did past → LinksBegun did (lines.Stall count) past m → Then did (LinksDone did) past m (Outside_does (Stalls count))
+stalls_go : {did : Did} (count : ℕ) (past : List Entry) (m : Machine) → Cuts did past → LinksBegun did (lines.Stall count) past m → Then did (LinksDone did) past m (Outside_does (Stalls count))
 unfolding happens entries outcome
 stalls_go {did} count past m cuts (first, just, begun) =
     let (up, down, both, may) = just.both in
@@ -168,8 +171,9 @@ stalls_go {did} count past m cuts (first, just, begun) =
     stalls just.before first just.is_tick up down both may tail count (alone_said just.before just.words (lines.Stall count ∷ []) first.outside.outer.clock just.read just.due)
     (said_clears just.before just.words (ap is_restart just.read)) in
     let whole = begun_whole just.is_tick just.before first m up down both begun in
+    let counts = counts_so did just.earlier up (max up.until (up.clock + count)) just.counts both.life both.starts in
     let known : KnowsBoth did false (just.before ++ tail) n later after_it =
-    begins_both just.before first just.is_tick up down both may tail n did later after_it both.life begins begun.quiet begun.clock (ap (λ (w : WayState). w.bytes) begun.to_chip)
+    begins_both just.before first just.is_tick up down both may tail n did later after_it counts.life counts.starts begins begun.quiet begun.clock (ap (λ (w : WayState). w.bytes) begun.to_chip)
     (ap (λ (w : WayState). w.bytes) begun.to_host)
     (ap₂ (λ (a b : ℕ). max a (b + count)) (both.chip_time.until ∙ sym begun.until) (both.chip_time.clock ∙ sym begun.clock))
     (ap₂ (λ (a b : ℕ). max a (b + count)) (both.host_time.until ∙ sym begun.until) (both.host_time.clock ∙ sym begun.clock))
@@ -180,8 +184,8 @@ stalls_go {did} count past m cuts (first, just, begun) =
     (subst (Cuts did) (sym (append-nil past)) cuts, subst (λ (l : List Entry). LinksDone did l n) (sym is) (done_of (just.before ++ tail) n later after_it begun.quiet known))
 
 -- a collision is asked for
-collides_go : {did : List Step} (past : List Entry) (m : Machine) → Cuts did past → LinksBegun did lines.Collide past m
-    → Then (did ++ outer_steps m.outside Collides_next) (LinksDone (did ++ outer_steps m.outside Collides_next)) past m (Outside_does Collides_next)
+collides_go : {did : Did} (past : List Entry) (m : Machine) → Cuts did past → LinksBegun did lines.Collide past m
+    → Then (did ⊕ outer_steps m.outside Collides_next) (LinksDone (did ⊕ outer_steps m.outside Collides_next)) past m (Outside_does Collides_next)
 unfolding happens entries outcome outer_steps
 collides_go {did} past m cuts (first, just, begun) =
     let (up, down, both, may) = just.both in
@@ -193,44 +197,45 @@ collides_go {did} past m cuts (first, just, begun) =
     collides just.before first just.is_tick up down both may tail (alone_said just.before just.words (lines.Collide ∷ []) first.outside.outer.clock just.read just.due)
     (said_clears just.before just.words (ap is_restart just.read)) in
     let whole = begun_whole just.is_tick just.before first m up down both begun in
-    let now : List Step = did ++ asked_step just.before first just.is_tick up down both may ∷ [] in
-    let life : later.life ≡ now = ap (λ (l : List Step). l ++ asked_step just.before first just.is_tick up down both may ∷ []) both.life in
+    let counts = counts_so did just.earlier up up.until just.counts both.life both.starts in
+    let now : Did = did ⊕ asked_step just.before first just.is_tick up down both may ∷ [] in
+    let life : later.life ≡ now.steps = ap (λ (l : List Step). l ++ asked_step just.before first just.is_tick up down both may ∷ []) counts.life in
     let known : KnowsBoth now false (just.before ++ tail) n later after_it =
-    begins_both just.before first just.is_tick up down both may tail n now later after_it life begins begun.quiet begun.clock (ap (λ (w : WayState). w.bytes) begun.to_chip) (ap (λ (w : WayState). w.bytes) begun.to_host)
+    begins_both just.before first just.is_tick up down both may tail n now later after_it life counts.starts begins begun.quiet begun.clock (ap (λ (w : WayState). w.bytes) begun.to_chip) (ap (λ (w : WayState). w.bytes) begun.to_host)
     (both.chip_time.until ∙ sym begun.until) (both.host_time.until ∙ sym begun.until)
     (sym (ap (λ (p : PortState). record p.side { collisions = p.side.collisions + 1 }) begun.port)) (well_all m.outside.outer.chip.state (Collides ∷ []) (subst WaitsWell (sym begun.port) both.line.waits))
     (both.host_link ∙ sym (ap (λ (h : HostParts). h.state.side) begun.host)) (subst (λ (h : HostParts). KeepsItsLink down.life h.state) (sym begun.host) both.keeps)
     (record { turn = whole.0.turn; waiting = whole.0.waiting }, record { host = whole.1.host; chip = whole.1.chip }) in
     let is : past ++ [] ≡ just.before ++ tail = append-nil past ∙ just.is in (
-      subst (Cuts now) (sym is) (cuts_as later.life now (just.before ++ tail) (ap course_of life) (begins_cuts just.before first just.is_tick up down both may tail later after_it begins)),
+      subst (Cuts now) (sym is) (cuts_as later.life now.steps (just.before ++ tail) (ap course_of life) (begins_cuts just.before first just.is_tick up down both may tail later after_it begins)),
       subst (λ (l : List Entry). LinksDone now l n) (sym is) (done_of (just.before ++ tail) n later after_it begun.quiet known),
     )
 
 -- the event by which one of these lines is done
-one_goes : {did : List Step} (event : Event) (line : Line) (first : Event) (left : List Event) (past : List Entry) (m : Machine)
-    → (LinksBegun did line past m → Then (did ++ event_steps m event) (LinksDone (did ++ event_steps m event)) past m event) → LinksOne did event line (first ∷ left) past m
-    → Then (did ++ event_steps m first) (LinksOne (did ++ event_steps m first) event line left) past m first
+one_goes : {did : Did} (event : Event) (line : Line) (first : Event) (left : List Event) (past : List Entry) (m : Machine)
+    → (LinksBegun did line past m → Then (did ⊕ event_steps m event) (LinksDone (did ⊕ event_steps m event)) past m event) → LinksOne did event line (first ∷ left) past m
+    → Then (did ⊕ event_steps m first) (LinksOne (did ⊕ event_steps m first) event line left) past m first
 one_goes {did} event line first left past m goes (inl (is, begun)) =
     let both = one_left first event left is in
     let got = goes begun in
-    subst (λ (e : Event). Then (did ++ event_steps m e) (LinksOne (did ++ event_steps m e) event line left) past m e) (sym both.0) (got.0, inr (both.1, got.1))
+    subst (λ (e : Event). Then (did ⊕ event_steps m e) (LinksOne (did ⊕ event_steps m e) event line left) past m e) (sym both.0) (got.0, inr (both.1, got.1))
 one_goes event line first left past m goes (inr (is, done)) = absurd cc
 
 stalls_none : (m : Machine) (count : ℕ) → event_steps m (Outside_does (Stalls count)) ≡ []
 unfolding event_steps outer_steps
 stalls_none m count = refl
 
-pub stall_goes : {did : List Step} (count : ℕ) (first : Event) (left : List Event) (past : List Entry) (m : Machine) → Cuts did past → LinksOne did (Outside_does (Stalls count)) (lines.Stall count) (first ∷ left) past m
-    → Then (did ++ event_steps m first) (LinksOne (did ++ event_steps m first) (Outside_does (Stalls count)) (lines.Stall count) left) past m first
+pub stall_goes : {did : Did} (count : ℕ) (first : Event) (left : List Event) (past : List Entry) (m : Machine) → Cuts did past → LinksOne did (Outside_does (Stalls count)) (lines.Stall count) (first ∷ left) past m
+    → Then (did ⊕ event_steps m first) (LinksOne (did ⊕ event_steps m first) (Outside_does (Stalls count)) (lines.Stall count) left) past m first
 stall_goes {did} count first left past m cuts known =
     one_goes (Outside_does (Stalls count)) (lines.Stall count) first left past m
     (λ begun. then_more (λ l. LinksDone l) (event_steps m (Outside_does (Stalls count))) past m (Outside_does (Stalls count)) (stalls_none m count) (stalls_go count past m cuts begun)) known
 
-pub collide_goes : {did : List Step} (first : Event) (left : List Event) (past : List Entry) (m : Machine) → Cuts did past → LinksOne did (Outside_does Collides_next) lines.Collide (first ∷ left) past m
-    → Then (did ++ event_steps m first) (LinksOne (did ++ event_steps m first) (Outside_does Collides_next) lines.Collide left) past m first
+pub collide_goes : {did : Did} (first : Event) (left : List Event) (past : List Entry) (m : Machine) → Cuts did past → LinksOne did (Outside_does Collides_next) lines.Collide (first ∷ left) past m
+    → Then (did ⊕ event_steps m first) (LinksOne (did ⊕ event_steps m first) (Outside_does Collides_next) lines.Collide left) past m first
 unfolding event_steps
 collide_goes {did} first left past m cuts known = one_goes (Outside_does Collides_next) lines.Collide first left past m (λ begun. collides_go past m cuts begun) known
 
-pub one_done : {did : List Step} (event : Event) (line : Line) (past : List Entry) (m : Machine) → LinksOne did event line [] past m → LinksDone did past m
+pub one_done : {did : Did} (event : Event) (line : Line) (past : List Entry) (m : Machine) → LinksOne did event line [] past m → LinksDone did past m
 one_done event line past m (inl (is, begun)) = absurd cc
 one_done event line past m (inr (is, done)) = done

@@ -6,7 +6,7 @@ use Rattle.std.proofs.lemmas.Bool.{ltb-true, ltb-false}
 use Rattle.std.proofs.lemmas.List.{map-append}
 use Rattle.zw_base.proofs.Each.{all-append}
 use Rattle.serial_link.specs.State.{Side as LinkSide}
-use Rattle.serial_link.specs.Rules.{SideObeys, Step}
+use Rattle.serial_link.specs.Rules.{SideObeys}
 use Rattle.chip_sim.specs.State.{ChipParts}
 use Rattle.chip_sim.specs.Waiting.{PortState}
 use Rattle.chip_sim.specs.Rules.{WaitsWell}
@@ -43,7 +43,7 @@ use Rattle.proof_world.specs.proof_serial.Line.{AreAtRest, IsWhole}
 use Rattle.proof_world.proofs.Events.{at_rest, rests_after, whole_after}
 use Rattle.proof_traffic.specs.Links.{KeepsItsLink}
 use Rattle.proof_line.specs.Links.{AtLine, Brings, KnowsEvents, KnowsLink, LinkNow, cleared_in, due_from, tick_told}
-use Rattle.proof_line.specs.Linked.{Cuts, IsBegun, IsOrderly, KnowsBoth, LinksBegun, LinksClearing, LinksDone, LinksRestarting, MayBothEnd}
+use Rattle.proof_line.specs.Linked.{◌⊕◌, Cuts, CutsBy, Did, IsBegun, IsOrderly, KnowsBoth, LinksBegun, LinksClearing, LinksDone, LinksRestarting, MayBothEnd}
 use Rattle.proof_line.proofs.Rooming.{chip_cleared, host_cleared, not_awaited, quiet_cleared, unrefused}
 use Rattle.proof_line.proofs.Numbering.{ticked_none}
 use Rattle.proof_line.proofs.Serials.{refused_same, serials_grow, told_grows}
@@ -54,7 +54,7 @@ use Rattle.proof_line.proofs.ChipAccounts.{event_steps, outer_steps}
 use Rattle.proof_line.proofs.LinkEnds.{cuts_as, cuts_of, line_cuts, some_told}
 use Rattle.proof_line.proofs.LinkEvents.{clock_stays, until_stays, whole_both}
 use Rattle.proof_line.proofs.LinkTicks.{Then}
-use Rattle.proof_line.proofs.LinkBegins.{done_of, begun_serials}
+use Rattle.proof_line.proofs.LinkBegins.{counts_so, done_of, begun_serials}
 use Rattle.proof_line.proofs.LinkPlain.{begun_whole, refuses, then_more}
 
 -- ---- bytes that were lost, as entries
@@ -151,7 +151,7 @@ clear_more (x ∷ us) (y ∷ ds) u d same =
 -- so much of a restart is told, and this is to be
 restart_cuts : (before : List Entry) (words : List ℕ) (told more : List Entry) (up down : LinkNow) (ups downs : List ℕ) (u d : ℕ) → is_restart (line_of (entry.Said words)) ≡ true → AllByRecursion IsCleared told
     → cleared Host u ++ cleared Chip d ≡ told ++ more → KnowsLink Chip (before ++ entry.Said words ∷ told) up → KnowsLink Host (before ++ entry.Said words ∷ told) down → up.lost ≡ ups ++ u ∷ []
-    → down.lost ≡ downs ++ d ∷ [] → length ups ≡ length downs → cleared_in before ≡ to_clear ups downs → Cuts up.life (before ++ entry.Said words ∷ told)
+    → down.lost ≡ downs ++ d ∷ [] → length ups ≡ length downs → cleared_in before ≡ to_clear ups downs → CutsBy up.life (before ++ entry.Said words ∷ told)
 restart_cuts before words told more up down ups downs u d restarts all is chip host up_lost down_lost many clears_so =
     let (there, are, old) = last_restart before words told restarts all in
     let dues : to_clear up.lost down.lost ≡ to_clear ups downs ++ (told ++ more) ∷ [] =
@@ -162,7 +162,7 @@ restart_cuts before words told more up down ups downs u d restarts all is chip h
 
 -- ---- the words of a restart
 
-module _ {did : List Step} (before : List Entry) (words : List ℕ) (first : Machine) (is_tick : Bool) (up down : LinkNow) (both : KnowsBoth did is_tick before first up down) (may : MayBothEnd up down)
+module _ {did : Did} (before : List Entry) (words : List ℕ) (first : Machine) (is_tick : Bool) (up down : LinkNow) (both : KnowsBoth did is_tick before first up down) (may : MayBothEnd up down)
     (read : line_of (entry.Said words) ≡ lines.Restart ∷ []) (due : due_from 0 before ≡ first.outside.outer.clock) where
   abbrev timed : List Entry
   timed = before ++ ticked_entry first.outside.outer
@@ -193,7 +193,7 @@ module _ {did : List Step} (before : List Entry) (words : List ℕ) (first : Mac
   cleared_before = sym (timed_clears before first.outside.outer) ∙ both.line.clears
 
   -- whatever host goes on
-  pub restart_said : (new : LinkSide) → SideObeys [] new → Cuts up.life all
+  pub restart_said : (new : LinkSide) → SideObeys [] new → CutsBy up.life all
   restart_said new obeys =
       restart_cuts before words [] (cleared Host (bytes_in up.coming) ++ cleared Chip (bytes_in down.coming)) (restarted up up.life up.link) (restarted down [] new) up.lost down.lost (bytes_in up.coming) (bytes_in down.coming)
       (ap is_restart read) tt refl chip_on (host_on new obeys) refl refl both.line.many cleared_before
@@ -212,7 +212,7 @@ begun_is_whole first m begun whole = record {
 }
 
 -- the next event, with the events and the entries that follow
-abbrev Next : List Step → List Event → List Entry → Machine → Event → Type 0
+abbrev Next : Did → List Event → List Entry → Machine → Event → Type 0
 Next did left past m event = Then did (LinksRestarting did left) past m event
 
 module _ (opened_keeps : (keys : Keys) (records : List Record) → KeepsItsLink [] (opened keys records)) where
@@ -220,11 +220,12 @@ module _ (opened_keeps : (keys : Keys) (records : List Record) → KeepsItsLink 
   opens_so keys None state some opens = absurd (let none : false ≡ true = some in cc)
   opens_so keys (Some texts) state some (records, texts_are, legal, is) = subst (λ (h : HostState). KeepsItsLink [] h) (sym is) (opened_keeps keys records)
 
-  restarts_goes : {did : List Step} (past : List Entry) (m : Machine) (state : HostState) → May m (Restarts state) → IsOrderly m (Restarts state) → Cuts did past → LinksBegun did lines.Restart past m
+  restarts_goes : {did : Did} (past : List Entry) (m : Machine) (state : HostState) → May m (Restarts state) → IsOrderly m (Restarts state) → Cuts did past → LinksBegun did lines.Restart past m
       → Then did (LinksClearing did false) past m (Restarts state)
   unfolding happens entries May
   restarts_goes {did} past m state may orderly cuts (first, just, begun) =
       let (up, down, both, ends) = just.both in
+      let counts = counts_so did just.earlier up up.until just.counts both.life both.starts in
       let o : OuterState = first.outside.outer in
       let whole : IsWhole m = begun_is_whole first m begun (whole_both just.is_tick just.before first up down both) in
       let rests : AreAtRest m = (begun_whole just.is_tick just.before first m up down both begun).1 in
@@ -244,7 +245,8 @@ module _ (opened_keeps : (keys : Keys) (records : List Record) → KeepsItsLink 
           is = is;
           chip = subst (λ (l : List Entry). KnowsLink Chip l (restarted up up.life up.link)) (sym is) (chip_on just.before just.words first just.is_tick up down both ends just.read just.due);
           host = subst (λ (l : List Entry). KnowsLink Host l (restarted down [] state.side)) (sym is) (host_on just.before just.words first just.is_tick up down both ends just.read just.due state.side keeps.obeys);
-          life = both.life;
+          life = counts.life;
+          starts = counts.starts;
           chip_is = (refl, refl, refl);
           host_is = (refl, refl, refl);
           many = both.line.many;
@@ -265,7 +267,7 @@ module _ (opened_keeps : (keys : Keys) (records : List Record) → KeepsItsLink 
       )
 
 -- the pipe to the chip is cleared
-clears_host : {did : List Step} (past : List Entry) (m : Machine) → May m (Outside_does (Clears_pipe Host)) → IsOrderly m (Outside_does (Clears_pipe Host)) → LinksClearing did false past m
+clears_host : {did : Did} (past : List Entry) (m : Machine) → May m (Outside_does (Clears_pipe Host)) → IsOrderly m (Outside_does (Clears_pipe Host)) → LinksClearing did false past m
     → Then did (LinksClearing did true) past m (Outside_does (Clears_pipe Host))
 unfolding happens outcome
 clears_host {did} past m may orderly known =
@@ -284,7 +286,7 @@ clears_host {did} past m may orderly known =
     let until = until_stays m (Clears_pipe Host) tt in
     subst (λ (l : List Entry). Cuts did (past ++ l) × LinksClearing did true (past ++ l) n) (sym alone) (
       subst (Cuts did) (sym is)
-          (cuts_as known.up.life did (known.before ++ entry.Said known.words ∷ told) (ap course_of known.life) (restart_cuts known.before known.words told (cleared Chip known.to_host) known.up known.down known.ups known.downs u known.to_host (ap is_restart known.read) (all_lost Host u) refl
+          (cuts_as known.up.life did.steps (known.before ++ entry.Said known.words ∷ told) (ap course_of known.life) (restart_cuts known.before known.words told (cleared Chip known.to_host) known.up known.down known.ups known.downs u known.to_host (ap is_restart known.read) (all_lost Host u) refl
           (subst (λ (l : List Entry). KnowsLink Chip l known.up) is of_chip) (subst (λ (l : List Entry). KnowsLink Host l known.down) is of_host) known.chip_is.2 known.host_is.2 known.many known.clears)),
       record {
         before = known.before;
@@ -300,6 +302,7 @@ clears_host {did} past m may orderly known =
         chip = of_chip;
         host = of_host;
         life = known.life;
+        starts = known.starts;
         chip_is = known.chip_is;
         host_is = known.host_is;
         many = known.many;
@@ -320,7 +323,7 @@ clears_host {did} past m may orderly known =
     )
 
 -- and that to the host
-clears_chip : {did : List Step} (past : List Entry) (m : Machine) → May m (Outside_does (Clears_pipe Chip)) → IsOrderly m (Outside_does (Clears_pipe Chip)) → LinksClearing did true past m
+clears_chip : {did : Did} (past : List Entry) (m : Machine) → May m (Outside_does (Clears_pipe Chip)) → IsOrderly m (Outside_does (Clears_pipe Chip)) → LinksClearing did true past m
     → Then did (LinksDone did) past m (Outside_does (Clears_pipe Chip))
 unfolding happens outcome
 clears_chip {did} past m may orderly known =
@@ -362,6 +365,7 @@ clears_chip {did} past m may orderly known =
       chip_time = record { clock = known.chip_time.clock ∙ sym clock; until = known.chip_time.until ∙ sym until };
       host_time = record { clock = known.host_time.clock ∙ sym clock; until = known.host_time.until ∙ sym until };
       life = known.life;
+      starts = known.starts;
       chip_round = known.chip_is.0;
       host_round = known.host_is.0;
       host_link = known.host_link;
@@ -370,7 +374,7 @@ clears_chip {did} past m may orderly known =
       rests = rests_after m event known.whole known.rests may tt orderly.writes;
     } in
     subst (λ (l : List Entry). Cuts did (past ++ l) × LinksDone did (past ++ l) n) (sym alone)
-    (cuts_as known.up.life did (past ++ told) (ap course_of known.life) (line_cuts (past ++ told) n.outside.outer known.up known.down line), done_of (past ++ told) n known.up known.down got.1 known_both)
+    (cuts_as known.up.life did.steps (past ++ told) (ap course_of known.life) (line_cuts (past ++ told) n.outside.outer known.up known.down line), done_of (past ++ told) n known.up known.down got.1 known_both)
   where
     same_many : (a b us ds : List ℕ) (u d : ℕ) → a ≡ us ++ u ∷ [] → b ≡ ds ++ d ∷ [] → length us ≡ length ds → length a ≡ length b
     same_many a b us ds u d a_is b_is many =
@@ -380,9 +384,9 @@ clears_chip {did} past m may orderly known =
 
 -- ---- its effect
 
-as_first : {did : List Step} (left : List Event) (first is : Event) (past : List Entry) (m : Machine) → first ≡ is → event_steps m is ≡ [] → Next did left past m is → Next (did ++ event_steps m first) left past m first
+as_first : {did : Did} (left : List Event) (first is : Event) (past : List Entry) (m : Machine) → first ≡ is → event_steps m is ≡ [] → Next did left past m is → Next (did ⊕ event_steps m first) left past m first
 as_first {did} left first is past m same none goes =
-    subst (λ (e : Event). Next (did ++ event_steps m e) left past m e) (sym same) (then_more (λ l. LinksRestarting l left) (event_steps m is) past m is none goes)
+    subst (λ (e : Event). Next (did ⊕ event_steps m e) left past m e) (sym same) (then_more (λ l. LinksRestarting l left) (event_steps m is) past m is none goes)
 
 clears_none : (m : Machine) (side : Side) → event_steps m (Outside_does (Clears_pipe side)) ≡ []
 unfolding event_steps outer_steps
@@ -397,8 +401,8 @@ unfolding event_steps
 refuses_none m line refusal = refl
 
 module _ (opened_keeps : (keys : Keys) (records : List Record) → KeepsItsLink [] (opened keys records)) where
-  pub restart_goes : {did : List Step} (first : Event) (left : List Event) (past : List Entry) (m : Machine) → May m first → IsOrderly m first → Cuts did past → LinksRestarting did (first ∷ left) past m
-      → Next (did ++ event_steps m first) left past m first
+  pub restart_goes : {did : Did} (first : Event) (left : List Event) (past : List Entry) (m : Machine) → May m first → IsOrderly m first → Cuts did past → LinksRestarting did (first ∷ left) past m
+      → Next (did ⊕ event_steps m first) left past m first
   restart_goes first left past m may orderly cuts (inl (inl (state, is), begun)) =
       let head : first ≡ Restarts state = cc in
       let tail : left ≡ Outside_does (Clears_pipe Host) ∷ Outside_does (Clears_pipe Chip) ∷ [] = cc in
@@ -407,7 +411,7 @@ module _ (opened_keeps : (keys : Keys) (records : List Record) → KeepsItsLink 
   restart_goes first left past m may orderly cuts (inl (inr (refusal, is), begun)) =
       let head : first ≡ Refuses lines.Restart refusal = cc in
       let tail : left ≡ [] = cc in
-      let got = refuses lines.Restart past m lines.Restart refusal begun in
+      let got = refuses lines.Restart past m lines.Restart refusal (λ d. refl) begun in
       as_first left first (Refuses lines.Restart refusal) past m head (refuses_none m lines.Restart refusal) (got.0, inr (inr (inr (tail, got.1))))
   restart_goes first left past m may orderly cuts (inr (inl (is, known))) =
       let head : first ≡ Outside_does (Clears_pipe Host) = cc in
@@ -421,7 +425,7 @@ module _ (opened_keeps : (keys : Keys) (records : List Record) → KeepsItsLink 
       as_first left first (Outside_does (Clears_pipe Chip)) past m head (clears_none m Chip) (got.0, inr (inr (inr (tail, got.1))))
   restart_goes first left past m may orderly cuts (inr (inr (inr (is, done)))) = absurd cc
 
-pub restart_done : {did : List Step} (past : List Entry) (m : Machine) → LinksRestarting did [] past m → LinksDone did past m
+pub restart_done : {did : Did} (past : List Entry) (m : Machine) → LinksRestarting did [] past m → LinksDone did past m
 restart_done past m (inl (inl (state, is), begun)) = absurd cc
 restart_done past m (inl (inr (refusal, is), begun)) = absurd cc
 restart_done past m (inr (inl (is, known))) = absurd cc

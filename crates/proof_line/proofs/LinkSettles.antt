@@ -38,7 +38,7 @@ use Rattle.proof_walk.specs.Phases.{IsStill, passes_after}
 use Rattle.proof_line.specs.Pipes.{HearsNothing}
 use Rattle.proof_line.specs.Arrivals.{AreTexts}
 use Rattle.proof_line.specs.Links.{Brings, KnowsLink, LinkNow, MayHear, TicksNot, gone, with_arriving}
-use Rattle.proof_line.specs.Linked.{Cuts, HaveHeard, HaveMoved, HaveTickedOnce, IsOrderly, IsQuiet, IsTimed, LinksEnded, Passing, Round, Settling, WantsNone}
+use Rattle.proof_line.specs.Linked.{◌⊕◌, Cuts, Did, HaveHeard, HaveMoved, HaveTickedOnce, IsOrderly, IsQuiet, IsTimed, LinksEnded, Passing, Round, Settling, WantsNone}
 use Rattle.proof_line.proofs.Filling.{never}
 use Rattle.proof_line.proofs.Hosting.{next_apart, next_nothing, no_more_nothing}
 use Rattle.proof_line.proofs.Chipping.{drop_whole}
@@ -77,10 +77,10 @@ stalled_now o now timed = ap₂ (λ (a b : ℕ). nat_lt a b) timed.clock timed.u
 -- ---- it begins and ends
 
 -- after all that a line or tick does
-pub settles : {did : List Step} (past : List Entry) (m : Machine) → Round did HaveTickedOnce past m → Settling did 64 past m
+pub settles : {did : Did} (past : List Entry) (m : Machine) → Round did HaveTickedOnce past m → Settling did 64 past m
 settles past m (up, down, both, once) = (up, down, both, (once, λ few. absurd (let none : 64 < 64 = few in omega (arith, none))))
 
-pub ends : {did : List Step} (past : List Entry) (m : Machine) → Settling did 0 past m → LinksEnded did past m
+pub ends : {did : Did} (past : List Entry) (m : Machine) → Settling did 0 past m → LinksEnded did past m
 ends past m (up, down, both, (once, heard)) = (
   m.outside.outer.in_tick,
   (
@@ -115,13 +115,13 @@ took_one passes m up down heard moves some = by (nat_lt (suc passes) 64) refl
     by true is = let few : suc passes < 64 = ltb-true (suc passes) 64 is in counted few (heard few moves).1
     by false is = let many : 64 ≤ suc passes = ltb-false (suc passes) 64 is in omega (arith, many)
 
-abbrev pub HasMoved : List Step → Bool → ℕ → List Entry → Machine → Type 0
+abbrev pub HasMoved : Did → Bool → ℕ → List Entry → Machine → Type 0
 HasMoved did has_moved passes past m = Round did (λ up down. HaveTickedOnce up down × HaveMoved has_moved passes m up down) past m
 
 -- the chip takes its bytes
-pub chip_moves : {did : List Step} (passes : ℕ) (past : List Entry) (m : Machine) (rest : Rest) (ways : List (Item × Option Route)) → May m (Outside_does (Chip_takes (length m.outside.outer.to_chip.bytes) rest ways))
+pub chip_moves : {did : Did} (passes : ℕ) (past : List Entry) (m : Machine) (rest : Rest) (ways : List (Item × Option Route)) → May m (Outside_does (Chip_takes (length m.outside.outer.to_chip.bytes) rest ways))
     → IsOrderly m (Outside_does (Chip_takes (length m.outside.outer.to_chip.bytes) rest ways)) → Cuts did past → Passing did passes past m
-    → Then (did ++ over link_steps m.outside.outer.chip.state (judged_all ways)) (HasMoved (did ++ over link_steps m.outside.outer.chip.state (judged_all ways)) true passes) past m
+    → Then (did ⊕ over link_steps m.outside.outer.chip.state (judged_all ways)) (HasMoved (did ⊕ over link_steps m.outside.outer.chip.state (judged_all ways)) true passes) past m
     (Outside_does (Chip_takes (length m.outside.outer.to_chip.bytes) rest ways))
 unfolding May MayOutside outcome
 chip_moves passes past m rest ways may orderly cuts ((up, down, both, (once, heard)), quiet) =
@@ -150,7 +150,7 @@ chip_moves passes past m rest ways may orderly cuts ((up, down, both, (once, hea
       way = subst (λ (l : List (List ℕ)). Brings x.outer.to_chip l) (sym judges.left) (brings_none x.outer.to_chip empty);
       link = judges.link ∙ sym (ap (λ (t : ChipState). t.port.side) state);
       waits = subst (λ (t : ChipState). WaitsWell t.port) (sym state) (well_all s (judged_all ways) both.line.waits);
-    }) (record { is_tick = judges.stays.is_tick; clock = judges.stays.clock; until = judges.stays.until }) judges.stays.lost whole in
+    }) (record { is_tick = judges.stays.is_tick; clock = judges.stays.clock; until = judges.stays.until; starts = judges.stays.starts }) judges.stays.lost whole in
     let none : length later.coming ≡ 0 = ap (λ (l : List (List ℕ)). length l) judges.left in
     let brought = judges.stays.brought in
     let taken : 63 - passes ≤ up.brought = took_one passes m up down heard may_take.moves (coming_some o.to_chip up.coming both.chip_way orderly.takes) in (
@@ -164,7 +164,7 @@ chip_moves passes past m rest ways may orderly cuts ((up, down, both, (once, hea
     )
 
 -- none move to it
-pub chip_still : {did : List Step} (passes : ℕ) (past : List Entry) (m : Machine) → IsStill (is_stalled m.outside.outer) m.outside.outer.to_chip.bytes → Passing did passes past m → HasMoved did false passes past m
+pub chip_still : {did : Did} (passes : ℕ) (past : List Entry) (m : Machine) → IsStill (is_stalled m.outside.outer) m.outside.outer.to_chip.bytes → Passing did passes past m → HasMoved did false passes past m
 chip_still passes past m still ((up, down, both, (once, heard)), quiet) =
     (up, down, both, (once, (quiet, λ moves. (none still moves, λ few. (heard (omega (arith, few)) moves).0))))
   where
@@ -177,7 +177,7 @@ host_none : (o : OuterState) (coming : List (List ℕ)) → IsStill (is_stalled 
 host_none o coming (inl stalled) way moves = never (is_stalled o) moves stalled
 host_none o coming (inr empty) way moves = coming_none o.to_host coming way empty
 
-pub host_still : {did : List Step} (has_moved : Bool) (passes : ℕ) (past : List Entry) (m : Machine) → IsStill (is_stalled m.outside.outer) m.outside.outer.to_host.bytes → HasMoved did has_moved passes past m
+pub host_still : {did : Did} (has_moved : Bool) (passes : ℕ) (past : List Entry) (m : Machine) → IsStill (is_stalled m.outside.outer) m.outside.outer.to_host.bytes → HasMoved did has_moved passes past m
     → Settling did (passes_after has_moved passes) past m
 host_still true passes past m still (up, down, both, (once, many)) =
     (up, down, both, (once, λ few moves. (host_none m.outside.outer down.coming still both.line.way moves, inl many)))
@@ -204,7 +204,7 @@ before_host false passes m up down moved moves some = by (nat_lt passes 63) refl
 module _ (each : (h : HostState) (event : HostEvent) (steps : List Step) → KeepsItsLink steps h → MayHost h event → KeepsItsLink (steps ++ host_link_steps h event) (host_after h event))
     (units : (h : HostState) (event : HostEvent) → h.side.collisions ≡ 0 → host_units (host_outs h event) ≡ link_units (host_link_steps h event)) where
   -- the host takes its bytes
-  pub host_moves : {did : List Step} (has_moved : Bool) (passes : ℕ) (past : List Entry) (m : Machine) (rest : Rest) (items : List Item) (events : List HostEvent)
+  pub host_moves : {did : Did} (has_moved : Bool) (passes : ℕ) (past : List Entry) (m : Machine) (rest : Rest) (items : List Item) (events : List HostEvent)
       → May m (Host_takes (length m.outside.outer.to_host.bytes) rest items events) → IsOrderly m (Host_takes (length m.outside.outer.to_host.bytes) rest items events) → Cuts did past → HasMoved did has_moved passes past m
       → Then did (Settling did passes) past m (Host_takes (length m.outside.outer.to_host.bytes) rest items events)
   unfolding May happens outcome
@@ -231,7 +231,7 @@ module _ (each : (h : HostState) (event : HostEvent) (steps : List Step) → Kee
       let empty : n.outside.outer.to_host.bytes ≡ [] = ap (λ (w : WayState). w.bytes) says.to_host ∙ drop_whole o.to_host.bytes in
       let got =
       host_writes_both o.in_tick past m n up down later written (entries m event) says.told both cuts
-      (record { tells = says.tells; enters = says.enters; time = says.time; chip = says.chip; to_chip = says.to_chip; fit = orderly.writes }) known (record { is_tick = refl; clock = refl; until = refl }) refl refl
+      (record { tells = says.tells; enters = says.enters; time = says.time; chip = says.chip; to_chip = says.to_chip; fit = orderly.writes }) known (record { is_tick = refl; clock = refl; until = refl; starts = refl }) refl refl
       (all_keep each units events h down.life both.keeps may.may) (brings_none n.outside.outer.to_host empty) (later_both o.in_tick past m event up down both may refl orderly.writes) in
       let count : ticks_of (down.round ++ steps) ≡ ticks_of down.round + ticks_of steps = ticks_of-append down.round steps in
       let quiet : ticks_of steps ≡ 0 = all_quiet events h apart in
@@ -249,7 +249,7 @@ module _ (each : (h : HostState) (event : HostEvent) (steps : List Step) → Kee
 
   -- ---- a pump
 
-  pump_moves : {did : List Step} (passes : ℕ) (past : List Entry) (m : Machine) (event : HostEvent) → TicksNot event → HearsNothing event → (IsQuiet m.host.state → (host_writes m (Host_does event) ≡ []) × IsQuiet (happens m (Host_does event)).host.state)
+  pump_moves : {did : Did} (passes : ℕ) (past : List Entry) (m : Machine) (event : HostEvent) → TicksNot event → HearsNothing event → (IsQuiet m.host.state → (host_writes m (Host_does event) ≡ []) × IsQuiet (happens m (Host_does event)).host.state)
       → May m (Host_does event) → IsOrderly m (Host_does event) → Cuts did past → Settling did passes past m → Then did (Settling did passes) past m (Host_does event)
   pump_moves passes past m event apart nothing quiet may orderly cuts (up, down, both, (once, heard)) =
       let o : OuterState = m.outside.outer in
@@ -291,14 +291,14 @@ module _ (each : (h : HostState) (event : HostEvent) (steps : List Step) → Kee
       by true = tt
       by false = tt
 
-  pub sleeps : {did : List Step} (passes : ℕ) (past : List Entry) (m : Machine) (node : ℕ) → first_wanting m.host.state.nodes ≡ Some node → May m (Host_does (no_more_event m.host.state node))
+  pub sleeps : {did : Did} (passes : ℕ) (past : List Entry) (m : Machine) (node : ℕ) → first_wanting m.host.state.nodes ≡ Some node → May m (Host_does (no_more_event m.host.state node))
       → IsOrderly m (Host_does (no_more_event m.host.state node)) → Cuts did past → Settling did passes past m → Then did (Settling did passes) past m (Host_does (no_more_event m.host.state node))
   unfolding happens
   sleeps passes past m node wants may orderly cuts known =
       pump_moves passes past m (no_more_event m.host.state node) (no_more_apart m.host.state node) (no_more_nothing m.host.state node) (no_more_quiet m.host.state node wants) may orderly cuts known
 
   -- it submits a request
-  pub submits : {did : List Step} (passes : ℕ) (past : List Entry) (m : Machine) (asked : HostEvent) → IsNext m.host.state asked → May m (Host_does asked) → IsOrderly m (Host_does asked) → Cuts did past
+  pub submits : {did : Did} (passes : ℕ) (past : List Entry) (m : Machine) (asked : HostEvent) → IsNext m.host.state asked → May m (Host_does asked) → IsOrderly m (Host_does asked) → Cuts did past
       → Settling did passes past m × WantsNone m.host.state → Then did (λ all n. Settling did passes all n × WantsNone n.host.state) past m (Host_does asked)
   unfolding happens
   submits passes past m asked is may orderly cuts known =
@@ -307,5 +307,5 @@ module _ (each : (h : HostState) (event : HostEvent) (steps : List Step) → Kee
       (got.0, (got.1, next_wants m.host.state asked is known.1))
 
 -- and then bytes may move
-pub passes_on : {did : List Step} (passes : ℕ) (past : List Entry) (m : Machine) → IsPumped m.host.state → Settling did (suc passes) past m × WantsNone m.host.state → Passing did passes past m
+pub passes_on : {did : Did} (passes : ℕ) (past : List Entry) (m : Machine) → IsPumped m.host.state → Settling did (suc passes) past m × WantsNone m.host.state → Passing did passes past m
 passes_on passes past m pumped known = (known.0, pumped_quiet m.host.state pumped known.1)

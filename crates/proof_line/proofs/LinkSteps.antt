@@ -1,5 +1,5 @@
 -- A link goes on by a step; an event of the serial line ends what is open, and what follows it is open then.
-use Rattle.std.proofs.Common.{◌≡◌, ℕ, ◌+◌, ◌&&◌, not, Bool, true, false, if◌then◌else◌, List, [], ◌∷◌, ◌++◌, length, drop, map, refl, sym, ap, ◌∙◌, subst, append-nil, append_assoc, length-append, arith}
+use Rattle.std.proofs.Common.{◌≡◌, ℕ, ◌+◌, ◌&&◌, not, Bool, true, false, if◌then◌else◌, List, [], ◌∷◌, ◌++◌, length, drop, map, refl, sym, ap, ap₂, ◌∙◌, subst, append-nil, append_assoc, length-append, arith}
 use Rattle.std.specs.List.{AllByRecursion, flat_map}
 use Rattle.std.proofs.lemmas.Grind.{flat_map-append}
 use Rattle.zw_base.proofs.Each.{all-append}
@@ -20,7 +20,7 @@ use Rattle.law_wire.specs.Serial.SerialEvent.{Line_begins, Writes}
 use Rattle.law_wire.specs.Links.{Moment, Round, AreFirst, CollidesAsTold, HearsInTime, LeavesFew, MayDo, Obeys, TicksInTime, WriteLast, WritesThere, ahead, arrival_of, arrivals_of, asked_for, bytes_in, clock_in, ends_round, is_stalled, left_ahead, line_in, lives, most_left, other, round_of, since_start, stall_by, steps_in, texts_of, tick_of}
 use Rattle.proof_walk.proofs.Lists.{each-append}
 use Rattle.proof_line.specs.Arrivals.{AreTexts}
-use Rattle.proof_line.specs.Links.{Does, Hears, IsMute, KeepsSoFar, MayEnd, life_of, life_steps, round_steps, stalls_in}
+use Rattle.proof_line.specs.Links.{Does, Hears, IsMute, KeepsSoFar, MayEnd, life_of, life_steps, round_steps, stalls_in, start_at}
 use Rattle.proof_line.proofs.Arriving.{texts_both}
 use Rattle.proof_line.proofs.Moments.{all_lives, arrivals_one, life_after, restarts_at, round_one, start_one, steps_one}
 use Rattle.proof_walk.proofs.Shown.{shown_one as shown_last}
@@ -87,6 +87,19 @@ pub lost_again : (side : Side) (past : List Moment) (one : Moment) (coming : Lis
 lost_again side past one coming restarts hears =
     shown_last (lost_at side) [] past one ∙ ap (λ (b : Bool). shown_after (lost_at side) [] past ++ (if b then bytes_in (left_ahead side past one) ∷ [] else [])) restarts
     ∙ ap (λ (l : List (List ℕ)). shown_after (lost_at side) [] past ++ bytes_in l ∷ []) (hears_now side past one.steps coming hears).1
+
+-- ---- where lines and ticks began
+
+pub starts_same : (side : Side) (past : List Moment) (one : Moment) → ends_round one.event ≡ false → shown_after (start_at side) [] (past ++ one ∷ []) ≡ shown_after (start_at side) [] past
+starts_same side past one none =
+    shown_last (start_at side) [] past one ∙ ap (λ (b : Bool). shown_after (start_at side) [] past ++ (if b then life_steps side past one.steps ∷ [] else [])) none
+    ∙ append-nil (shown_after (start_at side) [] past)
+
+pub starts_next : (side : Side) (past : List Moment) (one : Moment) (starts : List (List Step)) (life : List Step) → ends_round one.event ≡ true → shown_after (start_at side) [] past ≡ starts
+    → life_steps side past one.steps ≡ life → shown_after (start_at side) [] (past ++ one ∷ []) ≡ starts ++ life ∷ []
+starts_next side past one starts life ends before is =
+    shown_last (start_at side) [] past one ∙ ap (λ (b : Bool). shown_after (start_at side) [] past ++ (if b then life_steps side past one.steps ∷ [] else [])) ends
+    ∙ ap₂ (λ (l : List (List Step)) (steps : List Step). l ++ steps ∷ []) before is
 
 -- ---- a step
 

@@ -1,5 +1,5 @@
 -- What is known of both links in a tick, up to its settling.
-use Rattle.std.proofs.Common.{◌≡◌, ℕ, ◌+◌, Bool, true, List, [], ◌∷◌, ◌++◌, map, refl, sym, ap, ◌∙◌, subst, append-nil, arith}
+use Rattle.std.proofs.Common.{◌≡◌, ℕ, ◌+◌, Bool, true, List, [], ◌∷◌, ◌++◌, map, refl, sym, ap, ap₂, ◌∙◌, subst, append-nil, arith}
 use Rattle.std.specs.List.{AllByRecursion}
 use Rattle.serial_frame.specs.Stream.{after_tick}
 use Rattle.serial_frame.specs.declared.unit.Unit.{Unit as LineUnit}
@@ -37,7 +37,7 @@ use Rattle.proof_walk.specs.ByLine.{KnownOf}
 use Rattle.proof_walk.proofs.Times.{does_chip}
 use Rattle.proof_line.specs.Pipes.{HearsNothing}
 use Rattle.proof_line.specs.Links.{AtLine, Brings, KnowsEvents, KnowsLink, LinkNow, MayEndNow, TakesTexts, TicksNot, begun_tick, gone, with_arriving}
-use Rattle.proof_line.specs.Linked.{Cuts, HaveTicked, InTick, IsOrderly, KnowsBoth, LinksEnded, Round, TicksFirst, host_ticked}
+use Rattle.proof_line.specs.Linked.{◌⊕◌, began, Cuts, Did, HaveTicked, InTick, IsOrderly, KnowsBoth, LinksEnded, Round, TicksFirst, host_ticked}
 use Rattle.proof_line.proofs.Hosting.{tick_nothing}
 use Rattle.proof_line.proofs.Rooming.{arriving_whole, arriving_within}
 use Rattle.proof_line.proofs.ChipTelling.{IsArriving, arriving_tells, does_tell, tick_fit}
@@ -55,7 +55,7 @@ use Rattle.proof_line.proofs.LinkHost.{all_keep, all_quiet, host_known, host_tic
 use Rattle.proof_line.proofs.LinkEvents.{chip_writes_both, given_both, host_writes_both, later_both, tick_stays}
 
 -- an event, after which this is known
-abbrev pub Then : List Step → KnownOf → List Entry → Machine → Event → Type 0
+abbrev pub Then : Did → KnownOf → List Entry → Machine → Event → Type 0
 Then did Known past m event = Cuts did (past ++ entries m event) × Known (past ++ entries m event) (happens m event)
 
 -- ---- a tick begins
@@ -65,7 +65,7 @@ ticks_on : (side : Side) (timed all : List Entry) (now : LinkNow) → KnowsLink 
 ticks_on side timed all now knows may serials =
     subst (λ (l : List SerialEvent). KnowsEvents true side l (begun_tick now)) serials (tick_known side (serial_events timed) now knows may)
 
-pub begins_tick : {did : List Step} (past : List Entry) (m : Machine) → Cuts did past → LinksEnded did past m → Then did (InTick did 0 0) past m (Outside_does Begins_tick)
+pub begins_tick : {did : Did} (past : List Entry) (m : Machine) → Cuts did past → LinksEnded did past m → Then (began did) (InTick (began did) 0 0) past m (Outside_does Begins_tick)
 unfolding happens entries outcome devices_after
 begins_tick {did} past m cuts (is_tick, (up, down, both, may)) =
     let o : OuterState = m.outside.outer in
@@ -86,7 +86,7 @@ begins_tick {did} past m cuts (is_tick, (up, down, both, may)) =
       many = both.line.many;
       clears = time_clears past (o.clock + 1) ∙ sym (timed_clears past o) ∙ both.line.clears;
     } in
-    let known : KnowsBoth did true past n (begun_tick up) (begun_tick down) =
+    let known : KnowsBoth (began did) true past n (begun_tick up) (begun_tick down) =
     record {
       line = line;
       behind = omega (arith, behind);
@@ -94,6 +94,7 @@ begins_tick {did} past m cuts (is_tick, (up, down, both, may)) =
       chip_time = record { clock = ap (λ (k : ℕ). k + 1) clock; until = both.chip_time.until };
       host_time = record { clock = ap (λ (k : ℕ). k + 1) both.host_time.clock; until = both.host_time.until };
       life = both.life;
+      starts = ap₂ (λ (l : List (List Step)) (steps : List Step). l ++ steps ∷ []) both.starts both.life;
       chip_round = refl;
       host_round = refl;
       host_link = both.host_link;
@@ -102,18 +103,18 @@ begins_tick {did} past m cuts (is_tick, (up, down, both, may)) =
       rests = record { host = both.rests.host; chip = both.rests.chip };
     } in (
       subst (Cuts did) (sym (append-nil past)) cuts,
-      (subst (λ (l : List Entry). Round did (HaveTicked 0 0) l n) (sym (append-nil past)) (begun_tick up, begun_tick down, known, (refl, refl)), refl),
+      (subst (λ (l : List Entry). Round (began did) (HaveTicked 0 0) l n) (sym (append-nil past)) (begun_tick up, begun_tick down, known, (refl, refl)), refl),
     )
 
 -- in a round as the machine has it then
-pub in_round : {did : List Step} (is_tick : Bool) (past : List Entry) (n : Machine) (up down : LinkNow) → n.outside.outer.in_tick ≡ is_tick → KnowsBoth did is_tick past n up down
+pub in_round : {did : Did} (is_tick : Bool) (past : List Entry) (n : Machine) (up down : LinkNow) → n.outside.outer.in_tick ≡ is_tick → KnowsBoth did is_tick past n up down
     → KnowsBoth did n.outside.outer.in_tick past n up down
 in_round {did} is_tick past n up down is both = subst (λ (b : Bool). KnowsBoth did b past n up down) (sym is) both
 
 -- ---- before the chip's tick
 
-pub arrives : {did : List Step} (past : List Entry) (m : Machine) (event : OuterEvent) → IsArriving event → May m (Outside_does event) → IsOrderly m (Outside_does event) → Cuts did past → InTick did 0 0 past m
-    → Then (did ++ outer_steps m.outside event) (InTick (did ++ outer_steps m.outside event) 0 0) past m (Outside_does event)
+pub arrives : {did : Did} (past : List Entry) (m : Machine) (event : OuterEvent) → IsArriving event → May m (Outside_does event) → IsOrderly m (Outside_does event) → Cuts did past → InTick did 0 0 past m
+    → Then (did ⊕ outer_steps m.outside event) (InTick (did ⊕ outer_steps m.outside event) 0 0) past m (Outside_does event)
 arrives past m event arriving may orderly cuts ((up, down, both, ticked), runs) =
     let n : Machine = happens m (Outside_does event) in
     let all : List Entry = past ++ entries m (Outside_does event) in
@@ -141,8 +142,8 @@ arrives past m event arriving may orderly cuts ((up, down, both, ticked), runs) 
 
 -- ---- the chip's tick
 
-pub chip_ticks : {did : List Step} (past : List Entry) (m : Machine) → May m (Outside_does Chip_ticks) → IsOrderly m (Outside_does Chip_ticks) → Cuts did past → InTick did 0 0 past m
-    → Then (did ++ outer_steps m.outside Chip_ticks) (InTick (did ++ outer_steps m.outside Chip_ticks) 1 0) past m (Outside_does Chip_ticks)
+pub chip_ticks : {did : Did} (past : List Entry) (m : Machine) → May m (Outside_does Chip_ticks) → IsOrderly m (Outside_does Chip_ticks) → Cuts did past → InTick did 0 0 past m
+    → Then (did ⊕ outer_steps m.outside Chip_ticks) (InTick (did ⊕ outer_steps m.outside Chip_ticks) 1 0) past m (Outside_does Chip_ticks)
 unfolding outcome outer_steps
 chip_ticks past m may orderly cuts ((up, down, both, ticked), runs) =
     let o : OuterState = m.outside.outer in
@@ -169,7 +170,7 @@ chip_ticks past m may orderly cuts ((up, down, both, ticked), runs) =
       way = subst (λ (w : WayState). Brings w up.coming) (sym says.to_chip) both.chip_way;
       link = sym (ap (λ (t : ChipState). t.port.side) is);
       waits = subst (λ (t : ChipState). WaitsWell t.port) (sym is) (well_all s (chip_ticked ∷ []) both.line.waits);
-    }) (record { is_tick = refl; clock = refl; until = refl }) refl whole in
+    }) (record { is_tick = refl; clock = refl; until = refl; starts = refl }) refl whole in
     let count : ticks_of (up.round ++ steps) ≡ ticks_of up.round + ticks_of steps = ticks_of-append up.round steps in
     let submits = submits_tick_none (begun_at s chip_ticked) in
     let before = ticked.0 in
@@ -184,10 +185,10 @@ nodes_apart [] = tt
 nodes_apart (node ∷ nodes) = (tt, nodes_apart nodes)
 
 -- the host is about to tick
-abbrev pub HostTicks : List Step → List HostEvent → KnownOf
+abbrev pub HostTicks : Did → List HostEvent → KnownOf
 HostTicks did events past m = InTick did 1 (host_ticked events) past m × AllByRecursion HearsNothing events × TicksFirst events
 
-pub decoder_ticks : {did : List Step} (past : List Entry) (m : Machine) → May m Decoder_ticks → IsOrderly m Decoder_ticks → Cuts did past → InTick did 1 0 past m
+pub decoder_ticks : {did : Did} (past : List Entry) (m : Machine) → May m Decoder_ticks → IsOrderly m Decoder_ticks → Cuts did past → InTick did 1 0 past m
     → Then did (HostTicks did (tick_events m.host.state)) past m Decoder_ticks
 unfolding happens entries
 decoder_ticks {did} past m may orderly cuts ((up, down, both, ticked), runs) =
@@ -201,6 +202,7 @@ decoder_ticks {did} past m may orderly cuts ((up, down, both, ticked), runs) =
       chip_time = both.chip_time;
       host_time = both.host_time;
       life = both.life;
+      starts = both.starts;
       chip_round = both.chip_round;
       host_round = both.host_round;
       host_link = both.host_link;
@@ -230,7 +232,7 @@ none_heard h event nothing = refl
 module _ (each : (h : HostState) (event : HostEvent) (steps : List Step) → KeepsItsLink steps h → MayHost h event → KeepsItsLink (steps ++ host_link_steps h event) (host_after h event))
     (units : (h : HostState) (event : HostEvent) → h.side.collisions ≡ 0 → host_units (host_outs h event) ≡ link_units (host_link_steps h event)) where
   -- of itself, or where a line asks for it
-  pub host_does_both : {did : List Step} (is_tick : Bool) (past : List Entry) (m : Machine) (event : HostEvent) (up down : LinkNow) → TicksNot event → HearsNothing event → May m (Host_does event) → IsOrderly m (Host_does event)
+  pub host_does_both : {did : Did} (is_tick : Bool) (past : List Entry) (m : Machine) (event : HostEvent) (up down : LinkNow) → TicksNot event → HearsNothing event → May m (Host_does event) → IsOrderly m (Host_does event)
       → KnowsBoth did is_tick past m up down → Cuts did past → (down.is_tick ≡ true → ticks_of down.round ≡ 1)
       → Cuts did (past ++ entries m (Host_does event))
       × KnowsBoth did is_tick (past ++ entries m (Host_does event)) (happens m (Host_does event)) (with_arriving up (arriving_all Host m.outside.outer.to_chip (host_writes m (Host_does event))))
@@ -249,12 +251,12 @@ module _ (each : (h : HostState) (event : HostEvent) (steps : List Step) → Kee
       (subst (λ (l : List Item). TakesTexts l down.coming down.coming) (sym none) refl, λ stalls. none)
       (tells_some IsBeside Host o.to_chip (host_writes m (Host_does event)) says.told says.tells) in
       host_writes_both is_tick past m n up down (gone down steps (after_all h (event ∷ [])).side down.coming) (host_writes m (Host_does event)) (entries m (Host_does event)) says.told both cuts
-      (record { tells = says.tells; enters = says.enters; time = says.time; chip = says.chip; to_chip = says.to_chip; fit = orderly.writes }) known (record { is_tick = refl; clock = refl; until = refl }) refl refl
+      (record { tells = says.tells; enters = says.enters; time = says.time; chip = says.chip; to_chip = says.to_chip; fit = orderly.writes }) known (record { is_tick = refl; clock = refl; until = refl; starts = refl }) refl refl
       (all_keep each units (event ∷ []) h down.life both.keeps may) (subst (λ (w : WayState). Brings w down.coming) (sym says.to_host) both.line.way)
       (later_both is_tick past m (Host_does event) up down both may tt orderly.writes)
 
   -- its link ticks
-  host_ticks_both : {did : List Step} (past : List Entry) (m : Machine) → May m (Host_does Line_ticks) → IsOrderly m (Host_does Line_ticks) → Cuts did past → InTick did 1 0 past m
+  host_ticks_both : {did : Did} (past : List Entry) (m : Machine) → May m (Host_does Line_ticks) → IsOrderly m (Host_does Line_ticks) → Cuts did past → InTick did 1 0 past m
       → Then did (InTick did 1 1) past m (Host_does Line_ticks)
   unfolding happens May
   host_ticks_both past m may orderly cuts ((up, down, both, ticked), runs) =
@@ -272,7 +274,7 @@ module _ (each : (h : HostState) (event : HostEvent) (steps : List Step) → Kee
       (subst (λ (l : List LineUnit). TellsSome IsBeside Host l says.told) all (tells_some IsBeside Host o.to_chip written says.told says.tells)) in
       let got =
       host_writes_both o.in_tick past m n up down later written (entries m (Host_does Line_ticks)) says.told both cuts
-      (record { tells = says.tells; enters = says.enters; time = says.time; chip = says.chip; to_chip = says.to_chip; fit = orderly.writes }) known (record { is_tick = refl; clock = refl; until = refl }) refl refl
+      (record { tells = says.tells; enters = says.enters; time = says.time; chip = says.chip; to_chip = says.to_chip; fit = orderly.writes }) known (record { is_tick = refl; clock = refl; until = refl; starts = refl }) refl refl
       (each h Line_ticks down.life both.keeps may.0) (subst (λ (w : WayState). Brings w down.coming) (sym says.to_host) both.line.way)
       (later_both o.in_tick past m (Host_does Line_ticks) up down both may tt orderly.writes) in
       let count : ticks_of (down.round ++ steps) ≡ ticks_of down.round + ticks_of steps = ticks_of-append down.round steps in
@@ -282,7 +284,7 @@ module _ (each : (h : HostState) (event : HostEvent) (steps : List Step) → Kee
       (got.0, ((with_arriving up (arriving_all Host o.to_chip written), later, in_round o.in_tick (past ++ entries m (Host_does Line_ticks)) n _ later same got.1, (ticked.0, once)), same ∙ runs))
 
   -- it does something else
-  host_apart : {did : List Step} (past : List Entry) (m : Machine) (event : HostEvent) → TicksNot event → HearsNothing event → May m (Host_does event) → IsOrderly m (Host_does event) → Cuts did past
+  host_apart : {did : Did} (past : List Entry) (m : Machine) (event : HostEvent) → TicksNot event → HearsNothing event → May m (Host_does event) → IsOrderly m (Host_does event) → Cuts did past
       → InTick did 1 1 past m → Then did (InTick did 1 1) past m (Host_does event)
   host_apart past m event apart nothing may orderly cuts ((up, down, both, ticked), runs) =
       let o : OuterState = m.outside.outer in
@@ -301,11 +303,11 @@ module _ (each : (h : HostState) (event : HostEvent) (steps : List Step) → Kee
   later_ticked (Line_ticks ∷ events) apart = absurd apart.0
   later_ticked (event ∷ events) apart = (refl, apart)
 
-  then_apart : {did : List Step} (events : List HostEvent) (past : List Entry) (m : Machine) → AllByRecursion HearsNothing events → AllByRecursion TicksNot events → InTick did 1 1 past m → HostTicks did events past m
+  then_apart : {did : Did} (events : List HostEvent) (past : List Entry) (m : Machine) → AllByRecursion HearsNothing events → AllByRecursion TicksNot events → InTick did 1 1 past m → HostTicks did events past m
   then_apart {did} events past m nothing apart known =
       let is = later_ticked events apart in (subst (λ (n : ℕ). InTick did 1 n past m) (sym is.0) known, nothing, is.1)
 
-  pub host_ticks : {did : List Step} (past : List Entry) (m : Machine) (first : HostEvent) (events : List HostEvent) → May m (Host_does first) → IsOrderly m (Host_does first) → Cuts did past
+  pub host_ticks : {did : Did} (past : List Entry) (m : Machine) (first : HostEvent) (events : List HostEvent) → May m (Host_does first) → IsOrderly m (Host_does first) → Cuts did past
       → HostTicks did (first ∷ events) past m → Then did (HostTicks did events) past m (Host_does first)
   host_ticks past m Line_ticks events may orderly cuts known =
       let got = host_ticks_both past m may orderly cuts known.0 in (got.0, then_apart events _ _ known.1.1 known.2 got.1)

@@ -1,6 +1,6 @@
 -- What is known of both links beside the machine at each phase of a line (this project's own rule): where each side is, what is on its way to it, whether it has ticked in the running
 -- tick, and that nothing, or little, is left where a line or tick ends. A line that has entered nothing yet is not counted: whether it is refused is shown by what stands after it.
-use Rattle.std.specs.Prelude.{◌≡◌, ◌≤◌, ◌<◌, ◌⊎◌, ℕ, suc, ◌+◌, ◌-◌, Bool, true, false, None, List, [], ◌∷◌, ◌++◌, length}
+use Rattle.std.specs.Prelude.{◌≡◌, ◌≤◌, ◌<◌, ◌⊎◌, ℕ, suc, ◌+◌, ◌-◌, Bool, true, false, None, List, [], ◌∷◌, ◌++◌, length, map}
 use Rattle.std.specs.List.{AllByRecursion}
 use Rattle.serial_link.specs.Rules.{Step, ticks_of}
 use Rattle.chip_sim.specs.Rules.{WaitsWell}
@@ -12,7 +12,9 @@ use Rattle.zw_text.specs.declared.entry.Entry.TheVariants.{Said}
 use Rattle.zw_text.specs.Transcript.{line_of}
 use Rattle.law_wire.specs.Asked.{course_of}
 use Rattle.law_wire.specs.Clearing.{AreTold, cleared, clears, lost_by, to_clear}
-use Rattle.law_wire.specs.Links.{KeepsLinks, joined}
+use Rattle.law_wire.specs.Links.{KeepsLinks, ends_round, joined, moments_of}
+use Rattle.law_wire.specs.Serial.{SerialEvent, serial_events}
+use Rattle.law_wire.specs.law_transcript.Lists.{shown_after}
 use Rattle.proof_world.specs.host_model.Events.{HostEvent, Line_ticks}
 use Rattle.host_node.specs.Search.{first_wanting}
 use Rattle.proof_world.specs.host_model.State.{HostState}
@@ -31,7 +33,7 @@ use Rattle.proof_walk.specs.ByLine.{KnownOf, IsAsked}
 use Rattle.proof_walk.specs.Time.{KnowTime}
 use Rattle.proof_traffic.specs.Links.{KeepsItsLink}
 use Rattle.proof_line.specs.Pipes.{IsByHand, HearsNothing}
-use Rattle.proof_line.specs.Links.{AtLine, Brings, IsMute, KnowsLink, LinkNow, MayEndNow, TicksNot, cleared_in, due_from, tick_told}
+use Rattle.proof_line.specs.Links.{AtLine, Brings, KnowsLink, LinkNow, MayEndNow, TicksNot, cleared_in, due_from, start_at, tick_told}
 
 -- ---- what is asked of each event
 
@@ -47,19 +49,67 @@ pub record IsOrderly (m : Machine) (event : Event) : Type 0 where
   pub asks : AsksWell m event
   pub takes : TakesSome m event
 
+-- ---- what the chip's link did
+
+-- its steps, and those that it had done where each line or tick began
+pub record Did : Type 0 where
+  pub steps : List Step
+  pub starts : List (List Step)
+
+-- with more steps, and where a line or a tick begins
+infixl 30 ◌⊕◌
+abbrev pub ◌⊕◌ : Did → List Step → Did
+did ⊕ more = record { steps = did.steps ++ more; starts = did.starts }
+
+abbrev pub began : Did → Did
+began did = record { steps = did.steps; starts = did.starts ++ did.steps ∷ [] }
+
+-- the words of a `tick` begin nothing
+abbrev pub said : Line → Did → Did
+said (lines.Tick count) did = did
+said line did = began did
+
+-- a line that is no `tick`
+abbrev pub UnlessTicks : List Line → Type 0 → Type 0
+UnlessTicks (lines.Tick count ∷ more) P = Unit {0}
+UnlessTicks line P = P
+
+-- after an event: only where ticks are to come is it one that begins
+abbrev pub did_at : Phase → Did → List Step → Did
+did_at (To_tick ticks) did more = began did
+did_at here did more = did ⊕ more
+
+-- which events of the serial line begin a line or tick, and how many of them do
+abbrev pub flags_of : List SerialEvent → List Bool
+flags_of events = map ends_round events
+
+abbrev pub rounds_in : List Bool → ℕ
+rounds_in [] = 0
+rounds_in (true ∷ flags) = suc (rounds_in flags)
+rounds_in (false ∷ flags) = rounds_in flags
+
 -- ---- the laws of a run that is cut short here
 
 -- both sides kept the rules, and so far it is told what restarts lost; and by what the chip's link did it has the same course
-pub record Cuts (did : List Step) (past : List Entry) : Type 0 where
+pub record CutsBy (did : List Step) (past : List Entry) : Type 0 where
   pub links : KeepsLinks false past
   pub each : AreTold (clears past) (to_clear (lost_by Chip past links.chip.parts) (lost_by Host past links.host.parts))
   pub course : course_of (joined links.chip.parts) ≡ course_of did
 
--- these parts of its steps, up to each event of the serial line, are what it did but for steps since then that wrote nothing
-pub record ArePartsOf (did : List Step) (parts : List (List Step)) : Type 0 where
-  pub since : List Step
-  pub is : did ≡ joined parts ++ since
-  pub mute : AllByRecursion IsMute since
+abbrev pub Cuts : Did → List Entry → Type 0
+Cuts did past = CutsBy did.steps past
+
+-- these parts of its steps are so where each line or tick began
+abbrev pub HasStarts : List Entry → List (List Step) → List (List Step) → Type 0
+HasStarts past parts starts = shown_after (start_at Chip) [] (moments_of (serial_events past) parts) ≡ starts
+
+-- a line or tick begins with the last of these entries, after all those by which the chip's link did this
+pub record BeginsLast (did : Did) (all : List Entry) : Type 0 where
+  pub front : List SerialEvent
+  pub event : SerialEvent
+  pub events : serial_events all ≡ front ++ event ∷ []
+  pub begins : ends_round event ≡ true
+  pub many : length did.starts ≡ rounds_in (flags_of front)
 
 -- ---- beside the machine
 
@@ -69,13 +119,14 @@ pub record IsTimed (o : OuterState) (now : LinkNow) : Type 0 where
   pub until : now.until ≡ o.stalled_until
 
 -- Both sides, the chip's first, in a round that is a tick or none: as they are once the number of the running tick is entered, where it is still to be. That of the chip did these steps.
-pub record KnowsBoth (did : List Step) (is_tick : Bool) (past : List Entry) (m : Machine) (up down : LinkNow) : Type 0 where
+pub record KnowsBoth (did : Did) (is_tick : Bool) (past : List Entry) (m : Machine) (up down : LinkNow) : Type 0 where
   pub line : AtLine (past ++ ticked_entry m.outside.outer) m.outside.outer up down
   pub behind : tick_told past ≤ m.outside.outer.clock
   pub chip_way : Brings m.outside.outer.to_chip up.coming
   pub chip_time : IsTimed m.outside.outer up
   pub host_time : IsTimed m.outside.outer down
-  pub life : up.life ≡ did
+  pub life : up.life ≡ did.steps
+  pub starts : up.starts ≡ did.starts
   pub chip_round : up.is_tick ≡ is_tick
   pub host_round : down.is_tick ≡ is_tick
   pub host_link : down.link ≡ m.host.state.side
@@ -83,11 +134,11 @@ pub record KnowsBoth (did : List Step) (is_tick : Bool) (past : List Entry) (m :
   pub frames : HasFrames m.outside.outer.chip.state.port
   pub rests : AreAtRest m
 
-abbrev pub Both : List Step → Bool → (LinkNow → LinkNow → Type 0) → KnownOf
+abbrev pub Both : Did → Bool → (LinkNow → LinkNow → Type 0) → KnownOf
 Both did is_tick Has past m = (up : LinkNow) × (down : LinkNow) × KnowsBoth did is_tick past m up down × Has up down
 
 -- in a round as the machine has it
-abbrev pub Round : List Step → (LinkNow → LinkNow → Type 0) → KnownOf
+abbrev pub Round : Did → (LinkNow → LinkNow → Type 0) → KnownOf
 Round did Has past m = Both did m.outside.outer.in_tick Has past m
 
 -- ---- what each side has done in the round
@@ -117,11 +168,11 @@ HaveHeard passes m up down =
     passes < 64 → is_stalled m.outside.outer ≡ false →
     (down.coming ≡ []) × (((63 - passes) + length up.coming ≤ up.brought) ⊎ ((up.coming ≡ []) × (passes ≡ 0) × IsQuiet m.host.state))
 
-abbrev pub Settling : List Step → ℕ → KnownOf
+abbrev pub Settling : Did → ℕ → KnownOf
 Settling did passes past m = Round did (λ up down. HaveTickedOnce up down × HaveHeard passes m up down) past m
 
 -- where bytes are about to move, after a pump
-abbrev pub Passing : List Step → ℕ → KnownOf
+abbrev pub Passing : Did → ℕ → KnownOf
 Passing did passes past m = Settling did (suc passes) past m × IsQuiet m.host.state
 
 -- And where those to the chip have; or none did, and then it has heard all, and in all passes but the first so has the host.
@@ -132,13 +183,15 @@ HaveMoved false passes m up down = IsQuiet m.host.state × (is_stalled m.outside
 -- ---- a line
 
 -- its words are entered, and nothing since
-pub record LinksBefore (did : List Step) (line : Line) (past : List Entry) (m : Machine) : Type 0 where
+pub record LinksBefore (did : Did) (line : Line) (past : List Entry) (m : Machine) : Type 0 where
   pub before : List Entry
   pub words : List ℕ
   pub read : line_of (Said words) ≡ line ∷ []
   pub is : past ≡ before ++ Said words ∷ []
   pub is_tick : Bool
-  pub both : Both did is_tick MayBothEnd before m
+  pub earlier : Did
+  pub counts : did ≡ said line earlier
+  pub both : Both earlier is_tick MayBothEnd before m
   pub due : due_from 0 before ≡ m.outside.outer.clock
 
 -- of a machine at which it has begun, or that the chip only knows otherwise: all else that concerns the links is the same
@@ -153,11 +206,11 @@ pub record IsBegun (first m : Machine) : Type 0 where
   pub host : m.host ≡ first.host
 
 -- so once it has begun
-abbrev pub LinksBegun : List Step → Line → KnownOf
+abbrev pub LinksBegun : Did → Line → KnownOf
 LinksBegun did line past m = (first : Machine) × LinksBefore did line past first × IsBegun first m
 
 -- where the line is counted
-abbrev pub LinksDone : List Step → KnownOf
+abbrev pub LinksDone : Did → KnownOf
 LinksDone did past m = Round did HaveTickedOnce past m × (m.outside.outer.in_tick ≡ false)
 
 -- The host has started again: no pipe is cleared yet, or that to the chip is. So many bytes were on their way to the chip, and to the host.
@@ -169,7 +222,7 @@ abbrev pub told_cleared : Bool → ℕ → List Entry
 told_cleared false lost = []
 told_cleared true lost = cleared Host lost
 
-pub record LinksClearing (did : List Step) (has_cleared : Bool) (past : List Entry) (m : Machine) : Type 0 where
+pub record LinksClearing (did : Did) (has_cleared : Bool) (past : List Entry) (m : Machine) : Type 0 where
   pub before : List Entry
   pub words : List ℕ
   pub read : line_of (Said words) ≡ lines.Restart ∷ []
@@ -182,7 +235,8 @@ pub record LinksClearing (did : List Step) (has_cleared : Bool) (past : List Ent
   pub is : past ≡ before ++ Said words ∷ told_cleared has_cleared to_chip
   pub chip : KnowsLink Chip past up
   pub host : KnowsLink Host past down
-  pub life : up.life ≡ did
+  pub life : up.life ≡ did.steps
+  pub starts : up.starts ≡ did.starts
   pub chip_is : (up.is_tick ≡ false) × (up.coming ≡ []) × (up.lost ≡ ups ++ to_chip ∷ [])
   pub host_is : (down.is_tick ≡ false) × (down.coming ≡ []) × (down.lost ≡ downs ++ to_host ∷ [])
   pub many : length ups ≡ length downs
@@ -224,18 +278,18 @@ ArePlain (Outside_does Discovers ∷ left) = ArePlain left
 ArePlain (first ∷ left) = IsPlain first × AllByRecursion IsLater left
 
 -- the event of its effect is to come, or was
-abbrev pub LinksOne : List Step → Event → Line → List Event → KnownOf
+abbrev pub LinksOne : Did → Event → Line → List Event → KnownOf
 LinksOne did event line left past m = ((left ≡ event ∷ []) × LinksBegun did line past m) ⊎ ((left ≡ []) × LinksDone did past m)
 
 -- a restart: nothing is done yet; the host has started again; the pipe to the chip is cleared; all is done
-abbrev pub LinksRestarting : List Step → List Event → KnownOf
+abbrev pub LinksRestarting : Did → List Event → KnownOf
 LinksRestarting did left past m =
     (IsEffect lines.Restart m left × LinksBegun did lines.Restart past m)
     ⊎ (((left ≡ Outside_does (Clears_pipe Host) ∷ Outside_does (Clears_pipe Chip) ∷ []) × LinksClearing did false past m)
     ⊎ (((left ≡ Outside_does (Clears_pipe Chip) ∷ []) × LinksClearing did true past m) ⊎ ((left ≡ []) × LinksDone did past m)))
 
 -- of its effect these are to come; a `tick` has none
-abbrev pub LinksLeft : List Step → Line → List Event → KnownOf
+abbrev pub LinksLeft : Did → Line → List Event → KnownOf
 LinksLeft did (lines.Tick count) left past m = ⊥
 LinksLeft did lines.Restart left past m = LinksRestarting did left past m
 LinksLeft did lines.Collide left past m = LinksOne did (Outside_does Collides_next) lines.Collide left past m
@@ -243,13 +297,13 @@ LinksLeft did (lines.Stall ticks) left past m = LinksOne did (Outside_does (Stal
 LinksLeft did line left past m = (ArePlain left × LinksBegun did line past m) ⊎ (AllByRecursion IsLater left × LinksDone did past m)
 
 -- where a line or tick is over, also after the words of a `tick`, which begin no round
-abbrev pub LinksEnded : List Step → KnownOf
+abbrev pub LinksEnded : Did → KnownOf
 LinksEnded did past m = (is_tick : Bool) × Both did is_tick MayBothEnd past m
 
 -- ---- at each phase
 
 -- in a tick: before its own tick a side has none
-abbrev pub InTick : List Step → ℕ → ℕ → KnownOf
+abbrev pub InTick : Did → ℕ → ℕ → KnownOf
 InTick did chip host past m = Round did (HaveTicked chip host) past m × (m.outside.outer.in_tick ≡ true)
 
 -- the host's link ticks first of all that the host does then
@@ -261,7 +315,7 @@ abbrev pub TicksFirst : List HostEvent → Type 0
 TicksFirst (Line_ticks ∷ events) = AllByRecursion TicksNot events
 TicksFirst events = AllByRecursion TicksNot events
 
-abbrev pub KnowLinks : List Step → Phase → KnownOf
+abbrev pub KnowLinks : Did → Phase → KnownOf
 KnowLinks did Between past m = LinksEnded did past m
 KnowLinks did (Said_line line) past m = LinksBefore did line past m
 KnowLinks did (Begun line) past m = LinksBegun did line past m
@@ -280,7 +334,7 @@ KnowLinks did (Moving passes ticks) past m = Passing did passes past m
 KnowLinks did (Moved has_moved passes ticks) past m = Round did (λ up down. HaveTickedOnce up down × HaveMoved has_moved passes m up down) past m
 
 -- with the laws of a run that is cut short there
-abbrev pub KnowCuts : List Step → Phase → KnownOf
+abbrev pub KnowCuts : Did → Phase → KnownOf
 KnowCuts did here past m = Cuts did past × KnowLinks did here past m
 
 -- nothing is asked of an entry
@@ -289,4 +343,4 @@ Anything past entry = Unit {0}
 
 -- with time, for the steps that the chip's link did so far, whichever these are
 abbrev pub KnowAll : Phase → KnownOf
-KnowAll here past m = KnowTime here past m × ((did : List Step) × KnowCuts did here past m)
+KnowAll here past m = KnowTime here past m × ((did : Did) × KnowCuts did here past m)

@@ -1,6 +1,6 @@
 -- What is known of the link of a side between two events of the serial line (this project's own rule): what it did up to the last of them keeps the laws of links, and so does, so
 -- far, what it did since then.
-use Rattle.std.specs.Prelude.{◌≡◌, ◌≤◌, ℕ, ◌+◌, ◌-◌, ◌&&◌, ◌⊎◌, not, nat_lt, Bool, true, false, List, [], ◌∷◌, ◌++◌, length, map}
+use Rattle.std.specs.Prelude.{◌≡◌, ◌≤◌, ℕ, ◌+◌, ◌-◌, ◌&&◌, ◌⊎◌, not, nat_lt, Bool, true, false, if◌then◌else◌, List, [], ◌∷◌, ◌++◌, length, map}
 use Rattle.std.specs.List.{AllByRecursion, flat_map, list_any}
 use Rattle.serial_frame.specs.Items.{ItemText}
 use Rattle.serial_frame.specs.Stream.{no_rest}
@@ -97,7 +97,8 @@ abbrev pub stalls_in : List Moment → List ℕ
 stalls_in past = shown_after (λ before one. flat_map (stall_by (clock_in before)) (line_in one.event)) [] past
 
 -- where a side is: whether the running round is a tick, and how many units of the other side arrived in it; how many ticks have begun, and until when bytes are stalled; what its
--- link did in this life and in this round; the link, and what is on its way to it; and the bytes that each restart so far lost of that
+-- link did in this life and in this round; the link, and what is on its way to it; the bytes that each restart so far lost of that; and what it had done of its life where each line or
+-- tick began
 pub record LinkNow : Type 0 where
   pub is_tick : Bool
   pub brought : ℕ
@@ -108,6 +109,11 @@ pub record LinkNow : Type 0 where
   pub link : LinkSide
   pub coming : List (List ℕ)
   pub lost : List ℕ
+  pub starts : List (List Step)
+
+-- what it has done of a life where a line or tick begins
+abbrev pub start_at : Side → List Moment → Moment → List (List Step)
+start_at side before one = if ends_round one.event then life_steps side before one.steps ∷ [] else []
 
 -- these moments and steps lead there
 pub record IsAt (side : Side) (past : List Moment) (steps : List Step) (now : LinkNow) : Type 0 where
@@ -118,6 +124,7 @@ pub record IsAt (side : Side) (past : List Moment) (steps : List Step) (now : Li
   pub life : life_steps side past steps ≡ now.life
   pub round : round_steps past steps ≡ now.round
   pub lost : shown_after (lost_at side) [] past ≡ now.lost
+  pub starts : shown_after (start_at side) [] past ≡ now.starts
 
 -- The steps of a side up to each of these events, and since. Where the units of the other side come through a pipe, just those found no room that had none.
 pub record KnowsEvents (piped : Bool) (side : Side) (events : List SerialEvent) (now : LinkNow) : Type 0 where
@@ -183,10 +190,10 @@ with_arriving now arriving = record now { coming = now.coming ++ arriving; broug
 
 -- where a line begins, or a tick
 abbrev pub begun_line : LinkNow → ℕ → LinkNow
-begun_line now until = record now { is_tick = false; brought = 0; until = until; round = [] }
+begun_line now until = record now { is_tick = false; brought = 0; until = until; round = []; starts = now.starts ++ now.life ∷ [] }
 
 abbrev pub begun_tick : LinkNow → LinkNow
-begun_tick now = record now { is_tick = true; brought = 0; clock = now.clock + 1; round = [] }
+begun_tick now = record now { is_tick = true; brought = 0; clock = now.clock + 1; round = []; starts = now.starts ++ now.life ∷ [] }
 
 -- steps that a link may do one after another, each of which writes at most one unit, and the link after them
 abbrev pub IsOne : List LineUnit → Type 0

@@ -37,4 +37,4 @@ returns-clause-whole c = λ keys devices lines are whole.
     let ties = c.links_go_on.ensures in
     let known =
     where_whole IsOrderly Anything KnowAll ties.walk [] m lines are whole orderly (ties.first keys (Some []) devices) in
-    whole_clears (transcript_of m lines) (ended_known (transcript_of m lines) (after_all m lines) known.0 known.1.1) (c.lines_clear_nowhere_else.ensures keys (Some []) devices lines are true)
+    whole_clears (transcript_of m lines) (ended_known known.1.0 (transcript_of m lines) (after_all m lines) known.0 known.1.1) (c.lines_clear_nowhere_else.ensures keys (Some []) devices lines are true)
