@@ -15,15 +15,15 @@ use Rattle.device_sim.specs.State.{State}
 use Rattle.host_node.specs.Events.NodeEvent.{Joins, Interviews}
 use Rattle.host_node.specs.State.{NodeState, unknown}
 use Rattle.host_node.specs.Events.{after as after_node}
-use Rattle.host_node.specs.TableState.{node_of as node_among, unknown_from, unknown_nodes}
+use Rattle.host_node.specs.TableState.{node_of as node_among, nodes_after, unknown_from, unknown_nodes}
 use Rattle.host_model.specs.Facts.{HostFacts}
 use Rattle.host_model.specs.State.{HostState, first_classes, first_host, first_nodes, with_node}
 use Rattle.outside_model.specs.State.{first_outer}
 use Rattle.world_model.specs.State.{first_machine}
-use Rattle.proof_serial.proofs.HostFits.{all_at}
+use Rattle.proof_serial.proofs.HostFits.{all-set, all_at}
 use Rattle.proof_serial.proofs.HostRuns.{first_fits}
 use Rattle.proof_calm.specs.Homeward.{SpeaksHome}
-use Rattle.proof_calm.specs.Known.{IsBlank, IsMember}
+use Rattle.proof_calm.specs.Known.{HasShortPlain, IsBlank, IsMember}
 use Rattle.proof_calm.specs.Live.{HasLive}
 use Rattle.proof_calm.specs.Routed.{Reaches}
 use Rattle.proof_calm.specs.Tied.{IsPeopled}
@@ -106,6 +106,17 @@ first_live : HasLive first_outer
 unfolding first_outer two_joined none_marked no_frames
 first_live = record { fly = tt; known = λ a b is. is; reaches = first_reaches; hears = first_reaches; none_marked = refl }
 
+plain_from : (number count : ℕ) → AllByRecursion HasShortPlain (unknown_from number count)
+plain_from number zero = tt
+plain_from number (suc more) = (tt, plain_from (suc number) more)
+
+first_plains : AllByRecursion HasShortPlain first_nodes
+unfolding first_nodes unknown_nodes
+first_plains =
+    let joins : NodeState = after_node (node_among unknown_nodes 2) Joins in
+    let once : AllByRecursion HasShortPlain (nodes_after unknown_nodes 2 Joins) = all-set HasShortPlain unknown_nodes 2 joins (tt, plain_from 1 232) tt in
+    all-set HasShortPlain (nodes_after unknown_nodes 2 Joins) 2 (after_node (node_among (nodes_after unknown_nodes 2 Joins) 2) (Interviews true first_classes)) once tt
+
 pub first_peopled : (facts : (keys : Keys) → HostFacts (first_host keys)) (keys : Keys) (records : Option (List (List ℕ))) (devices : List State) → IsPeopled (first_machine keys records devices)
 unfolding first_outer two_joined
 first_peopled facts keys records devices = record {
@@ -114,4 +125,5 @@ first_peopled facts keys records devices = record {
   knows = record { others = blank_nodes keys; tasks = tt; request = tt };
   speaks = first_speaks;
   live = first_live;
+  plains = first_plains;
 }

@@ -31,6 +31,7 @@ pub mod Rested
 pub mod Knowing
 pub mod Homing
 pub mod Serving
+pub mod Plains
 pub mod Living
 pub mod Peopled
 pub mod First

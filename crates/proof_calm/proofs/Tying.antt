@@ -889,7 +889,7 @@ module _ (laws : Outsides) (ids : Ids) (payloads : Payloads) where
             let served : IsServed m event = event_served here next m event goes may orderly at.0 at.2 at.6 at.7 in
             let later : LineAt next (happens m event) = (lines.event here next past m event goes may served (λ said. at.0)).1 quiet in
             let room : RoomAt next (happens m event) = event_room laws.air here next m event goes may orderly at.0 at.2 at.6 at.3 in
-            (later, event_awaits laws here next m event goes may at.0 at.1, room, routed_on laws.air here next m event goes may at.7.live served at.0 at.3, lines_on stays here next m event goes may at.0 at.6 at.4, pumped_on here next m event goes at.5, event_ties here next m event goes may orderly at.0 at.1 at.2 at.6 at.7 later room, peopled_on payloads laws.air facts_kept opened here next m event goes may orderly at.0 at.6 at.7),
+            (later, event_awaits laws here next m event goes may at.0 at.1, room, routed_on laws.air here next m event goes may at.7.live served at.0 at.3, lines_on stays here next m event goes may at.0 at.6 at.4, pumped_on here next m event goes at.5, event_ties here next m event goes may orderly at.0 at.1 at.2 at.6 at.7 later room, peopled_on payloads laws.air facts_kept opened here next m event goes may at.0 at.6 at.7),
       );
       turn = λ here next past m turns known quiet.
           let at = known quiet in

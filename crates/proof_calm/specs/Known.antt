@@ -11,6 +11,7 @@ use Rattle.host_requests.specs.declared.under_way.UnderWay.{UnderWay}
 use Rattle.host_node.specs.State.{NodeState, needs_tick}
 use Rattle.host_node.specs.declared.series.Series.TheVariants.{Idle}
 use Rattle.host_model.specs.State.{HostState, node_of}
+use Rattle.proof_serial.specs.Host.{FitsIn}
 
 -- a node that is joined
 pub record IsMember (joined : List Bool) (n : ℕ) : Type 0 where
@@ -46,3 +47,7 @@ pub record KnowsMembers (joined : List Bool) (h : HostState) : Type 0 where
   pub others : (n : ℕ) → is_marked joined n ≡ false → IsBlank (node_of h n)
   pub tasks : AllByRecursion (IsTaskFor joined) h.requests.queue
   pub request : IsRequestFor joined h.requests.under_way
+
+-- what a node is still to have sealed has at most 26 bytes
+abbrev pub HasShortPlain : NodeState → Type 0
+HasShortPlain n = FitsIn 26 n.pending

@@ -35,13 +35,13 @@ use Rattle.outside_model.specs.Events.{OuterEvent, Begins_tick}
 use Rattle.outside_model.specs.State.{OuterState}
 use Rattle.world_model.specs.Events.{Event, Outside_does}
 use Rattle.world_model.specs.State.{Machine}
-use Rattle.proof_serial.specs.Host.{AsksWell, HostFits}
+use Rattle.proof_serial.specs.Host.{HostFits}
 use Rattle.proof_work.specs.Line.{HasOnLine}
 use Rattle.proof_work.specs.proof_walk.Phases.{Phase, Between, Said_line, Begun, To_tick, Ticked, Arriving, Giving, Ticking_devices, Ticking_chip, Ticking_decoder, Ticking_host, Sleeping, Submitting, Moving, Moved}
 use Rattle.proof_calm.specs.Awaited.{Awaits, AwaitsAt}
 use Rattle.proof_calm.specs.Calls.{answer_taken}
 use Rattle.proof_calm.specs.Homeward.{SpeaksHome}
-use Rattle.proof_calm.specs.Known.{IsMember, KnowsMembers}
+use Rattle.proof_calm.specs.Known.{HasShortPlain, IsMember, KnowsMembers}
 use Rattle.proof_calm.specs.Live.{HasLive}
 use Rattle.proof_calm.specs.Quiet.{AreQuiet}
 use Rattle.proof_calm.specs.Resting.{LineAt, LineRests}
@@ -232,6 +232,7 @@ pub record IsPeopled (m : Machine) : Type 0 where
   pub knows : KnowsMembers m.outside.outer.chip.state.joined m.host.state
   pub speaks : SpeaksHome m.outside.outer.chip.state.joined m.outside.outer
   pub live : HasLive m.outside.outer
+  pub plains : AllByRecursion HasShortPlain m.host.state.nodes
 
 abbrev pub KnowTied : Phase → List Entry → Machine → Type 0
 KnowTied here past m =
@@ -268,7 +269,6 @@ abbrev pub IsOrderlyOutside : Machine → OuterEvent → Type 0
 IsOrderlyOutside m Begins_tick = to_arrive m ≤ 31
 IsOrderlyOutside m event = Unit {0}
 
--- and what the machine says no length of is short
 abbrev pub IsOrderly : Machine → Event → Type 0
 IsOrderly m (Outside_does event) = IsOrderlyOutside m event
-IsOrderly m event = AsksWell m event
+IsOrderly m event = Unit {0}

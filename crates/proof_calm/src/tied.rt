@@ -21,12 +21,12 @@ use proof_waking::traffic::{frames_fly_in_order, outsides_make_requests};
 use proof_work::{hosts_are_tended, requests_stay_on_the_line, turns_of_a_pump_leave_nothing};
 
 /// At first the line rests, no call is to come, no request is under way, and node 2 alone is joined. Where at most 31 frames are on the air as a tick
-/// begins, and each sealed text has at most 46 bytes, that stays so at each phase of quiet lines and ticks, as far as it goes: the line rests again after
-/// each; no abort is owed; no result is due; joined nodes alone speak on the air, and the host has to do with these alone; no frame on the air is lost or
-/// has a dead hop, so the chip forgets no link, and its table has a walk to each joined node; and the request under way is a SendData of 1 to 46 bytes to
-/// such a node, that is on its way to the chip, or whose payload the chip sends, or whose one call is on its way to the host. So the chip takes each, and
-/// none falls silent. Between lines none is under way, the chip sends nothing, and the host has nothing to submit; or the chip sends the payload, which it
-/// has answered, and one call is to come.
+/// begins, that stays so at each phase of quiet lines and ticks, as far as it goes: the line rests again after each; no abort is owed; no result is due;
+/// joined nodes alone speak on the air, and the host has to do with these alone; no frame on the air is lost or has a dead hop, so the chip forgets no
+/// link, and its table has a walk to each joined node; and the request under way is a SendData of 1 to 46 bytes to such a node, that is on its way to the
+/// chip, or whose payload the chip sends, or whose one call is on its way to the host. So the chip takes each, and none falls silent. Between lines none
+/// is under way, the chip sends nothing, and the host has nothing to submit; or the chip sends the payload, which it has answered, and one call is to
+/// come.
 pub fn requests_stay_tied()
     ensures first { (keys : Keys) (records : Option (List (List ℕ))) (devices : List State) → AreNodes devices → IsTied (first_machine keys records devices) }
     ensures walk { WalkWhere IsOrderly AsksNothing KnowTied }
