@@ -7,9 +7,9 @@
 //! of a class that lines ask for, as no other payload is; so what was due is that a line asked for it, and how it ended is said of it and of no other
 //! (`ends_say_how_done`), along each run of a host alone (`hosts_say_how_done`) and in all lines (`lines_say_how_done`).
 //! Requests stand one after another, messages with the callback ids in turn, and each session that begins with its unit (`hosts_ask_one_by_one`).
-//! The definitions are in `specs/Asking`: what is known at each phase, and `specs/Numbers`: the same of ids and sessions that begin. `proofs/Leaving` has entries that leave what came of the chip, `Telling` what the host
-//! enters, and `Walking` the walk. `proofs/Sent` has what the last request carries, and that it was due; `proofs/SaidDone` reads off that how it ended. `proofs/Numbering` is the walk
-//! over requests, ids and sessions that begin.
+//! The definitions are in `specs/Asking`: what is known at each phase, and `specs/Numbers`: the same of ids and sessions that begin. `proofs/Leaving` has
+//! entries that leave what came of the chip, `Telling` what the host enters, and `Walking` the walk. `proofs/Sent` has what the last request carries, and
+//! that it was due; `proofs/SaidDone` reads off that how it ended. `proofs/Numbering` is the walk over requests, ids and sessions that begin.
 #![tactic(auto)]
 
 mod errands;
