@@ -3,6 +3,7 @@
 -- the host is. So a node is looked at as its tick leaves that wait, at the time of the tick.
 use Rattle.std.specs.Prelude.{◌≡◌, ℕ, ◌+◌, ◌≤◌, ◌==◌, not, Bool, true, false, if◌then◌else◌, List, [], ◌∷◌}
 use Rattle.zw_text.specs.declared.entry.Entry.{Entry}
+use Rattle.zw_text.specs.declared.entry.Entry.TheVariants.{Said, Refused}
 use Rattle.zw_text.specs.Transcript.{accepted}
 use Rattle.law_transcript.specs.Commands.{numbers_of, waiting}
 use Rattle.law_time.specs.Requests.{are_none}
@@ -17,6 +18,12 @@ use Rattle.proof_requests.specs.proof_alone.Runs.{Knowledge, both_know}
 use Rattle.proof_attempts.specs.Since.{KnowsSince, TieOf, is_to_tick}
 use Rattle.proof_attempts.specs.Waiting.{WaitInOrder}
 use Rattle.proof_attempts.specs.Waking.{CountsAwake, KnowsHearing}
+
+-- neither the words of a line nor a refusal of one
+abbrev pub IsOfNoLine : Entry → Type 0
+IsOfNoLine (Said words) = ⊥
+IsOfNoLine (Refused refusal) = ⊥
+IsOfNoLine e = Unit {0}
 
 -- ---- what the transcript tells
 

@@ -45,8 +45,8 @@ ghost use Rattle.proof_requests.specs.proof_alone.Runs.{Run};
 ghost use Rattle.proof_attempts.specs.Since.{AlongRuns, IsElse, KnowsSince};
 ghost use Rattle.proof_host.specs.Facts.{Facts};
 ghost use Rattle.proof_host.specs.Laws.{numbers_for};
-ghost use Rattle.proof_requests.proofs.proof_waking_Apart.{IsWordless};
 ghost use Rattle.proof_attempts.specs.Series.{
+  IsOfNoLine,
   IsSeries,
   NodeAsTold,
   RunsAsTold,
@@ -72,7 +72,7 @@ pub fn hosts_show_open_sessions()
 
 /// How a series grows by an entry of no line, and by the words of one that does not start the host again or does.
 pub fn series_grow_by_entries()
-    ensures one { (n : ℕ) (past : List Entry) (e : Entry) → IsWordless e →
+    ensures one { (n : ℕ) (past : List Entry) (e : Entry) → IsOfNoLine e →
         series_so_far n (past ++ e ∷ []) ≡ series_step n past (with_time n past (now_at past e) (series_so_far n past)) e [] }
     ensures said { (n : ℕ) (past : List Entry) (words : List ℕ) → is_restart (line_of (Said words)) ≡ false →
         series_so_far n (past ++ Said words ∷ []) ≡ with_time n past (now_at past (Said words)) (series_so_far n past) }
