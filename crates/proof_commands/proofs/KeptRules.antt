@@ -6,7 +6,6 @@ use Rattle.zw_text.specs.declared.entry.Entry.{Entry}
 use Rattle.s0_crypto.specs.declared.key_pair.Keys.{Keys}
 use Rattle.device_sim.specs.State.{State}
 use Rattle.run_all.specs.host_core.Network.{keys_of}
-use Rattle.s0_crypto.specs.Sealing.{keys_of as device_keys}
 use Rattle.law_transcript.specs.Answers.{AnswersLines}
 use Rattle.law_transcript.specs.Carrying.{CarriesUnits}
 use Rattle.law_transcript.specs.Headline.{IsAsMade}
@@ -40,16 +39,11 @@ use Rattle.proof_commands.proofs.Speaking.{all_done, all_said}
 use Rattle.proof_commands.proofs.Tables.{ends_whole, whole_said}
 use Rattle.proof_commands.proofs.Told.{ToldStory, fresh}
 
--- a session that changed a device had begun before, where the keys of the network are these
-abbrev pub BegunBy : (List ℕ → Keys) → Type 0
-BegunBy keys = (key : List ℕ) (devices : List State) (lines : List Spoken) →
-    let first = first_machine (keys key) (Some []) devices in
+-- a session that changed a device had begun before
+abbrev BegunBefore : Type 0
+BegunBefore = (key : List ℕ) (devices : List State) (lines : List Spoken) →
+    let first = first_machine (keys_of key) (Some []) devices in
     AllByRecursion (IsAsMade key) devices → AreApart devices → AreDone first lines → ChangesBegun (transcript_of first lines)
-
--- devices have the keys of the network
-pub as_network : BegunBy device_keys → BegunBy keys_of
-unfolding device_keys
-as_network begun = begun
 
 -- what is proved of stories, of lines and of transcripts
 pub record Keeping : Type 0 where
@@ -61,7 +55,7 @@ pub record Keeping : Type 0 where
   pub shown : (keys : Keys) (devices : List State) (lines : List Spoken) → AreDone (first_machine keys (Some []) devices) lines → AreApart devices
       → ShowsDevices devices (transcript_of (first_machine keys (Some []) devices) lines)
   pub whole : (m : Machine) (lines : List Spoken) → AreDone m lines → ArePieces (after_all m lines).outside.devices (transcript_of m lines)
-  pub begun : BegunBy keys_of
+  pub begun : BegunBefore
   pub lines : (T : List Entry) → AreLegible T → ShowLines T
   pub carries : (keys : Keys) (devices : List State) (lines : List Spoken) → AreDone (first_machine keys (Some []) devices) lines
       → CarriesUnits (transcript_of (first_machine keys (Some []) devices) lines)

@@ -1,8 +1,6 @@
 -- The lines of a story were said, and the headline is of lines that were said.
 use Rattle.std.proofs.Common.{◌≡◌, ℕ, List, [], ◌++◌, inl, inr, Some, Ok, ap, sym, subst, ◌∙◌}
 use Rattle.std.specs.List.{AllByRecursion}
-use Rattle.s0_crypto.specs.declared.key_pair.Keys.{Keys}
-use Rattle.s0_crypto.specs.Sealing.{keys_of as device_keys}
 use Rattle.device_kinds.specs.Kind.{lists}
 use Rattle.device_kinds.specs.declared.kind.Kind.{Kind}
 use Rattle.device_sim.specs.State.{State}
@@ -33,15 +31,10 @@ use Rattle.proof_commands.proofs.Told.{ToldStory, fresh}
 use Rattle.proof_commands.proofs.laws.stories_have_the_headline.Goals as goal
 
 -- which nodes are plain or of a lock, by the keys of the network
-abbrev AreBy : (List ℕ → Keys) → Type 0
-AreBy keys = (key : List ℕ) (devices : List State) (lines : List Line) (events : List Event) (node : ℕ) → AllByRecursion (IsAsMade key) devices →
-    AreLines lines (first_machine (keys key) (Some []) devices) events → MayAll (first_machine (keys key) (Some []) devices) events →
-    IsSupervisedNode devices node → IsPlainOrLock (keys key) devices events node
-
--- devices have the keys of the network
-as_network : AreBy device_keys → AreBy keys_of
-unfolding device_keys
-as_network are = are
+abbrev AreByKeys : Type 0
+AreByKeys = (key : List ℕ) (devices : List State) (lines : List Line) (events : List Event) (node : ℕ) → AllByRecursion (IsAsMade key) devices →
+    AreLines lines (first_machine (keys_of key) (Some []) devices) events → MayAll (first_machine (keys_of key) (Some []) devices) events →
+    IsSupervisedNode devices node → IsPlainOrLock (keys_of key) devices events node
 
 -- a node that may be asked is node 2, or has such a device
 askable_supervised : (devices : List State) (node : ℕ) → IsSupervisedNode devices first_node → IsAskable devices node → IsSupervisedNode devices node
@@ -52,7 +45,7 @@ askable_supervised devices node first_is (inr (device, found, knows)) = record {
 record Laws : Type 0 where
   again : (text : List ℕ) (line : Line) → line_at text ≡ Ok (Some line) → line_at (said_text text) ≡ Ok (Some line)
   unchanged : (key : List ℕ) (devices : List State) → AllByRecursion (IsAsMade key) devices → AreUnchanged devices
-  are : AreBy device_keys
+  are : AreByKeys
 
 -- a story over a keeper that tells its records and had none, with devices as their makers left them
 record Fair (key : List ℕ) (old : Around) (story : List Ran) : Type 0 where
@@ -66,7 +59,7 @@ module _ (laws : Laws) (key : List ℕ) (old : Around) (story : List Ran) (fair 
 
   plain_or_lock : (node : ℕ) → IsSupervisedNode old.devices node → IsPlainOrLock (keys_of key) old.devices (events_said (all_said story)) node
   plain_or_lock node supervised = subst (λ (events : List Event). IsPlainOrLock (keys_of key) old.devices events node) (sym (same_events story))
-      (as_network laws.are key old.devices (plain_lines story) (events_of story) node fair.made
+      (laws.are key old.devices (plain_lines story) (events_of story) node fair.made
       (story_lines (fresh key old) story fair.told.begun) fair.told.may supervised)
 
 -- ---- a story, and the story with what its last line did besides

@@ -2,7 +2,7 @@
 use Rattle.std.proofs.Common.{false, subst}
 use Rattle.run_lines.specs.declared.status.Status.{Status}
 use Rattle.proof_commands.specs.Sim.{Tells}
-use Rattle.proof_commands.proofs.KeptRules.{Keeping, answers, as_network}
+use Rattle.proof_commands.proofs.KeptRules.{Keeping, answers}
 use Rattle.proof_commands.proofs.ReadBack.{ReadingBack}
 use Rattle.proof_commands.proofs.sim.runs_are_in_order.Goals as goal
 
@@ -24,7 +24,7 @@ returns c = λ ended key old new is story unentered tells good.
       answered = c.lines_are_answered.ensures.whole;
       shown = λ keys devices lines are apart. c.lines_show_what_is_kept.ensures.devices keys devices lines false are (λ whole. absurd cc) apart;
       whole = c.changes_are_entered_whole.ensures;
-      begun = as_network c.sessions_begin_before_changes.ensures;
+      begun = c.sessions_begin_before_changes.ensures;
       lines = c.frames_keep_the_rule_of_the_air.ensures.legible;
       carries = c.lines_carry_units.ensures;
       stores = c.values_are_stored_directly.ensures;

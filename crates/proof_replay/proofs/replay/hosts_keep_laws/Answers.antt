@@ -10,14 +10,7 @@ use Rattle.proof_asking.specs.proof_requests.proof_alone.Runs.{Run, Told, ToldWh
 use Rattle.law_transcript.specs.Payloads.{BeginsWithUnit}
 use Rattle.law_wire.specs.Serial.{ended}
 use Rattle.proof_asking.specs.proof_known.Noted.{NotesAtOnce, NotesInTurn}
-use Rattle.s0_crypto.specs.Sealing.{keys_of as device_keys}
-use Rattle.host_core.specs.Network.{keys_of}
 use Rattle.proof_replay.proofs.replay.hosts_keep_laws.Goals as goal
-
--- host and device have the same keys of a network key
-same_keys : (key : List ℕ) → keys_of key ≡ device_keys key
-unfolding device_keys
-same_keys key = refl
 
 -- a law of runs, and of those that end at rest
 by_whole : (Law : Bool → List Entry → Type 0) (start : HostMachine) → ((heard : List Entry) → ToldWhole start heard → Law true heard) → ((heard : List Entry) → Told start heard → Law false heard)
@@ -48,12 +41,12 @@ returns c = λ keys whole here heard m run rests fine. record {
   holds = c.hosts_hold_as_asked.ensures keys heard (here, m, run);
   questions = c.hosts_answer_questions.ensures keys heard (here, m, run);
   interviews = c.hosts_end_interviews.ensures keys heard (here, m, run);
-  says_done = λ key same. c.hosts_say_how_done.ensures key heard (subst (λ (k : Keys). Told (first_alone k (Some [])) heard) (same ∙ same_keys key) (here, m, run));
+  says_done = λ key same. c.hosts_say_how_done.ensures key heard (subst (λ (k : Keys). Told (first_alone k (Some [])) heard) same (here, m, run));
   one_by_one = (c.hosts_ask_one_by_one.ensures.told keys heard (here, m, run)).0;
   numbered = (c.hosts_ask_one_by_one.ensures.told keys heard (here, m, run)).1;
   begins =
       by_whole (λ (b : Bool) (l : List Entry). BeginsWithUnit (ended b l)) (first_alone keys (Some [])) (c.hosts_ask_one_by_one.ensures.whole keys)
       (λ (l : List Entry) told. (c.hosts_ask_one_by_one.ensures.told keys l told).2) whole here heard m run rests;
   ticks = c.hosts_tell_time.ensures.counts keys (Some []) heard (here, m, run);
-  sends = λ key same. c.hosts_send_what_is_due.ensures.told key heard (subst (λ (k : Keys). Told (first_alone k (Some [])) heard) (same ∙ same_keys key) (here, m, run));
+  sends = λ key same. c.hosts_send_what_is_due.ensures.told key heard (subst (λ (k : Keys). Told (first_alone k (Some [])) heard) same (here, m, run));
 }
