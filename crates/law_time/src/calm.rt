@@ -21,7 +21,16 @@ ghost use Rattle.law_time.specs.WorkedWaits.{before_two, before_waking, calm_exc
 ghost use Rattle.law_time.specs.WrongStretches.{accepted_as_switch, sensors_from, sensors_join, sensors_work, woken_before_order, woken_twice};
 ghost use Rattle.law_time.specs.WrongWaits.{asleep_not_yet, left_in_time, reported_next, stretch_unwoken, unheard_acknowledgement};
 ghost use Rattle.law_wire.specs.law_transcript.Nodes.{always, listing_of};
-ghost use Rattle.law_wire.specs.law_transcript.Worked.{plain_exchange, sealed_exchange, sleeping_node, the_lock, the_sensor, the_switch, long_message, the_plug};
+ghost use Rattle.law_wire.specs.law_transcript.Worked.{
+  long_message,
+  plain_exchange,
+  sealed_exchange,
+  sleeping_node,
+  the_lock,
+  the_plug,
+  the_sensor,
+  the_switch,
+};
 ghost use Rattle.zw_text.specs.Transcript.{joined};
 ghost use Rattle.zw_text.specs.declared.entry.Entry.TheVariants.{Interviewed, Said};
 ghost use Rattle.law_time.specs.WorkedCalm.{

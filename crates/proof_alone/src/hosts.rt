@@ -42,9 +42,8 @@ pub fn lines_are_a_hosts()
     lines_keep_and_ask_well();
 }
 
-/// The walk by which it is so: at each phase of a line the machine is read as a host alone that such a run has led to, where both sides of the line are at rest as
-/// they tick, and write frames that the format carries. So what is known at each step of such runs is known of the
-/// host of the machine there.
+/// The walk by which it is so: at each phase of a line the machine is read as a host alone that such a run has led to, where both sides of the line are at
+/// rest as they tick, and write frames that the format carries. So what is known at each step of such runs is known of the host of the machine there.
 pub fn machines_are_read_as_hosts()
     ensures walk { (start : HostMachine) → WalkWhere IsFine Anything (ReadsMarked start) }
     ensures first { (keys : Keys) (records : Option (List (List ℕ))) (devices : List State) →

@@ -6,9 +6,9 @@
 //! (`hosts_show_what_they_keep`), its records are what is shown (`hosts_record_what_is_shown`), and each line has its answer (`hosts_answer_lines`). All of it
 //! is one record (`hosts_do_as_is_said`). What it notes of messages was told in what it judged (`hosts_note_what_was_told`), what a payload has first stands at
 //! once (`hosts_note_at_once`), and all values that it tells openly are noted in order (`hosts_note_values_in_turn`).
-//! The definitions are in `specs/Known` and `specs/Noted`. `proofs/Events` says which events a host alone does where; `Listing` and `Hearing` are of interviews,
-//! `Knowing`, `Saying`, `Telling`, `Showing`, `Recording`, `Answering`, `Noting` (over `Followers`), `AtOnce` and `InTurn` (over `ValuesLeft`, `Turning`) are the walks; `ForHost` is of what
-//! the host heard of a run.
+//! The definitions are in `specs/Known` and `specs/Noted`. `proofs/Events` says which events a host alone does where; `Listing` and `Hearing` are of
+//! interviews, `Knowing`, `Saying`, `Telling`, `Showing`, `Recording`, `Answering`, `Noting` (over `Followers`), `AtOnce` and `InTurn` (over `ValuesLeft`,
+//! `Turning`) are the walks; `ForHost` is of what the host heard of a run.
 #![tactic(auto)]
 
 mod answers;

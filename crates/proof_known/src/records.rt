@@ -16,7 +16,8 @@ use proof_transcript::spoken::tables_are_what_was_said;
 
 /// In any run of a host alone that ends at rest, over a keeper that tells its records and has none at first: its records are legal, and give exactly the
 /// orders that were accepted, the commands that were cancelled, the sessions with their final outcomes, and the joined and interviewed nodes that the
-/// transcript shows. So it is where a line was answered and no item was judged since, as after a restart (`Open`); and they give what each node listed, and whether it listens.
+/// transcript shows. So it is where a line was answered and no item was judged since, as after a restart (`Open`); and they give what each node listed, and
+/// whether it listens.
 pub fn hosts_record_what_is_shown()
     ensures told { (keys : Keys) (told : List Entry) (m : HostMachine) → Run (first_alone keys (Some [])) Resting told m →
         IfSome m.records (KeepsRecords told) }

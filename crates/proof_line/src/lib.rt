@@ -2,8 +2,8 @@
 //!
 //! Each is the contract of a function with an empty body, over lines that are said one after another (`world_lines`) and the events of the machine that each
 //! line is; the laws themselves are those of `law_wire`, or parts of them (`Pipes`), and each is proved on the walk of `proof_walk`. `marks_go_on`,
-//! `collisions_go_on`, `pipes_go_on`, `rooms_go_on`, `numbers_go_on` and `links_go_on` tie the machine to the transcript at each phase of a line; from them follow
-//! `lines_mark_units`, `lines_collide_when_asked`, `lines_overrun_only_when_full`, `lines_overrun_when_full`, `lines_clear_at_restarts`,
+//! `collisions_go_on`, `pipes_go_on`, `rooms_go_on`, `numbers_go_on` and `links_go_on` tie the machine to the transcript at each phase of a line; from them
+//! follow `lines_mark_units`, `lines_collide_when_asked`, `lines_overrun_only_when_full`, `lines_overrun_when_full`, `lines_clear_at_restarts`,
 //! `lines_clear_nowhere_else` and `ticks_are_told`.
 //! The definitions are in `specs/`: `Collisions`, `Marks`, `Pipes`, `Rooms` and `Times` (what is known of each at each phase of a line), `Arrivals`
 //! (what arrives of the units of a side since the host started), `Links` (what is known of the link of a side between two events of the line) and `Linked`
