@@ -10,10 +10,6 @@ some_there None P v known holds = absurd (known holds)
 some_there (Some x) P v known holds = ap Some known.1
 
 -- what holds is what an Err promises
-pub on_err : {A E : Type 0} (r : Result A E) (P : Type 0) → P → OnErr r P
-on_err (Ok value) P holds = tt
-on_err (Err fault) P holds = holds
-
 -- a record more, or none, is none fewer
 pub never_fewer : {E : Type 0} (r : Result Bool E) (n m : ℕ) → IfOk r (λ kept. m ≡ n + added kept) → OnErr r (m ≡ n) → n ≤ m
 never_fewer (Ok kept) n m more same = omega (arith, more)

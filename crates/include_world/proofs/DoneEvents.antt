@@ -1,5 +1,5 @@
 -- Events that are done: one, one after another, and a prefix of them.
-use Rattle.std.proofs.Common.{◌≡◌, ℕ, suc, ◌+◌, ◌-◌, ◌<◌, ◌≤◌, Option, Some, None, Result, Ok, Err, OnErr, List, [], ◌∷◌, ◌++◌, length, map, refl, ap, sym, subst, ◌∙◌, append_assoc, length-append, arith}
+use Rattle.std.proofs.Common.{◌≡◌, ℕ, suc, ◌+◌, ◌-◌, ◌<◌, ◌≤◌, Option, Some, None, Result, OnErr, List, [], ◌∷◌, ◌++◌, length, map, refl, ap, sym, subst, ◌∙◌, append_assoc, length-append, arith}
 use Rattle.std.proofs.lemmas.List.{append-nil, map-append}
 use Rattle.include_text.specs.declared.entry.IncludeEntry.{IncludeEntry}
 use Rattle.include_text.specs.declared.line.IncludeLine.{IncludeLine}
@@ -52,10 +52,6 @@ did_both xs ys a b c before mid all first more = record {
 }
 
 -- what holds holds at an error too
-pub on_err : {T E P : Type 0} (r : Result T E) → P → OnErr r P
-on_err (Ok x) p = tt
-on_err (Err e) p = p
-
 -- some events were done
 abbrev pub Some_did : WorldState → WorldState → List IncludeEntry → List IncludeEntry → Type 0
 Some_did old new before all = (events : List IncludeEvent) × Did events old new before all

@@ -301,10 +301,6 @@ not_refused x a b refusal none some =
     cc
 
 -- a fact holds of an error, if there is one
-pub on_err : {V E : Type 0} (r : Result V E) (P : Type 0) → P → OnErr r P
-on_err (Ok v) P holds = tt
-on_err (Err e) P holds = holds
-
 pub heard_within : (fate : Fate) (place count : ℕ) → fate ≡ AtDevice place → HearsWithin fate count → place < count
 heard_within fate place count is within = subst (λ (f : Fate). HearsWithin f count) is within
 

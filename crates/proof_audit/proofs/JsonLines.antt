@@ -10,7 +10,8 @@ use Rattle.serde_json.specs.Data.{Data, number, unsigned, string, array, Members
 use Rattle.serde_json.specs.View.{items_of}
 use Rattle.serde_json.specs.Written.{comma_if, compact_text, items_text, members_text}
 use Rattle.value_store.specs.declared.stored.Held.{Held}
-use Rattle.value_store.specs.ValueText.{held_data, property_text, value_data, values_text}
+use Rattle.zw_base.specs.PropertyWord.{property_word}
+use Rattle.value_store.specs.ValueText.{held_data, value_data, values_text}
 use Rattle.zw_text.specs.Fits.{feeds}
 use Rattle.zw_parse.proofs.Pieces.{Lacks, lacks-append}
 use Rattle.zw_parse.proofs.EntryLaws.{feeds-none as none_counted}
@@ -103,11 +104,11 @@ value_lacks (Some value) = number_lacks value
 
 held_lacks : (held : Held) → Lacks 10 (compact_text (held_data held))
 held_lacks held =
-    let property : Members = member (codes "property") (string (property_text held.property)) no_members in
+    let property : Members = member (codes "property") (string (property_word held.property)) no_members in
     let heard : Members = member (codes "heard") (value_data held.stored.heard) property in
     member_lacks false (codes "confirmed") (value_data held.stored.confirmed) heard (value_lacks held.stored.confirmed)
     (member_lacks true (codes "heard") (value_data held.stored.heard) property (value_lacks held.stored.heard)
-    (member_lacks true (codes "property") (string (property_text held.property)) no_members (quoted_lacks (property_text held.property)) refl))
+    (member_lacks true (codes "property") (string (property_word held.property)) no_members (quoted_lacks (property_word held.property)) refl))
 
 items_lack : (later : Bool) (helds : List Held) → Lacks 10 (items_text later (items_of (map held_data helds)))
 items_lack later [] = refl

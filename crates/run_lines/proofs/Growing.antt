@@ -18,11 +18,7 @@ pub prefix_any : {T E B : Type 0} (r : Result T E) (old more new : List B) → O
 prefix_any (Ok x) old more new all prefix = ([], sym all ∙ sym (append-nil new))
 prefix_any (Err e) old more new all prefix = prefix
 
--- what follows at an answer, and at an error
+-- what follows at an answer
 pub on_ok : {T E : Type 0} (r : Result T E) (P Q : Type 0) → (P → Q) → OnOk r P → OnOk r Q
 on_ok (Ok x) P Q f p = f p
 on_ok (Err e) P Q f p = tt
-
-pub on_err : {T E : Type 0} (r : Result T E) (P Q : Type 0) → (P → Q) → OnErr r P → OnErr r Q
-on_err (Ok x) P Q f p = tt
-on_err (Err e) P Q f p = f p

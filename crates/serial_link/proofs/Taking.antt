@@ -1,7 +1,6 @@
 -- Bytes that are taken one event after another.
 use Rattle.std.proofs.Common.{◌≡◌, ℕ, List, [], ◌∷◌, ◌++◌, refl, ap, sym, ◌∙◌, subst, append_assoc}
 use Rattle.std.proofs.lemmas.List.{append-nil}
-use Rattle.std.specs.Prelude.{Result, Ok, Err, OnErr}
 use Rattle.serial_frame.specs.Stream.{Reads, Rest, IsRest, Signal, piece_of, Feeds, GoesOn, ticks_after}
 use Rattle.serial_frame.specs.declared.item.Item.{Item}
 use Rattle.serial_frame.proofs.First.{one_reading}
@@ -98,11 +97,6 @@ takes-append a p b q c x y z first later =
           (subst (λ (t : List Step). KeepsRules a (piece_of p ++ piece_of q) t c) steps
           (keeps-append a (piece_of p) (heard_steps a.side first.items) b (piece_of q) (heard_steps b.side later.items) c first.rules later.rules));
     }
-
--- what holds is left by an error
-pub on_err : {T E P : Type 0} (r : Result T E) → P → OnErr r P
-on_err (Ok x) p = tt
-on_err (Err e) p = p
 
 same_link : (a b : LinkState) → a.decoder.bytes ≡ b.decoder.bytes → a.decoder.ticks ≡ b.decoder.ticks → a.side ≡ b.side → a ≡ b
 same_link a b bytes ticks side =

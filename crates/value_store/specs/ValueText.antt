@@ -1,29 +1,10 @@
 -- The values of a node as JSON (RFC 8259; the members and the words are this project's own rule).
-use Rattle.std.specs.Prelude.{ℕ, List, ◌++◌, Option, Some, None, map, codes, decimal}
+use Rattle.std.specs.Prelude.{ℕ, List, Option, Some, None, map, codes}
 use Rattle.serde_json.specs.Data.{Data, null, number, unsigned, string, array, object, member, no_members}
 use Rattle.serde_json.specs.View.{items_of}
 use Rattle.serde_json.specs.Written.{compact_text}
-use Rattle.zw_base.specs.declared.property.Name.{Name}
-use Rattle.zw_base.specs.declared.property.Name.TheVariants.{Switch, Level, Lock, Mode, Setpoint, Config, Member, Interval, Sensor, Battery}
-use Rattle.zw_base.specs.declared.property.Property.{Property}
+use Rattle.zw_base.specs.PropertyWord.{property_word}
 use Rattle.value_store.specs.declared.stored.Held.{Held}
-
--- a property's name, with a colon before each of its numbers
-abbrev pub name_text : Name → List ℕ
-name_text Switch = codes "switch"
-name_text Level = codes "level"
-name_text Lock = codes "lock"
-name_text Mode = codes "mode"
-name_text (Setpoint kind) = codes "setpoint:" ++ decimal kind
-name_text (Config parameter) = codes "config:" ++ decimal parameter
-name_text (Member group node) = codes "member:" ++ (decimal group ++ (codes ":" ++ decimal node))
-name_text Interval = codes "interval"
-name_text Sensor = codes "sensor"
-name_text Battery = codes "battery"
-
--- the end point, a slash and the name
-abbrev pub property_text : Property → List ℕ
-property_text property = decimal property.end ++ (codes "/" ++ name_text property.name)
 
 -- a value, or null where there is none
 abbrev pub value_data : Option ℕ → Data
@@ -35,7 +16,7 @@ abbrev pub held_data : Held → Data
 held_data held =
     object (member (codes "confirmed") (value_data held.stored.confirmed)
     (member (codes "heard") (value_data held.stored.heard)
-    (member (codes "property") (string (property_text held.property)) no_members)))
+    (member (codes "property") (string (property_word held.property)) no_members)))
 
 -- a node and its properties
 abbrev pub node_data : ℕ → List Held → Data

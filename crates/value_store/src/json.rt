@@ -2,12 +2,13 @@
 
 ghost use Rattle.std.specs.Prelude.{◌≡◌, IfOk, map, string_bytes};
 ghost use Rattle.serde_json.specs.View.{view};
-ghost use Rattle.value_store.specs.ValueText.{held_data, name_text, node_data, property_text, value_data, values_text};
+ghost use Rattle.zw_base.specs.PropertyWord.{property_word};
+ghost use Rattle.value_store.specs.ValueText.{held_data, node_data, value_data, values_text};
 
 use crate::stored::Held;
 use serde_json::{Value, json};
 use std::alloc::{AllocError, Global};
-use zw_base::{Bytes, Name, NoMemory, NodeId, Property};
+use zw_base::{Bytes, NoMemory, NodeId, Property};
 
 /// The text of a node and these properties.
 pub(crate) fn print(alloc: Global, node: NodeId, held: &[Held]) -> Result<Bytes, NoMemory>
@@ -54,29 +55,9 @@ fn value_or_null(value: Option<u32>) -> Value
 }
 
 fn show_property(alloc: Global, property: Property) -> Result<String, AllocError>
-    ensures { IfOk result (λ text. string_bytes text ≡ property_text property) }
+    ensures { IfOk result (λ text. string_bytes text ≡ property_word property) }
 {
-    let end = property.end.number();
-    let name = show_name(alloc, property.name)?;
-    format!(in alloc; "{end}/{name}")
-}
-
-fn show_name(alloc: Global, name: Name) -> Result<String, AllocError>
-    ensures { IfOk result (λ text. string_bytes text ≡ name_text name) }
-{
-    match name {
-        Name::Switch => String::from_str(alloc, "switch"),
-        Name::Level => String::from_str(alloc, "level"),
-        Name::Lock => String::from_str(alloc, "lock"),
-        Name::Mode => String::from_str(alloc, "mode"),
-        Name::Setpoint(kind) => format!(in alloc; "setpoint:{kind}"),
-        Name::Config(parameter) => format!(in alloc; "config:{parameter}"),
-        Name::Member(group, node) => {
-            let node = node.number();
-            format!(in alloc; "member:{group}:{node}")
-        }
-        Name::Interval => String::from_str(alloc, "interval"),
-        Name::Sensor => String::from_str(alloc, "sensor"),
-        Name::Battery => String::from_str(alloc, "battery"),
-    }
+    let mut text = String::new(alloc);
+    property.write(&mut text)?;
+    Ok(text)
 }

@@ -36,10 +36,6 @@ pub err_then : {T E P Q : Type 0} (r : Result T E) → OnErr r P → (P → Q) �
 err_then (Ok x) p go = tt
 err_then (Err e) p go = go p
 
-pub on_err : {T E P : Type 0} (r : Result T E) → P → OnErr r P
-on_err (Ok x) p = tt
-on_err (Err e) p = p
-
 -- nothing was done, for lack of memory
 pub stopped_still : (Prefix : Schedule) (keys keys' : Keys) (host host' : HostParts) (o o' : OuterState) (ds : List State) (r r' : Option (List (List ℕ))) (before all : List Entry) (f g : ℕ)
     → Prefix (machine keys host o r ds) [] → r' ≡ r → all ≡ before → f ≤ g → Stops Prefix (scene_of keys host o ds (shelf_of r f) before) (scene_of keys' host' o' ds (shelf_of r' g) all)

@@ -1,2 +1,3 @@
 pub mod CrcLemmas
 pub mod Each
+pub mod Results

@@ -21,6 +21,7 @@ mod payload;
 mod plain;
 mod profile;
 mod property;
+mod property_word;
 mod sequence;
 mod standard;
 

@@ -9,7 +9,8 @@ use Rattle.zw_text.specs.declared.entry.Refusal.{Refusal}
 use Rattle.zw_text.specs.declared.entry.Refusal.TheVariants.{NotJoined, NotInterviewed, Unsupported, BadValue, Unsupervised, TooLong, MailboxFull, StoreFull, Secured, QueueFull as QueueIsFull, AlreadyJoined, KeeperFault, NotWaiting, NeverSent, Forgotten, Stale, NoDevice, BadRecord}
 use Rattle.zw_text.specs.declared.entry.Entry.{Entry}
 use Rattle.zw_text.specs.declared.entry.Entry.TheVariants.{Said, Accepted, Refused, Begin, Written, Dropped, Garbled, Overrun, Air, Heard, Lost, Unheard, Dev, Forget, Out, Store, Report, Unstored, Old, Unread, Awake, Asleep, Interviewed, InterviewFailed, Done, Neighbours, Failed, ChipFull, QueueFull, Device, Json, Held, Cleared, Unkept, Time, TableEnd, TableNode, TableValue, BadLine}
-use Rattle.zw_text.specs.Entry.{by_word, ends_word, entry_text, entry_words, number_word, number_words, property_word, refusal_words}
+use Rattle.zw_base.specs.PropertyWord.{property_word}
+use Rattle.zw_text.specs.Entry.{by_word, ends_word, entry_text, entry_words, number_word, number_words, refusal_words}
 use Rattle.zw_text.specs.Fits.{AreBytes, EntryFits, IsEight, IsFour, IsNode, IsOneLine, RefusalFits, feeds}
 use Rattle.zw_parse.specs.Reading.{air_back, at, back, but_last, by_back, class_back, command_back, eight_back, fate_back, four_back, last_of, node_back, node_row_back, node_word_back, nodes_back, option_back, parts, payload_back, refusal_back, refused_back, setting_back, side_row_back, text_back, text_of, unit_back, valued_back, value_back}
 use Rattle.zw_parse.proofs.Pieces.{Lacks, Solid, all-lack, hex-back, hex-solid, lacks-append, number-lacks, number-solid, parts-at, parts-joined}

@@ -19,7 +19,8 @@ use Rattle.zw_text.specs.declared.entry.Ended.TheVariants.{Success, Fail, NoSupp
 use Rattle.zw_text.specs.declared.entry.Done.{Done as HowDone}
 use Rattle.zw_text.specs.declared.entry.Done.TheVariants.{Delivered, NoAck, Fail as DoneFail, NotIdle, NoRoute, Refused as DoneRefused, Silent, LinkFailed}
 use Rattle.zw_words.specs.Texts.{side_word}
-use Rattle.zw_text.specs.Entry.{by_word, done_word, ended_word, failed_word, fault_word, name_word, number_word, number_words, property_word}
+use Rattle.zw_base.specs.PropertyWord.{name_word, property_word}
+use Rattle.zw_text.specs.Entry.{by_word, done_word, ended_word, failed_word, fault_word, number_word, number_words}
 use Rattle.zw_text.specs.Fits.{ByFits, IsByte, IsEight, IsFour, IsNode, IsTwo, NameFits, OptionFits, PropertyFits, SettingFits}
 use Rattle.std.specs.Prelude.{unwrap_or}
 use Rattle.zw_words.proofs.FormLaws.{between_again, number_again}

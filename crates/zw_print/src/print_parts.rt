@@ -3,11 +3,12 @@
 ghost use Rattle.std.specs.Prelude.{◌≡◌, ◌∷◌, [], ◌++◌, IfOk, OnOk, codes, decimal, string_bytes};
 ghost use Rattle.std.specs.List.{join_with_byte};
 ghost use Rattle.hex.specs.Hex.{encode_upper};
+ghost use Rattle.zw_base.specs.PropertyWord.{property_word};
 ghost use Rattle.zw_words.specs.Texts.{side_word};
-ghost use Rattle.zw_text.specs.Entry.{by_word, done_word, ended_word, failed_word, fault_word, name_word, number_word, property_word, refusal_words};
+ghost use Rattle.zw_text.specs.Entry.{by_word, done_word, ended_word, failed_word, fault_word, number_word, refusal_words};
 
 use std::alloc::{AllocError, Global};
-use zw_base::{By, Bytes, Name, NoMemory, NodeId, Property, Setting};
+use zw_base::{By, Bytes, NoMemory, NodeId, Property, Setting};
 use zw_text::{Done, Ended, LineFault, Refusal, Side};
 
 /// A word, a space, bytes and an end.
@@ -161,7 +162,7 @@ pub fn print_setting_of(
     text.push_str(word)?;
     push_count(text, u64::from(node.number()))?;
     text.push_str(" ")?;
-    write_property(text, setting.property)?;
+    setting.property.write(text)?;
     push_count(text, u64::from(setting.value))
 }
 
@@ -176,7 +177,7 @@ pub fn print_property_of(
 {
     let node = node.number();
     write!(text, "{word} {node} ")?;
-    write_property(text, property)?;
+    property.write(text)?;
     Ok(())
 }
 
@@ -195,7 +196,7 @@ pub fn print_made(
     text.push_str(" ")?;
     write_by(text, by)?;
     text.push_str(" ")?;
-    write_property(text, setting.property)?;
+    setting.property.write(text)?;
     push_count(text, u64::from(setting.value))
 }
 
@@ -213,7 +214,7 @@ pub fn print_value(
 {
     let node = node.number();
     write!(text, "value {node} ")?;
-    write_property(text, property)?;
+    property.write(text)?;
     text.push_str(" confirmed ")?;
     write_number(text, confirmed)?;
     text.push_str(" heard ")?;
@@ -337,38 +338,6 @@ fn write_by(text: &mut String, by: By) -> Result<(), AllocError>
         By::Session(session) => write!(text, "{session}"),
         By::Local => text.push_str("local"),
         By::Plain => text.push_str("plain"),
-    }
-}
-
-fn write_property(text: &mut String, property: Property) -> Result<(), AllocError>
-    ensures { OnOk result (string_bytes text.new ≡ string_bytes text.old ++ property_word property) }
-{
-    let end = property.end.number();
-    write!(text, "{end}")?;
-    text.push_str("/")?;
-    write_name(text, property.name)
-}
-
-fn write_name(text: &mut String, name: Name) -> Result<(), AllocError>
-    ensures { OnOk result (string_bytes text.new ≡ string_bytes text.old ++ name_word name) }
-{
-    match name {
-        Name::Switch => text.push_str("switch"),
-        Name::Level => text.push_str("level"),
-        Name::Lock => text.push_str("lock"),
-        Name::Mode => text.push_str("mode"),
-        Name::Setpoint(kind) => write!(text, "setpoint:{kind}"),
-        Name::Config(parameter) => {
-            text.push_str("config:")?;
-            write!(text, "{parameter}")
-        }
-        Name::Member(group, member) => {
-            let member = member.number();
-            write!(text, "member:{group}:{member}")
-        }
-        Name::Interval => text.push_str("interval"),
-        Name::Sensor => text.push_str("sensor"),
-        Name::Battery => text.push_str("battery"),
     }
 }
 

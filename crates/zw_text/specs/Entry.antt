@@ -2,11 +2,9 @@
 use Rattle.std.specs.Prelude.{ℕ, Bool, true, false, List, [], ◌∷◌, ◌++◌, Option, Some, None, codes, decimal, map}
 use Rattle.std.specs.List.{flat_map, join_with_byte}
 use Rattle.hex.specs.Hex.{encode_upper}
-use Rattle.zw_base.specs.declared.property.Name.{Name}
-use Rattle.zw_base.specs.declared.property.Name.TheVariants.{Switch, Level, Lock, Mode, Setpoint, Config, Member, Interval, Sensor, Battery}
-use Rattle.zw_base.specs.declared.property.Property.{Property}
 use Rattle.zw_base.specs.declared.property.By.{By}
 use Rattle.zw_base.specs.declared.property.By.TheVariants.{Session, Local, Plain}
+use Rattle.zw_base.specs.PropertyWord.{property_word}
 use Rattle.zw_words.specs.declared.fault.LineFault.{LineFault}
 use Rattle.zw_words.specs.declared.fault.LineFault.TheVariants.{Unknown, Missing, Number, Extra, TooLong as LineTooLong}
 use Rattle.zw_words.specs.Texts.{side_word}
@@ -28,23 +26,6 @@ number_words (n ∷ ns) rest = decimal n ∷ map decimal ns ++ rest
 abbrev pub number_word : Option ℕ → List ℕ
 number_word None = codes "-"
 number_word (Some n) = decimal n
-
--- a property's name, with a colon before each of its numbers
-abbrev pub name_word : Name → List ℕ
-name_word Switch = codes "switch"
-name_word Level = codes "level"
-name_word Lock = codes "lock"
-name_word Mode = codes "mode"
-name_word (Setpoint kind) = codes "setpoint:" ++ decimal kind
-name_word (Config parameter) = codes "config:" ++ decimal parameter
-name_word (Member group node) = codes "member:" ++ (decimal group ++ (codes ":" ++ decimal node))
-name_word Interval = codes "interval"
-name_word Sensor = codes "sensor"
-name_word Battery = codes "battery"
-
--- the end point, a slash and the name
-abbrev pub property_word : Property → List ℕ
-property_word property = decimal property.end ++ (codes "/" ++ name_word property.name)
 
 -- what made a change: the number of the session, or a word
 abbrev pub by_word : By → List ℕ

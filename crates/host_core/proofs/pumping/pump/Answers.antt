@@ -1,5 +1,5 @@
 -- Nodes are let sleep, and then requests are submitted.
-use Rattle.serial_link.proofs.Taking.{on_err}
+use Rattle.zw_base.proofs.Results.{on_err}
 use Rattle.host_model.specs.Pumping.{LetsSleep}
 use Rattle.host_step_bytes.specs.Calls.{Scene, scene}
 use Rattle.host_step_bytes.proofs.CallLists.{then_stops}

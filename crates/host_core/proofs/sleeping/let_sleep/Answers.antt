@@ -1,6 +1,6 @@
 -- The next node is told, or none is left.
 use Rattle.std.proofs.Common.{◌≡◌, refl, ap, sym, subst, ◌∙◌, ◌<◌}
-use Rattle.serial_link.proofs.Taking.{on_err}
+use Rattle.zw_base.proofs.Results.{on_err}
 use Rattle.host_model.specs.State.{HostState, HostParts}
 use Rattle.std.specs.Prelude.{Some, None}
 use Rattle.host_node.specs.Search.{first_wanting}

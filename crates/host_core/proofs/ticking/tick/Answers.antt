@@ -1,6 +1,6 @@
 -- A prefix of the ticks of line, request and nodes, or all of them.
 use Rattle.std.proofs.Common.{[], ◌∷◌, ap, ◌∙◌}
-use Rattle.serial_link.proofs.Taking.{on_err}
+use Rattle.zw_base.proofs.Results.{on_err}
 use Rattle.host_model.specs.State.{HostParts}
 use Rattle.host_model.specs.Events.{Line_ticks}
 use Rattle.host_model.specs.Ticking.{first_ticks}

@@ -1,6 +1,6 @@
 -- The next node is ticked, or none is left.
 use Rattle.std.proofs.Common.{ℕ, arith, refl, ap, sym, subst, ◌∙◌}
-use Rattle.serial_link.proofs.Taking.{on_err}
+use Rattle.zw_base.proofs.Results.{on_err}
 use Rattle.host_model.specs.State.{HostParts}
 use Rattle.host_step_bytes.specs.Calls.{Are}
 use Rattle.host_core.proofs.Loops.{TicksSoFar, none_so_far, one_more_so_far, all_so_far, ticked_next}

@@ -12,7 +12,7 @@ use Rattle.host_model.specs.State.{HostState, Command}
 use Rattle.host_model.specs.May.{known_of}
 use Rattle.host_model.proofs.Accepted.{accepted_has_place}
 use Rattle.host_model.specs.Asking.{carriage_for}
-use Rattle.host_parts.proofs.Answered.{on_err}
+use Rattle.zw_base.proofs.Results.{on_err}
 use Rattle.host_parts.proofs.Judged.{taken, taken_back, released, may_be_accepted, taken_command, accepted_state, same_parts, judged_by_store, judged_by_keeper}
 use Rattle.host_parts.proofs.accepting.accept_judged.Goals as goal
 
@@ -28,7 +28,7 @@ returns-in_err-copy-clause-judges g c = λ (h : HostState).
 
 pub returns-in_err-copy-clause-err : goal.returns-in_err-copy-clause-err
 returns-in_err-copy-clause-err g c = λ (h : HostState).
-    on_err c.from_residual.result _
+    on_err c.from_residual.result
     (same_parts h c.prepare.new.nodes c.args.nodes.now c.prepare.new.commands.items c.args.commands.now.items c.prepare.new.store c.args.store.now c.in_err-copy.ensures.err.0 c.prepare.ensures.commands c.in_err-copy.ensures.err.1)
 
 pub returns-in-Err-clause-judges : goal.returns-in-Err-clause-judges

@@ -1,6 +1,6 @@
 -- Bytes are taken item by item.
 use Rattle.std.proofs.Common.{refl, ◌∙◌, arith}
-use Rattle.serial_link.proofs.Taking.{on_err}
+use Rattle.zw_base.proofs.Results.{on_err}
 use Rattle.host_step_bytes.specs.Calls.{Scene, scene}
 use Rattle.host_step_bytes.proofs.Pieces.{nothing_so_far, item_so_far, all_fed, prefix_fed}
 use Rattle.host_step_bytes.proofs.judging.feed.Goals as goal

@@ -1,6 +1,6 @@
 -- An item is answered, and then followed.
 use Rattle.std.proofs.Common.{refl, ap}
-use Rattle.serial_link.proofs.Taking.{on_err}
+use Rattle.zw_base.proofs.Results.{on_err}
 use Rattle.host_model.specs.State.{HostParts}
 use Rattle.host_model.proofs.EventLists.{none_added}
 use Rattle.std.proofs.Common.{arith, [], ◌∷◌}

@@ -1,6 +1,6 @@
 -- The first item is judged, or all bytes are unfinished.
 use Rattle.std.proofs.Common.{refl, ap, subst, arith}
-use Rattle.serial_link.proofs.Taking.{on_err}
+use Rattle.zw_base.proofs.Results.{on_err}
 use Rattle.serial_frame.specs.Stream.{Rest, IsRest}
 use Rattle.host_model.specs.State.{HostState, HostParts}
 use Rattle.host_model.specs.Taking.{IsJudged}

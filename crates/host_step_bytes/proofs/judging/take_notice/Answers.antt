@@ -1,7 +1,7 @@
 -- A notice that can be read.
 use Rattle.std.proofs.Common.{refl, arith}
 use Rattle.std.specs.Prelude.{Ok}
-use Rattle.serial_link.proofs.Taking.{on_err}
+use Rattle.zw_base.proofs.Results.{on_err}
 use Rattle.host_model.proofs.EventLists.{none_added}
 use Rattle.host_step_bytes.specs.Calls.{Scene, scene}
 use Rattle.host_step_bytes.proofs.CallLists.{stops_at_once}

@@ -1,6 +1,6 @@
 -- A payload, a callback or an update.
 use Rattle.std.proofs.Common.{List, [], refl, ap, arith}
-use Rattle.serial_link.proofs.Taking.{on_err}
+use Rattle.zw_base.proofs.Results.{on_err}
 use Rattle.host_model.specs.State.{HostParts}
 use Rattle.host_model.specs.Events.{HostEvent}
 use Rattle.host_model.proofs.EventLists.{none_added}

@@ -2,7 +2,7 @@
 use Rattle.std.proofs.Common.{rules, ◌≡◌, List, [], ◌∷◌, refl, ap, sym, ◌∙◌, subst, arith}
 use Rattle.std.specs.Prelude.{true, false}
 use Rattle.zw_base.specs.declared.property.Setting.{Setting}
-use Rattle.serial_link.proofs.Taking.{on_err}
+use Rattle.zw_base.proofs.Results.{on_err}
 use Rattle.host_heard.specs.declared.told.Told.{Told}
 use Rattle.host_model.specs.State.{HostParts, node_of}
 use Rattle.host_model.specs.Events.{Unreads, Notifies}

@@ -1,6 +1,6 @@
 -- Sealed, or unread.
 use Rattle.std.proofs.Common.{refl, sym, ◌∙◌, arith}
-use Rattle.serial_link.proofs.Taking.{on_err}
+use Rattle.zw_base.proofs.Results.{on_err}
 use Rattle.host_model.proofs.EventLists.{none_added}
 use Rattle.host_step_bytes.specs.Calls.{Scene, scene}
 use Rattle.host_step_bytes.proofs.CallLists.{stops_at_once}

@@ -1,6 +1,6 @@
 -- A nonce is not taken, or a plain text is sealed to it.
 use Rattle.std.proofs.Common.{rules, refl, ap, sym, ◌∙◌, arith}
-use Rattle.serial_link.proofs.Taking.{on_err}
+use Rattle.zw_base.proofs.Results.{on_err}
 use Rattle.host_model.specs.State.{HostParts}
 use Rattle.host_model.proofs.EventLists.{none_added}
 use Rattle.host_step_bytes.specs.Calls.{Scene, scene}

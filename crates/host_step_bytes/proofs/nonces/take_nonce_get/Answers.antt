@@ -1,6 +1,6 @@
 -- The live nonce is offered, or a new one is given.
 use Rattle.std.proofs.Common.{rules, ap, sym, ◌∙◌, arith}
-use Rattle.serial_link.proofs.Taking.{on_err}
+use Rattle.zw_base.proofs.Results.{on_err}
 use Rattle.host_model.specs.State.{HostParts}
 use Rattle.host_model.proofs.EventLists.{none_added}
 use Rattle.host_step_bytes.specs.Calls.{Scene, scene}

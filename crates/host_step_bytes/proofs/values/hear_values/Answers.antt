@@ -1,6 +1,6 @@
 -- One value after another.
 use Rattle.std.proofs.Common.{◌≡◌, List, [], refl, ap, ◌∙◌, subst, arith}
-use Rattle.serial_link.proofs.Taking.{on_err}
+use Rattle.zw_base.proofs.Results.{on_err}
 use Rattle.host_model.specs.State.{HostParts}
 use Rattle.host_step_bytes.specs.Calls.{DoesAlone, Are}
 use Rattle.host_step_bytes.proofs.CallLists.{nothing_alone, stops_alone, alone_then_stops}

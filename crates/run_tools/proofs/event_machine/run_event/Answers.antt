@@ -4,7 +4,7 @@ use Rattle.event_flow.specs.Steps.{entries}
 use Rattle.run_lines.proofs.Pieces.{OnErr-always}
 use Rattle.run_tools.specs.Events.{entry_line, line_pieces, said_line}
 use Rattle.run_tools.proofs.EventPieces.{all_left, first_there, leading_following}
-use Rattle.run_lines.proofs.Growing.{on_err}
+use Rattle.std.proofs.lemmas.Result.{on_err_weaker}
 use Rattle.run_tools.proofs.event_machine.run_event.Goals as goal
 
 pub returns-in_err-said_line-clause-prefix : goal.returns-in_err-said_line-clause-prefix
@@ -23,6 +23,6 @@ pub returns-clause-prefix : goal.returns-clause-prefix
 returns-clause-prefix c =
     let same : c.as_slice.result.now ≡ entries c.args.world.now c.args.line.now =
     c.as_slice.ensures ∙ c.in_ok-step.ensures.entries ∙ ap (λ (es : List EventEntry). es ++ entries c.args.world.now c.args.line.now) c.new-entries.ensures in
-    on_err _ _ _ (leading_following c.args.out.now.items c.push.new.self.items c.add_entries.new.out.items (map entry_line (entries c.args.world.now c.args.line.now)) (said_line c.args.line.now) c.requires
+    on_err_weaker _ (leading_following c.args.out.now.items c.push.new.self.items c.add_entries.new.out.items (map entry_line (entries c.args.world.now c.args.line.now)) (said_line c.args.line.now) c.requires
     (c.in_ok-push.ensures.ok ∙ ap (λ (piece : List ℕ). c.args.out.now.items ++ piece ∷ []) c.in_ok-said_line.ensures))
     (subst (λ (es : List EventEntry). OnErr c.add_entries.result ((rest : List (List ℕ)) × (c.push.new.self.items ++ map entry_line es ≡ c.add_entries.new.out.items ++ rest))) same c.add_entries.ensures.prefix)

@@ -1,6 +1,6 @@
 use Rattle.std.proofs.Common.{ℕ, List, [], ◌++◌, refl, ap, sym, ◌∙◌, subst, append_assoc}
 use Rattle.std.proofs.lemmas.List.{append-nil}
-use Rattle.serial_link.proofs.Taking.{on_err}
+use Rattle.zw_base.proofs.Results.{on_err}
 use Rattle.chip_sim.specs.State.{ChipParts}
 use Rattle.chip_sim.specs.Did.{Fed}
 use Rattle.chip_sim.specs.declared.out.ChipOut.{ChipOut}

@@ -1,5 +1,5 @@
 -- A tick asks no keeper.
-use Rattle.serial_link.proofs.Taking.{on_err}
+use Rattle.zw_base.proofs.Results.{on_err}
 use Rattle.host_keep.specs.Keeping.{Shelf}
 use Rattle.std.proofs.Common.{◌≡◌}
 use Rattle.host_core.proofs.Loops.{tick_seen, tick_stops_seen}

@@ -1,4 +1,5 @@
-use Rattle.include_world.proofs.DoneEvents.{on_err, nothing_at, line_of_calls, stopped_ticking}
+use Rattle.zw_base.proofs.Results.{on_err}
+use Rattle.include_world.proofs.DoneEvents.{nothing_at, line_of_calls, stopped_ticking}
 use Rattle.include_world.proofs.world.IncludeWorld.run_line.Goals as goal
 
 pub returns-in_err-say-clause-err : goal.returns-in_err-say-clause-err

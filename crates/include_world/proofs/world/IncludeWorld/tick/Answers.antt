@@ -1,4 +1,5 @@
-use Rattle.include_world.proofs.DoneEvents.{on_err, nothing_at, tick_of, stopped_delivering, stopped_ending}
+use Rattle.zw_base.proofs.Results.{on_err}
+use Rattle.include_world.proofs.DoneEvents.{nothing_at, tick_of, stopped_delivering, stopped_ending}
 use Rattle.include_world.proofs.world.IncludeWorld.tick.Goals as goal
 
 pub returns-in_err-pass-clause-err : goal.returns-in_err-pass-clause-err

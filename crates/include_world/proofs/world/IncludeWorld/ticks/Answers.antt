@@ -1,5 +1,6 @@
 use Rattle.std.proofs.Common.{arith}
-use Rattle.include_world.proofs.DoneEvents.{on_err, not_ticked, ticked_more, all_ticked, some_then}
+use Rattle.zw_base.proofs.Results.{on_err}
+use Rattle.include_world.proofs.DoneEvents.{not_ticked, ticked_more, all_ticked, some_then}
 use Rattle.include_world.proofs.world.IncludeWorld.ticks.Goals as goal
 
 pub loop-init : goal.loop-init

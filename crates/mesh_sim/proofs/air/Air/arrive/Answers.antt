@@ -1,6 +1,7 @@
 use Rattle.std.proofs.Common.{◌<◌, length, inl, refl, rules}
 use Rattle.mesh_sim.proofs.Lists.{seen_at, seen_set}
-use Rattle.mesh_sim.proofs.StepLists.{lost_did, dead_did, missed_did, chip_did, device_did, device_stops, device_is_cut, heard_within, on_err}
+use Rattle.zw_base.proofs.Results.{on_err}
+use Rattle.mesh_sim.proofs.StepLists.{lost_did, dead_did, missed_did, chip_did, device_did, device_stops, device_is_cut, heard_within}
 use Rattle.mesh_sim.proofs.air.Air.arrive.Goals as goal
 
 pub returns-in-Lost-clause-ok : goal.returns-in-Lost-clause-ok
@@ -38,16 +39,16 @@ returns-in-AtDevice-clause-err g c =
     c.arrive_at_device.ensures.err c.arrive_at_device.ensures.no_outs c.arrive_at_device.ensures.cut
 
 pub returns-in-Lost-clause-cut : goal.returns-in-Lost-clause-cut
-returns-in-Lost-clause-cut g c = on_err c.pass.result _ (inl refl)
+returns-in-Lost-clause-cut g c = on_err c.pass.result (inl refl)
 
 pub returns-in-Dead-clause-cut : goal.returns-in-Dead-clause-cut
-returns-in-Dead-clause-cut g c = on_err c.pass-in-Dead.result _ (inl refl)
+returns-in-Dead-clause-cut g c = on_err c.pass-in-Dead.result (inl refl)
 
 pub returns-in-Missed-clause-cut : goal.returns-in-Missed-clause-cut
-returns-in-Missed-clause-cut g c = on_err c.pass-in-Missed.result _ (inl refl)
+returns-in-Missed-clause-cut g c = on_err c.pass-in-Missed.result (inl refl)
 
 pub returns-in-AtChip-clause-cut : goal.returns-in-AtChip-clause-cut
-returns-in-AtChip-clause-cut g c = on_err c.arrive_at_chip.result _ (inl refl)
+returns-in-AtChip-clause-cut g c = on_err c.arrive_at_chip.result (inl refl)
 
 pub returns-in-AtDevice-clause-cut : goal.returns-in-AtDevice-clause-cut
 returns-in-AtDevice-clause-cut g c =

@@ -1,5 +1,6 @@
 use Rattle.std.proofs.Common.{refl, ◌∙◌}
-use Rattle.mesh_sim.proofs.StepLists.{none_arrived, one_arrived, stop_then, on_err}
+use Rattle.zw_base.proofs.Results.{on_err}
+use Rattle.mesh_sim.proofs.StepLists.{none_arrived, one_arrived, stop_then}
 use Rattle.mesh_sim.proofs.air.Air.deliver.Goals as goal
 
 pub loop-init : goal.loop-init
@@ -13,4 +14,4 @@ loop-preserved g c = record {
 
 pub returns-in_err-arrive-clause-err : goal.returns-in_err-arrive-clause-err
 returns-in_err-arrive-clause-err g c =
-    on_err _ _ (stop_then c.loop.invariant.arrived.steps _ _ _ _ _ _ _ _ _ c.loop.invariant.arrived.arrivals c.loop.invariant.arrived.did c.in_err-arrive.ensures.err)
+    on_err _ (stop_then c.loop.invariant.arrived.steps _ _ _ _ _ _ _ _ _ c.loop.invariant.arrived.arrivals c.loop.invariant.arrived.did c.in_err-arrive.ensures.err)

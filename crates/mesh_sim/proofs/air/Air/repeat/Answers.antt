@@ -1,5 +1,6 @@
 use Rattle.std.proofs.Common.{[], None, refl}
-use Rattle.mesh_sim.proofs.StepLists.{blank, chip_again, device_again, device_again_cut, on_err, not_refused}
+use Rattle.zw_base.proofs.Results.{on_err}
+use Rattle.mesh_sim.proofs.StepLists.{blank, chip_again, device_again, device_again_cut, not_refused}
 use Rattle.mesh_sim.proofs.air.Air.repeat.Goals as goal
 
 pub returns-in_ok-enter_at_chip-in-Homeward-clause-ok : goal.returns-in_ok-enter_at_chip-in-Homeward-clause-ok
@@ -13,7 +14,7 @@ returns-in_ok-repeat_outward-in-Outward-clause-ok g c =
 
 pub returns-in_err-repeat_outward-in-Outward-clause-cut : goal.returns-in_err-repeat_outward-in-Outward-clause-cut
 returns-in_err-repeat_outward-in-Outward-clause-cut g c =
-    on_err _ _ (device_again_cut c.args.self.now.state c.repeat_outward.new.self.state _ _ c.args.frame _ _ _ _ [] None c.args.out.now.items c.repeat_outward.new.out.items c.in_ok-heading.ensures c.in-Outward.is c.in_err-repeat_outward-in-Outward.ensures.cut)
+    on_err _ (device_again_cut c.args.self.now.state c.repeat_outward.new.self.state _ _ c.args.frame _ _ _ _ [] None c.args.out.now.items c.repeat_outward.new.out.items c.in_ok-heading.ensures c.in-Outward.is c.in_err-repeat_outward-in-Outward.ensures.cut)
 
 pub returns-in_ok-repeat_outward-in-Outward-clause-still : goal.returns-in_ok-repeat_outward-in-Outward-clause-still
 returns-in_ok-repeat_outward-in-Outward-clause-still g c = λ refusal is. not_refused _ _ _ refusal c.in_ok-heading.ensures.allowed is

@@ -1,6 +1,6 @@
 use Rattle.std.proofs.Common.{[], ◌-◌, refl, ap, arith, ◌∙◌}
 use Rattle.outside_model.specs.State.{OuterState}
-use Rattle.mesh_sim.proofs.StepLists.{on_err}
+use Rattle.zw_base.proofs.Results.{on_err}
 use Rattle.outside_calls.proofs.Counted.{arrivals, ran_more, ran_all, ran_stops}
 use Rattle.outside_model.proofs.EventLists.{ran_nothing}
 use Rattle.outside_calls.proofs.Landing.{arrive_moves}
@@ -21,7 +21,7 @@ loop-preserved g c =
     }
 
 pub returns-in_err-arrive-clause-err : goal.returns-in_err-arrive-clause-err
-returns-in_err-arrive-clause-err g c = on_err c.from_residual.result _
+returns-in_err-arrive-clause-err g c = on_err c.from_residual.result
     (ran_stops arrivals c.loop.counter _ _ _ _ _ _ _ (omega (arith, ap (λ (o : OuterState). o.air.frames.sent - o.air.frames.landed) c.self.view_is)) c.loop.invariant.runs c.in_err-arrive.ensures.err)
 
 pub returns-clause-ok : goal.returns-clause-ok

@@ -1,12 +1,12 @@
 use Rattle.std.proofs.Common.{[]}
 use Rattle.mesh_sim.proofs.Lists.{seen_at, seen_set}
 use Rattle.device_sim.specs.Event.{Ticks}
-use Rattle.mesh_sim.proofs.StepLists.{on_err}
+use Rattle.zw_base.proofs.Results.{on_err}
 use Rattle.outside_calls.proofs.Moves.{moved, acted_at, acted_enters}
 use Rattle.outside_calls.proofs.outside.Outside.tick_at.Goals as goal
 
 pub returns-in_err-tick_one-clause-err : goal.returns-in_err-tick_one-clause-err
-returns-in_err-tick_one-clause-err g c = rw (← c.self.view_is) (on_err c.from_residual.result _
+returns-in_err-tick_one-clause-err g c = rw (← c.self.view_is) (on_err c.from_residual.result
     (acted_at c.self.inside.core _ _ c.args.place _ _ (Ticks [])
     (seen_at _ c.args.devices.now.items c.args.place c.index_mut.result.now c.requires.within c.index_mut.ensures.value)
     (seen_set _ c.args.devices.now.items c.args.place c.tick_one.new.device) c.in_err-tick_one.ensures.err))

@@ -1,5 +1,5 @@
 use Rattle.std.proofs.Common.{[], refl, arith, ◌∙◌}
-use Rattle.mesh_sim.proofs.StepLists.{on_err}
+use Rattle.zw_base.proofs.Results.{on_err}
 use Rattle.outside_model.specs.State.{outside}
 use Rattle.outside_model.specs.Did.{PrefixOf}
 use Rattle.outside_model.specs.Schedules.{DeviceTicks}
@@ -10,7 +10,7 @@ use Rattle.outside_calls.proofs.Moves.{tick_runs, tick_stops}
 use Rattle.outside_calls.proofs.outside.Outside.tick_devices.Goals as goal
 
 pub returns-in_err-replies-clause-err : goal.returns-in_err-replies-clause-err
-returns-in_err-replies-clause-err g c = on_err c.from_residual.result _
+returns-in_err-replies-clause-err g c = on_err c.from_residual.result
     (stops_now (PrefixOf (DeviceTicks 0 _)) (outside _ _) _ _ _ (device_ticks.some 0 _) refl refl)
 
 pub loop-place-init : goal.loop-place-init
@@ -24,7 +24,7 @@ loop-place-preserved g c = record {
 }
 
 pub returns-in_err-tick_at-clause-err : goal.returns-in_err-tick_at-clause-err
-returns-in_err-tick_at-clause-err g c = on_err c.from_residual-in_err-tick_at.result _
+returns-in_err-tick_at-clause-err g c = on_err c.from_residual-in_err-tick_at.result
     (ran_stops device_ticks c.loop-place.place _ _ _ _ _ _ _ (omega arith) c.loop-place.invariant.runs (tick_stops _ _ _ c.loop-place.place _ _ _ c.in_err-tick_at.ensures.err c.in_err-tick_at.ensures.no_entries))
 
 pub returns-clause-ok : goal.returns-clause-ok

@@ -1,6 +1,7 @@
 use Rattle.std.proofs.Common.{◌≡◌, subst, List, ℕ, [], OnErr, OnOk}
 use Rattle.run_lines.proofs.Pieces.{OnErr-always}
-use Rattle.run_lines.proofs.Growing.{prefix_any, on_ok, on_err}
+use Rattle.std.proofs.lemmas.Result.{on_err_weaker}
+use Rattle.run_lines.proofs.Growing.{prefix_any, on_ok}
 use Rattle.include_world.specs.World.{WorldState}
 use Rattle.run_include.specs.Run.{AnswersLine, StopsLine, pieces_of}
 use Rattle.run_include.proofs.IncludeRun.{answers_line, stops_line}
@@ -21,6 +22,6 @@ returns-clause-ok g c =
 
 pub returns-clause-err : goal.returns-clause-err
 returns-clause-err g c =
-    on_err _ _ _ (λ prefix. subst (λ (w : WorldState). StopsLine c.args.text.now c.args.line.now w c.step-stepped.new.self c.add_entries-added.new.out.items) c.self.view_is
+    on_err_weaker _ (λ prefix. subst (λ (w : WorldState). StopsLine c.args.text.now c.args.line.now w c.step-stepped.new.self c.add_entries-added.new.out.items) c.self.view_is
     (stops_line c.args.text.now c.args.line.now c.self.inside.world c.step-stepped.new.self _ c.step-stepped.new.out.items c.as_slice.result.now _ c.add_entries-added.new.out.items
     c.new-entries.ensures c.as_slice.ensures c.requires c.in_ok-stepped.ensures.added (c.in_ok-stepped.ensures.ok.0, c.in_ok-stepped.ensures.ok.2) prefix)) c.add_entries-added.ensures.prefix

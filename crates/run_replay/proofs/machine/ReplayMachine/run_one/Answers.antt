@@ -2,7 +2,8 @@ use Rattle.std.proofs.Common.{refl, subst}
 use Rattle.std.specs.Prelude.{Some, Ok, false}
 use Rattle.run_lines.proofs.Pieces.{OnErr-always}
 use Rattle.run_lines.specs.Pieces.{pieces_of}
-use Rattle.run_lines.proofs.Growing.{prefix_any, on_ok, on_err}
+use Rattle.std.proofs.lemmas.Result.{on_err_weaker}
+use Rattle.run_lines.proofs.Growing.{prefix_any, on_ok}
 use Rattle.run_replay.specs.Machine.{ReplayState}
 use Rattle.run_replay.specs.Replay.{AnswersLine, StopsLine, point_of}
 use Rattle.run_replay.proofs.ReplayRun.{answers_line, stops_line, no_line, part_of, said_is}
@@ -29,5 +30,5 @@ returns-clause-ok g c =
 
 pub returns-clause-err : goal.returns-clause-err
 returns-clause-err g c =
-    on_err _ _ _ (λ prefix. subst (λ (w : ReplayState). StopsLine c.args.text.now c.args.line.now (point_of w (g.P.Keeper.shelf c.args.keeper.now)) (point_of c.step-stepped.new.self (g.P.Keeper.shelf c.step-stepped.new.keeper)) c.add_entries-added.new.out.items) c.self.view_is
+    on_err_weaker _ (λ prefix. subst (λ (w : ReplayState). StopsLine c.args.text.now c.args.line.now (point_of w (g.P.Keeper.shelf c.args.keeper.now)) (point_of c.step-stepped.new.self (g.P.Keeper.shelf c.step-stepped.new.keeper)) c.add_entries-added.new.out.items) c.self.view_is
     (stops_line c.args.text.now c.args.line.now (point_of c.self.inside.replay (g.P.Keeper.shelf c.args.keeper.now)) (point_of c.step-stepped.new.self (g.P.Keeper.shelf c.step-stepped.new.keeper)) c.push.new.self.items c.step-stepped.new.out.items c.as_slice.result.now c.args.out.now.items c.add_entries-added.new.out.items (said_is c.args.text.now c.args.line.now c.new-entries.result.items c.push.new.self.items c.in_ok-said_entry.field-0 c.new-entries.ensures c.in_ok-said_entry.ensures c.in_ok-push.ensures.ok) c.as_slice.ensures c.requires.empty (part_of c.args.line.now _ _ c.in_ok-stepped.ensures.ok) prefix)) c.add_entries-added.ensures.prefix

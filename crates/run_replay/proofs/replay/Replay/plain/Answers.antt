@@ -1,5 +1,5 @@
 -- So many ticks, or the line's effect and a pump.
-use Rattle.serial_link.proofs.Taking.{on_err}
+use Rattle.zw_base.proofs.Results.{on_err}
 use Rattle.run_replay.proofs.Steps.{ticks_as, plain_done, plain_stops}
 use Rattle.run_replay.proofs.replay.Replay.plain.Goals as goal
 

@@ -1,7 +1,7 @@
 -- A line that scenarios have too, or bytes of the chip and a pump.
 use Rattle.std.proofs.Common.{ℕ, List, ap, sym, ◌∙◌}
 use Rattle.zw_text.specs.declared.line.ReplayLine.TheVariants.{Chip}
-use Rattle.serial_link.proofs.Taking.{on_err}
+use Rattle.zw_base.proofs.Results.{on_err}
 use Rattle.run_replay.proofs.Steps.{plain_is, line_as, chip_done, chip_stops}
 use Rattle.run_replay.proofs.replay.Replay.step.Goals as goal
 

@@ -5,7 +5,7 @@ use Rattle.run_replay.specs.Machine.{ReplayState, Does, scene}
 use Rattle.run_replay.specs.Lines.{IsTick}
 use Rattle.run_replay.specs.contracts.replay.Replay.{the_view}
 use Rattle.run_replay.proofs.EventLists.{stopped_still}
-use Rattle.serial_link.proofs.Taking.{on_err}
+use Rattle.zw_base.proofs.Results.{on_err}
 use Rattle.run_replay.proofs.Hosting.{call_stops, tick_done, tick_cut, tick_pump_stops}
 use Rattle.run_replay.proofs.replay.Replay.tick.Goals as goal
 

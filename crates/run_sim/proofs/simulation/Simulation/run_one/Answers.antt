@@ -2,7 +2,8 @@
 use Rattle.std.proofs.Common.{map}
 use Rattle.run_lines.proofs.Pieces.{OnErr-always}
 use Rattle.run_lines.specs.Pieces.{pieces_of}
-use Rattle.run_lines.proofs.Growing.{prefix_any, on_ok, on_err}
+use Rattle.std.proofs.lemmas.Result.{on_err_weaker}
+use Rattle.run_lines.proofs.Growing.{prefix_any, on_ok}
 use Rattle.run_sim.specs.Sim.{point_of}
 use Rattle.run_sim.proofs.SimRun.{not_run, begun_by, answers_line, stops_line, added_in_part}
 use Rattle.run_sim.proofs.simulation.Simulation.run_one.Goals as goal
@@ -34,7 +35,7 @@ returns-clause-ok g c =
 
 pub returns-clause-err : goal.returns-clause-err
 returns-clause-err g c =
-    on_err _ _ _ (λ prefix. added_in_part c.args.self.now.quiet c.args.text.now c.args.line.now
+    on_err_weaker _ (λ prefix. added_in_part c.args.self.now.quiet c.args.text.now c.args.line.now
     (point_of c.args.self.now.world (map (λ d. (goal.Device-dyn g (d.vtable, d.value)).state d.value) c.args.devices.now.items) (g.P.Keeper.shelf c.args.keeper.now) (g.P.Keeper.number c.args.keeper.now) (g.P.Keeper.reads c.args.keeper.now))
     (point_of c.step-stepped.new.self (map (λ d. (goal.Device-dyn g (d.vtable, d.value)).state d.value) c.step-stepped.new.devices.items) (g.P.Keeper.shelf c.step-stepped.new.keeper) (g.P.Keeper.number c.step-stepped.new.keeper) (g.P.Keeper.reads c.step-stepped.new.keeper))
     c.push.new.self.items c.step-stepped.new.out.items c.as_slice-told.result.now c.args.out.now.items c.add_entries-added.new.out.items

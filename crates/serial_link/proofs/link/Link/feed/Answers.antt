@@ -3,7 +3,8 @@ use Rattle.std.proofs.lemmas.List.{append-nil}
 use Rattle.serial_link.specs.State.{LinkState}
 use Rattle.serial_link.specs.Calls.{Takes}
 use Rattle.serial_link.specs.declared.out.LinkOut.{LinkOut}
-use Rattle.serial_link.proofs.Taking.{takes-append, only_takes, on_err}
+use Rattle.zw_base.proofs.Results.{on_err}
+use Rattle.serial_link.proofs.Taking.{takes-append, only_takes}
 use Rattle.serial_link.proofs.link.Link.feed.Goals as goal
 
 pub loop-rest-init : goal.loop-rest-init

@@ -3,7 +3,8 @@ use Rattle.serial_frame.specs.Stream.{Rest, IsRest}
 use Rattle.serial_link.specs.State.{LinkState, hear_outs}
 use Rattle.serial_link.specs.Calls.{Takes}
 use Rattle.serial_link.specs.declared.out.LinkOut.{LinkOut}
-use Rattle.serial_link.proofs.Taking.{takes_nothing, takes_none, takes_item, on_err}
+use Rattle.zw_base.proofs.Results.{on_err}
+use Rattle.serial_link.proofs.Taking.{takes_nothing, takes_none, takes_item}
 use Rattle.serial_link.proofs.link.Link.take_item.Goals as goal
 
 pub returns-in_err-reserve-clause-err : goal.returns-in_err-reserve-clause-err

@@ -1,7 +1,7 @@
 -- The host takes all bytes that are on their way to it, and what it puts out is routed.
 use Rattle.std.proofs.Common.{length, refl, sym, ◌∙◌}
 use Rattle.outside_model.specs.State.{is_stalled}
-use Rattle.world_step.proofs.Scenes.{on_err}
+use Rattle.zw_base.proofs.Results.{on_err}
 use Rattle.world_step.proofs.Bytes.{host_part, host_idle, has_some, has_moves, stopped_routing, stopped_taking}
 use Rattle.world_step.proofs.sides.Sides.host_takes.Goals as goal
 

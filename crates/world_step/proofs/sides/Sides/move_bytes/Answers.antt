@@ -6,7 +6,8 @@ use Rattle.world_model.specs.Settling.{IsChipPart}
 use Rattle.world_model.specs.Prefixes.{MovePrefix}
 use Rattle.world_step.specs.Scene.{scene_of}
 use Rattle.world_step.specs.Moving.{Moves}
-use Rattle.world_step.proofs.Scenes.{on_err, stopped_still}
+use Rattle.zw_base.proofs.Results.{on_err}
+use Rattle.world_step.proofs.Scenes.{stopped_still}
 use Rattle.world_step.proofs.Bytes.{both_moved, did_chip}
 use Rattle.world_step.proofs.sides.Sides.move_bytes.Goals as goal
 

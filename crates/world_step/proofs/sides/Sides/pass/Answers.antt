@@ -5,7 +5,7 @@ use Rattle.world_model.specs.Prefixes.{MovePrefix}
 use Rattle.world_model.proofs.Schedules.{did_then, stopped_first, stopped_then}
 use Rattle.world_step.specs.Scene.{scene_of}
 use Rattle.world_step.specs.Moving.{Moves}
-use Rattle.world_step.proofs.Scenes.{on_err}
+use Rattle.zw_base.proofs.Results.{on_err}
 use Rattle.world_step.proofs.Bytes.{did_move}
 use Rattle.world_step.proofs.sides.Sides.pass.Goals as goal
 

@@ -6,7 +6,7 @@ use Rattle.world_model.specs.Settling.{Passes}
 use Rattle.world_model.specs.Prefixes.{PassesPrefix}
 use Rattle.world_step.specs.Scene.{scene_of}
 use Rattle.world_step.specs.Moving.{Pass}
-use Rattle.world_step.proofs.Scenes.{on_err}
+use Rattle.zw_base.proofs.Results.{on_err}
 use Rattle.world_step.proofs.Passing.{nothing_so_far, pass_so_far, last_pass, all_passes, passes_stop}
 use Rattle.world_step.proofs.sides.Sides.pass_all.Goals as goal
 

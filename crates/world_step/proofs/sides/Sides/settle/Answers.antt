@@ -4,7 +4,8 @@ use Rattle.world_model.specs.Settling.{IsPump, Passes}
 use Rattle.world_model.specs.Prefixes.{PassesPrefix}
 use Rattle.world_model.proofs.Schedules.{did_then, stopped_first, stopped_then}
 use Rattle.world_step.specs.Scene.{scene_of}
-use Rattle.world_step.proofs.Scenes.{ok_then, err_then, on_err}
+use Rattle.zw_base.proofs.Results.{on_err}
+use Rattle.world_step.proofs.Scenes.{ok_then, err_then}
 use Rattle.world_step.proofs.sides.Sides.settle.Goals as goal
 
 pub returns-in_err-pump-clause-err : goal.returns-in_err-pump-clause-err

@@ -1,6 +1,6 @@
 -- Piece after piece, until none is left.
 use Rattle.std.proofs.Common.{◌∙◌, arith}
-use Rattle.world_step.proofs.Scenes.{on_err}
+use Rattle.zw_base.proofs.Results.{on_err}
 use Rattle.world_step.proofs.Bytes.{some_more, prefix_more, all_taken}
 use Rattle.world_step.proofs.sides.Sides.take_all.Goals as goal
 

@@ -1,7 +1,8 @@
 -- The clock rises, what is outside ticks, then the host, and the whole settles.
 use Rattle.std.proofs.Common.{refl, arith, inl}
 use Rattle.world_model.specs.Prefixes.{TickPrefix}
-use Rattle.world_step.proofs.Scenes.{ok_then, err_then, on_err, stopped_still}
+use Rattle.zw_base.proofs.Results.{on_err}
+use Rattle.world_step.proofs.Scenes.{ok_then, err_then, stopped_still}
 use Rattle.world_step.proofs.Turns.{clock_ticked, tick_done, tick_one, tick_two, tick_three}
 use Rattle.world_step.proofs.sides.Sides.tick.Goals as goal
 

@@ -2,7 +2,8 @@
 use Rattle.std.proofs.Common.{refl, arith}
 use Rattle.std.proofs.lemmas.List.{length-map}
 use Rattle.world_model.specs.Did.{Nothing}
-use Rattle.world_step.proofs.Scenes.{ok_then, err_then, on_err, stopped_still}
+use Rattle.zw_base.proofs.Results.{on_err}
+use Rattle.world_step.proofs.Scenes.{ok_then, err_then, stopped_still}
 use Rattle.world_step.proofs.Turns.{delivered, given_due, devices_ticked, chip_ticked, delivered_some, given_some, ticked_some, outside_ticked, stopped_one, stopped_two, stopped_three, stopped_four}
 use Rattle.world_step.proofs.sides.Sides.tick_outside.Goals as goal
 

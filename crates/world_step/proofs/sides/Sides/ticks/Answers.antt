@@ -1,6 +1,6 @@
 -- Tick after tick.
 use Rattle.std.proofs.Common.{◌∙◌, refl, arith}
-use Rattle.world_step.proofs.Scenes.{on_err}
+use Rattle.zw_base.proofs.Results.{on_err}
 use Rattle.world_step.proofs.Passing.{no_ticks, tick_so_far, all_ticks, ticks_stop}
 use Rattle.world_step.proofs.sides.Sides.ticks.Goals as goal
 

@@ -4,7 +4,8 @@ use Rattle.zw_words.specs.declared.side.Side.TheVariants as side
 use Rattle.zw_text.specs.declared.entry.Entry.{Entry}
 use Rattle.outside_model.specs.Events.{Clears_pipe}
 use Rattle.outside_model.specs.Did.{Goes}
-use Rattle.world_step.proofs.Scenes.{ok_then, err_then, on_err}
+use Rattle.zw_base.proofs.Results.{on_err}
+use Rattle.world_step.proofs.Scenes.{ok_then, err_then}
 use Rattle.zw_world.specs.contracts.world.World.{the_view}
 use Rattle.zw_world.proofs.Restarts.{clears_both}
 use Rattle.zw_world.proofs.world.World.go_on_with.Goals as goal

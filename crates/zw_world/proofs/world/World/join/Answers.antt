@@ -8,7 +8,8 @@ use Rattle.host_model.specs.Asking.{join_refusal}
 use Rattle.outside_model.specs.Events.{Joins}
 use Rattle.world_model.specs.Refusals.{shown}
 use Rattle.world_model.specs.Events.{Host_does, Outside_does}
-use Rattle.world_step.proofs.Scenes.{ok_then, err_then, on_err}
+use Rattle.zw_base.proofs.Results.{on_err}
+use Rattle.world_step.proofs.Scenes.{ok_then, err_then}
 use Rattle.zw_world.specs.contracts.world.World.{the_view}
 use Rattle.host_core.proofs.Refusing.{kept_as, rose_entered}
 use Rattle.zw_world.proofs.Asking.{joined, event_stops, refusal_done, refusal_stops}

@@ -1,7 +1,8 @@
 -- So many ticks, or the line's effect and a settling.
 use Rattle.std.proofs.Common.{[], inl}
 use Rattle.zw_world.specs.contracts.world.World.{the_view}
-use Rattle.world_step.proofs.Scenes.{ok_then, err_then, on_err}
+use Rattle.zw_base.proofs.Results.{on_err}
+use Rattle.world_step.proofs.Scenes.{ok_then, err_then}
 use Rattle.zw_world.proofs.KeeperLines.{goes_unread, goes_then, keeps_as, keeps_then}
 use Rattle.zw_world.proofs.Steps.{not_tick, ticks_as, ticks_stop_as, effect_stops, rest_done, rest_stops}
 use Rattle.zw_world.proofs.world.World.run_line.Goals as goal
