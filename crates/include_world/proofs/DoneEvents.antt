@@ -1,6 +1,7 @@
 -- Events that are done: one, one after another, and a prefix of them.
 use Rattle.std.proofs.Common.{◌≡◌, ℕ, suc, ◌+◌, ◌-◌, ◌<◌, ◌≤◌, Option, Some, None, Result, OnErr, List, [], ◌∷◌, ◌++◌, length, map, refl, ap, sym, subst, ◌∙◌, append_assoc, length-append, arith}
 use Rattle.std.proofs.lemmas.List.{append-nil, map-append}
+use Rattle.zw_base.proofs.Results.{on_err}
 use Rattle.include_text.specs.declared.entry.IncludeEntry.{IncludeEntry}
 use Rattle.include_text.specs.declared.line.IncludeLine.{IncludeLine}
 use Rattle.include_text.specs.declared.line.IncludeLine.TheVariants.{Add, Reset, Lose, Repeat, Tick}
