@@ -11,7 +11,8 @@ use Rattle.include_world.specs.declared.flight.Heading.{Heading}
 use Rattle.include_world.specs.declared.flight.Heading.TheVariants.{Outward, Homeward}
 use Rattle.include_world.specs.declared.flight.Flight.{Flight}
 use Rattle.include_world.specs.declared.flight.Pair.{Pair}
-use Rattle.include_world.specs.Air.{AirState, pair_of, flight, departing, sending, showing, showing_nonce, nonce_in, is_news, no_counts}
+use Rattle.air_frames.specs.Nonces.{is_news}
+use Rattle.include_world.specs.Air.{AirState, pair_of, flight, departing, sending, showing, showing_nonce, nonce_in, no_counts}
 use Rattle.include_world.proofs.AirFacts.{Each, began_pairs}
 use Rattle.proof_include.proofs.Stages.{nonce_told}
 use Rattle.proof_include.proofs.Flights.{Flights, flights_departing, flights_map}
