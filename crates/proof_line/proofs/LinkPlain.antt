@@ -99,7 +99,7 @@ counted {did} line past first n just tail words begun begins_it plain says clear
     let begins = ordinary just.before first just.is_tick up down both may tail words plain says clears in
     let up_later : LinkNow = begun_line up up.until in
     let down_later : LinkNow = begun_line down down.until in (
-      cuts_as up_later.life did.steps (just.before ++ tail) (ap course_of counts.life) (begins_cuts just.before first just.is_tick up down both may tail up_later down_later begins),
+      cuts_as up_later did (just.before ++ tail) counts.life counts.starts (begins_cuts just.before first just.is_tick up down both may tail up_later down_later begins),
       (
         up_later,
         down_later,
