@@ -118,12 +118,12 @@ within (x ∷ first) later (y ∷ before) life after is less =
     (rest, ap₂ (λ (start : List Step) (l : List (List Step)). start ∷ l) same more)
 
 -- and where it is the next after them
-behind : (first later before : List (List Step)) (life : List Step) (after : List (List Step)) → first ++ later ≡ before ++ life ∷ after → length before ≡ length first → later ≡ life ∷ after
-behind [] later [] life after is same = is
-behind [] later (y ∷ before) life after is same = absurd (omega (arith, same))
-behind (x ∷ first) later [] life after is same = absurd (omega (arith, same))
-behind (x ∷ first) later (y ∷ before) life after is same =
-    let tail : first ++ later ≡ before ++ life ∷ after = cc in behind first later before life after tail (omega (arith, same))
+next_is : (first later before : List (List Step)) (life : List Step) (after : List (List Step)) → first ++ later ≡ before ++ life ∷ after → length before ≡ length first → later ≡ life ∷ after
+next_is [] later [] life after is same = is
+next_is [] later (y ∷ before) life after is same = absurd (omega (arith, same))
+next_is (x ∷ first) later [] life after is same = absurd (omega (arith, same))
+next_is (x ∷ first) later (y ∷ before) life after is same =
+    let tail : first ++ later ≡ before ++ life ∷ after = cc in next_is first later before life after tail (omega (arith, same))
 
 lengths : (events : List SerialEvent) → length (flags_of events) ≡ length events
 lengths [] = refl
@@ -200,7 +200,7 @@ module _ (devices : List State) (did : Did) (transcript : List Entry) (cuts : Cu
       by [] same says =
           let whole : front ≡ events = sym (same ∙ append-nil front) in
           let next : cuts.later ≡ started.life ∷ started.after =
-          behind told cuts.later started.before started.life started.after (sym cuts.starts ∙ started.starts) (started.many ∙ ap (λ (l : List SerialEvent). rounds_in (flags_of l)) whole ∙ sym many_told) in
+          next_is told cuts.later started.before started.life started.after (sym cuts.starts ∙ started.starts) (started.many ∙ ap (λ (l : List SerialEvent). rounds_in (flags_of l)) whole ∙ sym many_told) in
           let are : ArePartsOf started.life parts = subst (λ (l : List (List Step)). ArePartsOf (next_start l did.steps) parts) next (cuts.next says) in
           let all_parts : take (length front) parts ≡ parts = ap (λ (n : ℕ). take n parts) (ap (λ (l : List SerialEvent). length l) whole ∙ sym cuts.links.chip.each) ∙ take-length parts in
           none_there front past started

@@ -25,7 +25,6 @@ use Rattle.proof_air.proofs.ByLine.{last_is}
 use Rattle.proof_air.proofs.Linking.{of_link}
 use Rattle.proof_air.proofs.Machines.{machine_keeps}
 use Rattle.proof_air.proofs.Untimed.{AreUntimed, IsUntimed, untimed_law, untimed_line}
-use Rattle.proof_line.specs.Links.{tick_told}
 use Rattle.proof_line.specs.Linked.{◌⊕◌, began, did_at, flags_of, rounds_in, said, BeginsLast, BeginsSaid, Did, IsTickLine, KnowCuts}
 use Rattle.proof_line.specs.Times.{GoesWithin}
 use Rattle.proof_line.proofs.ChipAccounts.{event_steps}

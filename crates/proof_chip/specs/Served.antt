@@ -1,6 +1,5 @@
 -- What is known of the chip at each phase of a line beside both links and all that other walks tell, and what follows of a whole run (this project's own rule).
 use Rattle.std.specs.Prelude.{Bool, List}
-use Rattle.serial_link.specs.Rules.{Step}
 use Rattle.zw_words.specs.declared.side.Side.TheVariants.{Chip}
 use Rattle.zw_text.specs.declared.entry.Entry.{Entry}
 use Rattle.law_wire.specs.Answering.{DropsWhenFull, WaitsWhileBusy}

@@ -15,7 +15,6 @@ use Rattle.zw_text.specs.declared.entry.Entry.{Entry}
 use Rattle.zw_text.specs.declared.entry.Entry.TheVariants as entry
 use Rattle.zw_text.specs.Transcript.{line_of, lines_run}
 use Rattle.law_wire.specs.law_transcript.Restarts.{is_restart, ticks_asked}
-use Rattle.law_wire.specs.Asked.{course_of}
 use Rattle.law_wire.specs.Clearing.{clears, to_clear}
 use Rattle.law_wire.specs.Serial.{serial_events}
 use Rattle.proof_world.specs.host_model.State.{HostParts}

@@ -12,7 +12,6 @@ use Rattle.zw_text.specs.declared.entry.Entry.{Entry}
 use Rattle.zw_text.specs.declared.entry.Entry.TheVariants as entry
 use Rattle.zw_text.specs.declared.entry.Refusal.{Refusal}
 use Rattle.law_wire.specs.law_transcript.Restarts.{is_restart}
-use Rattle.law_wire.specs.Asked.{course_of}
 use Rattle.proof_world.specs.host_model.State.{HostParts, HostState}
 use Rattle.proof_world.specs.host_model.Events.{HostEvent, Accepts, Cancels, Joins as joins_host, Queues, Queues_interview, Queues_probe}
 use Rattle.proof_world.specs.host_model.After.{after as host_after}

@@ -19,7 +19,6 @@ use Rattle.zw_text.specs.declared.entry.Entry.{Entry}
 use Rattle.zw_text.specs.declared.entry.Entry.TheVariants as entry
 use Rattle.zw_text.specs.Transcript.{line_of}
 use Rattle.law_wire.specs.law_transcript.Restarts.{is_restart, begins_refused}
-use Rattle.law_wire.specs.Asked.{course_of}
 use Rattle.law_wire.specs.Clearing.{AreTold, Cleared_there, cleared, clears, clears_first, goes_on_after, to_clear}
 use Rattle.law_wire.specs.Links.{bytes_in}
 use Rattle.law_wire.specs.Serial.{SerialEvent, serial_events}
