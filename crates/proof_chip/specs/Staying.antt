@@ -1,6 +1,6 @@
 -- Where a line or tick began, none waited for the chip's link if that was idle, by what the link had done there (this project's own rule): so of each that has begun, and of the tick
 -- whose number is still to be entered. The words of a `tick` begin nothing: of them it is so by what the link had done where the next line or tick began.
-use Rattle.std.specs.Prelude.{◌≡◌, ◌<◌, ◌+◌, Bool, true, false, List, [], ◌∷◌, ◌++◌, length}
+use Rattle.std.specs.Prelude.{◌≡◌, ◌<◌, Bool, true, false, List, [], ◌∷◌, ◌++◌, length}
 use Rattle.serial_link.specs.State.{Side as LinkSide}
 use Rattle.serial_link.specs.Rules.{SideObeys, Step}
 use Rattle.zw_text.specs.declared.line.Line.{Line}
