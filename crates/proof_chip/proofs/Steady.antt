@@ -1,5 +1,5 @@
 -- Events outside the host at which no frame arrives or is heard again, no result comes and the chip takes nothing: what they tell tells nothing of the chip, and what is outside looks as before.
-use Rattle.std.proofs.Common.{◌≡◌, ℕ, ◌+◌, ◌-◌, ◌&&◌, not, nat_le, Bool, true, false, List, ◌++◌, length, refl, sym, ap, ap₂, ◌∙◌, append-nil}
+use Rattle.std.proofs.Common.{◌≡◌, ℕ, ◌+◌, ◌&&◌, not, nat_le, Bool, true, false, List, ◌++◌, length, refl, sym, ap, ap₂, ◌∙◌, append-nil}
 use Rattle.std.specs.Prelude.{Option, Some, None, option_map, slice_get}
 use Rattle.std.specs.Option.{is_some}
 use Rattle.zw_base.proofs.Each.{all-append}

@@ -39,7 +39,6 @@ use Rattle.outside_model.specs.State.{OuterState, Outcome, Outside, first_outer}
 use Rattle.outside_model.specs.Chip.{chip_does}
 use Rattle.outside_model.specs.Results.{gives}
 use Rattle.outside_model.specs.Events.{OuterEvent, Begins_line, Begins_tick, Chip_takes, Arrives, Gives, Chip_ticks, Repeats, Collides_next, Host_begins, Host_notes, Host_writes, Device_ticks, Host_takes as host_takes, has_entered, outcome, stamp, steps, ticked_entry, May as MayOutside, entries as entries_outside, happens as happens_outside}
-use Rattle.outside_model.specs.Events as outer
 use Rattle.world_model.specs.State.{Machine, first_machine}
 use Rattle.world_model.specs.Events.{Event, Outside_does, Host_does, Host_takes, Decoder_ticks, Refuses, Shows_values, Restarts, May, entries, happens}
 use Rattle.proof_host.proofs.Lists.{each-append}
