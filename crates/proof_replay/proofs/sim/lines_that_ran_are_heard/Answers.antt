@@ -10,7 +10,11 @@ use Rattle.world_lines.specs.Done.{AreDone}
 use Rattle.world_lines.specs.Whole.{AreWhole}
 use Rattle.proof_asking.specs.proof_requests.proof_alone.State.{first_alone}
 use Rattle.proof_asking.specs.proof_requests.proof_alone.Phases.{Resting}
+use Rattle.law_transcript.specs.Answers.{refusals_to}
+use Rattle.law_transcript.specs.Nodes.{always, listing_of}
 use Rattle.proof_replay.specs.Laws.{HostsKeepLaws}
+use Rattle.proof_replay.proofs.HeardEvents.{stand_well}
+use Rattle.proof_replay.proofs.HeardLink.{whole_link_heard}
 use Rattle.proof_replay.proofs.Starting.{kept_as_told}
 use Rattle.proof_replay.proofs.Words.{never}
 use Rattle.proof_replay.proofs.sim.lines_that_ran_are_heard.Goals as goal
@@ -23,8 +27,11 @@ by_whole c keys devices lines true are all =
     let past = transcript_of (first_machine keys (Some []) devices) lines in
     let fine = c.hosts_answer_lines.ensures.heard keys past (c.lines_are_a_hosts.ensures.told keys devices lines are) in
     let (m, run, same, over) = c.lines_are_a_hosts.ensures.keeper keys devices lines are (all refl) in
+    let marks = c.lines_mark_units.ensures keys (Some []) devices lines false are (λ is. absurd (never is)) in
+    let well = stand_well (always (listing_of devices)) (refusals_to devices) [] false [] past refl (λ changed marked. absurd marked) (c.lines_are_answered.ensures.part keys devices lines are).between marks in
+    let link = whole_link_heard past well (c.lines_keep_links.ensures.whole keys devices lines are (all refl)).host in
     subst (λ (r : Option (List (List ℕ))). HostsKeepLaws keys true (heard_by_host past) r) same
-    (c.hosts_keep_laws.ensures keys true Resting (heard_by_host past) m (c.what_is_heard_is_a_hosts.ensures.run start Resting past m run) (λ is. (refl, over)) fine)
+    (c.hosts_keep_laws.ensures keys true Resting (heard_by_host past) m (c.what_is_heard_is_a_hosts.ensures.run start Resting past m run) (λ is. (refl, over)) fine (λ is. link))
 by_whole c keys devices lines false are all =
     let start = first_alone keys (Some []) in
     let m = first_machine keys (Some []) devices in
@@ -32,7 +39,7 @@ by_whole c keys devices lines false are all =
     let told = c.lines_are_a_hosts.ensures.told keys devices lines are in
     let (here, last, run) = c.what_is_heard_is_a_hosts.ensures.told start past told in
     kept_as_told keys false (heard_by_host past) (after_all m lines).records last.records (λ is. absurd (never is))
-    (c.hosts_keep_laws.ensures keys false here (heard_by_host past) last run (λ is. absurd (never is)) (c.hosts_answer_lines.ensures.heard keys past told))
+    (c.hosts_keep_laws.ensures keys false here (heard_by_host past) last run (λ is. absurd (never is)) (c.hosts_answer_lines.ensures.heard keys past told) (λ is. absurd (never is)))
 
 pub returns : goal.returns
 returns c = by_whole c

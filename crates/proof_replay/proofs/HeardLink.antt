@@ -1,0 +1,410 @@
+-- The link of the host of `sim` keeps the rules over what it heard: what it did up to a unit that did not come, it did up to the next event that it heard of.
+use Rattle.std.proofs.Common.{◌≡◌, ℕ, zero, suc, ◌+◌, nat_lt, ◌&&◌, not, Bool, true, false, if◌then◌else◌, inl, inr, List, [], ◌∷◌, ◌++◌, length, drop, map, refl, sym, ap, ap₂, ◌∙◌, subst, append-nil, append_assoc, arith}
+use Rattle.std.specs.List.{AllByRecursion, flat_map, list_any}
+use Rattle.std.proofs.lemmas.Grind.{flat_map-append}
+use Rattle.zw_base.proofs.Each.{all-append}
+use Rattle.serial_frame.specs.declared.item.Item.{Item}
+use Rattle.serial_link.specs.State.{Side as LinkSide}
+use Rattle.serial_link.specs.Rules.{SideObeys, Step, asks_of, item_of, items_of}
+use Rattle.serial_link.proofs.Counting.{asks_of-append}
+use Rattle.zw_words.specs.Words.{line_words, words}
+use Rattle.zw_words.specs.declared.side.Side.TheVariants.{Chip, Host}
+use Rattle.zw_text.specs.declared.line.Line.{Line}
+use Rattle.zw_text.specs.declared.entry.Entry.{Entry}
+use Rattle.zw_text.specs.declared.entry.Entry.TheVariants.{Said}
+use Rattle.zw_text.specs.Transcript.{line_of}
+use Rattle.law_transcript.specs.Lists.{EachAfter}
+use Rattle.law_transcript.specs.Restarts.{is_restart}
+use Rattle.law_wire.specs.Serial.{SerialEvent, beginning_of, done_line, ended, serial_events, serial_events_from, ticks_up_to}
+use Rattle.law_wire.specs.Serial.SerialEvent.{Line_begins, Tick_begins, Writes}
+use Rattle.law_wire.specs.Links.{AreFirst, CollidesAsTold, HasTicked, HearsInTime, KeepsLink, LeavesFew, MayDo, Moment, Obeys, Round, TicksInTime, WriteLast, WritesThere, ahead, arrival_of, arrivals_of, between_restarts, clock_in, ends_round, is_stalled, left_ahead, line_in, moments_of, round_of, round_step, since_start, stall_by, steps_in, tick_of, unit_by}
+use Rattle.proof_line.specs.Links.{IsMute, due_from, stalls_in, told_from}
+use Rattle.proof_line.proofs.Lists.{each-append}
+use Rattle.proof_line.proofs.LinkSteps.{clock_one, mute_last, stalls_one}
+use Rattle.proof_line.proofs.Moments.{arrivals_one, life_after, restarts_at, round_one, start_one, steps_one}
+use Rattle.proof_line.proofs.Serials.{serials_grow}
+use Rattle.proof_asking.specs.proof_requests.law_host.Heard.{heard_by_host}
+use Rattle.proof_replay.proofs.HeardEvents.{AreHeard, IsAlike, IsEnd, StandWell, ends_heard, events_heard, is_unheard, last_heard, line_first, ticks_then}
+
+-- ---- lists
+
+drop_none : {A : Type 0} (count : ℕ) → ◌≡◌ {A = List A} (drop count []) []
+drop_none zero = refl
+drop_none (suc count) = refl
+
+drop_both : {A B : Type 0} (xs ys : List A) (all : List B) → drop (length (xs ++ ys)) all ≡ drop (length ys) (drop (length xs) all)
+drop_both [] ys all = refl
+drop_both (x ∷ xs) ys [] = sym (drop_none (length ys))
+drop_both (x ∷ xs) ys (one ∷ all) = drop_both xs ys all
+
+first_both : (xs ys : List Item) (units : List (List ℕ)) → AreFirst xs units → AreFirst ys (drop (length xs) units) → AreFirst (xs ++ ys) units
+first_both [] ys units first later = later
+first_both (x ∷ xs) ys [] first later = absurd first
+first_both (x ∷ xs) ys (unit ∷ units) first later = (first.0, first_both xs ys units first.1 later)
+
+-- also in a stall
+heard_both : (stalled : Bool) (xs ys : List Item) (units : List (List ℕ)) → AreFirst xs (if stalled then [] else units) → AreFirst ys (if stalled then [] else drop (length xs) units)
+    → AreFirst (xs ++ ys) (if stalled then [] else units)
+heard_both true xs ys units first later = first_both xs ys [] first (subst (λ (l : List (List ℕ)). AreFirst ys l) (sym (drop_none (length xs))) later)
+heard_both false xs ys units first later = first_both xs ys units first later
+
+items_both : (a b : List Step) → items_of (a ++ b) ≡ items_of a ++ items_of b
+items_both a b = flat_map-append (λ (s : Step). item_of s.event) a b
+
+-- steps that write nothing, before others and alone
+writes_both : (mute steps : List Step) (units : List (List ℕ)) → AllByRecursion IsMute mute → WriteLast steps units → WriteLast (mute ++ steps) units
+writes_both [] steps units silent writes = writes
+writes_both (step ∷ []) [] units silent writes = silent.0 ∙ sym writes
+writes_both (step ∷ []) (next ∷ steps) units silent writes = (silent.0, writes)
+writes_both (step ∷ (next ∷ mute)) steps units silent writes = (silent.0, writes_both (next ∷ mute) steps units silent.1 writes)
+
+all_mute : (steps : List Step) → WriteLast steps [] → AllByRecursion IsMute steps
+all_mute [] writes = tt
+all_mute (step ∷ []) writes = (writes, tt)
+all_mute (step ∷ (next ∷ steps)) writes = (writes.0, all_mute (next ∷ steps) writes.1)
+
+-- ---- what an event says
+
+-- a unit that did not come says nothing to the host
+record SaysNothing (event : SerialEvent) : Type 0 where
+  restarts : is_restart (line_in event) ≡ false
+  stalls : (clock : ℕ) → flat_map (stall_by clock) (line_in event) ≡ []
+  ticks : length (tick_of event) ≡ 0
+  units : unit_by Host event ≡ []
+  arrivals : arrival_of Chip event ≡ []
+  ends : ends_round event ≡ false
+
+says_nothing : (event : SerialEvent) → is_unheard event ≡ true → SaysNothing event
+says_nothing (Writes Chip unit [] lacking) is = record { restarts = refl; stalls = λ clock. refl; ticks = refl; units = refl; arrivals = refl; ends = refl }
+says_nothing (Writes Chip unit (text ∷ more) lacking) is = absurd (let bad : false ≡ true = is in cc)
+says_nothing (Writes Host unit arriving lacking) is = absurd (let bad : false ≡ true = is in cc)
+says_nothing (Line_begins line) is = absurd (let bad : false ≡ true = is in cc)
+says_nothing Tick_begins is = absurd (let bad : false ≡ true = is in cc)
+
+-- the round goes on, or another begins
+same_round : (round : Round) (one : Moment) (event : SerialEvent) → ends_round event ≡ false → round_step round one event ≡ record round { moments = round.moments ++ one ∷ [] }
+same_round round one (Line_begins line) ends = absurd (let bad : true ≡ false = ends in cc)
+same_round round one Tick_begins ends = absurd (let bad : true ≡ false = ends in cc)
+same_round round one (Writes side unit arriving lacking) ends = refl
+
+new_round : (round : Round) (one : Moment) (event : SerialEvent) → ends_round event ≡ true → round_step round one event ≡ record { is_tick = nat_lt 0 (length (tick_of event)); moments = [] }
+new_round round one (Line_begins line) ends = refl
+new_round round one Tick_begins ends = refl
+new_round round one (Writes side unit arriving lacking) ends = absurd (let bad : false ≡ true = ends in cc)
+
+-- ---- moments that were heard
+
+-- of each the steps since the one before it, with those of the units that did not come
+abbrev AreHeardAfter : List Step → List Moment → List Moment → Type 0
+AreHeardAfter open [] others = (others ≡ []) × (open ≡ [])
+AreHeardAfter open (one ∷ rest) others =
+    ((is_unheard one.event ≡ true) × AreHeardAfter (open ++ one.steps) rest others)
+    ⊎ ((event : SerialEvent) × (more : List Moment) × (others ≡ record { event = event; steps = open ++ one.steps } ∷ more) × IsAlike one.event event × AreHeardAfter [] rest more)
+
+-- steps up to each event that was heard
+record HasParts (open : List Step) (past : List Moment) (others : List SerialEvent) : Type 0 where
+  parts : List (List Step)
+  each : length parts ≡ length others
+  are : AreHeardAfter open past (moments_of others parts)
+
+parts_heard : (heard : Bool) (open : List Step) (events others : List SerialEvent) (parts : List (List Step)) → length parts ≡ length events → (heard ≡ true → open ≡ []) → AreHeard events others
+    → ends_heard heard events ≡ true → HasParts open (moments_of events parts) others
+parts_heard heard open [] others parts each none are last =
+    subst (λ (l : List SerialEvent). HasParts open [] l) (sym are) (record { parts = []; each = refl; are = (refl, none last) })
+parts_heard heard open (one ∷ events) others [] each none are last = absurd (omega (arith, each))
+parts_heard heard open (one ∷ events) others (part ∷ parts) each none (inl (is, are)) last =
+    let rest = parts_heard false (open ++ part) events others parts (omega (arith, each)) (λ (bad : false ≡ true). absurd cc) are
+    (subst (λ (b : Bool). ends_heard (not b) events ≡ true) is last) in
+    record { parts = rest.parts; each = rest.each; are = inl (is, rest.are) }
+parts_heard heard open (one ∷ events) others (part ∷ parts) each none (inr (other, more, same, is, alike, are)) last =
+    let rest = parts_heard true [] events more parts (omega (arith, each)) (λ is_heard. refl) are (subst (λ (b : Bool). ends_heard (not b) events ≡ true) is last) in
+    subst (λ (l : List SerialEvent). HasParts open (record { event = one; steps = part } ∷ moments_of events parts) l) (sym same) (record {
+      parts = (open ++ part) ∷ rest.parts;
+      each = ap suc rest.each;
+      are = inr (other, moments_of more rest.parts, refl, alike, rest.are);
+    })
+
+-- ---- what the laws look at
+
+-- of what was told and of what was heard, with these steps open in that
+record Stand (past seen : List Moment) (open : List Step) : Type 0 where
+  life : steps_in (since_start past) ≡ steps_in (since_start seen) ++ open
+  came : arrivals_of Chip (since_start past) ≡ arrivals_of Chip (since_start seen)
+  is_tick : (round_of past).is_tick ≡ (round_of seen).is_tick
+  round : steps_in (round_of past).moments ≡ steps_in (round_of seen).moments ++ open
+  clock : clock_in past ≡ clock_in seen
+  stalls : stalls_in past ≡ stalls_in seen
+  mute : AllByRecursion IsMute open
+  heard : AreFirst (items_of open) (if is_stalled seen then [] else ahead Host seen)
+  may : EachAfter (MayDo Host (round_of seen).is_tick) (steps_in (round_of seen).moments) open
+  asks : asks_of open ≡ 0
+
+-- of the running line or tick, where nothing is open
+record RoundsStand (told heard : Round) : Type 0 where
+  is_tick : told.is_tick ≡ heard.is_tick
+  steps : steps_in told.moments ≡ steps_in heard.moments ++ []
+
+-- the laws of the host's link in a moment, and in those that follow
+record Law (past : List Moment) (one : Moment) : Type 0 where
+  writes : WritesThere Host one
+  hears : HearsInTime Host past one
+  ticks : TicksInTime Host past one
+  collides : CollidesAsTold Host past one
+
+record Laws (past rest : List Moment) : Type 0 where
+  writes : AllByRecursion (WritesThere Host) rest
+  hears : EachAfter (HearsInTime Host) past rest
+  ticks : EachAfter (TicksInTime Host) past rest
+  collides : EachAfter (CollidesAsTold Host) past rest
+
+life_on : (past : List Moment) (one : Moment) → restarts_at one ≡ false → since_start (past ++ one ∷ []) ≡ since_start past ++ one ∷ []
+life_on past one plain = start_one past one ∙ ap (λ (b : Bool). life_after b (since_start past ++ one ∷ [])) plain
+
+-- the steps of a moment more, behind those that are open
+steps_behind : (told seen : List Moment) (open : List Step) (one : Moment) → steps_in told ≡ steps_in seen ++ open → steps_in (told ++ one ∷ []) ≡ steps_in seen ++ (open ++ one.steps)
+steps_behind told seen open one same = steps_one told one ∙ ap (λ (l : List Step). l ++ one.steps) same ∙ append_assoc (steps_in seen) open one.steps
+
+module _ (past seen : List Moment) (open : List Step) (stand : Stand past seen open) (one : Moment) (law : Law past one) where
+  abbrev all_steps : List Step
+  all_steps = open ++ one.steps
+
+  stalled : is_stalled past ≡ is_stalled seen
+  stalled = ap₂ (λ (now : ℕ) (l : List ℕ). list_any (nat_lt now) l) stand.clock stand.stalls
+
+  -- what is ahead of it is what is ahead there, without what it heard in the open steps
+  ahead_is : ahead Host past ≡ drop (length (items_of open)) (ahead Host seen)
+  ahead_is =
+      ap₂ (λ (l : List Step) (units : List (List ℕ)). drop (length (items_of l)) units) stand.life stand.came
+      ∙ ap (λ (l : List Item). drop (length l) (arrivals_of Chip (since_start seen))) (items_both (steps_in (since_start seen)) open)
+      ∙ drop_both (items_of (steps_in (since_start seen))) (items_of open) (arrivals_of Chip (since_start seen))
+
+  hears_all : AreFirst (items_of all_steps) (if is_stalled seen then [] else ahead Host seen)
+  hears_all =
+      subst (λ (l : List Item). AreFirst l (if is_stalled seen then [] else ahead Host seen)) (sym (items_both open one.steps))
+      (heard_both (is_stalled seen) (items_of open) (items_of one.steps) (ahead Host seen) stand.heard
+      (subst (λ (l : List (List ℕ)). AreFirst (items_of one.steps) (if is_stalled seen then [] else l)) ahead_is
+      (subst (λ (b : Bool). AreFirst (items_of one.steps) (if b then [] else ahead Host past)) stalled law.hears.0)))
+
+  may_all : EachAfter (MayDo Host (round_of seen).is_tick) (steps_in (round_of seen).moments) all_steps
+  may_all =
+      each-append (MayDo Host (round_of seen).is_tick) (steps_in (round_of seen).moments) open one.steps stand.may
+      (subst (λ (b : Bool). EachAfter (MayDo Host b) (steps_in (round_of seen).moments ++ open) one.steps) stand.is_tick
+      (subst (λ (l : List Step). EachAfter (MayDo Host (round_of past).is_tick) l one.steps) stand.round law.ticks.0))
+
+  asks_none : asks_of all_steps ≡ 0
+  asks_none =
+      let sum : asks_of (open ++ one.steps) ≡ asks_of open + asks_of one.steps = asks_of-append open one.steps in
+      let before : asks_of open ≡ 0 = stand.asks in
+      let here : asks_of one.steps ≡ 0 = law.collides in
+      omega (arith, sum, before, here)
+
+  -- a unit that did not come leaves its steps open
+  passes : is_unheard one.event ≡ true → Stand (past ++ one ∷ []) seen all_steps
+  passes is =
+      let says = says_nothing one.event is in
+      let round = round_one past one ∙ same_round (round_of past) one one.event says.ends in
+      let ticks : clock_in (past ++ one ∷ []) ≡ clock_in past + length (tick_of one.event) = clock_one past one in
+      let none : length (tick_of one.event) ≡ 0 = says.ticks in
+      let before : clock_in past ≡ clock_in seen = stand.clock in
+      record {
+        life = ap (λ (l : List Moment). steps_in l) (life_on past one says.restarts) ∙ steps_behind (since_start past) (since_start seen) open one stand.life;
+        came = ap (λ (l : List Moment). arrivals_of Chip l) (life_on past one says.restarts) ∙ arrivals_one Chip (since_start past) one
+            ∙ ap (λ (l : List (List ℕ)). arrivals_of Chip (since_start past) ++ l) says.arrivals ∙ append-nil (arrivals_of Chip (since_start past)) ∙ stand.came;
+        is_tick = ap (λ (r : Round). r.is_tick) round ∙ stand.is_tick;
+        round = ap (λ (r : Round). steps_in r.moments) round ∙ steps_behind (round_of past).moments (round_of seen).moments open one stand.round;
+        clock = omega (arith, ticks, none, before);
+        stalls = stalls_one past one ∙ ap (λ (l : List ℕ). stalls_in past ++ l) (says.stalls (clock_in past)) ∙ append-nil (stalls_in past) ∙ stand.stalls;
+        mute = all-append IsMute open one.steps stand.mute (all_mute one.steps (subst (λ (l : List (List ℕ)). WriteLast one.steps l) says.units law.writes));
+        heard = hears_all;
+        may = may_all;
+        asks = asks_none;
+      }
+
+  module _ (event : SerialEvent) (alike : IsAlike one.event event) where
+    abbrev other : Moment
+    other = record { event = event; steps = open ++ one.steps }
+
+    left_is : left_ahead Host seen other ≡ left_ahead Host past one
+    left_is =
+        ap (λ (l : List Item). drop (length l) (ahead Host seen)) (items_both open one.steps) ∙ drop_both (items_of open) (items_of one.steps) (ahead Host seen)
+        ∙ ap (λ (l : List (List ℕ)). drop (length (items_of one.steps)) l) (sym ahead_is)
+
+    -- one that was heard keeps the laws with them
+    keeps : Law seen other
+    keeps = record {
+      writes = subst (λ (l : List (List ℕ)). WriteLast (open ++ one.steps) l) alike.units (writes_both open one.steps (unit_by Host one.event) stand.mute law.writes);
+      hears = (
+        hears_all,
+        subst (λ (n : ℕ). LeavesFew (ends_round event && not (is_stalled seen)) n 0) (sym (ap (λ (l : List (List ℕ)). length l) left_is))
+            (subst (λ (b : Bool). LeavesFew (ends_round event && not b) (length (left_ahead Host past one)) 0) stalled
+            (subst (λ (b : Bool). LeavesFew (b && not (is_stalled past)) (length (left_ahead Host past one)) 0) alike.ends law.hears.1)),
+      );
+      ticks = (
+        may_all,
+        subst (λ (l : List Step). HasTicked (ends_round event && (round_of seen).is_tick) l)
+            (ap (λ (l : List Step). l ++ one.steps) stand.round ∙ append_assoc (steps_in (round_of seen).moments) open one.steps)
+            (subst (λ (b : Bool). HasTicked (ends_round event && b) (steps_in (round_of past).moments ++ one.steps)) stand.is_tick
+            (subst (λ (b : Bool). HasTicked (b && (round_of past).is_tick) (steps_in (round_of past).moments ++ one.steps)) alike.ends law.ticks.1)),
+      );
+      collides = asks_none;
+    }
+
+    -- and nothing is open after it
+    steps_after : (told heard : List Moment) → steps_in told ≡ steps_in heard ++ open → steps_in (told ++ one ∷ []) ≡ steps_in (heard ++ other ∷ []) ++ []
+    steps_after told heard same = steps_behind told heard open one same ∙ sym (append-nil (steps_in (heard ++ other ∷ [])) ∙ steps_one heard other)
+
+    life_next : (again : Bool) → steps_in (life_after again (since_start past ++ one ∷ [])) ≡ steps_in (life_after again (since_start seen ++ other ∷ [])) ++ []
+    life_next true = refl
+    life_next false = steps_after (since_start past) (since_start seen) stand.life
+
+    came_next : (again : Bool) → arrivals_of Chip (life_after again (since_start past ++ one ∷ [])) ≡ arrivals_of Chip (life_after again (since_start seen ++ other ∷ []))
+    came_next true = refl
+    came_next false =
+        arrivals_one Chip (since_start past) one ∙ ap₂ (λ (l more : List (List ℕ)). l ++ more) stand.came alike.arrivals ∙ sym (arrivals_one Chip (since_start seen) other)
+
+    life_is : since_start (seen ++ other ∷ []) ≡ life_after (restarts_at one) (since_start seen ++ other ∷ [])
+    life_is = start_one seen other ∙ ap (λ (b : Bool). life_after b (since_start seen ++ other ∷ [])) (sym alike.restarts)
+
+    -- in this line or tick, or in one that begins
+    rounds_next : (ends : Bool) → ends_round one.event ≡ ends → RoundsStand (round_step (round_of past) one one.event) (round_step (round_of seen) other event)
+    rounds_next true ends =
+        let told = new_round (round_of past) one one.event ends in
+        let heard = new_round (round_of seen) other event (sym alike.ends ∙ ends) in
+        record {
+          is_tick = ap (λ (r : Round). r.is_tick) told ∙ ap (λ (n : ℕ). nat_lt 0 n) alike.ticks ∙ sym (ap (λ (r : Round). r.is_tick) heard);
+          steps = ap (λ (r : Round). steps_in r.moments) told ∙ sym (ap (λ (r : Round). steps_in r.moments ++ []) heard);
+        }
+    rounds_next false ends =
+        let told = same_round (round_of past) one one.event ends in
+        let heard = same_round (round_of seen) other event (sym alike.ends ∙ ends) in
+        record {
+          is_tick = ap (λ (r : Round). r.is_tick) told ∙ stand.is_tick ∙ sym (ap (λ (r : Round). r.is_tick) heard);
+          steps = ap (λ (r : Round). steps_in r.moments) told ∙ steps_after (round_of past).moments (round_of seen).moments stand.round
+              ∙ sym (ap (λ (r : Round). steps_in r.moments ++ []) heard);
+        }
+
+    goes_on : Stand (past ++ one ∷ []) (seen ++ other ∷ []) []
+    goes_on =
+        let rounds = rounds_next (ends_round one.event) refl in
+        let told : clock_in (past ++ one ∷ []) ≡ clock_in past + length (tick_of one.event) = clock_one past one in
+        let heard : clock_in (seen ++ other ∷ []) ≡ clock_in seen + length (tick_of event) = clock_one seen other in
+        let same : length (tick_of one.event) ≡ length (tick_of event) = alike.ticks in
+        let before : clock_in past ≡ clock_in seen = stand.clock in
+        record {
+          life = ap (λ (l : List Moment). steps_in l) (start_one past one) ∙ life_next (restarts_at one) ∙ sym (ap (λ (l : List Moment). steps_in l ++ []) life_is);
+          came = ap (λ (l : List Moment). arrivals_of Chip l) (start_one past one) ∙ came_next (restarts_at one) ∙ sym (ap (λ (l : List Moment). arrivals_of Chip l) life_is);
+          is_tick = ap (λ (r : Round). r.is_tick) (round_one past one) ∙ rounds.is_tick ∙ sym (ap (λ (r : Round). r.is_tick) (round_one seen other));
+          round = ap (λ (r : Round). steps_in r.moments) (round_one past one) ∙ rounds.steps ∙ sym (ap (λ (r : Round). steps_in r.moments ++ []) (round_one seen other));
+          clock = omega (arith, told, heard, same, before);
+          stalls = stalls_one past one
+              ∙ ap₂ (λ (l more : List ℕ). l ++ more) stand.stalls (ap (λ (n : ℕ). flat_map (stall_by n) (line_in one.event)) stand.clock ∙ alike.stalls (clock_in seen))
+              ∙ sym (stalls_one seen other);
+          mute = tt;
+          heard = tt;
+          may = tt;
+          asks = refl;
+        }
+
+-- ---- all of them
+
+first_law : (past : List Moment) (one : Moment) (rest : List Moment) → Laws past (one ∷ rest) → Law past one
+first_law past one rest laws = record { writes = laws.writes.0; hears = laws.hears.0; ticks = laws.ticks.0; collides = laws.collides.0 }
+
+later_laws : (past : List Moment) (one : Moment) (rest : List Moment) → Laws past (one ∷ rest) → Laws (past ++ one ∷ []) rest
+later_laws past one rest laws = record { writes = laws.writes.1; hears = laws.hears.1; ticks = laws.ticks.1; collides = laws.collides.1 }
+
+laws_kept : (past seen : List Moment) (open : List Step) (rest others : List Moment) → Stand past seen open → AreHeardAfter open rest others → Laws past rest → Laws seen others
+laws_kept past seen open [] others stand (none, over) laws =
+    subst (λ (l : List Moment). Laws seen l) (sym none) (record { writes = tt; hears = tt; ticks = tt; collides = tt })
+laws_kept past seen open (one ∷ rest) others stand (inl (is, are)) laws =
+    laws_kept (past ++ one ∷ []) seen (open ++ one.steps) rest others (passes past seen open stand one (first_law past one rest laws) is) are (later_laws past one rest laws)
+laws_kept past seen open (one ∷ rest) others stand (inr (event, more, same, alike, are)) laws =
+    let law = first_law past one rest laws in
+    let other : Moment = record { event = event; steps = open ++ one.steps } in
+    let here = keeps past seen open stand one law event alike in
+    let later = laws_kept (past ++ one ∷ []) (seen ++ other ∷ []) [] rest more (goes_on past seen open stand one law event alike) are (later_laws past one rest laws) in
+    subst (λ (l : List Moment). Laws seen l) (sym same)
+    (record { writes = (here.writes, later.writes); hears = (here.hears, later.hears); ticks = (here.ticks, later.ticks); collides = (here.collides, later.collides) })
+
+-- each life obeyed
+obeyed_so : (told heard : List Moment) → steps_in told ≡ steps_in heard → Obeys told → Obeys heard
+obeyed_so told heard same obeys = subst (λ (l : List Step). (end : LinkSide) × SideObeys l end) same obeys
+
+lives_obeyed : (life heard : List Moment) (open : List Step) (rest others : List Moment) → steps_in life ≡ steps_in heard ++ open → AreHeardAfter open rest others
+    → AllByRecursion Obeys (between_restarts life rest) → AllByRecursion Obeys (between_restarts heard others)
+lives_obeyed life heard open [] others same (none, over) obeys =
+    subst (λ (l : List Moment). AllByRecursion Obeys (between_restarts heard l)) (sym none)
+    (obeyed_so life heard (same ∙ ap (λ (l : List Step). steps_in heard ++ l) over ∙ append-nil (steps_in heard)) obeys.0, tt)
+lives_obeyed life heard open (one ∷ rest) others same (inl (is, are)) obeys =
+    let says = says_nothing one.event is in
+    lives_obeyed (life ++ one ∷ []) heard (open ++ one.steps) rest others (steps_behind life heard open one same) are
+    (subst (λ (b : Bool). AllByRecursion Obeys (if b then (life ++ one ∷ []) ∷ between_restarts [] rest else between_restarts (life ++ one ∷ []) rest)) says.restarts obeys)
+lives_obeyed life heard open (one ∷ rest) others same (inr (event, more, is, alike, are)) obeys =
+    let other : Moment = record { event = event; steps = open ++ one.steps } in
+    let now : steps_in (life ++ one ∷ []) ≡ steps_in (heard ++ other ∷ []) = steps_behind life heard open one same ∙ sym (steps_one heard other) in
+    subst (λ (l : List Moment). AllByRecursion Obeys (between_restarts heard l)) (sym is)
+    (subst (λ (b : Bool). AllByRecursion Obeys (if b then (heard ++ other ∷ []) ∷ between_restarts [] more else between_restarts (heard ++ other ∷ []) more)) alike.restarts
+    (by other now (lives_obeyed [] [] [] rest more refl are)
+    (lives_obeyed (life ++ one ∷ []) (heard ++ other ∷ []) [] rest more (now ∙ sym (append-nil (steps_in (heard ++ other ∷ [])))) are) (restarts_at one) obeys))
+  where
+    by : (other : Moment) → steps_in (life ++ one ∷ []) ≡ steps_in (heard ++ other ∷ [])
+        → (AllByRecursion Obeys (between_restarts [] rest) → AllByRecursion Obeys (between_restarts [] more))
+        → (AllByRecursion Obeys (between_restarts (life ++ one ∷ []) rest) → AllByRecursion Obeys (between_restarts (heard ++ other ∷ []) more))
+        → (again : Bool) → AllByRecursion Obeys (if again then (life ++ one ∷ []) ∷ between_restarts [] rest else between_restarts (life ++ one ∷ []) rest)
+        → AllByRecursion Obeys (if again then (heard ++ other ∷ []) ∷ between_restarts [] more else between_restarts (heard ++ other ∷ []) more)
+    by other now anew on true all = (obeyed_so (life ++ one ∷ []) (heard ++ other ∷ []) now all.0, anew all.1)
+    by other now anew on false all = on all
+
+-- ---- over what was heard
+
+first_stand : Stand [] [] []
+first_stand = record { life = refl; came = refl; is_tick = refl; round = refl; clock = refl; stalls = refl; mute = tt; heard = tt; may = tt; asks = refl }
+
+-- up to an end, where the last event of the line that was told was heard
+pub link_heard : (told end : List Entry) → IsEnd end → StandWell [] false told → ends_heard true (serial_events (told ++ end)) ≡ true → KeepsLink Host (told ++ end)
+    → KeepsLink Host (heard_by_host told ++ end)
+link_heard told end ends well last link =
+    let events : List SerialEvent = serial_events (told ++ end) in
+    let others : List SerialEvent = serial_events (heard_by_host told ++ end) in
+    let got = parts_heard true [] events others link.parts link.each (λ is_heard. refl) (events_heard end ends 0 0 [] false told well) last in
+    let kept = laws_kept [] [] [] (moments_of events link.parts) (moments_of others got.parts) first_stand got.are
+    (record { writes = link.writes; hears = link.hears; ticks = link.ticks; collides = link.collides })
+    in
+    record {
+      parts = got.parts;
+      each = got.each;
+      obeys = lives_obeyed [] [] [] (moments_of events link.parts) (moments_of others got.parts) refl got.are link.obeys;
+      writes = kept.writes;
+      hears = kept.hears;
+      ticks = kept.ticks;
+      collides = kept.collides;
+    }
+
+-- ---- a whole run
+
+-- at its end a line begins
+abbrev end_begins : List SerialEvent
+end_begins = beginning_of (done_line (line_of (Said [])) [])
+
+whole_end : IsEnd (Said [] ∷ [])
+whole_end = record { unmarked = refl; unrefused = refl; heard = λ now due. ticks_then now due end_begins end_begins [] [] (line_first (done_line (line_of (Said [])) []) [] [] refl) }
+
+end_is : end_begins ≡ Line_begins [] ∷ []
+unfolding words line_words
+end_is = refl
+
+-- it is heard
+end_heard : (told : List Entry) → ends_heard true (serial_events (told ++ Said [] ∷ [])) ≡ true
+end_heard told =
+    let now : ℕ = told_from 0 0 told in
+    let due : ℕ = due_from 0 told in
+    let before : List SerialEvent = serial_events told ++ ticks_up_to now due in
+    let events : serial_events (told ++ Said [] ∷ []) ≡ before ++ Line_begins [] ∷ [] =
+    serials_grow 0 0 told (Said [] ∷ []) tt refl
+    ∙ ap (λ (l : List SerialEvent). serial_events told ++ l) (append-nil (ticks_up_to now due ++ end_begins) ∙ ap (λ (l : List SerialEvent). ticks_up_to now due ++ l) end_is)
+    ∙ sym (append_assoc (serial_events told) (ticks_up_to now due) (Line_begins [] ∷ []))
+    in
+    ap (λ (l : List SerialEvent). ends_heard true l) events ∙ last_heard true before (Line_begins []) refl
+
+pub whole_link_heard : (told : List Entry) → StandWell [] false told → KeepsLink Host (ended true told) → KeepsLink Host (ended true (heard_by_host told))
+whole_link_heard told well link = link_heard told (Said [] ∷ []) whole_end well (end_heard told) link
