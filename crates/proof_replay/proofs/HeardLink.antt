@@ -1,5 +1,5 @@
 -- The link of the host of `sim` keeps the rules over what it heard: what it did up to a unit that did not come, it did up to the next event that it heard of.
-use Rattle.std.proofs.Common.{◌≡◌, ℕ, zero, suc, ◌+◌, nat_lt, ◌&&◌, not, Bool, true, false, if◌then◌else◌, inl, inr, List, [], ◌∷◌, ◌++◌, length, drop, map, refl, sym, ap, ap₂, ◌∙◌, subst, append-nil, append_assoc, arith}
+use Rattle.std.proofs.Common.{◌≡◌, ◌⊎◌, ℕ, zero, suc, ◌+◌, nat_lt, ◌&&◌, not, Bool, true, false, if◌then◌else◌, inl, inr, List, [], ◌∷◌, ◌++◌, length, drop, refl, sym, ap, ap₂, ◌∙◌, subst, append-nil, append_assoc, arith}
 use Rattle.std.specs.List.{AllByRecursion, flat_map, list_any}
 use Rattle.std.proofs.lemmas.Grind.{flat_map-append}
 use Rattle.zw_base.proofs.Each.{all-append}
@@ -9,18 +9,17 @@ use Rattle.serial_link.specs.Rules.{SideObeys, Step, asks_of, item_of, items_of}
 use Rattle.serial_link.proofs.Counting.{asks_of-append}
 use Rattle.zw_words.specs.Words.{line_words, words}
 use Rattle.zw_words.specs.declared.side.Side.TheVariants.{Chip, Host}
-use Rattle.zw_text.specs.declared.line.Line.{Line}
 use Rattle.zw_text.specs.declared.entry.Entry.{Entry}
 use Rattle.zw_text.specs.declared.entry.Entry.TheVariants.{Said}
 use Rattle.zw_text.specs.Transcript.{line_of}
 use Rattle.law_transcript.specs.Lists.{EachAfter}
 use Rattle.law_transcript.specs.Restarts.{is_restart}
-use Rattle.law_wire.specs.Serial.{SerialEvent, beginning_of, done_line, ended, serial_events, serial_events_from, ticks_up_to}
+use Rattle.law_wire.specs.Serial.{SerialEvent, beginning_of, done_line, ended, serial_events, ticks_up_to}
 use Rattle.law_wire.specs.Serial.SerialEvent.{Line_begins, Tick_begins, Writes}
 use Rattle.law_wire.specs.Links.{AreFirst, CollidesAsTold, HasTicked, HearsInTime, KeepsLink, LeavesFew, MayDo, Moment, Obeys, Round, TicksInTime, WriteLast, WritesThere, ahead, arrival_of, arrivals_of, between_restarts, clock_in, ends_round, is_stalled, left_ahead, line_in, moments_of, round_of, round_step, since_start, stall_by, steps_in, tick_of, unit_by}
 use Rattle.proof_line.specs.Links.{IsMute, due_from, stalls_in, told_from}
 use Rattle.proof_line.proofs.Lists.{each-append}
-use Rattle.proof_line.proofs.LinkSteps.{clock_one, mute_last, stalls_one}
+use Rattle.proof_line.proofs.LinkSteps.{clock_one, stalls_one}
 use Rattle.proof_line.proofs.Moments.{arrivals_one, life_after, restarts_at, round_one, start_one, steps_one}
 use Rattle.proof_line.proofs.Serials.{serials_grow}
 use Rattle.proof_asking.specs.proof_requests.law_host.Heard.{heard_by_host}
