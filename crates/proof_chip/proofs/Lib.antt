@@ -39,6 +39,7 @@ mod Leaving
 mod Bringing
 mod Going
 mod Homing
+mod Following
 mod Beginning
 mod Staying
 mod Acting

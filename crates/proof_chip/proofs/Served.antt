@@ -25,7 +25,7 @@ use Rattle.proof_host.proofs.Lists.{each-append}
 use Rattle.proof_serial.specs.Line.{host_units}
 use Rattle.proof_line.specs.proof_traffic.Links.{KeepsItsLink, host_link_steps}
 use Rattle.proof_air.specs.proof_walk.Time.{KnowTime}
-use Rattle.proof_chip.specs.Staying.{BeganSo}
+use Rattle.proof_chip.specs.Staying.{AreBegun, KnowStays}
 use Rattle.proof_air.specs.proof_walk.Phases.{Phase, Between, Said_line, Giving, To_tick, Goes}
 use Rattle.zw_text.specs.declared.line.Line.{Line}
 use Rattle.proof_air.specs.proof_walk.Walk.{Walk, WalkWhere}
@@ -33,10 +33,11 @@ use Rattle.proof_air.specs.Landing.{KnowLanding}
 use Rattle.proof_air.proofs.Handling.{tie_here}
 use Rattle.proof_routes.specs.Networks.{Tie}
 use Rattle.proof_routes.specs.Knowing.{KnowNetworks}
-use Rattle.proof_line.specs.Linked.{began, did_at, said, CutsBy, Did, HasStarts, IsOrderly}
+use Rattle.proof_line.specs.Linked.{began, did_at, said, Cuts, Did, IsOrderly}
 use Rattle.proof_line.proofs.ChipAccounts.{event_steps}
 use Rattle.proof_line.proofs.Arrivals.{NoNexting}
 use Rattle.proof_line.proofs.Parts.{Laws}
+use Rattle.proof_line.proofs.LinkEnds.{cuts_began}
 use Rattle.proof_line.proofs.LinkWalk.{event_knows, said_knows, said_steps, tick_none, turn_knows}
 use Rattle.proof_chip.specs.Calling.{KnowCalls}
 use Rattle.proof_chip.specs.Knowing.{AnyEntry}
@@ -47,7 +48,7 @@ use Rattle.proof_chip.specs.Tally.{KnowTally}
 use Rattle.proof_chip.proofs.Airs.{event_goes, said_goes, turn_goes}
 use Rattle.proof_chip.proofs.Grounds.{agrees_of}
 use Rattle.proof_chip.proofs.Beginning.{all_there}
-use Rattle.proof_chip.proofs.Staying.{stays_event, stays_said, stays_turn}
+use Rattle.proof_chip.proofs.Staying.{stays_cut, stays_event, stays_said, stays_turn}
 use Rattle.proof_chip.proofs.Standing.{goes_none}
 use Rattle.proof_chip.proofs.Tallies.{at_waits, ended_waits, tally_event, tally_said, tally_turn}
 use Rattle.proof_chip.proofs.Walking.{any_each}
@@ -131,7 +132,7 @@ module _ (devices : List State) (laws : Laws) (none : NoNexting) (Asks : List En
               event_knows each units opened_keeps did here next past m event goes may orderly cuts,
               got.0,
               got.1,
-              stays_event devices did here next past m event goes may (time here past m known.0) cuts tally stays,
+              stays_event devices did here next past m event goes may cuts tally stays,
             ),
           ),
         );
@@ -161,27 +162,31 @@ module _ (devices : List State) (did : List Step) (here : Phase) (past : List En
   drops_so : (course : Course) → course ≡ course_of did → (all : List Entry) → EachAfter (MayWait devices (course_of did)) [] all → EachAfter (MayWait devices course) [] all
   drops_so course same all waits = subst (λ (c : Course). EachAfter (MayWait devices c) [] all) (sym same) waits
 
-  pub airs_cut : CutsBy did past → AirsByLink false devices past
-  airs_cut cuts = record {
-    link = cuts.links.chip;
-    airs = subst (λ (course : Course). EachAfter (MayAir devices course) [] past) (sym cuts.course) kept;
-    brings = brought _ cuts.course;
-    drops = drops_so _ cuts.course past (at_waits devices did past m.outside.outer here tally.0 (course_of did) (goes_none (course_of did)));
-    waits = tt;
-  }
+-- where the run was cut short
+pub airs_cut : (devices : List State) (did : Did) (here : Phase) (past : List Entry) (m : Machine) → KnowAir devices did.steps here past m → KnowTally devices did.steps here past m → Cuts did past
+    → KnowStays devices did here past m → AirsByLink false devices past
+airs_cut devices did here past m known tally cuts stays =
+    let all : Cuts (began did) past = cuts_began did past cuts in
+    record {
+      link = all.links.chip;
+      airs = subst (λ (course : Course). EachAfter (MayAir devices course) [] past) (sym all.course) (kept devices did.steps here past m known tally);
+      brings = brought devices did.steps here past m known tally _ all.course;
+      drops = drops_so devices did.steps here past m known tally _ all.course past
+          (at_waits devices did.steps past m.outside.outer here tally.0 (course_of did.steps) (goes_none (course_of did.steps)));
+      waits = all_there devices (began did) past all (stays_cut devices did here past m stays);
+    }
 
--- where the run is over
-module _ (devices : List State) (did : Did) (past : List Entry) (m : Machine) (known : KnowAir devices did.steps Between past m) (tally : KnowTally devices did.steps Between past m) where
-  pub airs_whole : (cuts : CutsBy did.steps (past ++ Said [] ∷ [])) → HasStarts (past ++ Said [] ∷ []) cuts.links.chip.parts (began did).starts → EachAfter (BeganSo devices (began did)) [] (past ++ Said [] ∷ [])
-      → AirsByLink true devices past
-  airs_whole cuts has stays = record {
-    link = cuts.links.chip;
-    airs =
-        let (frames, serves, brings, keeps) = known.0 in
-        subst (λ (course : Course). EachAfter (MayAir devices course) [] (past ++ Said [] ∷ [])) (sym cuts.course)
-        (each-append (MayAir devices (course_of did.steps)) [] past (Said [] ∷ []) (kept devices did.steps Between past m known tally) ((keeps (course_of did.steps) (goes_none (course_of did.steps))).over, tt));
-    brings = brought devices did.steps Between past m known tally _ cuts.course;
-    drops = drops_so devices did.steps Between past m known tally _ cuts.course (past ++ Said [] ∷ [])
-        (ended_waits devices did.steps past m.outside.outer tally.0 (course_of did.steps) (goes_none (course_of did.steps)));
-    waits = all_there devices (began did) (past ++ Said [] ∷ []) cuts.links.chip.parts cuts.links.chip.each has cuts.course stays;
-  }
+-- where it is over
+pub airs_whole : (devices : List State) (did : Did) (past : List Entry) (m : Machine) → KnowAir devices did.steps Between past m → KnowTally devices did.steps Between past m
+    → Cuts (began did) (past ++ Said [] ∷ []) → AreBegun devices (began did) (past ++ Said [] ∷ []) → AirsByLink true devices past
+airs_whole devices did past m known tally cuts stays = record {
+  link = cuts.links.chip;
+  airs =
+      let (frames, serves, brings, keeps) = known.0 in
+      subst (λ (course : Course). EachAfter (MayAir devices course) [] (past ++ Said [] ∷ [])) (sym cuts.course)
+      (each-append (MayAir devices (course_of did.steps)) [] past (Said [] ∷ []) (kept devices did.steps Between past m known tally) ((keeps (course_of did.steps) (goes_none (course_of did.steps))).over, tt));
+  brings = brought devices did.steps Between past m known tally _ cuts.course;
+  drops = drops_so devices did.steps Between past m known tally _ cuts.course (past ++ Said [] ∷ [])
+      (ended_waits devices did.steps past m.outside.outer tally.0 (course_of did.steps) (goes_none (course_of did.steps)));
+  waits = all_there devices (began did) (past ++ Said [] ∷ []) cuts stays;
+}

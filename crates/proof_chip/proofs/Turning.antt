@@ -1,6 +1,7 @@
--- By its steps a link has a frame of its own or has none: all accounts of a history by the rules agree on that.
-use Rattle.std.proofs.Common.{◌≡◌, ◌⊎◌, ℕ, zero, suc, Bool, true, false, if◌then◌else◌, List, [], ◌∷◌, ◌++◌, inl, inr, refl, sym, ap, ◌∙◌}
-use Rattle.std.specs.List.{flat_map}
+-- By its steps a link has a frame of its own or has none: all accounts of a history by the rules agree on that, also where steps follow that wrote nothing.
+use Rattle.std.proofs.Common.{◌≡◌, ◌⊎◌, ℕ, zero, suc, Bool, true, false, if◌then◌else◌, List, [], ◌∷◌, ◌++◌, inl, inr, refl, sym, ap, ◌∙◌, subst}
+use Rattle.std.specs.List.{AllByRecursion, flat_map}
+use Rattle.zw_base.proofs.Each.{all-append, all-right}
 use Rattle.serial_frame.specs.Frame.{FrameParts}
 use Rattle.serial_frame.specs.declared.unit.Unit.TheVariants.{Ack, Nak, Can, Framed}
 use Rattle.serial_link.specs.State.{Side as LinkSide}
@@ -9,6 +10,8 @@ use Rattle.serial_link.specs.declared.out.LinkOut.{LinkOut}
 use Rattle.serial_link.specs.declared.out.LinkOut.TheVariants.{Write, Got, Sent, Failed, Bad}
 use Rattle.serial_link.specs.declared.turn.Turn.{Turn}
 use Rattle.serial_link.specs.declared.turn.Turn.TheVariants.{Idle, Copied, Paused}
+use Rattle.law_wire.specs.Links.{text_of, texts_of}
+use Rattle.proof_line.specs.Links.{IsMute}
 
 -- ---- by the steps
 
@@ -158,12 +161,97 @@ turns_busy history turn turns =
     ∙ ap (λ (b : Bool). busy b turns.now) (past_ends turns.past turns.are_past)
     ∙ stands_busy turn turns.now turns.stands
 
+-- ---- steps that write nothing
+
+-- a frame that is submitted is written at once
+abbrev IsLoud : Step → Type 0
+IsLoud step = texts_of step ≡ [] → is_submitted step.event ≡ false
+
+loud : (step : Step) → is_submitted step.event ≡ false → IsLoud step
+loud step none = λ quiet. none
+
+own_writes : (outs : List LinkOut) (f : FrameParts) → flat_map text_of outs ≡ [] → own_of outs ≡ Write (Framed f) ∷ [] → ⊥
+own_writes [] f none own = let no : [] ≡ Write (Framed f) ∷ [] = own in cc
+own_writes (Write unit ∷ outs) f none own = absurd cc
+own_writes (Got g ∷ outs) f none own = own_writes outs f none own
+own_writes (Bad refusal ∷ outs) f none own = own_writes outs f none own
+own_writes (Sent ∷ outs) f none own = cc
+own_writes (Failed copies ∷ outs) f none own = cc
+
+silent_loud : (P : Event → Type 0) → ((event : Event) → P event → is_submitted event ≡ false) → (steps : List Step) → Silent P steps → AllByRecursion IsLoud steps
+silent_loud P left [] all = tt
+silent_loud P left (step ∷ steps) (is, own, more) = (loud step (left step.event is), silent_loud P left steps more)
+
+loud_both : (one more both : List Step) → both ≡ one ++ more → AllByRecursion IsLoud one → AllByRecursion IsLoud more → AllByRecursion IsLoud both
+loud_both one more both are first later = subst (AllByRecursion IsLoud) (sym are) (all-append IsLoud one more first later)
+
+pauses_loud : (steps : List Step) (age : ℕ) → Pauses steps age → AllByRecursion IsLoud steps
+pauses_loud steps age paused =
+    loud_both paused.wait (paused.end ∷ paused.pause) steps paused.parts (silent_loud LeavesCopy copy_left paused.wait paused.waits)
+    (loud paused.end (end_left _ paused.end.event paused.ends), silent_loud LeavesPause pause_left paused.pause paused.silent)
+
+copies_loud : (f : FrameParts) (copies : ℕ) (steps : List Step) → Copies f copies steps → AllByRecursion IsLoud steps
+copies_loud f zero steps copied = absurd copied
+copies_loud f (suc zero) steps copied =
+    subst (AllByRecursion IsLoud) (sym copied.alone) (λ quiet. absurd (own_writes copied.step.outs f quiet copied.written), tt)
+copies_loud f (suc (suc n)) steps (first, paused, step, earlier, parts, ticks, pausing, due, event, own) =
+    loud_both (first ++ paused) (step ∷ []) steps parts (all-append IsLoud first paused (copies_loud f (suc n) first earlier) (pauses_loud paused ticks pausing))
+    (loud step (ap is_submitted event), tt)
+
+stands_loud : (turn : Turn) (steps : List Step) → Stands turn steps → AllByRecursion IsLoud steps
+stands_loud Idle steps stands = silent_loud LeavesIdle idle_left steps stands
+stands_loud (Copied f copies ticks) steps (first, wait, parts, few, copied, waits) =
+    loud_both first wait steps parts (copies_loud f copies first copied) (silent_loud LeavesCopy copy_left wait waits.silent)
+stands_loud (Paused f copies ticks) steps (first, paused, parts, few, copied, pausing, early) =
+    loud_both first paused steps parts (copies_loud f copies first copied) (pauses_loud paused ticks pausing)
+
+life_loud : (steps : List Step) → IsLife steps → AllByRecursion IsLoud steps
+life_loud steps life = elim life.ends [
+  | inl sent ↦ loud_both life.life (life.last ∷ []) steps life.parts (stands_loud sent.turn life.life sent.stands) (loud life.last (ap is_submitted sent.event), tt)
+  | inr fails ↦ loud_both life.life (life.last ∷ []) steps life.parts (stands_loud (Copied fails.frame 4 fails.ticks) life.life fails.stands) (loud life.last (end_left fails.ticks life.last.event fails.event), tt)
+]
+
+past_loud : (past : List (List Step)) → ArePast past → AllByRecursion IsLoud (flat_map (λ (steps : List Step). steps) past)
+past_loud [] are = tt
+past_loud (steps ∷ past) are = all-append IsLoud steps (flat_map (λ (steps : List Step). steps) past) (first are.0) (past_loud past are.1)
+  where
+    first : (IsLife steps ⊎ Silent LeavesIdle steps) → AllByRecursion IsLoud steps
+    first (inl life) = life_loud steps life
+    first (inr all) = silent_loud LeavesIdle idle_left steps all
+
+turns_loud : (history : List Step) (turn : Turn) → Turns history turn → AllByRecursion IsLoud history
+turns_loud history turn turns =
+    loud_both (flat_map (λ (steps : List Step). steps) turns.past) turns.now history turns.parts (past_loud turns.past turns.are_past) (stands_loud turn turns.now turns.stands)
+
+mute_rests : (steps : List Step) → AllByRecursion IsLoud steps → AllByRecursion IsMute steps → busy false steps ≡ false
+mute_rests [] all mute = refl
+mute_rests (step ∷ steps) all mute = ap (λ (b : Bool). busy b steps) one ∙ mute_rests steps all.1 mute.1
+  where
+    same : (b : Bool) → (if b then false else false) ≡ false
+    same true = refl
+    same false = refl
+
+    one : busy_step false step ≡ false
+    one = ap (λ (b : Bool). if b then true else (if ends_in step.outs then false else false)) (all.0 mute.0) ∙ same (ends_in step.outs)
+
+-- ---- accounts
+
+none_busy : (turn : Turn) → is_busy turn ≡ false → turn ≡ Idle
+none_busy Idle is = refl
+none_busy (Copied f copies ticks) is = absurd (let no : true ≡ false = is in cc)
+none_busy (Paused f copies ticks) is = absurd (let no : true ≡ false = is in cc)
+
 -- where one account has no frame, no other has one
 pub idle_alike : (history : List Step) (one other : LinkSide) → SideObeys history one → SideObeys history other → one.turn ≡ Idle → other.turn ≡ Idle
 idle_alike history one other first second idle =
-    none other.turn (sym (turns_busy history other.turn second.turns) ∙ turns_busy history one.turn first.turns ∙ ap is_busy idle)
-  where
-    none : (turn : Turn) → is_busy turn ≡ false → turn ≡ Idle
-    none Idle is = refl
-    none (Copied f copies ticks) is = absurd (let no : true ≡ false = is in cc)
-    none (Paused f copies ticks) is = absurd (let no : true ≡ false = is in cc)
+    none_busy other.turn (sym (turns_busy history other.turn second.turns) ∙ turns_busy history one.turn first.turns ∙ ap is_busy idle)
+
+-- and none has one after steps that wrote nothing
+pub idle_still : (history mute : List Step) (one other : LinkSide) → SideObeys history one → SideObeys (history ++ mute) other → one.turn ≡ Idle → AllByRecursion IsMute mute → other.turn ≡ Idle
+idle_still history mute one other first second idle quiet =
+    let all = turns_loud (history ++ mute) other.turn second.turns in
+    none_busy other.turn
+    (sym (turns_busy (history ++ mute) other.turn second.turns)
+    ∙ busy_both false history mute
+    ∙ ap (λ (b : Bool). busy b mute) (turns_busy history one.turn first.turns ∙ ap is_busy idle)
+    ∙ mute_rests mute (all-right IsLoud history mute all) quiet)

@@ -1,9 +1,8 @@
 -- What is known of the chip at each phase of a line beside both links and all that other walks tell, and what follows of a whole run (this project's own rule).
-use Rattle.std.specs.Prelude.{Bool, true, false, List, []}
-use Rattle.serial_link.specs.Rules.{Step}
+use Rattle.std.specs.Prelude.{Bool, List}
 use Rattle.zw_words.specs.declared.side.Side.TheVariants.{Chip}
 use Rattle.zw_text.specs.declared.entry.Entry.{Entry}
-use Rattle.law_wire.specs.Answering.{DropsWhenFull}
+use Rattle.law_wire.specs.Answering.{DropsWhenFull, WaitsWhileBusy}
 use Rattle.law_wire.specs.Asked.{course_of}
 use Rattle.law_wire.specs.Links.{KeepsLink, joined}
 use Rattle.law_wire.specs.Serial.{ended}
@@ -21,9 +20,8 @@ use Rattle.proof_chip.specs.Bringing.{BringsInOrder}
 use Rattle.proof_chip.specs.Calling.{KnowCalls}
 use Rattle.proof_chip.specs.Knowing.{KnownNodes}
 use Rattle.proof_chip.specs.Sending.{KnowAir}
-use Rattle.proof_chip.specs.Staying.{KnowStays, MayBegin}
+use Rattle.proof_chip.specs.Staying.{KnowStays}
 use Rattle.proof_chip.specs.Tally.{KnowTally}
-use Rattle.law_transcript.specs.Lists.{EachAfter}
 
 abbrev pub KnowMembers : Phase → List Entry → Machine → Type 0
 KnowMembers here past m = KnownNodes past m
@@ -39,16 +37,11 @@ KnowServing devices here past m =
 
 -- ---- of a run
 
--- of a whole run: where a line that is no `tick`, or a tick, begins, and where the run is over, none waits unless the chip's link is busy
-abbrev pub WaitsForLink : Bool → List State → List (List Step) → List Entry → Type 0
-WaitsForLink true devices parts transcript = EachAfter (MayBegin devices parts) [] (ended true transcript)
-WaitsForLink false devices parts transcript = Unit {0}
-
--- the chip's link keeps the rules, and by what that link did the controller puts on the air just what it takes, the chip brings the host what was heard in order, and it drops a frame only
--- where 32 wait; and of a whole run, none waits where a line or tick begins unless the link is busy
+-- the chip's link keeps the rules, and by what that link did the controller puts on the air just what it takes, the chip brings the host what was heard in order, it drops a frame only
+-- where 32 wait, and none waits where a line or tick begins unless the link is busy
 pub record AirsByLink (whole : Bool) (devices : List State) (transcript : List Entry) : Type 0 where
   pub link : KeepsLink Chip (ended whole transcript)
   pub airs : AirsWhatIsTaken devices (course_of (joined link.parts)) (ended whole transcript)
   pub brings : BringsInOrder (course_of (joined link.parts)) transcript
   pub drops : DropsWhenFull devices (course_of (joined link.parts)) (ended whole transcript)
-  pub waits : WaitsForLink whole devices link.parts transcript
+  pub waits : WaitsWhileBusy devices link.parts (ended whole transcript)

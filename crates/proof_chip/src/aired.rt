@@ -25,7 +25,7 @@ use proof_serial::hosts_write_well;
 /// are taken: each directly after the answer to its request, unless its node has no way then. Where all lines were run whole it is so up to the end of the
 /// last one. And with each frame that the chip begins to write, the frames that it has begun bring some of what the controller heard before, one each and in
 /// order. It drops a frame for the host only where 32 others wait, and no more than these wait at the beginning of a line or a tick, and wherever one may be
-/// added. Where all lines were run whole, none waits at the end, nor where a line that is no `tick`, or a tick, begins, unless the link has a frame under way.
+/// added. And where words of a line stand or a tick begins none waits, unless the link has a frame under way.
 pub fn chips_air_what_is_taken()
     ensures cut { (keys : Keys) (devices : List State) (lines : List Spoken) →
         AreDone (first_machine keys (Some []) devices) lines →

@@ -35,8 +35,8 @@ pub mod LinkLines
 mod LinkChip
 mod LinkGiven
 pub mod LinkHost
-mod LinkEnds
-mod LinkEvents
+pub mod LinkEnds
+pub mod LinkEvents
 mod LinkTicks
 mod LinkWants
 mod LinkSettles

@@ -29,7 +29,7 @@ use Rattle.proof_world.specs.proof_serial.Chip.{HasFrames}
 use Rattle.proof_world.specs.proof_serial.Line.{AreAtRest}
 use Rattle.proof_traffic.specs.Links.{KeepsItsLink}
 use Rattle.proof_line.specs.Links.{AtLine, Brings, KnowsEvents, KnowsLink, LinkNow, MayEndNow, begun_line, cleared_in, due_from, stalls_in, tick_told, KnowsSide}
-use Rattle.proof_line.specs.Linked.{HasStarts, began, said, Cuts, CutsBy, Did, KnowsBoth, LinksBefore, LinksBegun, LinksDone, MayBothEnd}
+use Rattle.proof_line.specs.Linked.{began, done_by, said, Cuts, Did, KnowsBoth, LinksBefore, LinksBegun, LinksDone, MayBothEnd}
 use Rattle.proof_line.proofs.Rooming.{not_awaited}
 use Rattle.proof_line.proofs.Numbering.{ticked_none}
 use Rattle.proof_line.proofs.LinkSteps.{asks_by}
@@ -38,7 +38,7 @@ use Rattle.proof_line.proofs.LinkLines.{Says, chip_is_asked, says, stall_until}
 use Rattle.proof_line.proofs.LinkTime.{cleared_grow, timed_clears, timed_serials}
 use Rattle.proof_line.proofs.LinkChip.{obeyed}
 use Rattle.proof_line.proofs.LinkGiven.{brings_same}
-use Rattle.proof_line.proofs.LinkEnds.{all_told, cuts_of, starts_of}
+use Rattle.proof_line.proofs.LinkEnds.{all_told, cuts_of}
 use Rattle.proof_line.proofs.LinkTicks.{Then, in_round}
 
 -- ---- lines of which the links only know that they begin
@@ -156,14 +156,9 @@ module _ {did : Did} (before : List Entry) (first : Machine) (is_tick : Bool) (u
       begins.clears ∙ sym (timed_clears before o) ∙ both.line.clears
       ∙ sym (ap₂ (λ (a b : List ℕ). to_clear a b) begins.chip_is.3 begins.host_is.3)
 
-  pub begins_cuts : (tail : List Entry) (later after_it : LinkNow) → Begins tail later after_it → CutsBy later.life (before ++ tail)
+  pub begins_cuts : (tail : List Entry) (later after_it : LinkNow) → Begins tail later after_it → Cuts (done_by later) (before ++ tail)
   begins_cuts tail later after_it begins =
       cuts_of (before ++ tail) later after_it begins.chip begins.host (all_told (clears (before ++ tail)) (to_clear later.lost after_it.lost) (cleared_so tail later after_it begins))
-
-  pub begins_starts : (tail : List Entry) (later after_it : LinkNow) (begins : Begins tail later after_it) → HasStarts (before ++ tail) (begins_cuts tail later after_it begins).links.chip.parts later.starts
-  unfolding begins_cuts
-  begins_starts tail later after_it begins =
-      starts_of (before ++ tail) later after_it begins.chip begins.host (all_told (clears (before ++ tail)) (to_clear later.lost after_it.lost) (cleared_so tail later after_it begins))
 
   -- of a machine at which it has begun, and that is at their time
   pub begins_both : (tail : List Entry) (n : Machine) (now : Did) (later after_it : LinkNow) → later.life ≡ now.steps → later.starts ≡ now.starts → Begins tail later after_it → n.outside.outer.in_tick ≡ false → n.outside.outer.clock ≡ o.clock

@@ -36,7 +36,7 @@ use Rattle.proof_line.proofs.LinkTold.{arriving_all, brings_more, others_known}
 use Rattle.proof_line.proofs.LinkGiven.{AfterGiven, GoesGiven, GrowsChip, GrowsHost, brings_same, line_other}
 use Rattle.proof_line.proofs.LinkCourse.{course_mute}
 use Rattle.proof_line.proofs.LinkChip.{obeyed}
-use Rattle.proof_line.proofs.LinkEnds.{cuts_as, line_cuts}
+use Rattle.proof_line.proofs.LinkEnds.{cuts_as, cuts_more, line_cuts}
 
 -- ---- what stays
 
@@ -123,16 +123,17 @@ goes_both {did} {now} is_tick past told m n told_all up later down after_it both
     nothing_more none = ap (λ (l : List Entry). past ++ l) none ∙ append-nil past
 
     -- what it did more wrote nothing
-    same_course : told ≡ [] → course_of did.steps ≡ course_of now.steps
+    same_course : told ≡ [] → course_of did.steps ≡ course_of (did.steps ++ grows.more)
     same_course none =
-        sym (ap (λ (d : Did). course_of d.steps) grows.is
-        ∙ course_mute did.steps grows.more later.link
+        sym (course_mute did.steps grows.more later.link
         (subst (λ (l : List Step). SideObeys l later.link) (life ∙ ap (λ (d : Did). d.steps) grows.is) (obeyed Chip (serial_events ((past ++ ticked_entry m.outside.outer) ++ told)) later at.chip)) (grows.quiet none))
 
     cuts_then : Enters m.outside.outer n.outside.outer told_all told → Cuts now (past ++ told_all)
-    cuts_then (inl (none, nothing, same)) = subst (Cuts now) (sym (nothing_more nothing)) (cuts_as did.steps now.steps past (same_course none) cuts)
+    cuts_then (inl (none, nothing, same)) =
+        subst (Cuts now) (sym (nothing_more nothing)) (subst (λ (d : Did). Cuts d past) (sym grows.is) (cuts_more did grows.more past (same_course none) (grows.quiet none) cuts))
     cuts_then (inr (is, ended)) =
-        cuts_as later.life now.steps (past ++ told_all) (ap course_of life) (line_cuts (past ++ told_all) n.outside.outer later after_it (unstamped (ticked_none n.outside.outer ended)))
+        cuts_as later now (past ++ told_all) life (same_up.starts ∙ both.starts ∙ sym (ap (λ (d : Did). d.starts) grows.is))
+        (line_cuts (past ++ told_all) n.outside.outer later after_it (unstamped (ticked_none n.outside.outer ended)))
 
     behind_then : Enters m.outside.outer n.outside.outer told_all told → tick_told (past ++ told_all) ≤ n.outside.outer.clock
     behind_then (inl (none, nothing, same)) =

@@ -15,7 +15,6 @@ use Rattle.zw_text.specs.declared.entry.Entry.{Entry}
 use Rattle.zw_text.specs.declared.entry.Entry.TheVariants as entry
 use Rattle.zw_text.specs.Transcript.{line_of, lines_run}
 use Rattle.law_wire.specs.law_transcript.Restarts.{is_restart, ticks_asked}
-use Rattle.law_wire.specs.Asked.{course_of}
 use Rattle.law_wire.specs.Clearing.{clears, to_clear}
 use Rattle.law_wire.specs.Serial.{serial_events}
 use Rattle.proof_world.specs.host_model.State.{HostParts}
@@ -25,7 +24,7 @@ use Rattle.proof_walk.specs.world_model.State.{Machine}
 use Rattle.proof_walk.specs.world_model.Events.{Event, Outside_does, happens, entries}
 use Rattle.proof_traffic.specs.Links.{KeepsItsLink}
 use Rattle.proof_line.specs.Links.{AtLine, Brings, LinkNow, begun_line, cleared_in, due_from, tick_told}
-use Rattle.proof_line.specs.Linked.{HasStarts, began, ◌⊕◌, Cuts, CutsBy, Did, KnowsBoth, LinksBegun, LinksDone, LinksEnded, LinksOne, MayBothEnd}
+use Rattle.proof_line.specs.Linked.{began, done_by, said, ◌⊕◌, Cuts, Did, IsTickLine, KnowsBoth, LinksBegun, LinksDone, LinksEnded, LinksOne, MayBothEnd}
 use Rattle.proof_line.proofs.LinkKnown.{no_steps}
 use Rattle.proof_line.proofs.Rooming.{not_awaited}
 use Rattle.proof_line.proofs.Numbering.{ticked_none}
@@ -33,11 +32,12 @@ use Rattle.proof_line.proofs.LinkTime.{timed_clears}
 use Rattle.proof_line.proofs.ChipAccounts.{event_steps, outer_steps}
 use Rattle.proof_line.proofs.LinkCourse.{course_mute}
 use Rattle.proof_line.proofs.LinkChip.{obeyed}
-use Rattle.proof_line.proofs.LinkEnds.{all_told, cuts_as, cuts_of, starts_as}
+use Rattle.proof_line.proofs.LinkEnds.{all_told, cuts_as, cuts_of, cuts_other, did_is}
 use Rattle.proof_line.proofs.LinkTicks.{Then}
-use Rattle.proof_line.proofs.LinkBegins.{counts_so, IsOrdinary, alone_said, asked_step, asked_up, begins_both, begins_cuts, begins_starts, collides, done_of, ordinary, ordinary_restarts, said_clears, stalls, ticks_said}
+use Rattle.proof_line.proofs.LinkBegins.{counts_so, IsOrdinary, alone_said, asked_step, asked_up, begins_both, begins_cuts, collides, done_of, ordinary, ordinary_restarts, said_clears, stalls, ticks_said}
 use Rattle.proof_line.proofs.LinkPlain.{begun_whole, then_more}
 use Rattle.proof_line.proofs.LinkRestarts.{restart_said}
+use Rattle.proof_walk.proofs.ByLine.{last_is}
 use Rattle.proof_walk.proofs.Clock.{asked-append as asked_both}
 
 -- ---- the words
@@ -57,24 +57,25 @@ module _ {did : Did} (past : List Entry) (m : Machine) (is_tick : Bool) (up down
   plain_clears : (words : List ℕ) (line : List Line) → line_of (entry.Said words) ≡ line → is_restart line ≡ false → cleared_in (past ++ entry.Said words ∷ []) ≡ cleared_in past
   plain_clears words line read plain = said_clears past words (ap is_restart read ∙ plain)
 
-  ordinary_cuts : (words : List ℕ) (line : Line) → line_of (entry.Said words) ≡ line ∷ [] → IsOrdinary line → CutsBy up.life (past ++ entry.Said words ∷ [])
+  ordinary_cuts : (words : List ℕ) (line : Line) → line_of (entry.Said words) ≡ line ∷ [] → IsOrdinary line → Cuts (began (done_by up)) (past ++ entry.Said words ∷ [])
   ordinary_cuts words line read plain =
       begins_cuts past m is_tick up down both may (entry.Said words ∷ []) (begun_line up up.until) (begun_line down down.until)
       (ordinary past m is_tick up down both may (entry.Said words ∷ []) (line ∷ []) plain (alone_said past words (line ∷ []) m.outside.outer.clock read due)
       (plain_clears words (line ∷ []) read (ordinary_restarts (line ∷ []) plain)))
 
   -- the collision that a line asks for writes nothing
-  asked_cuts : (words : List ℕ) → line_of (entry.Said words) ≡ lines.Collide ∷ [] → CutsBy up.life (past ++ entry.Said words ∷ [])
+  asked_cuts : (words : List ℕ) → line_of (entry.Said words) ≡ lines.Collide ∷ [] → Cuts (began (done_by up)) (past ++ entry.Said words ∷ [])
   asked_cuts words read =
       let all : List Entry = past ++ entry.Said words ∷ [] in
       let later : LinkNow = asked_up past m is_tick up down both may in
       let begins =
       collides past m is_tick up down both may (entry.Said words ∷ []) (alone_said past words (lines.Collide ∷ []) m.outside.outer.clock read due) (plain_clears words (lines.Collide ∷ []) read refl) in
       let asked : List Step = asked_step past m is_tick up down both may ∷ [] in
-      cuts_as later.life up.life all (course_mute up.life asked later.link (obeyed Chip (serial_events all) later begins.chip) (refl, tt))
+      cuts_other (done_by later) (began (done_by up)) all (course_mute up.life asked later.link (obeyed Chip (serial_events all) later begins.chip) (refl, tt)) refl
+      (λ says. subst IsTickLine (last_is past (entry.Said words) ∙ read) says)
       (begins_cuts past m is_tick up down both may (entry.Said words ∷ []) later (begun_line down down.until) begins)
 
-  line_cut : (words : List ℕ) (line : Line) → line_of (entry.Said words) ≡ line ∷ [] → CutsBy up.life (past ++ entry.Said words ∷ [])
+  line_cut : (words : List ℕ) (line : Line) → line_of (entry.Said words) ≡ line ∷ [] → Cuts (said line (done_by up)) (past ++ entry.Said words ∷ [])
   line_cut words (lines.Tick count) read =
       let got = ticks_said past m is_tick up down both may (entry.Said words ∷ []) count (alone_said past words (lines.Tick count ∷ []) m.outside.outer.clock read due) in
       cuts_of (past ++ entry.Said words ∷ []) up down got.0 got.1
@@ -88,28 +89,16 @@ module _ {did : Did} (past : List Entry) (m : Machine) (is_tick : Bool) (up down
   line_cut words lines.Restart read = restart_said past words m is_tick up down both may read due no_steps.0 no_steps.1
   line_cut words line read = ordinary_cuts words line read tt
 
-  pub words_cut : (words : List ℕ) (line : Line) → line_of (entry.Said words) ≡ line ∷ [] → Cuts did (past ++ entry.Said words ∷ [])
-  words_cut words line read = cuts_as up.life did.steps (past ++ entry.Said words ∷ []) (ap course_of both.life) (line_cut words line read)
+  pub words_cut : (words : List ℕ) (line : Line) → line_of (entry.Said words) ≡ line ∷ [] → Cuts (said line did) (past ++ entry.Said words ∷ [])
+  words_cut words line read = subst (λ (d : Did). Cuts (said line d) (past ++ entry.Said words ∷ [])) (did_is up did both.life both.starts) (line_cut words line read)
 
   -- where the run ends
-  pub ended_cuts : Cuts did (past ++ entry.Said [] ∷ [])
+  pub ended_cuts : Cuts (began did) (past ++ entry.Said [] ∷ [])
   unfolding words line_words
   ended_cuts =
-      cuts_as up.life did.steps (past ++ entry.Said [] ∷ []) (ap course_of both.life)
+      subst (λ (d : Did). Cuts (began d) (past ++ entry.Said [] ∷ [])) (did_is up did both.life both.starts)
       (begins_cuts past m is_tick up down both may (entry.Said [] ∷ []) (begun_line up up.until) (begun_line down down.until)
       (ordinary past m is_tick up down both may (entry.Said [] ∷ []) [] tt (alone_said past [] [] m.outside.outer.clock refl due) (plain_clears [] [] refl refl)))
-
-  pub ended_starts : HasStarts (past ++ entry.Said [] ∷ []) ended_cuts.links.chip.parts (began did).starts
-  unfolding words line_words ended_cuts
-  ended_starts =
-      let all : List Entry = past ++ entry.Said [] ∷ [] in
-      let begins =
-      ordinary past m is_tick up down both may (entry.Said [] ∷ []) [] tt (alone_said past [] [] m.outside.outer.clock refl due) (plain_clears [] [] refl refl) in
-      let cuts : CutsBy up.life all = begins_cuts past m is_tick up down both may (entry.Said [] ∷ []) (begun_line up up.until) (begun_line down down.until) begins in
-      subst (HasStarts all (cuts_as up.life did.steps all (ap course_of both.life) cuts).links.chip.parts)
-      (ap₂ (λ (l : List (List Step)) (steps : List Step). l ++ steps ∷ []) both.starts both.life)
-      (starts_as up.life did.steps all (ap course_of both.life) cuts (up.starts ++ up.life ∷ [])
-      (begins_starts past m is_tick up down both may (entry.Said [] ∷ []) (begun_line up up.until) (begun_line down down.until) begins))
 
 -- ---- a `tick`
 
@@ -207,7 +196,7 @@ collides_go {did} past m cuts (first, just, begun) =
     (both.host_link ∙ sym (ap (λ (h : HostParts). h.state.side) begun.host)) (subst (λ (h : HostParts). KeepsItsLink down.life h.state) (sym begun.host) both.keeps)
     (record { turn = whole.0.turn; waiting = whole.0.waiting }, record { host = whole.1.host; chip = whole.1.chip }) in
     let is : past ++ [] ≡ just.before ++ tail = append-nil past ∙ just.is in (
-      subst (Cuts now) (sym is) (cuts_as later.life now.steps (just.before ++ tail) (ap course_of life) (begins_cuts just.before first just.is_tick up down both may tail later after_it begins)),
+      subst (Cuts now) (sym is) (cuts_as later now (just.before ++ tail) life counts.starts (begins_cuts just.before first just.is_tick up down both may tail later after_it begins)),
       subst (λ (l : List Entry). LinksDone now l n) (sym is) (done_of (just.before ++ tail) n later after_it begun.quiet known),
     )
 

@@ -12,7 +12,6 @@ use Rattle.zw_text.specs.declared.entry.Entry.{Entry}
 use Rattle.zw_text.specs.declared.entry.Entry.TheVariants as entry
 use Rattle.zw_text.specs.declared.entry.Refusal.{Refusal}
 use Rattle.law_wire.specs.law_transcript.Restarts.{is_restart}
-use Rattle.law_wire.specs.Asked.{course_of}
 use Rattle.proof_world.specs.host_model.State.{HostParts, HostState}
 use Rattle.proof_world.specs.host_model.Events.{HostEvent, Accepts, Cancels, Joins as joins_host, Queues, Queues_interview, Queues_probe}
 use Rattle.proof_world.specs.host_model.After.{after as host_after}
@@ -99,7 +98,7 @@ counted {did} line past first n just tail words begun begins_it plain says clear
     let begins = ordinary just.before first just.is_tick up down both may tail words plain says clears in
     let up_later : LinkNow = begun_line up up.until in
     let down_later : LinkNow = begun_line down down.until in (
-      cuts_as up_later.life did.steps (just.before ++ tail) (ap course_of counts.life) (begins_cuts just.before first just.is_tick up down both may tail up_later down_later begins),
+      cuts_as up_later did (just.before ++ tail) counts.life counts.starts (begins_cuts just.before first just.is_tick up down both may tail up_later down_later begins),
       (
         up_later,
         down_later,

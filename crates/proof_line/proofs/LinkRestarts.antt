@@ -19,7 +19,6 @@ use Rattle.zw_text.specs.declared.entry.Entry.{Entry}
 use Rattle.zw_text.specs.declared.entry.Entry.TheVariants as entry
 use Rattle.zw_text.specs.Transcript.{line_of}
 use Rattle.law_wire.specs.law_transcript.Restarts.{is_restart, begins_refused}
-use Rattle.law_wire.specs.Asked.{course_of}
 use Rattle.law_wire.specs.Clearing.{AreTold, Cleared_there, cleared, clears, clears_first, goes_on_after, to_clear}
 use Rattle.law_wire.specs.Links.{bytes_in}
 use Rattle.law_wire.specs.Serial.{SerialEvent, serial_events}
@@ -43,7 +42,7 @@ use Rattle.proof_world.specs.proof_serial.Line.{AreAtRest, IsWhole}
 use Rattle.proof_world.proofs.Events.{at_rest, rests_after, whole_after}
 use Rattle.proof_traffic.specs.Links.{KeepsItsLink}
 use Rattle.proof_line.specs.Links.{AtLine, Brings, KnowsEvents, KnowsLink, LinkNow, cleared_in, due_from, tick_told}
-use Rattle.proof_line.specs.Linked.{◌⊕◌, Cuts, CutsBy, Did, IsBegun, IsOrderly, KnowsBoth, LinksBegun, LinksClearing, LinksDone, LinksRestarting, MayBothEnd}
+use Rattle.proof_line.specs.Linked.{◌⊕◌, began, done_by, Cuts, Did, IsBegun, IsOrderly, KnowsBoth, LinksBegun, LinksClearing, LinksDone, LinksRestarting, MayBothEnd}
 use Rattle.proof_line.proofs.Rooming.{chip_cleared, host_cleared, not_awaited, quiet_cleared, unrefused}
 use Rattle.proof_line.proofs.Numbering.{ticked_none}
 use Rattle.proof_line.proofs.Serials.{refused_same, serials_grow, told_grows}
@@ -151,7 +150,7 @@ clear_more (x ∷ us) (y ∷ ds) u d same =
 -- so much of a restart is told, and this is to be
 restart_cuts : (before : List Entry) (words : List ℕ) (told more : List Entry) (up down : LinkNow) (ups downs : List ℕ) (u d : ℕ) → is_restart (line_of (entry.Said words)) ≡ true → AllByRecursion IsCleared told
     → cleared Host u ++ cleared Chip d ≡ told ++ more → KnowsLink Chip (before ++ entry.Said words ∷ told) up → KnowsLink Host (before ++ entry.Said words ∷ told) down → up.lost ≡ ups ++ u ∷ []
-    → down.lost ≡ downs ++ d ∷ [] → length ups ≡ length downs → cleared_in before ≡ to_clear ups downs → CutsBy up.life (before ++ entry.Said words ∷ told)
+    → down.lost ≡ downs ++ d ∷ [] → length ups ≡ length downs → cleared_in before ≡ to_clear ups downs → Cuts (done_by up) (before ++ entry.Said words ∷ told)
 restart_cuts before words told more up down ups downs u d restarts all is chip host up_lost down_lost many clears_so =
     let (there, are, old) = last_restart before words told restarts all in
     let dues : to_clear up.lost down.lost ≡ to_clear ups downs ++ (told ++ more) ∷ [] =
@@ -193,7 +192,7 @@ module _ {did : Did} (before : List Entry) (words : List ℕ) (first : Machine) 
   cleared_before = sym (timed_clears before first.outside.outer) ∙ both.line.clears
 
   -- whatever host goes on
-  pub restart_said : (new : LinkSide) → SideObeys [] new → CutsBy up.life all
+  pub restart_said : (new : LinkSide) → SideObeys [] new → Cuts (began (done_by up)) all
   restart_said new obeys =
       restart_cuts before words [] (cleared Host (bytes_in up.coming) ++ cleared Chip (bytes_in down.coming)) (restarted up up.life up.link) (restarted down [] new) up.lost down.lost (bytes_in up.coming) (bytes_in down.coming)
       (ap is_restart read) tt refl chip_on (host_on new obeys) refl refl both.line.many cleared_before
@@ -286,7 +285,7 @@ clears_host {did} past m may orderly known =
     let until = until_stays m (Clears_pipe Host) tt in
     subst (λ (l : List Entry). Cuts did (past ++ l) × LinksClearing did true (past ++ l) n) (sym alone) (
       subst (Cuts did) (sym is)
-          (cuts_as known.up.life did.steps (known.before ++ entry.Said known.words ∷ told) (ap course_of known.life) (restart_cuts known.before known.words told (cleared Chip known.to_host) known.up known.down known.ups known.downs u known.to_host (ap is_restart known.read) (all_lost Host u) refl
+          (cuts_as known.up did (known.before ++ entry.Said known.words ∷ told) known.life known.starts (restart_cuts known.before known.words told (cleared Chip known.to_host) known.up known.down known.ups known.downs u known.to_host (ap is_restart known.read) (all_lost Host u) refl
           (subst (λ (l : List Entry). KnowsLink Chip l known.up) is of_chip) (subst (λ (l : List Entry). KnowsLink Host l known.down) is of_host) known.chip_is.2 known.host_is.2 known.many known.clears)),
       record {
         before = known.before;
@@ -374,7 +373,7 @@ clears_chip {did} past m may orderly known =
       rests = rests_after m event known.whole known.rests may tt orderly.writes;
     } in
     subst (λ (l : List Entry). Cuts did (past ++ l) × LinksDone did (past ++ l) n) (sym alone)
-    (cuts_as known.up.life did.steps (past ++ told) (ap course_of known.life) (line_cuts (past ++ told) n.outside.outer known.up known.down line), done_of (past ++ told) n known.up known.down got.1 known_both)
+    (cuts_as known.up did (past ++ told) known.life known.starts (line_cuts (past ++ told) n.outside.outer known.up known.down line), done_of (past ++ told) n known.up known.down got.1 known_both)
   where
     same_many : (a b us ds : List ℕ) (u d : ℕ) → a ≡ us ++ u ∷ [] → b ≡ ds ++ d ∷ [] → length us ≡ length ds → length a ≡ length b
     same_many a b us ds u d a_is b_is many =

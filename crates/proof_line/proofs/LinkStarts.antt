@@ -1,18 +1,21 @@
--- So many lines and ticks have begun as the serial line tells; and where each of them began the chip's link had done its parts up to there.
-use Rattle.std.proofs.Common.{◌≡◌, suc, ◌+◌, Bool, true, false, if◌then◌else◌, List, [], ◌∷◌, ◌++◌, length, take, refl, sym, ap, ◌∙◌, append-nil, append_assoc, arith}
+-- So many lines and ticks have begun as the serial line tells; and where each of them began the chip's link had done its parts up to there, and had written nothing since the event
+-- before.
+use Rattle.std.proofs.Common.{◌≡◌, suc, ◌+◌, Bool, true, false, if◌then◌else◌, List, [], ◌∷◌, ◌++◌, length, take, refl, sym, ap, ◌∙◌, subst, append-nil, append_assoc, arith}
+use Rattle.std.specs.List.{AllByRecursion}
 use Rattle.serial_link.specs.Rules.{Step}
 use Rattle.zw_words.specs.declared.side.Side.{Side}
 use Rattle.zw_words.specs.declared.side.Side.TheVariants.{Chip}
 use Rattle.law_wire.specs.law_transcript.Lists.{shown_after}
 use Rattle.law_wire.specs.Serial.{SerialEvent}
-use Rattle.law_wire.specs.Links.{Moment, ends_round, joined, moments_of, steps_in}
-use Rattle.proof_line.specs.Links.{KnowsEvents, LinkNow, life_steps, start_at}
+use Rattle.law_wire.specs.Serial.SerialEvent.{Writes}
+use Rattle.law_wire.specs.Links.{Moment, WriteLast, WritesThere, ends_round, joined, moments_of, steps_in, unit_by}
+use Rattle.proof_line.specs.Links.{IsMute, KnowsEvents, LinkNow, life_steps, start_at}
 use Rattle.proof_line.specs.Linked.{flags_of, rounds_in}
 use Rattle.proof_line.proofs.Moments.{steps_one}
 
 -- ---- how many
 
-many_starts : (side : Side) (before : List Moment) (events : List SerialEvent) (parts : List (List Step)) → length parts ≡ length events
+pub many_starts : (side : Side) (before : List Moment) (events : List SerialEvent) (parts : List (List Step)) → length parts ≡ length events
     → length (shown_after (start_at side) before (moments_of events parts)) ≡ rounds_in (flags_of events)
 many_starts side before [] [] same = refl
 many_starts side before [] (part ∷ parts) same = absurd (omega (arith, same))
@@ -28,6 +31,11 @@ many_starts side before (event ∷ events) (part ∷ parts) same =
 
 pub starts_many : (piped : Bool) (side : Side) (events : List SerialEvent) (now : LinkNow) → KnowsEvents piped side events now → length now.starts ≡ rounds_in (flags_of events)
 starts_many piped side events now knows = sym (ap (λ (l : List (List Step)). length l) knows.at.starts) ∙ many_starts side [] events knows.parts knows.each
+
+pub rounds_both : (a b : List Bool) → rounds_in (a ++ b) ≡ rounds_in a + rounds_in b
+rounds_both [] b = let none : rounds_in b ≡ 0 + rounds_in b = omega arith in none
+rounds_both (true ∷ a) b = let rest = rounds_both a b in let whole : suc (rounds_in (a ++ b)) ≡ suc (rounds_in a) + rounds_in b = omega (arith, rest) in whole
+rounds_both (false ∷ a) b = rounds_both a b
 
 -- ---- which it is
 
@@ -60,3 +68,26 @@ start_is done (event ∷ events) (part ∷ parts) same (b ∷ front) back flags 
     later true [] are many = absurd (omega (arith, many))
     later true (x ∷ before) are many = (before, (let tail : _ ≡ before ++ life ∷ after = cc in tail), omega (arith, many))
     later false before are many = (before, are, many)
+
+-- ---- since the event before
+
+last_mute : (steps : List Step) → WriteLast steps [] → AllByRecursion IsMute steps
+last_mute [] last = tt
+last_mute (step ∷ []) last = (last, tt)
+last_mute (step ∷ next ∷ steps) last = (last.0, last_mute (next ∷ steps) last.1)
+
+begins_no_unit : (event : SerialEvent) → ends_round event ≡ true → unit_by Chip event ≡ []
+begins_no_unit (Writes on unit arriving lacking) begins = absurd (let none : false ≡ true = begins in cc)
+begins_no_unit event begins = refl
+
+pub start_mute : (events : List SerialEvent) (parts : List (List Step)) → length parts ≡ length events → AllByRecursion (WritesThere Chip) (moments_of events parts) → (front back : List Bool)
+    → flags_of events ≡ front ++ true ∷ back → (part : List Step) × (joined (take (suc (length front)) parts) ≡ joined (take (length front) parts) ++ part) × AllByRecursion IsMute part
+start_mute [] parts same writes [] back flags = absurd cc
+start_mute [] parts same writes (b ∷ front) back flags = absurd cc
+start_mute (event ∷ events) [] same writes front back flags = absurd (omega (arith, same))
+start_mute (event ∷ events) (part ∷ parts) same writes [] back flags =
+    let begins : ends_round event ≡ true = cc in (part, append-nil part, last_mute part (subst (WriteLast part) (begins_no_unit event begins) writes.0))
+start_mute (event ∷ events) (part ∷ parts) same writes (b ∷ front) back flags =
+    let more : flags_of events ≡ front ++ true ∷ back = cc in
+    let (later, is, mute) = start_mute events parts (omega (arith, same)) writes.1 front back more in
+    (later, ap (λ (l : List Step). part ++ l) is ∙ sym (append_assoc part (joined (take (length front) parts)) later), mute)

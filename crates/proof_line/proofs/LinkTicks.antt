@@ -44,6 +44,7 @@ use Rattle.proof_line.proofs.ChipTelling.{IsArriving, arriving_tells, does_tell,
 use Rattle.proof_line.proofs.HostTelling.{HostTells, does_tells, hosts_time}
 use Rattle.proof_line.proofs.Tellings.{IsBeside, TellsSome, tells_some}
 use Rattle.proof_line.proofs.LinkUntil.{StallsNot}
+use Rattle.proof_line.proofs.LinkEnds.{cuts_began}
 use Rattle.proof_line.proofs.LinkKnown.{tick_known}
 use Rattle.proof_line.proofs.LinkTime.{tick_serials, time_clears, timed_clears}
 use Rattle.proof_line.proofs.Serials.{time_serials}
@@ -102,7 +103,7 @@ begins_tick {did} past m cuts (is_tick, (up, down, both, may)) =
       frames = both.frames;
       rests = record { host = both.rests.host; chip = both.rests.chip };
     } in (
-      subst (Cuts did) (sym (append-nil past)) cuts,
+      subst (Cuts (began did)) (sym (append-nil past)) (cuts_began did past cuts),
       (subst (λ (l : List Entry). Round (began did) (HaveTicked 0 0) l n) (sym (append-nil past)) (begun_tick up, begun_tick down, known, (refl, refl)), refl),
     )
 

@@ -1,5 +1,5 @@
 -- What is known of both links at each phase of a line goes on with each event, where time is known too; so it is known where the events of lines end.
-use Rattle.std.proofs.Common.{◌≡◌, ◌≤◌, ℕ, zero, suc, ◌+◌, nat_lt, true, false, inl, inr, List, [], ◌∷◌, ◌++◌, length, refl, sym, ap, ◌∙◌, subst, arith, Bool, ◌<◌}
+use Rattle.std.proofs.Common.{◌≡◌, ◌≤◌, ℕ, zero, suc, ◌+◌, nat_lt, true, false, inl, inr, List, [], ◌∷◌, ◌++◌, length, refl, sym, ap, ◌∙◌, subst, append-nil, arith, Bool, ◌<◌}
 use Rattle.std.specs.Prelude.{Option}
 use Rattle.serial_frame.specs.Stream.{Rest}
 use Rattle.serial_frame.specs.declared.item.Item.{Item}
@@ -40,8 +40,8 @@ use Rattle.proof_traffic.specs.Links.{KeepsItsLink, host_link_steps}
 use Rattle.proof_walk.specs.Phases.{Phase, Between, Said_line, Begun, Doing, To_tick, Ticked, Arriving, Giving, Ticking_devices, Ticking_chip, Ticking_decoder, Ticking_host, Sleeping, Submitting, Moving, Moved, Turns, Goes}
 use Rattle.proof_walk.specs.Time.{KnowTime, MayCount}
 use Rattle.proof_walk.specs.Walk.{Walk, WalkWhere}
-use Rattle.proof_line.specs.Links.{AtLine, KeepsSoFar, LinkNow, MayEndNow, due_from, most_of, KnowsSide}
-use Rattle.proof_line.specs.Linked.{◌⊕◌, began, did_at, flags_of, rounds_in, said, UnlessTicks, BeginsLast, CutsBy, Did, HasStarts, Cuts, IsOrderly, KnowCuts, KnowLinks, KnowsBoth, LinksBegun, LinksDone, LinksLeft, HaveTickedOnce, InTick, Round, Anything, KnowAll}
+use Rattle.proof_line.specs.Links.{AtLine, KeepsSoFar, LinkNow, MayEndNow, due_from, most_of, tick_told, KnowsSide}
+use Rattle.proof_line.specs.Linked.{◌⊕◌, began, did_at, flags_of, rounds_in, said, BeginsLast, BeginsSaid, Did, Cuts, IsOrderly, KnowCuts, KnowLinks, KnowsBoth, LinksBegun, LinksDone, LinksLeft, HaveTickedOnce, InTick, Round, Anything, KnowAll}
 use Rattle.proof_line.proofs.LinkKnown.{no_steps}
 use Rattle.proof_line.proofs.LinkTold.{brings_none}
 use Rattle.proof_line.proofs.ChipAccounts.{event_steps, outer_steps}
@@ -57,7 +57,7 @@ use Rattle.proof_line.proofs.LinkEffects.{effect_plain}
 use Rattle.proof_line.proofs.LinkPlain.{plain_done, plain_goes, then_more}
 use Rattle.proof_line.proofs.LinkRestarts.{restart_done, restart_goes}
 use Rattle.proof_line.proofs.LinkStarts.{starts_many}
-use Rattle.proof_line.proofs.LinkOnes.{collide_goes, due_is, ended_cuts, ended_starts as starts_ended, one_done, stall_goes, ticks_begun, words_cut}
+use Rattle.proof_line.proofs.LinkOnes.{collide_goes, due_is, ended_cuts, one_done, stall_goes, ticks_begun, words_cut}
 
 -- ---- all entries may stand
 
@@ -83,18 +83,13 @@ pub said_knows : {did : Did} (past : List Entry) (m : Machine) (words : List ℕ
     → KnowCuts (said line did) (Said_line line) (past ++ Said words ∷ []) m
 said_knows {did} past m words line read time (cuts, (is_tick, (up, down, both, may))) =
     let due = due_now past m time in (
-      subst (λ (l : List Step). CutsBy l (past ++ Said words ∷ [])) (sym (said_steps line did)) (words_cut past m is_tick up down both may due words line read),
+      words_cut past m is_tick up down both may due words line read,
       record { before = past; words = words; read = read; is = refl; is_tick = is_tick; earlier = did; counts = refl; both = (up, down, both, may); due = due },
     )
 
 -- at the end of a whole run
-pub ended_known : (did : Did) (past : List Entry) (m : Machine) → KnowTime Between past m → KnowCuts did Between past m → Cuts did (past ++ Said [] ∷ [])
+pub ended_known : (did : Did) (past : List Entry) (m : Machine) → KnowTime Between past m → KnowCuts did Between past m → Cuts (began did) (past ++ Said [] ∷ [])
 ended_known did past m time (cuts, (is_tick, (up, down, both, may))) = ended_cuts past m is_tick up down both may (due_now past m time)
-
-pub ended_starts : (did : Did) (past : List Entry) (m : Machine) (time : KnowTime Between past m) (known : KnowCuts did Between past m)
-    → HasStarts (past ++ Said [] ∷ []) (ended_known did past m time known).links.chip.parts (began did).starts
-unfolding ended_known
-ended_starts did past m time (cuts, (is_tick, (up, down, both, may))) = starts_ended past m is_tick up down both may (due_now past m time)
 
 -- ---- lines and ticks begin
 
@@ -105,7 +100,7 @@ IsOneLine (line ∷ []) = Unit {0}
 IsOneLine (line ∷ next ∷ more) = ⊥
 
 pub said_begins : (did : Did) (past : List Entry) (m : Machine) (words : List ℕ) (line : List Line) → line_of (Said words) ≡ line → KnowTime Between past m → KnowCuts did Between past m → IsOneLine line
-    → UnlessTicks line (BeginsLast did (past ++ Said words ∷ []))
+    → BeginsSaid line did (past ++ Said words ∷ [])
 said_begins did past m words line read time (cuts, (is_tick, (up, down, both, may))) one =
     let due = due_now past m time in
     let o : OuterState = m.outside.outer in
@@ -116,9 +111,9 @@ said_begins did past m words line read time (cuts, (is_tick, (up, down, both, ma
     front = serial_events (past ++ ticked_entry m.outside.outer)
 
     by : (line : List Line) → IsOneLine line → serial_events (past ++ Said words ∷ []) ≡ front ++ beginning_of line → length did.starts ≡ rounds_in (flags_of front)
-        → UnlessTicks line (BeginsLast did (past ++ Said words ∷ []))
+        → BeginsSaid line did (past ++ Said words ∷ [])
     by [] one events many = record { front = front; event = Line_begins []; events = events; begins = refl; many = many }
-    by (lines.Tick count ∷ []) one events many = tt
+    by (lines.Tick count ∷ []) one events many = many ∙ ap (λ (l : List SerialEvent). rounds_in (flags_of l)) (sym (append-nil front) ∙ sym events)
     by (line ∷ []) one events many = record { front = front; event = Line_begins (line ∷ []); events = events; begins = refl; many = many }
     by (line ∷ next ∷ more) one events many = absurd one
 
@@ -132,6 +127,10 @@ tick_begins did ticks past m (cuts, (is_tick, (up, down, both, may))) =
       begins = refl;
       many = sym (ap (λ (l : List (List Step)). length l) both.starts) ∙ starts_many true Chip (serial_events (past ++ ticked_entry o)) up both.line.chip;
     }
+
+-- the number of a tick is above those before it
+pub tick_later : (did : Did) (ticks : ℕ) (past : List Entry) (m : Machine) → KnowCuts did (To_tick ticks) past m → tick_told past < m.outside.outer.clock + 1
+tick_later did ticks past m (cuts, (is_tick, (up, down, both, may))) = let behind = both.behind in omega (arith, behind)
 
 -- ---- phases
 
@@ -154,7 +153,7 @@ event_still did here apart next to event is past m event_same next_same none kno
     event_is did here next to event is past m event_same next_same
     (subst (λ (d : Did). Then d (KnowLinks d to) past m is) (sym (apart (event_steps m is))) (then_more (λ d. KnowLinks d to) (event_steps m is) past m is none known))
 
-line_none : (m : Machine) → event_steps m (Outside_does Begins_line) ≡ []
+pub line_none : (m : Machine) → event_steps m (Outside_does Begins_line) ≡ []
 unfolding event_steps outer_steps
 line_none m = refl
 

@@ -49,6 +49,11 @@ told_grows now due (entry.Said words ∷ past) told = told_grows due (due + tick
 told_grows now due (entry.Time tick ∷ past) told = told_grows tick due past told
 told_grows now due (e ∷ past) told = told_grows now due past told
 
+pub due_grows : (due : ℕ) (past told : List Entry) → due_from due (past ++ told) ≡ due_from (due_from due past) told
+due_grows due [] told = refl
+due_grows due (entry.Said words ∷ past) told = due_grows (due + ticks_asked (line_of (entry.Said words))) past told
+due_grows due (e ∷ past) told = due_grows due past told
+
 -- ---- entries of no event
 
 pub marks_none : (now due : ℕ) (marks : List Entry) → AllByRecursion IsMark marks → (serial_events_from now due marks ≡ []) × (told_from now due marks ≡ now)

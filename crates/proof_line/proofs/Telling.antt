@@ -109,7 +109,7 @@ numbers = untimed_law MayBeTold (TieNumbers 0) GoesWithin untimed_moves (λ cove
 
 -- ---- an event of the machine
 
-hosts : (event : OuterEvent) → is_own event ≡ false → GoesWithin event
+pub hosts : (event : OuterEvent) → is_own event ≡ false → GoesWithin event
 hosts Begins_line own = absurd (let none : true ≡ false = own in cc)
 hosts Begins_tick own = absurd (let none : true ≡ false = own in cc)
 hosts event own = tt

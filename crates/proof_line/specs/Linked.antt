@@ -9,7 +9,7 @@ use Rattle.zw_text.specs.declared.line.Line.{Line}
 use Rattle.zw_text.specs.declared.line.Line.TheVariants as lines
 use Rattle.zw_text.specs.declared.entry.Entry.{Entry}
 use Rattle.zw_text.specs.declared.entry.Entry.TheVariants.{Said}
-use Rattle.zw_text.specs.Transcript.{line_of}
+use Rattle.zw_text.specs.Transcript.{line_last, line_of}
 use Rattle.law_wire.specs.Asked.{course_of}
 use Rattle.law_wire.specs.Clearing.{AreTold, cleared, clears, lost_by, to_clear}
 use Rattle.law_wire.specs.Links.{KeepsLinks, ends_round, joined, moments_of}
@@ -33,7 +33,7 @@ use Rattle.proof_walk.specs.ByLine.{KnownOf, IsAsked}
 use Rattle.proof_walk.specs.Time.{KnowTime}
 use Rattle.proof_traffic.specs.Links.{KeepsItsLink}
 use Rattle.proof_line.specs.Pipes.{IsByHand, HearsNothing}
-use Rattle.proof_line.specs.Links.{AtLine, Brings, KnowsLink, LinkNow, MayEndNow, TicksNot, cleared_in, due_from, start_at, tick_told}
+use Rattle.proof_line.specs.Links.{AtLine, Brings, IsMute, KnowsLink, LinkNow, MayEndNow, TicksNot, cleared_in, due_from, start_at, tick_told}
 
 -- ---- what is asked of each event
 
@@ -69,10 +69,10 @@ abbrev pub said : Line → Did → Did
 said (lines.Tick count) did = did
 said line did = began did
 
--- a line that is no `tick`
-abbrev pub UnlessTicks : List Line → Type 0 → Type 0
-UnlessTicks (lines.Tick count ∷ more) P = Unit {0}
-UnlessTicks line P = P
+-- whether the line is one
+abbrev pub IsTickLine : List Line → Type 0
+IsTickLine (lines.Tick count ∷ more) = Unit {0}
+IsTickLine line = ⊥
 
 -- after an event: only where ticks are to come is it one that begins
 abbrev pub did_at : Phase → Did → List Step → Did
@@ -88,20 +88,32 @@ rounds_in [] = 0
 rounds_in (true ∷ flags) = suc (rounds_in flags)
 rounds_in (false ∷ flags) = rounds_in flags
 
+-- what the link of a side did of its life
+abbrev pub done_by : LinkNow → Did
+done_by now = record { steps = now.life; starts = now.starts }
+
 -- ---- the laws of a run that is cut short here
 
--- both sides kept the rules, and so far it is told what restarts lost; and by what the chip's link did it has the same course
-pub record CutsBy (did : List Step) (past : List Entry) : Type 0 where
+-- these parts of its steps, up to each event of the serial line, are these steps but for some at last that wrote nothing
+pub record ArePartsOf (steps : List Step) (parts : List (List Step)) : Type 0 where
+  pub since : List Step
+  pub is : steps ≡ joined parts ++ since
+  pub mute : AllByRecursion IsMute since
+
+-- the first of these starts; where there is none a line or tick that began now would begin after these steps
+abbrev pub next_start : List (List Step) → List Step → List Step
+next_start [] steps = steps
+next_start (start ∷ later) steps = start
+
+-- Both sides kept the rules, and so far it is told what restarts lost; and by what the chip's link did it has the same course, and its parts are so where each line or tick began, but for
+-- those that began later. Directly after the words of a `tick` they are what it had done where the next one began.
+pub record Cuts (did : Did) (past : List Entry) : Type 0 where
   pub links : KeepsLinks false past
   pub each : AreTold (clears past) (to_clear (lost_by Chip past links.chip.parts) (lost_by Host past links.host.parts))
-  pub course : course_of (joined links.chip.parts) ≡ course_of did
-
-abbrev pub Cuts : Did → List Entry → Type 0
-Cuts did past = CutsBy did.steps past
-
--- these parts of its steps are so where each line or tick began
-abbrev pub HasStarts : List Entry → List (List Step) → List (List Step) → Type 0
-HasStarts past parts starts = shown_after (start_at Chip) [] (moments_of (serial_events past) parts) ≡ starts
+  pub course : course_of (joined links.chip.parts) ≡ course_of did.steps
+  pub later : List (List Step)
+  pub starts : did.starts ≡ shown_after (start_at Chip) [] (moments_of (serial_events past) links.chip.parts) ++ later
+  pub next : IsTickLine (line_last past) → ArePartsOf (next_start later did.steps) links.chip.parts
 
 -- a line or tick begins with the last of these entries, after all those by which the chip's link did this
 pub record BeginsLast (did : Did) (all : List Entry) : Type 0 where
@@ -110,6 +122,11 @@ pub record BeginsLast (did : Did) (all : List Entry) : Type 0 where
   pub events : serial_events all ≡ front ++ event ∷ []
   pub begins : ends_round event ≡ true
   pub many : length did.starts ≡ rounds_in (flags_of front)
+
+-- where words of a line stand last; a `tick` begins nothing
+abbrev pub BeginsSaid : List Line → Did → List Entry → Type 0
+BeginsSaid (lines.Tick count ∷ more) did all = length did.starts ≡ rounds_in (flags_of (serial_events all))
+BeginsSaid line did all = BeginsLast did all
 
 -- ---- beside the machine
 

@@ -19,14 +19,14 @@ use Rattle.proof_air.specs.Landing.{KnowLanding}
 use Rattle.proof_routes.specs.Knowing.{KnowNetworks}
 use Rattle.proof_line.specs.Linked.{IsOrderly}
 use Rattle.proof_line.proofs.LinkSome.{lines_orderly}
-use Rattle.proof_line.proofs.LinkWalk.{ended_known, ended_starts, links_first, nothing_did}
+use Rattle.proof_line.proofs.LinkWalk.{ended_known, links_first, nothing_did}
 use Rattle.proof_line.proofs.Parts.{Laws}
 use Rattle.proof_chip.specs.Calling.{KnowCalls}
 use Rattle.proof_chip.specs.Knowing.{AnyEntry}
 use Rattle.proof_chip.specs.Served.{KnowBeside, KnowMembers, KnowServing}
 use Rattle.proof_chip.proofs.Airs.{air_first}
 use Rattle.proof_chip.proofs.Served.{airs_cut, airs_whole, ground_air, served_walk}
-use Rattle.proof_chip.proofs.Staying.{none_awaits, stays_ended, stays_first}
+use Rattle.proof_chip.proofs.Staying.{stays_ended}
 use Rattle.proof_chip.proofs.Tallies.{tally_first}
 use Rattle.proof_chip.proofs.aired.chips_air_what_is_taken.Goals as goal
 
@@ -102,10 +102,10 @@ returns-clause-cut c = λ keys devices lines are.
         ),
         c.calls_go_on.ensures.first keys (Some []) devices,
       ),
-      (nothing_did, links_first keys (Some []) devices (obey.first keys), air_first keys (Some []) devices (c.rules_of_histories.ensures.link [] tt), tally_first keys (Some []) devices (c.rules_of_histories.ensures.link [] tt), stays_first devices m (none_awaits keys (Some []) devices) nothing_did),
+      (nothing_did, links_first keys (Some []) devices (obey.first keys), air_first keys (Some []) devices (c.rules_of_histories.ensures.link [] tt), tally_first keys (Some []) devices (c.rules_of_histories.ensures.link [] tt), tt),
     ) in
     let known = where_lead IsOrderly AnyEntry (KnowServing devices) walk [] m lines are orderly first in
-    airs_cut devices known.1.1.0.steps known.0 (transcript_of m lines) (after_all m lines) known.1.1.2 known.1.1.3 known.1.1.1.0
+    airs_cut devices known.1.1.0 known.0 (transcript_of m lines) (after_all m lines) known.1.1.2 known.1.1.3 known.1.1.1.0 known.1.1.4
 
 pub returns-clause-whole : goal.returns-clause-whole
 returns-clause-whole c = λ keys devices lines are whole.
@@ -132,11 +132,11 @@ returns-clause-whole c = λ keys devices lines are whole.
         ),
         c.calls_go_on.ensures.first keys (Some []) devices,
       ),
-      (nothing_did, links_first keys (Some []) devices (obey.first keys), air_first keys (Some []) devices (c.rules_of_histories.ensures.link [] tt), tally_first keys (Some []) devices (c.rules_of_histories.ensures.link [] tt), stays_first devices m (none_awaits keys (Some []) devices) nothing_did),
+      (nothing_did, links_first keys (Some []) devices (obey.first keys), air_first keys (Some []) devices (c.rules_of_histories.ensures.link [] tt), tally_first keys (Some []) devices (c.rules_of_histories.ensures.link [] tt), tt),
     ) in
     let known = where_whole IsOrderly AnyEntry (KnowServing devices) walk [] m lines are whole orderly first in
     let time = known.0.0.0.0.0.1 in
     let did = known.1.0 in
     airs_whole devices did (transcript_of m lines) (after_all m lines) known.1.2 known.1.3
-    (ended_known did (transcript_of m lines) (after_all m lines) time known.1.1) (ended_starts did (transcript_of m lines) (after_all m lines) time known.1.1)
+    (ended_known did (transcript_of m lines) (after_all m lines) time known.1.1)
     (stays_ended devices did (transcript_of m lines) (after_all m lines) time known.1.1 known.1.3 known.1.4)
