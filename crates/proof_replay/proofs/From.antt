@@ -2,14 +2,12 @@
 use Rattle.std.proofs.Common.{ℕ, Bool, true, false, List, [], ◌∷◌, ◌++◌, subst, append_assoc}
 use Rattle.std.specs.Prelude.{Option}
 use Rattle.s0_crypto.specs.declared.key_pair.Keys.{Keys}
-use Rattle.zw_words.specs.declared.side.Side.TheVariants.{Host}
 use Rattle.zw_text.specs.declared.entry.Entry.{Entry}
 use Rattle.zw_text.specs.declared.entry.Entry.TheVariants.{Said}
 use Rattle.law_transcript.specs.Answers.{MayAnswer, MayCancel, refusals_by_host}
 use Rattle.law_transcript.specs.Lists.{EachAfter}
 use Rattle.law_transcript.specs.Payloads.{MayRequest}
 use Rattle.law_transcript.specs.Sessions.{MayBegin}
-use Rattle.law_wire.specs.Links.{KeepsLink}
 use Rattle.law_wire.specs.Serial.{ended}
 use Rattle.proof_host.proofs.Over.{each-right as each_from}
 use Rattle.proof_asking.specs.proof_requests.law_host.Heard.{listing_heard}
@@ -22,8 +20,8 @@ ended_from Law true before heard all = each_from Law [] before (heard ++ Said []
 ended_from Law false before heard all = each_from Law [] before heard all
 
 pub keeps_from : (keys : Keys) (before : List Entry) (whole : Bool) (heard : List Entry) (records : Option (List (List ℕ))) → HostsKeepLaws keys whole (before ++ heard) records
-    → KeepsLink Host (ended whole (before ++ heard)) → KeepsFrom keys before whole heard records
-keeps_from keys before whole heard records laws link = record {
+    → KeepsFrom keys before whole heard records
+keeps_from keys before whole heard records laws = record {
   answers = record {
     between = each_from (MayAnswer listing_heard (refusals_by_host listing_heard)) [] before heard laws.said.answers.between;
     in_the_end = laws.said.answers.in_the_end;
@@ -31,7 +29,7 @@ keeps_from keys before whole heard records laws link = record {
   cancels = each_from MayCancel [] before heard laws.said.cancels;
   sessions = each_from MayBegin [] before heard laws.said.sessions;
   carries = laws.said.carries;
-  link = link;
+  link = laws.link;
   stores = laws.said.stores;
   values = ended_from (ShowsValues listing_heard) whole before heard laws.said.values;
   sends = λ key same. each_from (MayRequest listing_heard key) [] before heard (laws.sends key same);

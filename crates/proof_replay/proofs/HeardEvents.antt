@@ -1,5 +1,5 @@
 -- What the host of `sim` heard has the events of the serial line that the run has, but for the units of the chip of which nothing came.
-use Rattle.std.proofs.Common.{◌≡◌, ◌⊎◌, ℕ, zero, suc, ◌+◌, ◌-◌, nat_lt, ◌==◌, not, Bool, true, false, if◌then◌else◌, inl, inr, List, [], ◌∷◌, ◌++◌, length, replicate, map, take, refl, sym, ap, ◌∙◌, subst, append_assoc, append-nil}
+use Rattle.std.proofs.Common.{◌≡◌, ◌⊎◌, ℕ, zero, suc, ◌+◌, ◌-◌, nat_lt, ◌==◌, Bool, true, false, if◌then◌else◌, inl, inr, List, [], ◌∷◌, ◌++◌, length, replicate, map, take, refl, sym, ap, ◌∙◌, subst, append_assoc, append-nil}
 use Rattle.std.specs.Prelude.{Option, Some, None, Result, Ok, Err}
 use Rattle.std.specs.List.{flat_map}
 use Rattle.zw_words.specs.declared.fault.LineFault.{LineFault}
@@ -46,23 +46,14 @@ abbrev pub AreHeard : List SerialEvent → List SerialEvent → Type 0
 AreHeard [] others = others ≡ []
 AreHeard (one ∷ events) others =
     ((is_unheard one ≡ true) × AreHeard events others)
-    ⊎ ((other : SerialEvent) × (more : List SerialEvent) × (others ≡ other ∷ more) × (is_unheard one ≡ false) × IsAlike one other × AreHeard events more)
-
--- whether the last of them is heard
-abbrev pub ends_heard : Bool → List SerialEvent → Bool
-ends_heard heard [] = heard
-ends_heard heard (one ∷ events) = ends_heard (not (is_unheard one)) events
-
-pub last_heard : (heard : Bool) (events : List SerialEvent) (one : SerialEvent) → is_unheard one ≡ false → ends_heard heard (events ++ one ∷ []) ≡ true
-last_heard heard [] one is = ap not is
-last_heard heard (first ∷ events) one is = last_heard (not (is_unheard first)) events one is
+    ⊎ ((other : SerialEvent) × (more : List SerialEvent) × (others ≡ other ∷ more) × IsAlike one other × AreHeard events more)
 
 -- ---- ticks and lines
 
 ticks_first : (count : ℕ) (events others : List SerialEvent) → AreHeard events others → AreHeard (replicate count Tick_begins ++ events) (replicate count Tick_begins ++ others)
 ticks_first zero events others are = are
 ticks_first (suc count) events others are =
-    inr (Tick_begins, replicate count Tick_begins ++ others, refl, refl, same_alike Tick_begins, ticks_first count events others are)
+    inr (Tick_begins, replicate count Tick_begins ++ others, refl, same_alike Tick_begins, ticks_first count events others are)
 
 -- ticks, and then a line
 pub ticks_then : (now due : ℕ) (first second events others : List SerialEvent) → AreHeard (first ++ events) (second ++ others)
@@ -74,9 +65,9 @@ ticks_then now due first second events others are =
     (ticks_first (due - now) (first ++ events) (second ++ others) are))
 
 pub line_first : (line : List Line) (events others : List SerialEvent) → AreHeard events others → AreHeard (beginning_of line ++ events) (beginning_of line ++ others)
-line_first [] events others are = inr (Line_begins [], others, refl, refl, same_alike (Line_begins []), are)
+line_first [] events others are = inr (Line_begins [], others, refl, same_alike (Line_begins []), are)
 line_first (lines.Tick count ∷ more) events others are = are
-line_first (line ∷ more) events others are = inr (Line_begins (line ∷ more), others, refl, refl, same_alike (Line_begins (line ∷ more)), are)
+line_first (line ∷ more) events others are = inr (Line_begins (line ∷ more), others, refl, same_alike (Line_begins (line ∷ more)), are)
 
 -- words are a line, or none
 abbrev IsOne : List Line → Type 0
@@ -108,7 +99,7 @@ others_first line events others (inr (one, same)) is are =
     let (begins, alike) = others_begin one (sym (ap is_of_others same) ∙ is) in
     subst (λ (l : List Line). AreHeard (Line_begins [] ∷ events) (beginning_of l ++ others)) (sym same)
     (subst (λ (l : List SerialEvent). AreHeard (Line_begins [] ∷ events) (l ++ others)) (sym begins)
-    (inr (Line_begins (one ∷ []), others, refl, refl, alike, are)))
+    (inr (Line_begins (one ∷ []), others, refl, alike, are)))
 
 -- ---- units of the chip
 
@@ -120,7 +111,6 @@ came unit other text after then events others first second are =
       Writes Chip other (arriving_of Chip other then) (lacking_of Chip other then),
       others,
       refl,
-      ap (λ (l : List (List ℕ)). is_unheard (Writes Chip unit l (lacking_of Chip unit after))) first,
       record { restarts = refl; stalls = λ clock. refl; ticks = refl; units = refl; arrivals = first ∙ sym second; ends = refl },
       are,
     )
@@ -367,7 +357,6 @@ module _ (end : List Entry) (ends : IsEnd end) where
       inr (
         Writes Host unit (arriving_of Host unit (heard_from [] told ++ end)) (lacking_of Host unit (heard_from [] told ++ end)),
         serial_events_from now due (heard_from [] told ++ end),
-        refl,
         refl,
         record { restarts = refl; stalls = λ clock. refl; ticks = refl; units = refl; arrivals = refl; ends = refl },
         events_heard now due [] true told well.1,

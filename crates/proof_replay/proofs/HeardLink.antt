@@ -7,23 +7,23 @@ use Rattle.serial_frame.specs.declared.item.Item.{Item}
 use Rattle.serial_link.specs.State.{Side as LinkSide}
 use Rattle.serial_link.specs.Rules.{SideObeys, Step, asks_of, item_of, items_of}
 use Rattle.serial_link.proofs.Counting.{asks_of-append}
-use Rattle.zw_words.specs.Words.{line_words, words}
 use Rattle.zw_words.specs.declared.side.Side.TheVariants.{Chip, Host}
 use Rattle.zw_text.specs.declared.entry.Entry.{Entry}
 use Rattle.zw_text.specs.declared.entry.Entry.TheVariants.{Said}
 use Rattle.zw_text.specs.Transcript.{line_of}
 use Rattle.law_transcript.specs.Lists.{EachAfter}
 use Rattle.law_transcript.specs.Restarts.{is_restart}
-use Rattle.law_wire.specs.Serial.{SerialEvent, beginning_of, done_line, ended, serial_events, ticks_up_to}
+use Rattle.law_wire.specs.Serial.{SerialEvent, beginning_of, done_line, ended, serial_events}
 use Rattle.law_wire.specs.Serial.SerialEvent.{Line_begins, Tick_begins, Writes}
 use Rattle.law_wire.specs.Links.{AreFirst, CollidesAsTold, HasTicked, HearsInTime, KeepsLink, LeavesFew, MayDo, Moment, Obeys, Round, TicksInTime, WriteLast, WritesThere, ahead, arrival_of, arrivals_of, between_restarts, clock_in, ends_round, is_stalled, left_ahead, line_in, moments_of, round_of, round_step, since_start, stall_by, steps_in, tick_of, unit_by}
-use Rattle.proof_line.specs.Links.{IsMute, due_from, stalls_in, told_from}
+use Rattle.proof_line.specs.Linked.{HostObeyed}
+use Rattle.proof_line.specs.Links.{IsMute, ObeysThere, stalls_in}
 use Rattle.proof_line.proofs.Lists.{each-append}
+use Rattle.proof_line.proofs.LinkKnown.{no_steps}
 use Rattle.proof_line.proofs.LinkSteps.{clock_one, stalls_one}
-use Rattle.proof_line.proofs.Moments.{arrivals_one, life_after, restarts_at, round_one, start_one, steps_one}
-use Rattle.proof_line.proofs.Serials.{serials_grow}
+use Rattle.proof_line.proofs.Moments.{all_lives, arrivals_one, life_after, restarts_at, round_one, start_one, steps_one}
 use Rattle.proof_asking.specs.proof_requests.law_host.Heard.{heard_by_host}
-use Rattle.proof_replay.proofs.HeardEvents.{AreHeard, IsAlike, IsEnd, StandWell, ends_heard, events_heard, is_unheard, last_heard, line_first, ticks_then}
+use Rattle.proof_replay.proofs.HeardEvents.{AreHeard, IsAlike, IsEnd, StandWell, events_heard, is_unheard, line_first, ticks_then}
 
 -- ---- lists
 
@@ -95,7 +95,7 @@ new_round round one (Writes side unit arriving lacking) ends = absurd (let bad :
 
 -- of each the steps since the one before it, with those of the units that did not come
 abbrev AreHeardAfter : List Step → List Moment → List Moment → Type 0
-AreHeardAfter open [] others = (others ≡ []) × (open ≡ [])
+AreHeardAfter open [] others = others ≡ []
 AreHeardAfter open (one ∷ rest) others =
     ((is_unheard one.event ≡ true) × AreHeardAfter (open ++ one.steps) rest others)
     ⊎ ((event : SerialEvent) × (more : List Moment) × (others ≡ record { event = event; steps = open ++ one.steps } ∷ more) × IsAlike one.event event × AreHeardAfter [] rest more)
@@ -106,22 +106,16 @@ record HasParts (open : List Step) (past : List Moment) (others : List SerialEve
   each : length parts ≡ length others
   are : AreHeardAfter open past (moments_of others parts)
 
-parts_heard : (heard : Bool) (open : List Step) (events others : List SerialEvent) (parts : List (List Step)) → length parts ≡ length events → (heard ≡ true → open ≡ []) → AreHeard events others
-    → ends_heard heard events ≡ true → HasParts open (moments_of events parts) others
-parts_heard heard open [] others parts each none are last =
-    subst (λ (l : List SerialEvent). HasParts open [] l) (sym are) (record { parts = []; each = refl; are = (refl, none last) })
-parts_heard heard open (one ∷ events) others [] each none are last = absurd (omega (arith, each))
-parts_heard heard open (one ∷ events) others (part ∷ parts) each none (inl (is, are)) last =
-    let rest = parts_heard false (open ++ part) events others parts (omega (arith, each)) (λ (bad : false ≡ true). absurd cc) are
-    (subst (λ (b : Bool). ends_heard (not b) events ≡ true) is last) in
-    record { parts = rest.parts; each = rest.each; are = inl (is, rest.are) }
-parts_heard heard open (one ∷ events) others (part ∷ parts) each none (inr (other, more, same, is, alike, are)) last =
-    let rest = parts_heard true [] events more parts (omega (arith, each)) (λ is_heard. refl) are (subst (λ (b : Bool). ends_heard (not b) events ≡ true) is last) in
-    subst (λ (l : List SerialEvent). HasParts open (record { event = one; steps = part } ∷ moments_of events parts) l) (sym same) (record {
-      parts = (open ++ part) ∷ rest.parts;
-      each = ap suc rest.each;
-      are = inr (other, moments_of more rest.parts, refl, alike, rest.are);
-    })
+parts_heard : (open : List Step) (events others : List SerialEvent) (parts : List (List Step)) → length parts ≡ length events → AreHeard events others
+    → HasParts open (moments_of events parts) others
+parts_heard open [] others parts each are = subst (λ (l : List SerialEvent). HasParts open [] l) (sym are) (record { parts = []; each = refl; are = refl })
+parts_heard open (one ∷ events) others [] each are = absurd (omega (arith, each))
+parts_heard open (one ∷ events) others (part ∷ parts) each (inl (is, are)) =
+    let rest = parts_heard (open ++ part) events others parts (omega (arith, each)) are in record { parts = rest.parts; each = rest.each; are = inl (is, rest.are) }
+parts_heard open (one ∷ events) others (part ∷ parts) each (inr (other, more, same, alike, are)) =
+    let rest = parts_heard [] events more parts (omega (arith, each)) are in
+    subst (λ (l : List SerialEvent). HasParts open (record { event = one; steps = part } ∷ moments_of events parts) l) (sym same)
+    (record { parts = (open ++ part) ∷ rest.parts; each = ap suc rest.each; are = inr (other, moments_of more rest.parts, refl, alike, rest.are) })
 
 -- ---- what the laws look at
 
@@ -145,16 +139,21 @@ record RoundsStand (told heard : Round) : Type 0 where
 
 -- the laws of the host's link in a moment, and in those that follow
 record Law (past : List Moment) (one : Moment) : Type 0 where
+  ever : ObeysThere Host past one
   writes : WritesThere Host one
   hears : HearsInTime Host past one
   ticks : TicksInTime Host past one
   collides : CollidesAsTold Host past one
 
 record Laws (past rest : List Moment) : Type 0 where
+  ever : EachAfter (ObeysThere Host) past rest
   writes : AllByRecursion (WritesThere Host) rest
   hears : EachAfter (HearsInTime Host) past rest
   ticks : EachAfter (TicksInTime Host) past rest
   collides : EachAfter (CollidesAsTold Host) past rest
+
+obeyed_so : (told heard : List Moment) → steps_in told ≡ steps_in heard → Obeys told → Obeys heard
+obeyed_so told heard same obeys = subst (λ (l : List Step). (end : LinkSide) × SideObeys l end) same obeys
 
 life_on : (past : List Moment) (one : Moment) → restarts_at one ≡ false → since_start (past ++ one ∷ []) ≡ since_start past ++ one ∷ []
 life_on past one plain = start_one past one ∙ ap (λ (b : Bool). life_after b (since_start past ++ one ∷ [])) plain
@@ -231,6 +230,8 @@ module _ (past seen : List Moment) (open : List Step) (stand : Stand past seen o
     -- one that was heard keeps the laws with them
     keeps : Law seen other
     keeps = record {
+      ever = obeyed_so (since_start past ++ one ∷ []) (since_start seen ++ other ∷ [])
+          (steps_behind (since_start past) (since_start seen) open one stand.life ∙ sym (steps_one (since_start seen) other)) law.ever;
       writes = subst (λ (l : List (List ℕ)). WriteLast (open ++ one.steps) l) alike.units (writes_both open one.steps (unit_by Host one.event) stand.mute law.writes);
       hears = (
         hears_all,
@@ -307,14 +308,14 @@ module _ (past seen : List Moment) (open : List Step) (stand : Stand past seen o
 -- ---- all of them
 
 first_law : (past : List Moment) (one : Moment) (rest : List Moment) → Laws past (one ∷ rest) → Law past one
-first_law past one rest laws = record { writes = laws.writes.0; hears = laws.hears.0; ticks = laws.ticks.0; collides = laws.collides.0 }
+first_law past one rest laws = record { ever = laws.ever.0; writes = laws.writes.0; hears = laws.hears.0; ticks = laws.ticks.0; collides = laws.collides.0 }
 
 later_laws : (past : List Moment) (one : Moment) (rest : List Moment) → Laws past (one ∷ rest) → Laws (past ++ one ∷ []) rest
-later_laws past one rest laws = record { writes = laws.writes.1; hears = laws.hears.1; ticks = laws.ticks.1; collides = laws.collides.1 }
+later_laws past one rest laws = record { ever = laws.ever.1; writes = laws.writes.1; hears = laws.hears.1; ticks = laws.ticks.1; collides = laws.collides.1 }
 
 laws_kept : (past seen : List Moment) (open : List Step) (rest others : List Moment) → Stand past seen open → AreHeardAfter open rest others → Laws past rest → Laws seen others
-laws_kept past seen open [] others stand (none, over) laws =
-    subst (λ (l : List Moment). Laws seen l) (sym none) (record { writes = tt; hears = tt; ticks = tt; collides = tt })
+laws_kept past seen open [] others stand none laws =
+    subst (λ (l : List Moment). Laws seen l) (sym none) (record { ever = tt; writes = tt; hears = tt; ticks = tt; collides = tt })
 laws_kept past seen open (one ∷ rest) others stand (inl (is, are)) laws =
     laws_kept (past ++ one ∷ []) seen (open ++ one.steps) rest others (passes past seen open stand one (first_law past one rest laws) is) are (later_laws past one rest laws)
 laws_kept past seen open (one ∷ rest) others stand (inr (event, more, same, alike, are)) laws =
@@ -323,87 +324,53 @@ laws_kept past seen open (one ∷ rest) others stand (inr (event, more, same, al
     let here = keeps past seen open stand one law event alike in
     let later = laws_kept (past ++ one ∷ []) (seen ++ other ∷ []) [] rest more (goes_on past seen open stand one law event alike) are (later_laws past one rest laws) in
     subst (λ (l : List Moment). Laws seen l) (sym same)
-    (record { writes = (here.writes, later.writes); hears = (here.hears, later.hears); ticks = (here.ticks, later.ticks); collides = (here.collides, later.collides) })
+    (record { ever = (here.ever, later.ever); writes = (here.writes, later.writes); hears = (here.hears, later.hears); ticks = (here.ticks, later.ticks); collides = (here.collides, later.collides) })
 
 -- each life obeyed
-obeyed_so : (told heard : List Moment) → steps_in told ≡ steps_in heard → Obeys told → Obeys heard
-obeyed_so told heard same obeys = subst (λ (l : List Step). (end : LinkSide) × SideObeys l end) same obeys
-
-lives_obeyed : (life heard : List Moment) (open : List Step) (rest others : List Moment) → steps_in life ≡ steps_in heard ++ open → AreHeardAfter open rest others
-    → AllByRecursion Obeys (between_restarts life rest) → AllByRecursion Obeys (between_restarts heard others)
-lives_obeyed life heard open [] others same (none, over) obeys =
-    subst (λ (l : List Moment). AllByRecursion Obeys (between_restarts heard l)) (sym none)
-    (obeyed_so life heard (same ∙ ap (λ (l : List Step). steps_in heard ++ l) over ∙ append-nil (steps_in heard)) obeys.0, tt)
-lives_obeyed life heard open (one ∷ rest) others same (inl (is, are)) obeys =
-    let says = says_nothing one.event is in
-    lives_obeyed (life ++ one ∷ []) heard (open ++ one.steps) rest others (steps_behind life heard open one same) are
-    (subst (λ (b : Bool). AllByRecursion Obeys (if b then (life ++ one ∷ []) ∷ between_restarts [] rest else between_restarts (life ++ one ∷ []) rest)) says.restarts obeys)
-lives_obeyed life heard open (one ∷ rest) others same (inr (event, more, is, alike, are)) obeys =
-    let other : Moment = record { event = event; steps = open ++ one.steps } in
-    let now : steps_in (life ++ one ∷ []) ≡ steps_in (heard ++ other ∷ []) = steps_behind life heard open one same ∙ sym (steps_one heard other) in
-    subst (λ (l : List Moment). AllByRecursion Obeys (between_restarts heard l)) (sym is)
-    (subst (λ (b : Bool). AllByRecursion Obeys (if b then (heard ++ other ∷ []) ∷ between_restarts [] more else between_restarts (heard ++ other ∷ []) more)) alike.restarts
-    (by other now (lives_obeyed [] [] [] rest more refl are)
-    (lives_obeyed (life ++ one ∷ []) (heard ++ other ∷ []) [] rest more (now ∙ sym (append-nil (steps_in (heard ++ other ∷ [])))) are) (restarts_at one) obeys))
-  where
-    by : (other : Moment) → steps_in (life ++ one ∷ []) ≡ steps_in (heard ++ other ∷ [])
-        → (AllByRecursion Obeys (between_restarts [] rest) → AllByRecursion Obeys (between_restarts [] more))
-        → (AllByRecursion Obeys (between_restarts (life ++ one ∷ []) rest) → AllByRecursion Obeys (between_restarts (heard ++ other ∷ []) more))
-        → (again : Bool) → AllByRecursion Obeys (if again then (life ++ one ∷ []) ∷ between_restarts [] rest else between_restarts (life ++ one ∷ []) rest)
-        → AllByRecursion Obeys (if again then (heard ++ other ∷ []) ∷ between_restarts [] more else between_restarts (heard ++ other ∷ []) more)
-    by other now anew on true all = (obeyed_so (life ++ one ∷ []) (heard ++ other ∷ []) now all.0, anew all.1)
-    by other now anew on false all = on all
+lives_obey : (seen others : List Moment) → AllByRecursion Obeys (between_restarts [] seen) → EachAfter (ObeysThere Host) seen others
+    → AllByRecursion Obeys (between_restarts [] (seen ++ others))
+lives_obey seen [] before ever = subst (λ (l : List Moment). AllByRecursion Obeys (between_restarts [] l)) (sym (append-nil seen)) before
+lives_obey seen (one ∷ others) before ever =
+    subst (λ (l : List Moment). AllByRecursion Obeys (between_restarts [] l)) (append_assoc seen (one ∷ []) others)
+    (lives_obey (seen ++ one ∷ []) others (all_lives seen one no_steps before ever.0) ever.1)
 
 -- ---- over what was heard
 
 first_stand : Stand [] [] []
 first_stand = record { life = refl; came = refl; is_tick = refl; round = refl; clock = refl; stalls = refl; mute = tt; heard = tt; may = tt; asks = refl }
 
--- up to an end, where the last event of the line that was told was heard
-pub link_heard : (told end : List Entry) → IsEnd end → StandWell [] false told → ends_heard true (serial_events (told ++ end)) ≡ true → KeepsLink Host (told ++ end)
-    → KeepsLink Host (heard_by_host told ++ end)
-link_heard told end ends well last link =
+-- up to an end
+link_heard : (told end : List Entry) → IsEnd end → StandWell [] false told → HostObeyed (told ++ end) → KeepsLink Host (heard_by_host told ++ end)
+link_heard told end ends well obeyed =
+    let link : KeepsLink Host (told ++ end) = obeyed.link in
     let events : List SerialEvent = serial_events (told ++ end) in
     let others : List SerialEvent = serial_events (heard_by_host told ++ end) in
-    let got = parts_heard true [] events others link.parts link.each (λ is_heard. refl) (events_heard end ends 0 0 [] false told well) last in
+    let got = parts_heard [] events others link.parts link.each (events_heard end ends 0 0 [] false told well) in
     let kept = laws_kept [] [] [] (moments_of events link.parts) (moments_of others got.parts) first_stand got.are
-    (record { writes = link.writes; hears = link.hears; ticks = link.ticks; collides = link.collides })
+    (record { ever = obeyed.ever; writes = link.writes; hears = link.hears; ticks = link.ticks; collides = link.collides })
     in
     record {
       parts = got.parts;
       each = got.each;
-      obeys = lives_obeyed [] [] [] (moments_of events link.parts) (moments_of others got.parts) refl got.are link.obeys;
+      obeys = lives_obey [] (moments_of others got.parts) (no_steps, tt) kept.ever;
       writes = kept.writes;
       hears = kept.hears;
       ticks = kept.ticks;
       collides = kept.collides;
     }
 
--- ---- a whole run
-
--- at its end a line begins
+-- where a whole run ends a line begins, and elsewhere nothing
 abbrev end_begins : List SerialEvent
 end_begins = beginning_of (done_line (line_of (Said [])) [])
 
 whole_end : IsEnd (Said [] ∷ [])
 whole_end = record { unmarked = refl; unrefused = refl; heard = λ now due. ticks_then now due end_begins end_begins [] [] (line_first (done_line (line_of (Said [])) []) [] [] refl) }
 
-end_is : end_begins ≡ Line_begins [] ∷ []
-unfolding words line_words
-end_is = refl
+no_end : IsEnd []
+no_end = record { unmarked = refl; unrefused = refl; heard = λ now due. refl }
 
--- it is heard
-end_heard : (told : List Entry) → ends_heard true (serial_events (told ++ Said [] ∷ [])) ≡ true
-end_heard told =
-    let now : ℕ = told_from 0 0 told in
-    let due : ℕ = due_from 0 told in
-    let before : List SerialEvent = serial_events told ++ ticks_up_to now due in
-    let events : serial_events (told ++ Said [] ∷ []) ≡ before ++ Line_begins [] ∷ [] =
-    serials_grow 0 0 told (Said [] ∷ []) tt refl
-    ∙ ap (λ (l : List SerialEvent). serial_events told ++ l) (append-nil (ticks_up_to now due ++ end_begins) ∙ ap (λ (l : List SerialEvent). ticks_up_to now due ++ l) end_is)
-    ∙ sym (append_assoc (serial_events told) (ticks_up_to now due) (Line_begins [] ∷ []))
-    in
-    ap (λ (l : List SerialEvent). ends_heard true l) events ∙ last_heard true before (Line_begins []) refl
-
-pub whole_link_heard : (told : List Entry) → StandWell [] false told → KeepsLink Host (ended true told) → KeepsLink Host (ended true (heard_by_host told))
-whole_link_heard told well link = link_heard told (Said [] ∷ []) whole_end well (end_heard told) link
+pub links_heard : (whole : Bool) (told : List Entry) → StandWell [] false told → HostObeyed (ended whole told) → KeepsLink Host (ended whole (heard_by_host told))
+links_heard true told well obeyed = link_heard told (Said [] ∷ []) whole_end well obeyed
+links_heard false told well obeyed =
+    subst (λ (l : List Entry). KeepsLink Host l) (append-nil (heard_by_host told))
+    (link_heard told [] no_end well (subst (λ (l : List Entry). HostObeyed l) (sym (append-nil told)) obeyed))

@@ -48,7 +48,7 @@ use Rattle.proof_replay.specs.Heard.{AreReplayed, AreSaid, Replayed, heard_of, t
 -- The number of a tick is above those before it, and lines have asked for so many ticks.
 -- Each payload that it asks its chip to send is a message of the last session of its node, by what the node listed, a nonce or a question for one, lets the node sleep, or was
 -- asked for by a line; where its keys are those of a network key, by what nodes told openly or sealed with that key.
--- Where it came to rest, its link kept the rules of the serial line, a new one from each start on.
+-- Its link kept the rules of the serial line, a new one from each start on.
 pub record HostsKeepLaws (keys : Keys) (whole : Bool) (heard : List Entry) (records : Option (List (List ℕ))) : Type 0 where
   pub orders : HostLaws heard
   pub said : KeepsWhatIsSaid whole heard records
@@ -67,7 +67,7 @@ pub record HostsKeepLaws (keys : Keys) (whole : Bool) (heard : List Entry) (reco
   pub begins : BeginsWithUnit (ended whole heard)
   pub ticks : EachAfter MayCount [] heard
   pub sends : (key : List ℕ) → keys ≡ keys_of key → SendsWhatIsDue listing_heard key heard
-  pub link : whole ≡ true → KeepsLink Host (ended true heard)
+  pub link : KeepsLink Host (ended whole heard)
 
 -- Of a host that starts with records, after what stood before: the fields of `IsHostLegal` that are proved of it. It goes by what nodes listed in their interviews, and by
 -- the whole of what it heard; where its keys are those of a network key, this key.

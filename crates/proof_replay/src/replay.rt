@@ -40,11 +40,11 @@ pub fn replays_are_a_hosts()
     hosts_obey_the_line();
 }
 
-/// A host alone that begins without records keeps these laws, over a keeper that tells its records, where no line is refused that is for others, and, if it
-/// ends at rest, its link kept the rules of the serial line.
+/// A host alone that begins without records keeps these laws, over a keeper that tells its records, where no line is refused that is for others and its
+/// link kept the rules of the serial line.
 pub fn hosts_keep_laws()
     ensures { (keys : Keys) (whole : Bool) (here : Phase) (heard : List Entry) (m : HostMachine) → Run (first_alone keys (Some [])) here heard m →
-        (whole ≡ true → (here ≡ Resting) × (m.left ≡ 0)) → AreForHost heard → (whole ≡ true → KeepsLink Host (ended true heard)) →
+        (whole ≡ true → (here ≡ Resting) × (m.left ≡ 0)) → AreForHost heard → KeepsLink Host (ended whole heard) →
         HostsKeepLaws keys whole heard m.records }
 {
     hosts_keep_their_tables();
