@@ -103,12 +103,12 @@ others_first line events others (inr (one, same)) is are =
 
 -- ---- units of the chip
 
-came : (unit other text : List ℕ) (after then : List Entry) (events others : List SerialEvent) → arriving_of Chip unit after ≡ text ∷ [] → arriving_of Chip other then ≡ text ∷ []
+came : (unit other text : List ℕ) (after behind : List Entry) (events others : List SerialEvent) → arriving_of Chip unit after ≡ text ∷ [] → arriving_of Chip other behind ≡ text ∷ []
     → AreHeard events others
-    → AreHeard (Writes Chip unit (arriving_of Chip unit after) (lacking_of Chip unit after) ∷ events) (Writes Chip other (arriving_of Chip other then) (lacking_of Chip other then) ∷ others)
-came unit other text after then events others first second are =
+    → AreHeard (Writes Chip unit (arriving_of Chip unit after) (lacking_of Chip unit after) ∷ events) (Writes Chip other (arriving_of Chip other behind) (lacking_of Chip other behind) ∷ others)
+came unit other text after behind events others first second are =
     inr (
-      Writes Chip other (arriving_of Chip other then) (lacking_of Chip other then),
+      Writes Chip other (arriving_of Chip other behind) (lacking_of Chip other behind),
       others,
       refl,
       record { restarts = refl; stalls = λ clock. refl; ticks = refl; units = refl; arrivals = first ∙ sym second; ends = refl },
@@ -292,9 +292,9 @@ module _ (end : List Entry) (ends : IsEnd end) where
       by (inl same) =
           subst (λ (b : Bool). AreHeard (beginning_of (done_line line (told ++ end)) ++ events) (beginning_of (if b then [] else line) ++ others)) same
           (line_first (done_line line (told ++ end)) events others are)
-      by (inr (yes, no, is)) =
-          subst (λ (b : Bool). AreHeard (beginning_of (if b then [] else line) ++ events) (beginning_of (done_line line (heard_from line told ++ end)) ++ others)) (sym yes)
-          (subst (λ (b : Bool). AreHeard (beginning_of [] ++ events) (beginning_of (if b then [] else line) ++ others)) (sym no) (others_first line events others one is are))
+      by (inr (refused, heard, is)) =
+          subst (λ (b : Bool). AreHeard (beginning_of (if b then [] else line) ++ events) (beginning_of (done_line line (heard_from line told ++ end)) ++ others)) (sym refused)
+          (subst (λ (b : Bool). AreHeard (beginning_of [] ++ events) (beginning_of (if b then [] else line) ++ others)) (sym heard) (others_first line events others one is are))
 
   -- ---- a unit of the chip
 

@@ -95,42 +95,42 @@ new_round round one (Writes side unit arriving lacking) ends = absurd (let bad :
 
 -- of each the steps since the one before it, with those of the units that did not come
 abbrev AreHeardAfter : List Step → List Moment → List Moment → Type 0
-AreHeardAfter open [] others = others ≡ []
-AreHeardAfter open (one ∷ rest) others =
-    ((is_unheard one.event ≡ true) × AreHeardAfter (open ++ one.steps) rest others)
-    ⊎ ((event : SerialEvent) × (more : List Moment) × (others ≡ record { event = event; steps = open ++ one.steps } ∷ more) × IsAlike one.event event × AreHeardAfter [] rest more)
+AreHeardAfter loose [] others = others ≡ []
+AreHeardAfter loose (one ∷ rest) others =
+    ((is_unheard one.event ≡ true) × AreHeardAfter (loose ++ one.steps) rest others)
+    ⊎ ((event : SerialEvent) × (more : List Moment) × (others ≡ record { event = event; steps = loose ++ one.steps } ∷ more) × IsAlike one.event event × AreHeardAfter [] rest more)
 
 -- steps up to each event that was heard
-record HasParts (open : List Step) (past : List Moment) (others : List SerialEvent) : Type 0 where
+record HasParts (loose : List Step) (past : List Moment) (others : List SerialEvent) : Type 0 where
   parts : List (List Step)
   each : length parts ≡ length others
-  are : AreHeardAfter open past (moments_of others parts)
+  are : AreHeardAfter loose past (moments_of others parts)
 
-parts_heard : (open : List Step) (events others : List SerialEvent) (parts : List (List Step)) → length parts ≡ length events → AreHeard events others
-    → HasParts open (moments_of events parts) others
-parts_heard open [] others parts each are = subst (λ (l : List SerialEvent). HasParts open [] l) (sym are) (record { parts = []; each = refl; are = refl })
-parts_heard open (one ∷ events) others [] each are = absurd (omega (arith, each))
-parts_heard open (one ∷ events) others (part ∷ parts) each (inl (is, are)) =
-    let rest = parts_heard (open ++ part) events others parts (omega (arith, each)) are in record { parts = rest.parts; each = rest.each; are = inl (is, rest.are) }
-parts_heard open (one ∷ events) others (part ∷ parts) each (inr (other, more, same, alike, are)) =
+parts_heard : (loose : List Step) (events others : List SerialEvent) (parts : List (List Step)) → length parts ≡ length events → AreHeard events others
+    → HasParts loose (moments_of events parts) others
+parts_heard loose [] others parts each are = subst (λ (l : List SerialEvent). HasParts loose [] l) (sym are) (record { parts = []; each = refl; are = refl })
+parts_heard loose (one ∷ events) others [] each are = absurd (omega (arith, each))
+parts_heard loose (one ∷ events) others (part ∷ parts) each (inl (is, are)) =
+    let rest = parts_heard (loose ++ part) events others parts (omega (arith, each)) are in record { parts = rest.parts; each = rest.each; are = inl (is, rest.are) }
+parts_heard loose (one ∷ events) others (part ∷ parts) each (inr (other, more, same, alike, are)) =
     let rest = parts_heard [] events more parts (omega (arith, each)) are in
-    subst (λ (l : List SerialEvent). HasParts open (record { event = one; steps = part } ∷ moments_of events parts) l) (sym same)
-    (record { parts = (open ++ part) ∷ rest.parts; each = ap suc rest.each; are = inr (other, moments_of more rest.parts, refl, alike, rest.are) })
+    subst (λ (l : List SerialEvent). HasParts loose (record { event = one; steps = part } ∷ moments_of events parts) l) (sym same)
+    (record { parts = (loose ++ part) ∷ rest.parts; each = ap suc rest.each; are = inr (other, moments_of more rest.parts, refl, alike, rest.are) })
 
 -- ---- what the laws look at
 
 -- of what was told and of what was heard, with these steps open in that
-record Stand (past seen : List Moment) (open : List Step) : Type 0 where
-  life : steps_in (since_start past) ≡ steps_in (since_start seen) ++ open
+record Stand (past seen : List Moment) (loose : List Step) : Type 0 where
+  life : steps_in (since_start past) ≡ steps_in (since_start seen) ++ loose
   came : arrivals_of Chip (since_start past) ≡ arrivals_of Chip (since_start seen)
   is_tick : (round_of past).is_tick ≡ (round_of seen).is_tick
-  round : steps_in (round_of past).moments ≡ steps_in (round_of seen).moments ++ open
+  round : steps_in (round_of past).moments ≡ steps_in (round_of seen).moments ++ loose
   clock : clock_in past ≡ clock_in seen
   stalls : stalls_in past ≡ stalls_in seen
-  mute : AllByRecursion IsMute open
-  heard : AreFirst (items_of open) (if is_stalled seen then [] else ahead Host seen)
-  may : EachAfter (MayDo Host (round_of seen).is_tick) (steps_in (round_of seen).moments) open
-  asks : asks_of open ≡ 0
+  mute : AllByRecursion IsMute loose
+  heard : AreFirst (items_of loose) (if is_stalled seen then [] else ahead Host seen)
+  may : EachAfter (MayDo Host (round_of seen).is_tick) (steps_in (round_of seen).moments) loose
+  asks : asks_of loose ≡ 0
 
 -- of the running line or tick, where nothing is open
 record RoundsStand (told heard : Round) : Type 0 where
@@ -159,40 +159,40 @@ life_on : (past : List Moment) (one : Moment) → restarts_at one ≡ false → 
 life_on past one plain = start_one past one ∙ ap (λ (b : Bool). life_after b (since_start past ++ one ∷ [])) plain
 
 -- the steps of a moment more, behind those that are open
-steps_behind : (told seen : List Moment) (open : List Step) (one : Moment) → steps_in told ≡ steps_in seen ++ open → steps_in (told ++ one ∷ []) ≡ steps_in seen ++ (open ++ one.steps)
-steps_behind told seen open one same = steps_one told one ∙ ap (λ (l : List Step). l ++ one.steps) same ∙ append_assoc (steps_in seen) open one.steps
+steps_behind : (told seen : List Moment) (loose : List Step) (one : Moment) → steps_in told ≡ steps_in seen ++ loose → steps_in (told ++ one ∷ []) ≡ steps_in seen ++ (loose ++ one.steps)
+steps_behind told seen loose one same = steps_one told one ∙ ap (λ (l : List Step). l ++ one.steps) same ∙ append_assoc (steps_in seen) loose one.steps
 
-module _ (past seen : List Moment) (open : List Step) (stand : Stand past seen open) (one : Moment) (law : Law past one) where
+module _ (past seen : List Moment) (loose : List Step) (stand : Stand past seen loose) (one : Moment) (law : Law past one) where
   abbrev all_steps : List Step
-  all_steps = open ++ one.steps
+  all_steps = loose ++ one.steps
 
   stalled : is_stalled past ≡ is_stalled seen
   stalled = ap₂ (λ (now : ℕ) (l : List ℕ). list_any (nat_lt now) l) stand.clock stand.stalls
 
   -- what is ahead of it is what is ahead there, without what it heard in the open steps
-  ahead_is : ahead Host past ≡ drop (length (items_of open)) (ahead Host seen)
+  ahead_is : ahead Host past ≡ drop (length (items_of loose)) (ahead Host seen)
   ahead_is =
       ap₂ (λ (l : List Step) (units : List (List ℕ)). drop (length (items_of l)) units) stand.life stand.came
-      ∙ ap (λ (l : List Item). drop (length l) (arrivals_of Chip (since_start seen))) (items_both (steps_in (since_start seen)) open)
-      ∙ drop_both (items_of (steps_in (since_start seen))) (items_of open) (arrivals_of Chip (since_start seen))
+      ∙ ap (λ (l : List Item). drop (length l) (arrivals_of Chip (since_start seen))) (items_both (steps_in (since_start seen)) loose)
+      ∙ drop_both (items_of (steps_in (since_start seen))) (items_of loose) (arrivals_of Chip (since_start seen))
 
   hears_all : AreFirst (items_of all_steps) (if is_stalled seen then [] else ahead Host seen)
   hears_all =
-      subst (λ (l : List Item). AreFirst l (if is_stalled seen then [] else ahead Host seen)) (sym (items_both open one.steps))
-      (heard_both (is_stalled seen) (items_of open) (items_of one.steps) (ahead Host seen) stand.heard
+      subst (λ (l : List Item). AreFirst l (if is_stalled seen then [] else ahead Host seen)) (sym (items_both loose one.steps))
+      (heard_both (is_stalled seen) (items_of loose) (items_of one.steps) (ahead Host seen) stand.heard
       (subst (λ (l : List (List ℕ)). AreFirst (items_of one.steps) (if is_stalled seen then [] else l)) ahead_is
       (subst (λ (b : Bool). AreFirst (items_of one.steps) (if b then [] else ahead Host past)) stalled law.hears.0)))
 
   may_all : EachAfter (MayDo Host (round_of seen).is_tick) (steps_in (round_of seen).moments) all_steps
   may_all =
-      each-append (MayDo Host (round_of seen).is_tick) (steps_in (round_of seen).moments) open one.steps stand.may
-      (subst (λ (b : Bool). EachAfter (MayDo Host b) (steps_in (round_of seen).moments ++ open) one.steps) stand.is_tick
+      each-append (MayDo Host (round_of seen).is_tick) (steps_in (round_of seen).moments) loose one.steps stand.may
+      (subst (λ (b : Bool). EachAfter (MayDo Host b) (steps_in (round_of seen).moments ++ loose) one.steps) stand.is_tick
       (subst (λ (l : List Step). EachAfter (MayDo Host (round_of past).is_tick) l one.steps) stand.round law.ticks.0))
 
   asks_none : asks_of all_steps ≡ 0
   asks_none =
-      let sum : asks_of (open ++ one.steps) ≡ asks_of open + asks_of one.steps = asks_of-append open one.steps in
-      let before : asks_of open ≡ 0 = stand.asks in
+      let sum : asks_of (loose ++ one.steps) ≡ asks_of loose + asks_of one.steps = asks_of-append loose one.steps in
+      let before : asks_of loose ≡ 0 = stand.asks in
       let here : asks_of one.steps ≡ 0 = law.collides in
       omega (arith, sum, before, here)
 
@@ -205,14 +205,14 @@ module _ (past seen : List Moment) (open : List Step) (stand : Stand past seen o
       let none : length (tick_of one.event) ≡ 0 = says.ticks in
       let before : clock_in past ≡ clock_in seen = stand.clock in
       record {
-        life = ap (λ (l : List Moment). steps_in l) (life_on past one says.restarts) ∙ steps_behind (since_start past) (since_start seen) open one stand.life;
+        life = ap (λ (l : List Moment). steps_in l) (life_on past one says.restarts) ∙ steps_behind (since_start past) (since_start seen) loose one stand.life;
         came = ap (λ (l : List Moment). arrivals_of Chip l) (life_on past one says.restarts) ∙ arrivals_one Chip (since_start past) one
             ∙ ap (λ (l : List (List ℕ)). arrivals_of Chip (since_start past) ++ l) says.arrivals ∙ append-nil (arrivals_of Chip (since_start past)) ∙ stand.came;
         is_tick = ap (λ (r : Round). r.is_tick) round ∙ stand.is_tick;
-        round = ap (λ (r : Round). steps_in r.moments) round ∙ steps_behind (round_of past).moments (round_of seen).moments open one stand.round;
+        round = ap (λ (r : Round). steps_in r.moments) round ∙ steps_behind (round_of past).moments (round_of seen).moments loose one stand.round;
         clock = omega (arith, ticks, none, before);
         stalls = stalls_one past one ∙ ap (λ (l : List ℕ). stalls_in past ++ l) (says.stalls (clock_in past)) ∙ append-nil (stalls_in past) ∙ stand.stalls;
-        mute = all-append IsMute open one.steps stand.mute (all_mute one.steps (subst (λ (l : List (List ℕ)). WriteLast one.steps l) says.units law.writes));
+        mute = all-append IsMute loose one.steps stand.mute (all_mute one.steps (subst (λ (l : List (List ℕ)). WriteLast one.steps l) says.units law.writes));
         heard = hears_all;
         may = may_all;
         asks = asks_none;
@@ -220,19 +220,19 @@ module _ (past seen : List Moment) (open : List Step) (stand : Stand past seen o
 
   module _ (event : SerialEvent) (alike : IsAlike one.event event) where
     abbrev other : Moment
-    other = record { event = event; steps = open ++ one.steps }
+    other = record { event = event; steps = loose ++ one.steps }
 
     left_is : left_ahead Host seen other ≡ left_ahead Host past one
     left_is =
-        ap (λ (l : List Item). drop (length l) (ahead Host seen)) (items_both open one.steps) ∙ drop_both (items_of open) (items_of one.steps) (ahead Host seen)
+        ap (λ (l : List Item). drop (length l) (ahead Host seen)) (items_both loose one.steps) ∙ drop_both (items_of loose) (items_of one.steps) (ahead Host seen)
         ∙ ap (λ (l : List (List ℕ)). drop (length (items_of one.steps)) l) (sym ahead_is)
 
     -- one that was heard keeps the laws with them
     keeps : Law seen other
     keeps = record {
       ever = obeyed_so (since_start past ++ one ∷ []) (since_start seen ++ other ∷ [])
-          (steps_behind (since_start past) (since_start seen) open one stand.life ∙ sym (steps_one (since_start seen) other)) law.ever;
-      writes = subst (λ (l : List (List ℕ)). WriteLast (open ++ one.steps) l) alike.units (writes_both open one.steps (unit_by Host one.event) stand.mute law.writes);
+          (steps_behind (since_start past) (since_start seen) loose one stand.life ∙ sym (steps_one (since_start seen) other)) law.ever;
+      writes = subst (λ (l : List (List ℕ)). WriteLast (loose ++ one.steps) l) alike.units (writes_both loose one.steps (unit_by Host one.event) stand.mute law.writes);
       hears = (
         hears_all,
         subst (λ (n : ℕ). LeavesFew (ends_round event && not (is_stalled seen)) n 0) (sym (ap (λ (l : List (List ℕ)). length l) left_is))
@@ -242,7 +242,7 @@ module _ (past seen : List Moment) (open : List Step) (stand : Stand past seen o
       ticks = (
         may_all,
         subst (λ (l : List Step). HasTicked (ends_round event && (round_of seen).is_tick) l)
-            (ap (λ (l : List Step). l ++ one.steps) stand.round ∙ append_assoc (steps_in (round_of seen).moments) open one.steps)
+            (ap (λ (l : List Step). l ++ one.steps) stand.round ∙ append_assoc (steps_in (round_of seen).moments) loose one.steps)
             (subst (λ (b : Bool). HasTicked (ends_round event && b) (steps_in (round_of past).moments ++ one.steps)) stand.is_tick
             (subst (λ (b : Bool). HasTicked (b && (round_of past).is_tick) (steps_in (round_of past).moments ++ one.steps)) alike.ends law.ticks.1)),
       );
@@ -250,8 +250,8 @@ module _ (past seen : List Moment) (open : List Step) (stand : Stand past seen o
     }
 
     -- and nothing is open after it
-    steps_after : (told heard : List Moment) → steps_in told ≡ steps_in heard ++ open → steps_in (told ++ one ∷ []) ≡ steps_in (heard ++ other ∷ []) ++ []
-    steps_after told heard same = steps_behind told heard open one same ∙ sym (append-nil (steps_in (heard ++ other ∷ [])) ∙ steps_one heard other)
+    steps_after : (told heard : List Moment) → steps_in told ≡ steps_in heard ++ loose → steps_in (told ++ one ∷ []) ≡ steps_in (heard ++ other ∷ []) ++ []
+    steps_after told heard same = steps_behind told heard loose one same ∙ sym (append-nil (steps_in (heard ++ other ∷ [])) ∙ steps_one heard other)
 
     life_next : (again : Bool) → steps_in (life_after again (since_start past ++ one ∷ [])) ≡ steps_in (life_after again (since_start seen ++ other ∷ [])) ++ []
     life_next true = refl
@@ -313,16 +313,16 @@ first_law past one rest laws = record { ever = laws.ever.0; writes = laws.writes
 later_laws : (past : List Moment) (one : Moment) (rest : List Moment) → Laws past (one ∷ rest) → Laws (past ++ one ∷ []) rest
 later_laws past one rest laws = record { ever = laws.ever.1; writes = laws.writes.1; hears = laws.hears.1; ticks = laws.ticks.1; collides = laws.collides.1 }
 
-laws_kept : (past seen : List Moment) (open : List Step) (rest others : List Moment) → Stand past seen open → AreHeardAfter open rest others → Laws past rest → Laws seen others
-laws_kept past seen open [] others stand none laws =
+laws_kept : (past seen : List Moment) (loose : List Step) (rest others : List Moment) → Stand past seen loose → AreHeardAfter loose rest others → Laws past rest → Laws seen others
+laws_kept past seen loose [] others stand none laws =
     subst (λ (l : List Moment). Laws seen l) (sym none) (record { ever = tt; writes = tt; hears = tt; ticks = tt; collides = tt })
-laws_kept past seen open (one ∷ rest) others stand (inl (is, are)) laws =
-    laws_kept (past ++ one ∷ []) seen (open ++ one.steps) rest others (passes past seen open stand one (first_law past one rest laws) is) are (later_laws past one rest laws)
-laws_kept past seen open (one ∷ rest) others stand (inr (event, more, same, alike, are)) laws =
+laws_kept past seen loose (one ∷ rest) others stand (inl (is, are)) laws =
+    laws_kept (past ++ one ∷ []) seen (loose ++ one.steps) rest others (passes past seen loose stand one (first_law past one rest laws) is) are (later_laws past one rest laws)
+laws_kept past seen loose (one ∷ rest) others stand (inr (event, more, same, alike, are)) laws =
     let law = first_law past one rest laws in
-    let other : Moment = record { event = event; steps = open ++ one.steps } in
-    let here = keeps past seen open stand one law event alike in
-    let later = laws_kept (past ++ one ∷ []) (seen ++ other ∷ []) [] rest more (goes_on past seen open stand one law event alike) are (later_laws past one rest laws) in
+    let other : Moment = record { event = event; steps = loose ++ one.steps } in
+    let here = keeps past seen loose stand one law event alike in
+    let later = laws_kept (past ++ one ∷ []) (seen ++ other ∷ []) [] rest more (goes_on past seen loose stand one law event alike) are (later_laws past one rest laws) in
     subst (λ (l : List Moment). Laws seen l) (sym same)
     (record { ever = (here.ever, later.ever); writes = (here.writes, later.writes); hears = (here.hears, later.hears); ticks = (here.ticks, later.ticks); collides = (here.collides, later.collides) })
 
