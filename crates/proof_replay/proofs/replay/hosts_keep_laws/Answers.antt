@@ -1,5 +1,5 @@
 -- Each law is proved of every run of a host alone.
-use Rattle.std.proofs.Common.{◌≡◌, Bool, true, false, List, [], refl, subst, ℕ, ◌∙◌}
+use Rattle.std.proofs.Common.{◌≡◌, Bool, true, false, List, [], refl, subst}
 use Rattle.std.specs.Prelude.{Some}
 use Rattle.s0_crypto.specs.declared.key_pair.Keys.{Keys}
 use Rattle.zw_text.specs.declared.entry.Entry.{Entry}
