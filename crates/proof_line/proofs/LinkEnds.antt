@@ -15,8 +15,8 @@ use Rattle.serial_link.specs.Rules.{SideObeys, Step}
 use Rattle.proof_walk.specs.outside_model.State.{OuterState}
 use Rattle.proof_line.specs.Pipes.{ClearsNowhereElse}
 use Rattle.proof_line.specs.Links.{AtLine, IsMute, KnowsLink, LinkNow, start_at}
-use Rattle.proof_line.specs.Linked.{◌⊕◌, began, done_by, next_start, ArePartsOf, Cuts, Did, IsTickLine}
-use Rattle.proof_line.proofs.LinkKnown.{keeps_link, keeps_lost, keeps_parts, keeps_starts, keeps_room}
+use Rattle.proof_line.specs.Linked.{◌⊕◌, began, done_by, next_start, ArePartsOf, Cuts, Did, HostObeyed, IsTickLine}
+use Rattle.proof_line.proofs.LinkKnown.{keeps_ever, keeps_link, keeps_lost, keeps_parts, keeps_starts, keeps_room}
 use Rattle.proof_line.proofs.LinkCourse.{course_mute}
 use Rattle.proof_line.proofs.LinkChip.{obeyed}
 
@@ -31,6 +31,7 @@ cuts_of past up down chip host told =
     let life : up.life ≡ joined of_chip.parts ++ chip.steps = keeps_parts past up chip in
     record {
       links = record { chip = of_chip; host = of_host; up = keeps_room Chip past up chip; down = keeps_room Host past down host };
+      ever = keeps_ever Host past down host;
       each = subst (λ (l : List ℕ). AreTold (clears past) (to_clear (lost_by Chip past of_chip.parts) l)) host_lost (subst (λ (l : List ℕ). AreTold (clears past) (to_clear l down.lost)) chip_lost told);
       course = sym (ap course_of life ∙ course_mute (joined of_chip.parts) chip.steps up.link (subst (λ (l : List Step). SideObeys l up.link) life (obeyed Chip (serial_events past) up chip)) chip.mute);
       later = [];
@@ -66,6 +67,7 @@ cuts_as now did past life starts cuts = subst (λ (d : Did). Cuts d past) (did_i
 pub cuts_more : (did : Did) (more : List Step) (past : List Entry) → course_of did.steps ≡ course_of (did.steps ++ more) → AllByRecursion IsMute more → Cuts did past → Cuts (did ⊕ more) past
 cuts_more did more past same mute cuts = record {
   links = cuts.links;
+  ever = cuts.ever;
   each = cuts.each;
   course = cuts.course ∙ same;
   later = cuts.later;
@@ -85,6 +87,7 @@ cuts_more did more past same mute cuts = record {
 pub cuts_other : (did now : Did) (past : List Entry) → course_of did.steps ≡ course_of now.steps → did.starts ≡ now.starts → (IsTickLine (line_last past) → ⊥) → Cuts did past → Cuts now past
 cuts_other did now past same starts other cuts = record {
   links = cuts.links;
+  ever = cuts.ever;
   each = cuts.each;
   course = cuts.course ∙ same;
   later = cuts.later;
@@ -96,6 +99,7 @@ cuts_other did now past same starts other cuts = record {
 pub cuts_began : (did : Did) (past : List Entry) → Cuts did past → Cuts (began did) past
 cuts_began did past cuts = record {
   links = cuts.links;
+  ever = cuts.ever;
   each = cuts.each;
   course = cuts.course;
   later = cuts.later ++ did.steps ∷ [];
@@ -119,6 +123,11 @@ some_told (one ∷ there) (due ∷ dues) told more is =
     let first : one.entries ≡ due = cc in
     let rest : map (λ (one : Cleared_there). one.entries) there ≡ dues = cc in
     (one_told one.is_over one.entries due first, some_told there dues told more rest)
+
+-- ---- of the host's link alone
+
+pub host_obeyed : {did : Did} (past : List Entry) → Cuts did past → HostObeyed past
+host_obeyed past cuts = record { link = cuts.links.host; ever = cuts.ever }
 
 -- ---- with nothing else told
 

@@ -21,7 +21,7 @@ use Rattle.law_wire.specs.law_transcript.Lists.{shown_after}
 use Rattle.law_wire.specs.Serial.{SerialEvent, arriving_of, serial_events, lacking_of}
 use Rattle.law_wire.specs.Serial.SerialEvent.{Line_begins, Tick_begins, Writes}
 use Rattle.law_wire.specs.Links.{HasTicked, KeepsLink, LeavesFew, Moment, Round, WriteLast, arrivals_of, ends_round, most_left, stall_by, MayDo, Obeys, WritesThere, arrival_of, clock_in, is_stalled, joined, moments_of, other, round_of, steps_in, texts_of, unit_by, FindsRoom, has_room, is_let_in}
-use Rattle.proof_line.specs.Links.{Does, Hears, IsAt, IsMute, KeepsSoFar, KnowsEvents, KnowsLink, LinkNow, MayEnd, MayEndNow, MayHear, MayStep, TakesTexts, begun_line, begun_tick, life_of, most_of, round_steps, stalls_in, start_at, stepped, with_arriving, KnowsSide}
+use Rattle.proof_line.specs.Links.{Does, Hears, IsAt, IsMute, KeepsSoFar, KnowsEvents, KnowsLink, LinkNow, MayEnd, MayEndNow, MayHear, MayStep, ObeysThere, TakesTexts, begun_line, begun_tick, life_of, most_of, round_steps, stalls_in, start_at, stepped, with_arriving, KnowsSide}
 use Rattle.proof_walk.proofs.Entered.{IsMark, told_by_marks}
 use Rattle.proof_walk.proofs.Lists.{each-append}
 use Rattle.proof_line.proofs.Moments.{arrivals_one, moments_one, round_one}
@@ -57,6 +57,12 @@ pub keeps_room : (side : Side) (past : List Entry) (now : LinkNow) (knows : Know
     → EachAfter (FindsRoom side) [] (moments_of (serial_events past) (keeps_link side past now knows).parts)
 unfolding keeps_link
 keeps_room side past now knows = knows.room refl
+
+-- and with these steps it obeyed at each event
+pub keeps_ever : (side : Side) (past : List Entry) (now : LinkNow) (knows : KnowsLink side past now)
+    → EachAfter (ObeysThere side) [] (moments_of (serial_events past) (keeps_link side past now knows).parts)
+unfolding keeps_link
+keeps_ever side past now knows = knows.keeps.ever
 
 -- and with these steps the bytes that each restart lost are those
 pub keeps_lost : (side : Side) (past : List Entry) (now : LinkNow) (knows : KnowsLink side past now) → lost_by side past (keeps_link side past now knows).parts ≡ now.lost

@@ -20,7 +20,7 @@ use Rattle.law_wire.specs.Serial.SerialEvent.{Line_begins, Writes}
 use Rattle.law_wire.specs.Links.{Moment, Round, AreFirst, CollidesAsTold, HearsInTime, LeavesFew, MayDo, Obeys, TicksInTime, WriteLast, WritesThere, ahead, arrival_of, arrivals_of, asked_for, bytes_in, clock_in, ends_round, is_stalled, left_ahead, line_in, lives, most_left, other, round_of, since_start, stall_by, steps_in, texts_of, tick_of}
 use Rattle.proof_walk.proofs.Lists.{each-append}
 use Rattle.proof_line.specs.Arrivals.{AreTexts}
-use Rattle.proof_line.specs.Links.{Does, Hears, IsMute, KeepsSoFar, MayEnd, life_of, life_steps, round_steps, stalls_in, start_at}
+use Rattle.proof_line.specs.Links.{Does, Hears, IsMute, KeepsSoFar, MayEnd, ObeysThere, life_of, life_steps, round_steps, stalls_in, start_at}
 use Rattle.proof_line.proofs.Arriving.{texts_both}
 use Rattle.proof_line.proofs.Moments.{all_lives, arrivals_one, life_after, restarts_at, round_one, start_one, steps_one}
 use Rattle.proof_walk.proofs.Shown.{shown_one as shown_last}
@@ -164,6 +164,7 @@ pub ends_part : (side : Side) (past : List Moment) (one : Moment) (link : LinkSi
 ends_part side past one link coming empty keeps does hears writes may =
     let now = hears_now side past one.steps coming hears in
     record {
+      ever = each-append (ObeysThere side) [] past (one ∷ []) keeps.ever ((link, subst (λ (l : List Step). SideObeys l link) (sym (steps_one (life_of side past) one)) does.obeys), tt);
       obeys = lives_end side past one link empty keeps.obeys does.obeys;
       writes = all-append (WritesThere side) past (one ∷ []) keeps.writes (writes, tt);
       hears = each-append (HearsInTime side) [] past (one ∷ []) keeps.hears

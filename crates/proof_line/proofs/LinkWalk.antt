@@ -290,8 +290,8 @@ module _ (each : (h : HostState) (event : HostEvent) (steps : List Step) → Kee
 -- ---- at first
 
 first_keeps : (side : Side) → KeepsSoFar side []
-first_keeps Host = record { obeys = (no_steps, tt); writes = tt; hears = tt; ticks = tt; collides = tt }
-first_keeps Chip = record { obeys = (no_steps, tt); writes = tt; hears = tt; ticks = tt; collides = tt }
+first_keeps Host = record { ever = tt; obeys = (no_steps, tt); writes = tt; hears = tt; ticks = tt; collides = tt }
+first_keeps Chip = record { ever = tt; obeys = (no_steps, tt); writes = tt; hears = tt; ticks = tt; collides = tt }
 
 abbrev pub first_now : LinkSide → LinkNow
 first_now link = record { is_tick = false; brought = 0; clock = 0; until = 0; life = []; round = []; link = link; coming = []; lost = []; starts = [] }

@@ -12,9 +12,9 @@ use Rattle.zw_text.specs.declared.entry.Entry.TheVariants.{Said}
 use Rattle.zw_text.specs.Transcript.{line_last, line_of}
 use Rattle.law_wire.specs.Asked.{course_of}
 use Rattle.law_wire.specs.Clearing.{AreTold, cleared, clears, lost_by, to_clear}
-use Rattle.law_wire.specs.Links.{KeepsLinks, ends_round, joined, moments_of}
+use Rattle.law_wire.specs.Links.{KeepsLink, KeepsLinks, ends_round, joined, moments_of}
 use Rattle.law_wire.specs.Serial.{SerialEvent, serial_events}
-use Rattle.law_wire.specs.law_transcript.Lists.{shown_after}
+use Rattle.law_wire.specs.law_transcript.Lists.{EachAfter, shown_after}
 use Rattle.proof_world.specs.host_model.Events.{HostEvent, Line_ticks}
 use Rattle.host_node.specs.Search.{first_wanting}
 use Rattle.proof_world.specs.host_model.State.{HostState}
@@ -33,7 +33,7 @@ use Rattle.proof_walk.specs.ByLine.{KnownOf, IsAsked}
 use Rattle.proof_walk.specs.Time.{KnowTime}
 use Rattle.proof_traffic.specs.Links.{KeepsItsLink}
 use Rattle.proof_line.specs.Pipes.{IsByHand, HearsNothing}
-use Rattle.proof_line.specs.Links.{AtLine, Brings, IsMute, KnowsLink, LinkNow, MayEndNow, TicksNot, cleared_in, due_from, start_at, tick_told}
+use Rattle.proof_line.specs.Links.{AtLine, Brings, IsMute, KnowsLink, LinkNow, MayEndNow, ObeysThere, TicksNot, cleared_in, due_from, start_at, tick_told}
 
 -- ---- what is asked of each event
 
@@ -106,14 +106,20 @@ next_start [] steps = steps
 next_start (start ∷ later) steps = start
 
 -- Both sides kept the rules, and so far it is told what restarts lost; and by what the chip's link did it has the same course, and its parts are so where each line or tick began, but for
--- those that began later. Directly after the words of a `tick` they are what it had done where the next one began.
+-- those that began later. Directly after the words of a `tick` they are what it had done where the next one began. The host's link obeyed at each event.
 pub record Cuts (did : Did) (past : List Entry) : Type 0 where
   pub links : KeepsLinks false past
+  pub ever : EachAfter (ObeysThere Host) [] (moments_of (serial_events past) links.host.parts)
   pub each : AreTold (clears past) (to_clear (lost_by Chip past links.chip.parts) (lost_by Host past links.host.parts))
   pub course : course_of (joined links.chip.parts) ≡ course_of did.steps
   pub later : List (List Step)
   pub starts : did.starts ≡ shown_after (start_at Chip) [] (moments_of (serial_events past) links.chip.parts) ++ later
   pub next : IsTickLine (line_last past) → ArePartsOf (next_start later did.steps) links.chip.parts
+
+-- the host's link kept the rules with steps by which it obeyed at each event, and not in the end of each of its lives alone
+pub record HostObeyed (transcript : List Entry) : Type 0 where
+  pub link : KeepsLink Host transcript
+  pub ever : EachAfter (ObeysThere Host) [] (moments_of (serial_events transcript) link.parts)
 
 -- a line or tick begins with the last of these entries, after all those by which the chip's link did this
 pub record BeginsLast (did : Did) (all : List Entry) : Type 0 where

@@ -46,8 +46,18 @@ tick_told past = told_from 0 0 past
 
 -- ---- what is over
 
--- these moments keep all laws of a link
+-- the moments of the life of a link that goes on: the chip's lives through the whole run, the host's since the host last started
+abbrev pub life_of : Side → List Moment → List Moment
+life_of Host past = since_start past
+life_of Chip past = past
+
+-- with a moment its life obeyed so far
+abbrev pub ObeysThere : Side → List Moment → Moment → Type 0
+ObeysThere side past one = Obeys (life_of side past ++ one ∷ [])
+
+-- these moments keep all laws of a link, and its lives obeyed at each of them
 pub record KeepsSoFar (side : Side) (past : List Moment) : Type 0 where
+  pub ever : EachAfter (ObeysThere side) [] past
   pub obeys : AllByRecursion Obeys (lives side past)
   pub writes : AllByRecursion (WritesThere side) past
   pub hears : EachAfter (HearsInTime side) [] past
@@ -55,11 +65,6 @@ pub record KeepsSoFar (side : Side) (past : List Moment) : Type 0 where
   pub collides : EachAfter (CollidesAsTold side) [] past
 
 -- ---- what goes on
-
--- the moments of the life of a link that goes on: the chip's lives through the whole run, the host's since the host last started
-abbrev pub life_of : Side → List Moment → List Moment
-life_of Host past = since_start past
-life_of Chip past = past
 
 -- all that it did in this life, and in this line or tick, with these steps last
 abbrev pub life_steps : Side → List Moment → List Step → List Step

@@ -1,17 +1,18 @@
 //! Both sides keep the rules of the serial line, and what a restart loses is told.
 
-ghost use Rattle.std.specs.Prelude.{Bool, false, true, Option, Some, List, [], ℕ};
+ghost use Rattle.std.specs.Prelude.{◌≡◌, Bool, false, true, Option, Some, List, [], ℕ};
 ghost use Rattle.s0_crypto.specs.declared.key_pair.Keys.{Keys};
 ghost use Rattle.device_sim.specs.State.{State};
 ghost use Rattle.law_wire.specs.Clearing.{ClearsLine};
 ghost use Rattle.law_wire.specs.Links.{KeepsLinks};
+ghost use Rattle.law_wire.specs.Serial.{ended};
 ghost use Rattle.proof_walk.specs.world_model.State.{first_machine};
 ghost use Rattle.proof_walk.specs.world_lines.Spoken.{Spoken, transcript_of};
 ghost use Rattle.proof_walk.specs.world_lines.Done.{AreDone};
 ghost use Rattle.proof_walk.specs.world_lines.Whole.{AreWhole};
 ghost use Rattle.proof_walk.specs.Phases.{Between};
 ghost use Rattle.proof_walk.specs.Walk.{WalkWhere};
-ghost use Rattle.proof_line.specs.Linked.{Anything, IsOrderly, KnowAll};
+ghost use Rattle.proof_line.specs.Linked.{Anything, HostObeyed, IsOrderly, KnowAll};
 
 use crate::lines_clear_nowhere_else;
 use proof_traffic::hosts_obey_the_line;
@@ -32,7 +33,8 @@ pub fn links_go_on()
 
 /// Over any lines from the first on, the last of which an allocation failure may have cut short, over a keeper that tells its records and has none at
 /// first, both sides keep the rules of the serial line in time, and with links that do so just the units find no room that had none, and just what was
-/// on its way is told at each restart that is not refused, and nowhere else. Where all lines were run whole it is so up to the end of the last one.
+/// on its way is told at each restart that is not refused, and nowhere else. Where all lines were run whole it is so up to the end of the last one. The host's
+/// link obeyed at each event of the line, and not in the end alone.
 pub fn lines_clear_the_line()
     ensures cut { (keys : Keys) (devices : List State) (lines : List Spoken) →
         AreDone (first_machine keys (Some []) devices) lines →
@@ -40,6 +42,9 @@ pub fn lines_clear_the_line()
     ensures whole { (keys : Keys) (devices : List State) (lines : List Spoken) →
         AreDone (first_machine keys (Some []) devices) lines → AreWhole (first_machine keys (Some []) devices) lines →
         ClearsLine true (transcript_of (first_machine keys (Some []) devices) lines) }
+    ensures obeyed { (keys : Keys) (devices : List State) (lines : List Spoken) (whole : Bool) →
+        AreDone (first_machine keys (Some []) devices) lines → (whole ≡ true → AreWhole (first_machine keys (Some []) devices) lines) →
+        HostObeyed (ended whole (transcript_of (first_machine keys (Some []) devices) lines)) }
 {
     links_go_on();
     hosts_write_well();

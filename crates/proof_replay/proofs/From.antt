@@ -29,6 +29,7 @@ keeps_from keys before whole heard records laws = record {
   cancels = each_from MayCancel [] before heard laws.said.cancels;
   sessions = each_from MayBegin [] before heard laws.said.sessions;
   carries = laws.said.carries;
+  link = laws.link;
   stores = laws.said.stores;
   values = ended_from (ShowsValues listing_heard) whole before heard laws.said.values;
   sends = λ key same. each_from (MayRequest listing_heard key) [] before heard (laws.sends key same);

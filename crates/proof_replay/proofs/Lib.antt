@@ -9,3 +9,5 @@ mod From
 mod Begun
 mod Starting
 mod Orderly
+mod HeardEvents
+mod HeardLink

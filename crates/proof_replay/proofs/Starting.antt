@@ -115,10 +115,11 @@ kept_as_told keys whole heard told held agrees laws = record {
   begins = laws.begins;
   ticks = laws.ticks;
   sends = laws.sends;
+  link = laws.link;
 }
 
 module _ (laws : (keys : Keys) (whole : Bool) (here : Phase) (heard : List Entry) (m : HostMachine) → Run (first_alone keys (Some [])) here heard m → (whole ≡ true → (here ≡ Resting) × (m.left ≡ 0))
-    → AreForHost heard → HostsKeepLaws keys whole heard m.records)
+    → AreForHost heard → KeepsLink Host (ended whole heard) → HostsKeepLaws keys whole heard m.records)
     (recorded : (keys : Keys) (heard : List Entry) (m : HostMachine) → Run (first_alone keys (Some [])) Open heard m → IfSome m.records (KnowsRecords heard m.state))
     (listening : (keys : Keys) (here : Phase) (heard : List Entry) (m : HostMachine) → Run (first_alone keys (Some [])) here heard m → ListensAsTold heard m.state)
     (obey : HostsObey) (keys : Keys) (number : ℕ) (told : Option (List (List ℕ))) (past : List Entry) (before : HaveHeard keys number told past) (place : Place) (opens : Opens keys number told place.host)
@@ -180,17 +181,17 @@ module _ (laws : (keys : Keys) (whole : Bool) (here : Phase) (heard : List Entry
       let all : Run (first_alone keys (Some [])) Resting (past ++ Said restart_word ∷ heard) (host_machine keys held m.host.state [] m.clock 0 awaits) =
       subst (λ (l : List Entry). Run (first_alone keys (Some [])) Resting l (host_machine keys held m.host.state [] m.clock 0 awaits)) (all_heard heard) run in
       let said : AreSaidToHost (past ++ Said restart_word ∷ heard) = all_said heard (run_said before.clock whole steps place last heard orderly hears) in
+      let link : KeepsLink Host (ended whole (past ++ Said restart_word ∷ heard)) = link_kept obey whole (past ++ Said restart_word ∷ heard) awaits m.clock m.host.state line in
       let keeps : HostsKeepLaws keys whole (past ++ Said restart_word ∷ heard) last.shelf.records =
       kept_as_told keys whole (past ++ Said restart_word ∷ heard) last.shelf.records held (λ is. subst (λ (r : Option (List (List ℕ))). Agrees r held) (records is) agrees)
       (laws keys whole Resting (past ++ Said restart_word ∷ heard) (host_machine keys held m.host.state [] m.clock 0 awaits) all (λ is. (refl, refl))
-      (said_for_host (past ++ Said restart_word ∷ heard) said)) in
+      (said_for_host (past ++ Said restart_word ∷ heard) said) link) in
       record {
         heard = heard;
         hears = hears;
         keeps = keeps;
         starts = starts_so;
         from = from_start whole heard last keeps;
-        link = link_kept obey whole (past ++ Said restart_word ∷ heard) awaits m.clock m.host.state line;
         next = λ is many some. record {
           held = held;
           state = m.host.state;
@@ -208,17 +209,18 @@ module _ (laws : (keys : Keys) (whole : Bool) (here : Phase) (heard : List Entry
   hears_more whole [] last outs none ran =
       let (held, agrees, run, line) = started in
       let all : Run (first_alone keys (Some [])) Open (past ++ Said restart_word ∷ []) (host_machine keys held place.host.state [] before.clock 0 false) = run in
+      let link : KeepsLink Host (ended whole (past ++ Said restart_word ∷ [])) =
+      subst (λ (b : Bool). KeepsLink Host (ended b (past ++ Said restart_word ∷ []))) (sym none) (open_kept obey restarted before.clock 0 place.host.state line) in
       let keeps : HostsKeepLaws keys whole (past ++ Said restart_word ∷ []) last.shelf.records =
       kept_as_told keys whole (past ++ Said restart_word ∷ []) last.shelf.records held (λ is. absurd (never (sym none ∙ is)))
       (laws keys whole Open (past ++ Said restart_word ∷ []) (host_machine keys held place.host.state [] before.clock 0 false) all (λ is. absurd (never (sym none ∙ is)))
-      (said_for_host (past ++ Said restart_word ∷ []) (all_said [] tt))) in
+      (said_for_host (past ++ Said restart_word ∷ []) (all_said [] tt)) link) in
       record {
         heard = [];
         hears = (ran.0, refl);
         keeps = keeps;
         starts = starts_so;
         from = from_start whole [] last keeps;
-        link = subst (λ (b : Bool). KeepsLink Host (ended b (past ++ Said restart_word ∷ []))) (sym none) (open_kept obey restarted before.clock 0 place.host.state line);
         next = λ is many some. absurd (never (sym none ∙ is));
       }
   hears_more whole (Pumps ∷ steps) last outs orderly (mid, first, later, pumped, more, are) =

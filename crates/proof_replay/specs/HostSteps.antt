@@ -4,7 +4,6 @@
 use Rattle.std.specs.Prelude.{◌≡◌, ℕ, ◌+◌, Bool, true, false, List, [], ◌∷◌, ◌++◌, codes, Option, Some, None, IfSome, IsSome}
 use Rattle.std.specs.List.{flat_map}
 use Rattle.s0_crypto.specs.declared.key_pair.Keys.{Keys}
-use Rattle.zw_words.specs.declared.side.Side.TheVariants.{Host}
 use Rattle.zw_text.specs.Line.{first_word}
 use Rattle.zw_text.specs.Transcript.{line_of}
 use Rattle.zw_text.specs.declared.line.Line.{Line}
@@ -15,8 +14,6 @@ use Rattle.zw_text.specs.declared.entry.Refusal.{Refusal}
 use Rattle.host_model.specs.State.{HostState}
 use Rattle.host_model.specs.Outs.{answers}
 use Rattle.host_model.specs.declared.out.HostOut.{HostOut}
-use Rattle.law_wire.specs.Links.{KeepsLink}
-use Rattle.law_wire.specs.Serial.{ended}
 use Rattle.port_run.specs.Lines.{is_served}
 use Rattle.port_run.specs.Steps.{Place, Step, Asks, Takes, Rests, Ticks, Pumps, Ran, asked_by}
 use Rattle.port_run.specs.declared.asking.Answer.TheVariants.{Refused}
@@ -148,13 +145,13 @@ pub record HaveHeard (keys : Keys) (number : ℕ) (told : Option (List (List ℕ
   pub holds : Holds number told held
   pub said : AreSaidToHost past
 
--- From its start a host did these steps and heard this, and over what hosts have heard by now these laws hold, and their links kept the rules. What it heard itself keeps laws
--- from what stood before, up to its start; that shows what its keeper's records give, where it tells them. Where it came to rest, and its keeper tells its records, hosts have heard all that when the next one starts.
+-- From its start a host did these steps and heard this, and over what hosts have heard by now these laws hold. What it heard itself keeps laws from what stood before, up to its
+-- start, and their links kept the rules over all of it; what stood before shows what its keeper's records give, where it tells them. Where it came to rest, and its keeper tells
+-- its records, hosts have heard all that when the next one starts.
 pub record HearsMore (keys : Keys) (past : List Entry) (clock : ℕ) (whole : Bool) (steps : List Step) (old new : Place) : Type 0 where
   pub heard : List Entry
   pub hears : HearsRun clock steps old new heard
   pub keeps : HostsKeepLaws keys whole (past ++ Said restart_word ∷ heard) new.shelf.records
-  pub link : KeepsLink Host (ended whole (past ++ Said restart_word ∷ heard))
   pub starts : IfSome old.shelf.records (StartsAfter (past ++ Said restart_word ∷ []))
   pub from : KeepsFrom keys (past ++ Said restart_word ∷ []) whole heard new.shelf.records
   pub next : whole ≡ true → (many : ℕ) → IsSome new.shelf.records → HaveHeard keys many new.shelf.records (past ++ Said restart_word ∷ heard)

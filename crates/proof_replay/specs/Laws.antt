@@ -1,5 +1,5 @@
 -- What a host keeps true over all that it heard, whatever that was (this project's own rule).
-use Rattle.std.specs.Prelude.{◌≡◌, ℕ, Bool, true, false, List, [], ◌++◌, Option, Some, IfSome}
+use Rattle.std.specs.Prelude.{◌≡◌, ℕ, Bool, true, List, [], ◌++◌, Option, Some, IfSome}
 use Rattle.zw_words.specs.declared.side.Side.TheVariants.{Host}
 use Rattle.zw_text.specs.declared.line.ReplayLine.{ReplayLine}
 use Rattle.zw_text.specs.declared.entry.Entry.{Entry}
@@ -48,6 +48,7 @@ use Rattle.proof_replay.specs.Heard.{AreReplayed, AreSaid, Replayed, heard_of, t
 -- The number of a tick is above those before it, and lines have asked for so many ticks.
 -- Each payload that it asks its chip to send is a message of the last session of its node, by what the node listed, a nonce or a question for one, lets the node sleep, or was
 -- asked for by a line; where its keys are those of a network key, by what nodes told openly or sealed with that key.
+-- Its link kept the rules of the serial line, a new one from each start on.
 pub record HostsKeepLaws (keys : Keys) (whole : Bool) (heard : List Entry) (records : Option (List (List ℕ))) : Type 0 where
   pub orders : HostLaws heard
   pub said : KeepsWhatIsSaid whole heard records
@@ -66,14 +67,16 @@ pub record HostsKeepLaws (keys : Keys) (whole : Bool) (heard : List Entry) (reco
   pub begins : BeginsWithUnit (ended whole heard)
   pub ticks : EachAfter MayCount [] heard
   pub sends : (key : List ℕ) → keys ≡ keys_of key → SendsWhatIsDue listing_heard key heard
+  pub link : KeepsLink Host (ended whole heard)
 
--- Of a host that starts with records, after what stood before: the fields of `IsHostLegal` that are proved of it, but for its link, whose rules are kept over all that
--- stood. It goes by what nodes listed in their interviews, and by the whole of what it heard; where its keys are those of a network key, this key.
+-- Of a host that starts with records, after what stood before: the fields of `IsHostLegal` that are proved of it. It goes by what nodes listed in their interviews, and by
+-- the whole of what it heard; where its keys are those of a network key, this key.
 pub record KeepsFrom (keys : Keys) (before : List Entry) (whole : Bool) (heard : List Entry) (records : Option (List (List ℕ))) : Type 0 where
   pub answers : AnswersAfter before whole listing_heard (refusals_by_host listing_heard) heard
   pub cancels : EachAfter MayCancel before heard
   pub sessions : EachAfter MayBegin before heard
   pub carries : (node : ℕ) → CarriesOnce node (before ++ heard)
+  pub link : KeepsLink Host (ended whole (before ++ heard))
   pub stores : StoresConfirmed whole listing_heard (before ++ heard)
   pub values : EachAfter (ShowsValues listing_heard) before (ended whole heard)
   pub sends : (key : List ℕ) → keys ≡ keys_of key → EachAfter (MayRequest listing_heard key) before heard
@@ -91,8 +94,8 @@ pub record IsHeardAlone (keys : Keys) (before after : Option (List (List ℕ))) 
   pub adds : OptAdds before after added
   pub link : KeepsLink Host (ended true heard)
 
--- Lines were run whole, and this transcript tells them. Over what the host heard of them, with what came, it keeps these laws, and its link the rules of the line; and the
--- records are those that were added to what the keeper had.
+-- Lines were run whole, and this transcript tells them. Over what the host heard of them, with what came, it keeps these laws; and the records are those that were added
+-- to what the keeper had.
 pub record HearsLines (keys : Keys) (lines : List (TextLine ReplayLine)) (old new : Lone) (transcript : List Entry) : Type 0 where
   pub story : List Replayed
   pub said : AreSaid lines story
@@ -101,4 +104,3 @@ pub record HearsLines (keys : Keys) (lines : List (TextLine ReplayLine)) (old ne
   pub added : List (List ℕ)
   pub adds : OptAdds old.records new.records added
   pub keeps : HostsKeepLaws keys true (heard_of old story) (Some added)
-  pub link : KeepsLink Host (ended true (heard_of old story))

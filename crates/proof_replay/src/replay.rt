@@ -7,6 +7,9 @@ ghost use Rattle.zw_text.specs.declared.entry.Entry.{Entry};
 ghost use Rattle.s0_crypto.specs.declared.key_pair.Keys.{Keys};
 ghost use Rattle.host_keep.specs.Keeping.{Shelf};
 ghost use Rattle.host_core.specs.Network.{keys_of};
+ghost use Rattle.zw_words.specs.declared.side.Side.TheVariants.{Host};
+ghost use Rattle.law_wire.specs.Links.{KeepsLink};
+ghost use Rattle.law_wire.specs.Serial.{ended};
 ghost use Rattle.run_lines.specs.Lines.{AllRan, TextLine};
 ghost use Rattle.run_replay.specs.Machine.{first_replay, lone_of};
 ghost use Rattle.run_replay.specs.Replay.{LineRan, Point, point_of};
@@ -37,10 +40,12 @@ pub fn replays_are_a_hosts()
     hosts_obey_the_line();
 }
 
-/// A host alone that begins without records keeps these laws, over a keeper that tells its records, where no line is refused that is for others.
+/// A host alone that begins without records keeps these laws, over a keeper that tells its records, where no line is refused that is for others and its
+/// link kept the rules of the serial line.
 pub fn hosts_keep_laws()
     ensures { (keys : Keys) (whole : Bool) (here : Phase) (heard : List Entry) (m : HostMachine) → Run (first_alone keys (Some [])) here heard m →
-        (whole ≡ true → (here ≡ Resting) × (m.left ≡ 0)) → AreForHost heard → HostsKeepLaws keys whole heard m.records }
+        (whole ≡ true → (here ≡ Resting) × (m.left ≡ 0)) → AreForHost heard → KeepsLink Host (ended whole heard) →
+        HostsKeepLaws keys whole heard m.records }
 {
     hosts_keep_their_tables();
     hosts_do_as_is_said();

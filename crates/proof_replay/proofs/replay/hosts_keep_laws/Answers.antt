@@ -1,5 +1,5 @@
 -- Each law is proved of every run of a host alone.
-use Rattle.std.proofs.Common.{◌≡◌, Bool, true, false, List, [], refl, subst, ℕ, ◌∙◌}
+use Rattle.std.proofs.Common.{◌≡◌, Bool, true, false, List, [], refl, subst}
 use Rattle.std.specs.Prelude.{Some}
 use Rattle.s0_crypto.specs.declared.key_pair.Keys.{Keys}
 use Rattle.zw_text.specs.declared.entry.Entry.{Entry}
@@ -25,7 +25,7 @@ sleeps_by start full part true here heard m run rests = full heard m (subst (λ 
 sleeps_by start full part false here heard m run rests = part heard (here, m, run)
 
 pub returns : goal.returns
-returns c = λ keys whole here heard m run rests fine. record {
+returns c = λ keys whole here heard m run rests fine link. record {
   orders = c.hosts_keep_their_tables.ensures.laws keys heard (here, m, run);
   said = c.hosts_do_as_is_said.ensures keys whole here heard m run (λ is. (rests is).0) fine;
   notes = c.hosts_note_what_was_told.ensures.told keys heard (here, m, run);
@@ -49,4 +49,5 @@ returns c = λ keys whole here heard m run rests fine. record {
       (λ (l : List Entry) told. (c.hosts_ask_one_by_one.ensures.told keys l told).2) whole here heard m run rests;
   ticks = c.hosts_tell_time.ensures.counts keys (Some []) heard (here, m, run);
   sends = λ key same. c.hosts_send_what_is_due.ensures.told key heard (subst (λ (k : Keys). Told (first_alone k (Some [])) heard) same (here, m, run));
+  link = link;
 }
