@@ -174,9 +174,6 @@ IsNoValues (Values settings) = ⊥
 IsNoValues message = Unit {0}
 
 module _ (past : List Entry) (h : HostState) (ties : Ties past h) (n : ℕ) (payload : List ℕ) where
-  book : HostBook
-  book = (node_of h n).book
-
   -- ---- reports
 
   of_open_is : (id : ℕ) (b : Bool) → names_open (node_of h n).book id ≡ b → is_of_open n past id ≡ b
@@ -222,10 +219,14 @@ module _ (past : List Entry) (h : HostState) (ties : Ties past h) (n : ℕ) (pay
         ∙ ap (λ (l : List Setting). stored_entries n l) (made ∙ ap (λ (o : Option Command). settings_taken (taken_by o)) owned.found)
         ∙ sym (ap (λ (o : Option Command). stored_entries n (settings_with final.Success o)) owned.found)
 
-    -- the notes that the host puts out are those that the transcript asks
-    ends_so : (by : FinalStatus)
-        → entry.Out ended.command (ended_of by) ∷ (stored_entries n (settings_with by (command_at h.commands ended.command)) ++ held_entries n (is_held h n wake))
-        ≡ flat_map (λ how. flat_map (final_notes (hearing_of n payload sealed) past wake how) (last_command n past)) (ended_of by ∷ [])
+    -- the notes that the host puts out, and those that the transcript asks
+    abbrev put_out : FinalStatus → List Entry
+    put_out by = entry.Out ended.command (ended_of by) ∷ (stored_entries n (settings_with by (command_at h.commands ended.command)) ++ held_entries n (is_held h n wake))
+
+    abbrev asked_for : FinalStatus → List Entry
+    asked_for by = flat_map (λ how. flat_map (final_notes (hearing_of n payload sealed) past wake how) (last_command n past)) (ended_of by ∷ [])
+
+    ends_so : (by : FinalStatus) → put_out by ≡ asked_for by
     ends_so by =
         let notes : ℕ → List Entry = final_notes (hearing_of n payload sealed) past wake (ended_of by) in
         let last : last_command n past ≡ ended.command ∷ [] = ap (λ (l : List ℕ). last_of l) (ties.facts.begun n) ∙ ended.last in
@@ -235,10 +236,10 @@ module _ (past : List Entry) (h : HostState) (ties : Ties past h) (n : ℕ) (pay
         ∙ sym (append-nil (notes ended.command)) ∙ sym (append-nil (notes ended.command ++ [])) ∙ ap (λ (l : List ℕ). flat_map notes l ++ []) (sym last)
 
     ends_one : (by : FinalStatus) (events : List HostEvent) → IsKeptOr (Finishes n session id ended.command by wake) (Is_unkept n) events
-        → One (AreUnlessUnkept n (flat_map (λ how. flat_map (final_notes (hearing_of n payload sealed) past wake how) (last_command n past)) (ended_of by ∷ []))) h events
+        → One (AreUnlessUnkept n (asked_for by)) h events
     ends_one by events is =
-        unkept_or _ h n (Finishes n session id ended.command by wake) events is
-        (λ some are. inl (noted_told _ some are ∙ ends_so by)) (λ some unkept. inr unkept)
+        unkept_or (AreUnlessUnkept n (asked_for by)) h n (Finishes n session id ended.command by wake) events is
+        (λ some are. inl (noted_told (put_out by) some are ∙ ends_so by)) (λ some unkept. inr unkept)
 
   -- each final status is one that ends it
   final_one : (sealed : Bool) (id : ℕ) (status : ReportStatus) (wake : Bool) (session : ℕ) (ended : IsEnded (IsCommandOf h.commands n) (node_of h n).book id (status_byte status) session)
@@ -263,14 +264,14 @@ module _ (past : List Entry) (h : HostState) (ties : Ties past h) (n : ℕ) (pay
   reported : (sealed : Bool) (id : ℕ) (status : ReportStatus) (wake : Bool) (it : TheTold) (events : List HostEvent) → told_of (node_of h n).book id (status_byte status) ≡ it
       → ReportEvents h n id status wake it events → One (ReportNotes (hearing_of n payload sealed) past id status wake false (is_of_open n past id)) h events
   reported sealed id status wake told.Old events it_is is =
-      by_open sealed id status wake false events (of_open_is id false (is_old book.commands book.outcome book.attempts id (status_byte status) it_is))
+      by_open sealed id status wake false events (of_open_is id false (is_old (node_of h n).book.commands (node_of h n).book.outcome (node_of h n).book.attempts id (status_byte status) it_is))
       (inr (Reports_old n id, is, λ some are. note_told (entry.Old n id) some are))
   reported sealed id status wake told.Working events it_is is =
-      let (named, working) = is_working book.commands book.outcome book.attempts id (status_byte status) it_is in
+      let (named, working) = is_working (node_of h n).book.commands (node_of h n).book.outcome (node_of h n).book.attempts id (status_byte status) it_is in
       by_open sealed id status wake true events (of_open_is id true named) (inr (Works n id, is, λ some none. at_work sealed status wake some working none))
   reported sealed id status wake (told.Final session) events it_is is =
       let ended : IsEnded (IsCommandOf h.commands n) (node_of h n).book id (status_byte status) session =
-      is_final (IsCommandOf h.commands n) book.commands book.outcome book.attempts id (status_byte status) session it_is in
+      is_final (IsCommandOf h.commands n) (node_of h n).book.commands (node_of h n).book.outcome (node_of h n).book.attempts id (status_byte status) session it_is in
       by_open sealed id status wake true events (of_open_is id true ended.named)
       (final_one sealed id status wake session ended events
       (subst (λ (o : Option ℕ). FinalEvents n session id o (status_of (status_byte status)) wake events) ended.carried is))
@@ -280,7 +281,7 @@ module _ (past : List Entry) (h : HostState) (ties : Ties past h) (n : ℕ) (pay
   openly id status wake events is = elim (cases_Bool (is_secure (node_of h n).classes)) [
     | inl secure ↦
         subst (λ (b : Bool). One (ReportNotes (hearing_of n payload false) past id status wake b (is_of_open n past id)) h events) (sym (openly_is true secure))
-        (inr (Unreads n payload, rw secure at is, λ some are. note_told (entry.Unread n payload) some are))
+        (let these : events ≡ Unreads n payload ∷ [] = rw secure at is in (inr (Unreads n payload, these, λ some are. note_told (entry.Unread n payload) some are)))
     | inr open_so ↦
         subst (λ (b : Bool). One (ReportNotes (hearing_of n payload false) past id status wake b (is_of_open n past id)) h events) (sym (openly_is false open_so))
         (reported false id status wake (told_of (node_of h n).book id (status_byte status)) events refl (rw open_so at is))
@@ -290,11 +291,12 @@ module _ (past : List Entry) (h : HostState) (ties : Ties past h) (n : ℕ) (pay
 
   asked : (live : Option (List ℕ)) (events : List HostEvent) → NonceGetEvents n live events → One (λ some. AreNoneUnlessFull n some ⊎ (some ≡ entry.Unkept n ∷ [])) h events
   asked (Some nonce) events is = inr (Offers n, is, λ some are. inl (dropped_told (is_full h) n some are))
-  asked None events is = unkept_or _ h n (Gives n is.0) events is.2 (λ some are. inl (dropped_told (is_full h) n some are)) (λ some unkept. inr unkept)
+  asked None events is =
+      unkept_or (λ some. AreNoneUnlessFull n some ⊎ (some ≡ entry.Unkept n ∷ [])) h n (Gives n is.0) events is.2 (λ some are. inl (dropped_told (is_full h) n some are)) (λ some unkept. inr unkept)
 
   given : (nonce : List ℕ) (count : Option ℕ) (events : List HostEvent) → NonceReportEvents h n nonce count events → One (AreUnlessUnkept n []) h events
   given nonce None events is = inl (is, inl refl)
-  given nonce (Some seen) events is = unkept_or _ h n (Takes_nonce n seen is.1) events is.3 (λ some none. inl none) (λ some unkept. inr unkept)
+  given nonce (Some seen) events is = unkept_or (AreUnlessUnkept n []) h n (Takes_nonce n seen is.1) events is.3 (λ some none. inl none) (λ some unkept. inr unkept)
 
   resends : (text : Option (List ℕ)) (events : List HostEvent) → events ≡ resent n text → One (AreNoneUnlessFull n) h events
   resends None events is = inl (is, inl refl)

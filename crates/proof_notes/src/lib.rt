@@ -8,5 +8,7 @@
 #![tactic(auto)]
 
 mod notes;
+mod worked;
 
 pub use notes::{hosts_note_in_full, lines_note_in_full};
+pub use worked::{rejected_notes, worked_notes};
