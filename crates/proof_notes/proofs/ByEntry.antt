@@ -247,7 +247,7 @@ module _ (keys : Keys) where
     apart : IsApart e
 
   none_kept : (since : SinceUnit) (e : Entry) → since.notes ≡ [] → (grown since e (are_none since.notes)).notes ≡ []
-  none_kept since e none = subst (λ (b : Bool). (grown since e b).notes ≡ []) (sym (ap are_none none)) refl
+  none_kept since e none = subst (λ (b : Bool). (grown since e b).notes ≡ []) (sym (ap (λ (l : List Entry). are_none l) none)) refl
 
   unit_mark : (e : Entry) → IsOfUnit e → IsMark e
   unit_mark (entry.Dropped Host) is = record { mark = refl; after_so = and_true; step = λ since none. none_kept since (entry.Dropped Host) none; apart = tt }

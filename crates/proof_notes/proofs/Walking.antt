@@ -114,9 +114,6 @@ no_events : (events : List HostEvent) → events ≡ [] → AllByRecursion IsOfR
 no_events events is = subst (AllByRecursion IsOfRequest) (sym is) tt
 
 module _ (keys : Keys) (opens : ShowsOpen) (said : ShowsTables) (rooms : Rooms) where
-  abbrev Law : List Entry → Entry → Type 0
-  Law = MayGoOn keys
-
   -- what is known behind an item
   ties_of : (left : List HostEvent) (past : List Entry) (m : HostMachine) → KnowsHost keys (Behind left) past m → Ties past m.state
   ties_of left past m ground =

@@ -1,5 +1,5 @@
 -- Nothing is judged before the payload, whose notes are written out.
-use Rattle.std.proofs.Common.{List, [], ◌∷◌, inl, refl}
+use Rattle.std.proofs.Common.{[], ◌∷◌, inl, refl}
 use Rattle.zw_base.specs.declared.property.Name.TheVariants as names
 use Rattle.host_orders.specs.Settings.{setting}
 use Rattle.zw_text.specs.declared.entry.Ended.TheVariants as endings
