@@ -115,7 +115,7 @@ no_events events is = subst (AllByRecursion IsOfRequest) (sym is) tt
 
 module _ (keys : Keys) (opens : ShowsOpen) (said : ShowsTables) (rooms : Rooms) where
   -- what is known behind an item
-  ties_of : (left : List HostEvent) (past : List Entry) (m : HostMachine) → KnowsHost keys (Behind left) past m → Ties past m.state
+  pub ties_of : (left : List HostEvent) (past : List Entry) (m : HostMachine) → KnowsHost keys (Behind left) past m → Ties past m.state
   ties_of left past m ground =
       let known = ground.0.0 in
       let tables : TieTables past m.state m.records = known.0.0.0.0.0.0 in
