@@ -1,4 +1,4 @@
-mod Places
+pub mod Places
 mod Listing
 pub mod Events
 mod Hearing
@@ -9,9 +9,9 @@ mod Showing
 mod Recording
 mod Answering
 pub mod ForHost
-mod KeptKeys
+pub mod KeptKeys
 mod Followers
-mod Noting
+pub mod Noting
 mod ValuesLeft
 mod Turning
 mod InTurn

@@ -1,0 +1,4 @@
+mod ByMessage
+mod ByPayload
+mod ByEntry
+mod Walking
