@@ -51,6 +51,7 @@ use Rattle.law_host.specs.Heard.{heard_by_host}
 use Rattle.law_host.specs.HostLegal.{ShowsValues}
 use Rattle.proof_chip.specs.Served.{AirsByLink}
 use Rattle.proof_replay.specs.Laws.{HostsKeepLaws}
+use Rattle.proof_replay.specs.proof_notes_Full.{NotesInFull}
 use Rattle.proof_replay.specs.proof_sending.Line.{ClearsAtRestarts, ClearsNowhereElse, OverrunsOnlyWhenFull}
 use Rattle.proof_audit.specs.Transcript.{IsNoRepeat, HasRecords}
 use Rattle.proof_chip.specs.proof_world.Devices.{GroupsSessions}
@@ -407,6 +408,11 @@ AsksOneByOne key old new = AlwaysOf key old new (λ story. TellsAtRestarts old s
 abbrev pub NumbersMessages : List ℕ → Around → Around → Type 0
 NumbersMessages key old new = AlwaysOf key old new (λ story. TellsAtRestarts old story → NumbersCallbacks (transcript key old story))
 
+-- After each payload that was judged stands all that its messages have noted, in order and before anything else.
+abbrev pub NotesPayloads : List ℕ → Around → Around → Type 0
+NotesPayloads key old new = AlwaysOf key old new
+    (λ story. TellsAtRestarts old story → (whole : Bool) → (whole ≡ true → AreSchedules (first key old) story) → NotesInFull (keys_of key) whole (transcript key old story))
+
 -- and over all that its host heard, with what it knows of nodes by their interviews, it keeps the laws of hosts: those of records of what a new keeper would hold
 abbrev pub kept_anew : List ℕ → Around → List Ran → Option (List (List ℕ))
 kept_anew key old story = (happens_all (first_machine (keys_of key) (Some []) old.devices) (events_of story)).records
@@ -469,6 +475,7 @@ pub record KeepsHostLaws (key : List ℕ) (old new : Around) : Type 0 where
   pub says_done : TellsHowDone key old new
   pub one_by_one : AsksOneByOne key old new
   pub numbered : NumbersMessages key old new
+  pub noted : NotesPayloads key old new
   pub heard : HearsAsHosts key old new
 
 -- what the devices do
