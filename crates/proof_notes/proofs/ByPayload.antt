@@ -94,12 +94,12 @@ module _ (n : ℕ) (payload : List ℕ) (sealed : Bool) where
     more = goes.more;
     taken = goes.taken;
     completes = λ rest got. (
-        [],
-        some ++ rest,
-        refl,
-        quiet,
-        subst (λ (l : List Entry). MessagesNotes (hearing_of n payload sealed) l more (some ++ rest)) (sym (append-nil past)) (goes.completes rest got),
-      );
+      [],
+      some ++ rest,
+      refl,
+      quiet,
+      subst (λ (l : List Entry). MessagesNotes (hearing_of n payload sealed) l more (some ++ rest)) (sym (append-nil past)) (goes.completes rest got),
+    );
   }
 
   -- one that has this noted is over

@@ -174,12 +174,15 @@ module _ (keys : Keys) (opens : ShowsOpen) (said : ShowsTables) (rooms : Rooms) 
       let unnumbered : m.awaits ≡ false = false_from_ne_true m.awaits (λ awaits. let bad : e ∷ marks ≡ [] = sym are ∙ numbered awaits in cc) in
       subst (λ (l : List Entry). Heard past m behind l h) (sym are) (
         (whole_may keys past e tt whole, stand),
-        inl (unnumbered, subst (λ (l : List Entry). NotesLeft keys l h behind) (append_assoc past (e ∷ []) marks)
-            (all-weaker (λ (carried : Carried). PayloadEvents h carried.node carried.payload (heard_at carried.payload) behind) (IsLeft keys (since_unit later) later h behind)
-            (λ carried events. inl (record {
-              left_is = events;
-              completes = λ more notes. by_upto later carried upto no_notes more notes;
-            })) (brought_here later) all)),
+        inl (
+          unnumbered,
+          subst (λ (l : List Entry). NotesLeft keys l h behind) (append_assoc past (e ∷ []) marks)
+              (all-weaker (λ (carried : Carried). PayloadEvents h carried.node carried.payload (heard_at carried.payload) behind) (IsLeft keys (since_unit later) later h behind)
+              (λ carried events. inl (record {
+                left_is = events;
+                completes = λ more notes. by_upto later carried upto no_notes more notes;
+              })) (brought_here later) all),
+        ),
       )
     where
       by_upto : (later : List Entry) (carried : Carried) → (since_unit later).upto ≡ later → (since_unit later).notes ≡ [] → (more : List Entry)
