@@ -1,5 +1,5 @@
 -- How the notes of the payload that was judged last stand after further entries, and which entries may stand where they do.
-use Rattle.std.proofs.Common.{◌≡◌, ℕ, ◌&&◌, not, Bool, true, false, if◌then◌else◌, List, [], ◌∷◌, ◌++◌, refl, sym, ap, ap₂, ◌∙◌, subst, append-nil, append_assoc}
+use Rattle.std.proofs.Common.{◌≡◌, ◌⊎◌, ℕ, ◌&&◌, not, Bool, true, false, if◌then◌else◌, inl, inr, List, [], ◌∷◌, ◌++◌, refl, sym, ap, ap₂, ◌∙◌, subst, append-nil, append_assoc}
 use Rattle.std.specs.Prelude.{Option, Some, None}
 use Rattle.std.specs.List.{AllByRecursion, flat_map}
 use Rattle.std.proofs.lemmas.Bool.{both_ways}
@@ -433,18 +433,22 @@ module _ (keys : Keys) where
             subst (PayloadNotes keys carried.node carried.payload since.upto (heard_at carried.payload)) (sym (append_assoc since.notes told rest)) (at.completes (told ++ rest) (goes.completes rest got));
       }
 
-  -- these notes, with others to come, are whole
+  -- these notes, with others to come, are those of the payload; so they are whole
+  abbrev pub Among : SinceUnit → List Entry → Carried → Type 0
+  Among since told carried = (rest : List Entry) × PayloadNotes keys carried.node carried.payload since.upto (heard_at carried.payload) (since.notes ++ (told ++ rest))
+
+  among : (since : SinceUnit) (past : List Entry) (h : HostState) (left : List HostEvent) (told : List Entry) (carried : Carried)
+      → AtMessages (record { upto = since.upto; notes = since.notes ++ told }) (past ++ told) h left carried → Among since told carried
+  among since past h left told carried at =
+      let (some, are) = messages_some (hearing_of carried.node carried.payload at.sealed) (past ++ told) at.messages in
+      (some, subst (PayloadNotes keys carried.node carried.payload since.upto (heard_at carried.payload)) (append_assoc since.notes told some) (at.completes some are))
+
   abbrev Completes : SinceUnit → List Entry → Carried → Type 0
   Completes since told carried = (rest : List Entry) × AreWhole keys since.upto carried (since.notes ++ (told ++ rest))
 
-  completed : (since : SinceUnit) (past : List Entry) (h : HostState) (left : List HostEvent) (told : List Entry) (carried : Carried)
-      → AtMessages (record { upto = since.upto; notes = since.notes ++ told }) (past ++ told) h left carried → Completes since told carried
-  completed since past h left told carried at =
-      let (some, are) = messages_some (hearing_of carried.node carried.payload at.sealed) (past ++ told) at.messages in
-      let all : List Entry = since.notes ++ (told ++ some) in
-      let notes : PayloadNotes keys carried.node carried.payload since.upto (heard_at carried.payload) all =
-      subst (PayloadNotes keys carried.node carried.payload since.upto (heard_at carried.payload)) (append_assoc since.notes told some) (at.completes some are) in
-      (some, (all, [], sym (append-nil all), notes, tt))
+  completed : (since : SinceUnit) (told : List Entry) (carried : Carried) → Among since told carried → Completes since told carried
+  completed since told carried (rest, notes) =
+      let all : List Entry = since.notes ++ (told ++ rest) in (rest, (all, [], sym (append-nil all), notes, tt))
 
   first_may : (since : SinceUnit) (e : Entry) (told : List Entry) (carried : Carried) (mark on : Bool) → mark ≡ false → on ≡ true → Completes since (e ∷ told) carried
       → GoesOnWith keys since mark on e carried
@@ -471,17 +475,29 @@ module _ (keys : Keys) where
             (λ carried one. next_completes (since_unit past) e told carried one) (brought_here past) completes))),
       )
 
+  all_go : (past : List Entry) (h : HostState) (event : HostEvent) (left : List HostEvent) (told : List Entry) → Ties past h → h.keys ≡ keys → AreTold (outs h event) told
+      → NotesLeft past h (event ∷ left)
+      → AllByRecursion (AtMessages (record { upto = (since_unit past).upto; notes = (since_unit past).notes ++ told }) (past ++ told) (after h event) left) (brought_here past)
+  all_go past h event left told ties same are notes =
+      all-weaker (IsLeft (since_unit past) past h (event ∷ left))
+      (AtMessages (record { upto = (since_unit past).upto; notes = (since_unit past).notes ++ told }) (past ++ told) (after h event) left)
+      (λ carried one. one_goes (since_unit past) past h event left told carried ties same are one) (brought_here past) notes
+
+  pub notes_after : (past : List Entry) (h : HostState) (event : HostEvent) (left : List HostEvent) (told : List Entry) → Ties past h → h.keys ≡ keys → AreTold (outs h event) told
+      → NotesLeft past h (event ∷ left) → AllByRecursion (Among (since_unit past) told) (brought_here past)
+  notes_after past h event left told ties same are notes =
+      all-weaker (AtMessages (record { upto = (since_unit past).upto; notes = (since_unit past).notes ++ told }) (past ++ told) (after h event) left) (Among (since_unit past) told)
+      (λ carried one. among (since_unit past) past (after h event) left told carried one) (brought_here past) (all_go past h event left told ties same are notes)
+
   pub behind_goes : (past : List Entry) (h : HostState) (event : HostEvent) (left : List HostEvent) (told : List Entry) → Ties past h → h.keys ≡ keys → AllByRecursion IsNoted told
       → AreTold (outs h event) told → NotesLeft past h (event ∷ left) → Stand past told × NotesLeft (past ++ told) (after h event) left
   behind_goes past h event left told ties same noted_all are notes =
       let since : SinceUnit = since_unit past in
-      let later : SinceUnit = record { upto = since.upto; notes = since.notes ++ told } in
-      let goes : AllByRecursion (AtMessages later (past ++ told) (after h event) left) (brought_here past) =
-      all-weaker (IsLeft since past h (event ∷ left)) (AtMessages later (past ++ told) (after h event) left) (λ carried one. one_goes since past h event left told carried ties same are one)
-      (brought_here past) notes in (
+      let later : SinceUnit = record { upto = since.upto; notes = since.notes ++ told } in (
         stand_all past told noted_all
-            (all-weaker (AtMessages later (past ++ told) (after h event) left) (Completes since told) (λ carried one. completed since past (after h event) left told carried one) (brought_here past) goes),
+            (all-weaker (Among since told) (Completes since told) (λ carried one. completed since told carried one) (brought_here past) (notes_after past h event left told ties same are notes)),
         subst (λ (l : List Carried). AllByRecursion (IsLeft (since_unit (past ++ told)) (past ++ told) (after h event) left) l) (sym (noted_brought past told noted_all))
             (subst (λ (s : SinceUnit). AllByRecursion (IsLeft s (past ++ told) (after h event) left) (brought_here past)) (sym (noted_since past told noted_all))
-            (all-weaker (AtMessages later (past ++ told) (after h event) left) (IsLeft later (past ++ told) (after h event) left) (λ carried one. inr one) (brought_here past) goes)),
+            (all-weaker (AtMessages later (past ++ told) (after h event) left) (IsLeft later (past ++ told) (after h event) left) (λ carried one. inr one) (brought_here past)
+            (all_go past h event left told ties same are notes))),
       )

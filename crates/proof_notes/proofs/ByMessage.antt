@@ -210,7 +210,7 @@ module _ (past : List Entry) (h : HostState) (ties : Ties past h) (n : ℕ) (pay
     stored_so final.Fail = sym (ap (λ (o : Option Command). stored_entries n (settings_with final.Fail o)) owned.found)
     stored_so final.Success =
         let accepted : accepted_for ended.command past ≡ n ∷ [] =
-        sym (ties.facts.accepted.nodes ended.command) ∙ ap nodes_by owned.found ∙ ap (λ (m : ℕ). m ∷ []) owned.node in
+        ties.facts.accepted.nodes ended.command ∙ ap nodes_by owned.found ∙ ap (λ (m : ℕ). m ∷ []) owned.node in
         let has = number_among past n ended.command (subst (λ (l : List ℕ). Has l n) (sym accepted) (inl refl)) in
         let made : settings_for listing_heard past n ended.command ≡ settings_taken (taken_at h.commands ended.command) =
         all_has (λ k. settings_for listing_heard past n k ≡ settings_taken (taken_at h.commands k)) (numbers_for n past) ended.command (ties.tables n).settings has in

@@ -94,12 +94,12 @@ module _ (n : ℕ) (payload : List ℕ) (sealed : Bool) where
     more = goes.more;
     taken = goes.taken;
     completes = λ rest got. (
-        [],
-        some ++ rest,
-        refl,
-        quiet,
-        subst (λ (l : List Entry). MessagesNotes (hearing_of n payload sealed) l more (some ++ rest)) (sym (append-nil past)) (goes.completes rest got),
-      );
+      [],
+      some ++ rest,
+      refl,
+      quiet,
+      subst (λ (l : List Entry). MessagesNotes (hearing_of n payload sealed) l more (some ++ rest)) (sym (append-nil past)) (goes.completes rest got),
+    );
   }
 
   -- one that has this noted is over
@@ -124,7 +124,7 @@ module _ (n : ℕ) (payload : List ℕ) (sealed : Bool) where
         );
   }
 
-  messages_go : (past : List Entry) (h : HostState) → Ties past h → (messages : List Told) (event : HostEvent) (left : List HostEvent) (some : List Entry)
+  pub messages_go : (past : List Entry) (h : HostState) → Ties past h → (messages : List Told) (event : HostEvent) (left : List HostEvent) (some : List Entry)
       → AreTaken h n payload sealed messages (event ∷ left) → AreTold (outs h event) some → Goes past h messages event left some
   messages_go past h ties [] event left some are told = absurd (some_events event left are)
   messages_go past h ties (Values [] ∷ more) event left some (first, rest, are, first_none, others) told =
@@ -171,7 +171,7 @@ module _ (n : ℕ) (payload : List ℕ) (sealed : Bool) where
       by (inl (none, quiet)) = quiet
       by (inr (one, is_so, loud)) = absurd (let bad : [] ≡ one ∷ [] = is_so in cc)
 
-  messages_over : (past : List Entry) (h : HostState) → Ties past h → (messages : List Told) → AreTaken h n payload sealed messages [] → MessagesNotes (hearing_of n payload sealed) past messages []
+  pub messages_over : (past : List Entry) (h : HostState) → Ties past h → (messages : List Told) → AreTaken h n payload sealed messages [] → MessagesNotes (hearing_of n payload sealed) past messages []
   messages_over past h ties [] are = refl
   messages_over past h ties (message ∷ more) (first, rest, are, is, others) =
       let (none, no_more) = both_none first rest are in (

@@ -2,3 +2,5 @@ mod ByMessage
 mod ByPayload
 mod ByEntry
 mod Walking
+mod Lacking
+mod Along

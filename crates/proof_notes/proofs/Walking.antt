@@ -115,7 +115,7 @@ no_events events is = subst (AllByRecursion IsOfRequest) (sym is) tt
 
 module _ (keys : Keys) (opens : ShowsOpen) (said : ShowsTables) (rooms : Rooms) where
   -- what is known behind an item
-  ties_of : (left : List HostEvent) (past : List Entry) (m : HostMachine) → KnowsHost keys (Behind left) past m → Ties past m.state
+  pub ties_of : (left : List HostEvent) (past : List Entry) (m : HostMachine) → KnowsHost keys (Behind left) past m → Ties past m.state
   ties_of left past m ground =
       let known = ground.0.0 in
       let tables : TieTables past m.state m.records = known.0.0.0.0.0.0 in
@@ -174,12 +174,15 @@ module _ (keys : Keys) (opens : ShowsOpen) (said : ShowsTables) (rooms : Rooms) 
       let unnumbered : m.awaits ≡ false = false_from_ne_true m.awaits (λ awaits. let bad : e ∷ marks ≡ [] = sym are ∙ numbered awaits in cc) in
       subst (λ (l : List Entry). Heard past m behind l h) (sym are) (
         (whole_may keys past e tt whole, stand),
-        inl (unnumbered, subst (λ (l : List Entry). NotesLeft keys l h behind) (append_assoc past (e ∷ []) marks)
-            (all-weaker (λ (carried : Carried). PayloadEvents h carried.node carried.payload (heard_at carried.payload) behind) (IsLeft keys (since_unit later) later h behind)
-            (λ carried events. inl (record {
-              left_is = events;
-              completes = λ more notes. by_upto later carried upto no_notes more notes;
-            })) (brought_here later) all)),
+        inl (
+          unnumbered,
+          subst (λ (l : List Entry). NotesLeft keys l h behind) (append_assoc past (e ∷ []) marks)
+              (all-weaker (λ (carried : Carried). PayloadEvents h carried.node carried.payload (heard_at carried.payload) behind) (IsLeft keys (since_unit later) later h behind)
+              (λ carried events. inl (record {
+                left_is = events;
+                completes = λ more notes. by_upto later carried upto no_notes more notes;
+              })) (brought_here later) all),
+        ),
       )
     where
       by_upto : (later : List Entry) (carried : Carried) → (since_unit later).upto ≡ later → (since_unit later).notes ≡ [] → (more : List Entry)

@@ -26,9 +26,12 @@ unkept l rest is = cc
 unread : (payload : List ℕ) (l rest : List Entry) → Out 1 endings.Success ∷ rest ≡ Unread 4 payload ∷ l → ⊥
 unread payload l rest is = cc
 
-value_in : List Entry → ℕ
+abbrev value_in : List Entry → ℕ
 value_in (Report node setting ∷ l) = setting.value
 value_in l = 0
+
+another : ◌≡◌ {A = ℕ} 255 0 → ⊥
+another is = cc
 
 rest_is : (e : Entry) (l more : List Entry) → e ∷ l ≡ e ∷ more → l ≡ more
 rest_is e l more is = cc
@@ -81,8 +84,7 @@ unfolding computing
 returns-clause-as_another c = λ keys law.
     let (later, (notes, more, are, (first, rest, noted, is, none), all)) = law.between.1.1.1.1.1.1.1.1.1.1.1.1.1.0.0 in
     let e : Entry = Report 2 (setting 0 names.Switch 0) in
-    let same : 255 ≡ 0 = ap value_in (begins e (Report 2 (setting 0 names.Switch 255) ∷ later) notes more first rest are noted is) in
-    cc
+    another (ap value_in (begins e (Report 2 (setting 0 names.Switch 255) ∷ later) notes more first rest are noted is))
 
 pub returns-clause-believed : goal.returns-clause-believed
 unfolding computing
