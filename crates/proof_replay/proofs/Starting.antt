@@ -103,6 +103,7 @@ kept_as_told keys whole heard told held agrees laws = record {
   notes = laws.notes;
   opens = laws.opens;
   in_full = laws.in_full;
+  unkept = laws.unkept;
   wakes = laws.wakes;
   sleeps = laws.sleeps;
   holds = laws.holds;

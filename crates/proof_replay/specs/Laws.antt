@@ -1,5 +1,5 @@
 -- What a host keeps true over all that it heard, whatever that was (this project's own rule).
-use Rattle.std.specs.Prelude.{◌≡◌, ℕ, Bool, true, false, List, [], ◌++◌, Option, Some, IfSome}
+use Rattle.std.specs.Prelude.{◌≡◌, ℕ, Bool, true, List, [], ◌++◌, Option, Some, IfSome}
 use Rattle.zw_words.specs.declared.side.Side.TheVariants.{Host}
 use Rattle.zw_text.specs.declared.line.ReplayLine.{ReplayLine}
 use Rattle.zw_text.specs.declared.entry.Entry.{Entry}
@@ -33,12 +33,13 @@ use Rattle.proof_asking.specs.proof_requests.proof_alone.Runs.{Run}
 use Rattle.proof_asking.specs.proof_known.Known.{AreForHost, KeepsWhatIsSaid}
 use Rattle.proof_asking.specs.proof_known.Noted.{NotesWhatOpens, NotesWhatWasTold}
 use Rattle.proof_notes.specs.Full.{NotesInFull}
+use Rattle.proof_notes.specs.Unkept.{UnkeptWhereAsked}
 use Rattle.proof_replay.specs.Heard.{AreReplayed, AreSaid, Replayed, heard_of, told_of}
 
 -- One field a law. Orders, sessions and outcomes keep their laws.
 -- Each line has its answer; what is taken back, carried, stored and shown is so, and the records, where they are told, say what is shown.
 -- A command ends, and values, old reports and what cannot be read are noted, only where a payload of the node was judged that tells it; what is sealed, in what it opens to.
--- After each payload that was judged stand exactly the notes of its messages, in order and before anything else is done.
+-- After each payload that was judged stand exactly the notes of its messages, in order and before anything else is done; and that a record was not kept is said only where one was asked for.
 -- A node is taken to be awake where it tells so, and wherever it does.
 -- It falls asleep where its third attempt, or telling it that there is no more for it, has ended, and wherever one of these has.
 -- It is held awake where the report that ends its session may ask so, and wherever it does.
@@ -55,6 +56,7 @@ pub record HostsKeepLaws (keys : Keys) (whole : Bool) (heard : List Entry) (reco
   pub notes : NotesWhatWasTold heard
   pub opens : NotesWhatOpens keys heard
   pub in_full : NotesInFull keys whole heard
+  pub unkept : UnkeptWhereAsked keys heard
   pub wakes : WakesAsTold heard
   pub sleeps : FallsAsleep whole heard
   pub holds : HoldsAsAsked heard

@@ -1,5 +1,5 @@
 -- Each law is proved of every run of a host alone.
-use Rattle.std.proofs.Common.{◌≡◌, Bool, true, false, List, [], refl, subst, ℕ, ◌∙◌}
+use Rattle.std.proofs.Common.{◌≡◌, Bool, true, false, List, [], refl, subst}
 use Rattle.std.specs.Prelude.{Some}
 use Rattle.s0_crypto.specs.declared.key_pair.Keys.{Keys}
 use Rattle.zw_text.specs.declared.entry.Entry.{Entry}
@@ -32,6 +32,7 @@ returns c = λ keys whole here heard m run rests fine. record {
   opens = c.hosts_note_what_was_told.ensures.opened keys heard (here, m, run);
   in_full =
       by_whole (λ (b : Bool) (l : List Entry). NotesInFull keys b l) (first_alone keys (Some [])) (c.hosts_note_in_full.ensures.whole keys) (c.hosts_note_in_full.ensures.told keys) whole here heard m run rests;
+  unkept = c.hosts_say_what_is_not_kept.ensures keys heard (here, m, run);
   wakes = c.hosts_wake_as_told.ensures keys (Some []) heard (here, m, run);
   sleeps =
       sleeps_by (first_alone keys (Some [])) (c.hosts_fall_asleep_as_told.ensures.whole keys) (c.hosts_fall_asleep_as_told.ensures.told keys) whole here heard m run rests;
