@@ -1,6 +1,6 @@
 -- What the host notes of messages was told (Supervision and Security 0 Command Classes, and the reports of the Application Command Classes): each such note stands where a payload of
 -- its node was judged that tells it, or that is sealed and opens to a text that does.
-use Rattle.std.specs.Prelude.{◌≡◌, if◌then◌else◌, [], not, nat_le, ◌∷◌, ℕ, ◌%◌, ◌==◌, ◌&&◌, bytes_eq, Bool, true, false, List, length, ⊤}
+use Rattle.std.specs.Prelude.{◌≡◌, [], not, nat_le, ◌∷◌, ℕ, ◌%◌, ◌==◌, ◌&&◌, bytes_eq, Bool, true, false, List, length, ⊤}
 use Rattle.std.specs.List.{AllByRecursion, list_any}
 use Rattle.zw_base.specs.PropertyOrder.{same_property}
 use Rattle.zw_base.specs.declared.property.Property.{Property}
@@ -18,13 +18,12 @@ use Rattle.host_heard.specs.declared.told.Told.TheVariants as told
 use Rattle.zw_text.specs.declared.entry.Ended.{Ended}
 use Rattle.zw_text.specs.declared.entry.Ended.TheVariants as endings
 use Rattle.zw_text.specs.declared.entry.Entry.{Entry}
-use Rattle.zw_text.specs.declared.entry.Entry.TheVariants.{Written, Out, Report, Unstored, Old, Unread}
-use Rattle.zw_words.specs.declared.side.Side.TheVariants.{Host}
+use Rattle.zw_text.specs.declared.entry.Entry.TheVariants.{Out, Report, Unstored, Old, Unread}
 use Rattle.zw_text.specs.Transcript.{sessions}
 use Rattle.law_transcript.specs.Lists.{EachAfter}
 use Rattle.law_transcript.specs.Payloads.{messages_of}
 use Rattle.law_transcript.specs.Units.{Carried}
-use Rattle.law_time.specs.Judged.{brought_here, is_no_note, may_be_told, may_tell, payloads_here}
+use Rattle.law_time.specs.Judged.{brought_here, may_be_told, may_tell, payloads_here}
 use Rattle.law_time.specs.Moments.{Keeps}
 use Rattle.law_time.specs.Sessions.{is_last_command}
 use Rattle.proof_transcript.specs.law_host.Following.{same_setting}
@@ -126,13 +125,3 @@ MayOpen keys past entry = ⊤
 
 abbrev pub NotesWhatOpens : Keys → List Entry → Type 0
 NotesWhatOpens keys transcript = EachAfter (MayOpen keys) [] transcript
-
--- ---- values
-
-abbrev pub value_note : List Entry → ℕ → Setting → Entry
-value_note past node setting = if has_room past node setting.property then Report node setting else Unstored node setting.property
-
--- the host goes on with what it judged: a note, or what became of its acknowledgement
-abbrev pub goes_on : Entry → Bool
-goes_on (Written Host unit) = false
-goes_on entry = not (is_no_note entry)
