@@ -52,6 +52,7 @@ use Rattle.law_host.specs.HostLegal.{ShowsValues}
 use Rattle.proof_chip.specs.Served.{AirsByLink}
 use Rattle.proof_replay.specs.Laws.{HostsKeepLaws}
 use Rattle.proof_replay.specs.proof_notes_Full.{NotesInFull}
+use Rattle.proof_replay.specs.proof_notes_Unkept.{UnkeptWhereAsked}
 use Rattle.proof_replay.specs.proof_sending.Line.{ClearsAtRestarts, ClearsNowhereElse, OverrunsOnlyWhenFull}
 use Rattle.proof_audit.specs.Transcript.{IsNoRepeat, HasRecords}
 use Rattle.proof_chip.specs.proof_world.Devices.{GroupsSessions}
@@ -413,6 +414,10 @@ abbrev pub NotesPayloads : List ℕ → Around → Around → Type 0
 NotesPayloads key old new = AlwaysOf key old new
     (λ story. TellsAtRestarts old story → (whole : Bool) → (whole ≡ true → AreSchedules (first key old) story) → NotesInFull (keys_of key) whole (transcript key old story))
 
+-- That a record was not kept is said only where one was asked for.
+abbrev pub SaysWhatIsNotKept : List ℕ → Around → Around → Type 0
+SaysWhatIsNotKept key old new = AlwaysOf key old new (λ story. TellsAtRestarts old story → UnkeptWhereAsked (keys_of key) (transcript key old story))
+
 -- and over all that its host heard, with what it knows of nodes by their interviews, it keeps the laws of hosts: those of records of what a new keeper would hold
 abbrev pub kept_anew : List ℕ → Around → List Ran → Option (List (List ℕ))
 kept_anew key old story = (happens_all (first_machine (keys_of key) (Some []) old.devices) (events_of story)).records
@@ -476,6 +481,7 @@ pub record KeepsHostLaws (key : List ℕ) (old new : Around) : Type 0 where
   pub one_by_one : AsksOneByOne key old new
   pub numbered : NumbersMessages key old new
   pub noted : NotesPayloads key old new
+  pub unkept : SaysWhatIsNotKept key old new
   pub heard : HearsAsHosts key old new
 
 -- what the devices do

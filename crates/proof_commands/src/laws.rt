@@ -44,6 +44,7 @@ ghost use Rattle.proof_commands.specs.Laws.{
   RepeatsAsAsked,
   ReportsAfterChange,
   RoutesFrames,
+  SaysWhatIsNotKept,
   SendsAsDue,
   SendsToSleep,
   ShowsChanges,
@@ -86,7 +87,7 @@ use proof_replay::asking::{lines_ask_one_by_one, lines_say_how_done};
 use proof_replay::attempts::{lines_fall_asleep_as_told, lines_hold_as_asked};
 use proof_replay::known::waking::lines_wake_as_told;
 use proof_replay::lines_that_ran_are_heard;
-use proof_replay::notes::lines_note_in_full;
+use proof_replay::notes::{lines_note_in_full, lines_say_what_is_not_kept};
 use proof_replay::requests::{lines_answer_questions, lines_end_interviews};
 use proof_replay::sending::line::{
     lines_clear_at_restarts, lines_clear_nowhere_else, lines_clear_the_line,
@@ -301,12 +302,14 @@ fn stories_ask_one_by_one()
     lines_ask_one_by_one();
 }
 
-/// After each payload stands all that its messages have noted, in lines that were said.
+/// After each payload stands all that its messages have noted, and that a record was not kept where one was asked for, in lines that were said.
 fn stories_note_in_full()
-    ensures { (key : List ℕ) (old new : Around) → NotesPayloads key old new }
+    ensures noted { (key : List ℕ) (old new : Around) → NotesPayloads key old new }
+    ensures unkept { (key : List ℕ) (old new : Around) → SaysWhatIsNotKept key old new }
 {
     lines_are_read_as_said();
     lines_note_in_full();
+    lines_say_what_is_not_kept();
 }
 
 /// Over what their hosts heard of lines that were said, stories keep the laws of hosts.

@@ -12,10 +12,6 @@ pub mod ForHost
 pub mod KeptKeys
 mod Followers
 pub mod Noting
-mod ValuesLeft
-mod Turning
-mod InTurn
-mod AtOnce
 pub use Rattle.proof_waking.proofs.Running
 pub use Rattle.proof_transcript.proofs.AttemptStarts
 pub use Rattle.proof_transcript.proofs.ServedNodes

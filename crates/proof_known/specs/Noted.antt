@@ -1,7 +1,7 @@
 -- What the host notes of messages was told (Supervision and Security 0 Command Classes, and the reports of the Application Command Classes): each such note stands where a payload of
 -- its node was judged that tells it, or that is sealed and opens to a text that does.
-use Rattle.std.specs.Prelude.{◌+◌, drop, ◌≡◌, ◌||◌, if◌then◌else◌, [], not, nat_le, ◌∷◌, ℕ, ◌%◌, ◌==◌, ◌&&◌, bytes_eq, Bool, true, false, List, length, ⊤}
-use Rattle.std.specs.List.{AllByRecursion, flat_map, list_all, list_any}
+use Rattle.std.specs.Prelude.{◌≡◌, [], not, nat_le, ◌∷◌, ℕ, ◌%◌, ◌==◌, ◌&&◌, bytes_eq, Bool, true, false, List, length, ⊤}
+use Rattle.std.specs.List.{AllByRecursion, list_any}
 use Rattle.zw_base.specs.PropertyOrder.{same_property}
 use Rattle.zw_base.specs.declared.property.Property.{Property}
 use Rattle.zw_base.specs.declared.property.Setting.{Setting}
@@ -12,23 +12,21 @@ use Rattle.class_info.specs.declared.report_status.ReportStatus.{ReportStatus}
 use Rattle.class_info.specs.declared.report_status.ReportStatus.TheVariants as statuses
 use Rattle.host_heard.specs.Telling.{heard_at}
 use Rattle.host_heard.specs.declared.payload.Heard.{Heard}
-use Rattle.host_heard.specs.declared.payload.Heard.TheVariants.{Messages, Sealed, Unread as unread_text}
+use Rattle.host_heard.specs.declared.payload.Heard.TheVariants.{Messages, Sealed}
 use Rattle.host_heard.specs.declared.told.Told.{Told}
 use Rattle.host_heard.specs.declared.told.Told.TheVariants as told
 use Rattle.zw_text.specs.declared.entry.Ended.{Ended}
 use Rattle.zw_text.specs.declared.entry.Ended.TheVariants as endings
 use Rattle.zw_text.specs.declared.entry.Entry.{Entry}
-use Rattle.zw_text.specs.declared.entry.Entry.TheVariants.{Said, Written, Out, Report, Unstored, Old, Unread, Awake}
-use Rattle.zw_words.specs.declared.side.Side.TheVariants.{Host}
-use Rattle.zw_text.specs.Transcript.{folded, sessions}
+use Rattle.zw_text.specs.declared.entry.Entry.TheVariants.{Out, Report, Unstored, Old, Unread}
+use Rattle.zw_text.specs.Transcript.{sessions}
 use Rattle.law_transcript.specs.Lists.{EachAfter}
 use Rattle.law_transcript.specs.Payloads.{messages_of}
 use Rattle.law_transcript.specs.Units.{Carried}
-use Rattle.law_time.specs.Requests.{are_none}
-use Rattle.law_time.specs.Judged.{brought_here, is_directly_after, is_mark, is_no_note, may_be_told, may_tell, payloads_here}
+use Rattle.law_time.specs.Judged.{brought_here, may_be_told, may_tell, payloads_here}
 use Rattle.law_time.specs.Moments.{Keeps}
 use Rattle.law_time.specs.Sessions.{is_last_command}
-use Rattle.proof_transcript.specs.law_host.Following.{same_note, same_setting}
+use Rattle.proof_transcript.specs.law_host.Following.{same_setting}
 use Rattle.proof_transcript.specs.law_host.Heard.{listing_heard}
 use Rattle.law_transcript.specs.Answers.{properties_kept}
 use Rattle.law_transcript.specs.Nodes.{controller, host_list}
@@ -127,83 +125,3 @@ MayOpen keys past entry = ⊤
 
 abbrev pub NotesWhatOpens : Keys → List Entry → Type 0
 NotesWhatOpens keys transcript = EachAfter (MayOpen keys) [] transcript
-
--- ---- notes that stand at once
-
-abbrev pub value_note : List Entry → ℕ → Setting → Entry
-value_note past node setting = if has_room past node setting.property then Report node setting else Unstored node setting.property
-
--- what a message has noted that comes first: of a value, and of a node that is awake
-abbrev pub told_first : List Entry → ℕ → Told → List Entry
-told_first past node (told.Values (setting ∷ more)) = value_note past node setting ∷ []
-told_first past node told.Notification = Awake node ∷ []
-told_first past node message = []
-
--- and what a payload has that cannot be read
-abbrev pub first_notes : List Entry → Carried → Heard → List Entry
-first_notes past carried unread_text = Unread carried.node carried.payload ∷ []
-first_notes past carried (Messages (message ∷ more)) = told_first past carried.node message
-first_notes past carried heard = []
-
-abbrev pub is_first : List Entry → Entry → Bool
-is_first [] entry = true
-is_first (note ∷ notes) entry = same_note note entry
-
--- directly after a payload was judged stands what it has first, where that is known
-abbrev pub may_follow : List Entry → Entry → Bool
-may_follow past entry =
-    is_mark entry
-    || not (is_directly_after past && list_any (λ carried. not (is_first (first_notes past carried (heard_at carried.payload)) entry)) (brought_here past))
-
-pub record NotesAtOnce (whole : Bool) (transcript : List Entry) : Type 0 where
-  pub between : Keeps may_follow transcript
-  pub in_the_end : whole ≡ true → may_follow transcript (Said []) ≡ true
-
--- ---- values in turn
-
--- how many values were noted since the last unit of the host
-abbrev pub values_step : ℕ → Entry → ℕ
-values_step count (Written Host unit) = 0
-values_step count (Report node setting) = count + 1
-values_step count (Unstored node property) = count + 1
-values_step count entry = count
-
--- the values that a payload tells openly, in order, and those that are still to be noted
-abbrev pub values_in : Told → List Setting
-values_in (told.Values settings) = settings
-values_in message = []
-
-abbrev pub values_told : Heard → List Setting
-values_told (Messages messages) = flat_map values_in messages
-values_told heard = []
-
-abbrev pub values_left : List Entry → Carried → List Setting
-values_left past carried = drop (folded values_step 0 past) (values_told (heard_at carried.payload))
-
--- a note of a value is of the next one; what is sealed may tell any
-abbrev pub is_next : List Setting → Entry → Bool
-is_next (setting ∷ settings) (Report node told) = same_setting setting told
-is_next (setting ∷ settings) (Unstored node property) = same_property setting.property property
-is_next settings entry = false
-
-abbrev pub is_sealed : Heard → Bool
-is_sealed Sealed = true
-is_sealed heard = false
-
-abbrev pub is_in_turn : List Entry → Entry → Carried → Bool
-is_in_turn past entry carried = is_sealed (heard_at carried.payload) || is_next (values_left past carried) entry
-
--- the host goes on with what it judged: a note, or what became of its acknowledgement
-abbrev pub goes_on : Entry → Bool
-goes_on (Written Host unit) = false
-goes_on entry = not (is_no_note entry)
-
--- each value that a payload tells openly is noted, in order, before anything else is done
-abbrev pub may_turn : List Entry → Entry → Bool
-may_turn past (Report node setting) = list_all (is_in_turn past (Report node setting)) (brought_here past)
-may_turn past (Unstored node property) = list_all (is_in_turn past (Unstored node property)) (brought_here past)
-may_turn past entry = goes_on entry || list_all (λ carried. are_none (values_left past carried)) (brought_here past)
-
-pub record NotesInTurn (whole : Bool) (transcript : List Entry) : Type 0 where
-  pub between : Keeps may_turn transcript
-  pub in_the_end : whole ≡ true → may_turn transcript (Said []) ≡ true

@@ -4,11 +4,10 @@
 //! its transcript shows it to have listed last (`hosts_know_what_nodes_list`). By that each order stands in its table as it was said
 //! (`hosts_keep_what_is_said`), the values that it stores are those that commands confirm, the values that it shows are those that the transcript gives
 //! (`hosts_show_what_they_keep`), its records are what is shown (`hosts_record_what_is_shown`), and each line has its answer (`hosts_answer_lines`). All of it
-//! is one record (`hosts_do_as_is_said`). What it notes of messages was told in what it judged (`hosts_note_what_was_told`), what a payload has first stands at
-//! once (`hosts_note_at_once`), and all values that it tells openly are noted in order (`hosts_note_values_in_turn`).
+//! is one record (`hosts_do_as_is_said`). What it notes of messages was told in what it judged (`hosts_note_what_was_told`).
 //! The definitions are in `specs/Known` and `specs/Noted`. `proofs/Events` says which events a host alone does where; `Listing` and `Hearing` are of
-//! interviews, `Knowing`, `Saying`, `Telling`, `Showing`, `Recording`, `Answering`, `Noting` (over `Followers`), `AtOnce` and `InTurn` (over `ValuesLeft`,
-//! `Turning`) are the walks; `ForHost` is of what the host heard of a run.
+//! interviews, `Knowing`, `Saying`, `Telling`, `Showing`, `Recording`, `Answering` and `Noting` (over `Followers`) are the walks; `ForHost` is of what the host
+//! heard of a run.
 #![tactic(auto)]
 
 mod answers;
@@ -19,10 +18,7 @@ mod shown;
 
 pub use answers::{hosts_answer_lines, hosts_do_as_is_said};
 pub use known::{hosts_keep_what_is_said, hosts_know_what_nodes_list, hosts_know_what_was_told};
-pub use noted::{
-    hosts_note_at_once, hosts_note_values_in_turn, hosts_note_what_was_told, rejected_telling,
-    worked_at_once, worked_in_turn, worked_telling,
-};
+pub use noted::{hosts_note_what_was_told, rejected_telling, worked_telling};
 pub use proof_waking as waking;
 pub use proof_waking::alone;
 pub use records::hosts_record_what_is_shown;

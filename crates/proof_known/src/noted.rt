@@ -1,10 +1,10 @@
 //! What a host alone notes of messages.
 
-ghost use Rattle.std.specs.Prelude.{true, false, Option, Some, List, [], ◌++◌, ℕ};
+ghost use Rattle.std.specs.Prelude.{Some, List, [], ◌++◌};
 ghost use Rattle.s0_crypto.specs.declared.key_pair.Keys.{Keys};
 ghost use Rattle.zw_text.specs.declared.entry.Entry.{Entry};
 ghost use Rattle.proof_waking.specs.proof_alone.State.{first_alone};
-ghost use Rattle.proof_waking.specs.proof_alone.Runs.{Told, ToldWhole};
+ghost use Rattle.proof_waking.specs.proof_alone.Runs.{Told};
 ghost use Rattle.proof_transcript.specs.law_host.Worked.{
   begun,
   ended_by_other,
@@ -13,16 +13,12 @@ ghost use Rattle.proof_transcript.specs.law_host.Worked.{
   ended_otherwise,
   failure_told,
   other_told,
-  unread_left_out,
   unread_payload,
   unsupported_told,
   value_again,
   value_heard,
-  value_left_out,
-  value_otherwise,
-  value_twice,
 };
-ghost use Rattle.proof_known.specs.Noted.{NotesAtOnce, NotesInTurn, NotesWhatOpens, NotesWhatWasTold};
+ghost use Rattle.proof_known.specs.Noted.{NotesWhatOpens, NotesWhatWasTold};
 ghost use Rattle.proof_known.specs.WorkedNotes.{ended_by_nothing, ended_unreported, lock_believed, lock_unread};
 
 use crate::known::hosts_know_what_was_told;
@@ -44,27 +40,6 @@ pub fn hosts_note_what_was_told()
     tables_are_what_was_said();
     laws_follow();
     a_restart_needs_the_records_alone();
-}
-
-/// Directly after the acknowledgement of a payload stands what it has noted first, where that is sure: that it cannot be read; its first value, or that there
-/// is no room for it; or that its node is awake.
-pub fn hosts_note_at_once()
-    ensures told { (keys : Keys) (told : List Entry) → Told (first_alone keys (Some [])) told → NotesAtOnce false told }
-    ensures whole { (keys : Keys) (told : List Entry) → ToldWhole (first_alone keys (Some [])) told → NotesAtOnce true told }
-{
-    hosts_know_what_was_told();
-    tables_are_what_was_said();
-    laws_follow();
-}
-
-/// And each value that a payload tells openly is noted, in order and once, before anything else is done, over whatever keeper: as heard, or that there is no
-/// room for it.
-pub fn hosts_note_values_in_turn()
-    ensures told { (keys : Keys) (records : Option (List (List ℕ))) (told : List Entry) → Told (first_alone keys records) told → NotesInTurn false told }
-    ensures whole { (keys : Keys) (records : Option (List (List ℕ))) (told : List Entry) → ToldWhole (first_alone keys records) told →
-        NotesInTurn true told }
-{
-    hosts_judge_as_told();
 }
 
 /// Each ending by its report, an old one, a value and what cannot be read keep the law, and so does a lock whose report comes openly and is not read.
@@ -95,21 +70,4 @@ pub fn worked_opening()
     ensures openly { (keys : Keys) → NotesWhatOpens keys (begun ++ failure_told) }
     ensures anything { NotesWhatWasTold (begun ++ ended_by_nothing) }
     ensures nothing { (keys : Keys) → NotesWhatOpens keys (begun ++ ended_by_nothing) → ⊥ }
-{}
-
-/// A value that is told and one that cannot be read stand at once; left out at the end, or entered as another, the law is broken.
-pub fn worked_at_once()
-    ensures value { NotesAtOnce true value_heard }
-    ensures unread { NotesAtOnce true unread_payload }
-    ensures left_out { NotesAtOnce true value_left_out → ⊥ }
-    ensures unread_left_out { NotesAtOnce true unread_left_out → ⊥ }
-    ensures otherwise { NotesAtOnce true value_otherwise → ⊥ }
-{}
-
-/// A value that is told and noted once keeps the law of values in turn; left out, noted twice, or as another, it is broken.
-pub fn worked_in_turn()
-    ensures value { NotesInTurn true value_heard }
-    ensures left_out { NotesInTurn true value_left_out → ⊥ }
-    ensures twice { NotesInTurn true value_twice → ⊥ }
-    ensures otherwise { NotesInTurn true value_otherwise → ⊥ }
 {}

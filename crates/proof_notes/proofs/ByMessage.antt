@@ -55,8 +55,8 @@ use Rattle.proof_known.specs.law_host.Heard.{listing_heard}
 use Rattle.proof_known.specs.law_host.Messages.{final_notes, held_notes, is_of_open}
 use Rattle.proof_known.specs.proof_alone.Listening.{ListensAsTold}
 use Rattle.proof_known.specs.proof_alone.Steps.{AreTold}
-use Rattle.proof_known.specs.Noted.{has_room, value_note}
-use Rattle.proof_notes.specs.Full.{AreNoneUnlessFull, AreUnlessUnkept, EndNotes, MessageNotes, ReportNotes, hearing_of}
+use Rattle.proof_known.specs.Noted.{has_room}
+use Rattle.proof_notes.specs.Full.{AreNoneUnlessFull, AreUnlessUnkept, EndNotes, MessageNotes, ReportNotes, hearing_of, value_note}
 
 -- what is known of a host where it takes a message
 pub record Ties (past : List Entry) (h : HostState) : Type 0 where

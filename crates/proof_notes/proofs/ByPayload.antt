@@ -33,10 +33,9 @@ use Rattle.host_model.specs.Events.{HostEvent, Unreads, Is_unkept, Spends, Spend
 use Rattle.host_model.specs.Outs.{outs}
 use Rattle.host_model.specs.Taking.{AreTaken, FrameEvents, IsOpened, IsTaken, NoticeEvents, OpensTo as HostOpens, PayloadEvents, SealedEvents, ends_from, named_by, value_event, value_events}
 use Rattle.proof_transcript.proofs.Bodies.{body_is}
-use Rattle.proof_known.specs.Noted.{value_note}
 use Rattle.proof_known.specs.law_host.Messages.{Hearing, is_of_open}
 use Rattle.proof_known.specs.proof_alone.Steps.{AreTold}
-use Rattle.proof_notes.specs.Full.{EndNotes, MessageNotes, MessagesNotes, OpensTo, PayloadNotes, ReportNotes, hearing_of, is_openly, value_notes}
+use Rattle.proof_notes.specs.Full.{EndNotes, MessageNotes, MessagesNotes, OpensTo, PayloadNotes, ReportNotes, hearing_of, is_openly, value_note, value_notes}
 use Rattle.proof_notes.proofs.ByMessage.{One, Ties, note_told, one_message, value_told}
 
 -- ---- some notes there are

@@ -22,12 +22,12 @@ use Rattle.zw_text.specs.Transcript.{folded}
 use Rattle.law_transcript.specs.Lists.{EachAfter}
 use Rattle.law_transcript.specs.Nodes.{controller, host_list}
 use Rattle.law_transcript.specs.Units.{Carried}
-use Rattle.law_time.specs.Judged.{brought_here, is_mark}
+use Rattle.law_time.specs.Judged.{brought_here, is_mark, is_no_note}
 use Rattle.law_time.specs.Requests.{are_none}
 use Rattle.law_time.specs.Sessions.{last_command}
 use Rattle.proof_known.specs.law_host.Heard.{heeds_alone}
 use Rattle.proof_known.specs.law_host.Messages.{Hearing, ended_by, final_notes, is_of_open}
-use Rattle.proof_known.specs.Noted.{goes_on, value_note}
+use Rattle.proof_known.specs.Noted.{has_room}
 
 -- a payload of a node, whose messages were sealed or not; a host alone goes by what the node listed
 abbrev pub hearing_of : ℕ → List ℕ → Bool → Hearing
@@ -61,6 +61,9 @@ ReportNotes hearing past id status wake_request false true some = EndNotes heari
 ReportNotes hearing past id status wake_request false false some = some ≡ Old hearing.node id ∷ []
 
 -- ---- messages
+
+abbrev pub value_note : List Entry → ℕ → Setting → Entry
+value_note past node setting = if has_room past node setting.property then Report node setting else Unstored node setting.property
 
 -- each value, or that there is no room for it, by what stood before
 abbrev pub value_notes : ℕ → List Entry → List Setting → List Entry
@@ -131,6 +134,11 @@ IsElse entry = ⊤
 abbrev pub AreWhole : Keys → List Entry → Carried → List Entry → Type 0
 AreWhole keys upto carried some =
     (notes more : List Entry) × (some ≡ notes ++ more) × PayloadNotes keys carried.node carried.payload upto (heard_at carried.payload) notes × AllByRecursion IsElse more
+
+-- the host goes on with what it judged: a note, or what became of its acknowledgement
+abbrev pub goes_on : Entry → Bool
+goes_on (Written Host unit) = false
+goes_on entry = not (is_no_note entry)
 
 -- what became of the acknowledgement says nothing; an entry is among the notes, with others to come; or they are whole before it
 abbrev pub GoesOnWith : Keys → SinceUnit → (mark on : Bool) → Entry → Carried → Type 0

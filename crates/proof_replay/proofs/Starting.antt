@@ -102,9 +102,8 @@ kept_as_told keys whole heard told held agrees laws = record {
   };
   notes = laws.notes;
   opens = laws.opens;
-  at_once = laws.at_once;
-  in_turn = laws.in_turn;
   in_full = laws.in_full;
+  unkept = laws.unkept;
   wakes = laws.wakes;
   sleeps = laws.sleeps;
   holds = laws.holds;

@@ -31,15 +31,15 @@ use Rattle.proof_asking.specs.proof_requests.proof_alone.State.{HostMachine, fir
 use Rattle.proof_asking.specs.proof_requests.proof_alone.Phases.{Resting}
 use Rattle.proof_asking.specs.proof_requests.proof_alone.Runs.{Run}
 use Rattle.proof_asking.specs.proof_known.Known.{AreForHost, KeepsWhatIsSaid}
-use Rattle.proof_asking.specs.proof_known.Noted.{NotesAtOnce, NotesInTurn, NotesWhatOpens, NotesWhatWasTold}
+use Rattle.proof_asking.specs.proof_known.Noted.{NotesWhatOpens, NotesWhatWasTold}
 use Rattle.proof_notes.specs.Full.{NotesInFull}
+use Rattle.proof_notes.specs.Unkept.{UnkeptWhereAsked}
 use Rattle.proof_replay.specs.Heard.{AreReplayed, AreSaid, Replayed, heard_of, told_of}
 
 -- One field a law. Orders, sessions and outcomes keep their laws.
 -- Each line has its answer; what is taken back, carried, stored and shown is so, and the records, where they are told, say what is shown.
 -- A command ends, and values, old reports and what cannot be read are noted, only where a payload of the node was judged that tells it; what is sealed, in what it opens to.
--- What cannot be read, a value and that a node is awake are noted at once, where a payload has them first; and all values that are told openly, in order.
--- After each payload that was judged stands all that its messages have noted, in order and before anything else: of one that is sealed, what it opens to with the host's keys.
+-- After each payload that was judged stand exactly the notes of its messages, in order and before anything else is done; and that a record was not kept is said only where one was asked for.
 -- A node is taken to be awake where it tells so, and wherever it does.
 -- It falls asleep where its third attempt, or telling it that there is no more for it, has ended, and wherever one of these has.
 -- It is held awake where the report that ends its session may ask so, and wherever it does.
@@ -56,9 +56,8 @@ pub record HostsKeepLaws (keys : Keys) (whole : Bool) (heard : List Entry) (reco
   pub said : KeepsWhatIsSaid whole heard records
   pub notes : NotesWhatWasTold heard
   pub opens : NotesWhatOpens keys heard
-  pub at_once : NotesAtOnce whole heard
-  pub in_turn : NotesInTurn whole heard
   pub in_full : NotesInFull keys whole heard
+  pub unkept : UnkeptWhereAsked keys heard
   pub wakes : WakesAsTold heard
   pub sleeps : FallsAsleep whole heard
   pub holds : HoldsAsAsked heard

@@ -5,3 +5,4 @@ pub mod HostSteps
 pub use Rattle.proof_asking.specs.proof_requests as proof_requests
 pub use Rattle.proof_asking.specs.proof_sending as proof_sending
 pub use Rattle.proof_notes.specs.Full as proof_notes_Full
+pub use Rattle.proof_notes.specs.Unkept as proof_notes_Unkept

@@ -21,15 +21,13 @@ ghost use Rattle.proof_replay.specs.Heard.{AreReplayed, IsReadSo, Replayed, hear
 ghost use Rattle.proof_replay.specs.Laws.{HearsLines, HostsKeepLaws, IsHeardAlone};
 
 use proof_asking::known::waking::hosts_wake_as_told;
-use proof_asking::known::{
-    hosts_do_as_is_said, hosts_note_at_once, hosts_note_values_in_turn, hosts_note_what_was_told,
-};
+use proof_asking::known::{hosts_do_as_is_said, hosts_note_what_was_told};
 use proof_asking::requests::alone::traffic::hosts_obey_the_line;
 use proof_asking::requests::alone::{hosts_keep_their_tables, hosts_tell_time};
 use proof_asking::requests::{hosts_answer_questions, hosts_end_interviews};
 use proof_asking::{hosts_ask_one_by_one, hosts_say_how_done, hosts_send_what_is_due};
 use proof_attempts::{hosts_fall_asleep_as_told, hosts_hold_as_asked};
-use proof_notes::hosts_note_in_full;
+use proof_notes::{hosts_note_in_full, hosts_say_what_is_not_kept};
 
 /// Of any lines that are run whole, over any bytes and any keeper, what the host of `replay` heard is told by a run of a host alone that began without
 /// records and ends at rest. No line reads the records, so those of that run are added to what the keeper had.
@@ -51,9 +49,8 @@ pub fn hosts_keep_laws()
     hosts_keep_their_tables();
     hosts_do_as_is_said();
     hosts_note_what_was_told();
-    hosts_note_at_once();
-    hosts_note_values_in_turn();
     hosts_note_in_full();
+    hosts_say_what_is_not_kept();
     hosts_tell_time();
     hosts_wake_as_told();
     hosts_fall_asleep_as_told();

@@ -9,7 +9,6 @@ use Rattle.proof_asking.specs.proof_requests.proof_alone.Phases.{Phase, Resting}
 use Rattle.proof_asking.specs.proof_requests.proof_alone.Runs.{Run, Told, ToldWhole}
 use Rattle.law_transcript.specs.Payloads.{BeginsWithUnit}
 use Rattle.law_wire.specs.Serial.{ended}
-use Rattle.proof_asking.specs.proof_known.Noted.{NotesAtOnce, NotesInTurn}
 use Rattle.proof_notes.specs.Full.{NotesInFull}
 use Rattle.proof_replay.proofs.replay.hosts_keep_laws.Goals as goal
 
@@ -31,13 +30,9 @@ returns c = λ keys whole here heard m run rests fine link. record {
   said = c.hosts_do_as_is_said.ensures keys whole here heard m run (λ is. (rests is).0) fine;
   notes = c.hosts_note_what_was_told.ensures.told keys heard (here, m, run);
   opens = c.hosts_note_what_was_told.ensures.opened keys heard (here, m, run);
-  at_once =
-      by_whole (λ (b : Bool) (l : List Entry). NotesAtOnce b l) (first_alone keys (Some [])) (c.hosts_note_at_once.ensures.whole keys) (c.hosts_note_at_once.ensures.told keys) whole here heard m run rests;
-  in_turn =
-      by_whole (λ (b : Bool) (l : List Entry). NotesInTurn b l) (first_alone keys (Some [])) (c.hosts_note_values_in_turn.ensures.whole keys (Some []))
-      (c.hosts_note_values_in_turn.ensures.told keys (Some [])) whole here heard m run rests;
   in_full =
       by_whole (λ (b : Bool) (l : List Entry). NotesInFull keys b l) (first_alone keys (Some [])) (c.hosts_note_in_full.ensures.whole keys) (c.hosts_note_in_full.ensures.told keys) whole here heard m run rests;
+  unkept = c.hosts_say_what_is_not_kept.ensures keys heard (here, m, run);
   wakes = c.hosts_wake_as_told.ensures keys (Some []) heard (here, m, run);
   sleeps =
       sleeps_by (first_alone keys (Some [])) (c.hosts_fall_asleep_as_told.ensures.whole keys) (c.hosts_fall_asleep_as_told.ensures.told keys) whole here heard m run rests;
