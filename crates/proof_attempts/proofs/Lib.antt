@@ -17,8 +17,8 @@ mod SeriesGoes
 mod SeriesTie
 mod Payloads
 mod Carried
-mod Requested
-mod Wrote
+pub mod Requested
+pub mod Wrote
 mod Slept
 mod Owing
 mod Late

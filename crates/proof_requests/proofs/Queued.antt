@@ -94,7 +94,7 @@ next_queue s next (Some u) = by (next u)
     by (GoesOn progress) = refl
     by (Ends how) = refl
 
-told_queue : (s : RequestsState) (event : RequestsEvent) → IsOfChip event → (requests.after s event).queue ≡ s.queue
+pub told_queue : (s : RequestsState) (event : RequestsEvent) → IsOfChip event → (requests.after s event).queue ≡ s.queue
 told_queue s IsSent is = next_queue s at_sent s.under_way
 told_queue s Fails is = next_queue s (λ u. Ends LinkFailed) s.under_way
 told_queue s (Responds response) is = next_queue s (at_response response) s.under_way
