@@ -1,0 +1,9 @@
+mod Books
+mod Leaving
+mod Undropped
+mod Refused
+mod Asking
+mod Stills
+mod Sleepers
+mod Walking
+mod Along
