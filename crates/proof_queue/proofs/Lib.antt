@@ -7,3 +7,9 @@ mod Stills
 mod Sleepers
 mod Walking
 mod Along
+mod Puts
+mod Segments
+mod Kept
+mod Messages
+mod Payloads
+mod Choosing
