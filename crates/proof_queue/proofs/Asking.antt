@@ -82,20 +82,20 @@ text_wanted h node payload text errand is =
     ∙ ap (λ (p : List ℕ). map want_of_task h.requests.queue ++ (SEND_DATA ∷ node ∷ p) ∷ []) (errand_plain payload errand ∙ is)
 
 pub asked_wants : (line : Line) (before : List Entry) (h : HostState) (event : HostEvent) → Lists before h → IsAskedBy line h event → Wanted line before h event
-asked_wants (lines.Command order) before h event lists is = as_wanted _ before h event _ is (none_wanted h)
+asked_wants (lines.Command order) before h event lists is = as_wanted (lines.Command order) before h event _ is (none_wanted h)
 asked_wants (lines.Send node word) before h event lists is =
-    as_wanted _ before h event _ is.1
+    as_wanted (lines.Send node word) before h event _ is.1
     (text_wanted h node _ _ (send_errand (classes_of (known_of (node_of h node))) word) (ap (λ (c : List ℕ). send_text c word) (sym (lists node))))
 asked_wants (lines.Get node end) before h event lists is =
-    as_wanted _ before h event _ is.1
+    as_wanted (lines.Get node end) before h event _ is.1
     (text_wanted h node _ _ (get_errand (classes_of (known_of (node_of h node))) end) (ap (λ (c : List ℕ). get_text c end) (sym (lists node))))
-asked_wants (lines.Join node) before h event lists is = as_wanted _ before h event _ is (none_wanted h)
-asked_wants (lines.Interview node) before h event lists is = as_wanted _ before h event _ is.1 (map-append want_of_task h.requests.queue (First node ∷ Second node ∷ []))
-asked_wants (lines.Cancel command) before h event lists is = as_wanted _ before h event _ is (none_wanted h)
-asked_wants lines.Discover before h event lists is = as_wanted _ before h event _ is.1 (map-append want_of_task h.requests.queue (Members ∷ []))
-asked_wants (lines.Neighbours node) before h event lists is = as_wanted _ before h event _ is.1 (map-append want_of_task h.requests.queue (Neighbours node ∷ []))
-asked_wants (lines.Failed node) before h event lists is = as_wanted _ before h event _ is.1 (map-append want_of_task h.requests.queue (IsFailed node ∷ []))
-asked_wants lines.Probe before h event lists is = as_wanted _ before h event _ is.1 (map-append want_of_task h.requests.queue (Version ∷ MemoryId ∷ Capabilities ∷ []))
+asked_wants (lines.Join node) before h event lists is = as_wanted (lines.Join node) before h event _ is (none_wanted h)
+asked_wants (lines.Interview node) before h event lists is = as_wanted (lines.Interview node) before h event _ is.1 (map-append want_of_task h.requests.queue (First node ∷ Second node ∷ []))
+asked_wants (lines.Cancel command) before h event lists is = as_wanted (lines.Cancel command) before h event _ is (none_wanted h)
+asked_wants lines.Discover before h event lists is = as_wanted lines.Discover before h event _ is.1 (map-append want_of_task h.requests.queue (Members ∷ []))
+asked_wants (lines.Neighbours node) before h event lists is = as_wanted (lines.Neighbours node) before h event _ is.1 (map-append want_of_task h.requests.queue (Neighbours node ∷ []))
+asked_wants (lines.Failed node) before h event lists is = as_wanted (lines.Failed node) before h event _ is.1 (map-append want_of_task h.requests.queue (IsFailed node ∷ []))
+asked_wants lines.Probe before h event lists is = as_wanted lines.Probe before h event _ is.1 (map-append want_of_task h.requests.queue (Version ∷ MemoryId ∷ Capabilities ∷ []))
 asked_wants line before h event lists is = absurd is
 
 -- for which there are places

@@ -121,8 +121,8 @@ module _ (start : HostMachine) where
         → PutsSo (heeds_alone taken) (past ++ acknowledged ∷ []) (after m.state (Hears (Good (Framed f)))) behind
     frame_heeds here next past m f rest behind told may run taken chosen =
         let later = acknowledges here next past m f rest behind told may run in
-        let open : Run start Open past m = subst (λ (p : Phase). Run start p past m) may.0 run in
-        let judged = acknowledged_frames past m.came rest (unit_text (Framed f)) (unit_text Ack) (ap frames_of may.1.takes) refl (frames open) in
+        let opened : Run start Open past m = subst (λ (p : Phase). Run start p past m) may.0 run in
+        let judged = acknowledged_frames past m.came rest (unit_text (Framed f)) (unit_text Ack) (ap frames_of may.1.takes) refl (frames opened) in
         let follows : is_following (past ++ acknowledged ∷ []) ≡ true = folded-append after_step false past (acknowledged ∷ []) in
         let last : LastFrame (past ++ acknowledged ∷ []) behind = record {
           first = after m.state (Hears (Good (Framed f)));

@@ -28,7 +28,7 @@ use Rattle.host_model.specs.State.{Command, HostState, command_at, node_of, with
 use Rattle.host_model.specs.Sessions.{settings_with}
 use Rattle.host_model.specs.After.{after, finishing, giving, holding, is_full, is_held, node_does, offering, outcome_of, queues_if_room, requests_do, spending}
 use Rattle.host_model.specs.Events.{HostEvent, Finishes, Gives, Has_no_room, Hears_value, Is_unkept, Notifies, Offers, Reports_old, Resends, Spends, Spends_unread, Takes_nonce, Unreads, Works}
-use Rattle.host_model.specs.Outs.{held_entries, noted, outs, stored_entries}
+use Rattle.host_model.specs.Outs.{ended_of, held_entries, noted, outs, stored_entries}
 use Rattle.proof_host.proofs.Commands.{taken_set}
 use Rattle.proof_host.specs.Tables.{taken_at}
 use Rattle.proof_requests.proofs.Doing.{asks_of, holds_asks}
@@ -116,7 +116,7 @@ offers_keep : (h : HostState) (n : ℕ) (live : Option (List ℕ)) → Keeps h (
 offers_keep h n None = aside_keeps h h n refl refl
 offers_keep h n (Some nonce) = room_keeps h n (Offer n nonce)
 
-then_keeps : (h mid now : HostState) (n : ℕ) → Keeps h mid n → Keeps mid now n → Keeps h now n
+pub then_keeps : (h mid now : HostState) (n : ℕ) → Keeps h mid n → Keeps mid now n → Keeps h now n
 then_keeps h mid now n first next = record {
   commands = next.commands ∙ first.commands;
   opens = λ s opened. first.opens s (next.opens s opened);
@@ -191,7 +191,8 @@ held_undropped n false = tt
 pub finish_still : (h : HostState) (n session id command : ℕ) (status : FinalStatus) (wake : Bool) → IsStill h (Finishes n session id command status wake)
 finish_still h n session id command status wake = record {
   queue = ap (λ (p : Side × RequestsState). p.1.queue) (holds_asks (finishing h n id command status) n (is_held h n wake));
-  drops = noted_none _
+  drops = noted_none
+      (entry.Out command (ended_of status) ∷ (stored_entries n (settings_with status (command_at h.commands command)) ++ held_entries n (is_held h n wake)))
       (tt, all-append Undropped (stored_entries n (settings_with status (command_at h.commands command))) (held_entries n (is_held h n wake))
       (stored_undropped n (settings_with status (command_at h.commands command))) (held_undropped n (is_held h n wake)));
 }

@@ -2,7 +2,7 @@
 use Rattle.std.proofs.Common.{◌≡◌, ◌<◌, ◌≤◌, ℕ, suc, ◌+◌, ◌*◌, ◌/◌, ◌%◌, ◌==◌, ◌&&◌, Bool, true, false, if◌then◌else◌, inl, inr, List, [], ◌∷◌, ◌++◌, length, refl, sym, ap, ◌∙◌, subst, append-nil, arith}
 use Rattle.std.specs.Prelude.{Option, Some, None, nat_le, nat_lt, slice_index}
 use Rattle.std.specs.List.{AllByRecursion, flat_map}
-use Rattle.std.proofs.lemmas.Bool.{cases_Bool}
+use Rattle.std.proofs.lemmas.Bool.{cases_Bool, le-leb}
 use Rattle.std.proofs.lemmas.List.{get_or-set_same, length-set}
 use Rattle.std.proofs.lemmas.Grind.{flat_map-append}
 use Rattle.zw_base.proofs.Each.{all-append}
@@ -120,23 +120,23 @@ holding_nonces h n false = refl
 pub spent_nonces : (h : HostState) (n : ℕ) → length (after h (Spends n)).nonces ≡ length h.nonces
 spent_nonces h n = length-set h.nonces n _
 
-nonces_at : {n : ℕ} (h : HostState) (event : HostEvent) → IsFollower n event → length (after h event).nonces ≡ length h.nonces
-nonces_at h (Finishes m session id command status wake) is = ap length (holding_nonces (finishing h m id command status) m (is_held h m wake))
-nonces_at h (Offers m) is = ap length (offering_nonces h m (live_of h.nonces m))
-nonces_at h (Gives m drawn) is =
+nonces_at : (h : HostState) (n : ℕ) (event : HostEvent) → IsFollower n event → length (after h event).nonces ≡ length h.nonces
+nonces_at h n (Finishes m session id command status wake) is = ap length (holding_nonces (finishing h m id command status) m (is_held h m wake))
+nonces_at h n (Offers m) is = ap length (offering_nonces h m (live_of h.nonces m))
+nonces_at h n (Gives m drawn) is =
     ap length (offering_nonces (giving h m drawn) m (live_of (giving h m drawn).nonces m)) ∙ length-set h.nonces m (after_give (account_of h.nonces m) drawn)
-nonces_at h (Spends m) is = length-set h.nonces m _
-nonces_at h (Spends_unread m payload) is = length-set h.nonces m _
-nonces_at h (Resends m payload) is = ap length (room_nonces h (Segment m payload))
-nonces_at h (Unreads m payload) is = refl
-nonces_at h (Is_unkept m) is = refl
-nonces_at h (Reports_old m id) is = refl
-nonces_at h (Works m id) is = refl
-nonces_at h (Takes_nonce m seen text) is = refl
-nonces_at h (Notifies m) is = refl
-nonces_at h (Hears_value m setting) is = refl
-nonces_at h (Has_no_room m property) is = refl
-nonces_at h event is = absurd is
+nonces_at h n (Spends m) is = length-set h.nonces m _
+nonces_at h n (Spends_unread m payload) is = length-set h.nonces m _
+nonces_at h n (Resends m payload) is = ap length (room_nonces h (Segment m payload))
+nonces_at h n (Unreads m payload) is = refl
+nonces_at h n (Is_unkept m) is = refl
+nonces_at h n (Reports_old m id) is = refl
+nonces_at h n (Works m id) is = refl
+nonces_at h n (Takes_nonce m seen text) is = refl
+nonces_at h n (Notifies m) is = refl
+nonces_at h n (Hears_value m setting) is = refl
+nonces_at h n (Has_no_room m property) is = refl
+nonces_at h n event is = absurd is
 
 -- ---- what follows each message
 
@@ -194,14 +194,19 @@ giving_room h n drawn task = by (is_full h)
     by true = refl
     by false = refl
 
+-- its first two bytes say what it is
+offer_want : (n : ℕ) (nonce : List ℕ) → nonce_report n ≡ want_of_task (Offer n nonce)
+offer_want n nonce =
+    sym (ap (λ (b : Bool). SEND_DATA ∷ n ∷ (if b && true && true then 0x98 ∷ 0x80 ∷ [] else 0x98 ∷ 0x80 ∷ nonce)) (le-leb 2 (length (0x98 ∷ 0x80 ∷ nonce)) (omega arith)))
+
 pub offers_put : (h : HostState) (n : ℕ) (nonce : List ℕ) → live_of h.nonces n ≡ Some nonce → Puts n (nonce_report n ∷ []) h (Offers n ∷ [])
 offers_put h n nonce live =
-    one_puts n h (Offers n) (Offer n nonce) (nonce_report n) refl (ap (λ (o : Option (List ℕ)). (offering h n o).requests.queue) live) refl
+    one_puts n h (Offers n) (Offer n nonce) (nonce_report n) (offer_want n nonce) (ap (λ (o : Option (List ℕ)). (offering h n o).requests.queue) live) refl
 
 pub gives_put : (h : HostState) (n : ℕ) (drawn : List ℕ) → IsNode n → length h.nonces ≡ 233 → Puts n (nonce_report n ∷ []) h (Gives n drawn ∷ [])
 gives_put h n drawn is long =
     let nonce : List ℕ = nonce_given (account_of h.nonces n) drawn in
-    one_puts n h (Gives n drawn) (Offer n nonce) (nonce_report n) refl
+    one_puts n h (Gives n drawn) (Offer n nonce) (nonce_report n) (offer_want n nonce)
     (ap (λ (o : Option (List ℕ)). (offering (giving h n drawn) n o).requests.queue) (given_nonces h n drawn is long) ∙ giving_room h n drawn (Offer n nonce)) refl
 
 -- ---- a segment is sent again
@@ -302,7 +307,7 @@ module _ (past : List Entry) (h0 : HostState) (n : ℕ) (is_node : IsNode n) (sh
 
   nonces_stay : (h : HostState) (events : List HostEvent) → AllByRecursion (IsFollower n) events → length (after_all h events).nonces ≡ length h.nonces
   nonces_stay h [] all = refl
-  nonces_stay h (event ∷ events) all = nonces_stay (after h event) events all.1 ∙ nonces_at h event all.0
+  nonces_stay h (event ∷ events) all = nonces_stay (after h event) events all.1 ∙ nonces_at h n event all.0
 
   pub messages_put : (h : HostState) (payload : List ℕ) (sealed : Bool) (messages : List Told) (events : List HostEvent) → length h.nonces ≡ 233 → Keeps h0 h n
       → (are : AreTaken h n payload sealed messages events) → Puts n (Wants past n (heeded_of h n payload sealed messages events are)) h events

@@ -109,11 +109,11 @@ module _ (past : List Entry) (h : HostState) (shows : (n : ℕ) → Shows past h
 
   notice_so : (func : ℕ) (body : List ℕ) (read : Result Notice BodyFault) (events : List HostEvent) → notice_of func body ≡ read → (is : NoticeEvents h read events)
       → Chosen (brought_of read) (heeded_notice h read events is) → So events
-  notice_so func body (Ok (ApplicationCommandHandler rx_status source payload)) events read is (brought, chosen) queue waits =
+  notice_so func body (Ok (ApplicationCommandHandler rx_status source payload)) events read is chosen = λ queue waits.
       let is_node = source_is func body rx_status source payload read in
-      subst (λ (l : List Carried). Waits (each_with (with_brought (heeds_alone taken) past []) queue l) (after_all h events).requests.queue (dropped_by h events)) (sym brought)
+      subst (λ (l : List Carried). Waits (each_with (with_brought (heeds_alone taken) past []) queue l) (after_all h events).requests.queue (dropped_by h events)) (sym chosen.0)
       (subst (λ (m : List Told). Waits (each_with (with_asked source) queue (flat_map (wants_told listing_heard past source) m)) (after_all h events).requests.queue (dropped_by h events))
-      (sym (chosen (record { node = source; payload = payload })))
+      (sym (chosen.1 (record { node = source; payload = payload })))
       (payload_puts past h source is_node (shows source) long payload (heard_at payload) events is queue [] waits))
   notice_so func body (Ok (SendData callback_id status)) events read is chosen = told_so _ (CallsBack callback_id status) events tt is chosen
   notice_so func body (Ok (ApplicationUpdate update)) events read is chosen = interview_so _ update _ events is chosen

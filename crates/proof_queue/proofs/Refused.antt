@@ -2,7 +2,7 @@
 use Rattle.std.proofs.Common.{◌≡◌, ◌⊎◌, ◌≤◌, ◌<◌, ℕ, zero, suc, ◌+◌, ◌==◌, ◌&&◌, ◌||◌, not, Bool, true, false, if◌then◌else◌, inl, inr, List, [], ◌∷◌, length, refl, sym, ap, ◌∙◌, subst, arith}
 use Rattle.std.specs.Prelude.{Option, Some, None, is_some, nat_le, nat_lt}
 use Rattle.std.specs.List.{AllByRecursion}
-use Rattle.std.proofs.lemmas.Bool.{and_from, and_right, eq-eqb, le-ltb, leb-true, lt-ltb, ltb-true}
+use Rattle.std.proofs.lemmas.Bool.{and_from, and_right, eqb-true, le-ltb, leb-true, lt-ltb, ltb-true}
 use Rattle.zw_base.specs.declared.order.Order.{Order}
 use Rattle.zw_base.specs.declared.order.Word.{Word}
 use Rattle.zw_text.specs.declared.line.Line.{Line}
@@ -13,7 +13,7 @@ use Rattle.zw_text.specs.declared.entry.Entry.{Entry}
 use Rattle.host_orders.specs.Classes.{actuator_of, class_of, lists}
 use Rattle.host_orders.specs.Errands.{get_refusal, gettable_class, gettable_of, gettable_refusal, queue_full, secured, send_refusal, sendable_of, sendable_refusal}
 use Rattle.host_orders.specs.Messages.{channel_class, classes_needed}
-use Rattle.host_orders.specs.Refusals.{Known, classes_of, first_refusal, first_some, is_bad, is_bad_word, is_too_long, known_refusal, mailbox_full, refusal_of, refusal_or, store_full, too_long, unless, unsupported}
+use Rattle.host_orders.specs.Refusals.{Known, classes_of, first_refusal, first_some, is_bad, is_bad_word, is_too_long, known_refusal, mailbox_full, refusal_of, refusal_or, rules_for, store_full, too_long, unless, unsupported}
 use Rattle.host_orders.specs.Wrapping.{supervised_text, wrapped_len}
 use Rattle.host_orders.specs.declared.refused.Refused.{Refused}
 use Rattle.host_orders.specs.declared.refused.Refused.TheVariants as refused
@@ -69,11 +69,11 @@ unless_full w n false r full = full
 
 unsupported_full : (w n : ℕ) (classes needed : List ℕ) → FullSo w n (unsupported classes needed)
 unsupported_full w n classes [] = tt
-unsupported_full w n classes (class ∷ more) = by (lists classes class)
+unsupported_full w n classes (class ∷ more) = by (lists classes class) (unsupported_full w n classes more)
   where
-    by : (b : Bool) → FullSo w n (if b then unsupported classes more else Some (refused.Unsupported class))
-    by true = unsupported_full w n classes more
-    by false = tt
+    by : (b : Bool) → FullSo w n (unsupported classes more) → FullSo w n (if b then unsupported classes more else Some (refused.Unsupported class))
+    by true full = full
+    by false full = tt
 
 secured_full : (w n : ℕ) (classes : List ℕ) → FullSo w n (secured classes)
 secured_full w n classes = by (lists classes 0x98)
@@ -120,22 +120,28 @@ places_is h n some = by (nat_lt 64 (length h.requests.queue + n)) refl
 
 -- ---- of each line
 
+order_rules : (w n : ℕ) (classes : List ℕ) (waiting : ℕ) (order : Order) → AllByRecursion (FullSo w n) (rules_for classes waiting order)
+order_rules w n classes waiting order = (
+  unsupported_full w n classes (classes_needed (actuator_of classes) order.what order.end),
+  (
+    unless_full w n (not (is_bad (actuator_of classes) order.what)) refused.BadValue tt,
+    (
+      unless_full w n (lists classes 0x6C) refused.Unsupervised tt,
+      (too_long_full w n classes (length (supervised_text (actuator_of classes) order)) (wrapped_len (actuator_of classes) order), (mailbox_is w n waiting, tt)),
+    ),
+  ),
+)
+
 order_first : (w n : ℕ) (known : Known) (order : Order) → FullSo w n (first_refusal known order)
 unfolding first_refusal known_refusal
 order_first w n known order =
     let classes : List ℕ = classes_of known in
-    first_full w n _ (
+    first_full w n (unless known.joined refused.NotJoined ∷ unless (is_some known.classes) refused.NotInterviewed ∷ known_refusal classes known.waiting order ∷ []) (
       unless_full w n known.joined refused.NotJoined tt,
-      unless_full w n (is_some known.classes) refused.NotInterviewed tt,
-      first_full w n _ (
-        unsupported_full w n classes (classes_needed (actuator_of classes) order.what order.end),
-        unless_full w n (not (is_bad (actuator_of classes) order.what)) refused.BadValue tt,
-        unless_full w n (lists classes 0x6C) refused.Unsupervised tt,
-        too_long_full w n classes (length (supervised_text (actuator_of classes) order)) (wrapped_len (actuator_of classes) order),
-        mailbox_is w n known.waiting,
-        tt,
+      (
+        unless_full w n (is_some known.classes) refused.NotInterviewed tt,
+        (first_full w n (rules_for classes known.waiting order) (order_rules w n classes known.waiting order), tt),
       ),
-      tt,
     )
 
 order_full : (w n : ℕ) (known : Known) (properties : ℕ) (order : Order) → FullSo w n (refusal_of known properties order)
@@ -149,28 +155,39 @@ send_full : (w : ℕ) (known : Known) (word : Word) → FullSo w 1 (send_refusal
 unfolding send_refusal sendable_refusal
 send_full w known word =
     let classes : List ℕ = classes_of known in
-    first_full w 1 _ (
+    first_full w 1 (unless known.joined refused.NotJoined ∷ unless (is_some known.classes) refused.NotInterviewed ∷ sendable_refusal classes w word ∷ []) (
       unless_full w 1 known.joined refused.NotJoined tt,
-      unless_full w 1 (is_some known.classes) refused.NotInterviewed tt,
-      first_full w 1 _ (
-        secured_full w 1 classes,
-        unsupported_full w 1 classes (class_of (sendable_of classes) ∷ []),
-        unless_full w 1 (not (is_bad_word (sendable_of classes) word)) refused.BadValue tt,
-        queue_is w,
-        tt,
+      (
+        unless_full w 1 (is_some known.classes) refused.NotInterviewed tt,
+        (
+          first_full w 1 (
+            secured classes ∷ unsupported classes (class_of (sendable_of classes) ∷ []) ∷ unless (not (is_bad_word (sendable_of classes) word)) refused.BadValue ∷ queue_full w ∷ []
+          ) (
+            secured_full w 1 classes,
+            (
+              unsupported_full w 1 classes (class_of (sendable_of classes) ∷ []),
+              (unless_full w 1 (not (is_bad_word (sendable_of classes) word)) refused.BadValue tt, (queue_is w, tt)),
+            ),
+          ),
+          tt,
+        ),
       ),
-      tt,
     )
 
 get_full : (w : ℕ) (known : Known) (end : ℕ) → FullSo w 1 (get_refusal known w end)
 unfolding get_refusal gettable_refusal
 get_full w known end =
     let classes : List ℕ = classes_of known in
-    first_full w 1 _ (
+    first_full w 1 (unless known.joined refused.NotJoined ∷ unless (is_some known.classes) refused.NotInterviewed ∷ gettable_refusal classes w end ∷ []) (
       unless_full w 1 known.joined refused.NotJoined tt,
-      unless_full w 1 (is_some known.classes) refused.NotInterviewed tt,
-      first_full w 1 _ (secured_full w 1 classes, unsupported_full w 1 classes (gettable_class (gettable_of classes) ∷ channel_class end), queue_is w, tt),
-      tt,
+      (
+        unless_full w 1 (is_some known.classes) refused.NotInterviewed tt,
+        (
+          first_full w 1 (secured classes ∷ unsupported classes (gettable_class (gettable_of classes) ∷ channel_class end) ∷ queue_full w ∷ [])
+          (secured_full w 1 classes, (unsupported_full w 1 classes (gettable_class (gettable_of classes) ∷ channel_class end), (queue_is w, tt))),
+          tt,
+        ),
+      ),
     )
 
 join_full : (w n : ℕ) (h : HostState) (node : ℕ) → FullSo w n (join_refusal h node)
@@ -221,8 +238,11 @@ lacks_not w n (inl none) = ap (λ (k : ℕ). lacks w k) none
 lacks_not w n (inr fits) = and_right (not (n == 0)) (nat_lt 64 (w + n)) (le-ltb 64 (w + n) fits)
 
 some_not : (n : ℕ) → 1 ≤ n → not (n == 0) ≡ true
-some_not zero some = absurd (omega (arith, some))
-some_not (suc n) some = refl
+some_not n some = by (n == 0) refl
+  where
+    by : (b : Bool) → (n == 0) ≡ b → not b ≡ true
+    by true is = absurd (let none = eqb-true n 0 is in omega (arith, none, some))
+    by false is = refl
 
 pub lacks_so : (w n : ℕ) → 1 ≤ n → 64 < w + n → lacks w n ≡ true
 lacks_so w n some more = and_from (not (n == 0)) (nat_lt 64 (w + n)) (some_not n some) (lt-ltb 64 (w + n) more)

@@ -29,14 +29,15 @@ use Rattle.proof_sending.specs.Due.{AreCarried}
 -- ---- the last session
 
 -- the last of a list, by its place
-last_at : (commands : List ℕ) (number : ℕ) → slice_get commands (length commands - 1) ≡ Some number → drop (length commands - 1) commands ≡ number ∷ []
-last_at [] number at = absurd (let bad : ◌≡◌ {A = Option ℕ} None (Some number) = at in cc)
-last_at (first ∷ []) number at = ap (λ (k : ℕ). k ∷ []) (let same : first ≡ number = cc in same)
-last_at (first ∷ (next ∷ more)) number at = last_at (next ∷ more) number at
+last_at : (first : ℕ) (more : List ℕ) (number : ℕ) → slice_get (first ∷ more) (length more) ≡ Some number → drop (length more) (first ∷ more) ≡ number ∷ []
+last_at first [] number at = ap (λ (k : ℕ). k ∷ []) (let same : first ≡ number = cc in same)
+last_at first (next ∷ more) number at = last_at next more number at
 
 session_last : (commands : List ℕ) (number : ℕ) → command_of_session commands (length commands) ≡ Some number → last_of commands ≡ number ∷ []
 session_last [] number at = absurd (let bad : ◌≡◌ {A = Option ℕ} None (Some number) = at in cc)
-session_last (first ∷ more) number at = last_at (first ∷ more) number at
+session_last (first ∷ more) number at =
+    let before : length (first ∷ more) - 1 ≡ length more = omega arith in
+    subst (λ (k : ℕ). drop k (first ∷ more) ≡ number ∷ []) (sym before) (last_at first more number at)
 
 open_last : (outcome : Option ℕ) (commands : List ℕ) (attempts s : ℕ) → open_session (record { commands = commands; outcome = outcome; attempts = attempts }) ≡ Some s → s ≡ length commands
 open_last (Some status) commands attempts s is = absurd (let bad : ◌≡◌ {A = Option ℕ} None (Some s) = is in cc)
@@ -111,9 +112,10 @@ module _ (past : List Entry) (h now : HostState) (n : ℕ) (shows : Shows past h
           (ap (λ (k : ℕ). command_of_session (node_of h n).book.commands k) (sym (open_is_last (node_of h n).book s (keeps.opens s is_open_now)))
           ∙ ap (λ (l : List ℕ). command_of_session l s) (sym keeps.commands) ∙ at)
 
+      taken_so : (order_of number (accepted n past) ≡ Some command.order) × (command.carriage ≡ carriage_of (classes_for listing_heard past n number) command.order)
       taken_so = shows.carried n s number (record { order = command.order; carriage = command.carriage }) at_then (sym (keeps.taken number) ∙ ap taken_by found)
 
-      session : Session
+      abbrev session : Session
       session = session_of listing_heard past n number
 
       message : session.message ≡ message_for command s

@@ -34,20 +34,22 @@ all_unwoken (e ∷ told) none = (tt, all_unwoken told none)
 
 since_unwoken : (past told : List Entry) → Are past → Are told → Are (since_restart_from past told)
 since_unwoken past [] all more = all
-since_unwoken past (e ∷ told) all more = by (is_restart (line_of e) && not (begins_refused told))
+since_unwoken past (e ∷ told) all more =
+    by (is_restart (line_of e) && not (begins_refused told)) (since_unwoken [] told tt more.1)
+    (since_unwoken (past ++ e ∷ []) told (all-append Unwoken past (e ∷ []) all (more.0, tt)) more.1)
   where
-    by : (b : Bool) → Are (since_restart_from (if b then [] else past ++ e ∷ []) told)
-    by true = since_unwoken [] told tt more.1
-    by false = since_unwoken (past ++ e ∷ []) told (all-append Unwoken past (e ∷ []) all (more.0, tt)) more.1
+    by : (b : Bool) → Are (since_restart_from [] told) → Are (since_restart_from (past ++ e ∷ []) told) → Are (since_restart_from (if b then [] else past ++ e ∷ []) told)
+    by true anew on = anew
+    by false anew on = on
 
 asleep_last : (n : ℕ) (told : List Entry) → Are told → last_or false (wakings n told) ≡ false
 asleep_last n [] all = refl
 asleep_last n (entry.Awake node ∷ told) all = absurd all.0
-asleep_last n (entry.Asleep node ∷ told) all = by (node == n)
+asleep_last n (entry.Asleep node ∷ told) all = by (node == n) (asleep_last n told all.1)
   where
-    by : (b : Bool) → last_or false ((if b then false ∷ [] else []) ++ wakings n told) ≡ false
-    by true = asleep_last n told all.1
-    by false = asleep_last n told all.1
+    by : (b : Bool) → last_or false (wakings n told) ≡ false → last_or false ((if b then false ∷ [] else []) ++ wakings n told) ≡ false
+    by true is = is
+    by false is = is
 asleep_last n (e ∷ told) all = asleep_last n told all.1
 
 none_awake : (past : List Entry) (n : ℕ) → NoneWoken past → counts_awake n past ≡ false

@@ -72,7 +72,7 @@ pub record AreStill (h : HostState) (events : List HostEvent) : Type 0 where
 pub none_still : (h : HostState) (events : List HostEvent) → events ≡ [] → AreStill h events
 none_still h events is = subst (AreStill h) (sym is) (record { queue = refl; drops = refl })
 
-told_still : (h : HostState) (event : RequestsEvent) → IsOfChip event → AreStill h (told_requests event)
+pub told_still : (h : HostState) (event : RequestsEvent) → IsOfChip event → AreStill h (told_requests event)
 told_still h event is =
     let still = request_still h event BetweenTicks is in record { queue = still.queue; drops = ap (λ (l : List ℕ). l ++ []) still.drops }
 

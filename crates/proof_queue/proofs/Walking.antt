@@ -1,5 +1,5 @@
 -- At each step of a host alone that goes by what is heeded, and wherever a part begins, what waits by its transcript is what waits in the host, where no node has woken.
-use Rattle.std.proofs.Common.{◌≡◌, ◌⊎◌, ◌≤◌, ℕ, ◌&&◌, ◌||◌, not, Bool, true, false, if◌then◌else◌, inl, inr, List, [], ◌∷◌, ◌++◌, length, map, refl, sym, ap, ap₂, ◌∙◌, subst, append-nil, append_assoc}
+use Rattle.std.proofs.Common.{◌≡◌, ◌⊎◌, ◌≤◌, ℕ, ◌+◌, ◌&&◌, ◌||◌, not, Bool, true, false, if◌then◌else◌, inl, inr, List, [], ◌∷◌, ◌++◌, length, map, refl, sym, ap, ap₂, ◌∙◌, subst, append-nil, append_assoc}
 use Rattle.std.specs.Prelude.{Option, Some, None, drop, unwrap_or}
 use Rattle.std.specs.List.{AllByRecursion, flat_map, list_any}
 use Rattle.std.proofs.lemmas.Bool.{both_ways}
@@ -27,7 +27,7 @@ use Rattle.law_transcript.specs.Units.{Carried, request_in}
 use Rattle.law_time.specs.Requests.{asked, is_new}
 use Rattle.law_time.specs.Ends.{is_abort, is_abort_frame}
 use Rattle.law_time.specs.Wants.{wants_of}
-use Rattle.law_time.specs.Queue.{Queue, may_queue, queue_step}
+use Rattle.law_time.specs.Queue.{Queue, may_queue, no_queue, queue_step}
 use Rattle.serial_link.specs.State.{Side}
 use Rattle.host_requests.specs.Events.RequestsEvent.{Fails, IsSent, Ticks as request_ticks}
 use Rattle.host_requests.specs.Frames.{frame_of, request_of}
@@ -75,7 +75,7 @@ use Rattle.proof_queue.proofs.Books.{last_line, no_line, none_before, one_entry}
 use Rattle.proof_queue.proofs.Leaving.{Goes, Leaves, all_leave, full_told, fulls, leave_goes, leaves_after, marks_go, notes_go, stands}
 use Rattle.proof_queue.proofs.Refused.{FitsRefusal, lacks_not, line_refused}
 use Rattle.proof_queue.proofs.Asking.{Lists, asked_rooms, asked_wants, lacks_is, nothing_wanted, refused_queue, refused_stands, said_anew, said_so}
-use Rattle.proof_queue.proofs.Stills.{AreStill, IsTick, empty_left, front_left, left_by, none_still, requests_drop, tick_still, told_if_still}
+use Rattle.proof_queue.proofs.Stills.{AreStill, IsStill, IsTick, empty_left, front_left, left_by, none_still, requests_drop, tick_still, told_if_still}
 use Rattle.proof_queue.proofs.Sleepers.{none_wants}
 
 -- what else is known of the host: what it asks, what its nodes listed, and which count as awake
@@ -210,7 +210,7 @@ module _ (taken : List Entry → Carried → List Told) where
         record {
           waits = subst (λ (q : Queue). Waits q tasks [])
               (sym (one_entry taken past (entry.Said words) refl before
-              ∙ ap (λ (ls : List Line). if is_restart ls && true then queue_step (heeds_alone taken) past (asked past) q (entry.Said words) []
+              ∙ ap (λ (ls : List Line). if is_restart ls && true then no_queue
               else record q { wants = q.wants ++ flat_map (wants_of listing_heard past) ls }) read))
               (record { wants_are = append-nil q.wants ∙ so.waits.wants_are; owed_are = so.waits.owed_are });
           answered = no_line (heeds_alone taken) past (entry.Said words) read;
@@ -403,6 +403,7 @@ module _ (taken : List Entry → Carried → List Told) where
       → Wrote (Ticking (first ∷ left)) past told m.state event → Alone past m.state.requests.queue [] → Goes taken past told (after m.state event).requests.queue []
   tick_goes first left past m event told tick is wrote known = subst (λ (q : List Task). Goes taken past told q []) (sym still.queue) (by wrote)
     where
+      still : IsStill m.state event
       still = tick_still m.state event tick
 
       none : fulls told ≡ []
@@ -438,10 +439,10 @@ module _ (taken : List Entry → Carried → List Told) where
 
   -- a pump that lets nodes sleep: there is none
   never : (past told : List Entry) (tasks : List Task) (owes : List ℕ) → (NoneWoken past → ⊥) → Goes taken past told tasks owes
-  never past [] tasks owes no = (tt, λ none. absurd (no (none_before past [] none)))
-  never past (e ∷ told) tasks owes no =
-      let goes = never (past ++ e ∷ []) told tasks owes (λ none. no (none_before past (e ∷ []) none)) in
-      (((λ none. absurd (no none)), goes.0), subst (λ (l : List Entry). Alone l tasks owes) (append_assoc past (e ∷ []) told) goes.1)
+  never past [] tasks owes vain = (tt, λ none. absurd (vain (none_before past [] none)))
+  never past (e ∷ told) tasks owes vain =
+      let goes = never (past ++ e ∷ []) told tasks owes (λ none. vain (none_before past (e ∷ []) none)) in
+      (((λ none. absurd (vain none)), goes.0), subst (λ (l : List Entry). Alone l tasks owes) (append_assoc past (e ∷ []) told) goes.1)
 
   -- what is submitted
   module _ (brings : PayloadsBring) (past told : List Entry) (m : HostMachine) (ground : Ground Submitting past m) (tie : IsTied past m) (known : Alone past m.state.requests.queue []) where
