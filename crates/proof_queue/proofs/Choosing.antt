@@ -94,9 +94,9 @@ module _ (start : HostMachine) where
   -- ---- what is chosen
 
   -- each node of a host that has acknowledged a frame is as the transcript shows, and it judged what came
-  module _ (shows : {here : Phase} {told : List Entry} {m : HostMachine} → Run start here told m → (n : ℕ) → ShowsNode told m.state n)
-      (nonces : {here : Phase} {told : List Entry} {m : HostMachine} → Run start here told m → length m.state.nonces ≡ 233)
-      (frames : {told : List Entry} {m : HostMachine} → Run start Open told m → TieFrames told m.came) where
+  module _ (shows : (here : Phase) (told : List Entry) (m : HostMachine) → Run start here told m → (n : ℕ) → ShowsNode told m.state n)
+      (nonces : (here : Phase) (told : List Entry) (m : HostMachine) → Run start here told m → length m.state.nonces ≡ 233)
+      (frames : (told : List Entry) (m : HostMachine) → Run start Open told m → TieFrames told m.came) where
 
     -- the run that has just acknowledged it
     acknowledges : (here next : Phase) (past : List Entry) (m : HostMachine) (f : FrameParts) (rest : List LineUnit) (behind : List HostEvent) (told : List Entry)
@@ -122,7 +122,7 @@ module _ (start : HostMachine) where
     frame_heeds here next past m f rest behind told may run taken chosen =
         let later = acknowledges here next past m f rest behind told may run in
         let opened : Run start Open past m = subst (λ (p : Phase). Run start p past m) may.0 run in
-        let judged = acknowledged_frames past m.came rest (unit_text (Framed f)) (unit_text Ack) (ap frames_of may.1.takes) refl (frames opened) in
+        let judged = acknowledged_frames past m.came rest (unit_text (Framed f)) (unit_text Ack) (ap frames_of may.1.takes) refl (frames past m opened) in
         let follows : is_following (past ++ acknowledged ∷ []) ≡ true = folded-append after_step false past (acknowledged ∷ []) in
         let last : LastFrame (past ++ acknowledged ∷ []) behind = record {
           first = after m.state (Hears (Good (Framed f)));
@@ -132,7 +132,7 @@ module _ (start : HostMachine) where
           last = judged.last;
           quiet = λ directly. refl;
         } in
-        frame_so (past ++ acknowledged ∷ []) (after m.state (Hears (Good (Framed f)))) (shows later) (nonces later) taken f behind may.1.followed
+        frame_so (past ++ acknowledged ∷ []) (after m.state (Hears (Good (Framed f)))) (shows _ _ _ later) (nonces _ _ _ later) taken f behind may.1.followed
         (brought_is (past ++ acknowledged ∷ []) behind last follows) chosen
 
     pub record Chosen {here : Phase} {told : List Entry} {m : HostMachine} (run : Run start here told m) : Type 0 where

@@ -129,10 +129,9 @@ module _ (past : List Entry) (h now : HostState) (n : ℕ) (shows : Shows past h
 
       there : has_segment id offset session ≡ true
       there =
-          and_from (session.number % 16 == id) ((offset % 39 == 0) && nat_lt offset (length session.message))
-          (eq-eqb (session.number % 16) id (ap (λ (k : ℕ). k % 16) count ∙ same_id))
-          (and_from (offset % 39 == 0) (nat_lt offset (length session.message)) (eq-eqb (offset % 39) 0 even)
-          (ap (λ (m : List ℕ). nat_lt offset (length m)) message ∙ lt-ltb offset (length (message_for command s)) (offset_there offset (length (message_for command s)) even segment.within)))
+          and_from ((session.number % 16 == id) && (offset % 39 == 0)) (nat_lt offset (length session.message))
+          (and_from (session.number % 16 == id) (offset % 39 == 0) (eq-eqb (session.number % 16) id (ap (λ (k : ℕ). k % 16) count ∙ same_id)) (eq-eqb (offset % 39) 0 even))
+          (ap (λ (m : List ℕ). nat_lt offset (length m)) message ∙ lt-ltb offset (length (message_for command s)) (offset_there offset (length (message_for command s)) even segment.within))
 
       text : segment_told session (offset / 39) ≡ payload
       text = ap₂ (λ (k : ℕ) (m : List ℕ). segment_at k m (offset / 39)) count message ∙ segment.text
