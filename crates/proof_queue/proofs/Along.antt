@@ -1,5 +1,5 @@
 -- Along each run that goes by what is heeded what waits is known, and each entry may stand; and so it is of all of a transcript.
-use Rattle.std.proofs.Common.{◌≡◌, ◌⊎◌, true, false, inl, inr, List, [], ◌∷◌, ◌++◌, refl, sym, subst, append_assoc}
+use Rattle.std.proofs.Common.{◌≡◌, ◌⊎◌, true, inl, inr, List, [], ◌∷◌, ◌++◌, refl, sym, subst, append_assoc}
 use Rattle.std.specs.Prelude.{Some}
 use Rattle.std.proofs.lemmas.Bool.{both_ways}
 use Rattle.s0_crypto.specs.declared.key_pair.Keys.{Keys}
@@ -13,7 +13,7 @@ use Rattle.law_time.specs.Queue.{may_queue}
 use Rattle.proof_host.proofs.Lists.{each-append}
 use Rattle.proof_requests.specs.law_host.Heard.{heeds_alone, is_refusal_of_others}
 use Rattle.proof_requests.specs.proof_alone.State.{HostMachine, first_alone}
-use Rattle.proof_requests.specs.proof_alone.Steps.{entries, happens}
+use Rattle.proof_requests.specs.proof_alone.Steps.{entries}
 use Rattle.proof_requests.specs.proof_alone.Phases.{Phase, Resting}
 use Rattle.proof_requests.specs.proof_alone.Runs.{Run}
 use Rattle.proof_requests.specs.proof_alone.Runs.Run.{Begins, Turned, Stepped}
@@ -36,8 +36,7 @@ module _ (taken : List Entry → Carried → List Told) (brings : PayloadsBring)
   along {here = next} {m = later} (Stepped {here = here} {told = told} {m = m} step may all_is later_is run) sure =
       let got = along run sure.0 in
       let one = step_goes taken brings here next told m step may (grounds here told m run) sure.1 got.1 in
-      subst (λ (l : List Entry). EachAfter (FitsAlone (heeds_alone taken)) [] l × KnowsWaiting (heeds_alone taken) next l later) (sym all_is)
-      (
+      subst (λ (l : List Entry). EachAfter (FitsAlone (heeds_alone taken)) [] l × KnowsWaiting (heeds_alone taken) next l later) (sym all_is) (
         each-append (FitsAlone (heeds_alone taken)) [] told (entries m step) got.0 one.0,
         subst (λ (n : HostMachine). KnowsWaiting (heeds_alone taken) next (told ++ entries m step) n) (sym later_is) one.1,
       )

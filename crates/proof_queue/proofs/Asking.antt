@@ -1,6 +1,6 @@
 -- What a line asks for by the transcript is what the host puts into its queue.
-use Rattle.std.proofs.Common.{◌≡◌, ◌⊎◌, ◌≤◌, ℕ, ◌+◌, ◌==◌, ◌&&◌, not, Bool, true, false, if◌then◌else◌, inl, inr, List, [], ◌∷◌, ◌++◌, length, map, refl, sym, ap, ap₂, ◌∙◌, subst, append-nil}
-use Rattle.std.specs.Prelude.{Option, drop, nat_lt, slice_index, unwrap_or}
+use Rattle.std.proofs.Common.{◌≡◌, ◌⊎◌, ◌≤◌, ℕ, ◌+◌, ◌==◌, ◌&&◌, Bool, true, false, if◌then◌else◌, inl, inr, List, [], ◌∷◌, ◌++◌, length, map, refl, sym, ap, ap₂, ◌∙◌, subst, append-nil}
+use Rattle.std.specs.Prelude.{drop, slice_index}
 use Rattle.std.specs.List.{flat_map}
 use Rattle.std.proofs.lemmas.Bool.{both_ways, eqb-true}
 use Rattle.std.proofs.lemmas.List.{length-map, map-append}
@@ -10,33 +10,29 @@ use Rattle.zw_text.specs.declared.entry.Refusal.{Refusal}
 use Rattle.zw_text.specs.declared.entry.Refusal.TheVariants as refusal
 use Rattle.zw_text.specs.declared.entry.Entry.{Entry}
 use Rattle.zw_text.specs.declared.entry.Entry.TheVariants as entry
-use Rattle.zw_text.specs.Transcript.{line_last, line_of}
+use Rattle.zw_text.specs.Transcript.{line_of}
 use Rattle.chip_functions.specs.declared.function.TheConstants.{SEND_DATA}
 use Rattle.encap.specs.Opening.{begins_with}
 use Rattle.host_heard.specs.declared.told.Told.{Told}
 use Rattle.host_orders.specs.Errands.{get_text, send_text}
 use Rattle.host_orders.specs.Refusals.{classes_of}
-use Rattle.law_transcript.specs.Answers.{before_last}
 use Rattle.law_transcript.specs.Nodes.{host_list}
 use Rattle.law_transcript.specs.Restarts.{is_restart}
 use Rattle.law_transcript.specs.Units.{Carried}
-use Rattle.law_time.specs.Requests.{asked}
 use Rattle.law_time.specs.Wants.{told_of, wants_of}
-use Rattle.law_time.specs.Queue.{Queue, Requests, lacks_places, may_queue, no_queue, places, queue_before, queue_step, requests, requests_after, waits_before_line}
+use Rattle.law_time.specs.Queue.{Queue, Requests, lacks_places, may_queue, no_queue, places, queue_before, waits_before_line}
 use Rattle.host_requests.specs.declared.task.Task.{Task}
 use Rattle.host_requests.specs.declared.task.Task.TheVariants.{Plain, First, Second, Members, Neighbours, IsFailed, Version, MemoryId, Capabilities}
 use Rattle.host_model.specs.State.{HostState, node_of}
 use Rattle.host_model.specs.After.{after}
-use Rattle.host_model.specs.Did.{MayAll}
-use Rattle.host_model.specs.Events.{HostEvent, Accepts, Cancels, Queues}
+use Rattle.host_model.specs.Events.{HostEvent}
 use Rattle.host_model.specs.May.{May as may_event, known_of}
 use Rattle.proof_requests.specs.law_host.Heard.{heeds_alone, listing_heard}
 use Rattle.proof_requests.specs.proof_alone.Steps.{AsksNothing, IsAskedBy}
-use Rattle.proof_requests.specs.Carrying.{is_asked_class, is_errand, unaddressed, unchecked}
+use Rattle.proof_requests.specs.Carrying.{is_asked_class, is_errand, unaddressed}
 use Rattle.proof_requests.proofs.Carried.{get_errand, send_errand}
-use Rattle.proof_known.specs.Known.{KnowsHeard}
 use Rattle.proof_queue.specs.Waiting.{NoneWoken, Waits, WaitsSo, queue_of, want_of_task}
-use Rattle.proof_queue.proofs.Books.{before_is, before_line, book_joined, last_line, no_line, one_entry, said_entry}
+use Rattle.proof_queue.proofs.Books.{before_is, before_line, book_joined, last_line, one_entry, said_entry}
 use Rattle.proof_queue.proofs.Refused.{FitsRefusal, lacks, lacks_not, lacks_so}
 
 -- ---- a Set or Get by itself is no Nonce Report

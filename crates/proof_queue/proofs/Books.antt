@@ -1,12 +1,12 @@
 -- How what waits by a transcript grows by entries, where no node has woken: the host's looks then add nothing.
-use Rattle.std.proofs.Common.{◌≡◌, ℕ, ◌+◌, ◌-◌, ◌&&◌, ◌==◌, not, Bool, true, false, if◌then◌else◌, List, [], ◌∷◌, ◌++◌, length, map, filter, refl, sym, ap, ◌∙◌, subst, append-nil, append_assoc, length-append, arith, take_at}
-use Rattle.std.specs.Prelude.{nat_lt, drop}
+use Rattle.std.proofs.Common.{◌≡◌, ℕ, ◌+◌, ◌-◌, ◌&&◌, ◌==◌, not, Bool, true, false, if◌then◌else◌, List, [], ◌∷◌, ◌++◌, length, map, filter, refl, sym, ap, ◌∙◌, subst, length-append, arith, take_at}
+use Rattle.std.specs.Prelude.{nat_lt}
 use Rattle.std.specs.List.{flat_map}
 use Rattle.zw_words.specs.declared.side.Side.TheVariants.{Host, Chip}
 use Rattle.zw_text.specs.declared.line.Line.{Line}
 use Rattle.zw_text.specs.declared.entry.Entry.{Entry}
 use Rattle.zw_text.specs.declared.entry.Entry.TheVariants as entry
-use Rattle.zw_text.specs.Transcript.{folded, joined, line_after, line_last, line_of, shown}
+use Rattle.zw_text.specs.Transcript.{joined, line_after, line_last, line_of, shown}
 use Rattle.zw_text.proofs.Views.{folded-append, shown-append}
 use Rattle.host_heard.specs.declared.told.Told.{Told}
 use Rattle.law_transcript.specs.Answers.{before_last}
@@ -20,7 +20,7 @@ use Rattle.law_time.specs.Queue.{Due, Queue, Requests, due_of, each_with, has_lo
 use Rattle.host_requests.specs.declared.task.Task.{Task}
 use Rattle.proof_requests.specs.law_host.Heard.{heeds_alone}
 use Rattle.proof_attempts.proofs.Ahead.{ahead_from, ahead_joined}
-use Rattle.proof_queue.specs.Waiting.{NoneWoken, Waits, WaitsSo, queue_of}
+use Rattle.proof_queue.specs.Waiting.{NoneWoken, Waits, queue_of}
 
 -- ---- no node has woken
 

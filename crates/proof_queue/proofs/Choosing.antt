@@ -1,10 +1,9 @@
 -- For each run of a host alone there are messages such that it goes by them: those of each payload by which it did something.
-use Rattle.std.proofs.Common.{◌≡◌, ◌≤◌, ◌<◌, ℕ, suc, ◌+◌, ◌==◌, Bool, true, false, if◌then◌else◌, inl, inr, List, [], ◌∷◌, ◌++◌, length, refl, sym, ap, ◌∙◌, subst, append-nil, length-append, arith}
-use Rattle.std.specs.List.{AllByRecursion, flat_map}
+use Rattle.std.proofs.Common.{◌≡◌, ◌≤◌, ℕ, suc, ◌+◌, Bool, true, false, if◌then◌else◌, List, [], ◌∷◌, ◌++◌, length, refl, sym, ap, ◌∙◌, subst, length-append, arith}
+use Rattle.std.specs.List.{flat_map}
 use Rattle.std.proofs.lemmas.Bool.{eq-eqb, ne_eqb}
 use Rattle.serial_frame.specs.Frame.{FrameParts}
 use Rattle.serial_frame.specs.Items.{unit_text}
-use Rattle.serial_frame.specs.declared.item.Item.{Item}
 use Rattle.serial_frame.specs.declared.item.Item.TheVariants.{Good, Refused as refused_item}
 use Rattle.serial_frame.specs.declared.unit.Unit.{Unit as LineUnit}
 use Rattle.serial_frame.specs.declared.unit.Unit.TheVariants.{Ack, Nak, Can, Framed}
@@ -13,7 +12,7 @@ use Rattle.zw_text.specs.declared.entry.Entry.{Entry}
 use Rattle.zw_text.specs.declared.entry.Entry.TheVariants as entry
 use Rattle.zw_text.proofs.Views.{folded-append}
 use Rattle.host_heard.specs.declared.told.Told.{Told}
-use Rattle.law_transcript.specs.Units.{Carried, bringing_in}
+use Rattle.law_transcript.specs.Units.{Carried}
 use Rattle.law_time.specs.Judged.{after_step, brought_here, is_following}
 use Rattle.law_time.specs.Wants.{wants_told}
 use Rattle.law_time.specs.Queue.{Queue, each_with, with_all_brought, with_asked, with_brought}
@@ -24,8 +23,8 @@ use Rattle.host_model.specs.Events.{HostEvent, Hears}
 use Rattle.host_model.specs.declared.out.HostOut.TheVariants.{Write}
 use Rattle.proof_requests.specs.law_host.Heard.{heeds_alone, listing_heard}
 use Rattle.proof_requests.specs.proof_alone.State.{HostMachine}
-use Rattle.proof_requests.specs.proof_alone.Steps.{AreTold, Step, Tells, Comes, Misses, Says, Says_nothing, Asks, Refuses, Shows, Restarts, Begins_tick, Numbers, Judges, Does, entries, happens}
-use Rattle.proof_requests.specs.proof_alone.Phases.{Phase, Open, Behind, IsJudgedNow, May}
+use Rattle.proof_requests.specs.proof_alone.Steps.{AreTold, Step, Judges, entries, happens}
+use Rattle.proof_requests.specs.proof_alone.Phases.{Phase, Open, Behind, May}
 use Rattle.proof_requests.specs.proof_alone.Runs.{Run}
 use Rattle.proof_requests.specs.proof_alone.Runs.Run.{Begins, Turned, Stepped}
 use Rattle.proof_requests.specs.proof_waking.Judged.{LastFrame, TieFrames, frames_of}
@@ -97,7 +96,6 @@ module _ (start : HostMachine) where
   module _ (shows : (here : Phase) (told : List Entry) (m : HostMachine) → Run start here told m → (n : ℕ) → ShowsNode told m.state n)
       (nonces : (here : Phase) (told : List Entry) (m : HostMachine) → Run start here told m → length m.state.nonces ≡ 233)
       (frames : (told : List Entry) (m : HostMachine) → Run start Open told m → TieFrames told m.came) where
-
     -- the run that has just acknowledged it
     acknowledges : (here next : Phase) (past : List Entry) (m : HostMachine) (f : FrameParts) (rest : List LineUnit) (behind : List HostEvent) (told : List Entry)
         → May here m (Judges (Good (Framed f)) rest behind told) next → Run start here past m

@@ -1,16 +1,14 @@
 -- What follows a payload of a node leaves its sessions and its orders: one that is open was open, and is of the same command; and what of it puts nothing into the queue leaves the tasks.
-use Rattle.std.proofs.Common.{◌≡◌, ◌<◌, ◌≤◌, ℕ, ◌==◌, ◌&&◌, Bool, true, false, if◌then◌else◌, inl, inr, List, [], ◌∷◌, ◌++◌, length, refl, sym, ap, ◌∙◌, subst, arith}
-use Rattle.std.specs.Prelude.{Option, Some, None, IsSome, is_some, nat_lt}
-use Rattle.std.specs.List.{AllByRecursion, flat_map}
+use Rattle.std.proofs.Common.{◌≡◌, ℕ, ◌&&◌, Bool, true, false, if◌then◌else◌, inl, inr, List, [], ◌∷◌, ◌++◌, length, refl, sym, ap, ◌∙◌, subst}
+use Rattle.std.specs.Prelude.{Option, Some, None}
+use Rattle.std.specs.List.{AllByRecursion}
 use Rattle.std.proofs.lemmas.Bool.{cases_lt}
 use Rattle.std.proofs.lemmas.List.{get_or-set_same, set_past}
-use Rattle.std.proofs.lemmas.Grind.{flat_map-append}
 use Rattle.zw_base.proofs.Each.{all-append}
 use Rattle.zw_base.specs.declared.property.Setting.{Setting}
 use Rattle.supervision.specs.Host.{HostBook, open_session}
 use Rattle.supervision.specs.declared.host_node.Told.{Told as TheTold}
 use Rattle.supervision.specs.declared.host_node.Told.TheVariants as told
-use Rattle.zw_text.specs.declared.entry.Entry.{Entry}
 use Rattle.zw_text.specs.declared.entry.Entry.TheVariants as entry
 use Rattle.serial_link.specs.State.{Side}
 use Rattle.host_keep.specs.Status.{status_byte}
@@ -22,17 +20,16 @@ use Rattle.host_requests.specs.declared.task.Task.TheVariants.{Offer, Segment}
 use Rattle.host_node.specs.State.{NodeState, is_idle, is_open, is_running, is_up}
 use Rattle.host_node.specs.Events.{NodeEvent, after as after_node}
 use Rattle.host_node.specs.Events.NodeEvent.{Holds, Notifies as node_notifies, Reports, Takes_nonce as node_takes_nonce}
-use Rattle.host_node.specs.Steps.{after_hold, after_notification, after_nonce, after_occasion, after_report, after_told, new_series, tried_again, wait_ticks, with_wait}
+use Rattle.host_node.specs.Steps.{after_occasion, after_told, new_series, tried_again, wait_ticks, with_wait}
 use Rattle.host_node.specs.TableState.{node_of as node_among, with_node as with_node_among}
-use Rattle.host_model.specs.State.{Command, HostState, command_at, node_of, with_outcome}
+use Rattle.host_model.specs.State.{Command, HostState, command_at, node_of}
 use Rattle.host_model.specs.Sessions.{settings_with}
-use Rattle.host_model.specs.After.{after, finishing, giving, holding, is_full, is_held, node_does, offering, outcome_of, queues_if_room, requests_do, spending}
+use Rattle.host_model.specs.After.{after, finishing, giving, holding, is_full, is_held, node_does, offering, outcome_of, queues_if_room, requests_do}
 use Rattle.host_model.specs.Events.{HostEvent, Finishes, Gives, Has_no_room, Hears_value, Is_unkept, Notifies, Offers, Reports_old, Resends, Spends, Spends_unread, Takes_nonce, Unreads, Works}
-use Rattle.host_model.specs.Outs.{ended_of, held_entries, noted, outs, stored_entries}
+use Rattle.host_model.specs.Outs.{ended_of, held_entries, stored_entries}
 use Rattle.proof_host.proofs.Commands.{taken_set}
 use Rattle.proof_host.specs.Tables.{taken_at}
-use Rattle.proof_requests.proofs.Doing.{asks_of, holds_asks}
-use Rattle.proof_queue.specs.Waiting.{dropped_at}
+use Rattle.proof_requests.proofs.Doing.{holds_asks}
 use Rattle.proof_queue.proofs.Segments.{Keeps}
 use Rattle.proof_queue.proofs.Stills.{IsStill}
 use Rattle.proof_queue.proofs.Undropped.{Undropped, noted_none}
@@ -192,7 +189,9 @@ pub finish_still : (h : HostState) (n session id command : ℕ) (status : FinalS
 finish_still h n session id command status wake = record {
   queue = ap (λ (p : Side × RequestsState). p.1.queue) (holds_asks (finishing h n id command status) n (is_held h n wake));
   drops = noted_none
-      (entry.Out command (ended_of status) ∷ (stored_entries n (settings_with status (command_at h.commands command)) ++ held_entries n (is_held h n wake)))
-      (tt, all-append Undropped (stored_entries n (settings_with status (command_at h.commands command))) (held_entries n (is_held h n wake))
-      (stored_undropped n (settings_with status (command_at h.commands command))) (held_undropped n (is_held h n wake)));
+      (entry.Out command (ended_of status) ∷ (stored_entries n (settings_with status (command_at h.commands command)) ++ held_entries n (is_held h n wake))) (
+        tt,
+        all-append Undropped (stored_entries n (settings_with status (command_at h.commands command))) (held_entries n (is_held h n wake))
+            (stored_undropped n (settings_with status (command_at h.commands command))) (held_undropped n (is_held h n wake)),
+      );
 }

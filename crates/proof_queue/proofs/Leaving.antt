@@ -1,26 +1,25 @@
 -- Entries that leave what waits as it is, the acknowledgement's marks, and the host's notes, one after another, where no node has woken: each may stand.
-use Rattle.std.proofs.Common.{◌≡◌, ◌⊎◌, ℕ, ◌==◌, ◌&&◌, ◌||◌, not, Bool, true, false, inl, inr, List, [], ◌∷◌, ◌++◌, refl, sym, ap, ap₂, ◌∙◌, subst, append-nil, append_assoc}
+use Rattle.std.proofs.Common.{◌≡◌, ℕ, ◌&&◌, ◌||◌, not, Bool, true, false, inr, List, [], ◌∷◌, ◌++◌, refl, sym, ap, ap₂, ◌∙◌, subst, append-nil, append_assoc}
 use Rattle.std.specs.Prelude.{drop}
 use Rattle.std.specs.List.{AllByRecursion, flat_map}
-use Rattle.std.proofs.lemmas.Bool.{eq-eqb, or_left, or_right}
+use Rattle.std.proofs.lemmas.Bool.{eq-eqb, or_right}
 use Rattle.std.proofs.lemmas.Grind.{flat_map-append}
 use Rattle.serial_frame.specs.declared.unit.TheConstants.{NAK}
 use Rattle.zw_words.specs.declared.side.Side.TheVariants.{Host, Chip}
 use Rattle.zw_text.specs.declared.entry.Entry.{Entry}
 use Rattle.zw_text.specs.declared.entry.Entry.TheVariants as entry
-use Rattle.zw_text.specs.Transcript.{line_last, line_of, shown}
-use Rattle.zw_text.proofs.Views.{shown-append}
+use Rattle.zw_text.specs.Transcript.{line_of}
 use Rattle.host_heard.specs.declared.told.Told.{Told}
 use Rattle.law_transcript.specs.Lists.{EachAfter}
 use Rattle.law_transcript.specs.Restarts.{begins_refused}
 use Rattle.law_transcript.specs.Units.{Carried}
 use Rattle.law_time.specs.Judged.{is_mark}
 use Rattle.law_time.specs.Requests.{Asked, are_none, asked}
-use Rattle.law_time.specs.Queue.{Queue, is_first, is_judged, lacks_places, may_queue, owes_no_refusal, queue_before, queue_step}
+use Rattle.law_time.specs.Queue.{Queue, is_first, is_judged, lacks_places, may_queue, owes_no_refusal, queue_step}
 use Rattle.host_requests.specs.declared.task.Task.{Task}
 use Rattle.host_model.specs.declared.out.HostOut.{HostOut}
 use Rattle.host_model.specs.declared.out.HostOut.TheVariants.{Note, Write}
-use Rattle.proof_requests.specs.law_host.Heard.{heeds_alone, is_refusal_of_others}
+use Rattle.proof_requests.specs.law_host.Heard.{heeds_alone}
 use Rattle.proof_requests.specs.proof_alone.Steps.{AreTold, IsOfUnit}
 use Rattle.proof_requests.proofs.proof_waking_Parts.{IsNoted}
 use Rattle.proof_requests.proofs.Telling.{IsQuiet}

@@ -1,13 +1,12 @@
 -- What a node wants by the messages of a payload that are heeded is what the host puts into its queue behind it, one message after another.
-use Rattle.std.proofs.Common.{◌≡◌, ◌<◌, ◌≤◌, ℕ, suc, ◌+◌, ◌*◌, ◌/◌, ◌%◌, ◌==◌, ◌&&◌, Bool, true, false, if◌then◌else◌, inl, inr, List, [], ◌∷◌, ◌++◌, length, refl, sym, ap, ◌∙◌, subst, append-nil, arith}
+use Rattle.std.proofs.Common.{◌≡◌, ℕ, ◌+◌, ◌*◌, ◌/◌, ◌%◌, ◌==◌, ◌&&◌, Bool, true, false, if◌then◌else◌, inl, inr, List, [], ◌∷◌, ◌++◌, length, refl, sym, ap, ◌∙◌, subst, append-nil, arith}
 use Rattle.std.specs.Prelude.{Option, Some, None, nat_le, nat_lt, slice_index}
 use Rattle.std.specs.List.{AllByRecursion, flat_map}
 use Rattle.std.proofs.lemmas.Bool.{cases_Bool, le-leb}
 use Rattle.std.proofs.lemmas.List.{get_or-set_same, length-set}
 use Rattle.std.proofs.lemmas.Grind.{flat_map-append}
-use Rattle.zw_base.proofs.Each.{all-append}
 use Rattle.zw_base.specs.declared.property.Setting.{Setting}
-use Rattle.supervision.specs.Host.{command_at as command_of_session, open_session, told_of as book_told}
+use Rattle.supervision.specs.Host.{open_session, told_of as book_told}
 use Rattle.supervision.specs.declared.host_node.Told.{Told as TheTold}
 use Rattle.supervision.specs.declared.host_node.Told.TheVariants as booked
 use Rattle.zw_text.specs.declared.entry.Entry.{Entry}
@@ -15,7 +14,6 @@ use Rattle.chip_functions.specs.Field.{IsNode}
 use Rattle.chip_functions.specs.declared.function.TheConstants.{SEND_DATA}
 use Rattle.class_info.specs.declared.report_status.ReportStatus.{ReportStatus}
 use Rattle.class_info.specs.Values.{status_byte}
-use Rattle.encap.specs.Opening.{begins_with}
 use Rattle.s0_session.specs.declared.account.Account.{Account}
 use Rattle.s0_session.specs.Nonces.{account_of, after_give, live_of, nonce_given, unused}
 use Rattle.transport_segments.specs.Parts.{slice_at}
@@ -23,26 +21,23 @@ use Rattle.transport_segments.specs.Segment.{with_check}
 use Rattle.value_store.specs.Values.{count_with}
 use Rattle.host_heard.specs.declared.told.Told.{Told}
 use Rattle.host_heard.specs.declared.told.Told.TheVariants.{Report, NonceGet, NonceReport, Notification, SegmentRequest, Values}
-use Rattle.host_keep.specs.Status.{status_of}
 use Rattle.host_keep.specs.declared.final_status.FinalStatus.{FinalStatus}
 use Rattle.law_time.specs.Wants.{nonce_report, segments_wanted, told_of, wants_told}
 use Rattle.host_requests.specs.Events.RequestsEvent.{Pushes}
 use Rattle.host_requests.specs.declared.task.Task.{Task}
 use Rattle.host_requests.specs.declared.task.Task.TheVariants.{Offer, Segment}
-use Rattle.host_node.specs.State.{count_at}
 use Rattle.host_model.specs.State.{HostState, node_of}
 use Rattle.host_model.specs.Sessions.{segment_at}
 use Rattle.host_model.specs.After.{after, finishing, giving, holding, is_full, is_held, offering, queues_if_room, requests_do}
 use Rattle.host_model.specs.Did.{after_all}
 use Rattle.host_model.specs.Events.{HostEvent, Finishes, Gives, Has_no_room, Hears_value, Is_unkept, Notifies, Offers, Reports_old, Resends, Spends, Spends_unread, Takes_nonce, Unreads, Works}
-use Rattle.host_model.specs.Outs.{dropped_if, noted, outs}
 use Rattle.host_model.specs.Taking.{AreTaken, FinalEvents, IsTaken, NonceGetEvents, NonceReportEvents, ReportEvents, is_secure, resent, value_event, value_events, wanted_segment}
 use Rattle.proof_requests.specs.law_host.Heard.{listing_heard}
-use Rattle.proof_queue.specs.Waiting.{dropped_at, dropped_by, want_of_task}
+use Rattle.proof_queue.specs.Waiting.{dropped_by, want_of_task}
 use Rattle.proof_queue.specs.Heeding.{heeded_of, taken_up}
-use Rattle.proof_queue.proofs.Kept.{IsFollower, event_keeps, finish_still, keeps_first, then_keeps}
-use Rattle.proof_queue.proofs.Puts.{Puts, both_put, none_put, one_puts, one_still}
-use Rattle.proof_queue.proofs.Segments.{IsSegment, Keeps, Shows, resent_is_wanted}
+use Rattle.proof_queue.proofs.Kept.{IsFollower, event_keeps, finish_still, then_keeps}
+use Rattle.proof_queue.proofs.Puts.{Puts, both_put, none_put, one_puts}
+use Rattle.proof_queue.proofs.Segments.{Keeps, Shows, resent_is_wanted}
 use Rattle.proof_queue.proofs.Stills.{AreStill, IsStill}
 
 -- ---- events that put in nothing

@@ -1,12 +1,12 @@
 -- What the node of a frame wants by the messages that are heeded is what the host puts into its queue behind it.
-use Rattle.std.proofs.Common.{◌≡◌, ℕ, ◌==◌, Bool, true, false, if◌then◌else◌, inl, inr, List, [], ◌∷◌, ◌++◌, length, refl, sym, ap, ◌∙◌, subst, append-nil}
+use Rattle.std.proofs.Common.{◌≡◌, ℕ, true, false, inl, inr, List, [], ◌∷◌, length, refl, sym, ap, ◌∙◌, subst}
 use Rattle.std.specs.Prelude.{Option, Some, None, Result, Ok, Err}
-use Rattle.std.specs.List.{AllByRecursion, flat_map}
+use Rattle.std.specs.List.{flat_map}
 use Rattle.serial_frame.specs.Frame.{FrameParts, checksum, framed, kind_code}
 use Rattle.serial_frame.specs.Items.{unit_text}
 use Rattle.serial_frame.specs.declared.frame.Kind.{Kind}
 use Rattle.serial_frame.specs.declared.frame.Kind.TheVariants as kind
-use Rattle.serial_frame.specs.declared.unit.Unit.TheVariants.{Ack, Framed}
+use Rattle.serial_frame.specs.declared.unit.Unit.TheVariants.{Framed}
 use Rattle.chip_functions.specs.Field.{IsNode}
 use Rattle.chip_functions.specs.Notice.{notice_of}
 use Rattle.chip_functions.specs.Response.{response_of}
@@ -25,7 +25,7 @@ use Rattle.host_heard.specs.declared.told.Told.{Told}
 use Rattle.law_transcript.specs.Units.{Carried, bringing_in, bringing_of, read_well}
 use Rattle.law_time.specs.Judged.{brought_here}
 use Rattle.law_time.specs.Wants.{wants_told}
-use Rattle.law_time.specs.Queue.{Queue, each_with, with_all_brought, with_asked, with_brought}
+use Rattle.law_time.specs.Queue.{each_with, with_asked, with_brought}
 use Rattle.host_requests.specs.Events.{RequestsEvent}
 use Rattle.host_requests.specs.Events.RequestsEvent.{CallsBack, Responds, Updates}
 use Rattle.host_model.specs.State.{HostState}

@@ -1,11 +1,8 @@
 -- Messages to a node that are asked for wait where fewer than 64 do, and are dropped else: so by the transcript as in the host.
-use Rattle.std.proofs.Common.{◌≡◌, ℕ, ◌==◌, Bool, true, false, if◌then◌else◌, inl, inr, List, [], ◌∷◌, ◌++◌, length, map, refl, sym, ap, ap₂, ◌∙◌, subst, append-nil, append_assoc}
-use Rattle.std.specs.Prelude.{Option, Some, None, IsSome, nat_le}
-use Rattle.std.specs.List.{AllByRecursion, flat_map}
+use Rattle.std.proofs.Common.{◌≡◌, ℕ, Bool, true, false, if◌then◌else◌, List, [], ◌∷◌, ◌++◌, length, refl, sym, ap, ap₂, ◌∙◌, subst, append-nil, append_assoc}
+use Rattle.std.specs.Prelude.{nat_le}
+use Rattle.std.specs.List.{flat_map}
 use Rattle.std.proofs.lemmas.List.{length-map, map-append}
-use Rattle.zw_text.specs.declared.entry.Entry.{Entry}
-use Rattle.zw_text.specs.declared.entry.Entry.TheVariants as entry
-use Rattle.law_time.specs.Wants.{told_of}
 use Rattle.law_time.specs.Queue.{Queue, each_with, is_full as queue_full, with_asked}
 use Rattle.host_requests.specs.Events.RequestsEvent.{Pushes}
 use Rattle.host_requests.specs.declared.task.Task.{Task}

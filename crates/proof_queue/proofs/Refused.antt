@@ -1,5 +1,5 @@
 -- A line is refused for places just where it asks for more than are free.
-use Rattle.std.proofs.Common.{◌≡◌, ◌⊎◌, ◌≤◌, ◌<◌, ℕ, zero, suc, ◌+◌, ◌==◌, ◌&&◌, ◌||◌, not, Bool, true, false, if◌then◌else◌, inl, inr, List, [], ◌∷◌, length, refl, sym, ap, ◌∙◌, subst, arith}
+use Rattle.std.proofs.Common.{◌≡◌, ◌⊎◌, ◌≤◌, ◌<◌, ℕ, ◌+◌, ◌==◌, ◌&&◌, ◌||◌, not, Bool, true, false, if◌then◌else◌, inl, inr, List, [], ◌∷◌, length, refl, sym, ap, subst, arith}
 use Rattle.std.specs.Prelude.{Option, Some, None, is_some, nat_le, nat_lt}
 use Rattle.std.specs.List.{AllByRecursion}
 use Rattle.std.proofs.lemmas.Bool.{and_from, and_right, eqb-true, le-ltb, leb-true, lt-ltb, ltb-true}
@@ -161,14 +161,14 @@ send_full w known word =
         unless_full w 1 (is_some known.classes) refused.NotInterviewed tt,
         (
           first_full w 1 (
-            secured classes ∷ unsupported classes (class_of (sendable_of classes) ∷ []) ∷ unless (not (is_bad_word (sendable_of classes) word)) refused.BadValue ∷ queue_full w ∷ []
-          ) (
-            secured_full w 1 classes,
-            (
-              unsupported_full w 1 classes (class_of (sendable_of classes) ∷ []),
-              (unless_full w 1 (not (is_bad_word (sendable_of classes) word)) refused.BadValue tt, (queue_is w, tt)),
-            ),
-          ),
+              secured classes ∷ unsupported classes (class_of (sendable_of classes) ∷ []) ∷ unless (not (is_bad_word (sendable_of classes) word)) refused.BadValue ∷ queue_full w ∷ []
+              ) (
+                secured_full w 1 classes,
+                (
+                  unsupported_full w 1 classes (class_of (sendable_of classes) ∷ []),
+                  (unless_full w 1 (not (is_bad_word (sendable_of classes) word)) refused.BadValue tt, (queue_is w, tt)),
+                ),
+              ),
           tt,
         ),
       ),
@@ -184,7 +184,7 @@ get_full w known end =
         unless_full w 1 (is_some known.classes) refused.NotInterviewed tt,
         (
           first_full w 1 (secured classes ∷ unsupported classes (gettable_class (gettable_of classes) ∷ channel_class end) ∷ queue_full w ∷ [])
-          (secured_full w 1 classes, (unsupported_full w 1 classes (gettable_class (gettable_of classes) ∷ channel_class end), (queue_is w, tt))),
+              (secured_full w 1 classes, (unsupported_full w 1 classes (gettable_class (gettable_of classes) ∷ channel_class end), (queue_is w, tt))),
           tt,
         ),
       ),

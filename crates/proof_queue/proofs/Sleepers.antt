@@ -1,12 +1,12 @@
 -- Where no node has woken none counts as awake, and so none is to be told that there is no more for it.
-use Rattle.std.proofs.Common.{◌≡◌, ℕ, ◌==◌, ◌&&◌, not, Bool, true, false, if◌then◌else◌, List, [], ◌∷◌, ◌++◌, refl, sym, ap, ◌∙◌, subst, append-nil, append_assoc}
+use Rattle.std.proofs.Common.{◌≡◌, ℕ, ◌==◌, ◌&&◌, not, Bool, true, false, if◌then◌else◌, List, [], ◌∷◌, ◌++◌, refl, ap, ◌∙◌}
 use Rattle.std.specs.Prelude.{Some, is_some}
-use Rattle.std.specs.List.{AllByRecursion, flat_map}
+use Rattle.std.specs.List.{AllByRecursion}
 use Rattle.std.proofs.lemmas.Bool.{both_ways}
 use Rattle.zw_base.proofs.Each.{all-append}
 use Rattle.zw_text.specs.declared.entry.Entry.{Entry}
 use Rattle.zw_text.specs.declared.entry.Entry.TheVariants as entry
-use Rattle.zw_text.specs.Transcript.{line_of, shown, waking_at, wakings}
+use Rattle.zw_text.specs.Transcript.{line_of, shown, wakings}
 use Rattle.law_transcript.specs.Lists.{last_or}
 use Rattle.law_transcript.specs.Restarts.{begins_refused, is_restart, since_restart, since_restart_from}
 use Rattle.law_time.specs.Waking.{counts_awake}
@@ -15,7 +15,7 @@ use Rattle.host_node.specs.State.{NodeState, has_waiting, is_false, is_idle, is_
 use Rattle.host_node.specs.Search.{first_wanting}
 use Rattle.host_node.specs.TableState.{node_of as node_among}
 use Rattle.host_node.proofs.Searches.{what_is_least}
-use Rattle.host_model.specs.State.{HostState, node_of}
+use Rattle.host_model.specs.State.{HostState}
 use Rattle.proof_requests.proofs.Queued.{wanting_is_node}
 use Rattle.proof_attempts.specs.Waking.{TieAwake}
 use Rattle.proof_queue.specs.Waiting.{NoneWoken}

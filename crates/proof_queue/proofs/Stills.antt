@@ -1,17 +1,15 @@
 -- Events of a host that leave the tasks that wait, and drop no message; and what a request that is submitted leaves of them.
-use Rattle.std.proofs.Common.{◌≡◌, ◌⊎◌, ℕ, Bool, true, false, if◌then◌else◌, inl, inr, List, [], ◌∷◌, ◌++◌, refl, sym, ap, ap₂, ◌∙◌, subst}
-use Rattle.std.specs.Prelude.{Option, Some, None, drop}
+use Rattle.std.proofs.Common.{◌≡◌, ℕ, Bool, true, false, if◌then◌else◌, List, [], ◌∷◌, ◌++◌, refl, sym, ap, ap₂, ◌∙◌, subst}
+use Rattle.std.specs.Prelude.{drop}
 use Rattle.std.specs.List.{AllByRecursion, flat_map}
 use Rattle.serial_link.specs.State.{Side, tick_side}
 use Rattle.law_time.specs.Ends.{is_abort}
 use Rattle.host_requests.specs.Events.{RequestsEvent, end_at, task_begun}
-use Rattle.host_requests.specs.Events.RequestsEvent.{Fails, IsSent, Ticks}
+use Rattle.host_requests.specs.Events.RequestsEvent.{Fails}
 use Rattle.host_requests.specs.Frames.{request_of, task_request}
 use Rattle.host_requests.specs.State.{RequestsState}
 use Rattle.host_requests.specs.declared.task.Task.{Task}
 use Rattle.host_requests.specs.declared.task.Task.TheVariants.{Plain, Offer, Segment, NoMore, First, Second, Members, Neighbours, IsFailed, Version, MemoryId, Capabilities}
-use Rattle.host_requests.specs.declared.task.Purpose.{Purpose}
-use Rattle.host_requests.specs.declared.task.Purpose.TheVariants.{Housekeeping, Attempt, Abort}
 use Rattle.host_node.specs.Events.NodeEvent.{Ticks as node_ticks}
 use Rattle.host_node.specs.Steps.{tick_end}
 use Rattle.host_node.specs.declared.attempt.Moment.{Moment}
@@ -24,7 +22,7 @@ use Rattle.host_model.specs.Events.{HostEvent, Line_ticks, Node_ticks, Requests_
 use Rattle.host_model.specs.Outs.{outs}
 use Rattle.host_model.specs.Taking.{told_if, told_requests}
 use Rattle.proof_requests.specs.proof_waking.Judged.{IsOfRequest}
-use Rattle.proof_requests.specs.Walking.{AddsWell, IsNodeTick, IsOfChip}
+use Rattle.proof_requests.specs.Walking.{IsOfChip}
 use Rattle.proof_requests.proofs.Doing.{attempt_asks, end_if_asks}
 use Rattle.proof_requests.proofs.Queued.{told_queue}
 use Rattle.proof_queue.specs.Waiting.{dropped_at, dropped_by}

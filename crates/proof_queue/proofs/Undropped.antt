@@ -24,9 +24,9 @@ use Rattle.host_node.specs.declared.attempt.AttemptEnd.TheVariants.{NoneRan, Aga
 use Rattle.host_node.specs.declared.attempt.Moment.{Moment}
 use Rattle.host_model.specs.State.{HostState, node_of}
 use Rattle.host_model.specs.Sessions.{open_command}
-use Rattle.host_model.specs.Ends.{PartEnd, Good, Passed_over, Bad, asleep_entry, attempt_entries, done_of, end_entries, end_entries_if, failed_entry, neighbours_entry, out_entry, part_end, part_entries, task_entries}
+use Rattle.host_model.specs.Ends.{PartEnd, Good, Passed_over, Bad, asleep_entry, attempt_entries, end_entries, end_entries_if, failed_entry, neighbours_entry, out_entry, part_end, part_entries, task_entries}
 use Rattle.host_model.specs.After.{gives_up, line_ticked, requests_do}
-use Rattle.host_model.specs.Events.{HostEvent, Line_ticks, Node_ticks, Requests_do}
+use Rattle.host_model.specs.Events.{Line_ticks, Node_ticks, Requests_do}
 use Rattle.host_model.specs.Outs.{copy_out, failing_entries, noted, outs, request_entries}
 use Rattle.proof_queue.specs.Waiting.{dropped_at}
 

@@ -1,6 +1,6 @@
 -- At each step of a host alone that goes by what is heeded, and wherever a part begins, what waits by its transcript is what waits in the host, where no node has woken.
 use Rattle.std.proofs.Common.{◌≡◌, ◌⊎◌, ◌≤◌, ℕ, ◌+◌, ◌&&◌, ◌||◌, not, Bool, true, false, if◌then◌else◌, inl, inr, List, [], ◌∷◌, ◌++◌, length, map, refl, sym, ap, ap₂, ◌∙◌, subst, append-nil, append_assoc}
-use Rattle.std.specs.Prelude.{Option, Some, None, drop, unwrap_or}
+use Rattle.std.specs.Prelude.{Option, drop, unwrap_or}
 use Rattle.std.specs.List.{AllByRecursion, flat_map, list_any}
 use Rattle.std.proofs.lemmas.Bool.{both_ways}
 use Rattle.zw_base.proofs.Each.{all-append, all-right, all-weaker}
@@ -21,13 +21,12 @@ use Rattle.zw_text.specs.declared.entry.Entry.TheVariants as entry
 use Rattle.zw_text.specs.Transcript.{line_last, line_of}
 use Rattle.host_heard.specs.declared.told.Told.{Told}
 use Rattle.law_transcript.specs.Lists.{EachAfter}
-use Rattle.law_transcript.specs.Nodes.{known_classes}
 use Rattle.law_transcript.specs.Restarts.{is_restart}
-use Rattle.law_transcript.specs.Units.{Carried, request_in}
+use Rattle.law_transcript.specs.Units.{Carried}
 use Rattle.law_time.specs.Requests.{asked, is_new}
 use Rattle.law_time.specs.Ends.{is_abort, is_abort_frame}
 use Rattle.law_time.specs.Wants.{wants_of}
-use Rattle.law_time.specs.Queue.{Queue, may_queue, no_queue, queue_step}
+use Rattle.law_time.specs.Queue.{Queue, may_queue, no_queue}
 use Rattle.serial_link.specs.State.{Side}
 use Rattle.host_requests.specs.Events.RequestsEvent.{Fails, IsSent, Ticks as request_ticks}
 use Rattle.host_requests.specs.Frames.{frame_of, request_of}
@@ -35,10 +34,9 @@ use Rattle.host_requests.specs.State.{RequestsState, next_id}
 use Rattle.host_requests.specs.declared.task.Purpose.{Purpose}
 use Rattle.host_requests.specs.declared.task.Purpose.TheVariants.{Attempt, Abort}
 use Rattle.host_requests.specs.declared.task.Task.{Task}
-use Rattle.host_node.specs.Search.{first_wanting}
 use Rattle.host_node.specs.declared.attempt.Moment.TheVariants.{BeforeItsTick}
-use Rattle.host_model.specs.State.{HostState, first_host}
-use Rattle.host_model.specs.After.{after, gives_up, is_busy, is_full, task_purpose}
+use Rattle.host_model.specs.State.{HostState}
+use Rattle.host_model.specs.After.{after, task_purpose}
 use Rattle.host_model.specs.Did.{MayAll, after_all}
 use Rattle.host_model.specs.Events.{HostEvent, Accepts, Cancels, Hears, Line_ticks, Node_ticks, Requests_do, Submits_abort, Submits_front, Starts, Gives_text, Gives_segment, Begins, Begin_unkept}
 use Rattle.host_model.specs.Outs.{answer_to, answers, outs}
@@ -50,7 +48,7 @@ use Rattle.host_model.proofs.Submitted.{next_is}
 use Rattle.world_model.specs.Refusals.{IsRefused}
 use Rattle.proof_requests.specs.law_host.Heard.{heeds_alone, is_of_others, is_refusal_of_others, listing_heard}
 use Rattle.proof_requests.specs.proof_alone.State.{HostMachine, done, with_world}
-use Rattle.proof_requests.specs.proof_alone.Steps.{AreTold, AsksNothing, DidNotCome, IsAskedBy, IsOfOthers, IsOfUnit, Step, Tells, Comes, Misses, Says, Says_nothing, Asks, Refuses, Shows, Restarts, Begins_tick, Numbers, Judges, Does, entries, happens}
+use Rattle.proof_requests.specs.proof_alone.Steps.{AreTold, DidNotCome, IsAskedBy, IsOfOthers, IsOfUnit, Step, Tells, Comes, Misses, Says, Says_nothing, Asks, Refuses, Shows, Restarts, Begins_tick, Numbers, Judges, Does, entries, happens}
 use Rattle.proof_requests.specs.proof_alone.Phases.{Phase, Resting, Asked, Risen, Ticking, Open, Behind, Sleeping, Submitting, IsBetween, IsJudgedNow, May, Turns}
 use Rattle.proof_requests.specs.proof_alone.Runs.{both_know}
 use Rattle.proof_requests.specs.proof_waking.Judged.{IsOfRequest, KnowsJudged}
@@ -58,11 +56,9 @@ use Rattle.proof_requests.proofs.proof_waking_Followed.{MayFollow, frame_all}
 use Rattle.proof_requests.proofs.proof_waking_Parts.{IsNote, IsNoted, follow_told}
 use Rattle.proof_requests.specs.Asking.{doing_of}
 use Rattle.proof_requests.specs.Walking.{Ground, IsNodeTick, IsRead, IsTied, KnowsAsked, KnowsTick, ReadsAs}
-use Rattle.proof_requests.proofs.Doing.{asks_of}
 use Rattle.proof_requests.proofs.Queued.{PayloadsBring}
 use Rattle.proof_requests.proofs.Queueing.{opened_asks}
 use Rattle.proof_requests.proofs.Stepping.{IsSubmission, asked_on, event_is_read, first_same, none_on, submissions}
-use Rattle.proof_requests.proofs.Telling.{IsQuiet, mark_quiet}
 use Rattle.proof_requests.proofs.Walking.{event_quiet, is_fresh, written_told}
 use Rattle.proof_known.specs.Known.{KnowsHeard}
 use Rattle.proof_attempts.specs.Since.{KnowsSince}
@@ -72,8 +68,8 @@ use Rattle.proof_attempts.proofs.Wrote.Wrote.{Quietly, Again, Anew}
 use Rattle.proof_queue.specs.Waiting.{FitsAlone, KnowsWaiting, NoneWoken, Waits, WaitsBefore, WaitsSo, dropped_at, dropped_by, queue_of, want_of_task}
 use Rattle.proof_queue.specs.Heeding.{HeedsSo, PutsSo}
 use Rattle.proof_queue.proofs.Books.{last_line, no_line, none_before, one_entry}
-use Rattle.proof_queue.proofs.Leaving.{Goes, Leaves, all_leave, full_told, fulls, leave_goes, leaves_after, marks_go, notes_go, stands}
-use Rattle.proof_queue.proofs.Refused.{FitsRefusal, lacks_not, line_refused}
+use Rattle.proof_queue.proofs.Leaving.{Goes, Leaves, all_leave, full_told, fulls, leave_goes, marks_go, notes_go, stands}
+use Rattle.proof_queue.proofs.Refused.{lacks_not, line_refused}
 use Rattle.proof_queue.proofs.Asking.{Lists, asked_rooms, asked_wants, lacks_is, nothing_wanted, refused_queue, refused_stands, said_anew, said_so}
 use Rattle.proof_queue.proofs.Stills.{AreStill, IsStill, IsTick, empty_left, front_left, left_by, none_still, requests_drop, tick_still, told_if_still}
 use Rattle.proof_queue.proofs.Sleepers.{none_wants}
@@ -541,9 +537,11 @@ module _ (taken : List Entry → Carried → List Told) where
       (on_nothing (lines.Store node) past m.state refl (λ before. refl) (known_at here (Asked (lines.Store node)) past m may.0 known)))
   step_goes brings here next past m (Restarts state) may grounds heeds known =
       let empty : state.requests.queue ≡ [] = ap (λ (p : Side × RequestsState). p.1.queue) (opened_asks m.keys m.records state grounds.asks.0.0.0.0.0.0.told may.1) in
-      as_goes next Open past m (Restarts state) may.2
-      (tt, λ none. subst (λ (l : List Entry). WaitsSo (heeds_alone taken) l state.requests.queue []) (sym (append-nil past))
-      (restarts past m state empty (known_at here (Asked lines.Restart) past m may.0 known) (none_before past [] none)))
+      as_goes next Open past m (Restarts state) may.2 (
+        tt,
+        λ none. subst (λ (l : List Entry). WaitsSo (heeds_alone taken) l state.requests.queue []) (sym (append-nil past))
+            (restarts past m state empty (known_at here (Asked lines.Restart) past m may.0 known) (none_before past [] none)),
+      )
   step_goes brings here next past m (Begins_tick left) may grounds heeds known = between next Risen past [] m (happens m (Begins_tick left)) may.2 tt refl tt (known_at here Resting past m may.0 known)
   step_goes brings here next past m Numbers may grounds heeds known = as_goes next here past m Numbers may.1 (numbers here past m may.0 grounds known)
   step_goes brings here next past m (Judges item rest behind told) may grounds heeds known =
