@@ -21,6 +21,7 @@ use Rattle.proof_requests.proofs.Queued.{PayloadsBring}
 use Rattle.proof_known.specs.Known.{IsForHost}
 use Rattle.proof_queue.specs.Waiting.{FitsAlone, KnowsWaiting, NoneWoken}
 use Rattle.proof_queue.specs.Heeding.{AllSteps, HeedsSo}
+use Rattle.proof_queue.specs.Turn.{may_go}
 use Rattle.proof_queue.proofs.Books.{none_before}
 use Rattle.proof_queue.proofs.Walking.{Grounds, step_goes, turn_goes}
 
@@ -46,10 +47,16 @@ pub all_fit : (taken : List Entry → Carried → List Told) (past told : List E
     → KeepsAfter past (may_queue (heeds_alone taken)) told
 all_fit taken past [] each for_host none = tt
 all_fit taken past (e ∷ told) each for_host none = (
-  by (each.0 (none_before past (e ∷ told) none)),
+  by (each.0 (none_before past (e ∷ told) none)).queues,
   all_fit taken (past ++ e ∷ []) told each.1 for_host.1 (subst NoneWoken (sym (append_assoc past (e ∷ []) told)) none),
 )
   where
     by : (is_refusal_of_others (line_last past) e ≡ true) ⊎ (may_queue (heeds_alone taken) past e ≡ true) → may_queue (heeds_alone taken) past e ≡ true
     by (inl others) = absurd (both_ways (is_refusal_of_others (line_last past) e) for_host.0 others)
     by (inr fits) = fits
+
+-- and all go by the queue
+pub all_go : (taken : List Entry → Carried → List Told) (past told : List Entry) → EachAfter (FitsAlone (heeds_alone taken)) past told → NoneWoken (past ++ told) → KeepsAfter past (may_go (heeds_alone taken)) told
+all_go taken past [] each none = tt
+all_go taken past (e ∷ told) each none =
+    ((each.0 (none_before past (e ∷ told) none)).goes, all_go taken (past ++ e ∷ []) told each.1 (subst NoneWoken (sym (append_assoc past (e ∷ []) told)) none))

@@ -24,15 +24,18 @@ use Rattle.proof_requests.specs.proof_alone.Steps.{AreTold, IsOfUnit}
 use Rattle.proof_requests.proofs.proof_waking_Parts.{IsNoted}
 use Rattle.proof_requests.proofs.Telling.{IsQuiet}
 use Rattle.proof_queue.specs.Waiting.{FitsAlone, NoneWoken, Waits, WaitsSo, dropped_at, queue_of}
+use Rattle.proof_queue.specs.Turn.{may_go}
+use Rattle.proof_queue.proofs.Undropped.{Undropped}
 use Rattle.proof_queue.proofs.Books.{before_is, no_line, none_before, one_entry}
 
 -- ---- which entries
 
--- no words, no refusal, no request, and no message that was dropped
+-- no words, no refusal, no request, no session that begins, and no message that was dropped
 abbrev pub Leaves : Entry → Type 0
 Leaves (entry.Said words) = ⊥
 Leaves (entry.Refused refusal) = ⊥
 Leaves (entry.QueueFull n) = ⊥
+Leaves (entry.Begin node session command) = ⊥
 Leaves (entry.Written Host unit) = unit ≡ NAK ∷ []
 Leaves e = Unit {0}
 
@@ -47,23 +50,19 @@ fulls told = flat_map full_at told
 none_full : (n : ℕ) (rest : List ℕ) → n ∷ rest ≡ [] → ⊥
 none_full n rest is = cc
 
-quiet_leaves : (e : Entry) → IsQuiet e → full_at e ≡ [] → Leaves e
+quiet_leaves : (e : Entry) → IsQuiet e → Undropped e → Leaves e
 quiet_leaves (entry.Said words) quiet none = absurd quiet
 quiet_leaves (entry.Refused refusal) quiet none = absurd quiet
-quiet_leaves (entry.QueueFull n) quiet none = absurd (none_full n [] none)
+quiet_leaves (entry.QueueFull n) quiet none = absurd none
+quiet_leaves (entry.Begin node session command) quiet none = absurd none
 quiet_leaves (entry.Written Host unit) quiet none = quiet
 quiet_leaves (entry.Written Chip unit) quiet none = tt
 quiet_leaves e quiet none = tt
 
 -- quiet ones of which none tells that
-pub all_leave : (told : List Entry) → AllByRecursion IsQuiet told → fulls told ≡ [] → AllByRecursion Leaves told
+pub all_leave : (told : List Entry) → AllByRecursion IsQuiet told → AllByRecursion Undropped told → AllByRecursion Leaves told
 all_leave [] all none = tt
-all_leave (entry.QueueFull n ∷ told) all none = absurd (none_full n (fulls told) none)
-all_leave (entry.Said words ∷ told) all none = absurd all.0
-all_leave (entry.Refused refusal ∷ told) all none = absurd all.0
-all_leave (entry.Written Host unit ∷ told) all none = (all.0, all_leave told all.1 none)
-all_leave (entry.Written Chip unit ∷ told) all none = (tt, all_leave told all.1 none)
-all_leave (e ∷ told) all none = (tt, all_leave told all.1 none)
+all_leave (e ∷ told) all none = (quiet_leaves e all.0 none.0, all_leave told all.1 none.1)
 
 same_full : (e : Entry) → full_at e ≡ dropped_at (Note e)
 same_full (entry.QueueFull n) = refl
@@ -97,6 +96,7 @@ module _ (taken : List Entry → Carried → List Told) where
       → Waits (queue_step (heeds_alone taken) past a q e []) tasks owes
   step_leaves past a q (entry.Said words) leaves tasks owes waits = absurd leaves
   step_leaves past a q (entry.QueueFull n) leaves tasks owes waits = absurd leaves
+  step_leaves past a q (entry.Begin node session command) leaves tasks owes waits = absurd leaves
   step_leaves past a q (entry.Written Host unit) leaves tasks owes waits =
       subst (λ (u : List ℕ). Waits (queue_step (heeds_alone taken) past a q (entry.Written Host u) []) tasks owes) (sym leaves) waits
   step_leaves past a q (entry.Written Chip unit) leaves tasks owes waits = waits
@@ -135,6 +135,12 @@ module _ (taken : List Entry → Carried → List Told) where
   leaves_stands past (entry.Unkept n) tasks leaves none so = refl
   leaves_stands past e tasks leaves none so = stands past e tasks none so
 
+  -- and it is no request
+  leaves_go : (past : List Entry) (e : Entry) → Leaves e → may_go (heeds_alone taken) past e ≡ true
+  leaves_go past (entry.Begin node session command) leaves = absurd leaves
+  leaves_go past (entry.Written Host unit) leaves = subst (λ (u : List ℕ). may_go (heeds_alone taken) past (entry.Written Host u) ≡ true) (sym leaves) refl
+  leaves_go past e leaves = refl
+
   -- ---- entries
 
   at_end : (past : List Entry) (tasks : List Task) (owes : List ℕ) → Alone past tasks owes → Alone (past ++ []) tasks owes
@@ -147,7 +153,7 @@ module _ (taken : List Entry → Carried → List Told) where
   pub leave_goes : (past told : List Entry) (tasks : List Task) → AllByRecursion Leaves told → Alone past tasks [] → Goes past told tasks []
   leave_goes past [] tasks all known = (tt, at_end past tasks [] known)
   leave_goes past (e ∷ told) tasks all known =
-      behind_one past e told tasks [] (λ none. inr (leaves_stands past e tasks all.0 none (known none)))
+      behind_one past e told tasks [] (λ none. record { queues = inr (leaves_stands past e tasks all.0 none (known none)); goes = leaves_go past e all.0 })
       (leave_goes (past ++ e ∷ []) told tasks all.1 (leaves_after past e all.0 tasks [] known))
 
   -- what became of a unit of the host, also where a message was dropped
@@ -166,7 +172,7 @@ module _ (taken : List Entry → Carried → List Told) where
   pub marks_go : (past marks : List Entry) (tasks : List Task) (owes : List ℕ) → AllByRecursion IsOfUnit marks → Alone past tasks owes → Goes past marks tasks owes
   marks_go past [] tasks owes all known = (tt, at_end past tasks owes known)
   marks_go past (e ∷ marks) tasks owes all known =
-      behind_one past e marks tasks owes (λ none. inr (mark_stands past e all.0))
+      behind_one past e marks tasks owes (λ none. record { queues = inr (mark_stands past e all.0); goes = leaves_go past e (mark_leaves e all.0).0 })
       (marks_go (past ++ e ∷ []) marks tasks owes all.1 (leaves_after past e (mark_leaves e all.0).0 tasks owes known))
 
   -- ---- notes
@@ -183,13 +189,16 @@ module _ (taken : List Entry → Carried → List Told) where
       }
 
   full_stands : (past : List Entry) (n : ℕ) (tasks : List Task) (owes : List ℕ) → Alone past tasks (n ∷ owes) → FitsAlone (heeds_alone taken) past (entry.QueueFull n)
-  full_stands past n tasks owes known none =
-      inr (ap (λ (l : List ℕ). is_first n l) (ap (λ (q : Queue). q.owed) (before_is taken past (entry.QueueFull n) none) ∙ (known none).waits.owed_are) ∙ eq-eqb n n refl)
+  full_stands past n tasks owes known none = record {
+    queues = inr (ap (λ (l : List ℕ). is_first n l) (ap (λ (q : Queue). q.owed) (before_is taken past (entry.QueueFull n) none) ∙ (known none).waits.owed_are) ∙ eq-eqb n n refl);
+    goes = refl;
+  }
 
   noted_leaves : (e : Entry) → IsNoted e → full_at e ≡ [] → Leaves e
   noted_leaves (entry.Said words) noted none = absurd noted
   noted_leaves (entry.Refused refusal) noted none = absurd noted
   noted_leaves (entry.QueueFull n) noted none = absurd (none_full n [] none)
+  noted_leaves (entry.Begin node session command) noted none = absurd noted
   noted_leaves (entry.Written side unit) noted none = absurd noted
   noted_leaves e noted none = tt
 
@@ -222,5 +231,5 @@ module _ (taken : List Entry → Carried → List Told) where
       behind_one past (entry.QueueFull n) told tasks owes (full_stands past n tasks (fulls told ++ owes) known)
       (notes_go (past ++ entry.QueueFull n ∷ []) told tasks owes all.1 (full_after past n tasks (fulls told ++ owes) known))
   notes_go past (e ∷ told) tasks owes all known =
-      behind_one past e told tasks owes (λ none. inr (note_stands past e all.0 refl (known none).answered))
+      behind_one past e told tasks owes (λ none. record { queues = inr (note_stands past e all.0 refl (known none).answered); goes = leaves_go past e (noted_leaves e all.0 refl) })
       (notes_go (past ++ e ∷ []) told tasks owes all.1 (leaves_after past e (noted_leaves e all.0 refl) tasks (fulls told ++ owes) known))

@@ -1,11 +1,11 @@
--- Where a host notes how a request or an attempt ended, it drops no message.
-use Rattle.std.proofs.Common.{◌≡◌, ℕ, Bool, true, false, List, [], ◌∷◌, ◌++◌, refl, ap, ◌∙◌}
+-- Where a host notes how a request or an attempt ended, it drops no message, and no session begins.
+use Rattle.std.proofs.Common.{◌≡◌, ℕ, Bool, true, false, List, [], ◌∷◌, ◌++◌, refl, sym, ap₂, subst}
 use Rattle.std.specs.Prelude.{Option, Some, None}
 use Rattle.std.specs.List.{AllByRecursion, flat_map}
-use Rattle.std.proofs.lemmas.Grind.{flat_map-append}
-use Rattle.zw_base.proofs.Each.{all-append}
+use Rattle.zw_base.proofs.Each.{all-append, all-weaker}
 use Rattle.chip_functions.specs.declared.response.Response.TheVariants.{GetRoutingInfo, IsFailedNode as failed_node}
 use Rattle.serial_frame.specs.Frame.{FrameParts}
+use Rattle.zw_words.specs.declared.side.Side.TheVariants.{Host}
 use Rattle.zw_text.specs.declared.entry.Entry.{Entry}
 use Rattle.zw_text.specs.declared.entry.Entry.TheVariants as entry
 use Rattle.serial_link.specs.State.{copy_due, tick_side}
@@ -28,10 +28,14 @@ use Rattle.host_model.specs.Ends.{PartEnd, Good, Passed_over, Bad, asleep_entry,
 use Rattle.host_model.specs.After.{gives_up, line_ticked, requests_do}
 use Rattle.host_model.specs.Events.{Line_ticks, Node_ticks, Requests_do}
 use Rattle.host_model.specs.Outs.{copy_out, failing_entries, noted, outs, request_entries}
+use Rattle.host_model.specs.declared.out.HostOut.{HostOut}
+use Rattle.host_model.specs.declared.out.HostOut.TheVariants.{Note, Write}
+use Rattle.proof_requests.specs.proof_alone.Steps.{AreTold, IsOfUnit}
 use Rattle.proof_queue.specs.Waiting.{dropped_at}
 
 abbrev pub Undropped : Entry → Type 0
 Undropped (entry.QueueFull n) = ⊥
+Undropped (entry.Begin node session command) = ⊥
 Undropped e = Unit {0}
 
 abbrev Are : List Entry → Type 0
@@ -84,25 +88,62 @@ failing_are : (gives : Bool) (h : HostState) → Are (failing_entries gives h)
 failing_are true h = end_are (requests_do h Fails) (end_at h.requests Fails)
 failing_are false h = tt
 
--- so nothing is dropped where these are noted
-pub noted_none : (told : List Entry) → AllByRecursion Undropped told → flat_map dropped_at (noted told) ≡ []
-noted_none [] all = refl
-noted_none (entry.QueueFull n ∷ told) all = absurd all.0
-noted_none (e ∷ told) all = noted_none told all.1
+-- ---- what is put out
 
-copy_none : (copy : Option FrameParts) → flat_map dropped_at (copy_out copy) ≡ []
-copy_none None = refl
-copy_none (Some f) = refl
+-- units, and such notes
+abbrev pub ArePut : List HostOut → Type 0
+ArePut [] = Unit {0}
+ArePut (Note e ∷ puts) = Undropped e × ArePut puts
+ArePut (Write unit ∷ puts) = ArePut puts
 
-pub request_drops : (h : HostState) (event : RequestsEvent) (moment : Moment) → flat_map dropped_at (outs h (Requests_do event moment)) ≡ []
-request_drops h event moment = noted_none (request_entries h event) (end_are (requests_do h event) (end_at h.requests event))
+noted_put : (told : List Entry) → AllByRecursion Undropped told → ArePut (noted told)
+noted_put [] all = tt
+noted_put (e ∷ told) all = (all.0, noted_put told all.1)
 
-pub node_drops : (h : HostState) (n : ℕ) → flat_map dropped_at (outs h (Node_ticks n)) ≡ []
-node_drops h n = noted_none (attempt_entries n (tick_end (node_of h n)) (open_command (node_of h n))) (attempt_are n (tick_end (node_of h n)) (open_command (node_of h n)))
+put-append : (a b : List HostOut) → ArePut a → ArePut b → ArePut (a ++ b)
+put-append [] b are more = more
+put-append (Note e ∷ a) b are more = (are.0, put-append a b are.1 more)
+put-append (Write unit ∷ a) b are more = put-append a b are more
 
-pub line_drops : (h : HostState) → flat_map dropped_at (outs h Line_ticks) ≡ []
-line_drops h =
+copy_put : (copy : Option FrameParts) → ArePut (copy_out copy)
+copy_put None = tt
+copy_put (Some f) = tt
+
+pub request_put : (h : HostState) (event : RequestsEvent) (moment : Moment) → ArePut (outs h (Requests_do event moment))
+request_put h event moment = noted_put (request_entries h event) (end_are (requests_do h event) (end_at h.requests event))
+
+pub node_put : (h : HostState) (n : ℕ) → ArePut (outs h (Node_ticks n))
+node_put h n = noted_put (attempt_entries n (tick_end (node_of h n)) (open_command (node_of h n))) (attempt_are n (tick_end (node_of h n)) (open_command (node_of h n)))
+
+pub line_put : (h : HostState) → ArePut (outs h Line_ticks)
+line_put h =
     let gives : Bool = gives_up h.side.turn (tick_side h.side).turn in
-    flat_map-append dropped_at (copy_out (copy_due h.side.turn)) (noted (failing_entries gives (line_ticked h)))
-    ∙ ap (λ (l : List ℕ). l ++ flat_map dropped_at (noted (failing_entries gives (line_ticked h)))) (copy_none (copy_due h.side.turn))
-    ∙ noted_none (failing_entries gives (line_ticked h)) (failing_are gives (line_ticked h))
+    put-append (copy_out (copy_due h.side.turn)) (noted (failing_entries gives (line_ticked h))) (copy_put (copy_due h.side.turn))
+    (noted_put (failing_entries gives (line_ticked h)) (failing_are gives (line_ticked h)))
+
+-- so no message is dropped
+drops_one : (e : Entry) → Undropped e → dropped_at (Note e) ≡ []
+drops_one (entry.QueueFull n) are = absurd are
+drops_one e are = refl
+
+pub put_drops : (puts : List HostOut) → ArePut puts → flat_map dropped_at puts ≡ []
+put_drops [] are = refl
+put_drops (Note e ∷ puts) are = ap₂ (λ (a b : List ℕ). a ++ b) (drops_one e are.0) (put_drops puts are.1)
+put_drops (Write unit ∷ puts) are = put_drops puts are
+
+pub noted_none : (told : List Entry) → AllByRecursion Undropped told → flat_map dropped_at (noted told) ≡ []
+noted_none told all = put_drops (noted told) (noted_put told all)
+
+-- nor does what is entered of it tell of one
+mark_undropped : (e : Entry) → IsOfUnit e → Undropped e
+mark_undropped (entry.Dropped Host) mark = tt
+mark_undropped (entry.Garbled Host unit) mark = tt
+mark_undropped (entry.Overrun Host) mark = tt
+mark_undropped e mark = absurd mark
+
+pub told_undropped : (puts : List HostOut) (told : List Entry) → ArePut puts → AreTold puts told → AllByRecursion Undropped told
+told_undropped [] told are is = subst (AllByRecursion Undropped) (sym is) tt
+told_undropped (Note e ∷ puts) told are (rest, is, more) = subst (AllByRecursion Undropped) (sym is) (are.0, told_undropped puts rest are.1 more)
+told_undropped (Write unit ∷ puts) told are (marks, rest, is, all, more) =
+    subst (AllByRecursion Undropped) (sym is)
+    (tt, all-append Undropped marks rest (all-weaker IsOfUnit Undropped mark_undropped marks all) (told_undropped puts rest are more))

@@ -1,6 +1,6 @@
 -- At each step of a host alone that goes by what is heeded, and wherever a part begins, what waits by its transcript is what waits in the host, where no node has woken.
-use Rattle.std.proofs.Common.{◌≡◌, ◌⊎◌, ◌≤◌, ℕ, ◌+◌, ◌&&◌, ◌||◌, not, Bool, true, false, if◌then◌else◌, inl, inr, List, [], ◌∷◌, ◌++◌, length, map, refl, sym, ap, ap₂, ◌∙◌, subst, append-nil, append_assoc}
-use Rattle.std.specs.Prelude.{Option, drop, unwrap_or}
+use Rattle.std.proofs.Common.{◌≡◌, ◌⊎◌, ◌≤◌, ℕ, ◌+◌, ◌==◌, ◌&&◌, ◌||◌, not, Bool, true, false, if◌then◌else◌, inl, inr, List, [], ◌∷◌, ◌++◌, length, map, refl, sym, ap, ap₂, ◌∙◌, subst, append-nil, append_assoc}
+use Rattle.std.specs.Prelude.{Option, drop, nat_le, unwrap_or}
 use Rattle.std.specs.List.{AllByRecursion, flat_map, list_any}
 use Rattle.std.proofs.lemmas.Bool.{both_ways}
 use Rattle.zw_base.proofs.Each.{all-append, all-right, all-weaker}
@@ -22,11 +22,12 @@ use Rattle.zw_text.specs.Transcript.{line_last, line_of}
 use Rattle.host_heard.specs.declared.told.Told.{Told}
 use Rattle.law_transcript.specs.Lists.{EachAfter}
 use Rattle.law_transcript.specs.Restarts.{is_restart}
-use Rattle.law_transcript.specs.Units.{Carried}
-use Rattle.law_time.specs.Requests.{asked, is_new}
-use Rattle.law_time.specs.Ends.{is_abort, is_abort_frame}
+use Rattle.law_transcript.specs.Units.{Carried, request_in, sending_of}
+use Rattle.law_time.specs.Moments.{clock}
+use Rattle.law_time.specs.Requests.{are_none, asked, is_new, responses}
+use Rattle.law_time.specs.Ends.{is_abort, is_abort_frame, is_sending, owes_abort as law_owes_abort, silence}
 use Rattle.law_time.specs.Wants.{wants_of}
-use Rattle.law_time.specs.Queue.{Queue, may_queue, no_queue}
+use Rattle.law_time.specs.Queue.{Queue, may_queue, no_queue, queue_before}
 use Rattle.serial_link.specs.State.{Side}
 use Rattle.host_requests.specs.Events.RequestsEvent.{Fails, IsSent, Ticks as request_ticks}
 use Rattle.host_requests.specs.Frames.{frame_of, request_of}
@@ -37,6 +38,7 @@ use Rattle.host_requests.specs.declared.task.Task.{Task}
 use Rattle.host_node.specs.declared.attempt.Moment.TheVariants.{BeforeItsTick}
 use Rattle.host_model.specs.State.{HostState}
 use Rattle.host_model.specs.After.{after, task_purpose}
+use Rattle.host_model.specs.May.{IsFree}
 use Rattle.host_model.specs.Did.{MayAll, after_all}
 use Rattle.host_model.specs.Events.{HostEvent, Accepts, Cancels, Hears, Line_ticks, Node_ticks, Requests_do, Submits_abort, Submits_front, Starts, Gives_text, Gives_segment, Begins, Begin_unkept}
 use Rattle.host_model.specs.Outs.{answer_to, answers, outs}
@@ -49,29 +51,32 @@ use Rattle.world_model.specs.Refusals.{IsRefused}
 use Rattle.proof_requests.specs.law_host.Heard.{heeds_alone, is_of_others, is_refusal_of_others, listing_heard}
 use Rattle.proof_requests.specs.proof_alone.State.{HostMachine, done, with_world}
 use Rattle.proof_requests.specs.proof_alone.Steps.{AreTold, DidNotCome, IsAskedBy, IsOfOthers, IsOfUnit, Step, Tells, Comes, Misses, Says, Says_nothing, Asks, Refuses, Shows, Restarts, Begins_tick, Numbers, Judges, Does, entries, happens}
-use Rattle.proof_requests.specs.proof_alone.Phases.{Phase, Resting, Asked, Risen, Ticking, Open, Behind, Sleeping, Submitting, IsBetween, IsJudgedNow, May, Turns}
+use Rattle.proof_requests.specs.proof_alone.Phases.{Phase, Resting, Asked, Risen, Ticking, Open, Behind, Sleeping, Submitting, IsBetween, IsJudgedNow, IsNumbered, May, Turns}
 use Rattle.proof_requests.specs.proof_alone.Runs.{both_know}
 use Rattle.proof_requests.specs.proof_waking.Judged.{IsOfRequest, KnowsJudged}
 use Rattle.proof_requests.proofs.proof_waking_Followed.{MayFollow, frame_all}
-use Rattle.proof_requests.proofs.proof_waking_Parts.{IsNote, IsNoted, follow_told}
-use Rattle.proof_requests.specs.Asking.{doing_of}
+use Rattle.proof_requests.proofs.proof_waking_Parts.{IsNoted, follow_told}
+use Rattle.proof_requests.specs.Asking.{Leaving, doing_of}
 use Rattle.proof_requests.specs.Walking.{Ground, IsNodeTick, IsRead, IsTied, KnowsAsked, KnowsTick, ReadsAs}
+use Rattle.proof_requests.proofs.Ending.{told_of_host}
 use Rattle.proof_requests.proofs.Queued.{PayloadsBring}
 use Rattle.proof_requests.proofs.Queueing.{opened_asks}
-use Rattle.proof_requests.proofs.Stepping.{IsSubmission, asked_on, event_is_read, first_same, none_on, submissions}
+use Rattle.proof_requests.proofs.Stepping.{IsSubmission, asked_on, event_is_read, first_same, none_on, submissions, time_told}
 use Rattle.proof_requests.proofs.Walking.{event_quiet, is_fresh, written_told}
 use Rattle.proof_known.specs.Known.{KnowsHeard}
 use Rattle.proof_attempts.specs.Since.{KnowsSince}
 use Rattle.proof_attempts.specs.Waking.{CountsAwake}
 use Rattle.proof_attempts.proofs.Wrote.{Wrote, writes}
 use Rattle.proof_attempts.proofs.Wrote.Wrote.{Quietly, Again, Anew}
-use Rattle.proof_queue.specs.Waiting.{FitsAlone, KnowsWaiting, NoneWoken, Waits, WaitsBefore, WaitsSo, dropped_at, dropped_by, queue_of, want_of_task}
+use Rattle.proof_queue.specs.Waiting.{FitsAlone, KnowsWaiting, NoneWoken, Waits, WaitsBefore, WaitsSo, dropped_by, queue_of, want_of_task}
 use Rattle.proof_queue.specs.Heeding.{HeedsSo, PutsSo}
-use Rattle.proof_queue.proofs.Books.{last_line, no_line, none_before, one_entry}
-use Rattle.proof_queue.proofs.Leaving.{Goes, Leaves, all_leave, full_told, fulls, leave_goes, marks_go, notes_go, stands}
+use Rattle.proof_queue.specs.Turn.{is_first_waiting, may_ask, may_go}
+use Rattle.proof_queue.proofs.Books.{before_is, last_line, no_line, none_before, one_entry}
+use Rattle.proof_queue.proofs.Leaving.{Goes, Leaves, all_leave, full_told, leave_goes, marks_go, notes_go, stands}
 use Rattle.proof_queue.proofs.Refused.{lacks_not, line_refused}
 use Rattle.proof_queue.proofs.Asking.{Lists, asked_rooms, asked_wants, lacks_is, nothing_wanted, refused_queue, refused_stands, said_anew, said_so}
-use Rattle.proof_queue.proofs.Stills.{AreStill, IsStill, IsTick, empty_left, front_left, left_by, none_still, requests_drop, tick_still, told_if_still}
+use Rattle.proof_queue.proofs.Stills.{AreStill, IsStill, IsTick, empty_left, first_waits, front_left, front_no_abort, left_by, none_still, requests_drop, tick_put, tick_still, told_if_still}
+use Rattle.proof_queue.proofs.Undropped.{Undropped, told_undropped}
 use Rattle.proof_queue.proofs.Sleepers.{none_wants}
 
 -- what else is known of the host: what it asks, what its nodes listed, and which count as awake
@@ -86,6 +91,7 @@ others_leave : (e : Entry) → IsOfOthers e → Leaves e
 others_leave (entry.Said words) others = absurd others
 others_leave (entry.Refused refusal) others = absurd others
 others_leave (entry.QueueFull n) others = absurd others
+others_leave (entry.Begin node session command) others = absurd others
 others_leave (entry.Written side unit) others = absurd others
 others_leave e others = tt
 
@@ -185,7 +191,7 @@ module _ (taken : List Entry → Carried → List Told) where
   says : (past : List Entry) (m : HostMachine) (words : List ℕ) (line : Line) → line_of (entry.Said words) ≡ line ∷ [] → Grounds Resting past m → Alone past m.state.requests.queue []
       → EachAfter (FitsAlone (heeds_alone taken)) past (entry.Said words ∷ []) × (NoneWoken (past ++ entry.Said words ∷ []) → WaitsBefore (heeds_alone taken) line (past ++ entry.Said words ∷ []) m.state)
   says past m words line read grounds known = (
-    ((λ none. inr (stands taken past (entry.Said words) m.state.requests.queue none (known none))), tt),
+    ((λ none. record { queues = inr (stands taken past (entry.Said words) m.state.requests.queue none (known none)); goes = refl }), tt),
     λ none. record {
       before = past;
       words = words;
@@ -198,7 +204,7 @@ module _ (taken : List Entry → Carried → List Told) where
 
   says_nothing : (past : List Entry) (words : List ℕ) (tasks : List Task) → line_of (entry.Said words) ≡ [] → Alone past tasks [] → Goes taken past (entry.Said words ∷ []) tasks []
   says_nothing past words tasks read known = (
-    ((λ none. inr (stands taken past (entry.Said words) tasks none (known none))), tt),
+    ((λ none. record { queues = inr (stands taken past (entry.Said words) tasks none (known none)); goes = refl }), tt),
     λ none.
         let before = none_before past (entry.Said words ∷ []) none in
         let q : Queue = queue_of (heeds_alone taken) past in
@@ -225,7 +231,7 @@ module _ (taken : List Entry → Carried → List Told) where
   refuses line past m r refused known = ((fits, tt), later)
     where
       fits : FitsAlone (heeds_alone taken) past (entry.Refused r)
-      fits none = by refused
+      fits none = record { queues = by refused; goes = refl }
         where
           k : WaitsBefore (heeds_alone taken) line past m.state
           k = known none
@@ -299,7 +305,7 @@ module _ (taken : List Entry → Carried → List Told) where
       → PutsSo (heeds_alone taken) (past ++ entry.Written Host (unit_text Ack) ∷ []) (after m.state (Hears (Good (Framed f)))) behind → Alone past m.state.requests.queue []
       → Judged past m (Good (Framed f)) behind told
   frame_goes past m f behind told (marks, rest, is, all, none_more) puts known = subst (Judged past m (Good (Framed f)) behind) (sym are) (
-    ((λ none. inr (stands taken past acknowledged m.state.requests.queue none (known none))), goes.0),
+    ((λ none. record { queues = inr (stands taken past acknowledged m.state.requests.queue none (known none)); goes = refl }), goes.0),
     subst (λ (l : List Entry). Alone l tasks owes) (append_assoc past (acknowledged ∷ []) marks) goes.1,
   )
     where
@@ -375,11 +381,12 @@ module _ (taken : List Entry → Carried → List Told) where
       by false q waits = waits
 
   unit_goes : (past : List Entry) (f : FrameParts) (rest : List Entry) (new aborts : Bool) (tasks : List Task) → is_new (asked past) (unit_text (Framed f)) ≡ new → is_abort_frame (unit_text (Framed f)) ≡ aborts
-      → AllByRecursion Leaves rest → Alone past tasks [] → Goes taken past (entry.Written Host (unit_text (Framed f)) ∷ rest) (if new && not aborts then drop 1 tasks else tasks) []
-  unit_goes past f rest new aborts tasks news abort all known =
+      → (NoneWoken past → may_go (heeds_alone taken) past (entry.Written Host (unit_text (Framed f))) ≡ true) → AllByRecursion Leaves rest → Alone past tasks []
+      → Goes taken past (entry.Written Host (unit_text (Framed f)) ∷ rest) (if new && not aborts then drop 1 tasks else tasks) []
+  unit_goes past f rest new aborts tasks news abort asks all known =
       let unit : Entry = entry.Written Host (unit_text (Framed f)) in
       let goes = leave_goes taken (past ++ unit ∷ []) rest (if new && not aborts then drop 1 tasks else tasks) all (unit_after past f new aborts tasks news abort known) in (
-        ((λ none. inr (stands taken past unit tasks none (known none))), goes.0),
+        ((λ none. record { queues = inr (stands taken past unit tasks none (known none)); goes = asks none }), goes.0),
         subst (λ (l : List Entry). Alone l (if new && not aborts then drop 1 tasks else tasks) []) (append_assoc past (unit ∷ []) rest) goes.1,
       )
 
@@ -395,6 +402,11 @@ module _ (taken : List Entry → Carried → List Told) where
       node_tick (Node_ticks n) is = tt
       node_tick event is = absurd is
 
+  -- another copy is no new request
+  no_new : (past : List Entry) (unit : List ℕ) → is_new (asked past) unit ≡ false → may_go (heeds_alone taken) past (entry.Written Host unit) ≡ true
+  no_new past unit old =
+      ap (λ (b : Bool). not b || may_ask (law_owes_abort (asked past) (clock past)) unit (queue_before (heeds_alone taken) past (entry.Written Host unit)).wants) old
+
   tick_goes : (first : HostEvent) (left : List HostEvent) (past : List Entry) (m : HostMachine) (event : HostEvent) (told : List Entry) → IsTick event → AreTold (outs m.state event) told
       → Wrote (Ticking (first ∷ left)) past told m.state event → Alone past m.state.requests.queue [] → Goes taken past told (after m.state event).requests.queue []
   tick_goes first left past m event told tick is wrote known = subst (λ (q : List Task). Goes taken past told q []) (sym still.queue) (by wrote)
@@ -402,14 +414,15 @@ module _ (taken : List Entry → Carried → List Told) where
       still : IsStill m.state event
       still = tick_still m.state event tick
 
-      none : fulls told ≡ []
-      none = full_told (outs m.state event) told is ∙ still.drops
+      none : AllByRecursion Undropped told
+      none = told_undropped (outs m.state event) told (tick_put m.state event tick) is
 
       by : Wrote (Ticking (first ∷ left)) past told m.state event → Goes taken past told m.state.requests.queue []
       by (Quietly un quiet) = leave_goes taken past told m.state.requests.queue (all_leave told quiet none) known
       by (Again f rest un are old quiet) =
           subst (λ (l : List Entry). Goes taken past l m.state.requests.queue []) (sym are)
-          (unit_goes past f rest false (is_abort_frame (unit_text (Framed f))) m.state.requests.queue old refl (all_leave rest quiet (sym (ap fulls are) ∙ none)) known)
+          (unit_goes past f rest false (is_abort_frame (unit_text (Framed f))) m.state.requests.queue old refl (λ unwoken. no_new past (unit_text (Framed f)) old)
+          (all_leave rest quiet (subst (AllByRecursion Undropped) are none).1) known)
       by (Anew purpose f marks here free are fresh all now) = absurd (let bad : Ticking (first ∷ left) ≡ Submitting = here in cc)
 
   -- behind an item
@@ -441,51 +454,126 @@ module _ (taken : List Entry → Carried → List Told) where
       (((λ none. absurd (vain none)), goes.0), subst (λ (l : List Entry). Alone l tasks owes) (append_assoc past (e ∷ []) told) goes.1)
 
   -- what is submitted
-  module _ (brings : PayloadsBring) (past told : List Entry) (m : HostMachine) (ground : Ground Submitting past m) (tie : IsTied past m) (known : Alone past m.state.requests.queue []) where
+  module _ (brings : PayloadsBring) (past told : List Entry) (m : HostMachine) (numbered : IsNumbered m told) (ground : Ground Submitting past m) (tie : IsTied past m)
+      (known : Alone past m.state.requests.queue []) where
     abbrev id : ℕ
     id = next_id m.state.requests.last_id
 
+    abbrev queue : List Task
+    queue = m.state.requests.queue
+
+    -- an abort is owed by the transcript where the host owes one
+    owes_is : (e : Entry) (more : List Entry) → told ≡ e ∷ more → IsFree m.state → law_owes_abort (asked past) (clock past) ≡ m.state.requests.owes
+    owes_is e more are free = ap (λ (t : ℕ). law_owes_abort (asked past) t) (time_told Submitting past told m ground numbered e more are) ∙ by tie
+      where
+        by : IsTied past m → law_owes_abort (asked past) m.clock ≡ m.state.requests.owes
+        by (inl none) =
+            ap (λ (u : List ℕ). list_any is_sending (request_in u)
+            && list_any (λ tick. nat_le tick m.clock && list_any (λ one. one.tick + 65 == tick) (responses (asked past))) (silence (asked past))) none.unasked
+            ∙ sym (ap (λ (l : Leaving). l.owes) none.paid)
+        by (inr (was, asks)) = (told_of_host past m.clock m.came (doing_of m.state) tie).owed was free.none_under_way
+
+    -- what waits by it
+    wants_are : (e : Entry) → NoneWoken past → (queue_before (heeds_alone taken) past e).wants ≡ map want_of_task queue
+    wants_are e none = ap (λ (q : Queue). q.wants) (before_is taken past e none) ∙ (known none).waits.wants_are
+
+    or_none : (b : Bool) → (b || false) ≡ b
+    or_none true = refl
+    or_none false = refl
+
+    aborts_as : (purpose : Purpose) → ReadsAs m.state purpose → is_abort_frame (unit_text (Framed (frame_of purpose id))) ≡ is_abort (request_of purpose id)
+    aborts_as purpose read = ap (λ (l : List Request). list_any is_abort l) read ∙ or_none (is_abort (request_of purpose id))
+
+    -- so a request is in its turn
+    abbrev InTurn : Purpose → Type 0
+    InTurn purpose = (wants : List (List ℕ)) → wants ≡ map want_of_task queue → may_ask m.state.requests.owes (unit_text (Framed (frame_of purpose id))) wants ≡ true
+
+    abort_turn : m.state.requests.owes ≡ true → ReadsAs m.state Abort → InTurn Abort
+    abort_turn owes read wants are = ap (λ (o : Bool). may_ask o (unit_text (Framed (frame_of Abort id))) wants) owes ∙ aborts_as Abort read
+
+    front_turn : m.state.requests.owes ≡ false → (queue ≡ [] → ⊥) → ReadsAs m.state (task_purpose queue) → InTurn (task_purpose queue)
+    front_turn paid some read wants are =
+        let unit : List ℕ = unit_text (Framed (frame_of (task_purpose queue) id)) in
+        ap (λ (o : Bool). may_ask o unit wants) paid ∙ ap (λ (b : Bool). not b && is_first_waiting unit wants) (aborts_as (task_purpose queue) read ∙ front_no_abort queue id some)
+        ∙ ap (λ (w : List (List ℕ)). is_first_waiting unit w) are ∙ first_waits queue id unit some read
+
+    attempt_turn : (n : ℕ) (more : Bool) (payload : List ℕ) → m.state.requests.owes ≡ false → queue ≡ [] → ReadsAs m.state (Attempt n more payload) → InTurn (Attempt n more payload)
+    attempt_turn n more payload paid none read wants are =
+        let unit : List ℕ = unit_text (Framed (frame_of (Attempt n more payload) id)) in
+        ap (λ (o : Bool). may_ask o unit wants) paid ∙ ap (λ (b : Bool). not b && is_first_waiting unit wants) (aborts_as (Attempt n more payload) read)
+        ∙ ap (λ (w : List (List ℕ)). is_first_waiting unit w) (are ∙ ap (λ (l : List Task). map want_of_task l) none)
+        ∙ ap (λ (l : List Request). not (are_none (flat_map sending_of l))) read
+
     request_goes : (event : HostEvent) (purpose : Purpose) → IsNext m.state event → outs m.state event ≡ Write (Framed (frame_of purpose id)) ∷ [] → ReadsAs m.state purpose
-        → (after m.state event).requests.queue ≡ left_by (is_abort (request_of purpose id)) m.state.requests.queue → AreTold (outs m.state event) told
-        → Goes taken past told (after m.state event).requests.queue []
-    request_goes event purpose next puts read left is =
+        → (after m.state event).requests.queue ≡ left_by (is_abort (request_of purpose id)) m.state.requests.queue → InTurn purpose
+        → AreTold (outs m.state event) told → Goes taken past told (after m.state event).requests.queue []
+    request_goes event purpose next puts read left turn is =
         let f : FrameParts = frame_of purpose id in
         let wrote = written_told f told (subst (λ (l : List HostOut). AreTold l told) puts is) in
-        let aborts : is_abort_frame (unit_text (Framed f)) ≡ is_abort (request_of purpose id) = ap (λ (l : List Request). list_any is_abort l) read ∙ or_none (is_abort (request_of purpose id)) in
+        let unit : Entry = entry.Written Host (unit_text (Framed f)) in
+        let fresh = is_fresh past m.clock m.came (doing_of m.state) f next.0.free_line tie in
+        let goes : NoneWoken past → may_go (heeds_alone taken) past unit ≡ true =
+        (λ none. ap (λ (b : Bool). not b || may_ask (law_owes_abort (asked past) (clock past)) (unit_text (Framed f)) (queue_before (heeds_alone taken) past unit).wants) fresh
+        ∙ ap (λ (o : Bool). may_ask o (unit_text (Framed f)) (queue_before (heeds_alone taken) past unit).wants) (owes_is unit wrote.rest wrote.are next.0)
+        ∙ turn (queue_before (heeds_alone taken) past unit).wants (wants_are unit none)) in
         subst (λ (l : List Entry). Goes taken past l (after m.state event).requests.queue []) (sym wrote.are)
         (subst (λ (q : List Task). Goes taken past (entry.Written Host (unit_text (Framed f)) ∷ wrote.rest) q []) (same_left (is_abort (request_of purpose id)) m.state.requests.queue ∙ sym left)
-        (unit_goes past f wrote.rest true (is_abort (request_of purpose id)) m.state.requests.queue (is_fresh past m.clock m.came (doing_of m.state) f next.0.free_line tie) aborts
+        (unit_goes past f wrote.rest true (is_abort (request_of purpose id)) m.state.requests.queue fresh (aborts_as purpose read) goes
         (all-weaker IsOfUnit Leaves mark_leaves wrote.rest wrote.marks) known))
       where
-        or_none : (b : Bool) → (b || false) ≡ b
-        or_none true = refl
-        or_none false = refl
+        same_left : (b : Bool) (tasks : List Task) → (if true && not b then drop 1 tasks else tasks) ≡ left_by b tasks
+        same_left true tasks = refl
+        same_left false tasks = refl
 
-        same_left : (b : Bool) (queue : List Task) → (if true && not b then drop 1 queue else queue) ≡ left_by b queue
-        same_left true queue = refl
-        same_left false queue = refl
+    -- a session begins where nothing waits
+    begin_goes : (n session command : ℕ) → IsFree m.state → m.state.requests.owes ≡ false → queue ≡ [] → AreTold (outs m.state (Begins n session command)) told → Goes taken past told queue []
+    begin_goes n session command free paid empty (rest, is, none_more) = subst (λ (l : List Entry). Goes taken past l queue []) (sym are) (
+      (
+        (λ none. record {
+          queues = inr (stands taken past begun queue none (known none));
+          goes = ap₂ (λ (o : Bool) (w : List (List ℕ)). not o && are_none w) (owes_is begun rest is free ∙ paid) (wants_are begun none ∙ ap (λ (l : List Task). map want_of_task l) empty);
+        }),
+        tt,
+      ),
+      λ none.
+          let before = none_before past (begun ∷ []) none in
+          record {
+            waits = subst (λ (q : Queue). Waits q queue []) (sym (one_entry taken past begun refl before)) (known before).waits;
+            answered = no_line (heeds_alone taken) past begun refl;
+          },
+    )
+      where
+        begun : Entry
+        begun = entry.Begin n session command
 
-    begin_goes : (event : HostEvent) → (after m.state event).requests.queue ≡ m.state.requests.queue → AllByRecursion IsNote (outs m.state event) → flat_map dropped_at (outs m.state event) ≡ []
-        → AreTold (outs m.state event) told → Goes taken past told (after m.state event).requests.queue []
-    begin_goes event queue notes drops is =
-        subst (λ (q : List Task). Goes taken past told q []) (sym queue)
-        (leave_goes taken past told m.state.requests.queue (all_leave told (event_quiet m.state event told notes is) (full_told (outs m.state event) told is ∙ drops)) known)
+        are : told ≡ begun ∷ []
+        are = is ∙ ap (λ (l : List Entry). begun ∷ l) none_more
+
+    unkept_goes : (n : ℕ) → AreTold (outs m.state (Begin_unkept n)) told → Goes taken past told queue []
+    unkept_goes n is =
+        leave_goes taken past told queue
+        (all_leave told (event_quiet m.state (Begin_unkept n) told (tt, tt) is) (told_undropped (outs m.state (Begin_unkept n)) told (tt, tt) is)) known
 
     submit_goes : (event : HostEvent) → IsSubmission event → IsNext m.state event → MayAll m.state (event ∷ []) → AreTold (outs m.state event) told → Goes taken past told (after m.state event).requests.queue []
     submit_goes event sub next may is = by event sub next may is (event_is_read brings m.state event ground.0.0.0.0.0.facts.host may.0 ground.1.0)
       where
         by : (event : HostEvent) → IsSubmission event → IsNext m.state event → MayAll m.state (event ∷ []) → AreTold (outs m.state event) told → IsRead m.state event
             → Goes taken past told (after m.state event).requests.queue []
-        by Submits_abort sub next may is read = request_goes Submits_abort Abort next refl read refl is
+        by Submits_abort sub next may is read = request_goes Submits_abort Abort next refl read refl (abort_turn may.0.1 read) is
         by Submits_front sub next may is read =
-            request_goes Submits_front (task_purpose m.state.requests.queue) next refl read (front_left m.state.requests m.state.requests.queue id refl) is
+            request_goes Submits_front (task_purpose m.state.requests.queue) next refl read (front_left m.state.requests m.state.requests.queue id refl)
+            (front_turn may.0.1 may.0.2 read) is
         by (Starts n plan more payload) sub next may is read =
-            request_goes (Starts n plan more payload) (Attempt n more payload) next refl read (empty_left m.state.requests.queue may.0.0.no_task) is
-        by (Gives_text n payload) sub next may is read = request_goes (Gives_text n payload) (Attempt n false payload) next refl read (empty_left m.state.requests.queue may.0.0.no_task) is
+            request_goes (Starts n plan more payload) (Attempt n more payload) next refl read (empty_left m.state.requests.queue may.0.0.no_task)
+            (attempt_turn n more payload may.0.0.paid may.0.0.no_task read) is
+        by (Gives_text n payload) sub next may is read =
+            request_goes (Gives_text n payload) (Attempt n false payload) next refl read (empty_left m.state.requests.queue may.0.0.no_task)
+            (attempt_turn n false payload may.0.0.paid may.0.0.no_task read) is
         by (Gives_segment n more payload) sub next may is read =
-            request_goes (Gives_segment n more payload) (Attempt n more payload) next refl read (empty_left m.state.requests.queue may.0.0.no_task) is
-        by (Begins n session command) sub next may is read = begin_goes (Begins n session command) refl (tt, tt) refl is
-        by (Begin_unkept n) sub next may is read = begin_goes (Begin_unkept n) refl (tt, tt) refl is
+            request_goes (Gives_segment n more payload) (Attempt n more payload) next refl read (empty_left m.state.requests.queue may.0.0.no_task)
+            (attempt_turn n more payload may.0.0.paid may.0.0.no_task read) is
+        by (Begins n session command) sub next may is read = begin_goes n session command next.0 may.0.0.paid may.0.0.no_task is
+        by (Begin_unkept n) sub next may is read = unkept_goes n is
         by event sub next may is read = absurd sub
 
   does : PayloadsBring → (here next : Phase) (past : List Entry) (m : HostMachine) (event : HostEvent) (told : List Entry) → May here m (Does event told) next → Grounds here past m → Know here past m
@@ -502,7 +590,7 @@ module _ (taken : List Entry → Carried → List Told) where
       let goes = never past told (after m.state event).requests.queue [] (λ none. none_wants past m.state node none grounds.awake wants) in
       (goes.0, known_to next Sleeping (past ++ told) (done m event) next_is goes.1)
   does brings Submitting next past m event told may grounds known =
-      let goes = submit_goes brings past told m grounds.asks.0 grounds.asks.1 known event (next_is IsSubmission submissions m.state event may.0.0) may.0.0 may.1 may.2 in
+      let goes = submit_goes brings past told m may.3 grounds.asks.0 grounds.asks.1 known event (next_is IsSubmission submissions m.state event may.0.0) may.0.0 may.1 may.2 in
       (goes.0, known_to next Submitting (past ++ told) (done m event) may.0.1 goes.1)
   does brings (Ticking []) next past m event told may grounds known = absurd may.0
   does brings (Behind []) next past m event told may grounds known = absurd may.0

@@ -24,6 +24,7 @@ use Rattle.host_model.specs.declared.out.HostOut.TheVariants.{Note}
 use Rattle.proof_requests.specs.law_host.Heard.{is_refusal_of_others, listing_heard}
 use Rattle.proof_requests.specs.proof_alone.Phases.{Asked, Behind}
 use Rattle.proof_requests.specs.proof_alone.Runs.{Knowledge}
+use Rattle.proof_queue.specs.Turn.{may_go}
 
 -- ---- a host
 
@@ -76,6 +77,10 @@ KnowsWaiting heeds here past m = NoneWoken past → WaitsSo heeds past m.state.r
 
 -- ---- the law
 
--- where no node has woken an entry may stand where it does, unless it refuses a line that is for others
+-- where no node has woken an entry may stand where it does, by what waits, unless it refuses a line that is for others; and requests go by it
+pub record Fits (heeds : Heeds) (past : List Entry) (e : Entry) : Type 0 where
+  pub queues : (is_refusal_of_others (line_last past) e ≡ true) ⊎ (may_queue heeds past e ≡ true)
+  pub goes : may_go heeds past e ≡ true
+
 abbrev pub FitsAlone : Heeds → List Entry → Entry → Type 0
-FitsAlone heeds past e = NoneWoken past → (is_refusal_of_others (line_last past) e ≡ true) ⊎ (may_queue heeds past e ≡ true)
+FitsAlone heeds past e = NoneWoken past → Fits heeds past e

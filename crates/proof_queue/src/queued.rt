@@ -13,6 +13,7 @@ ghost use Rattle.proof_requests.specs.proof_alone.Runs.{Run};
 ghost use Rattle.proof_known.specs.Known.{AreForHost};
 ghost use Rattle.proof_queue.specs.Waiting.{KnowsWaiting, NoneWoken};
 ghost use Rattle.proof_queue.specs.Heeding.{AllSteps, HeedsSo};
+ghost use Rattle.proof_queue.specs.Turn.{GoesByQueue};
 
 use host_model::attempts_have_what_they_give;
 use proof_attempts::hosts_count_awake;
@@ -21,7 +22,8 @@ use proof_requests::hosts_ask_as_told;
 
 /// In any run of a host alone, also where it starts again, over a keeper that tells its records and has none at first, by messages that are heeded as the host
 /// took them: as long as no node has woken what waits by the transcript is what waits in the host. So where no line is refused that is for others, a line is
-/// refused for places exactly where it asks for more than are free, and a message to a node is dropped, which is said, exactly where 64 wait.
+/// refused for places exactly where it asks for more than are free, and a message to a node is dropped, which is said, exactly where 64 wait. And requests go
+/// by the queue: an abort just where one is owed, then what has waited longest, and a session has its turn, or begins, only where nothing waits.
 pub fn hosts_queue_as_told()
     ensures known { (keys : Keys) (taken : List Entry → Carried → List Told) (here : Phase) (told : List Entry) (m : HostMachine) →
         (run : Run (first_alone keys (Some [])) here told m) → AllSteps (HeedsSo (heeds_alone taken)) run →
@@ -29,6 +31,9 @@ pub fn hosts_queue_as_told()
     ensures fits { (keys : Keys) (taken : List Entry → Carried → List Told) (here : Phase) (told : List Entry) (m : HostMachine) →
         (run : Run (first_alone keys (Some [])) here told m) → AllSteps (HeedsSo (heeds_alone taken)) run → NoneWoken told → AreForHost told →
         FitsQueue (heeds_alone taken) told }
+    ensures goes { (keys : Keys) (taken : List Entry → Carried → List Told) (here : Phase) (told : List Entry) (m : HostMachine) →
+        (run : Run (first_alone keys (Some [])) here told m) → AllSteps (HeedsSo (heeds_alone taken)) run → NoneWoken told →
+        GoesByQueue (heeds_alone taken) told }
 {
     attempts_have_what_they_give();
     hosts_ask_as_told();

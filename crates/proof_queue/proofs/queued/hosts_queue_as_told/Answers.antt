@@ -13,7 +13,7 @@ use Rattle.proof_requests.proofs.Running.{run_keeps}
 use Rattle.proof_attempts.specs.Since.{KnowsSince}
 use Rattle.proof_attempts.specs.Waking.{CountsAwake}
 use Rattle.proof_queue.proofs.Walking.{Grounds}
-use Rattle.proof_queue.proofs.Along.{all_fit, along, first_waiting}
+use Rattle.proof_queue.proofs.Along.{all_fit, all_go, along, first_waiting}
 use Rattle.proof_queue.proofs.queued.hosts_queue_as_told.Goals as goal
 
 module _ (c : goal.After-hosts_count_awake) where
@@ -33,3 +33,7 @@ returns-clause-known c = λ keys taken here told m run sure. (along taken (bring
 pub returns-clause-fits : goal.returns-clause-fits
 returns-clause-fits c = λ keys taken here told m run sure none for_host.
     all_fit taken [] told (along taken (brings c) (first_alone keys (Some [])) (grounds c keys) (first_waiting taken keys) run sure).0 for_host none
+
+pub returns-clause-goes : goal.returns-clause-goes
+returns-clause-goes c = λ keys taken here told m run sure none.
+    all_go taken [] told (along taken (brings c) (first_alone keys (Some [])) (grounds c keys) (first_waiting taken keys) run sure).0 none
