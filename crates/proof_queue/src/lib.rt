@@ -12,7 +12,9 @@
 #![tactic(auto)]
 
 mod fits;
+mod going;
 mod queued;
 
 pub use fits::{hosts_fit_their_queue, hosts_go_by_messages};
+pub use going::{rejected_going, worked_going};
 pub use queued::hosts_queue_as_told;
