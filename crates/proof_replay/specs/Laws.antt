@@ -5,6 +5,7 @@ use Rattle.zw_text.specs.declared.line.ReplayLine.{ReplayLine}
 use Rattle.zw_text.specs.declared.entry.Entry.{Entry}
 use Rattle.s0_crypto.specs.declared.key_pair.Keys.{Keys}
 use Rattle.host_core.specs.Network.{keys_of}
+use Rattle.host_heard.specs.declared.told.Told.{Told}
 use Rattle.host_keep.specs.Keeping.{OptAdds}
 use Rattle.law_transcript.specs.Answers.{AnswersAfter, MayCancel, refusals_by_host}
 use Rattle.law_transcript.specs.Lists.{EachAfter}
@@ -13,8 +14,10 @@ use Rattle.law_transcript.specs.Payloads.{BeginsWithUnit, MayRequest, SendsWhatI
 use Rattle.law_transcript.specs.Records.{KeepsRecords}
 use Rattle.law_transcript.specs.Sessions.{MayBegin}
 use Rattle.law_transcript.specs.Stores.{StoresConfirmed}
-use Rattle.proof_asking.specs.proof_requests.law_host.Heard.{listing_heard}
+use Rattle.proof_asking.specs.proof_requests.law_host.Heard.{heeds_alone, listing_heard}
 use Rattle.proof_asking.specs.proof_requests.law_host.HostLegal.{ShowsValues}
+use Rattle.law_transcript.specs.Units.{Carried}
+use Rattle.law_time.specs.Queue.{FitsQueue}
 use Rattle.law_time.specs.Choice.{NumbersCallbacks, SendsOneByOne}
 use Rattle.law_time.specs.Errands.{SaysHowDone}
 use Rattle.law_wire.specs.Links.{KeepsLink}
@@ -34,7 +37,13 @@ use Rattle.proof_asking.specs.proof_known.Known.{AreForHost, KeepsWhatIsSaid}
 use Rattle.proof_asking.specs.proof_known.Noted.{NotesWhatOpens, NotesWhatWasTold}
 use Rattle.proof_notes.specs.Full.{NotesInFull}
 use Rattle.proof_notes.specs.Unkept.{UnkeptWhereAsked}
+use Rattle.proof_queue.specs.Turn.{GoesByQueue}
+use Rattle.proof_queue.specs.Waiting.{NoneWoken}
 use Rattle.proof_replay.specs.Heard.{AreReplayed, AreSaid, Replayed, heard_of, told_of}
+
+-- By some messages of each payload, those that the host took up, 64 requests wait where it is said, and each request that is new goes by what waits.
+abbrev pub QueuesByMessages : List Entry → Type 0
+QueuesByMessages heard = (taken : List Entry → Carried → List Told) × FitsQueue (heeds_alone taken) heard × GoesByQueue (heeds_alone taken) heard
 
 -- One field a law. Orders, sessions and outcomes keep their laws.
 -- Each line has its answer; what is taken back, carried, stored and shown is so, and the records, where they are told, say what is shown.
@@ -47,6 +56,7 @@ use Rattle.proof_replay.specs.Heard.{AreReplayed, AreSaid, Replayed, heard_of, t
 -- An interview is said to have succeeded or failed where its request ended so, and wherever a frame ended it; and so it is said how a Set or Get that a line asked for ended.
 -- A request that is new is sent, and a session begins, only where the last request is over; and each message has the callback id after that of the last one.
 -- Directly after a session that begins stands the unit that asks to send to its node.
+-- As long as no node has woken, its queue of requests is full just where it is said, and requests go by it.
 -- The number of a tick is above those before it, and lines have asked for so many ticks.
 -- Each payload that it asks its chip to send is a message of the last session of its node, by what the node listed, a nonce or a question for one, lets the node sleep, or was
 -- asked for by a line; where its keys are those of a network key, by what nodes told openly or sealed with that key.
@@ -67,6 +77,7 @@ pub record HostsKeepLaws (keys : Keys) (whole : Bool) (heard : List Entry) (reco
   pub one_by_one : SendsOneByOne heard
   pub numbered : NumbersCallbacks heard
   pub begins : BeginsWithUnit (ended whole heard)
+  pub queues : NoneWoken heard → QueuesByMessages heard
   pub ticks : EachAfter MayCount [] heard
   pub sends : (key : List ℕ) → keys ≡ keys_of key → SendsWhatIsDue listing_heard key heard
   pub link : KeepsLink Host (ended whole heard)

@@ -28,6 +28,7 @@ use proof_asking::requests::{hosts_answer_questions, hosts_end_interviews};
 use proof_asking::{hosts_ask_one_by_one, hosts_say_how_done, hosts_send_what_is_due};
 use proof_attempts::{hosts_fall_asleep_as_told, hosts_hold_as_asked};
 use proof_notes::{hosts_note_in_full, hosts_say_what_is_not_kept};
+use proof_queue::hosts_fit_their_queue;
 
 /// Of any lines that are run whole, over any bytes and any keeper, what the host of `replay` heard is told by a run of a host alone that began without
 /// records and ends at rest. No line reads the records, so those of that run are added to what the keeper had.
@@ -60,6 +61,7 @@ pub fn hosts_keep_laws()
     hosts_end_interviews();
     hosts_say_how_done();
     hosts_ask_one_by_one();
+    hosts_fit_their_queue();
 }
 
 /// So the host of `replay` keeps them over what it heard of any texts that were run whole, each of which is read as its line by its words too, whatever its

@@ -1,0 +1,15 @@
+mod Books
+mod Leaving
+mod Undropped
+mod Refused
+mod Asking
+mod Stills
+mod Sleepers
+mod Walking
+mod Along
+mod Puts
+mod Segments
+mod Kept
+mod Messages
+mod Payloads
+mod Choosing

@@ -1,0 +1,3 @@
+pub mod Waiting
+pub mod Heeding
+pub mod Turn

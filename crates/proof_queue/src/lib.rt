@@ -1,0 +1,20 @@
+//! The queue of requests of a host alone, by its transcript.
+//!
+//! Lines and nodes ask a host for what it is to ask its chip, 64 may wait, and `law_time` says by the transcript what does (`Queue`). Along each run of a
+//! host alone (`proof_alone`), by messages of each payload that the host took up (`hosts_go_by_messages`), that is what waits in the host, in the same order,
+//! as long as no node has woken: there is no No More Information then (`hosts_queue_as_told`). So lines are refused for places, and messages dropped, just
+//! where 64 wait, and requests go by the queue (`hosts_fit_their_queue`).
+//! The definitions are in `specs/`: `Waiting` (what waits, at each phase), `Heeding` (by which messages the host goes) and `Turn` (that requests go by it).
+//! `proofs/Books` has what waits after more entries, `Leaving` the entries that leave it and the host's notes, `Refused` and `Asking` lines, `Undropped` and
+//! `Stills` events that leave what waits, `Sleepers` nodes that have not woken, `Walking` the walk and `Along` what it makes of a run. `Puts` has messages
+//! that are put into the queue, `Segments` the segment that is asked for again, `Kept` what follows a payload, `Messages` and `Payloads` what a node wants by
+//! it, and `Choosing` what is chosen along a run.
+#![tactic(auto)]
+
+mod fits;
+mod going;
+mod queued;
+
+pub use fits::{hosts_fit_their_queue, hosts_go_by_messages};
+pub use going::{rejected_going, worked_going};
+pub use queued::hosts_queue_as_told;

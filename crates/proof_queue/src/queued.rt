@@ -1,0 +1,42 @@
+//! What waits to be asked of the chip of a host alone.
+
+ghost use Rattle.std.specs.Prelude.{Some, List, []};
+ghost use Rattle.s0_crypto.specs.declared.key_pair.Keys.{Keys};
+ghost use Rattle.zw_text.specs.declared.entry.Entry.{Entry};
+ghost use Rattle.host_heard.specs.declared.told.Told.{Told};
+ghost use Rattle.law_transcript.specs.Units.{Carried};
+ghost use Rattle.law_time.specs.Queue.{FitsQueue};
+ghost use Rattle.proof_requests.specs.law_host.Heard.{heeds_alone};
+ghost use Rattle.proof_requests.specs.proof_alone.State.{HostMachine, first_alone};
+ghost use Rattle.proof_requests.specs.proof_alone.Phases.{Phase};
+ghost use Rattle.proof_requests.specs.proof_alone.Runs.{Run};
+ghost use Rattle.proof_known.specs.Known.{AreForHost};
+ghost use Rattle.proof_queue.specs.Waiting.{KnowsWaiting, NoneWoken};
+ghost use Rattle.proof_queue.specs.Heeding.{AllSteps, HeedsSo};
+ghost use Rattle.proof_queue.specs.Turn.{GoesByQueue};
+
+use host_model::attempts_have_what_they_give;
+use proof_attempts::hosts_count_awake;
+use proof_known::hosts_know_what_nodes_list;
+use proof_requests::hosts_ask_as_told;
+
+/// In any run of a host alone, also where it starts again, over a keeper that tells its records and has none at first, by messages that are heeded as the host
+/// took them: as long as no node has woken what waits by the transcript is what waits in the host. So where no line is refused that is for others, a line is
+/// refused for places exactly where it asks for more than are free, and a message to a node is dropped, which is said, exactly where 64 wait. And requests go
+/// by the queue: an abort just where one is owed, then what has waited longest, and a session has its turn, or begins, only where nothing waits.
+pub fn hosts_queue_as_told()
+    ensures known { (keys : Keys) (taken : List Entry → Carried → List Told) (here : Phase) (told : List Entry) (m : HostMachine) →
+        (run : Run (first_alone keys (Some [])) here told m) → AllSteps (HeedsSo (heeds_alone taken)) run →
+        KnowsWaiting (heeds_alone taken) here told m }
+    ensures fits { (keys : Keys) (taken : List Entry → Carried → List Told) (here : Phase) (told : List Entry) (m : HostMachine) →
+        (run : Run (first_alone keys (Some [])) here told m) → AllSteps (HeedsSo (heeds_alone taken)) run → NoneWoken told → AreForHost told →
+        FitsQueue (heeds_alone taken) told }
+    ensures goes { (keys : Keys) (taken : List Entry → Carried → List Told) (here : Phase) (told : List Entry) (m : HostMachine) →
+        (run : Run (first_alone keys (Some [])) here told m) → AllSteps (HeedsSo (heeds_alone taken)) run → NoneWoken told →
+        GoesByQueue (heeds_alone taken) told }
+{
+    attempts_have_what_they_give();
+    hosts_ask_as_told();
+    hosts_know_what_nodes_list();
+    hosts_count_awake();
+}
