@@ -44,7 +44,6 @@ use Rattle.mesh_sim.specs.declared.fate.Fate.{Fate}
 use Rattle.mesh_sim.specs.declared.fate.Fate.TheVariants.{Lost, Dead, Missed, AtChip, AtDevice}
 use Rattle.outside_model.specs.declared.waits.Call.{Call}
 use Rattle.outside_model.specs.declared.waits.Call.TheVariants.{OfFrame, NoRoute as no_route_call}
-use Rattle.outside_model.specs.declared.waits.Due.{Due}
 use Rattle.outside_model.specs.State.{OuterState, Outside, Outcome, each, silent}
 use Rattle.outside_model.specs.Air.{deals, to_chip}
 use Rattle.outside_model.specs.Chip.{chip_does, chip_takes}
@@ -79,7 +78,7 @@ use Rattle.proof_calm.proofs.Submitting.{written}
 use Rattle.proof_calm.proofs.Unmarked.{nothing_asked}
 use Rattle.proof_answered.specs.Few.{IsStretched, KnowFew, Knows}
 use Rattle.proof_answered.specs.Heard.{AllSayHeard, IsHeardThen, KnowHeard, SaysHeard}
-use Rattle.proof_answered.proofs.Walking.{stretched_before}
+use Rattle.proof_answered.proofs.Walking.{none_given, stretched_before}
 
 -- ---- frames
 
@@ -428,11 +427,6 @@ module _ (air : Airs) where
 
   heard_is : (m : Machine) (event is : Event) → event ≡ is → IsHeardThen m event → IsHeardThen m is
   heard_is m event is same heard = subst (IsHeardThen m) same heard
-
-  none_given : (m : Machine) (results : ℕ) → IsRouted m.outside.outer → length m.outside.outer.due ≡ suc results → ⊥
-  none_given m results routed many =
-      let none = ap (λ (due : List Due). length due) routed.none_due in
-      absurd (let no : 0 ≡ suc results = sym none ∙ many in omega (arith, no))
 
   event_heard : (here next : Phase) (m : Machine) (event : Event) → Goes here m event next → May m event → IsHeardThen m event → At here m → AwaitsAt here m → AllSayHeard (unheard m.outside.outer) → Leads next m event
   event_heard (Said_line line) next m event (is, to) may heard at awaits all = as_is next (Begun line) m event (Outside_does Begins_line) is to (λ later tie. line_heard m all)

@@ -409,6 +409,14 @@ takes_few most m count rest ways few =
       work = subst (WorkApart 4) (sym taken.1) few.work;
     }
 
+-- ---- results
+
+-- none is due
+pub none_given : (m : Machine) (results : ℕ) → IsRouted m.outside.outer → length m.outside.outer.due ≡ suc results → ⊥
+none_given m results routed many =
+    let none = ap (λ (due : List Due). length due) routed.none_due in
+    absurd (let no : 0 ≡ suc results = sym none ∙ many in omega (arith, no))
+
 -- ---- from phase to phase
 
 -- what is known of the request there, and the calls
@@ -425,11 +433,6 @@ module _ (airs : Airs) (worked : Worked) (woken : ℕ) where
 
   may_is : (m : Machine) (event is : Event) → event ≡ is → May m event → May m is
   may_is m event is same may = subst (May m) same may
-
-  none_given : (m : Machine) (results : ℕ) → IsRouted m.outside.outer → length m.outside.outer.due ≡ suc results → ⊥
-  none_given m results routed many =
-      let none = ap (λ (due : List Due). length due) routed.none_due in
-      absurd (let no : 0 ≡ suc results = sym none ∙ many in omega (arith, no))
 
   event_few : (here next : Phase) (m : Machine) (event : Event) → Goes here m event next → May m event → Ground here m → FewAt woken here m → Leads next m event
   event_few (Said_line line) next m event (is, to) may ground few = as_is next (Begun line) m event (Outside_does Begins_line) is to (λ later. begins_few (length (woken_by line)) (3 + woken) m few)

@@ -19,7 +19,8 @@ use proof_waking::traffic::frames_fly_in_order;
 /// While at most 16 of the quiet lines wake a device, few frames are on the air: those that calls are to come for, three of devices, and one of each that
 /// was woken. So it is at each phase, from each machine where no device is at work, and few frames are on the air. The request of the host stays tied then.
 pub fn few_frames_fly()
-    ensures first { (keys : Keys) (records : Option (List (List ℕ))) (devices : List State) → AreIdle devices → AreFew 0 3 (first_machine keys records devices) }
+    ensures first { (keys : Keys) (records : Option (List (List ℕ))) (devices : List State) → AreIdle devices →
+        AreFew 0 3 (first_machine keys records devices) }
     ensures walk { Walk AsksNothing KnowFew }
     ensures lines { (m : Machine) (lines : List Spoken) → AreDone m lines → AreWhole m lines → IsStretched (transcript_of m lines) → IsTied m → AreFew 0 3 m →
         IsTied (after_all m lines) × AreFew 0 (3 + woken_in (transcript_of m lines)) (after_all m lines) }
