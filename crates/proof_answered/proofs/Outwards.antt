@@ -1,0 +1,437 @@
+-- Where the devices of all joined nodes listen, each frame of the host on the air is for one of these, at each phase of quiet lines and ticks.
+use Rattle.std.proofs.Common.{◌≡◌, ◌≤◌, ◌<◌, ℕ, zero, suc, ◌+◌, ◌-◌, ◌&&◌, Bool, true, false, nat_lt, if◌then◌else◌, List, [], ◌∷◌, ◌++◌, length, refl, sym, ap, ◌∙◌, subst, append_assoc, arith}
+use Rattle.std.proofs.lemmas.List.{append-nil}
+use Rattle.std.specs.Prelude.{◌||◌, Option, Some, None, option_map, slice_get}
+use Rattle.std.specs.Option.{is_none, unwrap_or}
+use Rattle.std.specs.List.{AllByRecursion}
+use Rattle.zw_base.proofs.Each.{all-append, all-get, all-weaker}
+use Rattle.zw_text.specs.declared.entry.Entry.{Entry}
+use Rattle.zw_text.specs.declared.entry.Entry.TheVariants as entry
+use Rattle.serial_frame.specs.Frame.{FrameParts}
+use Rattle.serial_frame.specs.Stream.{Rest}
+use Rattle.serial_frame.specs.declared.item.Item.{Item}
+use Rattle.serial_frame.specs.declared.item.Item.TheVariants.{Good, Refused}
+use Rattle.serial_frame.specs.declared.item.Refusal.TheVariants.{Aborted, BadKind, BadLength, BadSum, Stray}
+use Rattle.serial_frame.specs.declared.unit.Unit.TheVariants.{Ack, Can, Framed, Nak}
+use Rattle.route_table.specs.Network.{Network}
+use Rattle.route_table.specs.declared.route.Route.{Route}
+use Rattle.chip_functions.specs.declared.request.Request.{Request}
+use Rattle.chip_functions.specs.declared.request.Request.TheVariants.{AddNode, GetCapabilities, GetInitData, GetNodeProtocolInfo, GetRoutingInfo, GetVersion, IsFailedNode, MemoryGetId, RequestNodeInfo, SendData, SendDataAbort}
+use Rattle.chip_sim.specs.Answers.{is_idle, takes}
+use Rattle.chip_sim.specs.Did.{judged_all}
+use Rattle.chip_sim.specs.Events.{ChipEvent, Judged, after, collides, outs}
+use Rattle.chip_sim.specs.Nodes.{is_marked}
+use Rattle.chip_sim.specs.Requests.{answer_outs, asked, given_outs, heard, judged_outs, passed, performed_outs, reply_to, requested_outs, sent}
+use Rattle.chip_sim.specs.State.{ChipState}
+use Rattle.chip_sim.specs.Waiting.{next_at}
+use Rattle.chip_sim.specs.declared.out.ChipOut.{ChipOut}
+use Rattle.chip_sim.specs.declared.out.ChipOut.TheVariants.{Write, OnAir, NoRoute, AskInfo, Full}
+use Rattle.air_frames.specs.Flown.{Flown}
+use Rattle.air_frames.specs.Frames.{FramesState, next_of}
+use Rattle.air_frames.specs.History.{Mark, Goes as goes_mark}
+use Rattle.air_frames.specs.declared.frame.Departure.{Departure}
+use Rattle.air_frames.specs.declared.frame.Heading.{Heading}
+use Rattle.air_frames.specs.declared.frame.Heading.TheVariants.{Outward, Homeward}
+use Rattle.device_sim.specs.Event.{DeviceEvent, Ticks, Wakes, device_replies}
+use Rattle.device_sim.specs.State.{State}
+use Rattle.mesh_sim.specs.Air.{AirState, is_joined, no_route}
+use Rattle.mesh_sim.specs.Fates.{place_of}
+use Rattle.mesh_sim.specs.Routes.{backwards}
+use Rattle.mesh_sim.specs.Steps.{MayArriveIf, MayHappen}
+use Rattle.outside_model.specs.Chip.{chip_does, put_out}
+use Rattle.outside_model.specs.Devices.{acts_at, acts_by_hand}
+use Rattle.outside_model.specs.State.{OuterState, Outside, Outcome, each, with_chip}
+use Rattle.outside_model.specs.Events.{OuterEvent, Begins_line, Begins_tick, Host_writes, Host_takes, Host_notes, Host_begins, Arrives, Gives, Device_ticks, Chip_ticks, Chip_takes, Wakes_device, Shows, Cuts, has_entered, mesh_of, outcome, happens as happens_outside, May as MayOutside}
+use Rattle.world_model.specs.Events.{Event, Outside_does, Host_does, Host_takes as Host_takes_all, Decoder_ticks, Refuses as refuses_line, Restarts, Shows_values, happens, entries, May}
+use Rattle.world_model.specs.State.{Machine}
+use Rattle.proof_device.specs.GoingOn.{AreSame, GoOn}
+use Rattle.proof_work.specs.Phases.{AsksNothing}
+use Rattle.proof_work.specs.proof_walk.Outside.{CoversOuter}
+use Rattle.proof_work.specs.proof_walk.Phases.{Phase, Between, Said_line, Begun, Doing, To_tick, Ticked, Arriving, Giving, Ticking_devices, Ticking_chip, Ticking_decoder, Ticking_host, Sleeping, Submitting, Moving, Moved, Goes}
+use Rattle.proof_work.specs.proof_walk.Walk.{Walk, WalkWhere}
+use Rattle.proof_work.proofs.Times.{does_chip}
+use Rattle.proof_traffic.specs.Flights.{Fly, flown_now}
+use Rattle.proof_traffic.specs.OnAir.{fed_chip, on_air}
+use Rattle.proof_traffic.specs.OutsideTraffic.{one_outward, outward}
+use Rattle.proof_traffic.proofs.ArrivedFrames.{arrives_home}
+use Rattle.proof_traffic.proofs.Arrivals.{Homes, answered_if_homes}
+use Rattle.proof_traffic.proofs.Calm.{Calm, does_calm, takes_calm, enters_calm}
+use Rattle.proof_traffic.proofs.ChipNotices.{AreSaid, IsSaid, entered_leaves, given_first, queued_said, written_said}
+use Rattle.proof_traffic.proofs.Flights.{flights_are}
+use Rattle.proof_traffic.proofs.Parts.{Airs}
+use Rattle.proof_calm.specs.Awaited.{Awaits, AwaitsAt}
+use Rattle.proof_calm.specs.Live.{HasLive, IsLive}
+use Rattle.proof_calm.specs.Marks.{IsQuietEvent}
+use Rattle.proof_calm.specs.Networks.{Members, members}
+use Rattle.proof_calm.specs.Resting.{IsEffect, LineAt}
+use Rattle.proof_calm.specs.Tied.{unheard}
+use Rattle.proof_calm.proofs.Links.{event_members}
+use Rattle.proof_calm.proofs.Routed.{judged_of}
+use Rattle.proof_calm.proofs.Unmarked.{nothing_asked}
+use Rattle.proof_answered.specs.Few.{IsStretched, Knows}
+use Rattle.proof_answered.specs.Heard.{AllSayHeard, IsHeardThen, KnowHeard}
+use Rattle.proof_answered.specs.Outward.{AllListen, IsFor, KnowListening}
+use Rattle.proof_answered.proofs.Flying.{chip_counts}
+use Rattle.proof_answered.proofs.Listeners.{all_stay, listener_hears}
+use Rattle.proof_answered.proofs.Walking.{stretched_before}
+
+-- ---- frames of devices
+
+none_later : (heading : Heading) (n : ℕ) → one_outward heading + n ≡ 0 → n ≡ 0
+none_later heading n none = omega (arith, none)
+
+is_home : (these : List Bool) (frame : Flown) (n : ℕ) (heading : Heading) → frame.heading ≡ heading → one_outward heading + n ≡ 0 → IsFor these frame
+is_home these frame n Homeward is none = λ out. absurd (let no : Homeward ≡ Outward = sym is ∙ out in cc)
+is_home these frame n Outward is none = absurd (let no : 1 + n ≡ 0 = none in omega (arith, no))
+
+home_for : (these : List Bool) (frames : List Flown) → outward frames ≡ 0 → AllByRecursion (IsFor these) frames
+home_for these [] none = tt
+home_for these (frame ∷ frames) none = (is_home these frame (outward frames) frame.heading refl none, home_for these frames (none_later frame.heading (outward frames) none))
+
+-- ---- what the chip puts on the air is for joined nodes
+
+-- a frame there is for a node of these
+abbrev GoesTo : List Bool → ChipOut → Type 0
+GoesTo these (OnAir to route payload) = is_marked these to ≡ true
+GoesTo these out = Unit {0}
+
+abbrev AllGoTo : List Bool → List ChipOut → Type 0
+AllGoTo these puts = AllByRecursion (GoesTo these) puts
+
+said_to : (these : List Bool) (out : ChipOut) → IsSaid out → GoesTo these out
+said_to these (Write unit) said = tt
+said_to these (OnAir to route payload) said = absurd said
+said_to these NoRoute said = tt
+said_to these (AskInfo node) said = tt
+said_to these Full said = tt
+
+all_said_to : (these : List Bool) (puts : List ChipOut) → AreSaid puts → AllGoTo these puts
+all_said_to these puts said = all-weaker IsSaid (GoesTo these) (said_to these) puts said
+
+answer_to : (these : List Bool) (c : Bool) (item : Item) → AllGoTo these (answer_outs c item)
+answer_to these c (Good Ack) = tt
+answer_to these c (Good Nak) = tt
+answer_to these c (Good Can) = tt
+answer_to these true (Good (Framed f)) = (tt, tt)
+answer_to these false (Good (Framed f)) = (tt, tt)
+answer_to these c (Refused (Stray x)) = tt
+answer_to these c (Refused (BadLength n)) = tt
+answer_to these c (Refused (BadSum want got)) = (tt, tt)
+answer_to these c (Refused (BadKind x)) = (tt, tt)
+answer_to these c (Refused Aborted) = tt
+
+takes_marked : (idle joined few : Bool) → (idle && (joined && few)) ≡ true → joined ≡ true
+takes_marked true true few is = refl
+takes_marked true false few is = absurd cc
+takes_marked false joined few is = absurd cc
+
+module _ (s : ChipState) where
+  given_to : (reply : Option FrameParts) → AllGoTo s.joined (given_outs s reply)
+  given_to None = tt
+  given_to (Some f) = all_said_to s.joined _ (queued_said s.port f)
+
+  data_to : (b : Bool) (n : ℕ) (payload : List ℕ) (way : Option Route) → (b ≡ true → is_marked s.joined n ≡ true) → AllGoTo s.joined (if b then sent n payload way else [])
+  data_to true n payload None marked = (tt, tt)
+  data_to true n payload (Some route) marked = (marked refl, tt)
+  data_to false n payload way marked = tt
+
+  performed_to : (request : Request) (way : Option Route) → AllGoTo s.joined (performed_outs request s way)
+  performed_to (SendData n payload options id) way = data_to (takes s n payload) n payload way (λ taken. takes_marked (is_idle s.sending) (is_marked s.joined n) _ taken)
+  performed_to (RequestNodeInfo n) way = (tt, tt)
+  performed_to GetInitData way = tt
+  performed_to GetCapabilities way = tt
+  performed_to GetVersion way = tt
+  performed_to SendDataAbort way = tt
+  performed_to MemoryGetId way = tt
+  performed_to (GetNodeProtocolInfo n) way = tt
+  performed_to (AddNode mode id) way = tt
+  performed_to (IsFailedNode n) way = tt
+  performed_to (GetRoutingInfo n x y z) way = tt
+
+  requested_to : (request : Option Request) (way : Option Route) → AllGoTo s.joined (requested_outs request s way)
+  requested_to None way = tt
+  requested_to (Some request) way = all-append (GoesTo s.joined) (given_outs s (reply_to s request)) (performed_outs request s way) (given_to (reply_to s request)) (performed_to request way)
+
+  judged_to : (frame : Option FrameParts) (way : Option Route) → AllGoTo s.joined (judged_outs frame s way)
+  judged_to None way = all_said_to s.joined _ (written_said (next_at s.port.side.turn s.port.waiting))
+  judged_to (Some f) way = requested_to (asked f) way
+
+item_to : (s : ChipState) (item : Item) (way : Option Route) → AllGoTo s.joined (outs s (Judged item way))
+item_to s item way =
+    all-append (GoesTo s.joined) (answer_outs (collides s) item) (judged_outs (passed (collides s) item) (heard s item) way) (answer_to s.joined (collides s) item) (judged_to (heard s item) (passed (collides s) item) way)
+
+-- ---- frames more
+
+-- after these, each of them for a node of these
+record Adds (these : List Bool) (log : List Mark) (flights : List Flown) (frames : FramesState) : Type 0 where
+  more : List Mark
+  added : List Flown
+  fly : Fly (log ++ more) (flights ++ added) frames
+  are_for : AllByRecursion (IsFor these) added
+
+adds_none : (these : List Bool) (log : List Mark) (flights : List Flown) (frames : FramesState) → Fly log flights frames → Adds these log flights frames
+adds_none these log flights frames fly = record {
+  more = [];
+  added = [];
+  fly = subst (λ (l : List Mark). Fly l (flights ++ []) frames) (sym (append-nil log)) (subst (λ (fs : List Flown). Fly log fs frames) (sym (append-nil flights)) fly);
+  are_for = tt;
+}
+
+adds_both : (these : List Bool) (log : List Mark) (flights : List Flown) (a b : FramesState) (first : Adds these log flights a) → Adds these (log ++ first.more) (flights ++ first.added) b → Adds these log flights b
+adds_both these log flights a b first later = record {
+  more = first.more ++ later.more;
+  added = first.added ++ later.added;
+  fly = subst (λ (l : List Mark). Fly l (flights ++ (first.added ++ later.added)) b) (append_assoc log first.more later.more)
+      (subst (λ (fs : List Flown). Fly ((log ++ first.more) ++ later.more) fs b) (append_assoc flights first.added later.added) later.fly);
+  are_for = all-append (IsFor these) first.added later.added first.are_for later.are_for;
+}
+
+marked_within : (marks : List Bool) (n : ℕ) → is_marked marks n ≡ true → n < length marks
+marked_within [] n marked = absurd cc
+marked_within (mark ∷ marks) zero marked = omega arith
+marked_within (mark ∷ marks) (suc n) marked = let less = marked_within marks n marked in omega (arith, less)
+
+module _ (airs : Airs) (these : List Bool) (many : length these ≡ 233) where
+  put_adds : (log : List Mark) (flights : List Flown) (o : OuterState) (out : ChipOut) → GoesTo these out → Fly log flights o.air.frames → Adds these log flights (put_out o out).outer.air.frames
+  put_adds log flights o (Write unit) goes fly = adds_none these log flights o.air.frames fly
+  put_adds log flights o (OnAir to route payload) goes fly =
+      let d : Departure = record { node = to; heading = Outward; route = unwrap_or (Some route) no_route; lost = nat_lt 0 o.air.losing || is_none (Some route); payload = payload } in
+      let less = marked_within these to goes in
+      record { more = goes_mark d ∷ []; added = flown_now log d ∷ []; fly = airs.goes log flights o.air.frames d (omega (arith, less, many)) fly; are_for = (λ out. goes, tt) }
+  put_adds log flights o NoRoute goes fly = adds_none these log flights o.air.frames fly
+  put_adds log flights o (AskInfo node) goes fly = adds_none these log flights o.air.frames fly
+  put_adds log flights o Full goes fly = adds_none these log flights o.air.frames fly
+
+  all_add : (log : List Mark) (flights : List Flown) (o : OuterState) (puts : List ChipOut) → AllGoTo these puts → Fly log flights o.air.frames → Adds these log flights (each put_out o puts).outer.air.frames
+  all_add log flights o [] goes fly = adds_none these log flights o.air.frames fly
+  all_add log flights o (out ∷ puts) goes fly =
+      let p : OuterState = (put_out o out).outer in
+      let one = put_adds log flights o out goes.0 fly in
+      adds_both these log flights p.air.frames (each put_out p puts).outer.air.frames one (all_add (log ++ one.more) (flights ++ one.added) p puts goes.1 one.fly)
+
+  does_add : (log : List Mark) (flights : List Flown) (o : OuterState) (event : ChipEvent) → AllGoTo these (outs o.chip.state event) → Fly log flights o.air.frames → Adds these log flights (chip_does o event).outer.air.frames
+  unfolding chip_does
+  does_add log flights o event goes fly = all_add log flights (with_chip o (after o.chip.state event)) (outs o.chip.state event) goes fly
+
+  judges_add : (log : List Mark) (flights : List Flown) (o : OuterState) (ways : List (Item × Option Route)) → o.chip.state.joined ≡ these → Fly log flights o.air.frames
+      → Adds these log flights (each chip_does o (judged_all ways)).outer.air.frames
+  judges_add log flights o [] joined fly = adds_none these log flights o.air.frames fly
+  judges_add log flights o (way ∷ ways) joined fly =
+      let p : OuterState = (chip_does o (Judged way.0 way.1)).outer in
+      let goes : AllGoTo these (outs o.chip.state (Judged way.0 way.1)) = subst (λ (l : List Bool). AllGoTo l (outs o.chip.state (Judged way.0 way.1))) joined (item_to o.chip.state way.0 way.1) in
+      let one = does_add log flights o (Judged way.0 way.1) goes fly in
+      let still : p.chip.state.joined ≡ these =
+      ap (λ (s : ChipState). s.joined) (does_chip o (Judged way.0 way.1)) ∙ ap (λ (of : Network × List Bool). of.1) (judged_of (passed (collides o.chip.state) way.0) (heard o.chip.state way.0)) ∙ joined in
+      adds_both these log flights p.air.frames (each chip_does p (judged_all ways)).outer.air.frames one (judges_add (log ++ one.more) (flights ++ one.added) p ways still one.fly)
+
+-- ---- each event
+
+-- the frame that arrives next is the first of those on the air
+next_flight : (airs : Airs) (log : List Mark) (flights : List Flown) (frames : FramesState) (frame : Flown) → Fly log flights frames → next_of frames ≡ Some frame → (rest : List Flown) × (flights ≡ frame ∷ rest)
+next_flight airs log [] frames frame fly next = by (nat_lt frames.landed frames.sent) refl next
+  where
+    by : (b : Bool) → nat_lt frames.landed frames.sent ≡ b → (if b then slice_get frames.frames (frames.landed - (frames.sent - length frames.frames)) else None) ≡ Some frame → (rest : List Flown) × ([] ≡ frame ∷ rest)
+    by true less found =
+        let none : 0 ≡ frames.sent - frames.landed = airs.count log [] frames fly in
+        let some : frames.landed < frames.sent = grind (arith, less) in
+        absurd (let no : 1 ≤ 0 = omega (arith, none, some) in omega (arith, no))
+    by false less found = absurd cc
+next_flight airs log (flight ∷ rest) frames frame fly next =
+    let both : Some flight ≡ Some frame = sym (airs.next log flight rest frames fly) ∙ next in
+    let same : flight ≡ frame = cc in
+    (rest, ap (λ (f : Flown). f ∷ rest) same)
+
+module _ (these : List Bool) where
+  -- those of a machine
+  abbrev AreFor : OuterState → Type 0
+  AreFor o = AllByRecursion (IsFor these) (on_air o.air.frames)
+
+  same_for : (o p : OuterState) → p.air ≡ o.air → AreFor o → AreFor p
+  same_for o p air all = subst (λ (a : AirState). AllByRecursion (IsFor these) (on_air a.frames)) (sym air) all
+
+  calm_for : (o p : OuterState) → Calm o p → AreFor o → AreFor p
+  calm_for o p calm all = subst (AllByRecursion (IsFor these)) (sym calm.on) all
+
+  homes_for : (log : List Mark) (flights : List Flown) (frames : FramesState) → Homes log flights frames → AllByRecursion (IsFor these) flights → AllByRecursion (IsFor these) (on_air frames)
+  homes_for log flights frames homes all =
+      subst (AllByRecursion (IsFor these)) (flights_are (log ++ homes.more) (flights ++ homes.home) frames homes.fly)
+      (all-append (IsFor these) flights homes.home all (home_for these homes.home homes.none_outward))
+
+  module _ (airs : Airs) (many : length these ≡ 233) (m : Machine) (is : Awaits m) (all : AreFor m.outside.outer) where
+    fly : Fly is.log (on_air m.outside.outer.air.frames) m.outside.outer.air.frames
+    fly = is.follows.fly
+
+    arrives_for : (drawn : List ℕ) (route : Option Route) (frame : Flown) → next_of m.outside.outer.air.frames ≡ Some frame → AreFor (happens_outside m.outside (Arrives drawn route)).outer
+    arrives_for drawn route frame next =
+        let first = next_flight airs is.log (on_air m.outside.outer.air.frames) m.outside.outer.air.frames frame fly next in
+        let there : Fly is.log (frame ∷ first.0) m.outside.outer.air.frames = subst (λ (fs : List Flown). Fly is.log fs m.outside.outer.air.frames) first.1 fly in
+        let homes = arrives_home airs is.log frame first.0 m.outside drawn route there in
+        let v : Outside = happens_outside m.outside (Arrives drawn route) in
+        subst (AllByRecursion (IsFor these)) (flights_are (is.log ++ homes.more) (first.0 ++ homes.home) v.outer.air.frames homes.fly)
+        (all-append (IsFor these) first.0 homes.home (subst (AllByRecursion (IsFor these)) first.1 all).1 (home_for these homes.home homes.none_outward))
+
+    acts_for : (place : ℕ) (found : Option State) (event : DeviceEvent) (route : Option Route) → slice_get m.outside.devices place ≡ found → AreFor (acts_at m.outside.outer found event route).outer
+    acts_for place None event route there = all
+    acts_for place (Some device) event route there =
+        let o : OuterState = m.outside.outer in
+        let within : device.node < 233 = all-get (λ (d : State). d.node < 233) m.outside.devices place device is.nodes there in
+        homes_for is.log (on_air o.air.frames) (acts_at o (Some device) event route).outer.air.frames
+        (answered_if_homes airs.goes is.log (on_air o.air.frames) (is_joined o.air device.node) o.air device.node (option_map backwards route) (device_replies device event) within fly) all
+
+    hand_for : (place : Option ℕ) (event : DeviceEvent) (route : Option Route) → AreFor (acts_by_hand m.outside.outer m.outside.devices place event route).outer
+    hand_for None event route = all
+    hand_for (Some place) event route = acts_for place (slice_get m.outside.devices place) event route refl
+
+    entered_for : (x : Outcome) → AreFor x.outer → (told : List Entry) → AreFor (has_entered x.outer told)
+    entered_for x are told = same_for x.outer (has_entered x.outer told) (entered_leaves x.outer told).air are
+
+    takes_for : (count : ℕ) (rest : Rest) (ways : List (Item × Option Route)) → m.outside.outer.chip.state.joined ≡ these → AreFor (outcome m.outside (Chip_takes count rest ways)).outer
+    unfolding outcome
+    takes_for count rest ways joined =
+        let o : OuterState = m.outside.outer in
+        let p : OuterState = (each chip_does (fed_chip o count rest) (judged_all ways)).outer in
+        let adds = judges_add airs these many is.log (on_air o.air.frames) (fed_chip o count rest) ways joined fly in
+        subst (AllByRecursion (IsFor these)) (flights_are (is.log ++ adds.more) (on_air o.air.frames ++ adds.added) p.air.frames adds.fly)
+        (all-append (IsFor these) (on_air o.air.frames) adds.added all adds.are_for)
+
+    outside_for : (event : OuterEvent) → IsQuietEvent event → May m (Outside_does event) → m.outside.outer.chip.state.joined ≡ these → AreFor (happens_outside m.outside event).outer
+    unfolding outcome May MayOutside MayHappen
+    outside_for Begins_line quiet may joined = all
+    outside_for Begins_tick quiet may joined = all
+    outside_for (Chip_takes count rest ways) quiet may joined = entered_for (outcome m.outside (Chip_takes count rest ways)) (takes_for count rest ways joined) (outcome m.outside (Chip_takes count rest ways)).entries
+    outside_for (Arrives drawn route) quiet may joined = by (next_of m.outside.outer.air.frames) refl may.1.0
+      where
+        by : (frame : Option Flown) → next_of m.outside.outer.air.frames ≡ frame → MayArriveIf (mesh_of m.outside) frame route → AreFor (happens_outside m.outside (Arrives drawn route)).outer
+        by None next may_arrive = absurd may_arrive
+        by (Some frame) next may_arrive = arrives_for drawn route frame next
+    outside_for (Gives route) quiet may joined = same_for m.outside.outer (happens_outside m.outside (Gives route)).outer (given_first m.outside route).air all
+    outside_for (Device_ticks place drawn route) quiet may joined =
+        entered_for (acts_at m.outside.outer (slice_get m.outside.devices place) (Ticks drawn) route) (acts_for place (slice_get m.outside.devices place) (Ticks drawn) route refl)
+        (outcome m.outside (Device_ticks place drawn route)).entries
+    outside_for Chip_ticks quiet may joined = same_for m.outside.outer (happens_outside m.outside Chip_ticks).outer (chip_counts m.outside).0 all
+    outside_for (Wakes_device node route) quiet may joined =
+        entered_for (acts_by_hand m.outside.outer m.outside.devices (place_of node m.outside.devices) Wakes route) (hand_for (place_of node m.outside.devices) Wakes route)
+        (outcome m.outside (Wakes_device node route)).entries
+    outside_for (Shows node) quiet may joined = entered_for (outcome m.outside (Shows node)) all (outcome m.outside (Shows node)).entries
+    outside_for (Cuts size) quiet may joined = all
+    outside_for (Host_writes unit) quiet may joined = absurd (let no : false ≡ true = may.0 in cc)
+    outside_for (Host_takes count) quiet may joined = absurd (let no : false ≡ true = may.0 in cc)
+    outside_for (Host_notes note) quiet may joined = absurd (let no : false ≡ true = may.0 in cc)
+    outside_for (Host_begins node sessions) quiet may joined = absurd (let no : false ≡ true = may.0 in cc)
+    outside_for event quiet may joined = absurd quiet
+
+    event_for : (event : Event) → CoversOuter IsQuietEvent event → May m event → m.outside.outer.chip.state.joined ≡ these → AreFor (happens m event).outside.outer
+    unfolding happens
+    event_for (Outside_does event) covers may joined = outside_for event covers may joined
+    event_for (Host_does event) covers may joined = calm_for m.outside.outer (happens m (Host_does event)).outside.outer (does_calm airs m event) all
+    event_for (Host_takes_all count rest items events) covers may joined =
+        calm_for m.outside.outer (happens m (Host_takes_all count rest items events)).outside.outer (takes_calm airs m count rest items events) all
+    event_for Decoder_ticks covers may joined = all
+    event_for (refuses_line line refusal) covers may joined = calm_for m.outside.outer (happens m (refuses_line line refusal)).outside.outer (enters_calm airs m _) all
+    event_for (Shows_values node) covers may joined = calm_for m.outside.outer (happens m (Shows_values node)).outside.outer (enters_calm airs m _) all
+    event_for (Restarts state) covers may joined = all
+
+-- ---- so the device of each hears it
+
+heard_then : (airs : Airs) (m : Machine) (event : Event) → Awaits m → HasLive m.outside.outer → AllListen m → IsHeardThen m event
+heard_then airs m (Outside_does (Arrives drawn route)) is live listen = λ frame next out.
+    let first = next_flight airs is.log (on_air m.outside.outer.air.frames) m.outside.outer.air.frames frame is.follows.fly next in
+    let marked : is_marked m.outside.outer.chip.state.joined frame.node ≡ true = (subst (AllByRecursion (IsFor m.outside.outer.chip.state.joined)) first.1 listen.frames).0 out in
+    let listener = listen.nodes frame.node marked in
+    (listener.place, listener_hears m.outside.outer.air.network m.outside.devices frame listener out (live_of frame next))
+  where
+    net : Network
+    net = m.outside.outer.air.network
+
+    frames : FramesState
+    frames = m.outside.outer.air.frames
+
+    live_of : (frame : Flown) → next_of frames ≡ Some frame → IsLive net frame
+    live_of frame next = by (nat_lt frames.landed frames.sent) next
+      where
+        by : (b : Bool) → (if b then slice_get frames.frames (frames.landed - (frames.sent - length frames.frames)) else None) ≡ Some frame → IsLive net frame
+        by true found = all-get (IsLive net) frames.frames (frames.landed - (frames.sent - length frames.frames)) frame live.fly found
+        by false found = absurd cc
+heard_then airs m (Outside_does event) is live listen = tt
+heard_then airs m event is live listen = tt
+
+-- ---- from phase to phase
+
+awaits_of : (here : Phase) (m : Machine) → AwaitsAt here m → Awaits m
+awaits_of Between m at = at
+awaits_of (Said_line line) m at = at
+awaits_of (Begun line) m at = at
+awaits_of (Doing line left) m at = at
+awaits_of (To_tick ticks) m at = at
+awaits_of (Ticked ticks) m at = at
+awaits_of (Arriving frames ticks) m at = at.awaits
+awaits_of (Giving results ticks) m at = at.awaits
+awaits_of (Ticking_devices place count ticks) m at = at.awaits
+awaits_of (Ticking_chip ticks) m at = at.awaits
+awaits_of (Ticking_decoder ticks) m at = at.awaits
+awaits_of (Ticking_host events ticks) m at = at.awaits
+awaits_of (Sleeping passes ticks) m at = at
+awaits_of (Submitting passes ticks) m at = at
+awaits_of (Moving passes ticks) m at = at
+awaits_of (Moved b passes ticks) m at = at
+
+covers_effect : (event : Event) → IsEffect event → CoversOuter IsQuietEvent event
+covers_effect (Outside_does (Wakes_device node route)) is = tt
+covers_effect (Outside_does (Shows node)) is = tt
+covers_effect (Outside_does (Cuts size)) is = tt
+covers_effect (Outside_does event) is = absurd is
+covers_effect (Host_does event) is = tt
+covers_effect event is = tt
+
+covers_as : (event is : Event) → event ≡ is → CoversOuter IsQuietEvent is → CoversOuter IsQuietEvent event
+covers_as event is same covers = subst (CoversOuter IsQuietEvent) (sym same) covers
+
+covers_at : (here next : Phase) (m : Machine) (event : Event) → Goes here m event next → LineAt here m → CoversOuter IsQuietEvent event
+covers_at (Said_line line) next m event (is, to) line_at = covers_as event _ is tt
+covers_at (Doing line (first ∷ left)) next m event (is, to) line_at = covers_as event first is (covers_effect first line_at.0.0)
+covers_at (To_tick (suc ticks)) next m event (is, to) line_at = covers_as event _ is tt
+covers_at (Arriving (suc frames) ticks) next m event (drawn, route, is, to) line_at = covers_as event _ is tt
+covers_at (Giving (suc results) ticks) next m event (route, is, to) line_at = covers_as event _ is tt
+covers_at (Ticking_devices place (suc count) ticks) next m event (drawn, route, is, to) line_at = covers_as event _ is tt
+covers_at (Ticking_chip ticks) next m event (is, to) line_at = covers_as event _ is tt
+covers_at (Ticking_decoder ticks) next m event (is, to) line_at = covers_as event _ is tt
+covers_at (Ticking_host (first ∷ events) ticks) next m event (is, to) line_at = covers_as event _ is tt
+covers_at (Sleeping passes ticks) next m event (node, wants, is, to) line_at = covers_as event _ is tt
+covers_at (Submitting passes ticks) next m event (asked, next_is, is, to) line_at = covers_as event _ is tt
+covers_at (Moving passes ticks) next m event (rest, ways, is, to) line_at = covers_as event _ is tt
+covers_at (Moved b passes ticks) next m event (rest, items, done, is, to) line_at = covers_as event _ is tt
+covers_at here next m event goes line_at = absurd goes
+
+module _ (airs : Airs) (go : (m : Machine) (event : Event) → GoOn m.outside.devices (happens m event).outside.devices) (same_nodes : (old new : List State) → GoOn old new → AreSame old new) where
+  listens_on : (m : Machine) (event : Event) → CoversOuter IsQuietEvent event → May m event → Awaits m → AllListen m → AllListen (happens m event)
+  listens_on m event covers may is listen =
+      let n : Machine = happens m event in
+      let these : List Bool = m.outside.outer.chip.state.joined in
+      let joined : n.outside.outer.chip.state.joined ≡ these = ap (λ (them : Members). them.of_chip) (event_members (members m.outside.outer) m event covers may refl) in
+      record {
+        frames = subst (λ (l : List Bool). AllByRecursion (IsFor l) (on_air n.outside.outer.air.frames)) (sym joined) (event_for these airs is.follows.joined m is listen.frames event covers may refl);
+        nodes = λ node marked.
+            all_stay node m.outside.devices n.outside.devices (go m event) (same_nodes m.outside.devices n.outside.devices (go m event)) (listen.nodes node (sym (ap (λ (l : List Bool). is_marked l node) joined) ∙ marked));
+      }
+
+  module _ (heard : WalkWhere IsHeardThen AsksNothing KnowHeard) where
+    does_all : (here next : Phase) (past : List Entry) (m : Machine) (event : Event) → Goes here m event next → May m event → IsStretched (past ++ entries m event) → KnowListening here past m
+        → (Knows next (past ++ entries m event) (happens m event) × AllSayHeard (unheard (happens m event).outside.outer)) × AllListen (happens m event)
+    does_all here next past m event goes may is known =
+        let before = stretched_before past (entries m event) is in
+        let at = known before in
+        let tied = at.0.0.tied before.quiet in
+        let awaits : Awaits m = awaits_of here m tied.1 in (
+          (heard.event here next past m event goes may (heard_then airs m event awaits tied.7.live at.1) (λ stretched. at.0)).1 is,
+          listens_on m event (covers_at here next m event goes tied.0) may awaits at.1,
+        )
+
+    pub listening_walk : Walk AsksNothing KnowListening
+    listening_walk = record {
+      said = λ past m words line read known. (
+        tt,
+        λ is. let at = known (stretched_before past (entry.Said words ∷ []) is) in ((heard.said past m words line read (λ stretched. at.0)).1 is, at.1),
+      );
+      event = λ here next past m event goes may known. (nothing_asked past (entries m event), λ is. does_all here next past m event goes may is known);
+      turn = λ here next past m turns known is. let at = known is in (heard.turn here next past m turns (λ stretched. at.0) is, at.1);
+    }

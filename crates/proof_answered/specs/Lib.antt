@@ -1,0 +1,4 @@
+pub mod Few
+pub mod Listening
+pub mod Heard
+pub mod Outward

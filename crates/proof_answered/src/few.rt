@@ -1,0 +1,31 @@
+//! How many frames are on the air, over quiet lines.
+
+ghost use Rattle.std.specs.Prelude.{◌+◌, List, Option, ℕ};
+ghost use Rattle.s0_crypto.specs.declared.key_pair.Keys.{Keys};
+ghost use Rattle.device_sim.specs.State.{State};
+ghost use Rattle.world_model.specs.State.{Machine, first_machine};
+ghost use Rattle.world_lines.specs.Spoken.{Spoken, after_all, transcript_of};
+ghost use Rattle.world_lines.specs.Done.{AreDone};
+ghost use Rattle.world_lines.specs.Whole.{AreWhole};
+ghost use Rattle.proof_work.specs.proof_walk.Walk.{Walk};
+ghost use Rattle.proof_work.specs.Phases.{AsksNothing};
+ghost use Rattle.proof_calm.specs.Tied.{IsTied};
+ghost use Rattle.proof_answered.specs.Few.{AreFew, AreIdle, IsStretched, KnowFew, woken_in};
+
+use device_sim::when_changes_come;
+use proof_calm::requests_stay_tied;
+use proof_waking::traffic::frames_fly_in_order;
+
+/// While at most 16 of the quiet lines wake a device, few frames are on the air: those that calls are to come for, three of devices, and one of each that
+/// was woken. So it is at each phase, from each machine where no device is at work, and few frames are on the air. The request of the host stays tied then.
+pub fn few_frames_fly()
+    ensures first { (keys : Keys) (records : Option (List (List ℕ))) (devices : List State) → AreIdle devices →
+        AreFew 0 3 (first_machine keys records devices) }
+    ensures walk { Walk AsksNothing KnowFew }
+    ensures lines { (m : Machine) (lines : List Spoken) → AreDone m lines → AreWhole m lines → IsStretched (transcript_of m lines) → IsTied m → AreFew 0 3 m →
+        IsTied (after_all m lines) × AreFew 0 (3 + woken_in (transcript_of m lines)) (after_all m lines) }
+{
+    frames_fly_in_order();
+    requests_stay_tied();
+    when_changes_come();
+}
