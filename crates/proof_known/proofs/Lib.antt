@@ -15,3 +15,14 @@ pub mod Noting
 pub use Rattle.proof_waking.proofs.Running
 pub use Rattle.proof_transcript.proofs.AttemptStarts
 pub use Rattle.proof_transcript.proofs.ServedNodes
+pub use Rattle.proof_transcript.proofs.Bodies
+pub use Rattle.proof_transcript.proofs.proof_device_HostOuts
+pub use Rattle.proof_transcript.proofs.Lists
+pub use Rattle.proof_transcript.proofs.StoredValues
+pub use Rattle.proof_transcript.proofs.AnswerFacts
+pub use Rattle.proof_waking.proofs.Always
+pub use Rattle.proof_waking.proofs.proof_alone_Apart
+pub use Rattle.proof_waking.proofs.Settling
+pub use Rattle.proof_waking.proofs.Followed
+pub use Rattle.proof_waking.proofs.Apart
+pub use Rattle.proof_waking.proofs.Parts

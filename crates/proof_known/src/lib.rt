@@ -19,6 +19,7 @@ mod shown;
 pub use answers::{hosts_answer_lines, hosts_do_as_is_said};
 pub use known::{hosts_keep_what_is_said, hosts_know_what_nodes_list, hosts_know_what_was_told};
 pub use noted::{hosts_note_what_was_told, rejected_telling, worked_telling};
+pub use proof_transcript as transcript;
 pub use proof_waking as waking;
 pub use proof_waking::alone;
 pub use records::hosts_record_what_is_shown;

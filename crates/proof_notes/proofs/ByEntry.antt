@@ -32,12 +32,12 @@ use Rattle.host_model.specs.Taking.{AreTaken, PayloadEvents}
 use Rattle.host_model.specs.declared.out.HostOut.{HostOut}
 use Rattle.host_model.specs.declared.out.HostOut.TheVariants.{Note, Write}
 use Rattle.host_model.proofs.Own.{IsOwn}
-use Rattle.proof_transcript.proofs.Lists.{each-append}
-use Rattle.proof_transcript.proofs.proof_device_HostOuts.{OutsAre, OwnIs, SharedAre, outs_are}
+use Rattle.proof_known.proofs.Lists.{each-append}
+use Rattle.proof_known.proofs.proof_device_HostOuts.{OutsAre, OwnIs, SharedAre, outs_are}
 use Rattle.proof_known.specs.proof_alone.Steps.{AreTold, IsOfUnit}
 use Rattle.proof_known.specs.proof_waking.Judged.{IsOfRequest}
-use Rattle.proof_waking.proofs.Apart.{IsApart, apart_judged}
-use Rattle.proof_waking.proofs.Parts.{IsNoted}
+use Rattle.proof_known.proofs.Apart.{IsApart, apart_judged}
+use Rattle.proof_known.proofs.Parts.{IsNoted}
 use Rattle.proof_notes.specs.Full.{AreWhole, GoesOnWith, IsElse, MayGoOn, MessagesNotes, PayloadNotes, SinceUnit, goes_on, hearing_of, since_step, since_unit}
 use Rattle.proof_notes.proofs.ByMessage.{Ties}
 use Rattle.proof_notes.proofs.ByPayload.{messages_go, messages_over, messages_some, payload_goes, payload_over}

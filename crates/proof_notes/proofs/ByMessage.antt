@@ -47,10 +47,10 @@ use Rattle.host_model.specs.declared.out.HostOut.TheVariants.{Note}
 use Rattle.proof_host.specs.Facts.{Facts}
 use Rattle.proof_host.specs.Laws.{accepted_for, numbers_for}
 use Rattle.proof_host.specs.Tables.{nodes_by, taken_at, taken_by}
-use Rattle.proof_transcript.specs.proof_once.ByTable.{IsTable}
-use Rattle.proof_transcript.specs.proof_once.Tied.{settings_taken}
-use Rattle.proof_transcript.specs.proof_spoken.Said.{KnowsListing}
-use Rattle.proof_transcript.proofs.StoredValues.{number_among}
+use Rattle.proof_known.specs.proof_transcript.proof_once.ByTable.{IsTable}
+use Rattle.proof_known.specs.proof_transcript.proof_once.Tied.{settings_taken}
+use Rattle.proof_known.specs.proof_transcript.proof_spoken.Said.{KnowsListing}
+use Rattle.proof_known.proofs.StoredValues.{number_among}
 use Rattle.proof_known.specs.law_host.Heard.{listing_heard}
 use Rattle.proof_known.specs.law_host.Messages.{final_notes, held_notes, is_of_open}
 use Rattle.proof_known.specs.proof_alone.Listening.{ListensAsTold}

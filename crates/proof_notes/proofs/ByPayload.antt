@@ -32,7 +32,7 @@ use Rattle.host_model.specs.Did.{after_all}
 use Rattle.host_model.specs.Events.{HostEvent, Unreads, Is_unkept, Spends, Spends_unread}
 use Rattle.host_model.specs.Outs.{outs}
 use Rattle.host_model.specs.Taking.{AreTaken, FrameEvents, IsOpened, IsTaken, NoticeEvents, OpensTo as HostOpens, PayloadEvents, SealedEvents, ends_from, named_by, value_event, value_events}
-use Rattle.proof_transcript.proofs.Bodies.{body_is}
+use Rattle.proof_known.proofs.Bodies.{body_is}
 use Rattle.proof_known.specs.law_host.Messages.{Hearing, is_of_open}
 use Rattle.proof_known.specs.proof_alone.Steps.{AreTold}
 use Rattle.proof_notes.specs.Full.{EndNotes, MessageNotes, MessagesNotes, OpensTo, PayloadNotes, ReportNotes, hearing_of, is_openly, value_note, value_notes}

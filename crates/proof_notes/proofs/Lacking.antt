@@ -55,8 +55,8 @@ use Rattle.proof_host.specs.Facts.{Facts}
 use Rattle.proof_host.specs.Laws.{numbers_for}
 use Rattle.law_transcript.specs.Commands.{numbers_of}
 use Rattle.zw_text.specs.Transcript.{accepted}
-use Rattle.proof_transcript.proofs.Bodies.{body_is}
-use Rattle.proof_transcript.proofs.proof_device_HostOuts.{OwnIs, SharedAre, outs_are}
+use Rattle.proof_known.proofs.Bodies.{body_is}
+use Rattle.proof_known.proofs.proof_device_HostOuts.{OwnIs, SharedAre, outs_are}
 use Rattle.proof_attempts.specs.Series.{NodeAsTold}
 use Rattle.proof_attempts.specs.Since.{KnowsSince}
 use Rattle.proof_attempts.specs.Waking.{CountsAwake, TieAwake}
@@ -68,14 +68,14 @@ use Rattle.proof_known.specs.proof_alone.Phases.{Phase, Resting, Asked, Risen, T
 use Rattle.proof_known.specs.proof_alone.Runs.{Knowledge, WalkOver, both_know}
 use Rattle.proof_known.specs.proof_waking.Judged.{IsBehindFrame, IsOfRequest, Settled}
 use Rattle.proof_known.proofs.Events.{outs_told}
-use Rattle.proof_waking.proofs.Always.{either, none, one}
-use Rattle.proof_waking.proofs.proof_alone_Apart.{AreOfLine, missed_are}
-use Rattle.proof_waking.proofs.Settling.{behind_brought, behind_here}
+use Rattle.proof_known.proofs.Always.{either, none, one}
+use Rattle.proof_known.proofs.proof_alone_Apart.{AreOfLine, missed_are}
+use Rattle.proof_known.proofs.Settling.{behind_brought, behind_here}
 use Rattle.proof_notes.specs.Full.{SinceUnit, since_unit}
 use Rattle.proof_notes.specs.Unkept.{IsAmong, MayLack}
 use Rattle.proof_notes.proofs.ByMessage.{note_told}
 use Rattle.proof_known.proofs.Noting.{Nothing, Rooms}
-use Rattle.proof_waking.proofs.Followed.{FollowersAre, payload_all}
+use Rattle.proof_known.proofs.Followed.{FollowersAre, payload_all}
 use Rattle.proof_notes.proofs.ByEntry.{Among, notes_after}
 use Rattle.proof_notes.proofs.Walking.{KnowsHost, KnowsNotes, ShowsOpen, ShowsTables, ties_of}
 

@@ -30,8 +30,8 @@ use Rattle.host_model.proofs.Own.{IsOwn, sleepers_own, submitted_own}
 use Rattle.host_model.proofs.Submitted.{next_is, no_more_is}
 use Rattle.world_model.specs.Events.{shown_values}
 use Rattle.proof_host.specs.Facts.{Facts}
-use Rattle.proof_transcript.specs.proof_once.ByTable.{IsTable}
-use Rattle.proof_transcript.specs.proof_spoken.Said.{AreSaid}
+use Rattle.proof_known.specs.proof_transcript.proof_once.ByTable.{IsTable}
+use Rattle.proof_known.specs.proof_transcript.proof_spoken.Said.{AreSaid}
 use Rattle.proof_known.specs.law_host.Heard.{listing_heard}
 use Rattle.proof_known.specs.proof_alone.Listening.{KnowsListening}
 use Rattle.proof_known.specs.proof_alone.State.{HostMachine}
@@ -43,9 +43,9 @@ use Rattle.proof_known.specs.proof_waking.Judged.{IsBehindFrame, IsOfRequest, Se
 use Rattle.proof_known.specs.Known.{KnowsKeys, KnowsWhole, TieTold}
 use Rattle.proof_known.proofs.Noting.{Rooms}
 use Rattle.proof_known.proofs.Places.{no_more_places}
-use Rattle.proof_waking.proofs.Apart.{acknowledged_frames}
-use Rattle.proof_waking.proofs.Followed.{MayFollow, frame_all}
-use Rattle.proof_waking.proofs.Parts.{IsNoted, follow_told}
+use Rattle.proof_known.proofs.Apart.{acknowledged_frames}
+use Rattle.proof_known.proofs.Followed.{MayFollow, frame_all}
+use Rattle.proof_known.proofs.Parts.{IsNoted, follow_told}
 use Rattle.proof_notes.specs.Full.{IsElse, MayGoOn, PayloadNotes, SinceUnit, since_unit}
 use Rattle.proof_notes.proofs.ByMessage.{Ties}
 use Rattle.proof_notes.proofs.ByPayload.{AllFollow, frame_follows}

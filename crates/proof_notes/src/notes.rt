@@ -14,11 +14,11 @@ ghost use Rattle.proof_known.specs.proof_alone.Runs.{Told, ToldWhole};
 ghost use Rattle.proof_notes.specs.Full.{NotesInFull};
 
 use proof_attempts::hosts_show_open_sessions;
+use proof_attempts::requests::hosts_listen_as_told;
 use proof_known::hosts_know_what_was_told;
+use proof_known::transcript::host::laws_follow;
+use proof_known::transcript::spoken::tables_are_what_was_said;
 use proof_known::waking::alone::{lines_are_a_hosts, what_is_heard_is_a_hosts};
-use proof_requests::hosts_listen_as_told;
-use proof_transcript::host::laws_follow;
-use proof_transcript::spoken::tables_are_what_was_said;
 
 /// In any run of a host alone, over a keeper that tells its records and has none at first: after each payload that was judged stand exactly the notes of its
 /// messages, in order and before anything else is done, where it is not sealed; where it is, that it is not read, or the notes of what it opens to with the

@@ -12,12 +12,12 @@ ghost use Rattle.proof_known.specs.proof_alone.State.{first_alone};
 ghost use Rattle.proof_known.specs.proof_alone.Runs.{Told};
 ghost use Rattle.proof_notes.specs.Unkept.{UnkeptWhereAsked};
 
+use proof_attempts::requests::hosts_listen_as_told;
 use proof_attempts::{hosts_count_awake, hosts_show_open_sessions};
 use proof_known::hosts_know_what_was_told;
+use proof_known::transcript::host::laws_follow;
+use proof_known::transcript::spoken::tables_are_what_was_said;
 use proof_known::waking::alone::{lines_are_a_hosts, what_is_heard_is_a_hosts};
-use proof_requests::hosts_listen_as_told;
-use proof_transcript::host::laws_follow;
-use proof_transcript::spoken::tables_are_what_was_said;
 
 /// In any run of a host alone, over a keeper that tells its records and has none at first: that a record was not kept is said only among the notes of a
 /// payload that was judged there, where the information of that node came, or where a command waits for a node that is up and whose last session is over.

@@ -11,13 +11,13 @@ use Rattle.law_transcript.specs.Units.{Carried}
 use Rattle.law_time.specs.Moments.{KeepsAfter}
 use Rattle.law_time.specs.Queue.{may_queue}
 use Rattle.proof_host.proofs.Lists.{each-append}
-use Rattle.proof_requests.specs.law_host.Heard.{heeds_alone, is_refusal_of_others}
-use Rattle.proof_requests.specs.proof_alone.State.{HostMachine, first_alone}
-use Rattle.proof_requests.specs.proof_alone.Steps.{entries}
-use Rattle.proof_requests.specs.proof_alone.Phases.{Phase, Resting}
-use Rattle.proof_requests.specs.proof_alone.Runs.{Run}
-use Rattle.proof_requests.specs.proof_alone.Runs.Run.{Begins, Turned, Stepped}
-use Rattle.proof_requests.proofs.Queued.{PayloadsBring}
+use Rattle.proof_attempts.specs.proof_requests.law_host.Heard.{heeds_alone, is_refusal_of_others}
+use Rattle.proof_attempts.specs.proof_requests.proof_alone.State.{HostMachine, first_alone}
+use Rattle.proof_attempts.specs.proof_requests.proof_alone.Steps.{entries}
+use Rattle.proof_attempts.specs.proof_requests.proof_alone.Phases.{Phase, Resting}
+use Rattle.proof_attempts.specs.proof_requests.proof_alone.Runs.{Run}
+use Rattle.proof_attempts.specs.proof_requests.proof_alone.Runs.Run.{Begins, Turned, Stepped}
+use Rattle.proof_attempts.proofs.Queued.{PayloadsBring}
 use Rattle.proof_known.specs.Known.{IsForHost}
 use Rattle.proof_queue.specs.Waiting.{FitsAlone, KnowsWaiting, NoneWoken}
 use Rattle.proof_queue.specs.Heeding.{AllSteps, HeedsSo}

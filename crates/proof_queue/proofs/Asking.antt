@@ -27,10 +27,10 @@ use Rattle.host_model.specs.State.{HostState, node_of}
 use Rattle.host_model.specs.After.{after}
 use Rattle.host_model.specs.Events.{HostEvent}
 use Rattle.host_model.specs.May.{May as may_event, known_of}
-use Rattle.proof_requests.specs.law_host.Heard.{heeds_alone, listing_heard}
-use Rattle.proof_requests.specs.proof_alone.Steps.{AsksNothing, IsAskedBy}
-use Rattle.proof_requests.specs.Carrying.{is_asked_class, is_errand, unaddressed}
-use Rattle.proof_requests.proofs.Carried.{get_errand, send_errand}
+use Rattle.proof_attempts.specs.proof_requests.law_host.Heard.{heeds_alone, listing_heard}
+use Rattle.proof_attempts.specs.proof_requests.proof_alone.Steps.{AsksNothing, IsAskedBy}
+use Rattle.proof_attempts.specs.proof_requests.Carrying.{is_asked_class, is_errand, unaddressed}
+use Rattle.proof_attempts.proofs.proof_requests_Carried.{get_errand, send_errand}
 use Rattle.proof_queue.specs.Waiting.{NoneWoken, Waits, WaitsSo, queue_of, want_of_task}
 use Rattle.proof_queue.proofs.Books.{before_is, before_line, book_joined, last_line, one_entry, said_entry}
 use Rattle.proof_queue.proofs.Refused.{FitsRefusal, lacks, lacks_not, lacks_so}

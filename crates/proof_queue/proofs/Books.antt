@@ -18,7 +18,7 @@ use Rattle.law_time.specs.Requests.{Asked, are_none, asked, asked_from, asked_no
 use Rattle.law_time.specs.Wants.{wants_of}
 use Rattle.law_time.specs.Queue.{Due, Queue, Requests, due_of, each_with, has_looked, have_woken, in_order, is_told, lacks_places, looked, no_queue, no_requests, places, queue_before, queue_step, requests, requests_after, requests_from, waits_before_line, with_due, with_no_more, woke_at}
 use Rattle.host_requests.specs.declared.task.Task.{Task}
-use Rattle.proof_requests.specs.law_host.Heard.{heeds_alone}
+use Rattle.proof_attempts.specs.proof_requests.law_host.Heard.{heeds_alone}
 use Rattle.proof_attempts.proofs.Ahead.{ahead_from, ahead_joined}
 use Rattle.proof_queue.specs.Waiting.{NoneWoken, Waits, queue_of}
 

@@ -21,15 +21,15 @@ use Rattle.host_model.specs.After.{after}
 use Rattle.host_model.specs.Did.{after_all}
 use Rattle.host_model.specs.Events.{HostEvent, Hears}
 use Rattle.host_model.specs.declared.out.HostOut.TheVariants.{Write}
-use Rattle.proof_requests.specs.law_host.Heard.{heeds_alone, listing_heard}
-use Rattle.proof_requests.specs.proof_alone.State.{HostMachine}
-use Rattle.proof_requests.specs.proof_alone.Steps.{AreTold, Step, Judges, entries, happens}
-use Rattle.proof_requests.specs.proof_alone.Phases.{Phase, Open, Behind, May}
-use Rattle.proof_requests.specs.proof_alone.Runs.{Run}
-use Rattle.proof_requests.specs.proof_alone.Runs.Run.{Begins, Turned, Stepped}
-use Rattle.proof_requests.specs.proof_waking.Judged.{LastFrame, TieFrames, frames_of}
-use Rattle.proof_requests.proofs.proof_waking_Apart.{acknowledged_frames}
-use Rattle.proof_requests.proofs.proof_waking_Settling.{brought_is}
+use Rattle.proof_attempts.specs.proof_requests.law_host.Heard.{heeds_alone, listing_heard}
+use Rattle.proof_attempts.specs.proof_requests.proof_alone.State.{HostMachine}
+use Rattle.proof_attempts.specs.proof_requests.proof_alone.Steps.{AreTold, Step, Judges, entries, happens}
+use Rattle.proof_attempts.specs.proof_requests.proof_alone.Phases.{Phase, Open, Behind, May}
+use Rattle.proof_attempts.specs.proof_requests.proof_alone.Runs.{Run}
+use Rattle.proof_attempts.specs.proof_requests.proof_alone.Runs.Run.{Begins, Turned, Stepped}
+use Rattle.proof_attempts.specs.proof_requests.proof_waking.Judged.{LastFrame, TieFrames, frames_of}
+use Rattle.proof_attempts.proofs.proof_waking_Apart.{acknowledged_frames}
+use Rattle.proof_attempts.proofs.proof_waking_Settling.{brought_is}
 use Rattle.proof_queue.specs.Waiting.{Waits, dropped_by}
 use Rattle.proof_queue.specs.Heeding.{AllSteps, HeedsSo, PutsSo, heeded_frame, heeding_at}
 use Rattle.proof_queue.proofs.Payloads.{frame_so}

@@ -29,7 +29,7 @@ use Rattle.host_model.specs.Events.{HostEvent, Finishes, Gives, Has_no_room, Hea
 use Rattle.host_model.specs.Outs.{ended_of, held_entries, stored_entries}
 use Rattle.proof_host.proofs.Commands.{taken_set}
 use Rattle.proof_host.specs.Tables.{taken_at}
-use Rattle.proof_requests.proofs.Doing.{holds_asks}
+use Rattle.proof_attempts.proofs.Doing.{holds_asks}
 use Rattle.proof_queue.proofs.Segments.{Keeps}
 use Rattle.proof_queue.proofs.Stills.{IsStill}
 use Rattle.proof_queue.proofs.Undropped.{Undropped, noted_none}

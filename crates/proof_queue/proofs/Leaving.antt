@@ -19,10 +19,10 @@ use Rattle.law_time.specs.Queue.{Queue, is_first, is_judged, lacks_places, may_q
 use Rattle.host_requests.specs.declared.task.Task.{Task}
 use Rattle.host_model.specs.declared.out.HostOut.{HostOut}
 use Rattle.host_model.specs.declared.out.HostOut.TheVariants.{Note, Write}
-use Rattle.proof_requests.specs.law_host.Heard.{heeds_alone}
-use Rattle.proof_requests.specs.proof_alone.Steps.{AreTold, IsOfUnit}
-use Rattle.proof_requests.proofs.proof_waking_Parts.{IsNoted}
-use Rattle.proof_requests.proofs.Telling.{IsQuiet}
+use Rattle.proof_attempts.specs.proof_requests.law_host.Heard.{heeds_alone}
+use Rattle.proof_attempts.specs.proof_requests.proof_alone.Steps.{AreTold, IsOfUnit}
+use Rattle.proof_attempts.proofs.proof_waking_Parts.{IsNoted}
+use Rattle.proof_attempts.proofs.proof_requests_Telling.{IsQuiet}
 use Rattle.proof_queue.specs.Waiting.{FitsAlone, NoneWoken, Waits, WaitsSo, dropped_at, queue_of}
 use Rattle.proof_queue.specs.Turn.{may_go}
 use Rattle.proof_queue.proofs.Undropped.{Undropped}

@@ -32,7 +32,7 @@ use Rattle.host_model.specs.After.{after, finishing, giving, holding, is_full, i
 use Rattle.host_model.specs.Did.{after_all}
 use Rattle.host_model.specs.Events.{HostEvent, Finishes, Gives, Has_no_room, Hears_value, Is_unkept, Notifies, Offers, Reports_old, Resends, Spends, Spends_unread, Takes_nonce, Unreads, Works}
 use Rattle.host_model.specs.Taking.{AreTaken, FinalEvents, IsTaken, NonceGetEvents, NonceReportEvents, ReportEvents, is_secure, resent, value_event, value_events, wanted_segment}
-use Rattle.proof_requests.specs.law_host.Heard.{listing_heard}
+use Rattle.proof_attempts.specs.proof_requests.law_host.Heard.{listing_heard}
 use Rattle.proof_queue.specs.Waiting.{dropped_by, want_of_task}
 use Rattle.proof_queue.specs.Heeding.{heeded_of, taken_up}
 use Rattle.proof_queue.proofs.Kept.{IsFollower, event_keeps, finish_still, then_keeps}

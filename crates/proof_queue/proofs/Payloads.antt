@@ -34,10 +34,10 @@ use Rattle.host_model.specs.Did.{after_all}
 use Rattle.host_model.specs.Events.{HostEvent, Interview_unkept, Interviews, Is_unkept, Spends, Spends_unread, Unreads}
 use Rattle.host_model.specs.Taking.{FrameEvents, InterviewEvents, IsOpened, NoticeEvents, PayloadEvents, ResponseEvents, SealedEvents, named_by, told_requests}
 use Rattle.proof_waking.proofs.Bodies.{body_is}
-use Rattle.proof_requests.specs.law_host.Heard.{heeds_alone, listing_heard}
-use Rattle.proof_requests.specs.Walking.{IsOfChip}
-use Rattle.proof_requests.proofs.Queued.{told_queue}
-use Rattle.proof_requests.proofs.Spelled.{source_is}
+use Rattle.proof_attempts.specs.proof_requests.law_host.Heard.{heeds_alone, listing_heard}
+use Rattle.proof_attempts.specs.proof_requests.Walking.{IsOfChip}
+use Rattle.proof_attempts.proofs.Queued.{told_queue}
+use Rattle.proof_attempts.proofs.Spelled.{source_is}
 use Rattle.proof_queue.specs.Waiting.{Waits, dropped_by}
 use Rattle.proof_queue.specs.Heeding.{PutsSo, heeded_frame, heeded_notice, heeded_opened, heeded_payload, heeded_sealed}
 use Rattle.proof_queue.proofs.Kept.{event_keeps, keeps_first}

@@ -23,7 +23,7 @@ use Rattle.host_model.specs.Asking.{interview_refusal, join_refusal, places_refu
 use Rattle.host_model.specs.Refusals.{IsRefusedBy, IsRefusedOrUnkept, IsUncancelled, shown}
 use Rattle.world_model.specs.State.{Machine}
 use Rattle.world_model.specs.Refusals.{IsRefused, IsUnopened}
-use Rattle.proof_requests.specs.law_host.Heard.{listing_heard}
+use Rattle.proof_attempts.specs.proof_requests.law_host.Heard.{listing_heard}
 
 -- ---- rules
 

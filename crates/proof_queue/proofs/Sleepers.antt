@@ -16,7 +16,7 @@ use Rattle.host_node.specs.Search.{first_wanting}
 use Rattle.host_node.specs.TableState.{node_of as node_among}
 use Rattle.host_node.proofs.Searches.{what_is_least}
 use Rattle.host_model.specs.State.{HostState}
-use Rattle.proof_requests.proofs.Queued.{wanting_is_node}
+use Rattle.proof_attempts.proofs.Queued.{wanting_is_node}
 use Rattle.proof_attempts.specs.Waking.{TieAwake}
 use Rattle.proof_queue.specs.Waiting.{NoneWoken}
 

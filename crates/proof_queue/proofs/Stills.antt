@@ -25,10 +25,10 @@ use Rattle.host_model.specs.Did.{after_all}
 use Rattle.host_model.specs.Events.{HostEvent, Line_ticks, Node_ticks, Requests_do}
 use Rattle.host_model.specs.Outs.{outs}
 use Rattle.host_model.specs.Taking.{told_if, told_requests}
-use Rattle.proof_requests.specs.proof_waking.Judged.{IsOfRequest}
-use Rattle.proof_requests.specs.Walking.{IsOfChip}
-use Rattle.proof_requests.proofs.Doing.{attempt_asks, end_if_asks}
-use Rattle.proof_requests.proofs.Queued.{told_queue}
+use Rattle.proof_attempts.specs.proof_requests.proof_waking.Judged.{IsOfRequest}
+use Rattle.proof_attempts.specs.proof_requests.Walking.{IsOfChip}
+use Rattle.proof_attempts.proofs.Doing.{attempt_asks, end_if_asks}
+use Rattle.proof_attempts.proofs.Queued.{told_queue}
 use Rattle.proof_queue.specs.Turn.{is_first_waiting}
 use Rattle.proof_queue.specs.Waiting.{dropped_at, dropped_by, want_of_task}
 use Rattle.proof_queue.proofs.Undropped.{ArePut, line_put, node_put, put_drops, request_put}

@@ -30,7 +30,7 @@ use Rattle.host_model.specs.Events.{Line_ticks, Node_ticks, Requests_do}
 use Rattle.host_model.specs.Outs.{copy_out, failing_entries, noted, outs, request_entries}
 use Rattle.host_model.specs.declared.out.HostOut.{HostOut}
 use Rattle.host_model.specs.declared.out.HostOut.TheVariants.{Note, Write}
-use Rattle.proof_requests.specs.proof_alone.Steps.{AreTold, IsOfUnit}
+use Rattle.proof_attempts.specs.proof_requests.proof_alone.Steps.{AreTold, IsOfUnit}
 use Rattle.proof_queue.specs.Waiting.{dropped_at}
 
 abbrev pub Undropped : Entry → Type 0

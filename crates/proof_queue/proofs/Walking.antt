@@ -48,21 +48,21 @@ use Rattle.host_model.specs.declared.out.HostOut.{HostOut}
 use Rattle.host_model.specs.declared.out.HostOut.TheVariants.{Write}
 use Rattle.host_model.proofs.Submitted.{next_is}
 use Rattle.world_model.specs.Refusals.{IsRefused}
-use Rattle.proof_requests.specs.law_host.Heard.{heeds_alone, is_of_others, is_refusal_of_others, listing_heard}
-use Rattle.proof_requests.specs.proof_alone.State.{HostMachine, done, with_world}
-use Rattle.proof_requests.specs.proof_alone.Steps.{AreTold, DidNotCome, IsAskedBy, IsOfOthers, IsOfUnit, Step, Tells, Comes, Misses, Says, Says_nothing, Asks, Refuses, Shows, Restarts, Begins_tick, Numbers, Judges, Does, entries, happens}
-use Rattle.proof_requests.specs.proof_alone.Phases.{Phase, Resting, Asked, Risen, Ticking, Open, Behind, Sleeping, Submitting, IsBetween, IsJudgedNow, IsNumbered, May, Turns}
-use Rattle.proof_requests.specs.proof_alone.Runs.{both_know}
-use Rattle.proof_requests.specs.proof_waking.Judged.{IsOfRequest, KnowsJudged}
-use Rattle.proof_requests.proofs.proof_waking_Followed.{MayFollow, frame_all}
-use Rattle.proof_requests.proofs.proof_waking_Parts.{IsNoted, follow_told}
-use Rattle.proof_requests.specs.Asking.{Leaving, doing_of}
-use Rattle.proof_requests.specs.Walking.{Ground, IsNodeTick, IsRead, IsTied, KnowsAsked, KnowsTick, ReadsAs}
-use Rattle.proof_requests.proofs.Ending.{told_of_host}
-use Rattle.proof_requests.proofs.Queued.{PayloadsBring}
-use Rattle.proof_requests.proofs.Queueing.{opened_asks}
-use Rattle.proof_requests.proofs.Stepping.{IsSubmission, asked_on, event_is_read, first_same, none_on, submissions, time_told}
-use Rattle.proof_requests.proofs.Walking.{event_quiet, is_fresh, written_told}
+use Rattle.proof_attempts.specs.proof_requests.law_host.Heard.{heeds_alone, is_of_others, is_refusal_of_others, listing_heard}
+use Rattle.proof_attempts.specs.proof_requests.proof_alone.State.{HostMachine, done, with_world}
+use Rattle.proof_attempts.specs.proof_requests.proof_alone.Steps.{AreTold, DidNotCome, IsAskedBy, IsOfOthers, IsOfUnit, Step, Tells, Comes, Misses, Says, Says_nothing, Asks, Refuses, Shows, Restarts, Begins_tick, Numbers, Judges, Does, entries, happens}
+use Rattle.proof_attempts.specs.proof_requests.proof_alone.Phases.{Phase, Resting, Asked, Risen, Ticking, Open, Behind, Sleeping, Submitting, IsBetween, IsJudgedNow, IsNumbered, May, Turns}
+use Rattle.proof_attempts.specs.proof_requests.proof_alone.Runs.{both_know}
+use Rattle.proof_attempts.specs.proof_requests.proof_waking.Judged.{IsOfRequest, KnowsJudged}
+use Rattle.proof_attempts.proofs.proof_waking_Followed.{MayFollow, frame_all}
+use Rattle.proof_attempts.proofs.proof_waking_Parts.{IsNoted, follow_told}
+use Rattle.proof_attempts.specs.proof_requests.Asking.{Leaving, doing_of}
+use Rattle.proof_attempts.specs.proof_requests.Walking.{Ground, IsNodeTick, IsRead, IsTied, KnowsAsked, KnowsTick, ReadsAs}
+use Rattle.proof_attempts.proofs.Ending.{told_of_host}
+use Rattle.proof_attempts.proofs.Queued.{PayloadsBring}
+use Rattle.proof_attempts.proofs.Queueing.{opened_asks}
+use Rattle.proof_attempts.proofs.Stepping.{IsSubmission, asked_on, event_is_read, first_same, none_on, submissions, time_told}
+use Rattle.proof_attempts.proofs.Walking.{event_quiet, is_fresh, written_told}
 use Rattle.proof_known.specs.Known.{KnowsHeard}
 use Rattle.proof_attempts.specs.Since.{KnowsSince}
 use Rattle.proof_attempts.specs.Waking.{CountsAwake}

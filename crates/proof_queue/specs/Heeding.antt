@@ -26,11 +26,11 @@ use Rattle.host_model.specs.Events.{HostEvent, Gives, Hears, Offers, Resends, Sp
 use Rattle.host_model.specs.Taking.{AreTaken, FrameEvents, IsOpened, NoticeEvents, PayloadEvents, SealedEvents, named_by}
 use Rattle.host_model.specs.After.{after}
 use Rattle.host_model.specs.Did.{after_all}
-use Rattle.proof_requests.specs.proof_alone.State.{HostMachine}
-use Rattle.proof_requests.specs.proof_alone.Steps.{Step, Judges}
-use Rattle.proof_requests.specs.proof_alone.Phases.{Phase}
-use Rattle.proof_requests.specs.proof_alone.Runs.{Run}
-use Rattle.proof_requests.specs.proof_alone.Runs.Run.{Begins, Turned, Stepped}
+use Rattle.proof_attempts.specs.proof_requests.proof_alone.State.{HostMachine}
+use Rattle.proof_attempts.specs.proof_requests.proof_alone.Steps.{Step, Judges}
+use Rattle.proof_attempts.specs.proof_requests.proof_alone.Phases.{Phase}
+use Rattle.proof_attempts.specs.proof_requests.proof_alone.Runs.{Run}
+use Rattle.proof_attempts.specs.proof_requests.proof_alone.Runs.Run.{Begins, Turned, Stepped}
 use Rattle.proof_queue.specs.Waiting.{Waits, dropped_by}
 
 -- what is wanted up to an acknowledgement is what these events put into the queue

@@ -21,9 +21,9 @@ use Rattle.host_model.specs.Did.{after_all}
 use Rattle.host_model.specs.Outs.{outs}
 use Rattle.host_model.specs.declared.out.HostOut.{HostOut}
 use Rattle.host_model.specs.declared.out.HostOut.TheVariants.{Note}
-use Rattle.proof_requests.specs.law_host.Heard.{is_refusal_of_others, listing_heard}
-use Rattle.proof_requests.specs.proof_alone.Phases.{Asked, Behind}
-use Rattle.proof_requests.specs.proof_alone.Runs.{Knowledge}
+use Rattle.proof_attempts.specs.proof_requests.law_host.Heard.{is_refusal_of_others, listing_heard}
+use Rattle.proof_attempts.specs.proof_requests.proof_alone.Phases.{Asked, Behind}
+use Rattle.proof_attempts.specs.proof_requests.proof_alone.Runs.{Knowledge}
 use Rattle.proof_queue.specs.Turn.{may_go}
 
 -- ---- a host

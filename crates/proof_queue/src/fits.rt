@@ -10,10 +10,10 @@ ghost use Rattle.law_time.specs.Queue.{FitsQueue};
 ghost use Rattle.world_model.specs.State.{first_machine};
 ghost use Rattle.world_lines.specs.Spoken.{Spoken, transcript_of};
 ghost use Rattle.world_lines.specs.Done.{AreDone};
-ghost use Rattle.proof_requests.specs.law_host.Heard.{heard_by_host, heeds_alone};
-ghost use Rattle.proof_requests.specs.proof_alone.State.{HostMachine, first_alone};
-ghost use Rattle.proof_requests.specs.proof_alone.Phases.{Phase};
-ghost use Rattle.proof_requests.specs.proof_alone.Runs.{Run, Told};
+ghost use Rattle.proof_attempts.specs.proof_requests.law_host.Heard.{heard_by_host, heeds_alone};
+ghost use Rattle.proof_attempts.specs.proof_requests.proof_alone.State.{HostMachine, first_alone};
+ghost use Rattle.proof_attempts.specs.proof_requests.proof_alone.Phases.{Phase};
+ghost use Rattle.proof_attempts.specs.proof_requests.proof_alone.Runs.{Run, Told};
 ghost use Rattle.proof_known.specs.Known.{AreForHost};
 ghost use Rattle.proof_queue.specs.Waiting.{NoneWoken};
 ghost use Rattle.proof_queue.specs.Heeding.{AllSteps, HeedsSo};
@@ -21,10 +21,10 @@ ghost use Rattle.proof_queue.specs.Turn.{GoesByQueue};
 
 use crate::queued::hosts_queue_as_told;
 use proof_attempts::hosts_show_open_sessions;
+use proof_attempts::requests::alone::{lines_are_a_hosts, what_is_heard_is_a_hosts};
+use proof_attempts::requests::hosts_ask_as_told;
 use proof_host::laws_follow;
 use proof_known::{hosts_answer_lines, hosts_keep_what_is_said, hosts_know_what_nodes_list};
-use proof_requests::alone::{lines_are_a_hosts, what_is_heard_is_a_hosts};
-use proof_requests::hosts_ask_as_told;
 use proof_sending::spoken::orders_are_carried_as_said;
 
 /// For any run of a host alone, over a keeper that tells its records and has none at first, there are messages of each payload such that the host goes by

@@ -6,10 +6,10 @@ ghost use Rattle.zw_text.specs.declared.entry.Entry.{Entry};
 ghost use Rattle.host_heard.specs.declared.told.Told.{Told};
 ghost use Rattle.law_transcript.specs.Units.{Carried};
 ghost use Rattle.law_time.specs.Queue.{FitsQueue};
-ghost use Rattle.proof_requests.specs.law_host.Heard.{heeds_alone};
-ghost use Rattle.proof_requests.specs.proof_alone.State.{HostMachine, first_alone};
-ghost use Rattle.proof_requests.specs.proof_alone.Phases.{Phase};
-ghost use Rattle.proof_requests.specs.proof_alone.Runs.{Run};
+ghost use Rattle.proof_attempts.specs.proof_requests.law_host.Heard.{heeds_alone};
+ghost use Rattle.proof_attempts.specs.proof_requests.proof_alone.State.{HostMachine, first_alone};
+ghost use Rattle.proof_attempts.specs.proof_requests.proof_alone.Phases.{Phase};
+ghost use Rattle.proof_attempts.specs.proof_requests.proof_alone.Runs.{Run};
 ghost use Rattle.proof_known.specs.Known.{AreForHost};
 ghost use Rattle.proof_queue.specs.Waiting.{KnowsWaiting, NoneWoken};
 ghost use Rattle.proof_queue.specs.Heeding.{AllSteps, HeedsSo};
@@ -17,8 +17,8 @@ ghost use Rattle.proof_queue.specs.Turn.{GoesByQueue};
 
 use host_model::attempts_have_what_they_give;
 use proof_attempts::hosts_count_awake;
+use proof_attempts::requests::hosts_ask_as_told;
 use proof_known::hosts_know_what_nodes_list;
-use proof_requests::hosts_ask_as_told;
 
 /// In any run of a host alone, also where it starts again, over a keeper that tells its records and has none at first, by messages that are heeded as the host
 /// took them: as long as no node has woken what waits by the transcript is what waits in the host. So where no line is refused that is for others, a line is

@@ -5,7 +5,7 @@ use Rattle.s0_crypto.specs.declared.key_pair.Keys.{Keys}
 use Rattle.zw_text.specs.declared.entry.Entry.{Entry}
 use Rattle.zw_text.specs.declared.entry.Entry.TheVariants.{Said}
 use Rattle.law_transcript.specs.Lists.{EachAfter}
-use Rattle.proof_transcript.proofs.AnswerFacts.{count_is}
+use Rattle.proof_known.proofs.AnswerFacts.{count_is}
 use Rattle.proof_known.specs.law_host.Heard.{listing_heard}
 use Rattle.proof_known.specs.proof_alone.State.{HostMachine, first_alone}
 use Rattle.proof_known.specs.proof_alone.Phases.{Phase, Resting}

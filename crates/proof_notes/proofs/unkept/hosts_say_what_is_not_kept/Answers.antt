@@ -1,7 +1,7 @@
 -- The walk over the notes of payloads, and over which nodes count as awake.
 use Rattle.std.proofs.Common.{[], ◌∷◌}
 use Rattle.proof_host.specs.Laws.{MayStand}
-use Rattle.proof_transcript.proofs.AnswerFacts.{count_is}
+use Rattle.proof_known.proofs.AnswerFacts.{count_is}
 use Rattle.proof_attempts.specs.Since.{KnowsSince}
 use Rattle.proof_attempts.specs.Waking.{CountsAwake}
 use Rattle.proof_attempts.proofs.Lasting.{law_along}

@@ -2,8 +2,8 @@
 use Rattle.std.specs.Prelude.{Some, []}
 use Rattle.world_model.specs.State.{first_machine}
 use Rattle.world_lines.specs.Spoken.{transcript_of}
-use Rattle.proof_requests.specs.law_host.Heard.{heard_by_host}
-use Rattle.proof_requests.specs.proof_alone.State.{first_alone}
+use Rattle.proof_attempts.specs.proof_requests.law_host.Heard.{heard_by_host}
+use Rattle.proof_attempts.specs.proof_requests.proof_alone.State.{first_alone}
 use Rattle.proof_queue.proofs.fits.hosts_fit_their_queue.Goals as goal
 
 pub returns-clause-told : goal.returns-clause-told

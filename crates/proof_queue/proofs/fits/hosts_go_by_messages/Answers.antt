@@ -6,12 +6,12 @@ use Rattle.zw_text.specs.declared.entry.Entry.{Entry}
 use Rattle.law_time.specs.Moments.{Allows}
 use Rattle.law_time.specs.Waking.{may_wake}
 use Rattle.proof_host.specs.Facts.{Facts}
-use Rattle.proof_requests.specs.law_host.Heard.{listing_heard}
-use Rattle.proof_requests.specs.proof_alone.State.{HostMachine, first_alone}
-use Rattle.proof_requests.specs.proof_alone.Phases.{Phase, Open}
-use Rattle.proof_requests.specs.proof_alone.Runs.{Run}
-use Rattle.proof_requests.specs.proof_waking.Judged.{TieFrames}
-use Rattle.proof_requests.proofs.Running.{run_keeps}
+use Rattle.proof_attempts.specs.proof_requests.law_host.Heard.{listing_heard}
+use Rattle.proof_attempts.specs.proof_requests.proof_alone.State.{HostMachine, first_alone}
+use Rattle.proof_attempts.specs.proof_requests.proof_alone.Phases.{Phase, Open}
+use Rattle.proof_attempts.specs.proof_requests.proof_alone.Runs.{Run}
+use Rattle.proof_attempts.specs.proof_requests.proof_waking.Judged.{TieFrames}
+use Rattle.proof_attempts.proofs.Running.{run_keeps}
 use Rattle.proof_known.specs.Known.{KnowsOrders}
 use Rattle.proof_sending.proofs.Grounds.{carried_so}
 use Rattle.proof_queue.proofs.Choosing.{chooses}

@@ -4,12 +4,12 @@ use Rattle.std.specs.Prelude.{Some}
 use Rattle.s0_crypto.specs.declared.key_pair.Keys.{Keys}
 use Rattle.zw_text.specs.declared.entry.Entry.{Entry}
 use Rattle.proof_host.specs.Laws.{MayStand}
-use Rattle.proof_requests.specs.proof_alone.State.{HostMachine, first_alone}
-use Rattle.proof_requests.specs.proof_alone.Phases.{Phase}
-use Rattle.proof_requests.specs.proof_alone.Runs.{Run, both_know}
-use Rattle.proof_requests.specs.proof_alone.Tables.{KnowsTables}
-use Rattle.proof_requests.proofs.Queued.{PayloadsBring}
-use Rattle.proof_requests.proofs.Running.{run_keeps}
+use Rattle.proof_attempts.specs.proof_requests.proof_alone.State.{HostMachine, first_alone}
+use Rattle.proof_attempts.specs.proof_requests.proof_alone.Phases.{Phase}
+use Rattle.proof_attempts.specs.proof_requests.proof_alone.Runs.{Run, both_know}
+use Rattle.proof_attempts.specs.proof_requests.proof_alone.Tables.{KnowsTables}
+use Rattle.proof_attempts.proofs.Queued.{PayloadsBring}
+use Rattle.proof_attempts.proofs.Running.{run_keeps}
 use Rattle.proof_attempts.specs.Since.{KnowsSince}
 use Rattle.proof_attempts.specs.Waking.{CountsAwake}
 use Rattle.proof_queue.proofs.Walking.{Grounds}
