@@ -81,20 +81,20 @@ use Rattle.proof_chip.proofs.Tallied.{before_number_t, none_so, now_number_t, no
 use Rattle.proof_chip.proofs.Tallying.{before_next, before_over, now_said, now_ticks}
 
 -- between events where no results are to come
-abbrev NowSo : List State → List Step → List Entry → OuterState → Type 0
+abbrev pub NowSo : List State → List Step → List Entry → OuterState → Type 0
 NowSo devices did past o = TallySo (TallyNow devices (outlook o) (awaits_number o) 0) did past o.chip.state.port
 
 -- and in a tick before
-abbrev BeforeSo : List State → Bool → ℕ → List Step → List Entry → OuterState → Type 0
+abbrev pub BeforeSo : List State → Bool → ℕ → List Step → List Entry → OuterState → Type 0
 BeforeSo devices arriving left did past o = TallySo (TallyBefore devices (outlook o) arriving left (awaits_number o) 0) did past o.chip.state.port
 
 -- as many frames are shown as were sent
-many_sent : (past : List Entry) (w : Outside) → Tie nothing past w → length (frames past) ≡ w.outer.air.frames.sent
+pub many_sent : (past : List Entry) (w : Outside) → Tie nothing past w → length (frames past) ≡ w.outer.air.frames.sent
 many_sent past w tie = sym (frames_sent past) ∙ (ap goes_in (sym (tie.shown ∙ append-nil (log_of past))) ∙ (plain_sent tie.log ∙ sym tie.kept.sent))
 
 -- ---- events of the host
 
-host_covers : CoversHost IsHosts
+pub host_covers : CoversHost IsHosts
 host_covers = record { writes = λ unit. tt; takes = λ count. tt; notes = is_note }
 
 answers_covered : (h : HostState) (event : HostEvent) → AllByRecursion (λ (note : Entry). IsHosts (Host_notes note)) (answers h event)
@@ -102,22 +102,22 @@ answers_covered h (Accepts order carriage) = (tt, tt)
 answers_covered h (Cancels command) = (tt, tt)
 answers_covered h event = tt
 
-abbrev IsOfHost : Event → Type 0
+abbrev pub IsOfHost : Event → Type 0
 IsOfHost (Outside_does event) = ⊥
 IsOfHost event = Unit {0}
 
-covers_host : (event : Event) → IsOfHost event → CoversOuter IsHosts event
+pub covers_host : (event : Event) → IsOfHost event → CoversOuter IsHosts event
 covers_host (Outside_does event) is = absurd is
 covers_host event is = tt
 
-covers_answer : (event : Event) → IsOfHost event → CoversAnswer IsHosts event
+pub covers_answer : (event : Event) → IsOfHost event → CoversAnswer IsHosts event
 covers_answer (Outside_does event) is = absurd is
 covers_answer (Host_does event) is = λ h. answers_covered h event
 covers_answer (Refuses line refusal) is = tt
 covers_answer (Shows_values node) is = λ text. tt
 covers_answer event is = tt
 
-no_steps : (m : Machine) (event : Event) → IsOfHost event → event_steps m event ≡ []
+pub no_steps : (m : Machine) (event : Event) → IsOfHost event → event_steps m event ≡ []
 unfolding event_steps
 no_steps m (Outside_does event) is = absurd is
 no_steps m event is = refl
@@ -132,12 +132,12 @@ module _ (devices : List State) (did : List Step) where
   keeps_both : (w u v : Outside) (xs ys : List Entry) → Keeps w xs u → Keeps u ys v → Keeps w (xs ++ ys) v
   keeps_both w u v xs ys first later past so = subst (λ (l : List Entry). NowSo devices did l v.outer) (append_assoc past xs ys) (later (past ++ xs) (first past so))
 
-  hosts_keep : (w : Outside) (event : OuterEvent) → IsHosts event → Keeps w (entries_outside w event) (happens_outside w event)
+  pub hosts_keep : (w : Outside) (event : OuterEvent) → IsHosts event → Keeps w (entries_outside w event) (happens_outside w event)
   hosts_keep w event is past so =
       aside_now_t devices w.outer (outcome w event) did past (hosts_apart w event is) (ap (λ (s : ChipState). s.port.side) (hosts_chip w event is)) (ap (λ (s : ChipState). s.port.waiting) (hosts_chip w event is))
       (hosts_look w event is) (hosts_await w event is) so
 
-  session_keeps : (w : Outside) (node session command : ℕ)
+  pub session_keeps : (w : Outside) (node session command : ℕ)
       → Keeps w (entries_outside w (Host_begins node session) ++ entries_outside (happens_outside w (Host_begins node session)) (Host_notes (entry.Begin node session command)))
       (happens_outside (happens_outside w (Host_begins node session)) (Host_notes (entry.Begin node session command)))
   session_keeps w node session command =
@@ -153,7 +153,7 @@ module _ (devices : List State) (did : List Step) where
 
 -- ---- other events outside the host
 
-still_steps : (w : Outside) (event : OuterEvent) → IsStill event → outer_steps w event ≡ []
+pub still_steps : (w : Outside) (event : OuterEvent) → IsStill event → outer_steps w event ≡ []
 unfolding outer_steps
 still_steps w (Chip_takes count rest ways) still = absurd still
 still_steps w Chip_ticks still = absurd still
@@ -164,13 +164,13 @@ still_steps w (Repeats number drawn route) still = absurd still
 still_steps w event still = refl
 
 -- which of these an event of a line is
-data Kind (event : OuterEvent) : Type 0 where
+pub data Kind (event : OuterEvent) : Type 0 where
   Stays_still : IsStill event → IsSteady event → Kind event
   Ticks_chip : event ≡ Chip_ticks → Kind event
   Collides_it : event ≡ Collides_next → Kind event
   Repeats_one : (number : ℕ) (drawn : List ℕ) (route : Option Route) → event ≡ Repeats number drawn route → Kind event
 
-kind_of : (event : OuterEvent) → IsOfLine event → Kind event
+pub kind_of : (event : OuterEvent) → IsOfLine event → Kind event
 kind_of Begins_line is = absurd is
 kind_of Begins_tick is = absurd is
 kind_of (Host_writes unit) is = absurd is
@@ -185,7 +185,7 @@ kind_of Chip_ticks is = Ticks_chip refl
 kind_of Collides_next is = Collides_it refl
 kind_of event is = Stays_still tt tt
 
-unanswered : (b : Bool) (event : ChipEvent) → (event ≡ ticked_event) ⊎ (event ≡ Collides) → IsUnanswered b event
+pub unanswered : (b : Bool) (event : ChipEvent) → (event ≡ ticked_event) ⊎ (event ≡ Collides) → IsUnanswered b event
 unanswered true event is = tt
 unanswered false event (inl is) = subst (λ (e : ChipEvent). IsUnanswered false e) (sym is) tt
 unanswered false event (inr is) = subst (λ (e : ChipEvent). IsUnanswered false e) (sym is) tt
@@ -332,7 +332,7 @@ module _ (devices : List State) (laws : Laws) (none : NoNexting) (did : List Ste
 
 -- ---- each phase
 
-covers_line : (line : Line) → CoversLine IsOfLine line
+pub covers_line : (line : Line) → CoversLine IsOfLine line
 covers_line (lines.Repeat frame) = λ drawn route. tt
 covers_line (lines.Wake node) = λ route. tt
 covers_line (lines.Local node value) = λ route. tt
@@ -372,7 +372,7 @@ module _ (devices : List State) (laws : Laws) (none : NoNexting) (Ground : Phase
   host_now past m event is may so = host_goes devices did m event is may past so
 
   -- an event of the effect of a line
-  again_of : (line : Line) (left : List Event) (past : List Entry) (m : Machine) (number : ℕ) (drawn : List ℕ) (route : Option Route)
+  pub again_of : (line : Line) (left : List Event) (past : List Entry) (m : Machine) (number : ℕ) (drawn : List ℕ) (route : Option Route)
       → KnowLanding (Doing line (Outside_does (Repeats number drawn route) ∷ left)) past m → (answers_repeat past ≡ true) × (m.outside.outer.in_tick ≡ false)
   again_of line left past m number drawn route (inl one) = (ap is_repeat one.opened.0.last, one.opened.1)
   again_of line left past m number drawn route (inr (none_lands, landed)) = absurd none_lands.0
@@ -498,7 +498,7 @@ module _ (devices : List State) (laws : Laws) (none : NoNexting) (Ground : Phase
       (λ count course all was. before_next devices course all (outlook o) (outlook o) true false (awaits_number o) 0 0 count 0 count refl refl (λ many is. omega (arith, is)) was.numbered (λ entries own. own) was)
       did past o.chip.state.port so
 
-  none_due : (due : List Due) → length due ≡ 0 → infos_in due ≡ 0
+  pub none_due : (due : List Due) → length due ≡ 0 → infos_in due ≡ 0
   none_due [] is = refl
   none_due (first ∷ due) is = absurd (omega (arith, is))
 
