@@ -1,6 +1,6 @@
 -- Frames between node 1 and the others: which are lost, and which may be repeated (this project's own rule, docs/INCLUSION.md).
-use Rattle.std.specs.Prelude.{ℕ, ◌+◌, ◌-◌, ◌^◌, ◌==◌, ◌&&◌, ◌||◌, not, min, nat_eq, nat_lt, nat_le, if◌then◌else◌, Bool, true, false, drop, Option, Some, None, List, [], ◌∷◌, ◌++◌, length, replicate, slice_set, slice_index, slice_index_or}
-use Rattle.std.specs.Cmp.Lexicographic.{pointwise}
+use Rattle.std.specs.Prelude.{ℕ, ◌+◌, ◌-◌, ◌^◌, ◌==◌, ◌&&◌, ◌||◌, min, nat_lt, nat_le, if◌then◌else◌, Bool, true, false, drop, Option, Some, None, List, [], ◌∷◌, ◌++◌, length, replicate, slice_set, slice_index, slice_index_or}
+use Rattle.air_frames.specs.Nonces.{is_news}
 use Rattle.include_text.specs.declared.entry.IncludeEntry.{IncludeEntry}
 use Rattle.include_text.specs.declared.entry.IncludeEntry.TheVariants.{Air}
 use Rattle.include_text.specs.declared.entry.IncludeRefusal.{IncludeRefusal}
@@ -29,11 +29,6 @@ pub record Airing : Type 0 where
 abbrev pub nonce_in : List ℕ → Option (List ℕ)
 nonce_in payload =
     if length payload == 10 && ((slice_index payload 0 == 0x98) && (slice_index payload 1 == 0x80)) then Some (drop 2 payload) else None
-
--- a nonce is news where it is the first, or another than the one before
-abbrev pub is_news : Option (List ℕ) → List ℕ → Bool
-is_news None nonce = true
-is_news (Some before) nonce = not (pointwise nat_eq before nonce)
 
 -- nothing was counted
 abbrev pub no_counts : Pair

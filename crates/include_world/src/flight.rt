@@ -1,8 +1,9 @@
 //! Frames, and what is counted between node 1 and another node.
 
 ghost use Rattle.std.specs.Prelude.{◌≡◌, ◌+◌, ◌^◌, ◌<◌, Option};
-ghost use Rattle.include_world.specs.Air.{is_news, nonce_in, showing, last_of, no_counts};
+ghost use Rattle.include_world.specs.Air.{nonce_in, showing, last_of, no_counts};
 
+use air_frames::is_new;
 use zw_base::{NodeId, Payload};
 
 /// The command class Security 0.
@@ -59,16 +60,6 @@ fn nonce_of(payload: &[u8]) -> Option<[u8; 8]>
         return Some(nonce);
     }
     None
-}
-
-/// Whether a nonce is the first, or another than the one before.
-fn is_new(last: Option<[u8; 8]>, nonce: &[u8; 8]) -> bool
-    ensures { result ≡ is_news last nonce.now }
-{
-    match last {
-        Some(before) => before != *nonce,
-        None => true,
-    }
 }
 
 impl Pair {

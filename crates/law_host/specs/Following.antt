@@ -4,20 +4,19 @@ use Rattle.std.specs.Prelude.{ℕ, ◌==◌, ◌&&◌, ◌||◌, not, bytes_eq, 
 use Rattle.serial_frame.specs.declared.unit.TheConstants.{NAK}
 use Rattle.zw_base.specs.PropertyOrder.{same_property}
 use Rattle.zw_base.specs.declared.property.Setting.{Setting}
-use Rattle.zw_words.specs.declared.side.Side.TheVariants.{Host}
+use Rattle.zw_words.specs.declared.side.Side.TheVariants.{Host, Chip}
 use Rattle.zw_text.specs.Entry.{done_word, ended_word}
 use Rattle.zw_text.specs.declared.entry.Ended.{Ended}
 use Rattle.zw_text.specs.declared.entry.Ended.TheVariants.{Cancelled}
 use Rattle.zw_text.specs.declared.entry.Entry.{Entry}
-use Rattle.zw_text.specs.declared.entry.Entry.TheVariants.{Said, Written, Begin, Out, Store, Report, Unstored, Old, Unread, Awake, Asleep, Interviewed, InterviewFailed, Done, Neighbours, Failed, QueueFull, Held, Unkept, Time}
+use Rattle.zw_text.specs.declared.entry.Entry.TheVariants.{Said, Written, Dropped, Garbled, Overrun, Begin, Out, Store, Report, Unstored, Old, Unread, Awake, Asleep, Interviewed, InterviewFailed, Done, Neighbours, Failed, QueueFull, Held, Unkept, Time}
 use Rattle.law_time.specs.Heeds.{Heeds}
 use Rattle.law_time.specs.Moments.{clock, now_at}
-use Rattle.law_time.specs.Judged.{is_acknowledgement, is_mark}
+use Rattle.law_time.specs.Judged.{is_acknowledgement, is_data, is_mark, is_of_air, is_of_chip}
 use Rattle.law_time.specs.Requests.{are_none, asked, is_new, starts_anew}
 use Rattle.law_time.specs.Questions.{same_bool}
 use Rattle.law_time.specs.Ends.{is_over}
 use Rattle.law_time.specs.Choice.{is_to_begin}
-use Rattle.law_time.specs.Queue.{is_before_host}
 use Rattle.law_host.specs.Course.{Course, each_in_turn, restarted}
 use Rattle.law_host.specs.Frames.{frame_next, judges}
 use Rattle.law_host.specs.Nonces.{may_be_sent, sends}
@@ -103,6 +102,14 @@ nothing_due course = record course { fits = course.fits && are_none course.due; 
 -- all ticks before an entry that begins a line or a tick have passed with nothing to note
 abbrev pub passes : Heeds → List Entry → Entry → Course → Course
 passes heeds past entry course = nothing_due (ticks heeds past (now_at past entry) (nothing_due course))
+
+-- what may stand in a tick before the host's own part of it: what is of the air and of devices, frames that the chip writes, and what becomes of its units
+abbrev pub is_before_host : Entry → Bool
+is_before_host (Written Chip unit) = is_data unit
+is_before_host (Dropped Chip) = true
+is_before_host (Garbled Chip unit) = true
+is_before_host (Overrun Chip) = true
+is_before_host entry = is_of_air entry || is_of_chip entry
 
 -- the host's own part of a tick is done before an entry that may not stand before it
 abbrev pub has_ticked : Heeds → List Entry → Entry → Course → Course

@@ -48,15 +48,16 @@ ShowsValues listing past entry = IsShown listing past (line_last past) entry
 
 -- ---- the law
 
--- the host answers lines, has one session of a node at a time and each command in one, keeps the rules of its link, sends and notes what it
--- should, and nothing else; stores what is confirmed and shows what it stored; is prompt; and its records, where they are told, say what it showed
+-- the host answers lines, has one session of a node at a time and each command in one, keeps the rules of its link by the clock of what stood before,
+-- sends and notes what it should, and nothing else; stores what is confirmed and shows what it stored; is prompt; and its records, where they are told, say
+-- what it showed
 pub record IsHostLegal (key : List ℕ) (heeds : Heeds) (start : Start) (whole : Bool) (heard : List Entry)
     (records : Option (List (List ℕ))) : Type 0 where
   pub answers : AnswersAfter start.before whole heeds.listing (refusals_by_host heeds.listing) heard
   pub cancels : EachAfter MayCancel start.before heard
   pub sessions : EachAfter MayBegin start.before heard
   pub carries : (node : ℕ) → CarriesOnce node (start.before ++ heard)
-  pub link : KeepsLink Host (ended whole heard)
+  pub link : KeepsLink Host (ended whole (start.before ++ heard))
   pub notes : NotesWhatHappens key heeds start whole heard
   pub stores : StoresConfirmed whole heeds.listing (start.before ++ heard)
   pub values : EachAfter (ShowsValues heeds.listing) start.before (ended whole heard)

@@ -478,16 +478,20 @@ life_records =
     records.Joined 5 ∷ records.Classes 5 false (0x31 ∷ 0x80 ∷ 0x84 ∷ 0x6C ∷ []) ∷ records.Accepted 1 (record { node = 2; end = 0; what = Value On })
     ∷ records.Begun 2 1 1 ∷ records.Final 2 1 Success ∷ records.Accepted 2 (record { node = 2; end = 0; what = Value Off }) ∷ []
 
--- a life in which a session has begun and not ended, of which `begun_records` of `law_wire` were kept
+-- a life of three ticks in which a session has begun and not ended, of which `begun_records` of `law_wire` were kept
 abbrev pub open_life : List Entry
-open_life = take 3 plain_exchange ++ Said (codes "restart") ∷ []
+open_life = take 3 plain_exchange ++ Said (codes "tick 3") ∷ Said (codes "restart") ∷ []
 
 abbrev pub after_open_life : Start
 after_open_life = record { before = open_life; books = [] }
 
--- its message is sent again
+-- its message
+abbrev pub message_again : Entry
+message_again = by_host (codes "010E001302076C0101032501FF250177")
+
+-- it is sent again, and a copy of it in the sixteenth tick from then on, which is acknowledged
 abbrev pub session_resumed : List Entry
-session_resumed = by_host (codes "010E001302076C0101032501FF250177") ∷ chip_acknowledges ∷ taken ∷ host_acknowledges ∷ []
+session_resumed = message_again ∷ Said (codes "tick 16") ∷ Time 19 ∷ message_again ∷ chip_acknowledges ∷ taken ∷ host_acknowledges ∷ []
 
 -- the command that waits begins the next session, or the first one again
 abbrev pub next_session : List Entry

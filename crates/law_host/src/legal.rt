@@ -97,7 +97,7 @@ pub fn worked_life()
     ensures { IsLegalFrom [] (map record_text life_records) true next_session None }
 {}
 
-/// From those of a session that has not ended it sends the message of that session again.
+/// From those of a session that has not ended it sends the message of that session again, and a copy of it as its own link counts ticks.
 pub fn worked_open_life()
     ensures { IsLegalFrom [] (map record_text begun_records) true session_resumed None }
 {}

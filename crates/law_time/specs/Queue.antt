@@ -1,26 +1,26 @@
 -- Which requests wait, and when their queue is full (this project's own rule: 64 may wait; what nodes ask for, Security 0, Transport
 -- Service and Wake Up Command Classes).
-use Rattle.std.specs.Prelude.{ℕ, ◌+◌, ◌-◌, ◌==◌, ◌&&◌, ◌||◌, not, bytes_eq, is_some, nat_le, nat_lt, Bool, true, false, if◌then◌else◌, List, [], ◌∷◌, ◌++◌, length, filter, map, drop}
+use Rattle.std.specs.Prelude.{ℕ, ◌+◌, ◌==◌, ◌&&◌, ◌||◌, not, bytes_eq, is_some, nat_le, nat_lt, Bool, true, false, if◌then◌else◌, List, [], ◌∷◌, ◌++◌, length, filter, map, drop}
 use Rattle.std.specs.List.{flat_map, list_any}
 use Rattle.zw_words.specs.declared.side.Side.TheVariants.{Host, Chip}
 use Rattle.zw_text.specs.declared.entry.Refusal.TheVariants as refusals
 use Rattle.zw_text.specs.declared.entry.Entry.{Entry}
-use Rattle.zw_text.specs.declared.entry.Entry.TheVariants.{Said, Refused, Begin, Written, Dropped, Garbled, Overrun, QueueFull, Awake, Asleep, Unkept, Time}
+use Rattle.zw_text.specs.declared.entry.Entry.TheVariants.{Said, Refused, Begin, Written, QueueFull, Awake, Asleep, Unkept, Time}
 use Rattle.zw_text.specs.Transcript.{folded, shown, joined, line_last, line_of, words_said}
 use Rattle.law_wire.specs.law_transcript.Answers.{before_last}
 use Rattle.law_wire.specs.law_transcript.Commands.{waiting}
 use Rattle.law_wire.specs.law_transcript.Nodes.{known_classes}
 use Rattle.law_wire.specs.law_transcript.Restarts.{begins_refused}
-use Rattle.law_wire.specs.law_transcript.Units.{Carried, request_in}
+use Rattle.law_wire.specs.law_transcript.Units.{Carried}
 use Rattle.law_time.specs.Heeds.{Heeds}
 use Rattle.law_time.specs.Moments.{Keeps, clock, later_of, now_at}
-use Rattle.law_time.specs.Judged.{is_data, is_acknowledgement, is_mark, is_no_note, is_of_air, is_of_chip, brought_here, last_of}
+use Rattle.law_time.specs.Judged.{is_acknowledgement, is_mark, is_no_note, brought_here, last_of}
 use Rattle.law_time.specs.Requests.{Asked, are_none, asked, asked_after, asked_nothing, is_new, starts_anew}
-use Rattle.law_time.specs.Ends.{has_ended, is_abort_frame}
+use Rattle.law_time.specs.Ends.{is_abort_frame}
 use Rattle.law_time.specs.Sessions.{runs}
-use Rattle.law_time.specs.Waking.{is_awake_sleeper}
+use Rattle.law_time.specs.Waking.{has_slept, is_awake_sleeper, is_told as tells_it}
 use Rattle.law_time.specs.Holds.{held_until}
-use Rattle.law_time.specs.Wants.{want_of, no_more, wants_of, wants_brought}
+use Rattle.law_time.specs.Wants.{no_more, wants_of, wants_brought}
 
 -- what the requests that wait want, in order; the nodes whose No More Information found the queue full since they woke; and those of
 -- which it is to be told that a message was dropped
@@ -61,11 +61,11 @@ with_brought heeds past rest queue carried = each_with (with_asked carried.node)
 
 -- ---- No More Information
 
--- whether it waits for a node, is under way, or was dropped since the node woke
-abbrev pub is_told : Asked → ℕ → Queue → ℕ → Bool
-is_told asked now queue node =
+-- whether it waits for a node, was dropped since the node woke, or was the last request, since which the node has not slept
+abbrev pub is_told : Asked → Queue → ℕ → Bool
+is_told asked queue node =
     list_any (bytes_eq (no_more node)) queue.wants || list_any (λ one. one == node) queue.dropped
-    || (list_any (λ request. bytes_eq (no_more node) (want_of request)) (request_in asked.frame) && not (has_ended asked now))
+    || (tells_it node asked.frame && not (has_slept node asked.following))
 
 -- there is nothing for a node: it counts as awake, does not listen, its classes are known, no command waits and no series runs
 abbrev pub has_nothing : Heeds → List Entry → ℕ → ℕ → Bool
@@ -103,49 +103,40 @@ abbrev pub have_woken : List Entry → List ℕ
 have_woken past = if are_none (shown woke_at past) then [] else joined past
 
 -- it is put into the queue for each that is to be told
-abbrev pub with_due : Heeds → List Entry → ℕ → ℕ → Asked → Queue → Queue
-with_due heeds past now ended asked queue =
+abbrev pub with_due : Heeds → List Entry → ℕ → Asked → Queue → Queue
+with_due heeds past now asked queue =
     each_with with_no_more queue
-    (map (λ due. due.node) (in_order (filter (λ due. not (is_told asked ended queue due.node)) (flat_map (due_of heeds past now) (have_woken past)))))
+    (map (λ due. due.node) (in_order (filter (λ due. not (is_told asked queue due.node)) (flat_map (due_of heeds past now) (have_woken past)))))
 
 -- whether what the chip writes came as bytes, in one line or in one read, the words of which are no line of a scenario: the host judges it all before it looks
 abbrev pub comes_at_once : List Entry → Bool
 comes_at_once past = list_any (λ words. are_none (line_of (Said words))) (last_of (words_said past))
+
+-- whether nothing of the chip was judged since a line was said, a tick began or the chip wrote, as far as acknowledgements tell
+abbrev pub first_step : Bool → Entry → Bool
+first_step first (Said words) = true
+first_step first (Time tick) = true
+first_step first (Written Chip unit) = true
+first_step first (Written Host unit) = first && not (is_acknowledgement unit)
+first_step first entry = first
+
+-- the host has looked before what is judged first: it does after each line and tick, and when it has judged what came
+abbrev pub judges_first : List Entry → Bool
+judges_first past = folded first_step true past && not (comes_at_once past)
 
 -- whether the host has looked what is next before an entry: it does after each line, read and tick, and when it has judged what came
 abbrev pub has_looked : List Entry → Asked → Queue → Entry → Bool
 has_looked past asked queue (Said words) = true
 has_looked past asked queue (Time tick) = true
 has_looked past asked queue (Begin node session command) = true
-has_looked past asked queue (Written Chip unit) = not (comes_at_once past)
-has_looked past asked queue (Written Host unit) = is_new asked unit
+has_looked past asked queue (Written Host unit) = is_new asked unit || (is_acknowledgement unit && judges_first past)
 has_looked past asked queue (QueueFull node) = are_none queue.owed
 has_looked past asked queue _ = false
-
--- what may stand in a tick before the host's own part of it: what is of the air and of devices, frames that the chip writes, and what becomes of its units
-abbrev pub is_before_host : Entry → Bool
-is_before_host (Written Chip unit) = is_data unit
-is_before_host (Dropped Chip) = true
-is_before_host (Garbled Chip unit) = true
-is_before_host (Overrun Chip) = true
-is_before_host entry = is_of_air entry || is_of_chip entry
-
--- whether the host's own part of a tick is still to come, as far as the entries tell
-abbrev pub before_host_step : Bool → Entry → Bool
-before_host_step before (Said words) = false
-before_host_step before (Time tick) = true
-before_host_step before entry = before && is_before_host entry
-
--- The clock at which the end of a request counts before an entry. A unit that the chip writes in a tick before the host's own part stands before that request ends, if
--- it ends in this tick: what the host says of the end stands after it.
-abbrev pub ends_by : List Entry → Entry → ℕ
-ends_by past (Written Chip unit) = if folded before_host_step false past then now_at past (Written Chip unit) - 1 else now_at past (Written Chip unit)
-ends_by past entry = now_at past entry
 
 -- the queue as it is before an entry
 abbrev pub looked : Heeds → List Entry → Asked → Queue → Entry → Queue
 looked heeds past asked queue entry =
-    if has_looked past asked queue entry then with_due heeds past (now_at past entry) (ends_by past entry) asked queue else queue
+    if has_looked past asked queue entry then with_due heeds past (now_at past entry) asked queue else queue
 
 -- ---- what waits
 

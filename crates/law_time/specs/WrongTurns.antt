@@ -130,7 +130,7 @@ resent_of_plain =
 abbrev pub dropped_twice : List Entry
 dropped_twice = dropped_at_once ++ QueueFull 4 ∷ []
 
--- a message is dropped, and a tick, a session or a unit of the chip stands before that is said
+-- a message is dropped, and a tick, a session or what the host judges next stands before that is said
 abbrev pub undropped_in_tick : List Entry
 undropped_in_tick = awake_though_full ++ Held 5 ∷ Said (codes "tick 200") ∷ Time 150 ∷ []
 
@@ -138,7 +138,7 @@ abbrev pub undropped_before_session : List Entry
 undropped_before_session = awake_though_full ++ Begin 2 1 1 ∷ []
 
 abbrev pub undropped_before_unit : List Entry
-undropped_before_unit = awake_though_full ++ chip_acknowledges ∷ []
+undropped_before_unit = awake_though_full ++ chip_acknowledges ∷ host_acknowledges ∷ []
 
 -- ---- aborts
 

@@ -1,16 +1,15 @@
 -- What is not due: a payload that is no message of a session, begins as no other text and was asked for by no line.
-use Rattle.std.proofs.Common.{◌≡◌, ◌⊎◌, ℕ, ◌+◌, ◌*◌, ◌/◌, ◌==◌, Bool, false, List, [], ◌∷◌, ◌++◌, length, refl, inl, inr, ap, sym, subst, ◌∙◌, arith}
+use Rattle.std.proofs.Common.{◌≡◌, ◌⊎◌, ℕ, ◌+◌, ◌*◌, ◌==◌, Bool, false, List, [], ◌∷◌, ◌++◌, length, refl, inl, inr, ap, sym, subst, ◌∙◌, arith}
 use Rattle.std.specs.Prelude.{zero, suc, ◌<◌, true, take, drop, slice_index, if◌then◌else◌}
 use Rattle.std.proofs.Math.Seq.{take-append_seam}
 use Rattle.std.proofs.lemmas.List.{length-append}
-use Rattle.std.proofs.lemmas.List.{length-take-le}
 use Rattle.std.proofs.lemmas.List.FromFn.{length-map-range_with_len}
-use Rattle.aes_block.specs.Cipher.{aes, add_round_key}
 use Rattle.s0_crypto.specs.declared.ends.SealEnds.{SealEnds}
 use Rattle.s0_crypto.specs.declared.key_pair.Keys.{Keys}
-use Rattle.s0_crypto.specs.Modes.{ofb, ofb_from, cbc_mac, chained}
-use Rattle.s0_crypto.specs.Seal.{code_of, covered}
+use Rattle.s0_crypto.specs.Modes.{ofb, ofb_from}
+use Rattle.s0_crypto.specs.Seal.{code_of}
 use Rattle.s0_crypto.specs.Sealing.{keys_of, sealed_text}
+use Rattle.s0_crypto.proofs.OpeningLemmas.{length-code_of}
 use Rattle.transport_segments.specs.Segment.{segment_text}
 use Rattle.transport_segments.specs.Parts.{slice_at}
 use Rattle.law_transcript.specs.Worked.{network_key}
@@ -75,18 +74,6 @@ cipher_length : (key vector text : List ℕ) → length (ofb key vector text) �
 unfolding ofb_from
 cipher_length key vector text = length-map-range_with_len _ 0 (length text)
 
-chained_length : (key text : List ℕ) (count : ℕ) → length (chained key text count) ≡ 16
-unfolding chained aes add_round_key
-chained_length key text zero = refl
-chained_length key text (suc count) = refl
-
-code_length : (keys : Keys) (vector : List ℕ) (ends : SealEnds) (text : List ℕ) → length (code_of keys vector ends text) ≡ 8
-unfolding code_of cbc_mac
-code_length keys vector ends text =
-    let count : ℕ = (length (covered vector ends text) + 15) / 16 in
-    let whole = chained_length keys.code (covered vector ends text) count in
-    length-take-le 8 (chained keys.code (covered vector ends text) count) (omega (arith, whole))
-
 all_lengths : (own text code plain : List ℕ) (byte : ℕ) → length own ≡ 8 → length text ≡ suc (length plain) → length code ≡ 8
     → suc (suc (length (own ++ (text ++ byte ∷ code)))) ≡ length plain + 20
 all_lengths own text code plain byte eight of_text of_code = omega (arith, eight, of_text, of_code, length-append own (text ++ byte ∷ code), length-append text (byte ∷ code))
@@ -96,7 +83,7 @@ unfolding sealed_text
 sealed_size keys own nonce ends plain eight =
     let cipher : List ℕ = ofb keys.encrypt (own ++ nonce) (0 ∷ plain) in
     all_lengths own cipher (code_of keys (own ++ nonce) ends cipher) plain (slice_index nonce 0) eight (cipher_length keys.encrypt (own ++ nonce) (0 ∷ plain))
-    (code_length keys (own ++ nonce) ends cipher)
+    (length-code_of keys (own ++ nonce) ends cipher)
 
 -- so one of seven bytes has no 28 when sealed
 pub sealed_length : (own nonce plain payload : List ℕ) → length own ≡ 8 → length plain ≡ 7 → length payload ≡ 28

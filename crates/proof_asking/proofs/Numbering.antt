@@ -62,7 +62,7 @@ use Rattle.proof_requests.specs.proof_alone.Steps.{AreFrames, AreTold, DidNotCom
 use Rattle.proof_requests.specs.proof_alone.Phases.{Phase, Resting, Asked, Risen, Ticking, Open, Behind, Sleeping, Submitting, IsBetween, IsNumbered, May, Turns}
 use Rattle.proof_requests.specs.proof_alone.Runs.{WalkOver, both_know}
 use Rattle.proof_requests.specs.proof_waking.Judged.{IsOfRequest, KnowsJudged}
-use Rattle.proof_requests.proofs.proof_waking_Apart.{IsWordless, said_anew, said_in_vain, said_on, wordless_more}
+use Rattle.proof_requests.proofs.proof_waking_Apart.{IsWordless, said_anew, said_in_vain, said_on, wordless_fresh, wordless_more}
 use Rattle.proof_requests.proofs.proof_waking_Followed.{MayFollow, frame_all}
 use Rattle.proof_requests.proofs.HostOuts.{OutsAre, OwnIs, SharedAre, outs_are}
 use Rattle.proof_requests.proofs.proof_waking_Parts.{IsNote}
@@ -79,7 +79,6 @@ use Rattle.proof_requests.proofs.OnLine.{copies_now}
 use Rattle.proof_requests.proofs.Queued.{PayloadsBring}
 use Rattle.proof_requests.proofs.Queueing.{opened_asks}
 use Rattle.proof_requests.proofs.Stepping.{IsBeginning, Submits, asked_beside, behind_notes, asked_on as event_on, event_is_read, none_on, not_awaiting, submitted_is, time_told}
-use Rattle.proof_requests.proofs.Telling.{fresh_wordless}
 use Rattle.proof_requests.proofs.Walking.{IsWritten, copy_line, is_fresh, is_old, line_does, line_notes, line_outs, noted_notes, turn_idle, written_told}
 
 -- ---- entries that ask for nothing
@@ -174,7 +173,7 @@ counts_on past later given last frame counts = record { last = last ∙ counts.l
 counts_none : (past told : List Entry) (given : ℕ) → AllByRecursion EntryGoesOn told → AllByRecursion IsWordless told → sent_ids told ≡ [] → CountsIds past given → CountsIds (past ++ told) given
 counts_none past told given goes words none =
     counts_on past (past ++ told) given (last_more past (past ++ told) told (wordless_more past told words) ∙ ap (λ (l : List ℕ). last_or (last_id past) l) none)
-    (ap (λ (a : LastAsked). a.frame) (asked_on past told (fresh_wordless told words) goes))
+    (ap (λ (a : LastAsked). a.frame) (asked_on past told (wordless_fresh told words) goes))
 
 pub counts_quiet : (past told : List Entry) (given : ℕ) → AllByRecursion AsksNone told → CountsIds past given → CountsIds (past ++ told) given
 counts_quiet past told given all =

@@ -36,7 +36,7 @@ use Rattle.proof_requests.specs.proof_alone.Phases.{Phase, Resting, Asked, Risen
 use Rattle.proof_requests.specs.proof_alone.Time.{TieClock, passing}
 use Rattle.proof_requests.proofs.proof_alone_Apart.{AreOfLine, told_are}
 use Rattle.proof_requests.proofs.InOrder.{asked_puts, is_asked}
-use Rattle.proof_requests.proofs.proof_waking_Apart.{IsWordless}
+use Rattle.proof_requests.proofs.proof_waking_Apart.{IsWordless, wordless_fresh}
 use Rattle.proof_attempts.specs.Since.{InTick, IsBetweenTicks, IsLoose, IsOfItem, Lasts, TicksAt, is_to_tick, node_clock}
 use Rattle.proof_requests.specs.proof_alone.Listening.{KnowsListening}
 use Rattle.proof_attempts.specs.Waking.{HeldAsTold, KnowsHearing, KnowsWork, TellsAwake, Waking, one_less, releases_of, waking_before, waking_in, waking_step}
@@ -68,12 +68,8 @@ held_joined n past told fresh =
     hold_ahead n [] 0 (past ++ told) ∙ ahead_joined (hold_step n) (same_after n) [] 0 past told fresh
     ∙ ap (λ (until : ℕ). ahead_from (hold_step n) (same_after n) past until told) (sym (hold_ahead n [] 0 past)) ∙ sym (hold_ahead n past (held_until n past) told)
 
-wordless_fresh : (e : Entry) → IsWordless e → begins_refused (e ∷ []) ≡ false
-wordless_fresh (entry.Refused refusal) none = absurd none
-wordless_fresh e none = refl
-
 held_one : (n : ℕ) (past : List Entry) (e : Entry) → IsWordless e → held_until n (past ++ e ∷ []) ≡ hold_step n past (held_until n past) e []
-held_one n past e none = held_joined n past (e ∷ []) (wordless_fresh e none)
+held_one n past e none = held_joined n past (e ∷ []) (wordless_fresh (e ∷ []) (none, tt))
 
 -- words that do not start the host anew; that do; and that are refused
 by_words : (n : ℕ) (past : List Entry) (words : List ℕ) (anew : Bool) → is_restart (line_of (entry.Said words)) ≡ anew → held_until n (past ++ entry.Said words ∷ []) ≡ (if anew && true then 0 else held_until n past)

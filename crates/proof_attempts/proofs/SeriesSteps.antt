@@ -23,7 +23,7 @@ use Rattle.host_node.specs.TableState.{node_of as node_among, unknown_from, unkn
 use Rattle.host_model.specs.State.{HostState, first_host, first_nodes, node_of}
 use Rattle.proof_requests.specs.proof_alone.State.{HostMachine}
 use Rattle.proof_requests.specs.proof_alone.Phases.{Phase, Resting, Asked, Risen, Ticking, Open, Behind, Sleeping, Submitting, Turns}
-use Rattle.proof_requests.proofs.proof_waking_Apart.{IsWordless}
+use Rattle.proof_requests.proofs.proof_waking_Apart.{IsWordless, wordless_fresh}
 use Rattle.proof_attempts.specs.Series.{IsSeries, NodeAsTold, RunsAsTold, again_ticked, series_so_far, wait_end}
 use Rattle.proof_attempts.specs.Since.{IsElse}
 use Rattle.proof_attempts.proofs.Ahead.{ahead_from, ahead_joined}
@@ -51,14 +51,10 @@ series_joined n past told fresh =
     series_ahead n [] no_series (past ++ told) ∙ ahead_joined (step_of n) (same_after n) [] no_series past told fresh
     ∙ ap (λ (s : SeriesTold). ahead_from (step_of n) (same_after n) past s told) (sym (series_ahead n [] no_series past)) ∙ sym (series_ahead n past (series_so_far n past) told)
 
-wordless_fresh : (e : Entry) → IsWordless e → begins_refused (e ∷ []) ≡ false
-wordless_fresh (entry.Refused refusal) none = absurd none
-wordless_fresh e none = refl
-
 -- one entry that is of no line
 pub series_one : (n : ℕ) (past : List Entry) (e : Entry) → IsWordless e
     → series_so_far n (past ++ e ∷ []) ≡ series_step n past (with_time n past (now_at past e) (series_so_far n past)) e []
-series_one n past e none = series_joined n past (e ∷ []) (wordless_fresh e none)
+series_one n past e none = series_joined n past (e ∷ []) (wordless_fresh (e ∷ []) (none, tt))
 
 -- the words of a line that does not start the host again, and of one that does
 by_words : (n : ℕ) (past : List Entry) (words : List ℕ) (starts : Bool) → is_restart (line_of (entry.Said words)) ≡ starts

@@ -50,7 +50,7 @@ use Rattle.proof_work.proofs.HostOuts.{SharedAre, outs_are}
 use Rattle.proof_requests.specs.proof_alone.State.{HostMachine, done}
 use Rattle.proof_requests.specs.proof_alone.Steps.{AreTold, Does, IsOfUnit}
 use Rattle.proof_requests.specs.proof_alone.Phases.{Phase, Resting, Submitting, GoesBy, May}
-use Rattle.proof_requests.proofs.proof_waking_Apart.{IsWordless}
+use Rattle.proof_requests.proofs.proof_waking_Apart.{IsWordless, wordless_fresh}
 use Rattle.proof_requests.proofs.proof_alone_Apart.{AreOfLine}
 use Rattle.proof_requests.specs.Asking.{Doing, TieAsked, TieUnderWay, doing_of}
 use Rattle.proof_requests.specs.Standing.{GoesOn, standing_of, with_entries}
@@ -237,11 +237,6 @@ not_interviewed h event may none = tt
 
 -- ---- entries that go on with the last request
 
-fresh : (told : List Entry) → AllByRecursion IsWordless told → begins_refused told ≡ false
-fresh [] all = refl
-fresh (entry.Refused refusal ∷ told) all = absurd all.0
-fresh (e ∷ told) all = refl
-
 abbrev pub On : List Entry → List Entry → Type 0
 On past told = asked (past ++ told) ≡ with_entries (asked past) told
 
@@ -290,7 +285,7 @@ calm past told s t on same id awake uninterviewed tie = record {
 -- ---- entries of others, lines and items
 
 loose_fresh : (told : List Entry) → AllByRecursion IsLoose told → begins_refused told ≡ false
-loose_fresh told all = fresh told (all-weaker IsLoose IsWordless loose_wordless told all)
+loose_fresh told all = wordless_fresh told (all-weaker IsLoose IsWordless loose_wordless told all)
 
 loose_goes : (e : Entry) → IsLoose e → GoesOn e
 loose_goes (entry.Said words) loose = absurd loose
@@ -342,14 +337,14 @@ item_calm (refused_item Aborted) told are = nothing_calm told are
 calm_told : (past told : List Entry) (s t : RequestsState) → AllByRecursion IsWordless told → t.under_way ≡ s.under_way → t.last_id ≡ s.last_id → AllByRecursion IsCalm told → TieSlept past s
     → TieSlept (past ++ told) t
 calm_told past told s t wordless same id all tie =
-    calm past told s t (asked_on past told (fresh told wordless) (all-weaker IsCalm GoesOn (λ e is. is.0) told all)) same id (all-weaker IsCalm NoneSleeps (λ e is. is.1.0) told all)
+    calm past told s t (asked_on past told (wordless_fresh told wordless) (all-weaker IsCalm GoesOn (λ e is. is.0) told all)) same id (all-weaker IsCalm NoneSleeps (λ e is. is.1.0) told all)
     (all-weaker IsCalm NoInterview (λ e is. is.1.1) told all) tie
 
 -- what answers an item goes on with the last request, and no node sleeps by it
 pub item_on : (past : List Entry) (item : Item) (told : List Entry) → AllByRecursion IsWordless told → AreTold (answer_to item) told → On past told × AllByRecursion NoneSleeps told
 item_on past item told wordless are =
     let all = item_calm item told are in
-    (asked_on past told (fresh told wordless) (all-weaker IsCalm GoesOn (λ e is. is.0) told all), all-weaker IsCalm NoneSleeps (λ e is. is.1.0) told all)
+    (asked_on past told (wordless_fresh told wordless) (all-weaker IsCalm GoesOn (λ e is. is.0) told all), all-weaker IsCalm NoneSleeps (λ e is. is.1.0) told all)
 
 -- ---- an event
 

@@ -19,7 +19,6 @@ pub mod Ending
 pub mod Payloads
 pub mod Sending
 pub mod Awaiting
-pub mod Said
 pub mod Counting
 pub mod Routed
 pub mod Judging

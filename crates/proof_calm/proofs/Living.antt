@@ -56,13 +56,13 @@ use Rattle.world_model.specs.Events.{Event, happens, May}
 use Rattle.proof_work.specs.proof_walk.Outside.{Knowing, Comes, Outer, Pending, Judging, Dealing, IsSimple, IsHearing, CoversOuter, session_begins}
 use Rattle.proof_work.proofs.proof_walk_Machines.{machine_keeps}
 use Rattle.proof_work.specs.Phases.{AsksNothing}
+use Rattle.proof_traffic.proofs.ChipNotices.{AreSaid, IsSaid, done_said, queued_said, ticked_said, written_said}
 use Rattle.proof_calm.specs.Live.{HasLive, IsLive, LiveBy}
 use Rattle.proof_calm.specs.Marks.{IsQuietEvent}
 use Rattle.proof_calm.specs.Routed.{Reaches}
 use Rattle.proof_calm.proofs.Counting.{outs_all}
 use Rattle.proof_calm.proofs.Homing.{all_left}
 use Rattle.proof_calm.proofs.Routed.{Of, judged_of}
-use Rattle.proof_calm.proofs.Said.{AreSaid, IsSaid, done_said, queued_said, ticked_said, written_said}
 use Rattle.proof_calm.proofs.Unmarked.{hosts, nothing_asked}
 
 -- ---- ways

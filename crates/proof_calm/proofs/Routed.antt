@@ -49,14 +49,13 @@ use Rattle.outside_model.specs.Results.{call_back, forgets, frame_ends, gives, l
 use Rattle.world_model.specs.State.{Machine}
 use Rattle.world_model.specs.Events.{May, Outside_does, happens}
 use Rattle.proof_traffic.proofs.Calm.{Calm}
-use Rattle.proof_traffic.proofs.ChipNotices.{Leaves}
+use Rattle.proof_traffic.proofs.ChipNotices.{AreSaid, IsSaid, Leaves, does_said, done_said, queued_said, said_both, ticked_said, written_said}
 use Rattle.proof_work.proofs.Times.{does_chip}
 use Rattle.proof_calm.specs.Marks.{HasNoMarks, IsUnmarked}
 use Rattle.proof_calm.specs.Passes.{IsTakenBy, TakesEach, TakesOne, chip_taken}
 use Rattle.proof_calm.specs.Routed.{IsOfFrame, IsRouted, Reaches}
 use Rattle.proof_calm.proofs.ChipAsked.{is_by_turn, response}
 use Rattle.proof_calm.proofs.ChipPart.{marks_of, taken}
-use Rattle.proof_calm.proofs.Said.{AreSaid, IsSaid, does_said, done_said, queued_said, said_both, ticked_said, written_said}
 use Rattle.proof_calm.proofs.Unmarked.{does_none}
 
 -- ---- where it is as it was

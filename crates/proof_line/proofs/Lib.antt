@@ -21,10 +21,10 @@ mod Goings
 pub mod ChipAccounts
 mod Roomy
 pub mod Rooming
-mod Moments
+pub mod Moments
 pub mod Serials
 pub mod LinkStarts
-mod LinkSteps
+pub mod LinkSteps
 pub mod LinkKnown
 mod LinkUntil
 pub mod LinkTime

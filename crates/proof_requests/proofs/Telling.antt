@@ -11,14 +11,14 @@ use Rattle.zw_text.specs.declared.entry.Entry.{Entry}
 use Rattle.zw_text.specs.declared.entry.Entry.TheVariants as entry
 use Rattle.zw_text.specs.Transcript.{folded, line_of, written}
 use Rattle.zw_text.proofs.Views.{folded-append}
-use Rattle.law_transcript.specs.Restarts.{begins_refused, is_restart, since_restart}
+use Rattle.law_transcript.specs.Restarts.{is_restart, since_restart}
 use Rattle.law_time.specs.Moments.{Passing, clock, later_of, passing_step}
 use Rattle.law_time.specs.Judged.{acknowledged, frames_come, is_acknowledgement, is_data, judged, last_of}
 use Rattle.law_transcript.specs.Lists.{shown_after}
 use Rattle.law_time.specs.Requests.{Answer, Asked, answers_from, asked, is_answer, is_missed, is_new, judging_at, up_to_first}
 use Rattle.proof_waking.proofs.Untimed.{AreUntimed, same_time}
 use Rattle.proof_waking.specs.proof_alone.Steps.{ChangesFrame, DidNotCome, IsOfUnit}
-use Rattle.proof_waking.proofs.Apart.{IsWordless, acknowledged_in, count_more, said_in_vain, said_on, wordless_more}
+use Rattle.proof_waking.proofs.Apart.{IsWordless, acknowledged_in, count_more, said_in_vain, said_on, wordless_fresh, wordless_more}
 use Rattle.proof_requests.specs.Standing.{prior_of, GoesOn, IsAside, Standing, first_standing, standing_of, with_answer, with_copy, with_entries, with_judging}
 use Rattle.proof_requests.specs.Asking.{AsksNothing, AsksSo, Doing, TieAsked, WasAsked}
 use Rattle.proof_requests.proofs.Growing.{NoFrame, asked_anew, asked_copy, asked_in_vain, asked_new, asked_on, asked_said}
@@ -77,11 +77,6 @@ mark_quiet (entry.Garbled Host unit) mark = tt
 mark_quiet (entry.Overrun Host) mark = tt
 mark_quiet e mark = absurd mark
 
-pub fresh_wordless : (told : List Entry) → AllByRecursion IsWordless told → begins_refused told ≡ false
-fresh_wordless [] all = refl
-fresh_wordless (entry.Refused refusal ∷ told) all = absurd all.0
-fresh_wordless (e ∷ told) all = refl
-
 pub quiet_uncounted : (told : List Entry) → AllByRecursion IsQuiet told → filter is_acknowledgement (written Host told) ≡ []
 quiet_uncounted [] all = refl
 quiet_uncounted (entry.Written Host unit ∷ told) all =
@@ -117,7 +112,7 @@ nothing_grown : (past told : List Entry) (d : Doing) → asked (past ++ told) �
 nothing_grown past told d is none = record { unasked = ap (λ (a : Asked). a.frame) is ∙ none.unasked; idle = none.idle; none = none.none; paid = none.paid; undue = none.undue }
 
 pub quiet_on : (past told : List Entry) → AllByRecursion IsQuiet told → asked (past ++ told) ≡ with_entries (asked past) told
-quiet_on past told all = asked_on past told (fresh_wordless told (all-weaker IsQuiet IsWordless quiet_wordless told all)) (all-weaker IsQuiet GoesOn quiet_goes told all)
+quiet_on past told all = asked_on past told (wordless_fresh told (all-weaker IsQuiet IsWordless quiet_wordless told all)) (all-weaker IsQuiet GoesOn quiet_goes told all)
 
 pub quiet_asides : (told : List Entry) → AllByRecursion IsQuiet told → AllByRecursion IsAside told
 quiet_asides told all = all-weaker IsQuiet IsAside quiet_aside told all
@@ -280,7 +275,7 @@ tie_lost : (past told : List Entry) (line_now now : ℕ) (came : List LineUnit) 
 tie_lost past told line_now now came d lost tie = by tie
   where
     on : asked (past ++ told) ≡ with_entries (asked past) told
-    on = asked_on past told (fresh_wordless told lost.wordless) lost.goes
+    on = asked_on past told (wordless_fresh told lost.wordless) lost.goes
 
     by : TieAsked past line_now now came d → TieAsked (past ++ told) line_now now came d
     by (inl none) = inl (nothing_grown past told d on none)

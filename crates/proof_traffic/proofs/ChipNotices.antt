@@ -37,14 +37,14 @@ use Rattle.proof_device.specs.outside_model.Devices.{acts_at}
 use Rattle.proof_device.specs.outside_model.Events.{Arrives, Gives, Device_ticks, Chip_ticks, mesh_of, outcome, has_entered, happens}
 
 -- a unit that goes to the host, or one that found no room
-abbrev IsSaid : ChipOut → Type 0
+abbrev pub IsSaid : ChipOut → Type 0
 IsSaid (Write unit) = Unit {0}
 IsSaid (OnAir to route payload) = ⊥
 IsSaid NoRoute = ⊥
 IsSaid (AskInfo node) = ⊥
 IsSaid Full = Unit {0}
 
-abbrev AreSaid : List ChipOut → Type 0
+abbrev pub AreSaid : List ChipOut → Type 0
 AreSaid outs = AllByRecursion IsSaid outs
 
 -- the air, the calls and what is due are as they were
@@ -68,7 +68,7 @@ each_said o [] said = record { air = refl; calls = refl; due = refl }
 each_said o (out ∷ outs) said =
     leaves_both o (put_out o out).outer (each put_out (put_out o out).outer outs).outer (put_said o out said.0) (each_said (put_out o out).outer outs said.1)
 
-does_said : (o : OuterState) (event : ChipEvent) → AreSaid (outs o.chip.state event) → Leaves o (chip_does o event).outer
+pub does_said : (o : OuterState) (event : ChipEvent) → AreSaid (outs o.chip.state event) → Leaves o (chip_does o event).outer
 unfolding chip_does
 does_said o event said =
     let leaves : Leaves (with_chip o (after o.chip.state event)) (each put_out (with_chip o (after o.chip.state event)) (outs o.chip.state event)).outer =
@@ -86,25 +86,25 @@ queued_at Idle p f = (tt, tt)
 queued_at (Copied g copies ticks) p f = full_said (is_full p.waiting)
 queued_at (Paused g copies ticks) p f = full_said (is_full p.waiting)
 
-queued_said : (p : PortState) (f : FrameParts) → AreSaid (queued_outs p f)
+pub queued_said : (p : PortState) (f : FrameParts) → AreSaid (queued_outs p f)
 queued_said p f = queued_at p.side.turn p f
 
-written_said : (f : Option FrameParts) → AreSaid (written f)
+pub written_said : (f : Option FrameParts) → AreSaid (written f)
 written_said None = tt
 written_said (Some f) = (tt, tt)
 
-said_both : (a b : List ChipOut) → AreSaid a → AreSaid b → AreSaid (a ++ b)
+pub said_both : (a b : List ChipOut) → AreSaid a → AreSaid b → AreSaid (a ++ b)
 said_both [] b first later = later
 said_both (out ∷ a) b first later = (first.0, said_both a b first.1 later)
 
-ticked_said : (p : PortState) → AreSaid (ticked_outs p)
+pub ticked_said : (p : PortState) → AreSaid (ticked_outs p)
 ticked_said p = said_both (written (copy_due p.side.turn)) (served_outs (ticked p)) (written_said (copy_due p.side.turn)) (written_said (next_at (ticked p).side.turn (ticked p).waiting))
 
 ended_said : (sending : Option Sending) (s : ChipState) (status : TransmitStatus) → AreSaid (ended_outs sending s status)
 ended_said None s status = tt
 ended_said (Some sending) s status = queued_said s.port (callback_frame sending status)
 
-done_said : (s : ChipState) (status : TransmitStatus) → AreSaid (outs s (chip_done status))
+pub done_said : (s : ChipState) (status : TransmitStatus) → AreSaid (outs s (chip_done status))
 done_said s status = by (s.aborted == 0)
   where
     by : (b : Bool) → AreSaid (if b then ended_outs s.sending s status else [])

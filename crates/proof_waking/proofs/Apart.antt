@@ -39,7 +39,7 @@ IsWordless (entry.Said words) = ⊥
 IsWordless (entry.Refused refusal) = ⊥
 IsWordless e = Unit {0}
 
-wordless_fresh : (told : List Entry) → AllByRecursion IsWordless told → begins_refused told ≡ false
+pub wordless_fresh : (told : List Entry) → AllByRecursion IsWordless told → begins_refused told ≡ false
 wordless_fresh [] all = refl
 wordless_fresh (entry.Refused refusal ∷ told) all = absurd all.0
 wordless_fresh (e ∷ told) all = refl

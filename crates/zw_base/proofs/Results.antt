@@ -1,5 +1,5 @@
 -- What holds of a call that may fail.
-use Rattle.std.specs.Result.{Result, Ok, Err, OnErr}
+use Rattle.std.specs.Prelude.{Result, Ok, Err, OnErr}
 
 -- what holds anyway holds at an error
 pub on_err : {T E P : Type 0} (r : Result T E) → P → OnErr r P

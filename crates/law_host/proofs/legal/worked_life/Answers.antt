@@ -101,9 +101,9 @@ once = every 6 (λ node. CarriesOnce node all) (
   ),
 ) (λ more. idle (above 6 more) (none_begun 6 more all refl))
 
-linked : KeepsLink Host (ended true next_session)
+linked : KeepsLink Host (ended true all)
 unfolding computing
-linked = keeps_link Host (ended true next_session) (acts_of Host (ended true next_session)) refl refl refl refl refl
+linked = keeps_link Host (ended true all) (acts_of Host (ended true all)) refl refl refl refl refl
 
 legal : IsHostLegal [] heeds after_life true next_session None
 unfolding computing

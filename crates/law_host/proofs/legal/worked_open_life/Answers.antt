@@ -79,28 +79,28 @@ unfolding computing
 once = every 3 (λ node. CarriesOnce node all) (idle 0 refl, (idle 1 refl, (record { commands_rise = (tt, tt); commands_accepted = (inl refl, tt) }, tt)))
     (λ more. idle (above 3 more) (none_begun 3 more all refl))
 
-linked : KeepsLink Host (ended true session_resumed)
+linked : KeepsLink Host (ended true all)
 unfolding computing
-linked = keeps_link Host (ended true session_resumed) (acts_of Host (ended true session_resumed)) refl refl refl refl refl
+linked = keeps_link Host (ended true all) (acts_of Host (ended true all)) refl refl refl refl refl
 
 legal : IsHostLegal [] heeds after_open_life true session_resumed None
 unfolding computing
 legal = record {
-  answers = record { between = (tt, (tt, (tt, (tt, tt)))); in_the_end = λ whole. tt };
-  cancels = (tt, (tt, (tt, (tt, tt))));
-  sessions = (tt, (tt, (tt, (tt, tt))));
+  answers = record { between = (tt, (tt, (tt, (tt, (tt, (tt, (tt, tt))))))); in_the_end = λ whole. tt };
+  cancels = (tt, (tt, (tt, (tt, (tt, (tt, (tt, tt)))))));
+  sessions = (tt, (tt, (tt, (tt, (tt, (tt, (tt, tt)))))));
   carries = once;
   link = linked;
   notes = noted [] heeds after_open_life session_resumed all_kept refl;
   stores = record { asked = ([], refl); all = λ whole. refl; following = stores_after all tt };
-  values = (tt, (tt, (tt, (tt, (tt, tt)))));
-  sends = ((inl refl, tt), (tt, (tt, (tt, tt))));
+  values = (tt, (tt, (tt, (tt, (tt, (tt, (tt, (tt, tt))))))));
+  sends = ((inl refl, tt), (tt, (tt, ((inl refl, tt), (tt, (tt, (tt, tt)))))));
   prompt = record {
     fits = kept_after (may_queue heeds) open_life session_resumed refl;
     turn = kept_after (may_send heeds) open_life session_resumed refl;
     one_by_one = kept_after may_follow open_life session_resumed refl;
     numbers = kept_after may_number open_life session_resumed refl;
-    begins = (tt, (tt, (tt, (tt, (tt, tt)))));
+    begins = (tt, (tt, (tt, (tt, (tt, (tt, (tt, (tt, tt))))))));
     gives_up = record { between = kept_after (may_give_up heeds) open_life session_resumed refl; in_the_end = λ whole. refl };
     rests = record { between = kept_after (may_rest heeds) open_life session_resumed refl; in_the_end = λ whole. refl };
   };
