@@ -123,7 +123,7 @@ no_steps m (Outside_does event) is = absurd is
 no_steps m event is = refl
 
 module _ (devices : List State) (did : List Step) where
-  abbrev Keeps : Outside → List Entry → Outside → Type 0
+  abbrev pub Keeps : Outside → List Entry → Outside → Type 0
   Keeps w told later = (past : List Entry) → NowSo devices did past w.outer → NowSo devices did (past ++ told) later.outer
 
   keeps_none : (w : Outside) → Keeps w [] w
@@ -498,7 +498,7 @@ module _ (devices : List State) (laws : Laws) (none : NoNexting) (Ground : Phase
       (λ count course all was. before_next devices course all (outlook o) (outlook o) true false (awaits_number o) 0 0 count 0 count refl refl (λ many is. omega (arith, is)) was.numbered (λ entries own. own) was)
       did past o.chip.state.port so
 
-  pub none_due : (due : List Due) → length due ≡ 0 → infos_in due ≡ 0
+  none_due : (due : List Due) → length due ≡ 0 → infos_in due ≡ 0
   none_due [] is = refl
   none_due (first ∷ due) is = absurd (omega (arith, is))
 

@@ -1,0 +1,9 @@
+mod Lists
+mod Informing
+mod Accounts
+mod Due
+mod Entering
+mod Standing
+mod Waiting
+mod Moving
+mod Walk
