@@ -4,6 +4,9 @@ mod Accounts
 mod Due
 mod Entering
 mod Standing
+mod Landing
 mod Waiting
 mod Moving
+mod Hearing
+mod Repeating
 mod Walk

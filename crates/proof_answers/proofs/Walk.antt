@@ -15,7 +15,7 @@ use Rattle.chip_sim.specs.Link.{link_steps}
 use Rattle.zw_text.specs.declared.line.Line.{Line}
 use Rattle.zw_text.specs.declared.entry.Entry.{Entry}
 use Rattle.zw_text.specs.declared.entry.Entry.TheVariants as entry
-use Rattle.law_wire.specs.Asked.{Course, clock_of}
+use Rattle.law_transcript.specs.Restarts.{repeats as answers_repeat}
 use Rattle.law_wire.specs.Results.{settled_clock}
 use Rattle.host_model.specs.Ticking.{tick_events}
 use Rattle.outside_model.specs.declared.waits.Due.{Due}
@@ -45,11 +45,12 @@ use Rattle.proof_chip.proofs.Stamped.{aside_now_t}
 use Rattle.proof_chip.proofs.Standing.{goes_none}
 use Rattle.proof_chip.proofs.Steady.{hosts_await, hosts_chip, hosts_look, hosts_within, steady_within}
 use Rattle.proof_chip.proofs.Tallied.{chip_idle}
-use Rattle.proof_chip.proofs.Tallies.{Collides_it, IsOfHost, Kind, NowSo, Repeats_one, Stays_still, Ticks_chip, covers_answer, covers_host, hosts_keep as hosts_count, host_covers, kind_of, no_steps, still_steps, unanswered}
+use Rattle.proof_chip.proofs.Tallies.{Collides_it, IsOfHost, Kind, NowSo, Repeats_one, Stays_still, Ticks_chip, again_of, covers_answer, covers_host, hosts_keep as hosts_count, host_covers, kind_of, no_steps, still_steps, unanswered}
 use Rattle.proof_chip.proofs.Telling.{AreAside, IsAside}
 use Rattle.proof_answers.specs.Telling.{KnowTells, TellSo, TellsBefore, TellsNow}
 use Rattle.proof_answers.proofs.Accounts.{Grows, aside_grows, event_grows}
 use Rattle.proof_answers.proofs.Moving.{event_now, map_so, now_settled}
+use Rattle.proof_answers.proofs.Repeating.{repeats_tell}
 use Rattle.proof_answers.proofs.Standing.{SameOwing, before_arrived, before_over, now_as, now_said, now_ticks}
 use Rattle.proof_answers.proofs.Waiting.{hosts_owing, steady_owing}
 
@@ -167,13 +168,10 @@ pub record Giving_events (devices : List State) (Ground : Phase → List Entry �
   pub gives : (did : List Step) (left ticks : ℕ) (past : List Entry) (m : Machine) (route : Option Route) → May m (Outside_does (Gives route)) → Ground (Giving (suc left) ticks) past m
       → KnowTally devices did (Giving (suc left) ticks) past m → KnowTells devices did (Giving (suc left) ticks) past m
       → KnowTells devices (did ++ event_steps m (Outside_does (Gives route))) (Giving left ticks) (past ++ entries m (Outside_does (Gives route))) (happens m (Outside_does (Gives route)))
-  pub repeats : (did : List Step) (line : Line) (left : List Event) (past : List Entry) (m : Machine) (number : ℕ) (drawn : List ℕ) (route : Option Route) → May m (Outside_does (Repeats number drawn route))
-      → Ground (Doing line (Outside_does (Repeats number drawn route) ∷ left)) past m → KnowTally devices did (Doing line (Outside_does (Repeats number drawn route) ∷ left)) past m
-      → KnowTells devices did (Doing line (Outside_does (Repeats number drawn route) ∷ left)) past m
-      → KnowTells devices (did ++ event_steps m (Outside_does (Repeats number drawn route))) (Doing line left) (past ++ entries m (Outside_does (Repeats number drawn route))) (happens m (Outside_does (Repeats number drawn route)))
 
 module _ (devices : List State) (laws : Laws) (none : NoNexting) (Ground : Phase → List Entry → Machine → Type 0) (law : GroundAir devices Ground)
-    (calls : (here : Phase) (past : List Entry) (m : Machine) → Ground here past m → KnowCalls here past m) (given : Giving_events devices Ground) (did : List Step) where
+    (lands : (here : Phase) (past : List Entry) (m : Machine) → Ground here past m → KnowLanding here past m) (calls : (here : Phase) (past : List Entry) (m : Machine) → Ground here past m → KnowCalls here past m)
+    (given : Giving_events devices Ground) (did : List Step) where
   abbrev Steps : Phase → List Entry → Machine → Event → Type 0
   Steps next past m event = KnowTells devices (did ++ event_steps m event) next (past ++ entries m event) (happens m event)
 
@@ -190,24 +188,39 @@ module _ (devices : List State) (laws : Laws) (none : NoNexting) (Ground : Phase
   unfolding happens entries event_steps
   outside_now past m event so = so
 
-  outer_now : (line : Line) (left : List Event) (past : List Entry) (m : Machine) (event : OuterEvent) → Kind event → May m (Outside_does event) → Ground (Doing line (Outside_does event ∷ left)) past m
+  -- a frame is heard again
+  repeat_now : (line : Line) (left : List Event) (past : List Entry) (m : Machine) (number : ℕ) (drawn : List ℕ) (route : Option Route) → Tie nothing past m.outside → (answers_repeat past ≡ true) × (m.outside.outer.in_tick ≡ false)
+      → KnowTally devices did (Doing line (Outside_does (Repeats number drawn route) ∷ left)) past m → NowTold devices did past m.outside.outer
+      → NowTold devices (did ++ outer_steps m.outside (Repeats number drawn route)) (past ++ entries_outside m.outside (Repeats number drawn route)) (happens_outside m.outside (Repeats number drawn route)).outer
+  repeat_now line left past m number drawn route tie again tally so =
+      let o : OuterState = m.outside.outer in
+      let settled : settled_clock past ≡ o.clock =
+      now_settled devices o did past o.chip.state.port (subst (λ (b : Bool). TallySo (TallyNow devices (outlook o) (b && not o.stamped) 0) did past o.chip.state.port) again.1 tally.0) in
+      repeats_tell devices past m.outside tie did again.0 settled so number drawn route again.1
+
+  outer_now : (line : Line) (left : List Event) (past : List Entry) (m : Machine) (event : OuterEvent) → Kind event → Ground (Doing line (Outside_does event ∷ left)) past m
       → KnowTally devices did (Doing line (Outside_does event ∷ left)) past m → NowTold devices did past m.outside.outer → NowAfter past m (Outside_does event)
-  outer_now line left past m event (Stays_still still steady) may ground tally so =
+  outer_now line left past m event (Stays_still still steady) ground tally so =
       outside_now past m event (still_tells devices laws none did past m.outside (law.history (Doing line (Outside_does event ∷ left)) past m ground) tally.0 so event still steady)
-  outer_now line left past m event (Ticks_chip is) may ground tally so =
+  outer_now line left past m event (Ticks_chip is) ground tally so =
       let tie = law.history (Doing line (Outside_does event ∷ left)) past m ground in
       subst (λ (e : OuterEvent). NowAfter past m (Outside_does e)) (sym is) (outside_now past m Chip_ticks (ticks_tell devices laws none did past m.outside tie tally.0 so))
-  outer_now line left past m event (Collides_it is) may ground tally so =
+  outer_now line left past m event (Collides_it is) ground tally so =
       let tie = law.history (Doing line (Outside_does event ∷ left)) past m ground in
       subst (λ (e : OuterEvent). NowAfter past m (Outside_does e)) (sym is) (outside_now past m Collides_next (collides_tells devices laws none did past m.outside tie tally.0 so))
-  outer_now line left past m event (Repeats_one number drawn route is) may ground tally so =
+  outer_now line left past m event (Repeats_one number drawn route is) ground tally so =
       subst (λ (e : OuterEvent). NowAfter past m (Outside_does e)) (sym is)
-      (given.repeats did line left past m number drawn route (subst (λ (e : OuterEvent). May m (Outside_does e)) is may)
-      (subst (λ (e : OuterEvent). Ground (Doing line (Outside_does e ∷ left)) past m) is ground) (subst (λ (e : OuterEvent). KnowTally devices did (Doing line (Outside_does e ∷ left)) past m) is tally) so)
+      (outside_now past m (Repeats number drawn route) (repeat_now line left past m number drawn route tie again (subst (λ (e : OuterEvent). KnowTally devices did (Doing line (Outside_does e ∷ left)) past m) is tally) so))
+    where
+      tie : Tie nothing past m.outside
+      tie = law.history (Doing line (Outside_does event ∷ left)) past m ground
+
+      again : (answers_repeat past ≡ true) × (m.outside.outer.in_tick ≡ false)
+      again = again_of devices laws none Ground law lands calls did line left past m number drawn route (subst (λ (e : OuterEvent). KnowLanding (Doing line (Outside_does e ∷ left)) past m) is (lands (Doing line (Outside_does event ∷ left)) past m ground))
 
   doing_now : (line : Line) (first : Event) (left : List Event) (past : List Entry) (m : Machine) → CoversOuter IsOfLine first → May m first → Ground (Doing line (first ∷ left)) past m
       → KnowTally devices did (Doing line (first ∷ left)) past m → NowTold devices did past m.outside.outer → NowAfter past m first
-  doing_now line (Outside_does event) left past m covers may ground tally so = outer_now line left past m event (kind_of event covers) may ground tally so
+  doing_now line (Outside_does event) left past m covers may ground tally so = outer_now line left past m event (kind_of event covers) ground tally so
   doing_now line (Host_does event) left past m covers may ground tally so = host_tells devices did m (Host_does event) tt may past tally.0 so
   doing_now line (Host_takes count rest items events) left past m covers may ground tally so = host_tells devices did m (Host_takes count rest items events) tt may past tally.0 so
   doing_now line Decoder_ticks left past m covers may ground tally so = host_tells devices did m Decoder_ticks tt may past tally.0 so

@@ -66,7 +66,7 @@ heard_brings past number is own none course =
     (ap (λ (b : Bool). length (if b then [] else ended_by (status_heard past) (sent_as course past number))) is ∙ sent_many (status_heard past) course past number own)
     ∙ none_plus _
 
-fate_aside : (e : Entry) → IsFate e → IsAside e
+pub fate_aside : (e : Entry) → IsFate e → IsAside e
 fate_aside (entry.Written side unit) fate = absurd fate
 fate_aside entry.ChipFull fate = absurd fate
 fate_aside e fate = tt
@@ -203,7 +203,7 @@ module _ (devices : List State) (v : Outlook) (left number : ℕ) (numbers : Lis
 
 -- ---- frames of devices that are lost, and frames of the controller that are heard again
 
-lost_none : (course : Course) (past : List Entry) (number : ℕ) (status : TransmitStatus) → is_outward past number ≡ false → ended_by status (sent_as course past number) ≡ []
+pub lost_none : (course : Course) (past : List Entry) (number : ℕ) (status : TransmitStatus) → is_outward past number ≡ false → ended_by status (sent_as course past number) ≡ []
 lost_none course past number status other =
     ap (λ (b : Bool). ended_by status (if b then filter (λ (sending : Sending). sending.frame == number) (last_sending course past) else [])) other
 
