@@ -6,7 +6,7 @@ use Rattle.serial_frame.specs.Frame.{FrameParts}
 use Rattle.serial_link.specs.Rules.{Step}
 use Rattle.chip_functions.specs.declared.notice.Notice.TheVariants.{ApplicationCommandHandler}
 use Rattle.chip_sim.specs.State.{ChipState}
-use Rattle.chip_sim.specs.Events.{Heard as chip_hears, collides}
+use Rattle.chip_sim.specs.Events.{Heard as chip_hears}
 use Rattle.mesh_sim.specs.declared.event.AirEvent.{AirEvent}
 use Rattle.mesh_sim.specs.declared.event.AirEvent.TheVariants as tells
 use Rattle.zw_text.specs.declared.entry.Entry.{Entry}
@@ -26,19 +26,21 @@ use Rattle.law_wire.specs.Answering.{AreOf, MayAnswer}
 use Rattle.outside_model.specs.Devices.{State}
 use Rattle.outside_model.specs.State.{OuterState, Outcome, each, silent}
 use Rattle.outside_model.specs.Chip.{chip_does}
-use Rattle.outside_model.specs.Air.{deals}
+use Rattle.outside_model.specs.Air.{deals, to_chip}
+use Rattle.proof_device.proofs.Results.{to_chip_goes}
 use Rattle.proof_air.proofs.Untimed.{IsUntimed}
 use Rattle.proof_air.proofs.Times.{does_chip, does_time}
 use Rattle.proof_air.specs.Carrying.{IsHome}
 use Rattle.proof_line.proofs.ChipAccounts.{all_account, heard_account, steps_by}
 use Rattle.proof_chip.specs.Serving.{as_given, frame_texts}
 use Rattle.proof_chip.proofs.Growing.{serves_aside}
-use Rattle.proof_chip.proofs.Hearing.{has_room, heard_answers, heard_rests}
+use Rattle.proof_chip.proofs.Hearing.{has_room, heard_rests}
 use Rattle.proof_chip.proofs.Replying.{settled_same}
 use Rattle.proof_chip.proofs.Settling.{AreIdle}
-use Rattle.proof_chip.proofs.Tallied.{chip_idle}
 use Rattle.proof_answers.specs.Telling.{TellSo, TellsNow}
 use Rattle.proof_answers.proofs.Accounts.{Grows, account_grows, posts_by}
+use Rattle.proof_answers.proofs.Ending.{Calmly, calmly}
+use Rattle.proof_answers.proofs.Informing.{IsCalm}
 use Rattle.proof_answers.proofs.Moving.{gives_on, map_so, now_given}
 use Rattle.proof_answers.proofs.Standing.{SameOwing, now_as, now_entry, now_idle}
 
@@ -99,13 +101,12 @@ module _ (there : List State) where
       by false = refl
 
   pub heard_idle : (o : OuterState) (number node : ℕ) (payload : List ℕ) → AreIdle (each (deals there) o (tells.ToChip number node payload ∷ [])).entries
-  unfolding chip_does
-  heard_idle o number node payload = by (has_room payload)
-    where
-      by : (b : Bool) → AreIdle ((if b then chip_does o (chip_hears node payload) else silent o).entries ++ [])
-      by true =
-          subst AreIdle (sym (append-nil (chip_does o (chip_hears node payload)).entries)) (chip_idle o (chip_hears node payload) (heard_answers (collides o.chip.state) node payload))
-      by false = tt
+  heard_idle o number node payload = subst AreIdle (sym (append-nil (to_chip o node payload).entries)) (to_chip_goes Calmly calmly o node payload).0
+
+  -- and the entries are calm
+  pub heard_calm : (o : OuterState) (number node : ℕ) (payload : List ℕ) → AllByRecursion IsCalm (each (deals there) o (tells.ToChip number node payload ∷ [])).entries
+  heard_calm o number node payload =
+      subst (λ (l : List Entry). AllByRecursion IsCalm l) (sym (append-nil (to_chip o node payload).entries)) (to_chip_goes Calmly calmly o node payload).1
 
   pub heard_owing : (o : OuterState) (number node : ℕ) (payload : List ℕ) → SameOwing o (each (deals there) o (tells.ToChip number node payload ∷ [])).outer
   heard_owing o number node payload = by (has_room payload)

@@ -4,9 +4,13 @@ mod Accounts
 mod Due
 mod Entering
 mod Standing
-mod Landing
 mod Waiting
 mod Moving
+mod Landing
+mod Ending
 mod Hearing
 mod Repeating
+mod Arriving
+mod Owning
+mod Landed
 mod Walk

@@ -49,7 +49,7 @@ pub record SameOwing (o p : OuterState) : Type 0 where
   pub due : p.due ≡ o.due
 
 module _ (devices : List State) (o p : OuterState) (same : SameOwing o p) (frames : List FrameParts) (course : Course) (past : List Entry) where
-  owed_as : (ticks : ℕ) → owed_now course past ticks p ≡ owed_now course past ticks o
+  pub owed_as : (ticks : ℕ) → owed_now course past ticks p ≡ owed_now course past ticks o
   owed_as ticks =
       ap₂ (λ (under : Option SendingParts) (calls : List Call). owed_by (last_sending course past) under calls ticks p.due) same.sending same.calls
       ∙ ap (λ (due : List Due). owed_by (last_sending course past) o.chip.state.sending o.calls ticks due) same.due

@@ -45,10 +45,10 @@ told_by devices clock course past = given devices course past ++ map (come past)
 
 -- ---- SendData
 
--- the one under way is the last one of the transcript
+-- the one under way is the last one of the transcript, for a node that has a place in the tables
 abbrev pub IsUnder : Option SendingParts → List Sending → Type 0
 IsUnder None sendings = Unit {0}
-IsUnder (Some parts) sendings = (one : Sending) × (sendings ≡ one ∷ []) × (one.node ≡ parts.node) × (one.callback_id ≡ parts.callback_id)
+IsUnder (Some parts) sendings = (one : Sending) × (sendings ≡ one ∷ []) × (one.node ≡ parts.node) × (one.callback_id ≡ parts.callback_id) × (parts.node < 233)
 
 -- those that have ended before a clock
 abbrev pub called_by : ℕ → Course → List Entry → List Called

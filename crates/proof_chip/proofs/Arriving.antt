@@ -111,7 +111,7 @@ module _ (devices : List State) (v : Outlook) (left number : ℕ) (numbers : Lis
   }
   forgot_if false o hop sees = sees
 
-  forgot : (o : OuterState) (dead : Option (ℕ × ℕ)) → Sees devices v left number numbers o → Sees devices v left number numbers (forgets o dead).outer
+  pub forgot : (o : OuterState) (dead : Option (ℕ × ℕ)) → Sees devices v left number numbers o → Sees devices v left number numbers (forgets o dead).outer
   forgot o None sees = sees
   forgot o (Some hop) sees = forgot_if (linked o.chip.state.table hop.0 hop.1) o hop sees
 
