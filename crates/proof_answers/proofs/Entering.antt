@@ -4,6 +4,7 @@ use Rattle.std.proofs.lemmas.Grind.{flat_map-append}
 use Rattle.std.proofs.lemmas.List.{map-append}
 use Rattle.std.specs.Prelude.{Option, slice_get}
 use Rattle.std.specs.List.{AllByRecursion, flat_map}
+use Rattle.zw_base.proofs.Each.{all-weaker}
 use Rattle.chip_functions.specs.declared.request.Request.{Request}
 use Rattle.chip_functions.specs.declared.request.Request.TheVariants.{RequestNodeInfo}
 use Rattle.chip_functions.specs.declared.notice.TransmitStatus.TheVariants.{NoRoute}
@@ -21,7 +22,7 @@ use Rattle.proof_chip.proofs.Airing.{IsNoAck, same_last}
 use Rattle.proof_chip.proofs.Answered.{GivesNone}
 use Rattle.proof_chip.proofs.Passing.{IsOther, others_no_ack}
 use Rattle.proof_chip.proofs.Picking.{shown_both}
-use Rattle.proof_chip.proofs.Replying.{none_filtered}
+use Rattle.proof_chip.proofs.Replying.{none_filtered, settled_same}
 use Rattle.proof_chip.proofs.Settling.{AreIdle, IsIdle, asked_still, given_still, idle_others, idle_settled, outward_still}
 use Rattle.proof_answers.specs.Owing.{Ends, Informs, Owed, asked_in_tick, come, comes_within, due_before, informs, is_of_tick, owed_by, owed_in, owed_now, owed_of}
 use Rattle.proof_answers.specs.Telling.{IsUnder, called_by, told_by}
@@ -102,19 +103,27 @@ module _ (course : Course) where
   ended_none past (entry.Unheard frame) none = absurd none
   ended_none past e none = refl
 
-  none_due : (past : List Entry) (e : Entry) → IsIdle e → came_due course past e ≡ []
-  none_due past e idle = none_filtered (settled_clock past) (settled_clock (past ++ e ∷ [])) (idle_settled past (e ∷ []) (idle, tt)) (asked course past)
+  still_settled : (past : List Entry) (e : Entry) → GivesNone e → settled_clock (past ++ e ∷ []) ≡ settled_clock past
+  still_settled past (entry.Said words) none = absurd none
+  still_settled past (entry.Time tick) none = absurd none
+  still_settled past (entry.Heard frame) none = absurd none
+  still_settled past (entry.Lost frame) none = absurd none
+  still_settled past (entry.Unheard frame) none = absurd none
+  still_settled past e none = settled_same past e tt refl (λ all. refl)
 
-  none_called : (told past : List Entry) → AreIdle told → shown_after (called_at course) past told ≡ []
-  none_called [] past idle = refl
-  none_called (e ∷ told) past idle =
+  none_due : (past : List Entry) (e : Entry) → GivesNone e → came_due course past e ≡ []
+  none_due past e none = none_filtered (settled_clock past) (settled_clock (past ++ e ∷ [])) (still_settled past e none) (asked course past)
+
+  pub none_called : (told past : List Entry) → AllByRecursion GivesNone told → shown_after (called_at course) past told ≡ []
+  none_called [] past none = refl
+  none_called (e ∷ told) past none =
       ap₂ (λ (a b : List Called). a ++ b)
-      (ap₂ (λ (a : List Called) (l : List Asked). a ++ flat_map (ended_without course past) l) (ended_none past e idle.0.0) (none_due past e idle.0))
-      (none_called told (past ++ e ∷ []) idle.1)
+      (ap₂ (λ (a : List Called) (l : List Asked). a ++ flat_map (ended_without course past) l) (ended_none past e none.0) (none_due past e none.0))
+      (none_called told (past ++ e ∷ []) none.1)
 
   called_still : (past told : List Entry) → AreIdle told → called course (past ++ told) ≡ called course past
   called_still past told idle =
-      shown_both (called_at course) [] past told ∙ ap (λ (l : List Called). called course past ++ l) (none_called told past idle) ∙ append-nil (called course past)
+      shown_both (called_at course) [] past told ∙ ap (λ (l : List Called). called course past ++ l) (none_called told past (all-weaker IsIdle GivesNone (λ e is. is.0) told idle)) ∙ append-nil (called course past)
 
   pub due_still : (clock : ℕ) (past told : List Entry) → AreIdle told → due_before clock course (past ++ told) ≡ due_before clock course past
   due_still clock past told idle =

@@ -1,5 +1,5 @@
 -- Through entries that show neither a line, nor its refusal, nor that a frame is heard, the information of a node stays what it is.
-use Rattle.std.proofs.Common.{◌≡◌, ◌⊎◌, ℕ, ◌==◌, Bool, true, false, List, [], ◌∷◌, ◌++◌, map, filter, refl, sym, ap, ap₂, ◌∙◌, subst, inl, inr, append_assoc, append-nil}
+use Rattle.std.proofs.Common.{◌≡◌, ◌⊎◌, ℕ, ◌==◌, Bool, true, false, if◌then◌else◌, List, [], ◌∷◌, ◌++◌, map, filter, refl, sym, ap, ap₂, ◌∙◌, subst, inl, inr, append_assoc, append-nil}
 use Rattle.std.specs.Prelude.{Option, Some, None}
 use Rattle.std.specs.List.{AllByRecursion, list_any}
 use Rattle.route_table.specs.Network.{Link, Network}
@@ -101,3 +101,12 @@ module _ (devices : List State) where
   pub alike_come : (one other : List Entry) → SameAbout one other → (all : List Owed) → Alike devices (map (come one) all) (map (come other) all)
   alike_come one other same [] = tt
   alike_come one other same (owed ∷ all) = (like_come one other same owed, alike_come one other same all)
+
+  number_calm : (b : Bool) (clock : ℕ) → AllByRecursion IsCalm (if b then entry.Time clock ∷ [] else [])
+  number_calm true clock = (tt, tt)
+  number_calm false clock = tt
+
+  -- before the number of a tick it is what it is with that
+  pub informs_back : (node ticks : ℕ) (past : List Entry) (b : Bool) (clock : ℕ) (unit : List ℕ) → IsInformation devices node ticks (past ++ (if b then entry.Time clock ∷ [] else [])) unit → IsInformation devices node ticks past unit
+  informs_back node ticks past b clock unit is =
+      let told : List Entry = if b then entry.Time clock ∷ [] else [] in informs_as node ticks (past ++ told) past (calm_about told past (number_calm b clock)) unit is

@@ -13,4 +13,6 @@ mod Repeating
 mod Arriving
 mod Owning
 mod Landed
+mod Giving
+mod Asking
 mod Walk

@@ -5,36 +5,51 @@ use Rattle.std.specs.List.{AllByRecursion}
 use Rattle.zw_base.proofs.Each.{all-weaker}
 use Rattle.serial_frame.specs.Frame.{FrameParts}
 use Rattle.serial_frame.specs.Stream.{Rest, after_tick}
+use Rattle.serial_frame.specs.Items.{unit_text}
 use Rattle.serial_frame.specs.declared.item.Item.{Item}
+use Rattle.serial_frame.specs.declared.unit.Unit.TheVariants.{Framed}
 use Rattle.serial_link.specs.Rules.{SideObeys, Step}
 use Rattle.route_table.specs.declared.route.Route.{Route}
 use Rattle.chip_sim.specs.Waiting.{PortState, no_port}
 use Rattle.chip_sim.specs.State.{ChipState}
-use Rattle.chip_sim.specs.Events.{ChipEvent, Collides, Ticked as ticked_event, collides}
+use Rattle.chip_sim.specs.Events.{ChipEvent, Collides, Ticked as ticked_event, collides, update_of}
 use Rattle.chip_sim.specs.Link.{link_steps}
+use Rattle.chip_sim.specs.Answers.{notice_frame}
+use Rattle.chip_functions.specs.declared.notice.Notice.TheVariants.{ApplicationUpdate}
+use Rattle.mesh_sim.specs.Steps as mesh
+use Rattle.air_frames.specs.Flown.{Flown}
 use Rattle.zw_text.specs.declared.line.Line.{Line}
 use Rattle.zw_text.specs.declared.entry.Entry.{Entry}
 use Rattle.zw_text.specs.declared.entry.Entry.TheVariants as entry
+use Rattle.law_transcript.specs.Fates.{first_fates}
 use Rattle.law_transcript.specs.Restarts.{repeats as answers_repeat}
-use Rattle.law_wire.specs.Results.{settled_clock}
+use Rattle.law_wire.specs.Results.{ack_mark_step, ack_marks, ack_marks_after, settled_clock}
+use Rattle.law_wire.specs.Given.{IsInformation}
 use Rattle.host_model.specs.Ticking.{tick_events}
 use Rattle.outside_model.specs.declared.waits.Due.{Due}
+use Rattle.outside_model.specs.declared.waits.Due.TheVariants.{Info}
 use Rattle.outside_model.specs.Devices.{State}
 use Rattle.outside_model.specs.State.{OuterState, Outcome, Outside, first_outer}
 use Rattle.outside_model.specs.Chip.{chip_does}
-use Rattle.outside_model.specs.Events.{OuterEvent, Begins_line, Begins_tick, Chip_takes, Arrives, Gives, Chip_ticks, Repeats, Collides_next, Host_begins, Host_notes, Device_ticks, has_entered, outcome, stamp, ticked_entry, May as MayOutside, entries as entries_outside, happens as happens_outside}
+use Rattle.outside_model.specs.Results.{gives, profile_for}
+use Rattle.outside_model.specs.Events.{OuterEvent, Begins_line, Begins_tick, Chip_takes, Arrives, Gives, Chip_ticks, Repeats, Collides_next, Host_begins, Host_notes, Device_ticks, has_entered, outcome, stamp, steps, ticked_entry, May as MayOutside, entries as entries_outside, happens as happens_outside}
 use Rattle.world_model.specs.State.{Machine}
 use Rattle.world_model.specs.Events.{Event, Outside_does, Host_does, Host_takes, Decoder_ticks, Refuses, Shows_values, Restarts, May, entries, happens}
 use Rattle.proof_air.specs.proof_walk.Outside.{CoversOuter, awaits_number, nothing}
 use Rattle.proof_air.specs.proof_walk.Phases.{Phase, Between, Said_line, Begun, Doing, To_tick, Ticked, Arriving, Giving, Ticking_devices, Ticking_chip, Ticking_decoder, Ticking_host, Sleeping, Submitting, Moving, Moved, Goes, Turns}
 use Rattle.proof_air.specs.Landing.{KnowLanding}
 use Rattle.proof_air.specs.Logs.{Tie}
+use Rattle.proof_air.proofs.Fated.{arrival_fates}
 use Rattle.proof_air.proofs.Machines.{machine_goes}
 use Rattle.proof_air.proofs.Times.{outcome_time, same_number}
 use Rattle.proof_line.proofs.Arrivals.{NoNexting}
-use Rattle.proof_line.proofs.ChipAccounts.{event_steps, outer_steps}
+use Rattle.proof_devices.specs.Acks.{KnowAcks}
+use Rattle.proof_line.specs.proof_traffic.Facts.{flying_in}
+use Rattle.proof_line.specs.proof_traffic.OnAir.{on_air}
+use Rattle.proof_line.specs.proof_traffic.OutsideTraffic.{flags, outward}
+use Rattle.proof_line.proofs.ChipAccounts.{due_account, event_steps, gives_account, outer_steps, steps_account, steps_by}
 use Rattle.proof_line.proofs.Parts.{Laws}
-use Rattle.proof_chip.specs.Calling.{KnowCalls}
+use Rattle.proof_chip.specs.Calling.{AreLanding, KnowCalls, Waits}
 use Rattle.proof_chip.specs.Sending.{GroundAir, KnowAir}
 use Rattle.proof_chip.specs.Serving.{GoesOn, Serves}
 use Rattle.proof_chip.specs.Tally.{IsOfLine, KnowTally, TallyAt, TallyBefore, TallyNow, TallySo, outlook}
@@ -44,14 +59,18 @@ use Rattle.proof_chip.proofs.Settling.{AreIdle, IsIdle}
 use Rattle.proof_chip.proofs.Stamped.{aside_now_t}
 use Rattle.proof_chip.proofs.Standing.{goes_none}
 use Rattle.proof_chip.proofs.Steady.{hosts_await, hosts_chip, hosts_look, hosts_within, steady_within}
-use Rattle.proof_chip.proofs.Tallied.{chip_idle}
-use Rattle.proof_chip.proofs.Tallies.{Collides_it, IsOfHost, Kind, NowSo, Repeats_one, Stays_still, Ticks_chip, again_of, covers_answer, covers_host, hosts_keep as hosts_count, host_covers, kind_of, no_steps, still_steps, unanswered}
+use Rattle.proof_chip.proofs.Tallied.{before_number_t, chip_idle}
+use Rattle.proof_chip.proofs.Tallying.{settled_now}
+use Rattle.proof_chip.proofs.Tallies.{BeforeSo, Collides_it, IsOfHost, Kind, NowSo, Repeats_one, Stays_still, Ticks_chip, again_of, apart_here, covers_answer, covers_host, hosts_keep as hosts_count, host_covers, kind_of, no_steps, same_frames, still_steps, unanswered}
 use Rattle.proof_chip.proofs.Telling.{AreAside, IsAside}
 use Rattle.proof_answers.specs.Telling.{KnowTells, TellSo, TellsBefore, TellsNow}
 use Rattle.proof_answers.proofs.Accounts.{Grows, aside_grows, event_grows}
-use Rattle.proof_answers.proofs.Moving.{event_now, map_so, now_settled}
+use Rattle.proof_answers.proofs.Moving.{before_numbered, event_now, map_so, now_settled, timed_before}
+use Rattle.proof_answers.proofs.Giving.{gives_silently, gives_tell}
+use Rattle.proof_answers.proofs.Informing.{informs_back}
+use Rattle.proof_answers.proofs.Landed.{arrives_tells}
 use Rattle.proof_answers.proofs.Repeating.{repeats_tell}
-use Rattle.proof_answers.proofs.Standing.{SameOwing, before_arrived, before_over, now_as, now_said, now_ticks}
+use Rattle.proof_answers.proofs.Standing.{SameOwing, before_arrived, before_as, before_over, now_as, now_said, now_ticks}
 use Rattle.proof_answers.proofs.Waiting.{hosts_owing, steady_owing}
 
 -- between events where no results are to come
@@ -153,25 +172,101 @@ module _ (devices : List State) (laws : Laws) (none : NoNexting) (did : List Ste
         λ course goes. now_ticks devices w.outer frames course past (outlook w.outer) (awaits_number w.outer) 0 (length counted) refl (counts course goes) (are course goes),
       ))
 
+-- ---- in a tick, until its results have come
+
+-- with what is entered, and the number of the tick
+before_entered : (devices : List State) (arriving : Bool) (p : OuterState) (told : List Entry) (now : List Step) (past : List Entry) → TellSo (TellsBefore devices arriving p) now ((past ++ ticked_entry p) ++ told) p.chip.state.port
+    → (told ≡ [] → ⊥) → BeforeTold devices arriving now (past ++ stamp p told) (has_entered p told)
+before_entered devices arriving p [] now past so some = absurd (some refl)
+before_entered devices arriving p (first ∷ told) now past so some =
+    map_so devices (TellsBefore devices arriving p) (TellsBefore devices arriving (has_entered p (first ∷ told)))
+    (λ frames course all was. before_as devices p (has_entered p (first ∷ told)) (record { clock = refl; sending = refl; failing = refl; calls = refl; due = refl }) frames course all arriving was) now (past ++ (ticked_entry p ++ first ∷ told)) p.chip.state.port
+    (subst (λ (l : List Entry). TellSo (TellsBefore devices arriving p) now l p.chip.state.port) (append_assoc past (ticked_entry p) (first ∷ told)) so)
+
+-- the number of a tick leaves the marks that lose acknowledgements
+marks_both : (told rest past : List Entry) (marks : ℕ) → ack_marks_after marks past (told ++ rest) ≡ ack_marks_after (ack_marks_after marks past told) (past ++ told) rest
+marks_both [] rest past marks = ap (λ (l : List Entry). ack_marks_after marks l rest) (sym (append-nil past))
+marks_both (e ∷ told) rest past marks =
+    marks_both told rest (past ++ e ∷ []) (ack_mark_step past marks e) ∙ ap (λ (l : List Entry). ack_marks_after (ack_marks_after (ack_mark_step past marks e) (past ++ e ∷ []) told) l rest) (append_assoc past (e ∷ []) told)
+
+number_marks : (past : List Entry) (b : Bool) (clock : ℕ) → ack_marks (past ++ (if b then entry.Time clock ∷ [] else [])) ≡ ack_marks past
+number_marks past true clock = marks_both past (entry.Time clock ∷ []) [] 0
+number_marks past false clock = ap ack_marks (append-nil past)
+
+module _ (devices : List State) (laws : Laws) (none : NoNexting) (did : List Step) (past : List Entry) (w : Outside) (tie : Tie nothing past w) where
+  arrives_told : (left : ℕ) (drawn : List ℕ) (route : Option Route) → MayOutside w (Arrives drawn route) → Waits w.outer → (flight : Flown) (flights : List Flown) → on_air w.outer.air.frames ≡ flight ∷ flights
+      → (awaits_number w.outer ≡ false → answers_repeat past ≡ false) → ack_marks past ≡ w.outer.air.ack_losing → BeforeSo devices true (suc left) did past w.outer → BeforeTold devices true did past w.outer
+      → BeforeTold devices true (did ++ outer_steps w (Arrives drawn route)) (past ++ entries_outside w (Arrives drawn route)) (happens_outside w (Arrives drawn route)).outer
+  unfolding outcome outer_steps
+  arrives_told left drawn route may waits flight flights on apart acks tally so =
+      let x : Outcome = steps w (mesh.Arrives drawn route) in
+      let here : List Entry = past ++ ticked_entry w.outer in
+      let calm = apart_here devices laws none did past w tie (awaits_number w.outer) w.outer.clock apart in
+      let fates = arrival_fates past w drawn route may calm in
+      let not_false : true ≡ false → suc left ≡ 0 = λ is. absurd (let no : true ≡ false = is in cc) in
+      let numbered = before_number_t devices (outlook w.outer) true (suc left) (awaits_number w.outer) not_false did past w.outer.chip.state.port tally in
+      let got =
+      arrives_tells devices laws past w tie waits flight flights left did here on (same_frames devices laws none did past w tie (awaits_number w.outer) w.outer.clock) calm (number_marks past (awaits_number w.outer) w.outer.clock ∙ acks) numbered
+      (before_numbered devices w.outer did past w.outer.chip.state.port true (suc left) not_false tally so) drawn route fates.1 in
+      let number : ticked_entry x.outer ≡ ticked_entry w.outer = same_number w.outer x.outer (outcome_time w (Arrives drawn route) tt) in
+      before_entered devices true x.outer x.entries (did ++ steps_by (steps_account w (mesh.Arrives drawn route))) past
+      (subst (λ (l : List Entry). TellSo (TellsBefore devices true x.outer) (did ++ steps_by (steps_account w (mesh.Arrives drawn route))) ((past ++ l) ++ x.entries) x.outer.chip.state.port) (sym number) got)
+      (λ is. let none_more = ap (λ (l : List Entry). length (first_fates (past ++ stamp x.outer l))) is ∙ ap (λ (l : List Entry). length (first_fates l)) (append-nil past) in let one = fates.0 in omega (arith, none_more, one))
+
+  -- the information of a node that is given first is what the transcript says, with the number of the tick
+  abbrev InformsSo : Option Route → Type 0
+  InformsSo route =
+      (node : ℕ) (due : List Due) → w.outer.due ≡ Info node ∷ due
+      → IsInformation devices node (w.outer.clock - 1) (past ++ ticked_entry w.outer) (unit_text (Framed (notice_frame (ApplicationUpdate (update_of node (profile_for w.outer.air w.devices node route))))))
+
+  gives_told : (route : Option Route) → Waits w.outer → outward (on_air w.outer.air.frames) ≡ 0 → InformsSo route → BeforeSo devices false 0 did past w.outer → BeforeTold devices false did past w.outer
+      → BeforeTold devices false (did ++ outer_steps w (Gives route)) (past ++ entries_outside w (Gives route)) (happens_outside w (Gives route)).outer
+  unfolding outcome outer_steps gives_account
+  gives_told route waits clear informs tally so = by x.entries refl
+    where
+      x : Outcome
+      x = gives w.outer w.devices w.outer.due route
+
+      now : List Step
+      now = did ++ steps_by (due_account w.outer w.devices w.outer.due route)
+
+      calm : flying_in (flags w.outer.calls) ≡ 0
+      calm = sym waits.await.frames ∙ clear
+
+      number : ticked_entry (gives w.outer w.devices w.outer.due route).outer ≡ ticked_entry w.outer
+      number = same_number w.outer (gives w.outer w.devices w.outer.due route).outer (outcome_time w (Gives route) tt)
+
+      by : (told : List Entry) → (gives w.outer w.devices w.outer.due route).entries ≡ told
+          → BeforeTold devices false (did ++ steps_by (due_account w.outer w.devices w.outer.due route)) (past ++ stamp (gives w.outer w.devices w.outer.due route).outer (gives w.outer w.devices w.outer.due route).entries)
+          (has_entered (gives w.outer w.devices w.outer.due route).outer (gives w.outer w.devices w.outer.due route).entries)
+      by [] none_told =
+          subst (λ (l : List Entry). BeforeTold devices false now (past ++ stamp x.outer l) (has_entered x.outer l)) (sym none_told)
+          (gives_silently devices w.devices w.outer route calm waits.each waits.await.results did past (λ node due is. informs_back devices node (w.outer.clock - 1) past (awaits_number w.outer) w.outer.clock _ (informs node due is)) none_told so)
+      by (first ∷ told) some =
+          let here : List Entry = past ++ ticked_entry w.outer in
+          let numbered = before_number_t devices (outlook w.outer) false 0 (awaits_number w.outer) (λ is. refl) did past w.outer.chip.state.port tally in
+          let settled : settled_clock here ≡ w.outer.clock = settled_now w.outer.clock here (timed_before devices w.outer false 0 false did here w.outer.chip.state.port numbered) in
+          before_entered devices false x.outer x.entries now past
+          (subst (λ (l : List Entry). TellSo (TellsBefore devices false x.outer) now ((past ++ l) ++ x.entries) x.outer.chip.state.port) (sym number)
+          (gives_tell devices w.devices w.outer route calm waits.each waits.await.results did here informs settled (before_numbered devices w.outer did past w.outer.chip.state.port false 0 (λ is. refl) tally so)))
+          (λ none_told. absurd (let no : [] ≡ first ∷ told = sym none_told ∙ some in cc))
+
 -- ---- each phase
 
--- What is asked of the events at which the chip is given something: it takes bytes, a frame arrives or is heard again, and results are given.
+-- What is asked besides: of the event at which the chip takes bytes; and that the information of a node which is given is what the transcript says.
 pub record Giving_events (devices : List State) (Ground : Phase → List Entry → Machine → Type 0) : Type 0 where
   pub takes : (did : List Step) (passes ticks : ℕ) (past : List Entry) (m : Machine) (rest : Rest) (ways : List (Item × Option Route))
       → May m (Outside_does (Chip_takes (length m.outside.outer.to_chip.bytes) rest ways)) → Ground (Moving passes ticks) past m → KnowAir devices did (Moving passes ticks) past m
       → KnowTally devices did (Moving passes ticks) past m → KnowTells devices did (Moving passes ticks) past m
       → KnowTells devices (did ++ event_steps m (Outside_does (Chip_takes (length m.outside.outer.to_chip.bytes) rest ways))) (Moved true passes ticks)
       (past ++ entries m (Outside_does (Chip_takes (length m.outside.outer.to_chip.bytes) rest ways))) (happens m (Outside_does (Chip_takes (length m.outside.outer.to_chip.bytes) rest ways)))
-  pub arrives : (did : List Step) (left ticks : ℕ) (past : List Entry) (m : Machine) (drawn : List ℕ) (route : Option Route) → May m (Outside_does (Arrives drawn route)) → Ground (Arriving (suc left) ticks) past m
-      → KnowTally devices did (Arriving (suc left) ticks) past m → KnowTells devices did (Arriving (suc left) ticks) past m
-      → KnowTells devices (did ++ event_steps m (Outside_does (Arrives drawn route))) (Arriving left ticks) (past ++ entries m (Outside_does (Arrives drawn route))) (happens m (Outside_does (Arrives drawn route)))
-  pub gives : (did : List Step) (left ticks : ℕ) (past : List Entry) (m : Machine) (route : Option Route) → May m (Outside_does (Gives route)) → Ground (Giving (suc left) ticks) past m
-      → KnowTally devices did (Giving (suc left) ticks) past m → KnowTells devices did (Giving (suc left) ticks) past m
-      → KnowTells devices (did ++ event_steps m (Outside_does (Gives route))) (Giving left ticks) (past ++ entries m (Outside_does (Gives route))) (happens m (Outside_does (Gives route)))
+  pub informs : (left ticks : ℕ) (past : List Entry) (m : Machine) (route : Option Route) → May m (Outside_does (Gives route)) → Ground (Giving (suc left) ticks) past m → (node : ℕ) (due : List Due) → m.outside.outer.due ≡ Info node ∷ due
+      → IsInformation devices node (m.outside.outer.clock - 1) (past ++ ticked_entry m.outside.outer)
+      (unit_text (Framed (notice_frame (ApplicationUpdate (update_of node (profile_for m.outside.outer.air m.outside.devices node route))))))
 
 module _ (devices : List State) (laws : Laws) (none : NoNexting) (Ground : Phase → List Entry → Machine → Type 0) (law : GroundAir devices Ground)
     (lands : (here : Phase) (past : List Entry) (m : Machine) → Ground here past m → KnowLanding here past m) (calls : (here : Phase) (past : List Entry) (m : Machine) → Ground here past m → KnowCalls here past m)
-    (given : Giving_events devices Ground) (did : List Step) where
+    (acks : (here : Phase) (past : List Entry) (m : Machine) → Ground here past m → KnowAcks here past m) (given : Giving_events devices Ground) (did : List Step) where
   abbrev Steps : Phase → List Entry → Machine → Event → Type 0
   Steps next past m event = KnowTells devices (did ++ event_steps m event) next (past ++ entries m event) (happens m event)
 
@@ -245,6 +340,46 @@ module _ (devices : List State) (laws : Laws) (none : NoNexting) (Ground : Phase
   unfolding happens entries event_steps
   tick_begins ticks past m ground tally so = tick_tells devices laws none did past m.outside (law.history (To_tick (suc ticks)) past m ground) tally.0 so
 
+  -- the next frame arrives, and what is due is given
+  may_outside : (m : Machine) (event : OuterEvent) → May m (Outside_does event) → MayOutside m.outside event
+  unfolding May
+  may_outside m event may = may.1
+
+  outside_before : (past : List Entry) (m : Machine) (event : OuterEvent) (arriving : Bool) → BeforeTold devices arriving (did ++ outer_steps m.outside event) (past ++ entries_outside m.outside event) (happens_outside m.outside event).outer
+      → BeforeTold devices arriving (did ++ event_steps m (Outside_does event)) (past ++ entries m (Outside_does event)) (happens m (Outside_does event)).outside.outer
+  unfolding happens entries event_steps
+  outside_before past m event arriving so = so
+
+  arrives : (left ticks : ℕ) (past : List Entry) (m : Machine) (drawn : List ℕ) (route : Option Route) → May m (Outside_does (Arrives drawn route)) → Ground (Arriving (suc left) ticks) past m
+      → KnowTally devices did (Arriving (suc left) ticks) past m → BeforeTold devices true did past m.outside.outer
+      → BeforeTold devices true (did ++ event_steps m (Outside_does (Arrives drawn route))) (past ++ entries m (Outside_does (Arrives drawn route))) (happens m (Outside_does (Arrives drawn route))).outside.outer
+  arrives left ticks past m drawn route may ground tally so = by landing.before landing.are landing.many
+    where
+      known : KnowCalls (Arriving (suc left) ticks) past m
+      known = calls (Arriving (suc left) ticks) past m ground
+
+      landing : AreLanding (suc left) m.outside.outer
+      landing = known.1
+
+      lands_here : KnowLanding (Arriving (suc left) ticks) past m
+      lands_here = lands (Arriving (suc left) ticks) past m ground
+
+      by : (before : List Flown) → on_air m.outside.outer.air.frames ≡ before ++ landing.since → length before ≡ suc left
+          → BeforeTold devices true (did ++ event_steps m (Outside_does (Arrives drawn route))) (past ++ entries m (Outside_does (Arrives drawn route))) (happens m (Outside_does (Arrives drawn route))).outside.outer
+      by [] are many = absurd (omega (arith, many))
+      by (flight ∷ before) are many =
+          outside_before past m (Arrives drawn route) true
+          (arrives_told devices laws none did past m.outside (law.history (Arriving (suc left) ticks) past m ground) left drawn route (may_outside m (Arrives drawn route) may) known.0 flight (before ++ landing.since) are
+          (λ awaits. lands_here.sent.0.apart refl awaits) (acks (Arriving (suc left) ticks) past m ground) tally.0 so)
+
+  gives_here : (left ticks : ℕ) (past : List Entry) (m : Machine) (route : Option Route) → May m (Outside_does (Gives route)) → Ground (Giving (suc left) ticks) past m → KnowTally devices did (Giving (suc left) ticks) past m
+      → BeforeTold devices false did past m.outside.outer
+      → BeforeTold devices false (did ++ event_steps m (Outside_does (Gives route))) (past ++ entries m (Outside_does (Gives route))) (happens m (Outside_does (Gives route))).outside.outer
+  gives_here left ticks past m route may ground tally so =
+      let known = calls (Giving (suc left) ticks) past m ground in
+      outside_before past m (Gives route) false
+      (gives_told devices laws none did past m.outside (law.history (Giving (suc left) ticks) past m ground) route known.0 known.1.none (given.informs left ticks past m route may ground) tally.0 so)
+
   pub tells_event : (here next : Phase) (past : List Entry) (m : Machine) (event : Event) → Goes here m event next → May m event → Ground here past m → KnowAir devices did here past m → KnowTally devices did here past m
       → KnowTells devices did here past m → Steps next past m event
   tells_event (Said_line line) next past m event (event_is, next_is) may ground airs tally known =
@@ -254,9 +389,9 @@ module _ (devices : List State) (laws : Laws) (none : NoNexting) (Ground : Phase
   tells_event (To_tick (suc ticks)) next past m event (event_is, next_is) may ground airs tally known =
       goes_to next (Ticked ticks) event (Outside_does Begins_tick) past m event_is next_is (tick_begins ticks past m ground tally known)
   tells_event (Arriving (suc left) ticks) next past m event (drawn, route, event_is, next_is) may ground airs tally known =
-      goes_to next (Arriving left ticks) event (Outside_does (Arrives drawn route)) past m event_is next_is (given.arrives did left ticks past m drawn route (subst (May m) event_is may) ground tally known)
+      goes_to next (Arriving left ticks) event (Outside_does (Arrives drawn route)) past m event_is next_is (arrives left ticks past m drawn route (subst (May m) event_is may) ground tally known)
   tells_event (Giving (suc left) ticks) next past m event (route, event_is, next_is) may ground airs tally known =
-      goes_to next (Giving left ticks) event (Outside_does (Gives route)) past m event_is next_is (given.gives did left ticks past m route (subst (May m) event_is may) ground tally known)
+      goes_to next (Giving left ticks) event (Outside_does (Gives route)) past m event_is next_is (gives_here left ticks past m route (subst (May m) event_is may) ground tally known)
   tells_event (Ticking_devices place (suc count) ticks) next past m event (drawn, route, event_is, next_is) may ground airs tally known =
       goes_to next (Ticking_devices (place + 1) count ticks) event (Outside_does (Device_ticks place drawn route)) past m event_is next_is
       (outside_now past m (Device_ticks place drawn route)

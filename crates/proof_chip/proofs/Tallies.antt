@@ -282,14 +282,14 @@ module _ (devices : List State) (laws : Laws) (none : NoNexting) (did : List Ste
       subst (λ (b : Bool). TallySo (TallyBefore devices (outlook p) true left b 0) now (past ++ (ticked_entry p ++ first ∷ told)) p.chip.state.port) (sym (no_more p.in_tick p.stamped))
       (subst (λ (l : List Entry). TallySo (TallyBefore devices (outlook p) true left false 0) now l p.chip.state.port) (append_assoc past (ticked_entry p) (first ∷ told)) so)
 
-  same_frames : (b : Bool) (clock : ℕ) → frames (past ++ (if b then entry.Time clock ∷ [] else [])) ≡ frames past
+  pub same_frames : (b : Bool) (clock : ℕ) → frames (past ++ (if b then entry.Time clock ∷ [] else [])) ≡ frames past
   same_frames b clock = shown-append frame_at past (if b then entry.Time clock ∷ [] else []) ∙ (ap (λ (l : List AirFrame). frames past ++ l) (by b) ∙ append-nil (frames past))
     where
       by : (c : Bool) → frames (if c then entry.Time clock ∷ [] else []) ≡ []
       by true = refl
       by false = refl
 
-  apart_here : (b : Bool) (clock : ℕ) → (b ≡ false → answers_repeat past ≡ false) → answers_repeat (past ++ (if b then entry.Time clock ∷ [] else [])) ≡ false
+  pub apart_here : (b : Bool) (clock : ℕ) → (b ≡ false → answers_repeat past ≡ false) → answers_repeat (past ++ (if b then entry.Time clock ∷ [] else [])) ≡ false
   apart_here true clock apart = number_apart past clock
   apart_here false clock apart = ap answers_repeat (append-nil past) ∙ apart refl
 
