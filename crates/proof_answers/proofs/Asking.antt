@@ -79,7 +79,7 @@ only_ends : (all : List Called) → only_informs (map (λ (one : Called). Ends o
 only_ends [] = refl
 only_ends (one ∷ all) = only_ends all
 
-abbrev informs_all : List Asked → List Owed
+abbrev pub informs_all : List Asked → List Owed
 informs_all all = flat_map (λ (one : Asked). informs (clock_of one.past) one.request) all
 
 only_informed : (ticks : ℕ) (request : Request) → only_informs (informs ticks request) ≡ informs ticks request
