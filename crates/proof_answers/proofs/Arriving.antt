@@ -71,14 +71,14 @@ module _ (devices : List State) (v : Outlook) (o : OuterState) (same : v.clock �
   settled : settled_clock here ≡ o.clock - 1
   settled = settled_in o.clock left here timed
 
-  open : settled_clock here < o.clock
-  open = let at = settled in let some = begun in omega (arith, at, some)
+  is_open : settled_clock here < o.clock
+  is_open = let at = settled in let some = begun in omega (arith, at, some)
 
   parts_by : (count : ℕ) → left ≡ count → (course : Course) → GoesOn (course_of did) course → Parts devices course o.clock here e
   parts_by zero is course goes = parts_all devices course o.clock here e (settled_now o.clock heard (subst (λ (n : ℕ). Timed o.clock n false heard) is timed_then))
   parts_by (suc count) is course goes =
       let (frames, serves, are) = tally in
-      before_parts devices o [] course here v true (suc left) false 0 (length frames) e same open (settled_in o.clock count heard (subst (λ (n : ℕ). Timed o.clock n false heard) is timed_then)) (are course goes)
+      before_parts devices o [] course here v true (suc left) false 0 (length frames) e same is_open (settled_in o.clock count heard (subst (λ (n : ℕ). Timed o.clock n false heard) is timed_then)) (are course goes)
 
   -- what comes of it is given, and the state is such as the transcript says
   pub fate_tells : (there : List State) (rest : List AirEvent) (more : List FrameParts) → posts_by (all_account there rest o) ≡ more → AreIdle (each (deals there) o rest).entries → AllByRecursion IsCalm (each (deals there) o rest).entries
@@ -99,8 +99,8 @@ module _ (devices : List State) (v : Outlook) (o : OuterState) (same : v.clock �
             let due = due_last devices o p frames course here v (suc left) 0 (length counted) same begun settled (counts course goes) in
             let gives = fate_gives devices course here e fate ∙ ap (λ (l : List Given). l ++ flat_map (results_of course here e) (came_due course here e)) fact.0 in
             let parts = parts_by left refl course goes in (
-              before_entry devices o p frames course here e more other (fate_results here e fate) (fate_may devices course here e fate) parts due open gives fact.1 (are course goes),
-              entry_are devices o p frames course here e more other (fate_results here e fate) (fate_may devices course here e fate) parts due open gives (are course goes),
+              before_entry devices o p frames course here e more other (fate_results here e fate) (fate_may devices course here e fate) parts due is_open gives fact.1 (are course goes),
+              entry_are devices o p frames course here e more other (fate_results here e fate) (fate_may devices course here e fate) parts due is_open gives (are course goes),
             ),
       ) in
       subst (λ (l : List Entry). TellSo (TellsBefore devices true p) (did ++ steps_by (all_account there rest o)) l p.chip.state.port) (append_assoc here (e ∷ []) x.entries)

@@ -44,7 +44,7 @@ has_route [] = refl
 has_route (no_route_due ∷ due) = refl
 has_route (Info other ∷ due) = has_route due
 
-dues_info : (own : List Owed) (ticks : ℕ) (due : List Due) (node : ℕ) → dues own ticks (due ++ Info node ∷ []) ≡ dues own ticks due ++ Informs node ticks ∷ []
+pub dues_info : (own : List Owed) (ticks : ℕ) (due : List Due) (node : ℕ) → dues own ticks (due ++ Info node ∷ []) ≡ dues own ticks due ++ Informs node ticks ∷ []
 dues_info own ticks [] node = refl
 dues_info own ticks (Info other ∷ due) node = ap (λ (l : List Owed). Informs other ticks ∷ l) (dues_info own ticks due node)
 dues_info own ticks (no_route_due ∷ due) node =
@@ -228,23 +228,23 @@ module _ (course : Course) (past tail : List Entry) (f : FrameParts) (passed : s
       abbrev new : Sending
       new = sending_of past node payload id
 
-      now_is : map (λ (request : Request). record { request = request; past = past }) (listed_of (asked_of f)) ≡ record { request = SendData node payload options id; past = past } ∷ []
-      now_is = ap (λ (r : Option Request). map (λ (request : Request). record { request = request; past = past }) (listed_of r)) is
+      now_is : map {B = Asked} (λ (request : Request). record { request = request; past = past }) (listed_of (asked_of f)) ≡ record { request = SendData node payload options id; past = past } ∷ []
+      now_is = ap (λ (r : Option Request). map {B = Asked} (λ (request : Request). record { request = request; past = past }) (listed_of r)) is
 
       earlier : (all : List Asked) → AllByRecursion (WasAsked (acks past)) all → AllByRecursion (λ (one : Asked). AllByRecursion (IsApartFrom whole one) (new ∷ [])) all
       earlier [] before = tt
       earlier (one ∷ all) before = ((elsewhere whole one new (λ same. let below = before.0 in omega (arith, same, below)), tt), earlier all before.1)
 
+      kept : (all : List Asked) → AllByRecursion (WasAsked (acks past)) all → AllByRecursion (WasAsked (acks past)) (filter (is_of_tick o.clock) all)
+      kept [] before = tt
+      kept (one ∷ all) before = by (is_of_tick o.clock one) (kept all before.1)
+        where
+          by : (b : Bool) → AllByRecursion (WasAsked (acks past)) (filter (is_of_tick o.clock) all) → AllByRecursion (WasAsked (acks past)) (if b then one ∷ filter (is_of_tick o.clock) all else filter (is_of_tick o.clock) all)
+          by true rest = (before.0, rest)
+          by false rest = rest
+
       here_before : AllByRecursion (WasAsked (acks past)) (asked_in_tick o.clock course past)
       here_before = kept (asked course past) (was_asked course past)
-        where
-          kept : (all : List Asked) → AllByRecursion (WasAsked (acks past)) all → AllByRecursion (WasAsked (acks past)) (filter (is_of_tick o.clock) all)
-          kept [] before = tt
-          kept (one ∷ all) before = by (is_of_tick o.clock one)
-            where
-              by : (b : Bool) → AllByRecursion (WasAsked (acks past)) (if b then one ∷ filter (is_of_tick o.clock) all else filter (is_of_tick o.clock) all)
-              by true = (before.0, kept all before.1)
-              by false = kept all before.1
 
       owed_here : owed_in course whole (asked_in_tick o.clock course past) ≡ dues [] o.clock o.due
       owed_here =

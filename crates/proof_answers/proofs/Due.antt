@@ -116,12 +116,12 @@ module _ (devices : List State) (v : Outlook) (arriving : Bool) (left : ℕ) (aw
       ∙ append-nil was.silent
 
   pub before_last : since < v.clock → asked_in_tick (v.clock - 1) course past ≡ was.last
-  before_last open =
+  before_last is_open =
       let begun = was.begun in
       ap (λ (l : List Asked). filter (is_of_tick (v.clock - 1)) l) was.are
       ∙ three (is_of_tick (v.clock - 1)) was.old was.silent was.last
       ∙ ap₂ (λ (a b : List Asked). a ++ b)
-      (none_of_tick (v.clock - 1) was.old (all-weaker (IsBefore since) (λ (one : Asked). clock_of one.past ≡ v.clock - 1 → ⊥) (λ one below is. omega (arith, below, is, open)) was.old was.settled))
+      (none_of_tick (v.clock - 1) was.old (all-weaker (IsBefore since) (λ (one : Asked). clock_of one.past ≡ v.clock - 1 → ⊥) (λ one below is. omega (arith, below, is, is_open)) was.old was.settled))
       (ap₂ (λ (a b : List Asked). a ++ b)
       (none_of_tick (v.clock - 1) was.silent (all-weaker Silent (λ (one : Asked). clock_of one.past ≡ v.clock - 1 → ⊥) (λ one silent is. let below = silent.1 in omega (arith, below, is, begun)) was.silent was.unsettled))
       (all_of_tick (v.clock - 1) was.last (all-weaker Last (λ (one : Asked). clock_of one.past ≡ v.clock - 1) (λ one last. let at = last.1 in omega (arith, at)) was.last was.new)))
@@ -140,12 +140,12 @@ module _ (devices : List State) (v : Outlook) (arriving : Bool) (left : ℕ) (aw
 
   -- in the tick before
   pub before_window : since < v.clock → filter (comes_within (v.clock - 1) v.clock) (asked course past) ≡ was.last
-  before_window open =
+  before_window is_open =
       let begun = was.begun in
       ap (λ (l : List Asked). filter (comes_within (v.clock - 1) v.clock) l) was.are
       ∙ three (comes_within (v.clock - 1) v.clock) was.old was.silent was.last
       ∙ ap₂ (λ (a b : List Asked). a ++ b)
-      (none_between (v.clock - 1) v.clock was.old (all-weaker (IsBefore since) (IsBefore (v.clock - 1)) (λ one below. omega (arith, below, open)) was.old was.settled))
+      (none_between (v.clock - 1) v.clock was.old (all-weaker (IsBefore since) (IsBefore (v.clock - 1)) (λ one below. omega (arith, below, is_open)) was.old was.settled))
       (ap₂ (λ (a b : List Asked). a ++ b)
       (none_between (v.clock - 1) v.clock was.silent (all-weaker Silent (IsBefore (v.clock - 1)) (λ one silent. let below = silent.1 in omega (arith, below)) was.silent was.unsettled))
       (all_between (v.clock - 1) v.clock was.last (all-weaker Last (IsWithin (v.clock - 1) v.clock) (λ one last. (let at = last.1 in omega (arith, at), let at = last.1 in omega (arith, at))) was.last was.new)))

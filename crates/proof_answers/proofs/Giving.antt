@@ -52,15 +52,18 @@ use Rattle.proof_answers.proofs.Standing.{before_idle}
 
 -- ---- calls of no frame
 
+no_more : (n : ℕ) → 0 + n ≡ 0 → n ≡ 0
+no_more n none = omega (arith, none)
+
 all_without : (calls : List Call) → flying_in (flags calls) ≡ 0 → without_frame (flags calls) ≡ length calls
 all_without [] none = refl
 all_without (OfFrame ∷ calls) none = absurd (omega (arith, none))
-all_without (no_route_call ∷ calls) none = let rest = all_without calls none in omega (arith, rest)
+all_without (no_route_call ∷ calls) none = let rest = all_without calls (no_more (flying_in (flags calls)) none) in omega (arith, rest)
 
 last_none : (b : Bool) (calls : List Call) → flying_in (flags calls) ≡ 0 → b ≡ false → last_or b (flags calls) ≡ false
 last_none b [] none is = is
 last_none b (OfFrame ∷ calls) none is = absurd (omega (arith, none))
-last_none b (no_route_call ∷ calls) none is = last_none false calls none refl
+last_none b (no_route_call ∷ calls) none is = last_none false calls (no_more (flying_in (flags calls)) none) refl
 
 drop_none : (calls : List Call) → flying_in (flags calls) ≡ 0 → flying_in (flags (drop 1 calls)) ≡ 0
 drop_none [] none = refl
@@ -70,12 +73,12 @@ drop_none (call ∷ calls) none = omega (arith, none)
 none_due : (own : List Owed) (ticks : ℕ) (due : List Due) → no_routes_due due ≡ 0 → dues own ticks due ≡ dues [] ticks due
 none_due own ticks [] none = refl
 none_due own ticks (no_route_due ∷ due) none = absurd (omega (arith, none))
-none_due own ticks (Info node ∷ due) none = ap (λ (l : List Owed). Informs node ticks ∷ l) (none_due own ticks due none)
+none_due own ticks (Info node ∷ due) none = ap (λ (l : List Owed). Informs node ticks ∷ l) (none_due own ticks due (no_more (no_routes_due due) none))
 
 has_none : (due : List Due) → no_routes_due due ≡ 0 → has_no_route due ≡ false
 has_none [] none = refl
 has_none (no_route_due ∷ due) none = absurd (omega (arith, none))
-has_none (Info node ∷ due) none = has_none due none
+has_none (Info node ∷ due) none = has_none due (no_more (no_routes_due due) none)
 
 has_one : (due : List Due) → 0 < no_routes_due due → has_no_route due ≡ true
 has_one [] some = absurd (omega (arith, some))
@@ -178,7 +181,7 @@ module _ (devices : List State) (there : List State) (o : OuterState) (route : O
         failing = λ calls has. subst (λ (l : List Called). HasFailing o.chip.state.failing l) (sym (append-nil calls)) has;
       }))
     where
-      abbrev shape : Bool → Bool → List Due → List Owed
+      shape : Bool → Bool → List Due → List Owed
       shape a b l = dues (map (λ (one : Called). Ends one) (if a && not b then ended_by NoRoute (last_sending course past) else [])) (o.clock - 1) l
 
       less_is : without_no_route o.due ≡ due
@@ -282,10 +285,10 @@ module _ (devices : List State) (there : List State) (o : OuterState) (route : O
       (λ frames serves. account_grows devices did frames past (due_account o there o.due route) y_calmly.0 serves)
       (λ frames course was.
       let following = next_of course was.under in
-      let then = before_gives devices o y.outer (posts_by (due_account o there o.due route)) frames course past following was in
+      let all = before_gives devices o y.outer (posts_by (due_account o there o.due route)) frames course past following was in
       subst (λ (l : List Given). AreOf devices (frame_texts (frames ++ posts_by (due_account o there o.due route))) l)
       (ap (λ (l : List Asked). given devices course past ++ map (come past) (owed_in course past l)) (none_filtered (settled_clock past) y.outer.clock (following.time ∙ sym settled) (asked course past)) ∙ append-nil (given devices course past))
-      (tells_are devices (frame_texts (frames ++ posts_by (due_account o there o.due route))) (told_by devices y.outer.clock course past) (map (come past) (owed_now course past (y.outer.clock - 1) y.outer)) then.tells))
+      (tells_are devices (frame_texts (frames ++ posts_by (due_account o there o.due route))) (told_by devices y.outer.clock course past) (map (come past) (owed_now course past (y.outer.clock - 1) y.outer)) all.tells))
       (λ frames course turns was.
       before_idle devices y.outer (frames ++ posts_by (due_account o there o.due route)) course past y.entries y_calmly.0 turns false y_calmly.1
       (before_gives devices o y.outer (posts_by (due_account o there o.due route)) frames course past (next_of course was.under) was)) so

@@ -62,14 +62,14 @@ module _ (devices : List State) (o p : OuterState) (frames : List FrameParts) (c
   -- ---- with its fate
 
   module _ (e : Entry) (more : List FrameParts) (other : IsOther e) (at : before_results past e ≡ past ++ e ∷ []) (may : MayAnswer devices course past e) (parts : Parts devices course o.clock past e)
-      (due : due_before o.clock course past ≡ asked_in_tick (o.clock - 1) course past) (open : settled_clock past < o.clock)
+      (due : due_before o.clock course past ≡ asked_in_tick (o.clock - 1) course past) (is_open : settled_clock past < o.clock)
       (gives : given_at devices course past e ≡ as_given more ++ flat_map (results_of course past e) (came_due course past e)) where
     abbrev later : List Entry
     later = past ++ e ∷ []
 
     module _ (was : TellsBefore devices true o frames course past) where
       owes : owed_in course past (due_before o.clock course past) ≡ owed_now course past (o.clock - 1) o
-      owes = ap (λ (l : List Asked). owed_in course past l) due ∙ was.owes refl open
+      owes = ap (λ (l : List Asked). owed_in course past l) due ∙ was.owes refl is_open
 
       before : Tells devices (frame_texts frames) (given devices course past) []
       before =
@@ -95,7 +95,7 @@ module _ (devices : List State) (o p : OuterState) (frames : List FrameParts) (c
           ap (λ (n : ℕ). owed_in course later (asked_in_tick (n - 1) course later)) ended.time
           ∙ (ap (λ (l : List Asked). owed_in course later l) (tick_still course past (e ∷ []) (other, tt) (clock - 1))
           ∙ (owed_still course past (e ∷ []) (other, tt) (asked_in_tick (clock - 1) course past)
-          ∙ (was.owes refl open ∙ (sym ended.owes ∙ ap (λ (n : ℕ). owed_now course later (n - 1) p) (sym ended.time)))));
+          ∙ (was.owes refl is_open ∙ (sym ended.owes ∙ ap (λ (n : ℕ). owed_now course later (n - 1) p) (sym ended.time)))));
       under = ended.under;
       calls = was.calls ++ ended_at course past e;
       ended = calls_then;

@@ -100,7 +100,7 @@ module _ (devices : List State) where
   -- ---- where nothing is given
 
   -- nothing is entered either
-  silent_on : (Are : Telling) (did steps : List Step) (past : List Entry) (port later : PortState) → ((frames : List FrameParts) → Serves did frames past port → Grows devices did frames past later [] steps [])
+  pub silent_on : (Are : Telling) (did steps : List Step) (past : List Entry) (port later : PortState) → ((frames : List FrameParts) → Serves did frames past port → Grows devices did frames past later [] steps [])
       → TellSo Are did past port → TellSo Are (did ++ steps) (past ++ []) later
   silent_on Are did steps past port later grow (frames, serves, are) = (
     frames ++ [],
@@ -130,7 +130,7 @@ module _ (devices : List State) where
       (tells_are devices (frame_texts frames) (told_by devices o.clock course past) [] was.tells)
 
   -- entries that tell nothing of it are
-  now_on : (o : OuterState) (did steps : List Step) (past told : List Entry) (port later : PortState) → AreIdle told → settled_clock past ≡ o.clock
+  pub now_on : (o : OuterState) (did steps : List Step) (past told : List Entry) (port later : PortState) → AreIdle told → settled_clock past ≡ o.clock
       → ((frames : List FrameParts) → Serves did frames past port → Grows devices did frames past later told steps []) → TellSo (TellsNow devices o) did past port
       → TellSo (TellsNow devices o) (did ++ steps) (past ++ told) later
   now_on o did steps past told port later idle settled grow so =

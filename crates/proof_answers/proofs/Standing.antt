@@ -205,12 +205,12 @@ module _ (devices : List State) (o : OuterState) (frames : List FrameParts) (cou
 
   pub before_number : (arriving : Bool) → Parts devices course o.clock past (entry.Time o.clock) → settled_clock past < o.clock → TellsBefore devices arriving o frames course past
       → TellsBefore devices arriving o frames course (past ++ entry.Time o.clock ∷ [])
-  before_number arriving parts open was = record {
+  before_number arriving parts is_open was = record {
     turns = each-append (MayAnswer devices course) [] past (time ∷ []) was.turns (tt, tt);
     tells =
         subst (λ (l : List Owed). Tells devices (frame_texts frames) (told_by devices clock course numbered) (map (come numbered) l)) (sym (time_owed (clock - 1)))
         (time_tells parts (owed_now course past (clock - 1) o) was.tells);
-    owes = λ is below. time_asked (clock - 1) ∙ (was.owes is open ∙ sym (time_owed (clock - 1)));
+    owes = λ is below. time_asked (clock - 1) ∙ (was.owes is is_open ∙ sym (time_owed (clock - 1)));
     under = under_still course past (time ∷ []) (tt, tt) o.chip.state.sending was.under;
     calls = was.calls;
     ended = time_called parts ∙ (was.ended ∙ ap (λ (l : List Owed). was.calls ++ ends_in l) (sym (time_owed (clock - 1))));
@@ -220,8 +220,8 @@ module _ (devices : List State) (o : OuterState) (frames : List FrameParts) (cou
   -- what was asked before is what is told there, and what is not told yet
   pub before_parts : (v : Outlook) (arriving : Bool) (left : ℕ) (awaits : Bool) (coming count : ℕ) (e : Entry) → v.clock ≡ o.clock → settled_clock past < o.clock → settled_clock (past ++ e ∷ []) ≡ o.clock - 1
       → TallyBefore devices v arriving left awaits coming count course past → Parts devices course o.clock past e
-  before_parts v arriving left awaits coming count e same open settled was =
-      let below : settled_clock past < v.clock = subst (λ (n : ℕ). settled_clock past < n) (sym same) open in
+  before_parts v arriving left awaits coming count e same is_open settled was =
+      let below : settled_clock past < v.clock = subst (λ (n : ℕ). settled_clock past < n) (sym same) is_open in
       let at : settled_clock (past ++ e ∷ []) ≡ v.clock - 1 = settled ∙ ap (λ (n : ℕ). n - 1) (sym same) in
       ap (λ (n : ℕ). due_before n course past) (sym same)
       ∙ (before_due devices v arriving left awaits coming count course past was
