@@ -15,4 +15,6 @@ mod Owning
 mod Landed
 mod Giving
 mod Asking
+mod Judging
+mod Itemwise
 mod Walk

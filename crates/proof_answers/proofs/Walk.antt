@@ -50,7 +50,13 @@ use Rattle.proof_line.specs.proof_traffic.OutsideTraffic.{flags, outward}
 use Rattle.proof_line.proofs.ChipAccounts.{due_account, event_steps, gives_account, outer_steps, steps_account, steps_by}
 use Rattle.proof_line.proofs.Parts.{Laws}
 use Rattle.proof_chip.specs.Calling.{AreLanding, KnowCalls, Waits}
-use Rattle.proof_chip.specs.Sending.{GroundAir, KnowAir}
+use Rattle.proof_chip.specs.Sending.{Agrees, AirSo, AreNow, GroundAir, KnowAir}
+use Rattle.proof_chip.proofs.Calling.{flying}
+use Rattle.proof_chip.proofs.Passing.{shown_all}
+use Rattle.proof_routes.specs.Networks.{Tie as Networks}
+use Rattle.proof_routes.proofs.Books.{SameShown, same_joined}
+use Rattle.route_table.specs.Network.{Link}
+use Rattle.law_wire.specs.Networks.{are_linked, listens_at}
 use Rattle.proof_chip.specs.Serving.{GoesOn, Serves}
 use Rattle.proof_chip.specs.Tally.{IsOfLine, KnowTally, TallyAt, TallyBefore, TallyNow, TallySo, outlook}
 use Rattle.proof_chip.proofs.Asides.{AreUnrelated, IsHosts, IsSteady, IsStill, IsUnrelated, hosts_apart, still_apart, still_port}
@@ -61,13 +67,15 @@ use Rattle.proof_chip.proofs.Standing.{goes_none}
 use Rattle.proof_chip.proofs.Steady.{hosts_await, hosts_chip, hosts_look, hosts_within, steady_within}
 use Rattle.proof_chip.proofs.Tallied.{before_number_t, chip_idle}
 use Rattle.proof_chip.proofs.Tallying.{settled_now}
-use Rattle.proof_chip.proofs.Tallies.{BeforeSo, Collides_it, IsOfHost, Kind, NowSo, Repeats_one, Stays_still, Ticks_chip, again_of, apart_here, covers_answer, covers_host, hosts_keep as hosts_count, host_covers, kind_of, no_steps, same_frames, still_steps, unanswered}
+use Rattle.proof_chip.proofs.Tallies.{BeforeSo, Collides_it, IsOfHost, Kind, NowSo, Repeats_one, Stays_still, Ticks_chip, again_of, apart_here, covers_answer, covers_host, hosts_keep as hosts_count, host_covers, kind_of, many_sent, no_steps, same_frames, still_steps, unanswered}
 use Rattle.proof_chip.proofs.Telling.{AreAside, IsAside}
 use Rattle.proof_answers.specs.Telling.{KnowTells, TellSo, TellsBefore, TellsNow}
 use Rattle.proof_answers.proofs.Accounts.{Grows, aside_grows, event_grows}
 use Rattle.proof_answers.proofs.Moving.{before_numbered, event_now, map_so, now_settled, timed_before}
 use Rattle.proof_answers.proofs.Giving.{gives_silently, gives_tell}
 use Rattle.proof_answers.proofs.Informing.{informs_back}
+use Rattle.proof_answers.proofs.Itemwise.{takes_told}
+use Rattle.proof_answers.proofs.Judging.{KnowsChip}
 use Rattle.proof_answers.proofs.Landed.{arrives_tells}
 use Rattle.proof_answers.proofs.Repeating.{repeats_tell}
 use Rattle.proof_answers.proofs.Standing.{SameOwing, before_arrived, before_as, before_over, now_as, now_said, now_ticks}
@@ -253,13 +261,9 @@ module _ (devices : List State) (laws : Laws) (none : NoNexting) (did : List Ste
 
 -- ---- each phase
 
--- What is asked besides: of the event at which the chip takes bytes; and that the information of a node which is given is what the transcript says.
+-- What is asked besides: that air and chip have the networks of the transcript where the chip takes bytes; and that the information of a node which is given is what the transcript says.
 pub record Giving_events (devices : List State) (Ground : Phase → List Entry → Machine → Type 0) : Type 0 where
-  pub takes : (did : List Step) (passes ticks : ℕ) (past : List Entry) (m : Machine) (rest : Rest) (ways : List (Item × Option Route))
-      → May m (Outside_does (Chip_takes (length m.outside.outer.to_chip.bytes) rest ways)) → Ground (Moving passes ticks) past m → KnowAir devices did (Moving passes ticks) past m
-      → KnowTally devices did (Moving passes ticks) past m → KnowTells devices did (Moving passes ticks) past m
-      → KnowTells devices (did ++ event_steps m (Outside_does (Chip_takes (length m.outside.outer.to_chip.bytes) rest ways))) (Moved true passes ticks)
-      (past ++ entries m (Outside_does (Chip_takes (length m.outside.outer.to_chip.bytes) rest ways))) (happens m (Outside_does (Chip_takes (length m.outside.outer.to_chip.bytes) rest ways)))
+  pub networks : (passes ticks : ℕ) (past : List Entry) (m : Machine) → Ground (Moving passes ticks) past m → Networks devices past m.outside
   pub informs : (left ticks : ℕ) (past : List Entry) (m : Machine) (route : Option Route) → May m (Outside_does (Gives route)) → Ground (Giving (suc left) ticks) past m → (node : ℕ) (due : List Due) → m.outside.outer.due ≡ Info node ∷ due
       → IsInformation devices node (m.outside.outer.clock - 1) (past ++ ticked_entry m.outside.outer)
       (unit_text (Framed (notice_frame (ApplicationUpdate (update_of node (profile_for m.outside.outer.air m.outside.devices node route))))))
@@ -380,6 +384,36 @@ module _ (devices : List State) (laws : Laws) (none : NoNexting) (Ground : Phase
       outside_before past m (Gives route) false
       (gives_told devices laws none did past m.outside (law.history (Giving (suc left) ticks) past m ground) route known.0 known.1.none (given.informs left ticks past m route may ground) tally.0 so)
 
+  -- the chip takes bytes
+  number_none : (past : List Entry) (b : Bool) (clock : ℕ) → SameShown (past ++ (if b then entry.Time clock ∷ [] else [])) past
+  number_none past true clock = shown_all (entry.Time clock ∷ []) past ((tt, refl), tt)
+  number_none past false clock = shown_all [] past tt
+
+  chip_knows : (past : List Entry) (w : Outside) → Networks devices past w → KnowsChip devices (past ++ ticked_entry w.outer) w.outer.chip.state
+  chip_knows past w networks =
+      let same = number_none past (awaits_number w.outer) w.outer.clock in
+      record {
+        listening = λ node. networks.listening node ∙ sym (ap (λ (b : Bool). listens_at devices node && b) (same_joined (past ++ ticked_entry w.outer) past same node));
+        hears = λ a b. networks.chip_hears a b ∙ sym (ap (λ (l : List Link). are_linked l a b) same.chip);
+      }
+
+  takes_go : (past : List Entry) (w : Outside) (count : ℕ) (rest : Rest) (ways : List (Item × Option Route)) → MayOutside w (Chip_takes count rest ways) → Tie nothing past w → Networks devices past w
+      → Agrees devices (past ++ ticked_entry w.outer) w.outer → AirSo devices (AreNow w.outer) did past w.outer.chip.state.port → NowSo devices did past w.outer → NowTold devices did past w.outer
+      → NowTold devices (did ++ outer_steps w (Chip_takes count rest ways)) (past ++ entries_outside w (Chip_takes count rest ways)) (happens_outside w (Chip_takes count rest ways)).outer
+  unfolding MayOutside outer_steps
+  takes_go past w count rest ways may tie networks agrees airs tally so =
+      takes_told devices laws did w count rest ways may past agrees airs
+      (record { log = tie.log; fly = flying tie.log w.outer.air.frames tie.kept; sent = many_sent past w tie; joined = tie.chip }) (chip_knows past w networks) tally so
+
+  takes : (passes ticks : ℕ) (past : List Entry) (m : Machine) (rest : Rest) (ways : List (Item × Option Route)) → May m (Outside_does (Chip_takes (length m.outside.outer.to_chip.bytes) rest ways))
+      → Ground (Moving passes ticks) past m → KnowAir devices did (Moving passes ticks) past m → KnowTally devices did (Moving passes ticks) past m → NowTold devices did past m.outside.outer
+      → NowAfter past m (Outside_does (Chip_takes (length m.outside.outer.to_chip.bytes) rest ways))
+  takes passes ticks past m rest ways may ground airs tally so =
+      let count : ℕ = length m.outside.outer.to_chip.bytes in
+      outside_now past m (Chip_takes count rest ways)
+      (takes_go past m.outside count rest ways (may_outside m (Chip_takes count rest ways) may) (law.history (Moving passes ticks) past m ground) (given.networks passes ticks past m ground)
+      (law.agrees passes ticks past m ground) airs.0 tally.0 so)
+
   pub tells_event : (here next : Phase) (past : List Entry) (m : Machine) (event : Event) → Goes here m event next → May m event → Ground here past m → KnowAir devices did here past m → KnowTally devices did here past m
       → KnowTells devices did here past m → Steps next past m event
   tells_event (Said_line line) next past m event (event_is, next_is) may ground airs tally known =
@@ -409,7 +443,7 @@ module _ (devices : List State) (laws : Laws) (none : NoNexting) (Ground : Phase
       goes_to next (Submitting passes ticks) event (Host_does asked) past m event_is next_is (host_tells devices did m (Host_does asked) tt (subst (May m) event_is may) past tally.0 known)
   tells_event (Moving passes ticks) next past m event (rest, ways, event_is, next_is) may ground airs tally known =
       goes_to next (Moved true passes ticks) event (Outside_does (Chip_takes (length m.outside.outer.to_chip.bytes) rest ways)) past m event_is next_is
-      (given.takes did passes ticks past m rest ways (subst (May m) event_is may) ground airs tally known)
+      (takes passes ticks past m rest ways (subst (May m) event_is may) ground airs tally known)
   tells_event (Moved has_moved passes ticks) next past m event (rest, items, done, event_is, next_is) may ground airs tally known =
       goes_to next (Sleeping passes ticks) event (Host_takes _ rest items done) past m event_is next_is (host_tells devices did m (Host_takes _ rest items done) tt (subst (May m) event_is may) past tally.0 known)
   tells_event here next past m event goes may ground airs tally known = absurd goes
