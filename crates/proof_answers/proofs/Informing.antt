@@ -110,3 +110,8 @@ module _ (devices : List State) where
   pub informs_back : (node ticks : ℕ) (past : List Entry) (b : Bool) (clock : ℕ) (unit : List ℕ) → IsInformation devices node ticks (past ++ (if b then entry.Time clock ∷ [] else [])) unit → IsInformation devices node ticks past unit
   informs_back node ticks past b clock unit is =
       let told : List Entry = if b then entry.Time clock ∷ [] else [] in informs_as node ticks (past ++ told) past (calm_about told past (number_calm b clock)) unit is
+
+  pub informs_on : (node ticks : ℕ) (past : List Entry) (b : Bool) (clock : ℕ) (unit : List ℕ) → IsInformation devices node ticks past unit → IsInformation devices node ticks (past ++ (if b then entry.Time clock ∷ [] else [])) unit
+  informs_on node ticks past b clock unit is =
+      let told : List Entry = if b then entry.Time clock ∷ [] else [] in
+      informs_as node ticks past (past ++ told) (about_back (past ++ told) past (calm_about told past (number_calm b clock))) unit is

@@ -18,3 +18,6 @@ mod Asking
 mod Judging
 mod Itemwise
 mod Walk
+mod Information
+mod Written
+mod First
