@@ -1,6 +1,6 @@
 -- What the chip is given in an outcome outside the host: where these frames are the next ones of what it has for the host, it keeps the law of what it writes; for an event of the chip, and for all that an
 -- account is made of.
-use Rattle.std.proofs.Common.{◌≡◌, Bool, true, false, List, [], ◌∷◌, ◌++◌, refl, sym, ap, ap₂, ◌∙◌, subst, append-nil, append_assoc}
+use Rattle.std.proofs.Common.{◌≡◌, List, [], ◌∷◌, ◌++◌, refl, sym, ap, subst, append-nil, append_assoc}
 use Rattle.std.specs.List.{AllByRecursion}
 use Rattle.zw_base.proofs.Each.{all-left, all-right, all-weaker}
 use Rattle.serial_frame.specs.Frame.{FrameParts}
@@ -16,7 +16,7 @@ use Rattle.zw_text.specs.declared.entry.Entry.TheVariants as entry
 use Rattle.law_transcript.specs.Lists.{EachAfter}
 use Rattle.law_wire.specs.Asked.{Course, course_of}
 use Rattle.law_wire.specs.Given.{Given, given}
-use Rattle.law_wire.specs.Answering.{AreOf, MayAnswer, begins_next}
+use Rattle.law_wire.specs.Answering.{AreOf, MayAnswer}
 use Rattle.outside_model.specs.Devices.{State}
 use Rattle.outside_model.specs.State.{OuterState, Outcome}
 use Rattle.outside_model.specs.Chip.{chip_does}

@@ -1,15 +1,14 @@
 -- That the chip was given just what it has for its host goes on where the next frame on the air arrives: its fate is told, and what comes of that is given.
-use Rattle.std.proofs.Common.{◌≡◌, ◌<◌, ℕ, zero, suc, ◌+◌, ◌-◌, Bool, true, false, if◌then◌else◌, List, [], ◌∷◌, ◌++◌, length, map, refl, sym, ap, ap₂, ◌∙◌, subst, append-nil, append_assoc, arith}
+use Rattle.std.proofs.Common.{◌≡◌, ◌<◌, ℕ, zero, suc, ◌-◌, true, false, List, [], ◌∷◌, ◌++◌, length, map, refl, ap, ◌∙◌, subst, append_assoc, arith}
 use Rattle.std.specs.List.{AllByRecursion, flat_map}
 use Rattle.serial_frame.specs.Frame.{FrameParts}
 use Rattle.serial_link.specs.Rules.{Step}
-use Rattle.chip_functions.specs.declared.notice.TransmitStatus.TheVariants.{NoAck}
 use Rattle.mesh_sim.specs.declared.event.AirEvent.{AirEvent}
 use Rattle.zw_text.specs.declared.entry.Entry.{Entry}
 use Rattle.zw_text.specs.declared.entry.Entry.TheVariants as entry
 use Rattle.law_transcript.specs.Fates.{first_fate}
-use Rattle.law_wire.specs.Asked.{Course, course_of, last_sending}
-use Rattle.law_wire.specs.Results.{Called, came_due, ended_at, settled_clock}
+use Rattle.law_wire.specs.Asked.{Course, course_of}
+use Rattle.law_wire.specs.Results.{came_due, ended_at, settled_clock}
 use Rattle.law_wire.specs.Given.{Given, before_results, callback_of, given, given_at, handlers_at, results_of}
 use Rattle.law_wire.specs.Answering.{AreOf, MayAnswer}
 use Rattle.outside_model.specs.Devices.{State}

@@ -1,35 +1,32 @@
 -- What the chip owes, and which SendData is under way, after the answer to a frame: by the transcript and by what is outside the host.
-use Rattle.std.proofs.Common.{◌≡◌, ◌<◌, ℕ, ◌+◌, ◌-◌, ◌==◌, ◌&&◌, not, nat_le, Bool, true, false, if◌then◌else◌, List, [], ◌∷◌, ◌++◌, filter, length, map, refl, sym, ap, ap₂, ◌∙◌, subst, append-nil, append_assoc, eq-eqb, ne_eqb, arith}
+use Rattle.std.proofs.Common.{◌≡◌, ◌<◌, ℕ, ◌&&◌, not, Bool, true, false, if◌then◌else◌, List, [], ◌∷◌, ◌++◌, filter, map, refl, sym, ap, ap₂, ◌∙◌, subst, append-nil, append_assoc, eq-eqb, arith}
 use Rattle.std.proofs.lemmas.Grind.{flat_map-append}
 use Rattle.std.proofs.lemmas.List.Elements.{filter-append}
 use Rattle.std.specs.Prelude.{Option, Some, None, slice_get}
 use Rattle.std.specs.Option.{is_some}
 use Rattle.std.specs.List.{AllByRecursion, flat_map}
-use Rattle.zw_base.proofs.Each.{all-right}
 use Rattle.serial_frame.specs.Frame.{FrameParts}
 use Rattle.chip_functions.specs.declared.request.Request.{Request}
-use Rattle.chip_functions.specs.declared.request.Request.TheVariants.{GetInitData, GetCapabilities, SendData, GetVersion, SendDataAbort, MemoryGetId, GetNodeProtocolInfo, AddNode, RequestNodeInfo, IsFailedNode, GetRoutingInfo}
+use Rattle.chip_functions.specs.declared.request.Request.TheVariants.{SendData, RequestNodeInfo}
 use Rattle.chip_functions.specs.declared.notice.TransmitStatus.TheVariants.{NoRoute}
 use Rattle.chip_sim.specs.Requests.{asked as asked_of}
 use Rattle.chip_sim.specs.Rules.{listed as listed_of}
 use Rattle.chip_sim.specs.declared.out.Sending.{Sending as SendingParts}
 use Rattle.zw_text.specs.declared.entry.Entry.{Entry}
 use Rattle.law_transcript.specs.Lists.{last_or}
-use Rattle.law_wire.specs.Asked.{Asked, Course, Sending, acks, asked, asked_at, clock_of, in_tick, last_sending, sending_after, sending_of}
+use Rattle.law_wire.specs.Asked.{Asked, Course, Sending, acks, asked, asked_at, clock_of, last_sending, sending_after, sending_of}
 use Rattle.law_wire.specs.Results.{Called, called, called_at, came_due, ended_at, ended_by, ended_without, is_outward, settled_clock}
 use Rattle.outside_model.specs.declared.waits.Call.{Call}
 use Rattle.outside_model.specs.declared.waits.Due.{Due}
 use Rattle.outside_model.specs.declared.waits.Due.TheVariants.{Info, NoRoute as no_route_due}
 use Rattle.outside_model.specs.State.{OuterState}
 use Rattle.proof_line.specs.proof_traffic.OutsideTraffic.{flags}
-use Rattle.proof_chip.specs.Sending.{AreSending}
 use Rattle.proof_chip.proofs.Airing.{IsNoAck, answer, asked_here, last_answered, none_asked, taken_before}
 use Rattle.proof_chip.proofs.Answered.{GivesNone}
 use Rattle.proof_chip.proofs.Picking.{shown_both}
 use Rattle.proof_chip.proofs.Replying.{none_filtered, settled_same}
-use Rattle.proof_chip.proofs.Totals.{IsApartFrom, WasAsked, elsewhere, stays_out, was_asked, with_frame}
-use Rattle.proof_answers.specs.Owing.{Ends, Informs, Owed, asked_in_tick, dues, ends_in, has_no_route, informs, is_of_tick, owed_by, owed_in, owed_now, owed_of, unrouted}
-use Rattle.proof_answers.specs.Telling.{IsUnder}
+use Rattle.proof_chip.proofs.Totals.{IsApartFrom, WasAsked, elsewhere, stays_out, was_asked}
+use Rattle.proof_answers.specs.Owing.{Ends, Informs, Owed, asked_in_tick, dues, has_no_route, informs, is_of_tick, owed_by, owed_in, owed_now, owed_of, unrouted}
 use Rattle.proof_answers.proofs.Entering.{none_called, owed_both, owed_same}
 
 -- ---- what is due, with one more

@@ -1,9 +1,9 @@
 -- Where a frame of the controller ends, the chip is given the callback of the SendData under way, if the call is its own, and nothing else; and what it is owed besides stays.
-use Rattle.std.proofs.Common.{◌≡◌, ◌≤◌, ◌<◌, ◌⊎◌, ℕ, zero, suc, ◌+◌, ◌-◌, ◌==◌, ◌&&◌, not, Bool, true, false, if◌then◌else◌, inl, inr, List, [], ◌∷◌, ◌++◌, length, map, refl, sym, ap, ap₂, ◌∙◌, subst, append-nil, arith}
+use Rattle.std.proofs.Common.{◌≡◌, ◌≤◌, ◌<◌, ◌⊎◌, ℕ, zero, suc, ◌+◌, ◌-◌, ◌==◌, ◌&&◌, not, Bool, true, false, if◌then◌else◌, inl, inr, List, [], ◌∷◌, ◌++◌, length, map, refl, sym, ap, ap₂, ◌∙◌, subst, arith}
 use Rattle.std.specs.Prelude.{Option, Some, None, drop, slice_set}
 use Rattle.std.specs.Option.{is_some, unwrap_or}
 use Rattle.std.specs.List.{AllByRecursion}
-use Rattle.zw_base.proofs.Each.{all-append, all-both, all-weaker}
+use Rattle.zw_base.proofs.Each.{all-append, all-weaker}
 use Rattle.serial_frame.specs.Frame.{FrameParts}
 use Rattle.route_table.specs.Network.{linked}
 use Rattle.chip_functions.specs.Notice.{status_of}
@@ -25,8 +25,8 @@ use Rattle.outside_model.specs.declared.waits.Call.TheVariants.{OfFrame, NoRoute
 use Rattle.outside_model.specs.declared.waits.Due.{Due}
 use Rattle.outside_model.specs.declared.waits.Due.TheVariants.{Info, NoRoute as no_route_due}
 use Rattle.outside_model.specs.Devices.{State}
-use Rattle.outside_model.specs.State.{OuterState, Outcome, and_then, each, silent, tells, with_chip}
-use Rattle.outside_model.specs.Chip.{chip_does, put_out}
+use Rattle.outside_model.specs.State.{OuterState, Outcome, and_then, silent, tells, with_chip}
+use Rattle.outside_model.specs.Chip.{chip_does}
 use Rattle.outside_model.specs.Results.{call_back, forgets, frame_ends, leading, no_route, no_routes, owes_call, without_no_route}
 use Rattle.proof_device.proofs.Results.{Gives, IsGiven, ends_go}
 use Rattle.proof_line.proofs.ChipAccounts.{call_account, call_if, calls_account, ends_account, forget_if, forgets_account, no_route_account, no_routes_account}

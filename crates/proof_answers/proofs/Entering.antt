@@ -1,5 +1,5 @@
 -- What the chip has for its host by the transcript, and the SendData that have ended, through entries: those that tell nothing of it, the number of a tick, and the words of a line.
-use Rattle.std.proofs.Common.{◌≡◌, ℕ, ◌==◌, ◌&&◌, not, Bool, true, false, if◌then◌else◌, List, [], ◌∷◌, ◌++◌, map, filter, refl, sym, ap, ap₂, ◌∙◌, subst, append-nil, append_assoc}
+use Rattle.std.proofs.Common.{◌≡◌, ℕ, ◌==◌, ◌&&◌, not, Bool, if◌then◌else◌, List, [], ◌∷◌, ◌++◌, map, filter, refl, sym, ap, ap₂, ◌∙◌, subst, append-nil, append_assoc}
 use Rattle.std.proofs.lemmas.Grind.{flat_map-append}
 use Rattle.std.proofs.lemmas.List.{map-append}
 use Rattle.std.specs.Prelude.{Option, slice_get}
@@ -18,13 +18,13 @@ use Rattle.law_wire.specs.Results.{Called, aborted_by, called, called_at, came_d
 use Rattle.law_wire.specs.Given.{Given, before_results, callback_of, given, given_at, information_of, results_of}
 use Rattle.outside_model.specs.Devices.{State}
 use Rattle.outside_model.specs.State.{OuterState}
-use Rattle.proof_chip.proofs.Airing.{IsNoAck, same_last}
+use Rattle.proof_chip.proofs.Airing.{same_last}
 use Rattle.proof_chip.proofs.Answered.{GivesNone}
 use Rattle.proof_chip.proofs.Passing.{IsOther, others_no_ack}
 use Rattle.proof_chip.proofs.Picking.{shown_both}
 use Rattle.proof_chip.proofs.Replying.{none_filtered, settled_same}
 use Rattle.proof_chip.proofs.Settling.{AreIdle, IsIdle, asked_still, given_still, idle_others, idle_settled, outward_still}
-use Rattle.proof_answers.specs.Owing.{Ends, Informs, Owed, asked_in_tick, come, comes_within, due_before, informs, is_of_tick, owed_by, owed_in, owed_now, owed_of}
+use Rattle.proof_answers.specs.Owing.{Ends, Owed, asked_in_tick, come, comes_within, due_before, informs, is_of_tick, owed_by, owed_in, owed_now, owed_of}
 use Rattle.proof_answers.specs.Telling.{IsUnder, called_by, told_by}
 
 -- ---- what comes of what was asked

@@ -1,9 +1,8 @@
 -- That the chip was given just what it has for its host goes on where what is due is given: the information of a node, or the result of a SendData without a route.
-use Rattle.std.proofs.Common.{◌≡◌, ◌≤◌, ◌<◌, ◌⊎◌, ℕ, zero, suc, ◌+◌, ◌-◌, ◌==◌, ◌&&◌, not, Bool, true, false, if◌then◌else◌, inl, inr, List, [], ◌∷◌, ◌++◌, length, drop, map, refl, sym, ap, ap₂, ◌∙◌, subst, append-nil, append_assoc, arith}
+use Rattle.std.proofs.Common.{◌≡◌, ◌<◌, ℕ, zero, suc, ◌+◌, ◌-◌, ◌==◌, ◌&&◌, not, Bool, true, false, if◌then◌else◌, List, [], ◌∷◌, ◌++◌, length, drop, map, refl, sym, ap, ap₂, ◌∙◌, subst, append-nil, append_assoc, arith}
 use Rattle.std.proofs.lemmas.List.{map-append}
-use Rattle.std.specs.Prelude.{Option, Some, None, slice_set}
+use Rattle.std.specs.Prelude.{Option, Some, None}
 use Rattle.std.specs.Option.{is_some}
-use Rattle.std.specs.List.{AllByRecursion}
 use Rattle.serial_frame.specs.Frame.{FrameParts}
 use Rattle.serial_frame.specs.Items.{unit_text}
 use Rattle.serial_frame.specs.declared.unit.Unit.TheVariants.{Framed}
@@ -13,15 +12,15 @@ use Rattle.chip_functions.specs.declared.notice.Notice.TheVariants.{ApplicationU
 use Rattle.chip_functions.specs.declared.notice.TransmitStatus.TheVariants.{NoRoute}
 use Rattle.chip_sim.specs.State.{ChipState}
 use Rattle.chip_sim.specs.Answers.{notice_frame}
-use Rattle.chip_sim.specs.Requests.{callback_frame, closed, given as chip_given, has_failed}
+use Rattle.chip_sim.specs.Requests.{callback_frame, closed, given as chip_given}
 use Rattle.chip_sim.specs.Events.{Done, Informed, ended, update_of}
 use Rattle.chip_sim.specs.declared.out.Sending.{Sending as SendingParts}
 use Rattle.zw_text.specs.declared.entry.Entry.{Entry}
-use Rattle.law_transcript.specs.Lists.{EachAfter, last_or}
-use Rattle.law_wire.specs.Asked.{Asked, Course, Sending, asked, course_of, last_sending}
+use Rattle.law_transcript.specs.Lists.{last_or}
+use Rattle.law_wire.specs.Asked.{Asked, Course, Sending, asked, last_sending}
 use Rattle.law_wire.specs.Results.{Called, ended_by, settled_clock}
-use Rattle.law_wire.specs.Given.{Given, IsInformation, IsOf, given}
-use Rattle.law_wire.specs.Answering.{AreOf, MayAnswer}
+use Rattle.law_wire.specs.Given.{Given, IsInformation, given}
+use Rattle.law_wire.specs.Answering.{AreOf}
 use Rattle.outside_model.specs.declared.waits.Call.{Call}
 use Rattle.outside_model.specs.declared.waits.Call.TheVariants.{OfFrame, NoRoute as no_route_call}
 use Rattle.outside_model.specs.declared.waits.Due.{Due}
@@ -41,11 +40,11 @@ use Rattle.proof_chip.proofs.Growing.{frames_both}
 use Rattle.proof_chip.proofs.Judged.{goes_back}
 use Rattle.proof_chip.proofs.Owing.{no_route_quiet, quiet_call, without_call, without_due}
 use Rattle.proof_chip.proofs.Replying.{none_filtered}
-use Rattle.proof_answers.specs.Owing.{Ends, Informs, Owed, come, due_before, dues, ends_in, has_no_route, owed_by, owed_in, owed_now}
+use Rattle.proof_answers.specs.Owing.{Ends, Informs, Owed, come, dues, ends_in, has_no_route, owed_by, owed_in, owed_now}
 use Rattle.proof_answers.specs.Telling.{HasFailing, IsUnder, TellSo, Tells, TellsBefore, called_by, told_by}
 use Rattle.proof_answers.proofs.Accounts.{account_grows, posts_by}
 use Rattle.proof_answers.proofs.Ending.{Calmly, calmly, own_posts, route_posts}
-use Rattle.proof_answers.proofs.Lists.{tells_are, tells_next, tells_those}
+use Rattle.proof_answers.proofs.Lists.{tells_are, tells_those}
 use Rattle.proof_answers.proofs.Moving.{gives_on}
 use Rattle.proof_answers.proofs.Owning.{failing_more}
 use Rattle.proof_answers.proofs.Standing.{before_idle}

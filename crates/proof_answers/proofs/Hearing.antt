@@ -1,5 +1,5 @@
 -- The handler frame of what is heard for the controller is just what the transcript has for the host; and it is given where a frame is heard again.
-use Rattle.std.proofs.Common.{◌≡◌, ℕ, ◌==◌, ◌&&◌, Bool, true, false, if◌then◌else◌, List, [], ◌∷◌, ◌++◌, map, length, refl, sym, ap, ap₂, ◌∙◌, subst, append-nil, append_assoc}
+use Rattle.std.proofs.Common.{◌≡◌, ℕ, ◌==◌, ◌&&◌, Bool, true, false, if◌then◌else◌, List, [], ◌∷◌, ◌++◌, map, refl, sym, ap, ap₂, ◌∙◌, subst, append-nil, append_assoc}
 use Rattle.std.specs.Prelude.{Option, Some, None}
 use Rattle.std.specs.List.{AllByRecursion, flat_map}
 use Rattle.serial_frame.specs.Frame.{FrameParts}
@@ -13,26 +13,24 @@ use Rattle.zw_text.specs.declared.entry.Entry.{Entry}
 use Rattle.zw_text.specs.declared.entry.Entry.TheVariants as entry
 use Rattle.zw_text.specs.Transcript.{AirFrame}
 use Rattle.law_transcript.specs.Carrying.{homeward}
-use Rattle.law_transcript.specs.Fates.{Flying, first_fate, flying_step}
+use Rattle.law_transcript.specs.Fates.{first_fate}
 use Rattle.law_transcript.specs.Lists.{listed}
 use Rattle.law_transcript.specs.Nodes.{controller}
 use Rattle.law_transcript.specs.Repeats.{frame_of}
 use Rattle.law_transcript.specs.Restarts.{repeats}
 use Rattle.law_transcript.specs.Units.{Carried}
-use Rattle.law_wire.specs.Asked.{Course, course_of}
+use Rattle.law_wire.specs.Asked.{Course}
 use Rattle.law_wire.specs.Results.{Called, came_due, ended_at, ended_by, sent_as, settled_clock, status_heard}
-use Rattle.law_wire.specs.Given.{Frame, Given, callback_of, given, given_at, handler_of, handlers_at, notice_frame, results_of}
-use Rattle.law_wire.specs.Answering.{AreOf, MayAnswer}
+use Rattle.law_wire.specs.Given.{Frame, Given, callback_of, given_at, handler_of, handlers_at, notice_frame, results_of}
 use Rattle.outside_model.specs.Devices.{State}
 use Rattle.outside_model.specs.State.{OuterState, Outcome, each, silent}
 use Rattle.outside_model.specs.Chip.{chip_does}
 use Rattle.outside_model.specs.Air.{deals, to_chip}
 use Rattle.proof_device.proofs.Results.{to_chip_goes}
-use Rattle.proof_air.proofs.Untimed.{IsUntimed}
 use Rattle.proof_air.proofs.Times.{does_chip, does_time}
 use Rattle.proof_air.specs.Carrying.{IsHome}
 use Rattle.proof_line.proofs.ChipAccounts.{all_account, heard_account, steps_by}
-use Rattle.proof_chip.specs.Serving.{as_given, frame_texts}
+use Rattle.proof_chip.specs.Serving.{as_given}
 use Rattle.proof_chip.proofs.Growing.{serves_aside}
 use Rattle.proof_chip.proofs.Hearing.{has_room, heard_rests}
 use Rattle.proof_chip.proofs.Replying.{settled_same}

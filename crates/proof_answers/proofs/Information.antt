@@ -1,12 +1,12 @@
 -- The information of a node that the chip is given is what the transcript says: its list where the node is joined, has a way and its device is awake, else that it did not come.
-use Rattle.std.proofs.Common.{◌≡◌, ◌≢◌, ℕ, zero, suc, ◌-◌, ◌==◌, ◌&&◌, Bool, true, false, IsTrue, if◌then◌else◌, inl, inr, List, [], ◌∷◌, refl, sym, ap, ap₂, ◌∙◌, subst, arith}
+use Rattle.std.proofs.Common.{◌≡◌, ◌≢◌, ℕ, suc, ◌==◌, ◌&&◌, Bool, true, false, IsTrue, if◌then◌else◌, inl, inr, List, [], ◌∷◌, refl, sym, ap, ◌∙◌, subst, arith}
 use Rattle.std.proofs.lemmas.Bool.{eqb-true}
 use Rattle.std.proofs.lemmas.List.Elements.{All-weaker}
 use Rattle.std.specs.Prelude.{Option, Some, None, is_some, slice_get}
 use Rattle.std.specs.Option.{option_map}
 use Rattle.zw_base.specs.declared.profile.Profile.{Profile}
 use Rattle.route_table.specs.declared.route.Route.{Route}
-use Rattle.route_table.specs.Network.{Network, linked, repeats}
+use Rattle.route_table.specs.Network.{Network, repeats}
 use Rattle.route_table.specs.Route.{via}
 use Rattle.route_table.specs.Walk.{Hops, Walk}
 use Rattle.serial_frame.specs.declared.unit.Unit.TheVariants.{Framed}
@@ -22,18 +22,17 @@ use Rattle.mesh_sim.specs.Fates.{place_of}
 use Rattle.mesh_sim.specs.Routes.{IsRoute}
 use Rattle.zw_text.specs.declared.entry.Entry.{Entry}
 use Rattle.law_transcript.specs.Devices.{ComingAt, brought}
-use Rattle.law_transcript.specs.Nodes.{controller, device_of, is_joined, listed_by, listing_of}
+use Rattle.law_transcript.specs.Nodes.{controller, device_of, is_joined, listed_by}
 use Rattle.law_wire.specs.Arriving.{lived_through}
 use Rattle.law_wire.specs.Given.{CanTell, IsAwakeAt, IsInformation, notice_text}
 use Rattle.law_wire.specs.Networks.{air_network}
-use Rattle.law_wire.specs.Routes.{IsRouteTo}
 use Rattle.outside_model.specs.State.{Outside}
 use Rattle.outside_model.specs.Results.{device_at, profile_for, profile_of, told_profile}
 use Rattle.proof_device.specs.GoingOn.{AreSame}
 use Rattle.proof_device.proofs.DevicePlaces.{go_same}
-use Rattle.proof_devices.specs.Living.{IsNow, Lived, Simply, Tie, lived_in}
+use Rattle.proof_devices.specs.Living.{IsNow, Lived, Simply, Tie}
 use Rattle.proof_routes.specs.Networks.{Tie as Networks}
-use Rattle.proof_routes.proofs.Walks.{IsSame, air_same, route_same, same_turned}
+use Rattle.proof_routes.proofs.Walks.{IsSame, air_same, same_turned}
 
 -- ---- places
 

@@ -1,5 +1,5 @@
 -- Through entries that show neither a line, nor its refusal, nor that a frame is heard, the information of a node stays what it is.
-use Rattle.std.proofs.Common.{◌≡◌, ◌⊎◌, ℕ, ◌==◌, Bool, true, false, if◌then◌else◌, List, [], ◌∷◌, ◌++◌, map, filter, refl, sym, ap, ap₂, ◌∙◌, subst, inl, inr, append_assoc, append-nil}
+use Rattle.std.proofs.Common.{◌≡◌, ℕ, ◌==◌, Bool, true, false, if◌then◌else◌, List, [], ◌∷◌, ◌++◌, map, filter, refl, sym, ap, ap₂, ◌∙◌, subst, inl, inr, append_assoc, append-nil}
 use Rattle.std.specs.Prelude.{Option, Some, None}
 use Rattle.std.specs.List.{AllByRecursion, list_any}
 use Rattle.route_table.specs.Network.{Link, Network}
@@ -9,8 +9,7 @@ use Rattle.zw_text.specs.declared.entry.Entry.{Entry}
 use Rattle.zw_text.specs.declared.entry.Entry.TheVariants as entry
 use Rattle.zw_text.specs.Transcript.{joined, line_of}
 use Rattle.law_transcript.specs.Devices.{ComingAt, brought, brought_at}
-use Rattle.law_transcript.specs.Lists.{shown_after}
-use Rattle.law_transcript.specs.Nodes.{device_of, is_joined}
+use Rattle.law_transcript.specs.Nodes.{device_of}
 use Rattle.law_transcript.specs.Restarts.{begins_refused}
 use Rattle.law_wire.specs.Arriving.{lived_through}
 use Rattle.law_wire.specs.Networks.{air_links, air_network, links_after, listens_at, network_of}

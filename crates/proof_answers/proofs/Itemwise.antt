@@ -1,7 +1,6 @@
 -- What the chip takes at once: each item that it judges keeps that what it was given is what it has for its host, and so do all.
 use Rattle.std.proofs.Common.{◌≡◌, ◌⊎◌, ℕ, ◌&&◌, not, Bool, true, false, if◌then◌else◌, inl, inr, List, [], ◌∷◌, ◌++◌, refl, sym, ap, ap₂, ◌∙◌, subst, append-nil, append_assoc}
 use Rattle.std.specs.Prelude.{Option, Some, None}
-use Rattle.std.specs.List.{AllByRecursion}
 use Rattle.zw_base.proofs.Each.{all-weaker}
 use Rattle.serial_frame.specs.Frame.{FrameParts}
 use Rattle.serial_frame.specs.Stream.{Rest}
@@ -24,19 +23,18 @@ use Rattle.chip_sim.specs.Events.{ChipEvent, Judged, after, collides, outs}
 use Rattle.chip_sim.specs.Link.{link_steps}
 use Rattle.chip_sim.specs.Rules.{judged_posts, over, posts}
 use Rattle.chip_sim.specs.declared.out.Sending.{Sending as SendingParts}
-use Rattle.zw_words.specs.declared.side.Side.TheVariants.{Host as by_host, Chip as by_chip}
+use Rattle.zw_words.specs.declared.side.Side.TheVariants.{Chip as by_chip}
 use Rattle.zw_text.specs.declared.entry.Entry.{Entry}
 use Rattle.zw_text.specs.declared.entry.Entry.TheVariants as entry
 use Rattle.law_transcript.specs.Lists.{EachAfter}
-use Rattle.law_transcript.specs.Nodes.{is_joined}
-use Rattle.law_wire.specs.Asked.{Course, acks, clock_of, course_of}
+use Rattle.law_wire.specs.Asked.{Course, clock_of, course_of}
 use Rattle.law_wire.specs.Networks.{are_linked, listens_at}
 use Rattle.law_wire.specs.Given.{given_at}
 use Rattle.law_wire.specs.Results.{settled_clock}
 use Rattle.law_wire.specs.Answering.{MayAnswer}
 use Rattle.outside_model.specs.Devices.{State}
 use Rattle.outside_model.specs.State.{OuterState, Outcome, Outside, each, with_chip}
-use Rattle.outside_model.specs.Chip.{MayTake, chip_does, put_out}
+use Rattle.outside_model.specs.Chip.{MayTake, chip_does}
 use Rattle.outside_model.specs.Events.{Chip_takes, entries, happens, has_entered, outcome, stamp, ticked_entry}
 use Rattle.proof_air.proofs.Times.{each_keeps, does_chip, does_time, time_of}
 use Rattle.proof_line.proofs.Parts.{Laws}
@@ -54,14 +52,12 @@ use Rattle.proof_chip.proofs.Keeping.{number_apart}
 use Rattle.proof_chip.proofs.Passing.{ShowsNone, shown_all}
 use Rattle.proof_chip.proofs.Quieting.{IsUnanswered}
 use Rattle.proof_chip.proofs.Requesting.{answered_answers, is_answered}
-use Rattle.proof_chip.proofs.Settling.{AreIdle}
-use Rattle.proof_chip.proofs.Growing.{serves_event, told as put_by}
-use Rattle.proof_chip.proofs.Stamped.{no_more}
+use Rattle.proof_chip.proofs.Growing.{serves_event}
 use Rattle.proof_chip.proofs.Tallied.{chip_idle, now_number_t}
 use Rattle.proof_chip.proofs.Telling.{IsPut, puts_put}
 use Rattle.proof_answers.specs.Telling.{TellSo, TellsNow}
 use Rattle.proof_answers.proofs.Accounts.{Grows, event_grows}
-use Rattle.proof_answers.proofs.Judging.{KnowsChip, Leaves, has_before, leaves, reply, tells_then}
+use Rattle.proof_answers.proofs.Judging.{KnowsChip, has_before, leaves, reply, tells_then}
 use Rattle.proof_answers.proofs.Moving.{map_so, now_numbered, now_on, now_settled, silent_on}
 use Rattle.proof_answers.proofs.Standing.{SameOwing, now_as}
 

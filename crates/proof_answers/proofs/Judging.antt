@@ -1,11 +1,8 @@
 -- That the chip was given just what it has for its host goes on with each item that it judges, and with all that it takes at once.
-use Rattle.std.proofs.Common.{◌≡◌, ◌⊎◌, ◌<◌, ℕ, ◌+◌, ◌-◌, ◌&&◌, ◌||◌, not, Bool, true, false, if◌then◌else◌, inl, inr, List, [], ◌∷◌, ◌++◌, length, map, refl, sym, ap, ap₂, ◌∙◌, subst, append-nil, append_assoc, arith}
+use Rattle.std.proofs.Common.{◌≡◌, ◌⊎◌, ◌<◌, ℕ, ◌+◌, ◌&&◌, Bool, true, false, if◌then◌else◌, inl, inr, List, [], ◌∷◌, ◌++◌, length, map, refl, sym, ap, ap₂, ◌∙◌, subst, append-nil, append_assoc, arith}
 use Rattle.std.specs.Prelude.{Option, Some, None, slice_get, slice_set}
-use Rattle.std.specs.Option.{is_some}
 use Rattle.std.specs.List.{AllByRecursion, flat_map}
-use Rattle.zw_base.proofs.Each.{all-append, all-weaker}
 use Rattle.serial_frame.specs.Frame.{FrameParts}
-use Rattle.serial_frame.specs.declared.item.Item.{Item}
 use Rattle.serial_frame.specs.declared.item.Item.TheVariants.{Good}
 use Rattle.serial_frame.specs.declared.unit.Unit.TheVariants.{Framed}
 use Rattle.serial_link.specs.Rules.{Step}
@@ -17,7 +14,7 @@ use Rattle.chip_functions.specs.declared.notice.TransmitStatus.TheVariants.{Fail
 use Rattle.chip_sim.specs.Nodes.{is_marked}
 use Rattle.chip_sim.specs.State.{ChipState}
 use Rattle.chip_sim.specs.Answers.{takes as takes_of}
-use Rattle.chip_sim.specs.Requests.{asked as asked_of, given_if, has_failed, heard, judged_frame, passed, reply_if, reply_to, requested, stopped}
+use Rattle.chip_sim.specs.Requests.{asked as asked_of, given_if, has_failed, heard, passed, reply_if, reply_to, requested, stopped}
 use Rattle.chip_sim.specs.Events.{ChipEvent, Judged, after, collides}
 use Rattle.chip_sim.specs.Link.{link_steps}
 use Rattle.chip_sim.specs.Rules.{judged_posts, listed as listed_of, posts}
@@ -29,40 +26,38 @@ use Rattle.zw_text.specs.Transcript.{AirFrame, frame_at, frames}
 use Rattle.zw_text.proofs.Views.{shown-append}
 use Rattle.law_transcript.specs.Lists.{EachAfter, last_or, listed}
 use Rattle.law_transcript.specs.Nodes.{is_joined}
-use Rattle.law_wire.specs.Asked.{Asked, Course, Sending, acks, asked, clock_of, course_of, in_tick, last_sending, requests_at, requests_of, sending_after, sending_of, takes}
+use Rattle.law_wire.specs.Asked.{Asked, Course, Sending, acks, asked, clock_of, course_of, in_tick, last_sending, requests_of, sending_after, sending_of, takes}
 use Rattle.law_wire.specs.Results.{Called, aborted_by, called, ended_at, ended_by, ended_without, is_outward, settled_clock}
 use Rattle.law_wire.specs.Networks.{are_linked, chip_links, listens_at}
 use Rattle.law_wire.specs.Given.{Given, given, given_at}
-use Rattle.law_wire.specs.Answering.{AreOf, MayAnswer}
+use Rattle.law_wire.specs.Answering.{MayAnswer}
 use Rattle.outside_model.specs.declared.waits.Call.{Call}
 use Rattle.outside_model.specs.declared.waits.Call.TheVariants.{OfFrame, NoRoute as no_route_call}
 use Rattle.outside_model.specs.declared.waits.Due.{Due}
 use Rattle.outside_model.specs.declared.waits.Due.TheVariants.{Info, NoRoute as no_route_due}
 use Rattle.outside_model.specs.Devices.{State}
-use Rattle.outside_model.specs.State.{OuterState, Outcome, with_chip}
+use Rattle.outside_model.specs.State.{OuterState, with_chip}
 use Rattle.outside_model.specs.Chip.{chip_does, shown_via}
-use Rattle.proof_air.proofs.Times.{does_chip, does_time}
+use Rattle.proof_air.proofs.Times.{does_time}
 use Rattle.proof_line.specs.proof_traffic.OutsideTraffic.{flags, of_frame}
 use Rattle.proof_line.proofs.Parts.{Laws}
 use Rattle.proof_host.proofs.Lists.{each-append}
-use Rattle.proof_chip.specs.Serving.{GoesOn, HasGiven, Serves, as_given, frame_texts}
+use Rattle.proof_chip.specs.Serving.{GoesOn, HasGiven, as_given, frame_texts}
 use Rattle.proof_chip.specs.Sending.{AreSending, ItemsSo, TieAir}
 use Rattle.proof_chip.proofs.Airing.{IsMore, IsNoAck, answer, requests_are}
 use Rattle.proof_chip.proofs.Answered.{GivesNone, given_answered}
-use Rattle.proof_chip.proofs.Growing.{frames_both, many_frames, serves_event, told as put_by}
+use Rattle.proof_chip.proofs.Growing.{frames_both, many_frames}
 use Rattle.proof_chip.proofs.Items.{Puts, shows, state_is, taken_within}
-use Rattle.proof_chip.proofs.Judged.{goes_back, passed_at}
+use Rattle.proof_chip.proofs.Judged.{goes_back}
 use Rattle.proof_chip.proofs.Leaving.{Airs, LeavesSo, LeavesTaken, Quiet, Shows}
-use Rattle.proof_chip.proofs.Passing.{more_other, others_no_ack}
 use Rattle.proof_chip.proofs.Payloads.{has_payload}
 use Rattle.proof_chip.proofs.Replying.{TieNodes, none_filtered, reply_given}
-use Rattle.proof_chip.proofs.Requesting.{answered_answers}
 use Rattle.proof_chip.proofs.Replied.{under_all}
 use Rattle.proof_chip.proofs.Resting.{Rests}
 use Rattle.proof_chip.proofs.Settling.{IsDevices, outward_by, outward_next, outward_sent}
 use Rattle.proof_chip.proofs.Taking.{takes_same}
 use Rattle.proof_answers.specs.Owing.{Owed, Informs, asked_in_tick, come, due_before, dues, owed_in, owed_now}
-use Rattle.proof_answers.specs.Telling.{HasFailing, IsUnder, TellSo, Tells, TellsNow, called_by, told_by}
+use Rattle.proof_answers.specs.Telling.{HasFailing, IsUnder, Tells, TellsNow, called_by, told_by}
 use Rattle.proof_answers.proofs.Asking.{called_whole, informs_all, dues_info, last_whole, none_owes, routed_owes, same_owes, unrouted_owes}
 use Rattle.proof_answers.proofs.Lists.{alike_same, tells_are, tells_many, tells_more, tells_own, tells_those}
 use Rattle.proof_answers.proofs.Owning.{failing_more}

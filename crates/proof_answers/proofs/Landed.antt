@@ -1,5 +1,5 @@
 -- That the chip was given just what it has for its host goes on where the next frame on the air arrives, be it of a device or of the controller.
-use Rattle.std.proofs.Common.{◌≡◌, ◌<◌, ◌≤◌, ℕ, zero, suc, ◌+◌, ◌-◌, ◌==◌, ◌&&◌, not, nat_lt, Bool, true, false, if◌then◌else◌, List, [], ◌∷◌, ◌++◌, filter, length, map, refl, sym, ap, ap₂, ◌∙◌, subst, append-nil, append_assoc, arith}
+use Rattle.std.proofs.Common.{◌≡◌, ◌<◌, ◌≤◌, ℕ, suc, ◌+◌, ◌-◌, ◌==◌, nat_lt, Bool, true, false, if◌then◌else◌, List, [], ◌∷◌, ◌++◌, filter, length, map, refl, sym, ap, ap₂, ◌∙◌, subst, append-nil, append_assoc, arith}
 use Rattle.std.specs.Prelude.{Option, Some, None, slice_get}
 use Rattle.std.specs.Option.{unwrap_or}
 use Rattle.std.specs.List.{AllByRecursion}
@@ -11,7 +11,7 @@ use Rattle.device_sim.specs.Event.{DeviceEvent, Hears}
 use Rattle.air_frames.specs.declared.frame.Heading.{Heading}
 use Rattle.air_frames.specs.declared.frame.Heading.TheVariants.{Outward, Homeward}
 use Rattle.air_frames.specs.Flown.{Flown}
-use Rattle.air_frames.specs.Frames.{FramesState, landing, next_of}
+use Rattle.air_frames.specs.Frames.{FramesState, next_of}
 use Rattle.air_frames.specs.History.{stamped}
 use Rattle.chip_functions.specs.Notice.{status_of as status_by}
 use Rattle.chip_sim.specs.declared.out.Sending.{Sending as SendingParts}
@@ -44,7 +44,7 @@ use Rattle.proof_air.specs.Logs.{Tie}
 use Rattle.proof_air.proofs.Homes.{next_home, next_stands}
 use Rattle.proof_line.specs.proof_traffic.OnAir.{on_air}
 use Rattle.proof_line.specs.proof_traffic.Flights.{Fly}
-use Rattle.proof_line.specs.proof_traffic.OutsideTraffic.{flags, no_routes_due, one_outward, outward, without_frame}
+use Rattle.proof_line.specs.proof_traffic.OutsideTraffic.{one_outward, outward}
 use Rattle.proof_line.proofs.ArrivedFrames.{Homes, arrives_home}
 use Rattle.proof_line.proofs.ChipAccounts.{all_account, ends_account, steps_account, steps_by}
 use Rattle.proof_line.proofs.ChipNotices.{arrived_air}

@@ -1,9 +1,8 @@
 -- That the chip was given just what it has for its host goes on with the fate of a frame that arrives.
-use Rattle.std.proofs.Common.{◌≡◌, ◌≤◌, ◌<◌, ℕ, zero, suc, ◌+◌, ◌-◌, Bool, true, false, List, [], ◌∷◌, ◌++◌, map, filter, length, refl, sym, ap, ap₂, ◌∙◌, subst, append-nil, append_assoc, length-append, arith}
-use Rattle.std.specs.List.{AllByRecursion, flat_map}
+use Rattle.std.proofs.Common.{◌≡◌, ◌<◌, ℕ, ◌-◌, true, false, List, [], ◌∷◌, ◌++◌, map, length, refl, sym, ap, ap₂, ◌∙◌, subst, append-nil, append_assoc, length-append, arith}
+use Rattle.std.specs.List.{flat_map}
 use Rattle.serial_frame.specs.Frame.{FrameParts}
 use Rattle.zw_text.specs.declared.entry.Entry.{Entry}
-use Rattle.law_transcript.specs.Lists.{EachAfter}
 use Rattle.law_wire.specs.Asked.{Asked, Course, asked, last_sending}
 use Rattle.law_wire.specs.Results.{Called, called, came_due, ended_at, ended_without, settled_clock}
 use Rattle.law_wire.specs.Given.{Given, before_results, given, given_at, results_of}

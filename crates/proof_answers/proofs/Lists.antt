@@ -1,5 +1,5 @@
 -- What units tell of what the chip has for its host: both grow at their ends, are cut there, and stay where others are alike.
-use Rattle.std.proofs.Common.{◌≡◌, ℕ, suc, ◌+◌, List, [], ◌∷◌, ◌++◌, length, refl, sym, subst, append-nil, append_assoc, length-append, arith}
+use Rattle.std.proofs.Common.{◌≡◌, ℕ, ◌+◌, List, [], ◌∷◌, ◌++◌, length, refl, sym, subst, append-nil, append_assoc, length-append, arith}
 use Rattle.serial_frame.specs.Frame.{FrameParts}
 use Rattle.law_wire.specs.Given.{Given, IsOf}
 use Rattle.law_wire.specs.Answering.{AreOf}

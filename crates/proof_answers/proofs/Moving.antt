@@ -1,7 +1,5 @@
 -- That the chip was given just what it has for its host, with the steps of its link: it goes on with the number of a tick, and with events at which nothing is given.
-use Rattle.std.proofs.Common.{◌≡◌, ◌<◌, ℕ, zero, suc, ◌+◌, ◌-◌, ◌&&◌, not, Bool, true, false, if◌then◌else◌, List, [], ◌∷◌, ◌++◌, length, map, refl, sym, ap, ◌∙◌, subst, append-nil, append_assoc, arith}
-use Rattle.std.specs.List.{AllByRecursion}
-use Rattle.zw_base.proofs.Each.{all-weaker}
+use Rattle.std.proofs.Common.{◌≡◌, ℕ, zero, suc, Bool, true, false, if◌then◌else◌, List, [], ◌∷◌, ◌++◌, length, map, refl, sym, ap, ◌∙◌, subst, append-nil, append_assoc}
 use Rattle.serial_frame.specs.Frame.{FrameParts}
 use Rattle.serial_link.specs.Rules.{Step}
 use Rattle.chip_sim.specs.Waiting.{PortState}
@@ -25,7 +23,7 @@ use Rattle.proof_chip.proofs.Settling.{AreIdle}
 use Rattle.proof_chip.proofs.Standing.{goes_none}
 use Rattle.proof_chip.proofs.Tallied.{before_number_t, now_number_t}
 use Rattle.proof_chip.proofs.Tallying.{settled_now}
-use Rattle.proof_answers.specs.Owing.{come, due_before, owed_in}
+use Rattle.proof_answers.specs.Owing.{come, owed_in}
 use Rattle.proof_answers.specs.Telling.{Telling, TellSo, TellsBefore, TellsNow, told_by}
 use Rattle.proof_answers.proofs.Accounts.{Grows}
 use Rattle.proof_answers.proofs.Due.{settled_in, settled_under}

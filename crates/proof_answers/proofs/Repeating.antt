@@ -1,9 +1,7 @@
 -- That the chip was given just what it has for its host goes on where a frame is heard again, or its repeat refused.
-use Rattle.std.proofs.Common.{◌≡◌, ℕ, zero, suc, ◌+◌, ◌&&◌, not, Bool, true, false, if◌then◌else◌, List, [], ◌∷◌, ◌++◌, length, refl, sym, ap, ◌∙◌, subst, append-nil}
-use Rattle.std.specs.Prelude.{Option, Some, None, option_map, slice_get}
-use Rattle.std.specs.List.{AllByRecursion}
+use Rattle.std.proofs.Common.{◌≡◌, ℕ, zero, suc, ◌&&◌, not, Bool, true, false, if◌then◌else◌, List, [], ◌∷◌, ◌++◌, refl, sym, ap, ◌∙◌, subst, append-nil}
+use Rattle.std.specs.Prelude.{Option, Some, None, slice_get}
 use Rattle.zw_base.proofs.Each.{all-weaker}
-use Rattle.serial_frame.specs.Frame.{FrameParts}
 use Rattle.serial_link.specs.Rules.{Step}
 use Rattle.route_table.specs.declared.route.Route.{Route}
 use Rattle.device_sim.specs.Event.{DeviceEvent, Hears}
@@ -27,18 +25,18 @@ use Rattle.law_wire.specs.Given.{handlers_at}
 use Rattle.outside_model.specs.Devices.{State}
 use Rattle.outside_model.specs.State.{OuterState, Outcome, Outside, each}
 use Rattle.outside_model.specs.Air.{deals}
-use Rattle.outside_model.specs.Events.{Repeats, entries as entries_outside, happens as happens_outside, has_entered, mesh_of, outcome, repeats, stamp, steps, ticked_entry}
+use Rattle.outside_model.specs.Events.{Repeats, entries as entries_outside, happens as happens_outside, has_entered, mesh_of, outcome, repeats, stamp, steps}
 use Rattle.proof_air.specs.proof_walk.Outside.{nothing}
 use Rattle.proof_air.specs.Logs.{Tie}
 use Rattle.proof_air.proofs.Homes.{again_home, again_stands}
 use Rattle.proof_air.proofs.Times.{outcome_time}
 use Rattle.proof_line.proofs.ChipAccounts.{all_account, outer_steps, repeat_steps, steps_account, steps_by}
 use Rattle.proof_chip.proofs.Arriving.{ArePlain, plain_apart, plain_rests}
-use Rattle.proof_chip.proofs.Asides.{AreUnrelated, IsUnrelated}
+use Rattle.proof_chip.proofs.Asides.{IsUnrelated}
 use Rattle.proof_chip.proofs.Hearing.{has_room}
 use Rattle.proof_chip.proofs.Landed.{done_by, done_plain, none_at, refusal_apart}
 use Rattle.proof_chip.proofs.Settling.{AreIdle, IsIdle}
-use Rattle.proof_chip.proofs.Telling.{AreAside, IsAside}
+use Rattle.proof_chip.proofs.Telling.{IsAside}
 use Rattle.proof_answers.specs.Telling.{TellSo, TellsNow}
 use Rattle.proof_answers.proofs.Accounts.{aside_grows, posts_by}
 use Rattle.proof_answers.proofs.Hearing.{again_tells, handlers_are, heard_frames, heard_idle, heard_owing, heard_posts}

@@ -1,10 +1,9 @@
 -- That the chip was given just what it has for its host goes on with entries that tell nothing of it, with the number of a tick, the words of a line, and where a tick begins or its results have all come.
-use Rattle.std.proofs.Common.{◌≡◌, ◌≤◌, ◌<◌, ℕ, zero, suc, ◌+◌, ◌-◌, ◌&&◌, not, Bool, true, false, if◌then◌else◌, List, [], ◌∷◌, ◌++◌, map, filter, length, refl, sym, ap, ap₂, ◌∙◌, subst, append-nil, append_assoc, arith}
+use Rattle.std.proofs.Common.{◌≡◌, ◌<◌, ℕ, ◌+◌, ◌-◌, Bool, true, false, List, [], ◌∷◌, ◌++◌, map, filter, refl, sym, ap, ap₂, ◌∙◌, subst, append-nil, append_assoc, arith}
 use Rattle.std.proofs.lemmas.Grind.{flat_map-append}
 use Rattle.std.proofs.lemmas.List.{map-append}
 use Rattle.std.specs.Prelude.{Option}
 use Rattle.std.specs.List.{AllByRecursion, flat_map}
-use Rattle.zw_base.proofs.Each.{all-weaker}
 use Rattle.serial_frame.specs.Frame.{FrameParts}
 use Rattle.chip_functions.specs.declared.request.Request.{Request}
 use Rattle.chip_functions.specs.declared.request.Request.TheVariants.{RequestNodeInfo}
@@ -22,16 +21,15 @@ use Rattle.outside_model.specs.Devices.{State}
 use Rattle.outside_model.specs.State.{OuterState}
 use Rattle.proof_host.proofs.Lists.{each-append}
 use Rattle.proof_chip.specs.Serving.{as_given, frame_texts}
-use Rattle.proof_chip.specs.Tally.{Outlook, TallyBefore, TallyNow, outlook}
+use Rattle.proof_chip.specs.Tally.{Outlook, TallyBefore, TallyNow}
 use Rattle.proof_chip.proofs.Growing.{frames_both}
 use Rattle.proof_chip.proofs.Passing.{IsOther}
 use Rattle.proof_chip.proofs.Replying.{none_filtered}
-use Rattle.proof_chip.proofs.Settling.{AreIdle, IsIdle, asked_still, idle_others, idle_settled}
-use Rattle.proof_chip.proofs.Tallying.{settled_now}
+use Rattle.proof_chip.proofs.Settling.{AreIdle, idle_others, idle_settled}
 use Rattle.proof_answers.specs.Owing.{Ends, Informs, Owed, asked_in_tick, come, comes_within, due_before, ends_in, informs, owed_by, owed_in, owed_now, owed_of}
-use Rattle.proof_answers.specs.Telling.{Alike, HasFailing, IsUnder, Tells, TellsBefore, TellsNow, called_by, told_by}
-use Rattle.proof_answers.proofs.Due.{before_due, before_last, before_none, before_silent, before_window, now_here, now_next, now_silent, settled_in, settled_under}
-use Rattle.proof_answers.proofs.Entering.{Parts, called_by_still, called_grows_by, called_said, due_still, last_still, now_owed_still, owed_both, owed_still, parts_all, tick_still, told_grows, told_said, told_still, under_still}
+use Rattle.proof_answers.specs.Telling.{HasFailing, IsUnder, Tells, TellsBefore, TellsNow, called_by, told_by}
+use Rattle.proof_answers.proofs.Due.{before_due, before_none, before_silent, before_window, now_here, now_next, now_silent}
+use Rattle.proof_answers.proofs.Entering.{Parts, called_by_still, called_grows_by, called_said, now_owed_still, owed_both, owed_still, parts_all, tick_still, told_grows, told_said, told_still, under_still}
 use Rattle.proof_answers.proofs.Informing.{IsCalm, about_back, alike_come, calm_about}
 use Rattle.proof_answers.proofs.Lists.{alike_both, alike_same, tells_alike, tells_more, tells_own, tells_those}
 

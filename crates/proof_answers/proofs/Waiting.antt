@@ -1,5 +1,5 @@
 -- What the chip waits for, and which nodes it counts as failed, by the events at which no frame arrives or is heard again, no result comes and the chip takes nothing: it stays.
-use Rattle.std.proofs.Common.{◌≡◌, ℕ, ◌+◌, ◌-◌, ◌==◌, Bool, true, false, List, [], ◌∷◌, filter, refl, ap, ◌∙◌}
+use Rattle.std.proofs.Common.{◌≡◌, ℕ, Bool, List, [], ◌∷◌, filter, refl, ap}
 use Rattle.std.specs.Prelude.{Option, Some, None, slice_get}
 use Rattle.std.specs.List.{AllByRecursion, range_with_len}
 use Rattle.serial_frame.specs.Stream.{after_tick}

@@ -1,18 +1,16 @@
 -- That the chip was given just what it has for its host goes on with each event where it may come, and with each part of a line that begins.
-use Rattle.std.proofs.Common.{◌≡◌, ◌⊎◌, ℕ, zero, suc, ◌+◌, ◌-◌, ◌&&◌, not, Bool, true, false, if◌then◌else◌, inl, inr, List, [], ◌∷◌, ◌++◌, length, refl, sym, ap, ◌∙◌, subst, append-nil, append_assoc, arith}
-use Rattle.std.specs.Prelude.{Option, None}
-use Rattle.std.specs.List.{AllByRecursion}
+use Rattle.std.proofs.Common.{◌≡◌, ℕ, zero, suc, ◌+◌, ◌-◌, ◌&&◌, not, Bool, true, false, if◌then◌else◌, inl, inr, List, [], ◌∷◌, ◌++◌, length, refl, sym, ap, ◌∙◌, subst, append-nil, append_assoc, arith}
+use Rattle.std.specs.Prelude.{Option}
 use Rattle.zw_base.proofs.Each.{all-weaker}
-use Rattle.serial_frame.specs.Frame.{FrameParts}
 use Rattle.serial_frame.specs.Stream.{Rest, after_tick}
 use Rattle.serial_frame.specs.Items.{unit_text}
 use Rattle.serial_frame.specs.declared.item.Item.{Item}
 use Rattle.serial_frame.specs.declared.unit.Unit.TheVariants.{Framed}
-use Rattle.serial_link.specs.Rules.{SideObeys, Step}
+use Rattle.serial_link.specs.Rules.{Step}
 use Rattle.route_table.specs.declared.route.Route.{Route}
-use Rattle.chip_sim.specs.Waiting.{PortState, no_port}
+use Rattle.chip_sim.specs.Waiting.{PortState}
 use Rattle.chip_sim.specs.State.{ChipState}
-use Rattle.chip_sim.specs.Events.{ChipEvent, Collides, Ticked as ticked_event, collides, update_of}
+use Rattle.chip_sim.specs.Events.{Collides, Ticked as ticked_event, collides, update_of}
 use Rattle.chip_sim.specs.Link.{link_steps}
 use Rattle.chip_sim.specs.Answers.{notice_frame}
 use Rattle.chip_functions.specs.declared.notice.Notice.TheVariants.{ApplicationUpdate}
@@ -29,7 +27,7 @@ use Rattle.host_model.specs.Ticking.{tick_events}
 use Rattle.outside_model.specs.declared.waits.Due.{Due}
 use Rattle.outside_model.specs.declared.waits.Due.TheVariants.{Info}
 use Rattle.outside_model.specs.Devices.{State}
-use Rattle.outside_model.specs.State.{OuterState, Outcome, Outside, first_outer}
+use Rattle.outside_model.specs.State.{OuterState, Outcome, Outside}
 use Rattle.outside_model.specs.Chip.{chip_does}
 use Rattle.outside_model.specs.Results.{gives, profile_for}
 use Rattle.outside_model.specs.Events.{OuterEvent, Begins_line, Begins_tick, Chip_takes, Arrives, Gives, Chip_ticks, Repeats, Collides_next, Host_begins, Host_notes, Device_ticks, has_entered, outcome, stamp, steps, ticked_entry, May as MayOutside, entries as entries_outside, happens as happens_outside}
@@ -57,20 +55,17 @@ use Rattle.proof_routes.specs.Networks.{Tie as Networks}
 use Rattle.proof_routes.proofs.Books.{SameShown, same_joined}
 use Rattle.route_table.specs.Network.{Link}
 use Rattle.law_wire.specs.Networks.{are_linked, listens_at}
-use Rattle.proof_chip.specs.Serving.{GoesOn, Serves}
-use Rattle.proof_chip.specs.Tally.{IsOfLine, KnowTally, TallyAt, TallyBefore, TallyNow, TallySo, outlook}
+use Rattle.proof_chip.specs.Tally.{IsOfLine, KnowTally, TallyBefore, TallyNow, TallySo, outlook}
 use Rattle.proof_chip.proofs.Asides.{AreUnrelated, IsHosts, IsSteady, IsStill, IsUnrelated, hosts_apart, still_apart, still_port}
 use Rattle.proof_chip.proofs.Growing.{serves_aside}
 use Rattle.proof_chip.proofs.Settling.{AreIdle, IsIdle}
-use Rattle.proof_chip.proofs.Stamped.{aside_now_t}
-use Rattle.proof_chip.proofs.Standing.{goes_none}
-use Rattle.proof_chip.proofs.Steady.{hosts_await, hosts_chip, hosts_look, hosts_within, steady_within}
+use Rattle.proof_chip.proofs.Steady.{hosts_chip, hosts_within, steady_within}
 use Rattle.proof_chip.proofs.Tallied.{before_number_t, chip_idle}
 use Rattle.proof_chip.proofs.Tallying.{settled_now}
 use Rattle.proof_chip.proofs.Tallies.{BeforeSo, Collides_it, IsOfHost, Kind, NowSo, Repeats_one, Stays_still, Ticks_chip, again_of, apart_here, covers_answer, covers_host, hosts_keep as hosts_count, host_covers, kind_of, many_sent, no_steps, same_frames, still_steps, unanswered}
 use Rattle.proof_chip.proofs.Telling.{AreAside, IsAside}
 use Rattle.proof_answers.specs.Telling.{KnowTells, TellSo, TellsBefore, TellsNow}
-use Rattle.proof_answers.proofs.Accounts.{Grows, aside_grows, event_grows}
+use Rattle.proof_answers.proofs.Accounts.{aside_grows, event_grows}
 use Rattle.proof_answers.proofs.Moving.{before_numbered, event_now, map_so, now_settled, timed_before}
 use Rattle.proof_answers.proofs.Giving.{gives_silently, gives_tell}
 use Rattle.proof_answers.proofs.Informing.{informs_back}
@@ -78,7 +73,7 @@ use Rattle.proof_answers.proofs.Itemwise.{takes_told}
 use Rattle.proof_answers.proofs.Judging.{KnowsChip}
 use Rattle.proof_answers.proofs.Landed.{arrives_tells}
 use Rattle.proof_answers.proofs.Repeating.{repeats_tell}
-use Rattle.proof_answers.proofs.Standing.{SameOwing, before_arrived, before_as, before_over, now_as, now_said, now_ticks}
+use Rattle.proof_answers.proofs.Standing.{before_arrived, before_as, before_over, now_as, now_said, now_ticks}
 use Rattle.proof_answers.proofs.Waiting.{hosts_owing, steady_owing}
 
 -- between events where no results are to come

@@ -1,7 +1,7 @@
 -- What the chip has for its host is known by the steps of its link, beside all that other walks tell, at each phase of a line; so what it writes is that, in order.
 use Rattle.std.proofs.Common.{◌≡◌, ◌-◌, ℕ, nat_lt, Bool, true, false, if◌then◌else◌, suc, zero, List, [], ◌∷◌, ◌++◌, refl, sym, ap, ◌∙◌, subst, append-nil, arith}
 use Rattle.std.proofs.lemmas.Bool.Decides.{nat_tests}
-use Rattle.std.specs.Prelude.{Option, None}
+use Rattle.std.specs.Prelude.{Option}
 use Rattle.serial_link.specs.Rules.{Step}
 use Rattle.serial_frame.specs.Frame.{FrameParts}
 use Rattle.route_table.specs.declared.route.Route.{Route}
@@ -53,8 +53,7 @@ use Rattle.proof_chip.specs.Bringing.{BringsInOrder}
 use Rattle.proof_chip.specs.Calling.{KnowCalls}
 use Rattle.proof_chip.specs.Knowing.{AnyEntry}
 use Rattle.proof_chip.specs.Sending.{GroundAir, KnowAir}
-use Rattle.proof_chip.specs.Served.{AirsByLink, KnowBeside}
-use Rattle.proof_chip.specs.Serving.{GoesOn}
+use Rattle.proof_chip.specs.Served.{KnowBeside}
 use Rattle.proof_chip.specs.Staying.{BeganSo}
 use Rattle.proof_chip.specs.Tally.{KnowTally}
 use Rattle.proof_chip.proofs.Airs.{event_goes, said_goes, turn_goes}
