@@ -50,7 +50,7 @@ aside_answer devices course past (entry.Written by_chip unit) aside = absurd asi
 aside_answer devices course past (entry.Written by_host unit) aside = tt
 aside_answer devices course past e aside = tt
 
-pub aside_turns : (devices : List State) (course : Course) (past told : List Entry) → AreAside told → EachAfter (MayAnswer devices course) past told
+aside_turns : (devices : List State) (course : Course) (past told : List Entry) → AreAside told → EachAfter (MayAnswer devices course) past told
 aside_turns devices course past told aside = each-anywhere (MayAnswer devices course) IsAside (aside_answer devices course) past told aside
 
 module _ (devices : List State) where

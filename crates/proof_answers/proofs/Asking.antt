@@ -126,7 +126,7 @@ module _ (course : Course) (past tail : List Entry) (f : FrameParts) (passed : s
   abbrev now : List Asked
   now = map (λ (request : Request). record { request = request; past = past }) (listed_of (asked_of f))
 
-  pub asked_whole : asked course (past ++ answer ∷ tail) ≡ asked course past ++ map (λ (request : Request). record { request = request; past = past }) (listed_of (asked_of f))
+  asked_whole : asked course (past ++ answer ∷ tail) ≡ asked course past ++ map (λ (request : Request). record { request = request; past = past }) (listed_of (asked_of f))
   asked_whole =
       shown_both (asked_at course) [] past (answer ∷ tail)
       ∙ ap (λ (l : List Asked). asked course past ++ (asked_at course past answer ++ l)) (none_asked course tail (past ++ answer ∷ []) no_ack)
@@ -146,7 +146,7 @@ module _ (course : Course) (past tail : List Entry) (f : FrameParts) (passed : s
       (append-nil (called_at course past answer) ∙ (ap (λ (l : List Asked). ended_at course past answer ++ flat_map (ended_without course past) l) no_results ∙ append-nil (ended_at course past answer))))
 
   -- what was asked in the tick, and what is asked there
-  pub tick_whole : (clock : ℕ) → clock_of past ≡ clock
+  tick_whole : (clock : ℕ) → clock_of past ≡ clock
       → asked_in_tick clock course (past ++ answer ∷ tail) ≡ asked_in_tick clock course past ++ map (λ (request : Request). record { request = request; past = past }) (listed_of (asked_of f))
   tick_whole clock at =
       ap (λ (l : List Asked). filter (is_of_tick clock) l) asked_whole

@@ -28,7 +28,7 @@ three keeps one two more = filter-append keeps one (two ++ more) ∙ ap (λ (l :
 -- ---- time
 
 -- no results are told of a later tick
-pub settled_by : (clock left : ℕ) (awaits : Bool) (past : List Entry) → Timed clock left awaits past → settled_clock past ≤ clock
+settled_by : (clock left : ℕ) (awaits : Bool) (past : List Entry) → Timed clock left awaits past → settled_clock past ≤ clock
 settled_by clock left true past timed = let is = settled_all past (timed.landed refl) in let below = timed.was refl in omega (arith, is, below)
 settled_by clock zero false past timed = let is = settled_now clock past timed in omega (arith, is)
 settled_by clock (suc left) false past timed = let is = settled_some past left (timed.fates refl) in let now = timed.now refl in omega (arith, is, now)

@@ -134,7 +134,7 @@ fewer (no_route_due ∷ due) = omega arith
 fewer (Info node ∷ due) = let rest = fewer due in omega (arith, rest)
 
 -- several go, none of which is the last, or nothing is owed with that
-pub quiet_dues : (count : ℕ) (o : OuterState) (own : List Owed) (ticks : ℕ) → (own ≡ []) ⊎ (count < no_routes_due o.due) → dues own ticks (quiet_calls count o).due ≡ dues own ticks o.due
+quiet_dues : (count : ℕ) (o : OuterState) (own : List Owed) (ticks : ℕ) → (own ≡ []) ⊎ (count < no_routes_due o.due) → dues own ticks (quiet_calls count o).due ≡ dues own ticks o.due
 quiet_dues zero o own ticks keeps = refl
 quiet_dues (suc count) o own ticks (inl none) =
     quiet_dues count (quiet_call (without_due o)) own ticks (inl none) ∙ subst (λ (l : List Owed). dues l ticks (without_no_route o.due) ≡ dues l ticks o.due) (sym none) (dues_none ticks o.due)
@@ -142,14 +142,14 @@ quiet_dues (suc count) o own ticks (inr some) =
     let fewer_here = fewer o.due in
     quiet_dues count (quiet_call (without_due o)) own ticks (inr (omega (arith, fewer_here, some))) ∙ dues_less own ticks o.due (omega (arith, some))
 
-pub quiet_failing : (count : ℕ) (o : OuterState) → (quiet_calls count o).chip.state.failing ≡ o.chip.state.failing
+quiet_failing : (count : ℕ) (o : OuterState) → (quiet_calls count o).chip.state.failing ≡ o.chip.state.failing
 quiet_failing zero o = refl
 quiet_failing (suc count) o = quiet_failing count (quiet_call (without_due o))
 
 -- ---- what the chip is given
 
 -- a result of one that was aborted gives nothing
-pub quiet_posts : (o : OuterState) (status : TransmitStatus) → 0 < o.chip.state.aborted → posts_by (call_account o status) ≡ []
+quiet_posts : (o : OuterState) (status : TransmitStatus) → 0 < o.chip.state.aborted → posts_by (call_account o status) ≡ []
 quiet_posts o status some = by (owes_call o.chip.state)
   where
     by : (b : Bool) → posts_by (call_if b o status) ≡ []
@@ -159,7 +159,7 @@ quiet_posts o status some = by (owes_call o.chip.state)
 pub route_posts : (o : OuterState) → 0 < o.chip.state.aborted → posts_by (no_route_account o) ≡ []
 route_posts o some = quiet_posts (without_due o) no_route_status some
 
-pub routes_posts : (count : ℕ) (o : OuterState) → count ≤ o.chip.state.aborted → posts_by (no_routes_account count o) ≡ []
+routes_posts : (count : ℕ) (o : OuterState) → count ≤ o.chip.state.aborted → posts_by (no_routes_account count o) ≡ []
 routes_posts zero o few = refl
 routes_posts (suc count) o few =
     let left : count ≤ (no_route o).outer.chip.state.aborted =
@@ -170,7 +170,7 @@ forget_posts : (b : Bool) (o : OuterState) (hop : ℕ × ℕ) → posts_by (forg
 forget_posts true o hop = refl
 forget_posts false o hop = refl
 
-pub forgets_posts : (o : OuterState) (dead : Option (ℕ × ℕ)) → posts_by (forgets_account o dead) ≡ []
+forgets_posts : (o : OuterState) (dead : Option (ℕ × ℕ)) → posts_by (forgets_account o dead) ≡ []
 forgets_posts o None = refl
 forgets_posts o (Some hop) = forget_posts (linked o.chip.state.table hop.0 hop.1) o hop
 
@@ -185,7 +185,7 @@ own_posts o status parts none own = by (owes_call o.chip.state) owes
     by true is = ap₂ (λ (n : ℕ) (x : Option SendingParts). if n == 0 then ended_posts x status else []) none own
     by false is = absurd (let no : false ≡ true = is in cc)
 
--- ---- the calls behind that of a frame
+-- ---- the calls after that of a frame
 
 lead_without : (calls : List Call) → 0 < flying_in (flags calls) → without_frame (flags calls) ≡ leading calls + without_frame (flags (drop (suc (leading calls)) calls))
 lead_without [] some = absurd (omega (arith, some))
@@ -193,9 +193,9 @@ lead_without (OfFrame ∷ calls) some = refl
 lead_without (no_route_call ∷ calls) some =
     let rest = lead_without calls (omega (arith, some)) in one_more (leading calls) calls rest
   where
-    one_more : (n : ℕ) (behind : List Call) → without_frame (flags behind) ≡ n + without_frame (flags (drop (suc n) behind)) → 1 + without_frame (flags behind) ≡ n + 1 + without_frame (flags (drop (suc (n + 1)) (no_route_call ∷ behind)))
-    one_more n behind rest =
-        let same : drop (suc (n + 1)) (no_route_call ∷ behind) ≡ drop (suc n) behind = ap (λ (m : ℕ). drop m behind) (plus n) in
+    one_more : (n : ℕ) (following : List Call) → without_frame (flags following) ≡ n + without_frame (flags (drop (suc n) following)) → 1 + without_frame (flags following) ≡ n + 1 + without_frame (flags (drop (suc (n + 1)) (no_route_call ∷ following)))
+    one_more n following rest =
+        let same : drop (suc (n + 1)) (no_route_call ∷ following) ≡ drop (suc n) following = ap (λ (m : ℕ). drop m following) (plus n) in
         let counts = ap (λ (l : List Call). without_frame (flags l)) same in
         omega (arith, rest, counts)
       where
@@ -231,7 +231,7 @@ record SameWaits (o p : OuterState) : Type 0 where
   due : p.due ≡ o.due
 
 module _ (devices : List State) (v : Outlook) (left number : ℕ) (numbers : List ℕ) (above : AllByRecursion (λ (n : ℕ). number < n) numbers) where
-  module _ (o : OuterState) (done : TransmitStatus) (sees : Sees devices v left number numbers o) (await : no_routes_due o.due ≡ without_frame (flags o.calls)) (behind : List Call) (split : Splits o.calls behind) where
+  module _ (o : OuterState) (done : TransmitStatus) (sees : Sees devices v left number numbers o) (await : no_routes_due o.due ≡ without_frame (flags o.calls)) (following : List Call) (split : Splits o.calls following) where
     abbrev lead : ℕ
     lead = leading o.calls
 
@@ -260,7 +260,7 @@ module _ (devices : List State) (v : Outlook) (left number : ℕ) (numbers : Lis
     p_dues : (own : List Owed) (ticks : ℕ) → (own ≡ []) ⊎ (lead < no_routes_due o.due) → dues own ticks p.due ≡ dues own ticks o.due
     p_dues own ticks keeps = ap (λ (q : OuterState). dues own ticks q.due) p_is ∙ quiet_dues lead o own ticks keeps
 
-    behind_calls : drop 1 p.calls ≡ behind
+    behind_calls : drop 1 p.calls ≡ following
     behind_calls = ap (λ (l : List Call). drop 1 l) quiet.calls ∙ (one_drop lead o.calls ∙ split.left)
 
     posts_are : posts_by (calls_account o done) ≡ posts_by (call_account p done)
@@ -271,20 +271,20 @@ module _ (devices : List State) (v : Outlook) (left number : ℕ) (numbers : Lis
       at : (call_back p done).outer ≡ quiet_call p
       at = ap (λ (y : Outcome). y.outer) (call_quiet p done some)
 
-      behind_some : is_some o.chip.state.sending ≡ true → 0 < length behind
+      behind_some : is_some o.chip.state.sending ≡ true → 0 < length following
       behind_some is =
           let many = split.many in let each_call = sees.each_call in let flag : one_if (is_some o.chip.state.sending) ≡ 1 = ap (λ (b : Bool). one_if b) is in let left_calls = quiet.aborted in
           omega (arith, many, each_call, flag, left_calls, some)
 
-      same_last : is_some o.chip.state.sending ≡ true → last_or false (flags behind) ≡ last_or false (flags o.calls)
-      same_last is = sym (last_same behind (behind_some is)) ∙ sym split.last
+      same_last : is_some o.chip.state.sending ≡ true → last_or false (flags following) ≡ last_or false (flags o.calls)
+      same_last is = sym (last_same following (behind_some is)) ∙ sym split.last
 
-      own_stays : v.sending ≡ true → (last_or false (flags behind) ≡ v.by_frame) × (v.by_frame ≡ true → numbers ≡ [] → ⊥)
+      own_stays : v.sending ≡ true → (last_or false (flags following) ≡ v.by_frame) × (v.by_frame ≡ true → numbers ≡ [] → ⊥)
       own_stays is = (
         same_last (sym sees.sending ∙ is) ∙ sym sees.by_frame,
         λ by none.
-            let last : last_or false (flags behind) ≡ true = same_last (sym sees.sending ∙ is) ∙ (sym sees.by_frame ∙ by) in
-            let some_fly = last_flies behind last in
+            let last : last_or false (flags following) ≡ true = same_last (sym sees.sending ∙ is) ∙ (sym sees.by_frame ∙ by) in
+            let some_fly = last_flies following last in
             let flies = sees.flies in
             let flying = split.flying in
             let length_none = ap (λ (l : List ℕ). length l) none in
@@ -293,9 +293,9 @@ module _ (devices : List State) (v : Outlook) (left number : ℕ) (numbers : Lis
 
       -- the SendData under way, if its call is of no frame, still waits for what is due
       owes_by : (sending : Bool) (flag : Bool) → is_some o.chip.state.sending ≡ sending → last_or false (flags o.calls) ≡ flag → (sendings : List Sending) (ticks : ℕ)
-          → owed_by sendings o.chip.state.sending behind ticks p.due ≡ owed_by sendings o.chip.state.sending o.calls ticks o.due
+          → owed_by sendings o.chip.state.sending following ticks p.due ≡ owed_by sendings o.chip.state.sending o.calls ticks o.due
       owes_by false flag is last sendings ticks =
-          ap (λ (b : Bool). dues (map (λ (one : Called). Ends one) (if b && not (last_or false (flags behind)) then ended_by NoRoute sendings else [])) ticks p.due) is
+          ap (λ (b : Bool). dues (map (λ (one : Called). Ends one) (if b && not (last_or false (flags following)) then ended_by NoRoute sendings else [])) ticks p.due) is
           ∙ (p_dues [] ticks (inl refl)
           ∙ sym (ap (λ (b : Bool). dues (map (λ (one : Called). Ends one) (if b && not (last_or false (flags o.calls)) then ended_by NoRoute sendings else [])) ticks o.due) is))
       owes_by true true is last sendings ticks =
@@ -312,7 +312,7 @@ module _ (devices : List State) (v : Outlook) (left number : ℕ) (numbers : Lis
               let flying = split.flying in
               let parts = lead_without o.calls (omega (arith, flying)) in
               let rest = ap (λ (l : List Call). without_frame (flags l)) split.left in
-              let last_one = last_without false behind (behind_some is) (same_last is ∙ last) in
+              let last_one = last_without false following (behind_some is) (same_last is ∙ last) in
               omega (arith, await, parts, rest, last_one)
 
       quiet_finish : Finish v number o x.outer (posts_by (calls_account o done)) done
@@ -324,7 +324,7 @@ module _ (devices : List State) (v : Outlook) (left number : ℕ) (numbers : Lis
           ∙ owes_by (is_some o.chip.state.sending) (last_or false (flags o.calls)) refl refl sendings ticks))
           (λ sendings was.
           no_length (with_number number sendings)
-          ((arrived v.sending v.by_frame v.sending (last_or false (flags behind)) number numbers sendings above (inr (refl, own_stays)) (subst (λ (l : List ℕ). AreNumbered v.sending v.by_frame l sendings) sees.own was)).many ∙ over_same v.sending v.sending refl))
+          ((arrived v.sending v.by_frame v.sending (last_or false (flags following)) number numbers sendings above (inr (refl, own_stays)) (subst (λ (l : List ℕ). AreNumbered v.sending v.by_frame l sendings) sees.own was)).many ∙ over_same v.sending v.sending refl))
 
     -- the last is that of the SendData under way
     module _ (none : p.chip.state.aborted ≡ 0) (parts : SendingParts) (own : p.chip.state.sending ≡ Some parts) where
@@ -349,11 +349,11 @@ module _ (devices : List State) (v : Outlook) (left number : ℕ) (numbers : Lis
       is_sending : v.sending ≡ true
       is_sending = sees.sending ∙ ap (λ (s : Option SendingParts). is_some s) own_here
 
-      none_behind : behind ≡ []
+      none_behind : following ≡ []
       none_behind =
           let many = split.many in let each_call = sees.each_call in let flag : one_if (is_some o.chip.state.sending) ≡ 1 = ap (λ (b : Bool). one_if b) (sym sees.sending ∙ is_sending) in let left_calls = quiet.aborted in
           let enough = few in
-          no_length behind (omega (arith, many, each_call, flag, left_calls, none, enough))
+          no_length following (omega (arith, many, each_call, flag, left_calls, none, enough))
 
       none_rest : numbers ≡ []
       none_rest =
@@ -385,7 +385,7 @@ module _ (devices : List State) (v : Outlook) (left number : ℕ) (numbers : Lis
           ∙ ap (λ (b : Bool). over b false) is_sending))
 
     -- one or the other
-    pub calls_finish : Finish v number o x.outer (posts_by (calls_account o done)) done
+    calls_finish : Finish v number o x.outer (posts_by (calls_account o done)) done
     calls_finish = by p.chip.state.aborted refl p.chip.state.sending refl
       where
         by : (n : ℕ) → p.chip.state.aborted ≡ n → (s : Option SendingParts) → p.chip.state.sending ≡ s → Finish v number o x.outer (posts_by (calls_account o done)) done
@@ -412,9 +412,9 @@ module _ (devices : List State) (v : Outlook) (left number : ℕ) (numbers : Lis
       let same = forgets_same o dead in
       let sees_q = forgot devices v left number numbers o dead sees in
       let flies = sees_q.flies in
-      let (behind, split) = splits q.calls (omega (arith, flies)) in
+      let (following, split) = splits q.calls (omega (arith, flies)) in
       let await_q : no_routes_due q.due ≡ without_frame (flags q.calls) = ap no_routes_due same.due ∙ (await ∙ sym (ap (λ (l : List Call). without_frame (flags l)) same.calls)) in
-      by q same (calls_finish q (unwrap_or (status_of status) Fail) sees_q await_q behind split)
+      by q same (calls_finish q (unwrap_or (status_of status) Fail) sees_q await_q following split)
     where
       posts_of : (frames : List FrameParts) → posts_by (calls_account (forgets o dead).outer (unwrap_or (status_of status) Fail)) ≡ frames → posts_by (ends_account o status dead) ≡ frames
       posts_of frames is = ap (λ (l : List FrameParts). l ++ posts_by (calls_account (forgets o dead).outer (unwrap_or (status_of status) Fail))) (forgets_posts o dead) ∙ is

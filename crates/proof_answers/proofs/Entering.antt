@@ -38,7 +38,7 @@ calls_come at [] = refl
 calls_come at (one ∷ all) = ap (λ (l : List Given). callback_of one ∷ l) (calls_come at all)
 
 module _ (course : Course) where
-  pub results_come : (past : List Entry) (e : Entry) (all : List Asked) → flat_map (results_of course past e) all ≡ map (come (before_results past e)) (owed_in course past all)
+  results_come : (past : List Entry) (e : Entry) (all : List Asked) → flat_map (results_of course past e) all ≡ map (come (before_results past e)) (owed_in course past all)
   results_come past e [] = refl
   results_come past e (one ∷ all) =
       let at : List Entry = before_results past e in
@@ -64,7 +64,7 @@ module _ (course : Course) where
     ended_same : (one : Asked) → ended_without course other one ≡ ended_without course past one
     ended_same one = ap (λ (l : List Sending). ended_by NoRoute (filter (without other one) l)) last ∙ ap (λ (l : List Sending). ended_by NoRoute l) (without_same one (last_sending course past))
 
-    pub ends_same : (all : List Asked) → flat_map (ended_without course other) all ≡ flat_map (ended_without course past) all
+    ends_same : (all : List Asked) → flat_map (ended_without course other) all ≡ flat_map (ended_without course past) all
     ends_same [] = refl
     ends_same (one ∷ all) = ap₂ (λ (a b : List Called). a ++ b) (ended_same one) (ends_same all)
 
@@ -74,10 +74,10 @@ module _ (course : Course) where
         ap₂ (λ (l : List Called) (more : List Owed). (informs (clock_of one.past) one.request ++ map (λ (called : Called). Ends called) l) ++ more) (ended_same one) (owed_same all)
 
   module _ (past told : List Entry) (others : AllByRecursion IsOther told) where
-    pub last_still : last_sending course (past ++ told) ≡ last_sending course past
+    last_still : last_sending course (past ++ told) ≡ last_sending course past
     last_still = same_last course past told (others_no_ack told others)
 
-    pub ends_still : (all : List Asked) → flat_map (ended_without course (past ++ told)) all ≡ flat_map (ended_without course past) all
+    ends_still : (all : List Asked) → flat_map (ended_without course (past ++ told)) all ≡ flat_map (ended_without course past) all
     ends_still all = ends_same past (past ++ told) last_still (outward_still past told others) all
 
     pub owed_still : (all : List Asked) → owed_in course (past ++ told) all ≡ owed_in course past all
@@ -125,7 +125,7 @@ module _ (course : Course) where
   called_still past told idle =
       shown_both (called_at course) [] past told ∙ ap (λ (l : List Called). called course past ++ l) (none_called told past (all-weaker IsIdle GivesNone (λ e is. is.0) told idle)) ∙ append-nil (called course past)
 
-  pub due_still : (clock : ℕ) (past told : List Entry) → AreIdle told → due_before clock course (past ++ told) ≡ due_before clock course past
+  due_still : (clock : ℕ) (past told : List Entry) → AreIdle told → due_before clock course (past ++ told) ≡ due_before clock course past
   due_still clock past told idle =
       ap₂ (λ (n : ℕ) (l : List Asked). filter (comes_within n clock) l) (idle_settled past told idle) (asked_still course past told (others_no_ack told (idle_others told idle)))
 
@@ -148,7 +148,7 @@ module _ (devices : List State) (course : Course) where
   given_grows past e =
       shown_both (given_at devices course) [] past (e ∷ []) ∙ ap (λ (l : List Given). given devices course past ++ l) (append-nil (given_at devices course past e))
 
-  pub called_grows : (past : List Entry) (e : Entry) → called course (past ++ e ∷ []) ≡ called course past ++ called_at course past e
+  called_grows : (past : List Entry) (e : Entry) → called course (past ++ e ∷ []) ≡ called course past ++ called_at course past e
   called_grows past e =
       shown_both (called_at course) [] past (e ∷ []) ∙ ap (λ (l : List Called). called course past ++ l) (append-nil (called_at course past e))
 

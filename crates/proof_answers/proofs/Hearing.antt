@@ -81,7 +81,7 @@ handlers_are past number node payload home = by (frame_of past number) home
     by (Some frame) is = at frame (frame.receiver == controller) refl is
 
 -- no SendData ends where a frame is heard again
-pub again_ends : (course : Course) (past : List Entry) (number : ℕ) → repeats past ≡ true → ended_at course past (entry.Heard number) ≡ []
+again_ends : (course : Course) (past : List Entry) (number : ℕ) → repeats past ≡ true → ended_at course past (entry.Heard number) ≡ []
 again_ends course past number is = ap (λ (b : Bool). if b then [] else ended_by (status_heard past) (sent_as course past number)) is
 
 again_fate : (past : List Entry) (number : ℕ) → repeats past ≡ true → first_fate past (entry.Heard number) ≡ []

@@ -47,7 +47,7 @@ pub record SameAbout (one other : List Entry) : Type 0 where
   pub nodes : joined one ≡ joined other
   pub had : (node : ℕ) → brought node one ≡ brought node other
 
-pub same_about : (one other : List Entry) → one ≡ other → SameAbout one other
+same_about : (one other : List Entry) → one ≡ other → SameAbout one other
 same_about one other is = record { links = ap air_links is; nodes = ap joined is; had = λ node. ap (brought node) is }
 
 about_then : (a b c : List Entry) → SameAbout a b → SameAbout b c → SameAbout a c

@@ -14,12 +14,11 @@ use Rattle.chip_functions.specs.declared.notice.TransmitStatus.TheVariants.{Fail
 use Rattle.chip_sim.specs.Nodes.{is_marked}
 use Rattle.chip_sim.specs.State.{ChipState}
 use Rattle.chip_sim.specs.Answers.{takes as takes_of}
-use Rattle.chip_sim.specs.Requests.{asked as asked_of, given_if, has_failed, heard, passed, reply_if, reply_to, requested, stopped}
+use Rattle.chip_sim.specs.Requests.{asked as asked_of, given_if, has_failed, heard, reply_if, reply_to, requested, stopped}
 use Rattle.chip_sim.specs.Events.{ChipEvent, Judged, after, collides}
 use Rattle.chip_sim.specs.Link.{link_steps}
-use Rattle.chip_sim.specs.Rules.{judged_posts, listed as listed_of, posts}
+use Rattle.chip_sim.specs.Rules.{listed as listed_of}
 use Rattle.chip_sim.specs.declared.out.Sending.{Sending as SendingParts}
-use Rattle.zw_words.specs.declared.side.Side.TheVariants.{Host as by_host, Chip as by_chip}
 use Rattle.zw_text.specs.declared.entry.Entry.{Entry}
 use Rattle.zw_text.specs.declared.entry.Entry.TheVariants as entry
 use Rattle.zw_text.specs.Transcript.{AirFrame, frame_at, frames}
@@ -67,18 +66,6 @@ pub record KnowsChip (devices : List State) (past : List Entry) (s : ChipState) 
   pub listening : (node : ℕ) → is_marked s.listening node ≡ (listens_at devices node && is_joined past node)
   pub hears : (a b : ℕ) → linked s.table a b ≡ are_linked (chip_links past) a b
 
--- ---- entries behind an answer
-
-more_none : (e : Entry) → IsMore e → GivesNone e
-more_none (entry.Said words) more = absurd (let no : false ≡ true = more.0 in cc)
-more_none (entry.Time tick) more = absurd (let no : false ≡ true = more.0 in cc)
-more_none (entry.Heard frame) more = absurd (let no : false ≡ true = more.0 in cc)
-more_none (entry.Lost frame) more = absurd (let no : false ≡ true = more.0 in cc)
-more_none (entry.Unheard frame) more = absurd (let no : false ≡ true = more.0 in cc)
-more_none (entry.Written by_chip unit) more = more.1
-more_none (entry.Written by_host unit) more = tt
-more_none e more = tt
-
 -- ---- the answer, by what is told
 
 module _ (devices : List State) (o p : OuterState) (course : Course) (past tail : List Entry) (f : FrameParts) (passes : slice_get course.passed (acks past) ≡ Some f) (none : AllByRecursion GivesNone tail)
@@ -94,7 +81,7 @@ module _ (devices : List State) (o p : OuterState) (course : Course) (past tail 
   none_then = none_filtered (settled_clock whole) p.clock (time ∙ sym settled_then) (asked course whole)
 
   -- what the chip had is what it has by the transcript
-  pub told_before : Tells devices (frame_texts held) (told_by devices o.clock course past) [] → Tells devices (frame_texts held) (given devices course past) []
+  told_before : Tells devices (frame_texts held) (told_by devices o.clock course past) [] → Tells devices (frame_texts held) (given devices course past) []
   told_before tells =
       subst (λ (l : List Given). Tells devices (frame_texts held) l [])
       (ap (λ (l : List Asked). given devices course past ++ map (come past) (owed_in course past l)) none_before ∙ append-nil (given devices course past)) tells
@@ -108,7 +95,7 @@ module _ (devices : List State) (o p : OuterState) (course : Course) (past tail 
       }
 
   -- and so it is after the answer
-  pub told_then : Tells devices (frame_texts held) (told_by devices o.clock course past) [] → Tells devices (frame_texts (held ++ more)) (told_by devices p.clock course (past ++ answer ∷ tail)) []
+  told_then : Tells devices (frame_texts held) (told_by devices o.clock course past) [] → Tells devices (frame_texts (held ++ more)) (told_by devices p.clock course (past ++ answer ∷ tail)) []
   told_then tells =
       subst (λ (l : List Given). Tells devices (frame_texts (held ++ more)) l []) (sym told_whole)
       (subst (λ (l : List (List ℕ)). Tells devices l (given devices course past ++ as_given more) []) (sym (frames_both held more))
@@ -121,7 +108,7 @@ module _ (devices : List State) (o p : OuterState) (course : Course) (past tail 
           ap (λ (l : List Asked). given devices course whole ++ map (come whole) (owed_in course whole l)) none_then
           ∙ (append-nil (given devices course whole) ∙ (given_answered devices course past tail none ∙ ap (λ (l : List Given). given devices course past ++ l) reply))
 
-  pub called_then : called_by p.clock course (past ++ answer ∷ tail) ≡ called course past ++ ended_at course past answer
+  called_then : called_by p.clock course (past ++ answer ∷ tail) ≡ called course past ++ ended_at course past answer
   called_then =
       ap (λ (l : List Asked). called course whole ++ flat_map (ended_without course whole) l) none_then ∙ (append-nil (called course whole) ∙ called_whole course past tail f passes none no_ack)
 
@@ -178,17 +165,11 @@ module _ (devices : List State) (laws : Laws) (did : List Step) (past : List Ent
   abbrev p : OuterState
   p = (chip_does o e).outer
 
-  abbrev reply_frames : List FrameParts
-  reply_frames = listed_of (reply_if s (asked_of f))
-
   time : p.clock ≡ o.clock
   time = ap (λ (t : Bool × Bool × ℕ). t.2) (does_time o e)
 
   state : p.chip.state ≡ requested (asked_of f) s
   state = state_is devices laws did past o f route free items puts
-
-  posts_are : posts o.chip.state e ≡ listed_of (reply_if s (asked_of f))
-  posts_are = ap (λ (b : Bool). judged_posts (passed b (Good (Framed f))) s) free
 
   module _ (course : Course) (goes : GoesOn (course_of (did ++ link_steps o.chip.state (Judged (Good (Framed f)) route))) course) (held : List FrameParts) (was : TellsNow devices o held course past) (passes : slice_get course.passed (acks past) ≡ Some f) where
     abbrev last : List Sending

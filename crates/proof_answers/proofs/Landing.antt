@@ -24,7 +24,7 @@ use Rattle.proof_answers.proofs.Lists.{alike_same, tells_are, tells_less, tells_
 use Rattle.proof_answers.proofs.Standing.{ends_of}
 
 -- what stands before the same end is the same
-pub same_front : {A : Type 0} (a b c : List A) → a ++ c ≡ b ++ c → a ≡ b
+same_front : {A : Type 0} (a b c : List A) → a ++ c ≡ b ++ c → a ≡ b
 same_front [] [] c same = refl
 same_front [] (y ∷ b) c same = absurd (let all = ap (λ (l : List _). length l) same in let parts = length-append b c in omega (arith, all, parts))
 same_front (x ∷ a) [] c same = absurd (let all = ap (λ (l : List _). length l) same in let parts = length-append a c in omega (arith, all, parts))

@@ -17,7 +17,7 @@ module _ (devices : List State) where
   like_then : (a b c : Given) → IsLike devices a b → IsLike devices b c → IsLike devices a c
   like_then a b c first later = record { there = λ unit is. later.there unit (first.there unit is); back = λ unit is. first.back unit (later.back unit is) }
 
-  pub alike_then : (a b c : List Given) → Alike devices a b → Alike devices b c → Alike devices a c
+  alike_then : (a b c : List Given) → Alike devices a b → Alike devices b c → Alike devices a c
   alike_then [] [] [] first later = tt
   alike_then [] [] (z ∷ c) first later = absurd later
   alike_then [] (y ∷ b) c first later = absurd first
@@ -25,7 +25,7 @@ module _ (devices : List State) where
   alike_then (x ∷ a) (y ∷ b) [] first later = absurd later
   alike_then (x ∷ a) (y ∷ b) (z ∷ c) first later = (like_then x y z first.0 later.0, alike_then a b c first.1 later.1)
 
-  pub alike_back : (a b : List Given) → Alike devices a b → Alike devices b a
+  alike_back : (a b : List Given) → Alike devices a b → Alike devices b a
   alike_back [] [] same = tt
   alike_back [] (y ∷ b) same = absurd same
   alike_back (x ∷ a) [] same = absurd same
@@ -65,7 +65,7 @@ module _ (devices : List State) where
   tells_more (unit ∷ units) (one ∷ all) left more others same tells = (tells.0, tells_more units all left more others same tells.1)
 
   -- the next one is told
-  pub tells_next : (units : List (List ℕ)) (all : List Given) (one : Given) (left : List Given) (unit : List ℕ) → IsOf devices unit one → Tells devices units all (one ∷ left) → Tells devices (units ++ unit ∷ []) all left
+  tells_next : (units : List (List ℕ)) (all : List Given) (one : Given) (left : List Given) (unit : List ℕ) → IsOf devices unit one → Tells devices units all (one ∷ left) → Tells devices (units ++ unit ∷ []) all left
   tells_next [] [] one left unit is tells = absurd tells
   tells_next [] (first ∷ all) one left unit is tells = (tells.0.back unit is, tells.1)
   tells_next (u ∷ units) [] one left unit is tells = absurd tells

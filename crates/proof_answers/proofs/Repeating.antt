@@ -47,7 +47,7 @@ use Rattle.proof_answers.proofs.Standing.{SameOwing, now_as}
 
 module _ (there : List State) where
   -- the chip is given nothing of what is told of the air alone
-  pub plain_posts : (plain : List AirEvent) (o : OuterState) → ArePlain plain → posts_by (all_account there plain o) ≡ []
+  plain_posts : (plain : List AirEvent) (o : OuterState) → ArePlain plain → posts_by (all_account there plain o) ≡ []
   plain_posts [] o are = refl
   plain_posts (tells.Sent at from to route payload ∷ plain) o are = plain_posts plain o are.1
   plain_posts (tells.Changed node at ∷ plain) o are = plain_posts plain _ are.1
@@ -57,10 +57,10 @@ module _ (there : List State) where
   plain_posts (tells.ToChip at from payload ∷ plain) o are = absurd are.0
   plain_posts (tells.Done at status dead ∷ plain) o are = absurd are.0
 
-  pub plain_idle : (plain : List AirEvent) (o : OuterState) → ArePlain plain → AreIdle (each (deals there) o plain).entries
+  plain_idle : (plain : List AirEvent) (o : OuterState) → ArePlain plain → AreIdle (each (deals there) o plain).entries
   plain_idle plain o are = all-weaker IsUnrelated IsIdle (λ e is. is.1) (each (deals there) o plain).entries (plain_apart there o plain are)
 
-  pub plain_owing : (plain : List AirEvent) (o : OuterState) → ArePlain plain → SameOwing o (each (deals there) o plain).outer
+  plain_owing : (plain : List AirEvent) (o : OuterState) → ArePlain plain → SameOwing o (each (deals there) o plain).outer
   plain_owing plain o are =
       subst (λ (p : OuterState). SameOwing o p) (sym (plain_rests there o plain are)) (record { clock = refl; sending = refl; failing = refl; calls = refl; due = refl })
 

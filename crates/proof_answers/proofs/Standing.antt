@@ -160,9 +160,6 @@ module _ (devices : List State) (o : OuterState) (frames : List FrameParts) (cou
   abbrev numbered : List Entry
   numbered = past ++ time ∷ []
 
-  unnumbered : List Owed → List Given
-  unnumbered due = given devices course past ++ map (come numbered) due
-
   told_time : Parts devices course clock past time → told_by devices clock course numbered ≡ given devices course past ++ map (come numbered) (owed_in course past (due_before clock course past))
   told_time parts =
       told_grows devices course clock past time tt parts [] refl refl

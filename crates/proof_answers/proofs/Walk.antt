@@ -77,10 +77,10 @@ use Rattle.proof_answers.proofs.Standing.{before_arrived, before_as, before_over
 use Rattle.proof_answers.proofs.Waiting.{hosts_owing, steady_owing}
 
 -- between events where no results are to come
-abbrev pub NowTold : List State → List Step → List Entry → OuterState → Type 0
+abbrev NowTold : List State → List Step → List Entry → OuterState → Type 0
 NowTold devices did past o = TellSo (TellsNow devices o) did past o.chip.state.port
 
-abbrev pub BeforeTold : List State → Bool → List Step → List Entry → OuterState → Type 0
+abbrev BeforeTold : List State → Bool → List Step → List Entry → OuterState → Type 0
 BeforeTold devices arriving did past o = TellSo (TellsBefore devices arriving o) did past o.chip.state.port
 
 idle_of : (told : List Entry) → AreUnrelated told → AreIdle told
@@ -123,7 +123,7 @@ module _ (devices : List State) (did : List Step) where
       let told : OuterEvent = Host_notes (entry.Begin node session command) in
       keeps_both w later (happens_outside later told) (entries_outside w (Host_begins node session)) (entries_outside later told) (hosts_keep w (Host_begins node session) tt) (hosts_keep later told tt)
 
-  pub host_tells : (m : Machine) (event : Event) → IsOfHost event → May m event → (past : List Entry) → NowSo devices did past m.outside.outer → NowTold devices did past m.outside.outer
+  host_tells : (m : Machine) (event : Event) → IsOfHost event → May m event → (past : List Entry) → NowSo devices did past m.outside.outer → NowTold devices did past m.outside.outer
       → NowTold devices (did ++ event_steps m event) (past ++ entries m event) (happens m event).outside.outer
   host_tells m event is may past tally so =
       subst (λ (l : List Step). NowTold devices l (past ++ entries m event) (happens m event).outside.outer) (sym (ap (λ (l : List Step). did ++ l) (no_steps m event is) ∙ append-nil did))
