@@ -203,7 +203,7 @@ module _ (devices : List State) (v : Outlook) (left number : ℕ) (numbers : Lis
 
 -- ---- frames of devices that are lost, and frames of the controller that are heard again
 
-pub lost_none : (course : Course) (past : List Entry) (number : ℕ) (status : TransmitStatus) → is_outward past number ≡ false → ended_by status (sent_as course past number) ≡ []
+lost_none : (course : Course) (past : List Entry) (number : ℕ) (status : TransmitStatus) → is_outward past number ≡ false → ended_by status (sent_as course past number) ≡ []
 lost_none course past number status other =
     ap (λ (b : Bool). ended_by status (if b then filter (λ (sending : Sending). sending.frame == number) (last_sending course past) else [])) other
 

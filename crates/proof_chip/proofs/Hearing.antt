@@ -101,7 +101,7 @@ pub comes_outlook : (b : Bool) (o : OuterState) (node : ℕ) (payload : List ℕ
 comes_outlook true o node payload = heard_outlook o node payload
 comes_outlook false o node payload = refl
 
-pub heard_answers : (b : Bool) (node : ℕ) (payload : List ℕ) → IsUnanswered b (chip_hears node payload)
+heard_answers : (b : Bool) (node : ℕ) (payload : List ℕ) → IsUnanswered b (chip_hears node payload)
 heard_answers true node payload = tt
 heard_answers false node payload = tt
 

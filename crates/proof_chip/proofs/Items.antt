@@ -535,7 +535,7 @@ module _ (devices : List State) (laws : Laws) where
             ∙ (ap (λ (passes : Option FrameParts). length (judged_frame passes s).joined) (none_passed b item route none) ∙ puts.joined);
       }
 
-  abbrev pub Goes : List Step → List Entry → OuterState → Option Route → Item → Type 0
+  abbrev Goes : List Step → List Entry → OuterState → Option Route → Item → Type 0
   Goes did past o route i =
       Now devices false (did ++ link_steps o.chip.state (Judged i route)) (past ++ (chip_does o (Judged i route)).entries) (chip_does o (Judged i route)).outer
       × Puts (past ++ (chip_does o (Judged i route)).entries) (chip_does o (Judged i route)).outer

@@ -108,7 +108,7 @@ none_listens there (Some at) place is none = by (is_awake (slice_get there at)) 
 -- ---- frames of the transcript
 
 -- one that heads for a node comes to no handler
-pub none_handled : (found : Option AirFrame) (one : Departure) → option_map departure found ≡ Some one → one.heading ≡ Outward → flat_map handler_of (listed found) ≡ []
+none_handled : (found : Option AirFrame) (one : Departure) → option_map departure found ≡ Some one → one.heading ≡ Outward → flat_map handler_of (listed found) ≡ []
 none_handled None one is heads = refl
 none_handled (Some frame) one is heads = by (frame.receiver == controller) refl
   where

@@ -1,19 +1,19 @@
 pub mod Picking
-pub mod Dropping
-pub mod Submitting
-pub mod Posting
+mod Dropping
+mod Submitting
+mod Posting
 pub mod Telling
 pub mod Growing
 pub mod Walking
 pub mod Ending
 pub mod Covering
 pub mod Ordering
-pub mod Agreeing
+mod Agreeing
 pub mod Airing
 pub mod Quieting
-pub mod Judging
+mod Judging
 pub mod Taking
-pub mod Turning
+mod Turning
 pub mod Standing
 pub mod Replying
 pub mod Tallying
@@ -29,32 +29,32 @@ pub mod Asides
 pub mod Tallied
 pub mod Resting
 pub mod Giving
-pub mod Stamped
+mod Stamped
 pub mod Hearing
 pub mod Finishing
 pub mod Arriving
 pub mod Totals
 pub mod Replied
 pub mod Leaving
-pub mod Bringing
+mod Bringing
 pub mod Going
-pub mod Homing
+mod Homing
 pub mod Beginning
 pub mod Staying
-pub mod Acting
+mod Acting
 pub mod Keeping
 pub mod Judges
 pub mod Items
 pub mod Mild
 pub mod Airs
-pub mod Members
-pub mod Grounds
+mod Members
+mod Grounds
 pub mod Served
 pub mod Landed
 pub mod Tallies
 pub mod Calling
 pub mod Steady
-pub mod CallWalk
+mod CallWalk
 pub use Rattle.proof_line.proofs.HeldRecords
 pub use Rattle.proof_line.proofs.FactsKept
 pub use Rattle.proof_line.proofs.Notes

@@ -123,7 +123,7 @@ no_steps m (Outside_does event) is = absurd is
 no_steps m event is = refl
 
 module _ (devices : List State) (did : List Step) where
-  abbrev pub Keeps : Outside → List Entry → Outside → Type 0
+  abbrev Keeps : Outside → List Entry → Outside → Type 0
   Keeps w told later = (past : List Entry) → NowSo devices did past w.outer → NowSo devices did (past ++ told) later.outer
 
   keeps_none : (w : Outside) → Keeps w [] w
@@ -137,7 +137,7 @@ module _ (devices : List State) (did : List Step) where
       aside_now_t devices w.outer (outcome w event) did past (hosts_apart w event is) (ap (λ (s : ChipState). s.port.side) (hosts_chip w event is)) (ap (λ (s : ChipState). s.port.waiting) (hosts_chip w event is))
       (hosts_look w event is) (hosts_await w event is) so
 
-  pub session_keeps : (w : Outside) (node session command : ℕ)
+  session_keeps : (w : Outside) (node session command : ℕ)
       → Keeps w (entries_outside w (Host_begins node session) ++ entries_outside (happens_outside w (Host_begins node session)) (Host_notes (entry.Begin node session command)))
       (happens_outside (happens_outside w (Host_begins node session)) (Host_notes (entry.Begin node session command)))
   session_keeps w node session command =
@@ -332,7 +332,7 @@ module _ (devices : List State) (laws : Laws) (none : NoNexting) (did : List Ste
 
 -- ---- each phase
 
-pub covers_line : (line : Line) → CoversLine IsOfLine line
+covers_line : (line : Line) → CoversLine IsOfLine line
 covers_line (lines.Repeat frame) = λ drawn route. tt
 covers_line (lines.Wake node) = λ route. tt
 covers_line (lines.Local node value) = λ route. tt
