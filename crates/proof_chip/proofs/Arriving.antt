@@ -66,7 +66,7 @@ heard_brings past number is own none course =
     (ap (λ (b : Bool). length (if b then [] else ended_by (status_heard past) (sent_as course past number))) is ∙ sent_many (status_heard past) course past number own)
     ∙ none_plus _
 
-fate_aside : (e : Entry) → IsFate e → IsAside e
+pub fate_aside : (e : Entry) → IsFate e → IsAside e
 fate_aside (entry.Written side unit) fate = absurd fate
 fate_aside entry.ChipFull fate = absurd fate
 fate_aside e fate = tt
@@ -111,7 +111,7 @@ module _ (devices : List State) (v : Outlook) (left number : ℕ) (numbers : Lis
   }
   forgot_if false o hop sees = sees
 
-  forgot : (o : OuterState) (dead : Option (ℕ × ℕ)) → Sees devices v left number numbers o → Sees devices v left number numbers (forgets o dead).outer
+  pub forgot : (o : OuterState) (dead : Option (ℕ × ℕ)) → Sees devices v left number numbers o → Sees devices v left number numbers (forgets o dead).outer
   forgot o None sees = sees
   forgot o (Some hop) sees = forgot_if (linked o.chip.state.table hop.0 hop.1) o hop sees
 

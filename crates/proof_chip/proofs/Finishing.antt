@@ -31,16 +31,16 @@ use Rattle.proof_chip.proofs.Owing.{Quieted, Splits, call_quiet, last_flies, no_
 use Rattle.proof_chip.proofs.Tallied.{before_stays, both_so, own_call_t, quiet_call_t, quiet_routes_t}
 use Rattle.proof_chip.proofs.Tallying.{before_above, before_next}
 
-one_drop : {A : Type 0} (count : ℕ) (xs : List A) → drop 1 (drop count xs) ≡ drop (suc count) xs
+pub one_drop : {A : Type 0} (count : ℕ) (xs : List A) → drop 1 (drop count xs) ≡ drop (suc count) xs
 one_drop zero xs = refl
 one_drop (suc count) [] = refl
 one_drop (suc count) (x ∷ xs) = one_drop count xs
 
-no_length : {A : Type 0} (xs : List A) → length xs ≡ 0 → xs ≡ []
+pub no_length : {A : Type 0} (xs : List A) → length xs ≡ 0 → xs ≡ []
 no_length [] none = refl
 no_length (x ∷ xs) none = absurd (omega (arith, none))
 
-over_same : (before later : Bool) → later ≡ before → over before later ≡ 0
+pub over_same : (before later : Bool) → later ≡ before → over before later ≡ 0
 over_same true true same = refl
 over_same true false same = absurd (let no : false ≡ true = same in cc)
 over_same false true same = refl
@@ -51,7 +51,7 @@ same_flag true later by later_by same stays = ap₂ (λ (a b : Bool). one_if (a 
 same_flag false later by later_by same stays = ap (λ (b : Bool). one_if (b && not later_by)) same
 
 -- of one call or more the last tells it, whatever stands before
-last_same : (calls : List Call) → 0 < length calls → last_or true (flags calls) ≡ last_or false (flags calls)
+pub last_same : (calls : List Call) → 0 < length calls → last_or true (flags calls) ≡ last_or false (flags calls)
 last_same [] some = absurd (omega (arith, some))
 last_same (call ∷ calls) some = refl
 

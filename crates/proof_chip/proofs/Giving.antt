@@ -52,7 +52,7 @@ done_rests o status = by (o.chip.state.aborted == 0)
         record { calls = got.calls; due = got.due; air = got.air }
     by false = record { calls = refl; due = refl; air = refl }
 
-informed_rests : (o : OuterState) (node : ℕ) (profile : _) → Rests o (chip_does o (Informed node profile)).outer
+pub informed_rests : (o : OuterState) (node : ℕ) (profile : _) → Rests o (chip_does o (Informed node profile)).outer
 unfolding chip_does
 informed_rests o node profile =
     let got = each_rests _ (with_chip o (after o.chip.state (Informed node profile))) (queued_leaves o.chip.state.port.side.turn o.chip.state.port _) in record { calls = got.calls; due = got.due; air = got.air }

@@ -67,7 +67,7 @@ both_apart told aside other = all-both IsAside IsOther IsApart (λ e one two. (o
 pub apart_weaker : (told : List Entry) → AreUnrelated told → AreApart told
 apart_weaker told unrelated = all-weaker IsUnrelated IsApart (λ e is. (is.0, is.1.1)) told unrelated
 
-given_answers : (b : Bool) (event : ChipEvent) → IsGiven event → IsUnanswered b event
+pub given_answers : (b : Bool) (event : ChipEvent) → IsGiven event → IsUnanswered b event
 given_answers true event given = tt
 given_answers false (Judged item way) given = absurd given
 given_answers false event given = tt

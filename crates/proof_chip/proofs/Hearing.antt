@@ -74,12 +74,12 @@ handlers_many past number node payload home = by (frame_of past number) home
 again_ends : (course : Course) (past : List Entry) (number : ℕ) → repeats past ≡ true → ended_at course past (entry.Heard number) ≡ []
 again_ends course past number is = ap (λ (b : Bool). if b then [] else ended_by (status_heard past) (sent_as course past number)) is
 
-home_ends : (course : Course) (past : List Entry) (number : ℕ) → repeats past ≡ false → is_outward past number ≡ false → ended_at course past (entry.Heard number) ≡ []
+pub home_ends : (course : Course) (past : List Entry) (number : ℕ) → repeats past ≡ false → is_outward past number ≡ false → ended_at course past (entry.Heard number) ≡ []
 home_ends course past number is other =
     ap (λ (b : Bool). if b then [] else ended_by (status_heard past) (sent_as course past number)) is
     ∙ ap (λ (b : Bool). ended_by (status_heard past) (if b then filter (λ (sending : Sending). sending.frame == number) (last_sending course past) else [])) other
 
-home_fate : (past : List Entry) (number : ℕ) → repeats past ≡ false → first_fate past (entry.Heard number) ≡ number ∷ []
+pub home_fate : (past : List Entry) (number : ℕ) → repeats past ≡ false → first_fate past (entry.Heard number) ≡ number ∷ []
 home_fate past number is = ap (λ (b : Bool). if b then [] else number ∷ []) is
 
 again_fate : (past : List Entry) (number : ℕ) → repeats past ≡ true → first_fate past (entry.Heard number) ≡ []
@@ -87,7 +87,7 @@ again_fate past number is = ap (λ (b : Bool). if b then [] else number ∷ []) 
 
 -- ---- outside the host
 
-heard_rests : (o : OuterState) (node : ℕ) (payload : List ℕ) → Rests o (chip_does o (chip_hears node payload)).outer
+pub heard_rests : (o : OuterState) (node : ℕ) (payload : List ℕ) → Rests o (chip_does o (chip_hears node payload)).outer
 unfolding chip_does
 heard_rests o node payload =
     let got = each_rests _ (with_chip o (after o.chip.state (chip_hears node payload))) (queued_leaves o.chip.state.port.side.turn o.chip.state.port _) in record { calls = got.calls; due = got.due; air = got.air }

@@ -108,7 +108,7 @@ does_clock o e = ap (λ (t : Bool × Bool × ℕ). t.2) (does_time o e)
 
 -- ---- an item that answers no frame
 
-quiet_rests : (o : OuterState) (item : Item) (route : Option Route) → IsUnanswered (collides o.chip.state) (Judged item route) → Rests o (chip_does o (Judged item route)).outer
+pub quiet_rests : (o : OuterState) (item : Item) (route : Option Route) → IsUnanswered (collides o.chip.state) (Judged item route) → Rests o (chip_does o (Judged item route)).outer
 unfolding chip_does
 quiet_rests o item route none =
     let e : ChipEvent = Judged item route in
@@ -327,7 +327,7 @@ frames_more : (past rest : List Entry) → AllByRecursion IsMore rest → frames
 frames_more past rest more = shown-append frame_at past (answer ∷ rest) ∙ (ap (λ (l : List AirFrame). frames past ++ l) (more_frames rest more) ∙ append-nil (frames past))
 
 -- a node to which a SendData is taken has a place
-taken_within : (s : ChipState) (node : ℕ) (payload : List ℕ) → length s.joined ≡ 233 → takes_of s node payload ≡ true → node < 233
+pub taken_within : (s : ChipState) (node : ℕ) (payload : List ℕ) → length s.joined ≡ 233 → takes_of s node payload ≡ true → node < 233
 taken_within s node payload places takes_it = by (cases_lt node (length s.joined))
   where
     joined : (a b : Bool) → is_idle s.sending ≡ a → is_marked s.joined node ≡ b → takes_of s node payload ≡ true → is_marked s.joined node ≡ true
@@ -360,13 +360,13 @@ module _ (devices : List State) (laws : Laws) (did : List Step) (past : List Ent
   abbrev v : Outlook
   v = outlook o
 
-  state_is : p.chip.state ≡ requested (asked_of f) s
+  pub state_is : p.chip.state ≡ requested (asked_of f) s
   state_is = does_chip o e ∙ ap (λ (b : Bool). judged_frame (passed b (Good (Framed f))) s) free
 
   sends : SendsSo s (is_some p.chip.state.sending) (asked_of f)
   sends = subst (λ (x : ChipState). SendsSo s (is_some x.sending) (asked_of f)) (sym state_is) (sends_so s (asked_of f))
 
-  shows : Shows s from (asked_of f) (chip_does o e)
+  pub shows : Shows s from (asked_of f) (chip_does o e)
   unfolding chip_does
   shows = subst (λ (l : List ChipOut). Shows s from (asked_of f) (each put_out from l)) (sym (answered_outs o.chip.state f route free)) (shows_of s from (asked_of f) route)
 
@@ -540,7 +540,7 @@ module _ (devices : List State) (laws : Laws) where
       Now devices false (did ++ link_steps o.chip.state (Judged i route)) (past ++ (chip_does o (Judged i route)).entries) (chip_does o (Judged i route)).outer
       × Puts (past ++ (chip_does o (Judged i route)).entries) (chip_does o (Judged i route)).outer
 
-  one_item : (did : List Step) (past : List Entry) (o : OuterState) (item : Item) (route : Option Route) → ItemsSo devices did past o → Puts past o → Now devices false did past o
+  pub one_item : (did : List Step) (past : List Entry) (o : OuterState) (item : Item) (route : Option Route) → ItemsSo devices did past o → Puts past o → Now devices false did past o
       → Now devices false (did ++ link_steps o.chip.state (Judged item route)) (past ++ (chip_does o (Judged item route)).entries) (chip_does o (Judged item route)).outer
       × Puts (past ++ (chip_does o (Judged item route)).entries) (chip_does o (Judged item route)).outer
   one_item did past o item route items puts so = by (decided (collides o.chip.state) item route)
@@ -586,7 +586,7 @@ module _ (devices : List State) (laws : Laws) where
 
   -- ---- all of it, with the number of the tick
 
-  number_puts : (b : Bool) (clock : ℕ) (past : List Entry) (o : OuterState) → Puts past o → Puts (past ++ (if b then entry.Time clock ∷ [] else [])) o
+  pub number_puts : (b : Bool) (clock : ℕ) (past : List Entry) (o : OuterState) → Puts past o → Puts (past ++ (if b then entry.Time clock ∷ [] else [])) o
   number_puts b clock past o puts = record {
     log = puts.log;
     fly = puts.fly;

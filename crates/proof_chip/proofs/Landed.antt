@@ -82,12 +82,12 @@ sends_plain true air node way replies other = answers_plain air node way replies
 sends_plain false air node way replies other = tt
 
 -- behind the hearing
-abbrev done_by : AirState → ℕ → Option Route → State → DeviceEvent → List AirEvent
+abbrev pub done_by : AirState → ℕ → Option Route → State → DeviceEvent → List AirEvent
 done_by air node route device event =
     changed node (length device.journal) (length (device_after device event).journal - length device.journal)
     ++ answers_if (is_joined air node) air node (option_map backwards route) (device_replies device event)
 
-done_plain : (air : AirState) (node : ℕ) (route : Option Route) (device : State) (event : DeviceEvent) → NotHome air → ArePlain (done_by air node route device event)
+pub done_plain : (air : AirState) (node : ℕ) (route : Option Route) (device : State) (event : DeviceEvent) → NotHome air → ArePlain (done_by air node route device event)
 done_plain air node route device event home =
     all-append _ (changed node (length device.journal) (length (device_after device event).journal - length device.journal))
     (answers_if (is_joined air node) air node (option_map backwards route) (device_replies device event))
@@ -95,7 +95,7 @@ done_plain air node route device event home =
     (sends_plain (is_joined air node) air node (option_map backwards route) (device_replies device event) (other_node air node home))
 
 -- there is a device where one listens
-none_listens : (there : List State) (found : Option ℕ) (place : ℕ) → awake_at there found ≡ Some place → slice_get there place ≡ None → ⊥
+pub none_listens : (there : List State) (found : Option ℕ) (place : ℕ) → awake_at there found ≡ Some place → slice_get there place ≡ None → ⊥
 none_listens there None place is none = cc
 none_listens there (Some at) place is none = by (is_awake (slice_get there at)) refl is
   where
@@ -145,35 +145,35 @@ apart_at (Goes first ∷ log) zero one apart is = let same : first ≡ one = cc 
 apart_at (Goes first ∷ log) (suc at) one apart is = apart_at log at one apart.1 is
 
 module _ (past : List Entry) (w : Outside) (tie : Tie nothing past w) where
-  none_at : (at : ℕ) (frame : Flown) → slice_get (stamped [] tie.log) at ≡ Some frame → frame.heading ≡ Outward → handlers_at past (entry.Heard (suc at)) ≡ []
+  pub none_at : (at : ℕ) (frame : Flown) → slice_get (stamped [] tie.log) at ≡ Some frame → frame.heading ≡ Outward → handlers_at past (entry.Heard (suc at)) ≡ []
   none_at at frame is heads =
       let went = went_so past w tie at frame is in
       ap (λ (found : Option AirFrame). flat_map handler_of (listed found)) (at_its_place past at)
       ∙ none_handled (slice_get (frames past) at) (plain went.departs) (shown_so past w tie at frame is) (went.heading ∙ heads)
 
-  home_at : (at : ℕ) (frame : Flown) → slice_get (stamped [] tie.log) at ≡ Some frame → frame.heading ≡ Homeward → is_outward past (suc at) ≡ false
+  pub home_at : (at : ℕ) (frame : Flown) → slice_get (stamped [] tie.log) at ≡ Some frame → frame.heading ≡ Homeward → is_outward past (suc at) ≡ false
   home_at at frame is heads =
       let went = went_so past w tie at frame is in
       ap own (at_its_place past at)
       ∙ not_own (slice_get (frames past) at) (plain went.departs) (shown_so past w tie at frame is) (went.heading ∙ heads) (apart_at tie.log at went.departs tie.apart went.there)
 
-plus_one : (n : ℕ) → suc n ≡ n + 1
+pub plus_one : (n : ℕ) → suc n ≡ n + 1
 plus_one n = omega arith
 
 -- where other entries show the same frames
-abbrev SameFrames : List Entry → List Entry → Type 0
+abbrev pub SameFrames : List Entry → List Entry → Type 0
 SameFrames here past = frames here ≡ frames past
 
 abbrev found_in : List AirFrame → ℕ → Option AirFrame
 found_in all number = if nat_lt 0 number then slice_get all (number - 1) else None
 
-same_handlers : (here past : List Entry) → SameFrames here past → (number : ℕ) → handlers_at here (entry.Heard number) ≡ handlers_at past (entry.Heard number)
+pub same_handlers : (here past : List Entry) → SameFrames here past → (number : ℕ) → handlers_at here (entry.Heard number) ≡ handlers_at past (entry.Heard number)
 same_handlers here past same number = ap (λ (all : List AirFrame). flat_map handler_of (listed (found_in all number))) same
 
-same_outward : (here past : List Entry) → SameFrames here past → (number : ℕ) → is_outward here number ≡ is_outward past number
+pub same_outward : (here past : List Entry) → SameFrames here past → (number : ℕ) → is_outward here number ≡ is_outward past number
 same_outward here past same number = ap (λ (all : List AirFrame). own (found_in all number)) same
 
-same_home : (here past : List Entry) → SameFrames here past → (number node : ℕ) (payload : List ℕ) → IsHome past number node payload → IsHome here number node payload
+pub same_home : (here past : List Entry) → SameFrames here past → (number node : ℕ) (payload : List ℕ) → IsHome past number node payload → IsHome here number node payload
 same_home here past same number node payload home = ap (λ (all : List AirFrame). homeward (found_in all number)) same ∙ home
 
 -- ---- the next frame arrives
@@ -358,7 +358,7 @@ module _ (devices : List State) (laws : Laws) (past : List Entry) (w : Outside) 
 
 -- ---- a frame is heard again
 
-refusal_apart : (w : Outside) (refused : RepeatRefusal) (step : mesh.AirStep) → AreUnrelated (repeats w (Some refused) step).entries
+pub refusal_apart : (w : Outside) (refused : RepeatRefusal) (step : mesh.AirStep) → AreUnrelated (repeats w (Some refused) step).entries
 refusal_apart w NeverSent step = ((tt, (tt, tt)), tt)
 refusal_apart w Forgotten step = ((tt, (tt, tt)), tt)
 refusal_apart w (Stale later) step = ((tt, (tt, tt)), tt)

@@ -1,60 +1,60 @@
-mod Picking
+pub mod Picking
 mod Dropping
 mod Submitting
 mod Posting
-mod Telling
-mod Growing
-mod Walking
-mod Ending
-mod Covering
-mod Ordering
+pub mod Telling
+pub mod Growing
+pub mod Walking
+pub mod Ending
+pub mod Covering
+pub mod Ordering
 mod Agreeing
-mod Airing
-mod Quieting
+pub mod Airing
+pub mod Quieting
 mod Judging
-mod Taking
+pub mod Taking
 mod Turning
-mod Standing
-mod Replying
-mod Tallying
-mod Numbering
-mod Owing
-mod Answered
-mod Requesting
-mod Passing
-mod Settling
-mod Payloads
-mod Judged
-mod Asides
-mod Tallied
-mod Resting
-mod Giving
+pub mod Standing
+pub mod Replying
+pub mod Tallying
+pub mod Numbering
+pub mod Owing
+pub mod Answered
+pub mod Requesting
+pub mod Passing
+pub mod Settling
+pub mod Payloads
+pub mod Judged
+pub mod Asides
+pub mod Tallied
+pub mod Resting
+pub mod Giving
 mod Stamped
-mod Hearing
-mod Finishing
-mod Arriving
-mod Totals
-mod Replied
-mod Leaving
+pub mod Hearing
+pub mod Finishing
+pub mod Arriving
+pub mod Totals
+pub mod Replied
+pub mod Leaving
 mod Bringing
-mod Going
+pub mod Going
 mod Homing
 mod Following
-mod Beginning
-mod Staying
+pub mod Beginning
+pub mod Staying
 mod Acting
-mod Keeping
-mod Judges
-mod Items
-mod Mild
+pub mod Keeping
+pub mod Judges
+pub mod Items
+pub mod Mild
 pub mod Airs
 mod Members
 mod Grounds
-mod Served
-mod Landed
-mod Tallies
-mod Calling
-mod Steady
+pub mod Served
+pub mod Landed
+pub mod Tallies
+pub mod Calling
+pub mod Steady
 mod CallWalk
 pub use Rattle.proof_line.proofs.HeldRecords
 pub use Rattle.proof_line.proofs.FactsKept

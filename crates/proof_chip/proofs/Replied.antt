@@ -38,7 +38,7 @@ use Rattle.proof_chip.proofs.Totals.{IsApartFrom, WasAsked, elsewhere, ends_one,
 -- ---- the SendData under way
 
 -- the only one that is not over is under way, where the chip has one
-under_all : (parts : SendingParts) (clock : ℕ) (last : List Sending) → AreSending (Some parts) (in_tick clock last) → (one : Sending) → last ≡ one ∷ [] → in_tick clock last ≡ last
+pub under_all : (parts : SendingParts) (clock : ℕ) (last : List Sending) → AreSending (Some parts) (in_tick clock last) → (one : Sending) → last ≡ one ∷ [] → in_tick clock last ≡ last
 under_all parts clock last (first, alone, node, id) one is =
     ap (λ (l : List Sending). in_tick clock l) is ∙ (by (one.clock == clock) (sym (ap (λ (l : List Sending). in_tick clock l) is) ∙ alone) ∙ sym is)
   where

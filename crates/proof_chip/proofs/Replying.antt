@@ -143,8 +143,8 @@ module _ (devices : List State) (course : Course) (past : List Entry) where
       by None = refl
       by (Some request) = many_given s under request
 
-module _ (devices : List State) (course : Course) (past : List Entry) (s : ChipState) (ties : TieNodes devices course past s) (under : AreSending s.sending (under_way course past))
-    (agree : (node : ℕ) (payload : List ℕ) → takes_of s node payload ≡ takes past (under_way course past) node payload) where
+module _ (devices : List State) (course : Course) (past : List Entry) (s : ChipState) (ties : TieNodes devices course past s) (under : AreSending s.sending (under_way course past)) (f : FrameParts)
+    (agree : (node : ℕ) (payload : List ℕ) (options id : ℕ) → asked_of f ≡ Some (SendData node payload options id) → takes_of s node payload ≡ takes past (under_way course past) node payload) where
   -- what the answer to a request gives, by the transcript
   abbrev replies : Request → List Given
   replies request = map (λ (response : Response). Frame (response_frame response)) (response_to devices course past request) ++ map callback_of (aborted_by course past request)
@@ -165,30 +165,30 @@ module _ (devices : List State) (course : Course) (past : List Entry) (s : ChipS
       ∙ ap (λ (n : ℕ). Frame (notice_frame (SendDataCallback n Fail)) ∷ []) (sym id)
       ∙ ap (λ (l : List Sending). map callback_of (ended_by Fail l)) (sym alone)
 
-  replies_same : (request : Request) → as_given (listed_of (reply_to s request)) ≡ replies request
-  replies_same GetInitData =
+  replies_same : (request : Request) → asked_of f ≡ Some request → as_given (listed_of (reply_to s request)) ≡ replies request
+  replies_same GetInitData is =
       ap (λ (l : List ℕ). Frame (response_frame (answers.GetInitData 5 0 l 7 0)) ∷ [])
       (marked_same (λ (n : ℕ). nat_eq n 1 || is_marked s.joined n) (λ (n : ℕ). (n == controller) || is_joined past n) (λ n. ap (λ (b : Bool). nat_eq n 1 || b) (ties.joined n)))
-  replies_same GetCapabilities = ap (λ (l : List ℕ). Frame (response_frame (answers.GetCapabilities 1 0 0 0 0 l)) ∷ []) mask_is
-  replies_same (SendData node payload options id) = ap (λ (b : Bool). Frame (response_frame (answers.SendData (if b then 1 else 0))) ∷ []) (agree node payload)
-  replies_same GetVersion = ap (λ (l : List ℕ). Frame (response_frame (answers.GetVersion l 1)) ∷ []) version_is
-  replies_same SendDataAbort = aborts s.sending refl under
-  replies_same MemoryGetId = refl
-  replies_same (GetNodeProtocolInfo node) = ap (λ (b : Bool). Frame (response_frame (answers.GetNodeProtocolInfo (if b then 128 else 0) 0 0 4 0 0)) ∷ []) (capable node)
-  replies_same (AddNode mode id) = refl
-  replies_same (RequestNodeInfo node) = refl
-  replies_same (IsFailedNode node) = ap (λ (b : Bool). Frame (response_frame (answers.IsFailedNode b)) ∷ []) (ties.failing node)
-  replies_same (GetRoutingInfo node x y z) =
+  replies_same GetCapabilities is = ap (λ (l : List ℕ). Frame (response_frame (answers.GetCapabilities 1 0 0 0 0 l)) ∷ []) mask_is
+  replies_same (SendData node payload options id) is = ap (λ (b : Bool). Frame (response_frame (answers.SendData (if b then 1 else 0))) ∷ []) (agree node payload options id is)
+  replies_same GetVersion is = ap (λ (l : List ℕ). Frame (response_frame (answers.GetVersion l 1)) ∷ []) version_is
+  replies_same SendDataAbort is = aborts s.sending refl under
+  replies_same MemoryGetId is = refl
+  replies_same (GetNodeProtocolInfo node) is = ap (λ (b : Bool). Frame (response_frame (answers.GetNodeProtocolInfo (if b then 128 else 0) 0 0 4 0 0)) ∷ []) (capable node)
+  replies_same (AddNode mode id) is = refl
+  replies_same (RequestNodeInfo node) is = refl
+  replies_same (IsFailedNode node) is = ap (λ (b : Bool). Frame (response_frame (answers.IsFailedNode b)) ∷ []) (ties.failing node)
+  replies_same (GetRoutingInfo node x y z) is =
       ap (λ (l : List ℕ). Frame (response_frame (answers.GetRoutingInfo l)) ∷ []) (marked_same (λ (n : ℕ). linked s.table node n) (are_linked (chip_links past) node) (λ n. ties.hears node n))
 
   -- ---- all that is given at the answer
 
-  pub reply_given : (f : FrameParts) → slice_get course.passed (acks past) ≡ Some f → given_at devices course past answer ≡ as_given (listed_of (reply_if s (asked_of f)))
-  reply_given f passed = given_is devices course past f passed ∙ sym (by (asked_of f))
+  pub reply_given : slice_get course.passed (acks past) ≡ Some f → given_at devices course past answer ≡ as_given (listed_of (reply_if s (asked_of f)))
+  reply_given passed = given_is devices course past f passed ∙ sym (by (asked_of f) refl)
     where
-      by : (o : Option Request) → as_given (listed_of (reply_if s o)) ≡ given_by devices course past (listed_of o)
-      by None = refl
-      by (Some request) =
-          replies_same request
+      by : (o : Option Request) → asked_of f ≡ o → as_given (listed_of (reply_if s o)) ≡ given_by devices course past (listed_of o)
+      by None is = refl
+      by (Some request) is =
+          replies_same request is
           ∙ ap₂ (λ (a : List Response) (b : List Called). map (λ (response : Response). Frame (response_frame response)) a ++ map callback_of b)
           (sym (append-nil (response_to devices course past request))) (sym (append-nil (aborted_by course past request)))

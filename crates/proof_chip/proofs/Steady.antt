@@ -77,7 +77,7 @@ hosts_chip w (Host_notes note) is = refl
 hosts_chip w (Host_begins node sessions) is = refl
 hosts_chip w event is = absurd is
 
-hosts_stay : (w : Outside) (event : OuterEvent) → IsHosts event → Stays w.outer (outcome w event).outer
+pub hosts_stay : (w : Outside) (event : OuterEvent) → IsHosts event → Stays w.outer (outcome w event).outer
 unfolding outcome
 hosts_stay w (Host_writes unit) is = record { calls = refl; due = refl; numbers = refl }
 hosts_stay w (Host_takes count) is = record { calls = refl; due = refl; numbers = refl }
@@ -85,7 +85,7 @@ hosts_stay w (Host_notes note) is = record { calls = refl; due = refl; numbers =
 hosts_stay w (Host_begins node sessions) is = record { calls = refl; due = refl; numbers = begins_numbers w.outer.air node sessions }
 hosts_stay w event is = absurd is
 
-hosts_within : (event : OuterEvent) → IsHosts event → IsWithin event
+pub hosts_within : (event : OuterEvent) → IsHosts event → IsWithin event
 hosts_within (Host_writes unit) is = tt
 hosts_within (Host_takes count) is = tt
 hosts_within (Host_notes note) is = tt
@@ -126,7 +126,7 @@ module _ (laws : Laws) (none : NoNexting) (past : List Entry) (w : Outside) (tie
   hand_stays None event route = record { calls = refl; due = refl; numbers = refl }
   hand_stays (Some place) event route = at_stays (slice_get w.devices place) event route
 
-  steady_stays : (event : OuterEvent) → IsSteady event → Stays w.outer (outcome w event).outer
+  pub steady_stays : (event : OuterEvent) → IsSteady event → Stays w.outer (outcome w event).outer
   unfolding outcome all_pairs
   steady_stays (Device_ticks place drawn route) steady = at_stays (slice_get w.devices place) (Ticks drawn) route
   steady_stays Chip_ticks steady = chip_ticks_stay w.outer
@@ -150,7 +150,7 @@ module _ (laws : Laws) (none : NoNexting) (past : List Entry) (w : Outside) (tie
   steady_stays (Repeats number drawn route) steady = absurd steady
   steady_stays event steady = record { calls = refl; due = refl; numbers = refl }
 
-  steady_mild : (event : OuterEvent) → IsSteady event → IsMild event
+  pub steady_mild : (event : OuterEvent) → IsSteady event → IsMild event
   steady_mild Begins_tick steady = absurd steady
   steady_mild (Chip_takes count rest ways) steady = absurd steady
   steady_mild (Arrives drawn route) steady = absurd steady

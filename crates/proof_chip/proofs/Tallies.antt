@@ -80,20 +80,20 @@ use Rattle.proof_chip.proofs.Tallied.{before_number_t, none_so, now_number_t, no
 use Rattle.proof_chip.proofs.Tallying.{before_next, before_over, now_said, now_ticks}
 
 -- between events where no results are to come
-abbrev NowSo : List State → List Step → List Entry → OuterState → Type 0
+abbrev pub NowSo : List State → List Step → List Entry → OuterState → Type 0
 NowSo devices did past o = TallySo (TallyNow devices (outlook o) (awaits_number o) 0) did past o.chip.state.port
 
 -- and in a tick before
-abbrev BeforeSo : List State → Bool → ℕ → List Step → List Entry → OuterState → Type 0
+abbrev pub BeforeSo : List State → Bool → ℕ → List Step → List Entry → OuterState → Type 0
 BeforeSo devices arriving left did past o = TallySo (TallyBefore devices (outlook o) arriving left (awaits_number o) 0) did past o.chip.state.port
 
 -- as many frames are shown as were sent
-many_sent : (past : List Entry) (w : Outside) → Tie nothing past w → length (frames past) ≡ w.outer.air.frames.sent
+pub many_sent : (past : List Entry) (w : Outside) → Tie nothing past w → length (frames past) ≡ w.outer.air.frames.sent
 many_sent past w tie = sym (frames_sent past) ∙ (ap goes_in (sym (tie.shown ∙ append-nil (log_of past))) ∙ (plain_sent tie.log ∙ sym tie.kept.sent))
 
 -- ---- events of the host
 
-host_covers : CoversHost IsHosts
+pub host_covers : CoversHost IsHosts
 host_covers = record { writes = λ unit. tt; takes = λ count. tt; notes = is_note }
 
 answers_covered : (h : HostState) (event : HostEvent) → AllByRecursion (λ (note : Entry). IsHosts (Host_notes note)) (answers h event)
@@ -101,22 +101,22 @@ answers_covered h (Accepts order carriage) = (tt, tt)
 answers_covered h (Cancels command) = (tt, tt)
 answers_covered h event = tt
 
-abbrev IsOfHost : Event → Type 0
+abbrev pub IsOfHost : Event → Type 0
 IsOfHost (Outside_does event) = ⊥
 IsOfHost event = Unit {0}
 
-covers_host : (event : Event) → IsOfHost event → CoversOuter IsHosts event
+pub covers_host : (event : Event) → IsOfHost event → CoversOuter IsHosts event
 covers_host (Outside_does event) is = absurd is
 covers_host event is = tt
 
-covers_answer : (event : Event) → IsOfHost event → CoversAnswer IsHosts event
+pub covers_answer : (event : Event) → IsOfHost event → CoversAnswer IsHosts event
 covers_answer (Outside_does event) is = absurd is
 covers_answer (Host_does event) is = λ h. answers_covered h event
 covers_answer (Refuses line refusal) is = tt
 covers_answer (Shows_values node) is = λ text. tt
 covers_answer event is = tt
 
-no_steps : (m : Machine) (event : Event) → IsOfHost event → event_steps m event ≡ []
+pub no_steps : (m : Machine) (event : Event) → IsOfHost event → event_steps m event ≡ []
 unfolding event_steps
 no_steps m (Outside_does event) is = absurd is
 no_steps m event is = refl
@@ -131,7 +131,7 @@ module _ (devices : List State) (did : List Step) where
   keeps_both : (w u v : Outside) (xs ys : List Entry) → Keeps w xs u → Keeps u ys v → Keeps w (xs ++ ys) v
   keeps_both w u v xs ys first later past so = subst (λ (l : List Entry). NowSo devices did l v.outer) (append_assoc past xs ys) (later (past ++ xs) (first past so))
 
-  hosts_keep : (w : Outside) (event : OuterEvent) → IsHosts event → Keeps w (entries_outside w event) (happens_outside w event)
+  pub hosts_keep : (w : Outside) (event : OuterEvent) → IsHosts event → Keeps w (entries_outside w event) (happens_outside w event)
   hosts_keep w event is past so =
       aside_now_t devices w.outer (outcome w event) did past (hosts_apart w event is) (ap (λ (s : ChipState). s.port.side) (hosts_chip w event is)) (ap (λ (s : ChipState). s.port.waiting) (hosts_chip w event is))
       (hosts_look w event is) (hosts_await w event is) so
@@ -152,7 +152,7 @@ module _ (devices : List State) (did : List Step) where
 
 -- ---- other events outside the host
 
-still_steps : (w : Outside) (event : OuterEvent) → IsStill event → outer_steps w event ≡ []
+pub still_steps : (w : Outside) (event : OuterEvent) → IsStill event → outer_steps w event ≡ []
 unfolding outer_steps
 still_steps w (Chip_takes count rest ways) still = absurd still
 still_steps w Chip_ticks still = absurd still
@@ -163,13 +163,13 @@ still_steps w (Repeats number drawn route) still = absurd still
 still_steps w event still = refl
 
 -- which of these an event of a line is
-data Kind (event : OuterEvent) : Type 0 where
+pub data Kind (event : OuterEvent) : Type 0 where
   Stays_still : IsStill event → IsSteady event → Kind event
   Ticks_chip : event ≡ Chip_ticks → Kind event
   Collides_it : event ≡ Collides_next → Kind event
   Repeats_one : (number : ℕ) (drawn : List ℕ) (route : Option Route) → event ≡ Repeats number drawn route → Kind event
 
-kind_of : (event : OuterEvent) → IsOfLine event → Kind event
+pub kind_of : (event : OuterEvent) → IsOfLine event → Kind event
 kind_of Begins_line is = absurd is
 kind_of Begins_tick is = absurd is
 kind_of (Host_writes unit) is = absurd is
@@ -184,7 +184,7 @@ kind_of Chip_ticks is = Ticks_chip refl
 kind_of Collides_next is = Collides_it refl
 kind_of event is = Stays_still tt tt
 
-unanswered : (b : Bool) (event : ChipEvent) → (event ≡ ticked_event) ⊎ (event ≡ Collides) → IsUnanswered b event
+pub unanswered : (b : Bool) (event : ChipEvent) → (event ≡ ticked_event) ⊎ (event ≡ Collides) → IsUnanswered b event
 unanswered true event is = tt
 unanswered false event (inl is) = subst (λ (e : ChipEvent). IsUnanswered false e) (sym is) tt
 unanswered false event (inr is) = subst (λ (e : ChipEvent). IsUnanswered false e) (sym is) tt
@@ -281,14 +281,14 @@ module _ (devices : List State) (laws : Laws) (none : NoNexting) (did : List Ste
       subst (λ (b : Bool). TallySo (TallyBefore devices (outlook p) true left b 0) now (past ++ (ticked_entry p ++ first ∷ told)) p.chip.state.port) (sym (no_more p.in_tick p.stamped))
       (subst (λ (l : List Entry). TallySo (TallyBefore devices (outlook p) true left false 0) now l p.chip.state.port) (append_assoc past (ticked_entry p) (first ∷ told)) so)
 
-  same_frames : (b : Bool) (clock : ℕ) → frames (past ++ (if b then entry.Time clock ∷ [] else [])) ≡ frames past
+  pub same_frames : (b : Bool) (clock : ℕ) → frames (past ++ (if b then entry.Time clock ∷ [] else [])) ≡ frames past
   same_frames b clock = shown-append frame_at past (if b then entry.Time clock ∷ [] else []) ∙ (ap (λ (l : List AirFrame). frames past ++ l) (by b) ∙ append-nil (frames past))
     where
       by : (c : Bool) → frames (if c then entry.Time clock ∷ [] else []) ≡ []
       by true = refl
       by false = refl
 
-  apart_here : (b : Bool) (clock : ℕ) → (b ≡ false → answers_repeat past ≡ false) → answers_repeat (past ++ (if b then entry.Time clock ∷ [] else [])) ≡ false
+  pub apart_here : (b : Bool) (clock : ℕ) → (b ≡ false → answers_repeat past ≡ false) → answers_repeat (past ++ (if b then entry.Time clock ∷ [] else [])) ≡ false
   apart_here true clock apart = number_apart past clock
   apart_here false clock apart = ap answers_repeat (append-nil past) ∙ apart refl
 
@@ -371,7 +371,7 @@ module _ (devices : List State) (laws : Laws) (none : NoNexting) (Ground : Phase
   host_now past m event is may so = host_goes devices did m event is may past so
 
   -- an event of the effect of a line
-  again_of : (line : Line) (left : List Event) (past : List Entry) (m : Machine) (number : ℕ) (drawn : List ℕ) (route : Option Route)
+  pub again_of : (line : Line) (left : List Event) (past : List Entry) (m : Machine) (number : ℕ) (drawn : List ℕ) (route : Option Route)
       → KnowLanding (Doing line (Outside_does (Repeats number drawn route) ∷ left)) past m → (answers_repeat past ≡ true) × (m.outside.outer.in_tick ≡ false)
   again_of line left past m number drawn route (inl one) = (ap is_repeat one.opened.0.last, one.opened.1)
   again_of line left past m number drawn route (inr (none_lands, landed)) = absurd none_lands.0

@@ -135,7 +135,7 @@ fate_no_tick : (e : Entry) → IsFate e → IsNoTick e
 fate_no_tick (entry.Time tick) fate = absurd fate
 fate_no_tick e fate = tt
 
-fate_other : (e : Entry) → IsFate e → IsOther e
+pub fate_other : (e : Entry) → IsFate e → IsOther e
 fate_other (entry.Heard number) fate = tt
 fate_other (entry.Lost number) fate = tt
 fate_other (entry.Unheard number) fate = tt
@@ -144,7 +144,7 @@ fate_other e fate = absurd fate
 fates_more : (past : List Entry) (e : Entry) → first_fates (past ++ e ∷ []) ≡ first_fates past ++ first_fate past e
 fates_more past e = shown_both first_fate [] past (e ∷ []) ∙ ap (λ (l : List ℕ). first_fates past ++ l) (append-nil (first_fate past e))
 
-fate_timed : (clock left : ℕ) (past : List Entry) (e : Entry) (number : ℕ) → IsFate e → first_fate past e ≡ number ∷ [] → Timed clock (suc left) false past → Timed clock left false (past ++ e ∷ [])
+pub fate_timed : (clock left : ℕ) (past : List Entry) (e : Entry) (number : ℕ) → IsFate e → first_fate past e ≡ number ∷ [] → Timed clock (suc left) false past → Timed clock left false (past ++ e ∷ [])
 fate_timed clock left past e number fate one timed = record {
   now = λ is. same_clock past (e ∷ []) (fate_untimed e fate, tt) ∙ timed.now refl;
   was = λ is. not_so is;

@@ -1,0 +1,30 @@
+-- At first the chip has nothing for its host.
+use Rattle.std.proofs.Common.{◌≡◌, ◌⊎◌, ◌≤◌, ◌<◌, ℕ, false, List, [], slice_index_or, replicate, refl, sym, subst, inl, inr}
+use Rattle.std.proofs.lemmas.Bool.{cases_lt}
+use Rattle.std.proofs.lemmas.List.{length-replicate, get_or-replicate, get_or_past}
+use Rattle.std.specs.Prelude.{Option}
+use Rattle.serial_link.specs.Rules.{SideObeys}
+use Rattle.s0_crypto.specs.declared.key_pair.Keys.{Keys}
+use Rattle.chip_sim.specs.Nodes.{none_marked}
+use Rattle.chip_sim.specs.Waiting.{no_port}
+use Rattle.outside_model.specs.Devices.{State}
+use Rattle.outside_model.specs.State.{first_outer}
+use Rattle.world_model.specs.State.{first_machine}
+use Rattle.proof_air.specs.proof_walk.Phases.{Between}
+use Rattle.proof_chip.proofs.Ending.{serves_none}
+use Rattle.proof_answers.specs.Telling.{KnowTells}
+
+none_are : (node : ℕ) → slice_index_or (replicate 233 false) node false ≡ false
+none_are node = by (cases_lt node 233)
+  where
+    by : (node < 233) ⊎ (233 ≤ node) → slice_index_or (replicate 233 false) node false ≡ false
+    by (inl within) = get_or-replicate 233 node false false within
+    by (inr past) = get_or_past (replicate 233 false) node false (subst (λ (n : ℕ). n ≤ node) (sym (length-replicate 233 false)) past)
+
+pub tells_first : (keys : Keys) (records : Option (List (List ℕ))) (devices : List State) → SideObeys [] no_port.port.side → KnowTells devices [] Between [] (first_machine keys records devices)
+unfolding first_outer none_marked
+tells_first keys records devices obeys = (
+  [],
+  serves_none (first_machine keys records devices).outside.outer.chip.state.port refl obeys,
+  λ later goes. record { turns = tt; tells = tt; owes = refl; under = tt; failing = record { places = length-replicate 233 false; same = none_are } },
+)
