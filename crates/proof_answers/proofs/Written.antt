@@ -39,11 +39,12 @@ use Rattle.proof_air.specs.proof_walk.Outside.{awaits_number}
 use Rattle.proof_air.specs.proof_walk.Time.{KnowTime}
 use Rattle.proof_air.specs.proof_walk.Walk.{Walk, WalkWhere}
 use Rattle.proof_air.specs.Landing.{KnowLanding}
-use Rattle.proof_line.specs.Linked.{began, did_at, said, CutsBy, Did, HasStarts, IsOrderly}
+use Rattle.proof_line.specs.Linked.{began, did_at, said, Cuts, Did, IsOrderly}
 use Rattle.proof_line.specs.proof_traffic.Links.{KeepsItsLink, host_link_steps}
 use Rattle.proof_line.proofs.ChipAccounts.{event_steps}
 use Rattle.proof_line.proofs.Arrivals.{NoNexting}
 use Rattle.proof_line.proofs.Parts.{Laws}
+use Rattle.proof_line.proofs.LinkEnds.{cuts_began}
 use Rattle.proof_line.proofs.LinkWalk.{event_knows, said_knows, said_steps, tick_none, turn_knows}
 use Rattle.proof_routes.specs.Networks.{Tie as Networks}
 use Rattle.proof_routes.specs.Knowing.{KnowNetworks}
@@ -54,12 +55,12 @@ use Rattle.proof_chip.specs.Calling.{KnowCalls}
 use Rattle.proof_chip.specs.Knowing.{AnyEntry}
 use Rattle.proof_chip.specs.Sending.{GroundAir, KnowAir}
 use Rattle.proof_chip.specs.Served.{KnowBeside}
-use Rattle.proof_chip.specs.Staying.{BeganSo}
+use Rattle.proof_chip.specs.Staying.{AreBegun, KnowStays}
 use Rattle.proof_chip.specs.Tally.{KnowTally}
 use Rattle.proof_chip.proofs.Airs.{event_goes, said_goes, turn_goes}
 use Rattle.proof_chip.proofs.Beginning.{all_there}
 use Rattle.proof_chip.proofs.Standing.{goes_none}
-use Rattle.proof_chip.proofs.Staying.{stays_event, stays_said, stays_turn}
+use Rattle.proof_chip.proofs.Staying.{stays_cut, stays_event, stays_said, stays_turn}
 use Rattle.proof_chip.proofs.Tallies.{at_waits, ended_waits, tally_event, tally_said, tally_turn}
 use Rattle.proof_chip.proofs.Walking.{any_each}
 use Rattle.proof_answers.specs.Answered.{AnswersByLink, KnowAnswering, KnowGround}
@@ -173,7 +174,7 @@ module _ (devices : List State) (laws : Laws) (none : NoNexting) (Asks : List En
               event_knows each units opened_keeps did here next past m event goes may orderly cuts,
               got.0,
               got.1,
-              stays_event devices did here next past m event goes may (time here past m known.0) cuts tally stays,
+              stays_event devices did here next past m event goes may cuts tally stays,
               got.2,
             ),
           ),
@@ -200,51 +201,53 @@ turns_at devices o frames course past (Arriving left ticks) tells = tells.turns
 turns_at devices o frames course past (Giving results ticks) tells = tells.turns
 turns_at devices o frames course past here tells = tells.turns
 
-module _ (devices : List State) (did : List Step) (here : Phase) (past : List Entry) (m : Machine) (known : KnowAir devices did here past m) (tally : KnowTally devices did here past m)
-    (tells : KnowTells devices did here past m) where
-  kept : EachAfter (MayAir devices (course_of did)) [] past
-  kept = let (frames, serves, brings, keeps) = known.0 in (keeps (course_of did) (goes_none (course_of did))).so
+module _ (devices : List State) (did : Did) (here : Phase) (past : List Entry) (m : Machine) (known : KnowAir devices did.steps here past m) (tally : KnowTally devices did.steps here past m)
+    (tells : KnowTells devices did.steps here past m) where
+  kept : EachAfter (MayAir devices (course_of did.steps)) [] past
+  kept = let (frames, serves, brings, keeps) = known.0 in (keeps (course_of did.steps) (goes_none (course_of did.steps))).so
 
-  brought : (course : Course) → course ≡ course_of did → BringsInOrder course past
+  brought : (course : Course) → course ≡ course_of did.steps → BringsInOrder course past
   brought course same =
-      let (frames, serves, brings, keeps) = known.0 in subst (λ (c : Course). BringsInOrder c past) (sym same) (brings.turns (course_of did) (goes_none (course_of did)))
+      let (frames, serves, brings, keeps) = known.0 in subst (λ (c : Course). BringsInOrder c past) (sym same) (brings.turns (course_of did.steps) (goes_none (course_of did.steps)))
 
-  drops_so : (course : Course) → course ≡ course_of did → (all : List Entry) → EachAfter (MayWait devices (course_of did)) [] all → EachAfter (MayWait devices course) [] all
+  drops_so : (course : Course) → course ≡ course_of did.steps → (all : List Entry) → EachAfter (MayWait devices (course_of did.steps)) [] all → EachAfter (MayWait devices course) [] all
   drops_so course same all waits = subst (λ (c : Course). EachAfter (MayWait devices c) [] all) (sym same) waits
 
-  answers : (course : Course) → course ≡ course_of did → EachAfter (MayAnswer devices course) [] past
+  answers : (course : Course) → course ≡ course_of did.steps → EachAfter (MayAnswer devices course) [] past
   answers course same =
       let (frames, serves, are) = tells in
-      subst (λ (c : Course). EachAfter (MayAnswer devices c) [] past) (sym same) (turns_at devices m.outside.outer frames (course_of did) past here (are (course_of did) (goes_none (course_of did))))
+      subst (λ (c : Course). EachAfter (MayAnswer devices c) [] past) (sym same)
+      (turns_at devices m.outside.outer frames (course_of did.steps) past here (are (course_of did.steps) (goes_none (course_of did.steps))))
 
-  pub answers_cut : CutsBy did past → AnswersByLink false devices past
-  answers_cut cuts = record {
-    airs = record {
-      link = cuts.links.chip;
-      airs = subst (λ (course : Course). EachAfter (MayAir devices course) [] past) (sym cuts.course) kept;
-      brings = brought _ cuts.course;
-      drops = drops_so _ cuts.course past (at_waits devices did past m.outside.outer here tally.0 (course_of did) (goes_none (course_of did)));
-      waits = tt;
-    };
-    answers = answers _ cuts.course;
-  }
+  pub answers_cut : Cuts did past → KnowStays devices did here past m → AnswersByLink false devices past
+  answers_cut cuts stays =
+      let all : Cuts (began did) past = cuts_began did past cuts in
+      record {
+        airs = record {
+          link = all.links.chip;
+          airs = subst (λ (course : Course). EachAfter (MayAir devices course) [] past) (sym all.course) kept;
+          brings = brought _ all.course;
+          drops = drops_so _ all.course past (at_waits devices did.steps past m.outside.outer here tally.0 (course_of did.steps) (goes_none (course_of did.steps)));
+          waits = all_there devices (began did) past all (stays_cut devices did here past m stays);
+        };
+        answers = answers _ all.course;
+      }
 
 -- where the run is over
 module _ (devices : List State) (did : Did) (past : List Entry) (m : Machine) (known : KnowAir devices did.steps Between past m) (tally : KnowTally devices did.steps Between past m)
     (tells : KnowTells devices did.steps Between past m) where
-  pub answers_whole : (cuts : CutsBy did.steps (past ++ Said [] ∷ [])) → HasStarts (past ++ Said [] ∷ []) cuts.links.chip.parts (began did).starts → EachAfter (BeganSo devices (began did)) [] (past ++ Said [] ∷ [])
-      → AnswersByLink true devices past
-  answers_whole cuts has stays = record {
+  pub answers_whole : Cuts (began did) (past ++ Said [] ∷ []) → AreBegun devices (began did) (past ++ Said [] ∷ []) → AnswersByLink true devices past
+  answers_whole cuts stays = record {
     airs = record {
       link = cuts.links.chip;
       airs =
           let (frames, serves, brings, keeps) = known.0 in
           subst (λ (course : Course). EachAfter (MayAir devices course) [] (past ++ Said [] ∷ [])) (sym cuts.course)
-          (each-append (MayAir devices (course_of did.steps)) [] past (Said [] ∷ []) (kept devices did.steps Between past m known tally tells) ((keeps (course_of did.steps) (goes_none (course_of did.steps))).over, tt));
-      brings = brought devices did.steps Between past m known tally tells _ cuts.course;
-      drops = drops_so devices did.steps Between past m known tally tells _ cuts.course (past ++ Said [] ∷ [])
+          (each-append (MayAir devices (course_of did.steps)) [] past (Said [] ∷ []) (kept devices did Between past m known tally tells) ((keeps (course_of did.steps) (goes_none (course_of did.steps))).over, tt));
+      brings = brought devices did Between past m known tally tells _ cuts.course;
+      drops = drops_so devices did Between past m known tally tells _ cuts.course (past ++ Said [] ∷ [])
           (ended_waits devices did.steps past m.outside.outer tally.0 (course_of did.steps) (goes_none (course_of did.steps)));
-      waits = all_there devices (began did) (past ++ Said [] ∷ []) cuts.links.chip.parts cuts.links.chip.each has cuts.course stays;
+      waits = all_there devices (began did) (past ++ Said [] ∷ []) cuts stays;
     };
-    answers = answers devices did.steps Between past m known tally tells _ cuts.course;
+    answers = answers devices did Between past m known tally tells _ cuts.course;
   }

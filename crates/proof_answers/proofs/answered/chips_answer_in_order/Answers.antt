@@ -19,14 +19,14 @@ use Rattle.proof_air.specs.Landing.{KnowLanding}
 use Rattle.proof_routes.specs.Knowing.{KnowNetworks}
 use Rattle.proof_line.specs.Linked.{IsOrderly}
 use Rattle.proof_line.proofs.LinkSome.{lines_orderly}
-use Rattle.proof_line.proofs.LinkWalk.{ended_known, ended_starts, links_first, nothing_did}
+use Rattle.proof_line.proofs.LinkWalk.{ended_known, links_first, nothing_did}
 use Rattle.proof_line.proofs.Parts.{Laws}
 use Rattle.proof_chip.specs.Calling.{KnowCalls}
 use Rattle.proof_chip.specs.Knowing.{AnyEntry}
 use Rattle.proof_chip.specs.Served.{KnowBeside, KnowMembers}
 use Rattle.proof_chip.proofs.Airs.{air_first}
 use Rattle.proof_chip.proofs.Served.{ground_air}
-use Rattle.proof_chip.proofs.Staying.{none_awaits, stays_ended, stays_first}
+use Rattle.proof_chip.proofs.Staying.{stays_ended}
 use Rattle.proof_chip.proofs.Tallies.{tally_first}
 use Rattle.proof_devices.specs.Acks.{KnowAcks}
 use Rattle.proof_devices.specs.Answering as lives
@@ -147,13 +147,13 @@ returns-clause-cut c = λ keys devices lines are.
         links_first keys (Some []) devices (obey.first keys),
         air_first keys (Some []) devices rules,
         tally_first keys (Some []) devices rules,
-        stays_first devices m (none_awaits keys (Some []) devices) nothing_did,
+        tt,
         tells_first keys (Some []) devices rules,
       ),
     ) in
     let known = where_lead IsOrderly AnyEntry (KnowAnswering devices) walk [] m lines are orderly first in
     let (did, cuts, airs, tally, stays, tells) = known.1.1 in
-    answers_cut devices did.steps known.0 (transcript_of m lines) (after_all m lines) airs tally tells cuts.0
+    answers_cut devices did known.0 (transcript_of m lines) (after_all m lines) airs tally tells cuts.0 stays
 
 pub returns-clause-whole : goal.returns-clause-whole
 returns-clause-whole c = λ keys devices lines are whole.
@@ -193,7 +193,7 @@ returns-clause-whole c = λ keys devices lines are whole.
         links_first keys (Some []) devices (obey.first keys),
         air_first keys (Some []) devices rules,
         tally_first keys (Some []) devices rules,
-        stays_first devices m (none_awaits keys (Some []) devices) nothing_did,
+        tt,
         tells_first keys (Some []) devices rules,
       ),
     ) in
@@ -201,5 +201,5 @@ returns-clause-whole c = λ keys devices lines are whole.
     let time = known.0.0.0.0.0.0.0.1 in
     let (did, cuts, airs, tally, stays, tells) = known.1 in
     answers_whole devices did (transcript_of m lines) (after_all m lines) airs tally tells
-    (ended_known did (transcript_of m lines) (after_all m lines) time cuts) (ended_starts did (transcript_of m lines) (after_all m lines) time cuts)
+    (ended_known did (transcript_of m lines) (after_all m lines) time cuts)
     (stays_ended devices did (transcript_of m lines) (after_all m lines) time cuts tally stays)
