@@ -5,6 +5,8 @@ use Rattle.std.specs.Prelude.{◌||◌, Option, Some, None, option_map, slice_ge
 use Rattle.std.specs.Option.{is_none, unwrap_or}
 use Rattle.std.specs.List.{AllByRecursion}
 use Rattle.zw_base.proofs.Each.{all-append, all-get, all-weaker}
+use Rattle.zw_text.specs.declared.line.Line.{Line}
+use Rattle.zw_text.specs.Transcript.{line_of}
 use Rattle.zw_text.specs.declared.entry.Entry.{Entry}
 use Rattle.zw_text.specs.declared.entry.Entry.TheVariants as entry
 use Rattle.serial_frame.specs.Frame.{FrameParts}
@@ -47,7 +49,7 @@ use Rattle.world_model.specs.State.{Machine}
 use Rattle.proof_device.specs.GoingOn.{AreSame, GoOn}
 use Rattle.proof_work.specs.Phases.{AsksNothing}
 use Rattle.proof_work.specs.proof_walk.Outside.{CoversOuter}
-use Rattle.proof_work.specs.proof_walk.Phases.{Phase, Between, Said_line, Begun, Doing, To_tick, Ticked, Arriving, Giving, Ticking_devices, Ticking_chip, Ticking_decoder, Ticking_host, Sleeping, Submitting, Moving, Moved, Goes}
+use Rattle.proof_work.specs.proof_walk.Phases.{Phase, Between, Said_line, Begun, Doing, To_tick, Ticked, Arriving, Giving, Ticking_devices, Ticking_chip, Ticking_decoder, Ticking_host, Sleeping, Submitting, Moving, Moved, Goes, Turns}
 use Rattle.proof_work.specs.proof_walk.Walk.{Walk, WalkWhere}
 use Rattle.proof_work.proofs.Times.{does_chip}
 use Rattle.proof_traffic.specs.Flights.{Fly, flown_now}
@@ -70,7 +72,7 @@ use Rattle.proof_calm.proofs.Routed.{judged_of}
 use Rattle.proof_calm.proofs.Unmarked.{nothing_asked}
 use Rattle.proof_answered.specs.Few.{IsStretched, Knows}
 use Rattle.proof_answered.specs.Heard.{AllSayHeard, IsHeardThen, KnowHeard}
-use Rattle.proof_answered.specs.Outward.{AllListen, IsFor, KnowListening}
+use Rattle.proof_answered.specs.Outward.{AllGoTo, AllListen, EachGoesTo, GoesTo, IsFor, IsSentTo, KnowListening, KnowNetwork}
 use Rattle.proof_answered.proofs.Flying.{chip_counts}
 use Rattle.proof_answered.proofs.Listeners.{all_stay, listener_hears}
 use Rattle.proof_answered.proofs.Walking.{stretched_before}
@@ -89,14 +91,6 @@ home_for these [] none = tt
 home_for these (frame ∷ frames) none = (is_home these frame (outward frames) frame.heading refl none, home_for these frames (none_later frame.heading (outward frames) none))
 
 -- ---- what the chip puts on the air is for joined nodes
-
--- a frame there is for a node of these
-abbrev GoesTo : List Bool → ChipOut → Type 0
-GoesTo these (OnAir to route payload) = is_marked these to ≡ true
-GoesTo these out = Unit {0}
-
-abbrev AllGoTo : List Bool → List ChipOut → Type 0
-AllGoTo these puts = AllByRecursion (GoesTo these) puts
 
 said_to : (these : List Bool) (out : ChipOut) → IsSaid out → GoesTo these out
 said_to these (Write unit) said = tt
@@ -213,16 +207,27 @@ module _ (airs : Airs) (these : List Bool) (many : length these ≡ 233) where
   unfolding chip_does
   does_add log flights o event goes fly = all_add log flights (with_chip o (after o.chip.state event)) (outs o.chip.state event) goes fly
 
-  judges_add : (log : List Mark) (flights : List Flown) (o : OuterState) (ways : List (Item × Option Route)) → o.chip.state.joined ≡ these → Fly log flights o.air.frames
+  judges_add : (log : List Mark) (flights : List Flown) (o : OuterState) (ways : List (Item × Option Route)) → EachGoesTo these o.chip.state ways → Fly log flights o.air.frames
       → Adds these log flights (each chip_does o (judged_all ways)).outer.air.frames
-  judges_add log flights o [] joined fly = adds_none these log flights o.air.frames fly
-  judges_add log flights o (way ∷ ways) joined fly =
+  judges_add log flights o [] goes fly = adds_none these log flights o.air.frames fly
+  judges_add log flights o (way ∷ ways) goes fly =
       let p : OuterState = (chip_does o (Judged way.0 way.1)).outer in
-      let goes : AllGoTo these (outs o.chip.state (Judged way.0 way.1)) = subst (λ (l : List Bool). AllGoTo l (outs o.chip.state (Judged way.0 way.1))) joined (item_to o.chip.state way.0 way.1) in
-      let one = does_add log flights o (Judged way.0 way.1) goes fly in
-      let still : p.chip.state.joined ≡ these =
-      ap (λ (s : ChipState). s.joined) (does_chip o (Judged way.0 way.1)) ∙ ap (λ (of : Network × List Bool). of.1) (judged_of (passed (collides o.chip.state) way.0) (heard o.chip.state way.0)) ∙ joined in
-      adds_both these log flights p.air.frames (each chip_does p (judged_all ways)).outer.air.frames one (judges_add (log ++ one.more) (flights ++ one.added) p ways still one.fly)
+      let one = does_add log flights o (Judged way.0 way.1) goes.0 fly in
+      let later : EachGoesTo these p.chip.state ways = subst (λ (s : ChipState). EachGoesTo these s ways) (sym (does_chip o (Judged way.0 way.1))) goes.1 in
+      adds_both these log flights p.air.frames (each chip_does p (judged_all ways)).outer.air.frames one (judges_add (log ++ one.more) (flights ++ one.added) p ways later one.fly)
+
+-- the chip takes payloads for joined nodes alone
+each_to : (s : ChipState) (ways : List (Item × Option Route)) → EachGoesTo s.joined s ways
+each_to s [] = tt
+each_to s (way ∷ ways) =
+    let next : ChipState = after s (Judged way.0 way.1) in
+    let still : next.joined ≡ s.joined = ap (λ (of : Network × List Bool). of.1) (judged_of (passed (collides s) way.0) (heard s way.0)) in
+    (item_to s way.0 way.1, subst (λ (l : List Bool). EachGoesTo l next ways) still (each_to next ways))
+
+sent_to_joined : (m : Machine) (event : Event) → IsSentTo m.outside.outer.chip.state.joined m event
+sent_to_joined m (Outside_does (Chip_takes count rest ways)) = each_to m.outside.outer.chip.state ways
+sent_to_joined m (Outside_does event) = tt
+sent_to_joined m event = tt
 
 -- ---- each event
 
@@ -285,58 +290,58 @@ module _ (these : List Bool) where
     entered_for : (x : Outcome) → AreFor x.outer → (told : List Entry) → AreFor (has_entered x.outer told)
     entered_for x are told = same_for x.outer (has_entered x.outer told) (entered_leaves x.outer told).air are
 
-    takes_for : (count : ℕ) (rest : Rest) (ways : List (Item × Option Route)) → m.outside.outer.chip.state.joined ≡ these → AreFor (outcome m.outside (Chip_takes count rest ways)).outer
+    takes_for : (count : ℕ) (rest : Rest) (ways : List (Item × Option Route)) → EachGoesTo these m.outside.outer.chip.state ways → AreFor (outcome m.outside (Chip_takes count rest ways)).outer
     unfolding outcome
-    takes_for count rest ways joined =
+    takes_for count rest ways sent =
         let o : OuterState = m.outside.outer in
         let p : OuterState = (each chip_does (fed_chip o count rest) (judged_all ways)).outer in
-        let adds = judges_add airs these many is.log (on_air o.air.frames) (fed_chip o count rest) ways joined fly in
+        let adds = judges_add airs these many is.log (on_air o.air.frames) (fed_chip o count rest) ways sent fly in
         subst (AllByRecursion (IsFor these)) (flights_are (is.log ++ adds.more) (on_air o.air.frames ++ adds.added) p.air.frames adds.fly)
         (all-append (IsFor these) (on_air o.air.frames) adds.added all adds.are_for)
 
-    outside_for : (event : OuterEvent) → IsQuietEvent event → May m (Outside_does event) → m.outside.outer.chip.state.joined ≡ these → AreFor (happens_outside m.outside event).outer
+    outside_for : (event : OuterEvent) → IsQuietEvent event → May m (Outside_does event) → IsSentTo these m (Outside_does event) → AreFor (happens_outside m.outside event).outer
     unfolding outcome May MayOutside MayHappen
-    outside_for Begins_line quiet may joined = all
-    outside_for Begins_tick quiet may joined = all
-    outside_for (Chip_takes count rest ways) quiet may joined = entered_for (outcome m.outside (Chip_takes count rest ways)) (takes_for count rest ways joined) (outcome m.outside (Chip_takes count rest ways)).entries
-    outside_for (Arrives drawn route) quiet may joined = by (next_of m.outside.outer.air.frames) refl may.1.0
+    outside_for Begins_line quiet may sent = all
+    outside_for Begins_tick quiet may sent = all
+    outside_for (Chip_takes count rest ways) quiet may sent = entered_for (outcome m.outside (Chip_takes count rest ways)) (takes_for count rest ways sent) (outcome m.outside (Chip_takes count rest ways)).entries
+    outside_for (Arrives drawn route) quiet may sent = by (next_of m.outside.outer.air.frames) refl may.1.0
       where
         by : (frame : Option Flown) → next_of m.outside.outer.air.frames ≡ frame → MayArriveIf (mesh_of m.outside) frame route → AreFor (happens_outside m.outside (Arrives drawn route)).outer
         by None next may_arrive = absurd may_arrive
         by (Some frame) next may_arrive = arrives_for drawn route frame next
-    outside_for (Gives route) quiet may joined = same_for m.outside.outer (happens_outside m.outside (Gives route)).outer (given_first m.outside route).air all
-    outside_for (Device_ticks place drawn route) quiet may joined =
+    outside_for (Gives route) quiet may sent = same_for m.outside.outer (happens_outside m.outside (Gives route)).outer (given_first m.outside route).air all
+    outside_for (Device_ticks place drawn route) quiet may sent =
         entered_for (acts_at m.outside.outer (slice_get m.outside.devices place) (Ticks drawn) route) (acts_for place (slice_get m.outside.devices place) (Ticks drawn) route refl)
         (outcome m.outside (Device_ticks place drawn route)).entries
-    outside_for Chip_ticks quiet may joined = same_for m.outside.outer (happens_outside m.outside Chip_ticks).outer (chip_counts m.outside).0 all
-    outside_for (Wakes_device node route) quiet may joined =
+    outside_for Chip_ticks quiet may sent = same_for m.outside.outer (happens_outside m.outside Chip_ticks).outer (chip_counts m.outside).0 all
+    outside_for (Wakes_device node route) quiet may sent =
         entered_for (acts_by_hand m.outside.outer m.outside.devices (place_of node m.outside.devices) Wakes route) (hand_for (place_of node m.outside.devices) Wakes route)
         (outcome m.outside (Wakes_device node route)).entries
-    outside_for (Shows node) quiet may joined = entered_for (outcome m.outside (Shows node)) all (outcome m.outside (Shows node)).entries
-    outside_for (Cuts size) quiet may joined = all
-    outside_for (Host_writes unit) quiet may joined = absurd (let no : false ≡ true = may.0 in cc)
-    outside_for (Host_takes count) quiet may joined = absurd (let no : false ≡ true = may.0 in cc)
-    outside_for (Host_notes note) quiet may joined = absurd (let no : false ≡ true = may.0 in cc)
-    outside_for (Host_begins node sessions) quiet may joined = absurd (let no : false ≡ true = may.0 in cc)
-    outside_for event quiet may joined = absurd quiet
+    outside_for (Shows node) quiet may sent = entered_for (outcome m.outside (Shows node)) all (outcome m.outside (Shows node)).entries
+    outside_for (Cuts size) quiet may sent = all
+    outside_for (Host_writes unit) quiet may sent = absurd (let no : false ≡ true = may.0 in cc)
+    outside_for (Host_takes count) quiet may sent = absurd (let no : false ≡ true = may.0 in cc)
+    outside_for (Host_notes note) quiet may sent = absurd (let no : false ≡ true = may.0 in cc)
+    outside_for (Host_begins node sessions) quiet may sent = absurd (let no : false ≡ true = may.0 in cc)
+    outside_for event quiet may sent = absurd quiet
 
-    event_for : (event : Event) → CoversOuter IsQuietEvent event → May m event → m.outside.outer.chip.state.joined ≡ these → AreFor (happens m event).outside.outer
+    event_for : (event : Event) → CoversOuter IsQuietEvent event → May m event → IsSentTo these m event → AreFor (happens m event).outside.outer
     unfolding happens
-    event_for (Outside_does event) covers may joined = outside_for event covers may joined
-    event_for (Host_does event) covers may joined = calm_for m.outside.outer (happens m (Host_does event)).outside.outer (does_calm airs m event) all
-    event_for (Host_takes_all count rest items events) covers may joined =
+    event_for (Outside_does event) covers may sent = outside_for event covers may sent
+    event_for (Host_does event) covers may sent = calm_for m.outside.outer (happens m (Host_does event)).outside.outer (does_calm airs m event) all
+    event_for (Host_takes_all count rest items events) covers may sent =
         calm_for m.outside.outer (happens m (Host_takes_all count rest items events)).outside.outer (takes_calm airs m count rest items events) all
-    event_for Decoder_ticks covers may joined = all
-    event_for (refuses_line line refusal) covers may joined = calm_for m.outside.outer (happens m (refuses_line line refusal)).outside.outer (enters_calm airs m _) all
-    event_for (Shows_values node) covers may joined = calm_for m.outside.outer (happens m (Shows_values node)).outside.outer (enters_calm airs m _) all
-    event_for (Restarts state) covers may joined = all
+    event_for Decoder_ticks covers may sent = all
+    event_for (refuses_line line refusal) covers may sent = calm_for m.outside.outer (happens m (refuses_line line refusal)).outside.outer (enters_calm airs m _) all
+    event_for (Shows_values node) covers may sent = calm_for m.outside.outer (happens m (Shows_values node)).outside.outer (enters_calm airs m _) all
+    event_for (Restarts state) covers may sent = all
 
 -- ---- so the device of each hears it
 
-heard_then : (airs : Airs) (m : Machine) (event : Event) → Awaits m → HasLive m.outside.outer → AllListen m → IsHeardThen m event
-heard_then airs m (Outside_does (Arrives drawn route)) is live listen = λ frame next out.
+heard_then : (airs : Airs) (m : Machine) (event : Event) → Awaits m → HasLive m.outside.outer → (these : List Bool) → AllListen these m → IsHeardThen m event
+heard_then airs m (Outside_does (Arrives drawn route)) is live these listen = λ frame next out.
     let first = next_flight airs is.log (on_air m.outside.outer.air.frames) m.outside.outer.air.frames frame is.follows.fly next in
-    let marked : is_marked m.outside.outer.chip.state.joined frame.node ≡ true = (subst (AllByRecursion (IsFor m.outside.outer.chip.state.joined)) first.1 listen.frames).0 out in
+    let marked : is_marked these frame.node ≡ true = (subst (AllByRecursion (IsFor these)) first.1 listen.frames).0 out in
     let listener = listen.nodes frame.node marked in
     (listener.place, listener_hears m.outside.outer.air.network m.outside.devices frame listener out (live_of frame next))
   where
@@ -352,8 +357,8 @@ heard_then airs m (Outside_does (Arrives drawn route)) is live listen = λ frame
         by : (b : Bool) → (if b then slice_get frames.frames (frames.landed - (frames.sent - length frames.frames)) else None) ≡ Some frame → IsLive net frame
         by true found = all-get (IsLive net) frames.frames (frames.landed - (frames.sent - length frames.frames)) frame live.fly found
         by false found = absurd cc
-heard_then airs m (Outside_does event) is live listen = tt
-heard_then airs m event is live listen = tt
+heard_then airs m (Outside_does event) is live these listen = tt
+heard_then airs m event is live these listen = tt
 
 -- ---- from phase to phase
 
@@ -403,35 +408,59 @@ covers_at (Moved b passes ticks) next m event (rest, items, done, is, to) line_a
 covers_at here next m event goes line_at = absurd goes
 
 module _ (airs : Airs) (go : (m : Machine) (event : Event) → GoOn m.outside.devices (happens m event).outside.devices) (same_nodes : (old new : List State) → GoOn old new → AreSame old new) where
-  listens_on : (m : Machine) (event : Event) → CoversOuter IsQuietEvent event → May m event → Awaits m → AllListen m → AllListen (happens m event)
-  listens_on m event covers may is listen =
-      let n : Machine = happens m event in
-      let these : List Bool = m.outside.outer.chip.state.joined in
-      let joined : n.outside.outer.chip.state.joined ≡ these = ap (λ (them : Members). them.of_chip) (event_members (members m.outside.outer) m event covers may refl) in
-      record {
-        frames = subst (λ (l : List Bool). AllByRecursion (IsFor l) (on_air n.outside.outer.air.frames)) (sym joined) (event_for these airs is.follows.joined m is listen.frames event covers may refl);
-        nodes = λ node marked.
-            all_stay node m.outside.devices n.outside.devices (go m event) (same_nodes m.outside.devices n.outside.devices (go m event)) (listen.nodes node (sym (ap (λ (l : List Bool). is_marked l node) joined) ∙ marked));
+  module _ (these : List Bool) (many : length these ≡ 233) where
+    listens_on : (m : Machine) (event : Event) → CoversOuter IsQuietEvent event → May m event → IsSentTo these m event → Awaits m → AllListen these m → AllListen these (happens m event)
+    listens_on m event covers may sent is listen =
+        let n : Machine = happens m event in
+        record {
+          frames = event_for these airs many m is listen.frames event covers may sent;
+          nodes = λ node marked. all_stay node m.outside.devices n.outside.devices (go m event) (same_nodes m.outside.devices n.outside.devices (go m event)) (listen.nodes node marked);
+        }
+
+    module _ (heard : WalkWhere IsHeardThen AsksNothing KnowHeard) where
+      does_all : (here next : Phase) (past : List Entry) (m : Machine) (event : Event) → Goes here m event next → May m event → IsSentTo these m event → IsStretched (past ++ entries m event) → KnowListening these here past m
+          → (Knows next (past ++ entries m event) (happens m event) × AllSayHeard (unheard (happens m event).outside.outer)) × AllListen these (happens m event)
+      does_all here next past m event goes may sent is known =
+          let before = stretched_before past (entries m event) is in
+          let at = known before in
+          let tied = at.0.0.tied before.quiet in
+          let awaits : Awaits m = awaits_of here m tied.1 in (
+            (heard.event here next past m event goes may (heard_then airs m event awaits tied.7.live these at.1) (λ stretched. at.0)).1 is,
+            listens_on m event (covers_at here next m event goes tied.0) may sent awaits at.1,
+          )
+
+      said_on : (past : List Entry) (m : Machine) (words : List ℕ) (line : Line) → line_of (entry.Said words) ≡ line ∷ [] → KnowListening these Between past m → KnowListening these (Said_line line) (past ++ entry.Said words ∷ []) m
+      said_on past m words line read known is = let at = known (stretched_before past (entry.Said words ∷ []) is) in ((heard.said past m words line read (λ stretched. at.0)).1 is, at.1)
+
+      turns_on : (here next : Phase) (past : List Entry) (m : Machine) → Turns here m next → KnowListening these here past m → KnowListening these next past m
+      turns_on here next past m turns known is = let at = known is in (heard.turn here next past m turns (λ stretched. at.0) is, at.1)
+
+      pub listening_walk : WalkWhere (IsSentTo these) AsksNothing (KnowListening these)
+      listening_walk = record {
+        said = λ past m words line read known. (tt, said_on past m words line read known);
+        event = λ here next past m event goes may sent known. (nothing_asked past (entries m event), λ is. does_all here next past m event goes may sent is known);
+        turn = turns_on;
       }
 
+  -- where these are all joined nodes
   module _ (heard : WalkWhere IsHeardThen AsksNothing KnowHeard) where
-    does_all : (here next : Phase) (past : List Entry) (m : Machine) (event : Event) → Goes here m event next → May m event → IsStretched (past ++ entries m event) → KnowListening here past m
-        → (Knows next (past ++ entries m event) (happens m event) × AllSayHeard (unheard (happens m event).outside.outer)) × AllListen (happens m event)
-    does_all here next past m event goes may is known =
+    network_on : (here next : Phase) (past : List Entry) (m : Machine) (event : Event) → Goes here m event next → May m event → KnowNetwork here past m → KnowNetwork next (past ++ entries m event) (happens m event)
+    network_on here next past m event goes may known is =
         let before = stretched_before past (entries m event) is in
         let at = known before in
         let tied = at.0.0.tied before.quiet in
-        let awaits : Awaits m = awaits_of here m tied.1 in (
-          (heard.event here next past m event goes may (heard_then airs m event awaits tied.7.live at.1) (λ stretched. at.0)).1 is,
-          listens_on m event (covers_at here next m event goes tied.0) may awaits at.1,
-        )
+        let awaits : Awaits m = awaits_of here m tied.1 in
+        let joined : (happens m event).outside.outer.chip.state.joined ≡ m.outside.outer.chip.state.joined =
+        ap (λ (them : Members). them.of_chip) (event_members (members m.outside.outer) m event (covers_at here next m event goes tied.0) may refl) in
+        let all = does_all m.outside.outer.chip.state.joined awaits.follows.joined heard here next past m event goes may (sent_to_joined m event) is known in
+        (all.0, subst (λ (l : List Bool). AllListen l (happens m event)) (sym joined) all.1)
 
-    pub listening_walk : Walk AsksNothing KnowListening
-    listening_walk = record {
+    pub network_walk : Walk AsksNothing KnowNetwork
+    network_walk = record {
       said = λ past m words line read known. (
         tt,
         λ is. let at = known (stretched_before past (entry.Said words ∷ []) is) in ((heard.said past m words line read (λ stretched. at.0)).1 is, at.1),
       );
-      event = λ here next past m event goes may known. (nothing_asked past (entries m event), λ is. does_all here next past m event goes may is known);
+      event = λ here next past m event goes may known. (nothing_asked past (entries m event), network_on here next past m event goes may known);
       turn = λ here next past m turns known is. let at = known is in (heard.turn here next past m turns (λ stretched. at.0) is, at.1);
     }

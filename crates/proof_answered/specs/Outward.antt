@@ -1,11 +1,19 @@
 -- For which nodes the frames of the host on the air are, and that the devices of these listen (this project's own rule).
-use Rattle.std.specs.Prelude.{◌≡◌, ℕ, true, Bool, List}
+use Rattle.std.specs.Prelude.{◌≡◌, ℕ, true, Bool, List, [], ◌∷◌, Option}
 use Rattle.std.specs.List.{AllByRecursion}
 use Rattle.zw_text.specs.declared.entry.Entry.{Entry}
 use Rattle.air_frames.specs.Flown.{Flown}
 use Rattle.air_frames.specs.declared.frame.Heading.TheVariants.{Outward}
+use Rattle.serial_frame.specs.declared.item.Item.{Item}
+use Rattle.route_table.specs.declared.route.Route.{Route}
+use Rattle.chip_sim.specs.Events.{Judged, after, outs}
 use Rattle.chip_sim.specs.Nodes.{is_marked}
+use Rattle.chip_sim.specs.State.{ChipState}
+use Rattle.chip_sim.specs.declared.out.ChipOut.{ChipOut}
+use Rattle.chip_sim.specs.declared.out.ChipOut.TheVariants.{OnAir}
 use Rattle.world_model.specs.State.{Machine}
+use Rattle.outside_model.specs.Events.{OuterEvent, Chip_takes}
+use Rattle.world_model.specs.Events.{Event, Outside_does}
 use Rattle.proof_traffic.specs.OnAir.{on_air}
 use Rattle.proof_work.specs.proof_walk.Phases.{Phase}
 use Rattle.proof_calm.specs.Tied.{unheard}
@@ -17,10 +25,39 @@ use Rattle.proof_answered.specs.Listening.{HasListener}
 abbrev pub IsFor : List Bool → Flown → Type 0
 IsFor these frame = frame.heading ≡ Outward → is_marked these frame.node ≡ true
 
--- each that is on the air is for a joined node, and the device of each joined node listens
-pub record AllListen (m : Machine) : Type 0 where
-  pub frames : AllByRecursion (IsFor m.outside.outer.chip.state.joined) (on_air m.outside.outer.air.frames)
-  pub nodes : (n : ℕ) → is_marked m.outside.outer.chip.state.joined n ≡ true → HasListener n m.outside.devices
+-- each that is on the air is for one of these, and the device of each of them listens
+pub record AllListen (these : List Bool) (m : Machine) : Type 0 where
+  pub frames : AllByRecursion (IsFor these) (on_air m.outside.outer.air.frames)
+  pub nodes : (n : ℕ) → is_marked these n ≡ true → HasListener n m.outside.devices
 
-abbrev pub KnowListening : Phase → List Entry → Machine → Type 0
-KnowListening here past m = IsStretched past → (Knows here past m × AllSayHeard (unheard m.outside.outer)) × AllListen m
+-- ---- what is assumed of events
+
+-- what the chip puts on the air is for a node of these
+abbrev pub GoesTo : List Bool → ChipOut → Type 0
+GoesTo these (OnAir to route payload) = is_marked these to ≡ true
+GoesTo these out = Unit {0}
+
+abbrev pub AllGoTo : List Bool → List ChipOut → Type 0
+AllGoTo these puts = AllByRecursion (GoesTo these) puts
+
+-- so at each item that it judges, one after another
+abbrev pub EachGoesTo : List Bool → ChipState → List (Item × Option Route) → Type 0
+EachGoesTo these s [] = Unit {0}
+EachGoesTo these s (way ∷ ways) = AllGoTo these (outs s (Judged way.0 way.1)) × EachGoesTo these (after s (Judged way.0 way.1)) ways
+
+abbrev pub IsSentOutside : List Bool → ChipState → OuterEvent → Type 0
+IsSentOutside these s (Chip_takes count rest ways) = EachGoesTo these s ways
+IsSentOutside these s event = Unit {0}
+
+abbrev pub IsSentTo : List Bool → Machine → Event → Type 0
+IsSentTo these m (Outside_does event) = IsSentOutside these m.outside.outer.chip.state event
+IsSentTo these m event = Unit {0}
+
+-- ---- at each phase
+
+abbrev pub KnowListening : List Bool → Phase → List Entry → Machine → Type 0
+KnowListening these here past m = IsStretched past → (Knows here past m × AllSayHeard (unheard m.outside.outer)) × AllListen these m
+
+-- of the joined nodes
+abbrev pub KnowNetwork : Phase → List Entry → Machine → Type 0
+KnowNetwork here past m = KnowListening m.outside.outer.chip.state.joined here past m

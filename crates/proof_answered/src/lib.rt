@@ -3,8 +3,8 @@
 //! It promises that few frames are on the air as each tick begins (`few_frames_fly`): no two devices end their work in the same tick, and each that hears
 //! something answers with two payloads at most. So the request of the host stays tied over each stretch, whatever it asks (`requests_stay_tied` of
 //! `proof_calm`, which assumes no more than this). A node whose device is of a kind that listens hears each frame that is sent to it (`listeners_hear`);
-//! and where each is heard, the call for each payload of the host says so (`payloads_are_heard`). So it is in a network whose joined nodes all listen
-//! (`networks_hear`). There is no code here.
+//! and where each is heard, the call for each payload of the host says so (`payloads_are_heard`). So it is where the chip takes payloads for nodes
+//! alone whose devices listen (`nodes_hear`), and in a network whose joined nodes all do (`networks_hear`). There is no code here.
 //! The definitions are in `specs/`: `Few` (for how long devices are at work, and how many frames are on the air, at each phase), `Listening`, `Heard` (what
 //! calls say), and `Outward` (for which nodes frames are).
 #![tactic(auto)]
@@ -16,5 +16,5 @@ mod listening;
 
 pub use few::few_frames_fly;
 pub use heard::payloads_are_heard;
-pub use hearing::networks_hear;
+pub use hearing::{networks_hear, nodes_hear};
 pub use listening::listeners_hear;
