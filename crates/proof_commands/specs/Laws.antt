@@ -37,7 +37,7 @@ use Rattle.law_wire.specs.Arriving.{ForgetsDeadHops, LandsInTime, MeetsWhatIsDue
 use Rattle.law_wire.specs.Doings.{DoneByDevices}
 use Rattle.law_wire.specs.Pipes.{OverrunsWhenFull}
 use Rattle.law_wire.specs.Serial.{ended}
-use Rattle.law_host.specs.Legal.{DevicesDid, IsLegalOnAir}
+use Rattle.law_host.specs.Legal.{DevicesDid, IsLegalOnAir, IsLegalOnLine}
 use Rattle.law_wire.specs.Routes.{GoesByRoute}
 use Rattle.law_wire.specs.Shown.{ShowsDevices}
 use Rattle.law_wire.specs.Times.{TellsTime}
@@ -49,7 +49,7 @@ use Rattle.law_time.specs.Holds.{HoldsAsAsked}
 use Rattle.law_time.specs.Waking.{FallsAsleep, WakesAsTold}
 use Rattle.law_host.specs.Heard.{heard_by_host}
 use Rattle.law_host.specs.HostLegal.{ShowsValues}
-use Rattle.proof_chip.specs.Served.{AirsByLink}
+use Rattle.proof_answers.specs.Answered.{AnswersByLink}
 use Rattle.proof_replay.specs.Laws.{HostsKeepLaws}
 use Rattle.proof_replay.specs.proof_notes_Full.{NotesInFull}
 use Rattle.proof_replay.specs.proof_notes_Unkept.{UnkeptWhereAsked}
@@ -358,10 +358,11 @@ abbrev pub KeepsBothLinks : List ℕ → Around → Around → Type 0
 KeepsBothLinks key old new = AlwaysOf key old new
     (λ story. TellsAtRestarts old story → (whole : Bool) → (whole ≡ true → AreSchedules (first key old) story) → KeepsLinks whole (transcript key old story))
 
--- by what the chip's link did, the controller puts on the air just what it takes, each frame by the least route of its table, and brings the host what was heard in order, each once
+-- By what the chip's link did, the controller puts on the air just what it takes, each frame by the least route of its table; the chip writes the host each frame that it has for it, in order, drops one
+-- only where 32 others wait, and lets none wait while its link is idle.
 abbrev pub AirsAsTaken : List ℕ → Around → Around → Type 0
 AirsAsTaken key old new = AlwaysOf key old new
-    (λ story. TellsAtRestarts old story → (whole : Bool) → (whole ≡ true → AreSchedules (first key old) story) → AirsByLink whole old.devices (transcript key old story))
+    (λ story. TellsAtRestarts old story → (whole : Bool) → (whole ≡ true → AreSchedules (first key old) story) → AnswersByLink whole old.devices (transcript key old story))
 
 -- and with links that keep their rules, just what was on its way is told at each restart, and nowhere else
 abbrev pub ClearsWhatIsLost : List ℕ → Around → Around → Type 0
@@ -433,6 +434,11 @@ HearsAsHosts key old new = AlwaysOf key old new
 abbrev pub NumbersTicks : List ℕ → Around → Around → Type 0
 NumbersTicks key old new = AlwaysOf key old new
     (λ story. (whole : Bool) → (whole ≡ true → AreSchedules (first key old) story) → TellsTime (ended whole (transcript key old story)))
+
+-- all of the serial line as one law, over a new keeper
+abbrev pub KeepsLine : List ℕ → Around → Around → Type 0
+KeepsLine key old new = AlwaysOf key old new
+    (λ story. TellsAtRestarts old story → (whole : Bool) → (whole ≡ true → AreSchedules (first key old) story) → IsLegalOnLine whole old.devices (transcript key old story))
 
 -- ---- the headline
 
@@ -520,6 +526,7 @@ pub record KeepsLineLaws (key : List ℕ) (old new : Around) : Type 0 where
   pub clears_line : ClearsWhatIsLost key old new
   pub clears_only : ClearsNothingElse key old new
   pub ticks : NumbersTicks key old new
+  pub line : KeepsLine key old new
 
 -- What every story keeps true, of a run that ended as it may.
 pub record StoriesKeepLaws (key : List ℕ) (old new : Around) : Type 0 where

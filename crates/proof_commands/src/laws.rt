@@ -27,6 +27,7 @@ ghost use Rattle.proof_commands.specs.Laws.{
   KeepsAir,
   KeepsBothLinks,
   KeepsDevices,
+  KeepsLine,
   KeepsOrders,
   KeepsWell,
   KeepsWhatIsShown,
@@ -71,7 +72,7 @@ use proof_audit::transcript::{
     records_are_what_is_shown, sessions_begin_with_their_unit, ticks_decide_each_frame,
     values_are_stored_as_asked,
 };
-use proof_chip::chips_air_what_is_taken;
+use proof_answers::chips_answer_in_order;
 use proof_chip::world::{
     lines_keep_and_ask_well, restarts_go_on, runs_take_once, the_machine_keeps_facts,
 };
@@ -110,6 +111,7 @@ pub fn every_story_keeps_laws()
     stories_keep_air_laws();
     stories_are_legal_on_air();
     stories_air_what_is_taken();
+    stories_are_legal_on_line();
     stories_send_what_is_due();
     stories_wake_as_told();
     stories_answer_questions();
@@ -253,12 +255,20 @@ fn stories_are_legal_on_air()
     stories_keep_air_laws();
 }
 
-/// What the controller puts on the air is what the chip takes.
+/// What the controller puts on the air is what the chip takes, and the chip writes its host what it has for it.
 fn stories_air_what_is_taken()
     ensures { (key : List ℕ) (old new : Around) → AirsAsTaken key old new }
 {
     lines_are_read_as_said();
-    chips_air_what_is_taken();
+    chips_answer_in_order();
+}
+
+/// The laws of the serial line as one.
+fn stories_are_legal_on_line()
+    ensures { (key : List ℕ) (old new : Around) → KeepsLine key old new }
+{
+    stories_keep_air_laws();
+    stories_air_what_is_taken();
 }
 
 /// What hosts send has its reason in lines that were said, and in what nodes told.

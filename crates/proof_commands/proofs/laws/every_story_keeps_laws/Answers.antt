@@ -64,5 +64,6 @@ returns c = λ key old new. record {
     clears_line = c.stories_keep_air_laws.ensures.clears_line key old new;
     clears_only = c.stories_keep_air_laws.ensures.nowhere key old new;
     ticks = c.stories_keep_air_laws.ensures.ticks key old new;
+    line = c.stories_are_legal_on_line.ensures key old new;
   };
 }
