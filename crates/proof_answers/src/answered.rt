@@ -1,4 +1,4 @@
-//! What the chip writes to the host, beside what the controller puts on the air.
+//! What the chip puts on the air, and what it writes to the host.
 
 ghost use Rattle.std.specs.Prelude.{false, true, Some, List, []};
 ghost use Rattle.s0_crypto.specs.declared.key_pair.Keys.{Keys};
@@ -21,10 +21,12 @@ use proof_line::world::lines_keep_and_ask_well;
 use proof_routes::{frames_go_on, networks_go_on};
 use proof_serial::hosts_write_well;
 
-/// Over any lines from the first on, the last of which an allocation failure may have cut short, over a keeper that tells its records and has none at first:
-/// by the link by which the controller puts on the air just the frames of the SendData that are taken (`chips_air_what_is_taken`), each frame that the chip
-/// begins to write is the next that it has for its host by the transcript, in order. These are the answers to requests, what was heard, the results of
-/// SendData and the information of nodes. Where all lines were run whole it is so with what that says of their end.
+/// Over any lines from the first on, the last of which an allocation failure may have cut short, over a keeper that tells its records and has none at first,
+/// the chip's link keeps the rules of the serial line in time, and by what that link did the controller puts on the air just the frames of the SendData that
+/// are taken: each directly after the answer to its request, unless its node has no way then. Each frame that the chip begins to write is the next that it has
+/// for its host by the transcript, in order: the answers to requests, what was heard, the results of SendData and the information of nodes. It drops one only
+/// where 32 others wait, and no more than these wait at the beginning of a line or a tick, and wherever one may be added. And where words of a line stand or a
+/// tick begins none waits, unless the link has a frame under way. Where all lines were run whole it is so up to the end of the last one.
 pub fn chips_answer_in_order()
     ensures cut { (keys : Keys) (devices : List State) (lines : List Spoken) →
         AreDone (first_machine keys (Some []) devices) lines →

@@ -1,4 +1,4 @@
--- What is known of the chip at each phase of a line beside both links and all that other walks tell, and what follows of a whole run (this project's own rule).
+-- What is known beside the chip at each phase of a line, and what is so of the chip in a whole run (this project's own rule).
 use Rattle.std.specs.Prelude.{Bool, List}
 use Rattle.zw_words.specs.declared.side.Side.TheVariants.{Chip}
 use Rattle.zw_text.specs.declared.entry.Entry.{Entry}
@@ -15,13 +15,9 @@ use Rattle.proof_air.specs.proof_walk.Walk.{both_know}
 use Rattle.proof_air.specs.Hearing.{KnowAir as KnowHistory}
 use Rattle.proof_air.specs.Landing.{KnowLanding}
 use Rattle.proof_routes.specs.Knowing.{KnowNetworks}
-use Rattle.proof_line.specs.Linked.{Did, KnowCuts}
 use Rattle.proof_chip.specs.Bringing.{BringsInOrder}
 use Rattle.proof_chip.specs.Calling.{KnowCalls}
 use Rattle.proof_chip.specs.Knowing.{KnownNodes}
-use Rattle.proof_chip.specs.Sending.{KnowAir}
-use Rattle.proof_chip.specs.Staying.{KnowStays}
-use Rattle.proof_chip.specs.Tally.{KnowTally}
 
 abbrev pub KnowMembers : Phase → List Entry → Machine → Type 0
 KnowMembers here past m = KnownNodes past m
@@ -29,11 +25,6 @@ KnowMembers here past m = KnownNodes past m
 -- history of the air, time, frames that have landed, networks, joined nodes, and the results that the chip waits for
 abbrev pub KnowBeside : List State → Phase → List Entry → Machine → Type 0
 KnowBeside devices = both_know (both_know (both_know (both_know (both_know KnowHistory KnowTime) KnowLanding) (KnowNetworks devices)) KnowMembers) KnowCalls
-
--- by the same steps of the chip's link both links are known, what goes on the air, how many frames the chip has for the host, and that none waited for an idle link where a line or tick began
-abbrev pub KnowServing : List State → Phase → List Entry → Machine → Type 0
-KnowServing devices here past m =
-    KnowBeside devices here past m × ((did : Did) × KnowCuts did here past m × KnowAir devices did.steps here past m × KnowTally devices did.steps here past m × KnowStays devices did here past m)
 
 -- ---- of a run
 

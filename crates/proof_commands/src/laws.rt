@@ -62,6 +62,7 @@ ghost use Rattle.proof_commands.specs.Laws.{
 };
 
 use crate::lines_are_read_as_said;
+use proof_answers::chips_answer_in_order;
 use proof_audit::headline::{
     askable_nodes_have_the_headline, devices_as_made_begin_courses, nodes_have_the_headline,
     nodes_report_after_the_change, supervised_nodes_are_plain_or_locks,
@@ -72,7 +73,6 @@ use proof_audit::transcript::{
     records_are_what_is_shown, sessions_begin_with_their_unit, ticks_decide_each_frame,
     values_are_stored_as_asked,
 };
-use proof_answers::chips_answer_in_order;
 use proof_chip::world::{
     lines_keep_and_ask_well, restarts_go_on, runs_take_once, the_machine_keeps_facts,
 };
