@@ -21,7 +21,8 @@ use Rattle.proof_chip.proofs.Arriving.{fate_aside}
 use Rattle.proof_chip.proofs.Growing.{serves_aside}
 use Rattle.proof_chip.proofs.Settling.{AreIdle}
 use Rattle.proof_chip.proofs.Standing.{goes_none}
-use Rattle.proof_chip.proofs.Tallying.{IsFate, fate_other, fate_timed, settled_now}
+use Rattle.proof_chip.proofs.Fating.{IsFate, fate_other, fate_timed}
+use Rattle.proof_chip.proofs.Reckoning.{settled_now}
 use Rattle.proof_answers.specs.Telling.{TellSo, TellsBefore}
 use Rattle.proof_answers.proofs.Accounts.{Grows, account_grows, posts_by}
 use Rattle.proof_answers.proofs.Due.{settled_in}

@@ -9,7 +9,7 @@ use Rattle.law_wire.specs.Results.{settled_clock}
 use Rattle.outside_model.specs.Devices.{State}
 use Rattle.proof_chip.specs.Tally.{IsBefore, IsIn, IsWithin, Outlook, TallyBefore, TallyNow, Timed}
 use Rattle.proof_chip.proofs.Settling.{all_between, none_above, none_between, settled_all, settled_some}
-use Rattle.proof_chip.proofs.Tallying.{settled_now}
+use Rattle.proof_chip.proofs.Reckoning.{settled_now}
 use Rattle.proof_answers.specs.Owing.{asked_in_tick, comes_within, due_before, is_of_tick}
 
 -- ---- of a tick

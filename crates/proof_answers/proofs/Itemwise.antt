@@ -45,7 +45,8 @@ use Rattle.proof_chip.specs.Tally.{TallyNow, TallySo, outlook}
 use Rattle.proof_chip.proofs.Airing.{IsNoAck, answer}
 use Rattle.proof_chip.proofs.Answered.{GivesNone}
 use Rattle.proof_chip.proofs.Going.{apart_goes}
-use Rattle.proof_chip.proofs.Items.{Now, Puts, number_puts, one_item, quiet_rests}
+use Rattle.proof_chip.proofs.Items.{Now, number_puts, one_item, quiet_rests}
+use Rattle.proof_chip.proofs.Putting.{Puts}
 use Rattle.proof_chip.proofs.Judged.{decided, goes_back, judged_nodes, none_passed, passed_at}
 use Rattle.proof_chip.proofs.Judges.{both_none, item_keeps, items_of, items_same, silent_item}
 use Rattle.proof_chip.proofs.Keeping.{number_apart}

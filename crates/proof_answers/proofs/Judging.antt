@@ -46,7 +46,8 @@ use Rattle.proof_chip.specs.Sending.{AreSending, ItemsSo, TieAir}
 use Rattle.proof_chip.proofs.Airing.{IsMore, IsNoAck, answer, requests_are}
 use Rattle.proof_chip.proofs.Answered.{GivesNone, given_answered}
 use Rattle.proof_chip.proofs.Growing.{frames_both, many_frames}
-use Rattle.proof_chip.proofs.Items.{Puts, shows, state_is, taken_within}
+use Rattle.proof_chip.proofs.Answering.{shows, state_is}
+use Rattle.proof_chip.proofs.Putting.{Puts, taken_within}
 use Rattle.proof_chip.proofs.Judged.{goes_back}
 use Rattle.proof_chip.proofs.Leaving.{Airs, LeavesSo, LeavesTaken, Quiet, Shows}
 use Rattle.proof_chip.proofs.Payloads.{has_payload}

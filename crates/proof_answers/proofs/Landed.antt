@@ -63,7 +63,7 @@ use Rattle.proof_chip.proofs.Numbering.{numbers_above, numbers_many, with_number
 use Rattle.proof_chip.proofs.Settling.{AreIdle, IsIdle}
 use Rattle.proof_chip.proofs.Standing.{goes_none}
 use Rattle.proof_chip.proofs.Steady.{homes_numbers}
-use Rattle.proof_chip.proofs.Tallying.{IsFate, fate_other}
+use Rattle.proof_chip.proofs.Fating.{IsFate, fate_other}
 use Rattle.proof_answers.specs.Telling.{HasFailing, IsUnder, TellSo, TellsBefore}
 use Rattle.proof_answers.proofs.Accounts.{posts_by}
 use Rattle.proof_answers.proofs.Arriving.{fate_tells}

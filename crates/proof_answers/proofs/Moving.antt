@@ -22,7 +22,7 @@ use Rattle.proof_chip.proofs.Replying.{none_filtered}
 use Rattle.proof_chip.proofs.Settling.{AreIdle}
 use Rattle.proof_chip.proofs.Standing.{goes_none}
 use Rattle.proof_chip.proofs.Tallied.{before_number_t, now_number_t}
-use Rattle.proof_chip.proofs.Tallying.{settled_now}
+use Rattle.proof_chip.proofs.Reckoning.{settled_now}
 use Rattle.proof_answers.specs.Owing.{come, owed_in}
 use Rattle.proof_answers.specs.Telling.{Telling, TellSo, TellsBefore, TellsNow, told_by}
 use Rattle.proof_answers.proofs.Accounts.{Grows}

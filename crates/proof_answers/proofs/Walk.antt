@@ -61,8 +61,10 @@ use Rattle.proof_chip.proofs.Growing.{serves_aside}
 use Rattle.proof_chip.proofs.Settling.{AreIdle, IsIdle}
 use Rattle.proof_chip.proofs.Steady.{hosts_chip, hosts_within, steady_within}
 use Rattle.proof_chip.proofs.Tallied.{before_number_t, chip_idle}
-use Rattle.proof_chip.proofs.Tallying.{settled_now}
-use Rattle.proof_chip.proofs.Tallies.{BeforeSo, Collides_it, IsOfHost, Kind, NowSo, Repeats_one, Stays_still, Ticks_chip, again_of, apart_here, covers_answer, covers_host, hosts_keep as hosts_count, host_covers, kind_of, many_sent, no_steps, same_frames, still_steps, unanswered}
+use Rattle.proof_chip.proofs.Reckoning.{settled_now}
+use Rattle.proof_chip.proofs.Hosted.{BeforeSo, IsOfHost, NowSo, covers_answer, covers_host, hosts_keep as hosts_count, host_covers, many_sent, no_steps}
+use Rattle.proof_chip.proofs.Outsides.{Collides_it, Kind, Repeats_one, Stays_still, Ticks_chip, apart_here, kind_of, same_frames, still_steps, unanswered}
+use Rattle.proof_chip.proofs.Tallies.{again_of}
 use Rattle.proof_chip.proofs.Telling.{AreAside, IsAside}
 use Rattle.proof_answers.specs.Telling.{KnowTells, TellSo, TellsBefore, TellsNow}
 use Rattle.proof_answers.proofs.Accounts.{aside_grows, event_grows}

@@ -36,7 +36,7 @@ use Rattle.proof_chip.proofs.Numbering.{with_number}
 use Rattle.proof_chip.proofs.Standing.{few_stand}
 use Rattle.proof_chip.proofs.Asides.{AreUnrelated, IsUnrelated}
 use Rattle.proof_chip.proofs.Tallied.{apart_t, before_stays, both_so, forgets_t, now_stays}
-use Rattle.proof_chip.proofs.Tallying.{IsFate, before_lands, now_again}
+use Rattle.proof_chip.proofs.Fating.{IsFate, before_lands, now_again}
 use Rattle.proof_chip.proofs.Telling.{IsAside}
 
 -- ---- by the transcript

@@ -29,7 +29,7 @@ use Rattle.proof_chip.proofs.Resting.{Rests}
 use Rattle.proof_chip.proofs.Numbering.{Ends, arrived, over, with_number}
 use Rattle.proof_chip.proofs.Owing.{Quieted, Splits, call_quiet, last_flies, no_routes_quiet, quiet_call, quieted, splits, without_call}
 use Rattle.proof_chip.proofs.Tallied.{before_stays, both_so, own_call_t, quiet_call_t, quiet_routes_t}
-use Rattle.proof_chip.proofs.Tallying.{before_above, before_next}
+use Rattle.proof_chip.proofs.Coming.{before_above, before_next}
 
 pub one_drop : {A : Type 0} (count : ℕ) (xs : List A) → drop 1 (drop count xs) ≡ drop (suc count) xs
 one_drop zero xs = refl

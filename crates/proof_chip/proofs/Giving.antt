@@ -33,7 +33,7 @@ use Rattle.proof_chip.proofs.Owing.{last_flies, no_route_quiet, quiet_call, with
 use Rattle.proof_chip.proofs.Quieting.{IsUnanswered}
 use Rattle.proof_chip.proofs.Resting.{AreLeaving, Rests, each_rests, queued_leaves}
 use Rattle.proof_chip.proofs.Tallied.{before_stays, own_call_t, none_so, post_t, quiet_route_t}
-use Rattle.proof_chip.proofs.Tallying.{before_next, give_above}
+use Rattle.proof_chip.proofs.Coming.{before_next, give_above}
 
 -- ---- what an event of the chip leaves as it is
 

@@ -35,7 +35,8 @@ use Rattle.proof_chip.proofs.Quieting.{IsUnanswered}
 use Rattle.proof_chip.proofs.Resting.{Rests, each_rests, queued_leaves, rests_look}
 use Rattle.proof_chip.proofs.Standing.{few_stand}
 use Rattle.proof_chip.proofs.Tallied.{Stays, before_stays, none_so, now_stays, post_t}
-use Rattle.proof_chip.proofs.Tallying.{before_above, before_lands, before_next, now_above, now_again, now_count}
+use Rattle.proof_chip.proofs.Coming.{before_above, before_next, now_above, now_count}
+use Rattle.proof_chip.proofs.Fating.{before_lands, now_again}
 
 -- a handler frame has room for the payload
 abbrev pub has_room : List ℕ → Bool

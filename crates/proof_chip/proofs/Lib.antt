@@ -16,7 +16,11 @@ pub mod Taking
 mod Turning
 pub mod Standing
 pub mod Replying
+pub mod Reckoning
 pub mod Tallying
+pub mod Fating
+pub mod Opening
+pub mod Coming
 pub mod Numbering
 pub mod Owing
 pub mod Answered
@@ -45,6 +49,9 @@ pub mod Staying
 mod Acting
 pub mod Keeping
 pub mod Judges
+pub mod Putting
+pub mod Looking
+pub mod Answering
 pub mod Items
 pub mod Mild
 pub mod Airs
@@ -52,6 +59,8 @@ mod Members
 mod Grounds
 pub mod Served
 pub mod Landed
+pub mod Hosted
+pub mod Outsides
 pub mod Tallies
 pub mod Calling
 pub mod Steady

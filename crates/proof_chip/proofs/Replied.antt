@@ -32,7 +32,7 @@ use Rattle.proof_chip.proofs.Numbering.{lacks_above}
 use Rattle.proof_chip.proofs.Passing.{others_no_ack}
 use Rattle.proof_chip.proofs.Picking.{shown_both}
 use Rattle.proof_chip.proofs.Settling.{AreIdle, IsIdle, IsNoTick, asked_still, frames_devices, idle_fateless, idle_no_tick, idle_others, idle_untimed, outward_by, outward_next, outward_sent, own_later}
-use Rattle.proof_chip.proofs.Tallying.{none_within, settled_now, timed_through}
+use Rattle.proof_chip.proofs.Reckoning.{none_within, settled_now, timed_through}
 use Rattle.proof_chip.proofs.Totals.{IsApartFrom, WasAsked, elsewhere, ends_one, infos_both, total_is, totals, totals_both, totals_none, totals_same, was_asked, with_frame}
 
 -- ---- the SendData under way
