@@ -8,7 +8,7 @@ use Rattle.serial_frame.specs.Stream.{after_tick}
 use Rattle.route_table.specs.Network.{Network}
 use Rattle.route_table.specs.declared.route.Route.{Route}
 use Rattle.air_frames.specs.Flown.{Flown, flown}
-use Rattle.air_frames.specs.Frames.{FramesState, landing, next_of, peer_of, putting, remembered}
+use Rattle.air_frames.specs.Frames.{FramesState, landing, next_of, peer_of, putting}
 use Rattle.air_frames.specs.Peer.{showing}
 use Rattle.air_frames.specs.declared.frame.Departure.{Departure}
 use Rattle.air_frames.specs.declared.frame.Heading.{Heading}
@@ -17,11 +17,11 @@ use Rattle.chip_sim.specs.Events.{ChipEvent, Judged, Ticked, after, outs}
 use Rattle.chip_sim.specs.declared.out.ChipOut.{ChipOut}
 use Rattle.chip_sim.specs.declared.out.ChipOut.TheVariants.{Write, OnAir, NoRoute, AskInfo, Full}
 use Rattle.device_sim.specs.State.{State}
-use Rattle.device_sim.specs.Event.{DeviceEvent, Hears, device_after, device_replies}
+use Rattle.device_sim.specs.Event.{Hears, device_after, device_replies}
 use Rattle.mesh_sim.specs.Air.{AirState, beginning, departing, is_joined, no_route}
 use Rattle.mesh_sim.specs.Fates.{Mesh, dead_hop_of, fate_by, fate_of, listener_of}
 use Rattle.mesh_sim.specs.Routes.{backwards}
-use Rattle.mesh_sim.specs.Steps.{AirStep, acknowledged, answered, answered_if, arrival_outs, arrival_outs_as, arriving, arriving_as, heard_again, heard_at, landed, mesh_after, mesh_outs, outs_at, repeating, repeating_by}
+use Rattle.mesh_sim.specs.Steps.{acknowledged, arrival_outs, arrival_outs_as, landed, mesh_after, mesh_outs, outs_at}
 use Rattle.mesh_sim.specs.Steps as mesh
 use Rattle.mesh_sim.specs.declared.event.AirEvent.{AirEvent}
 use Rattle.mesh_sim.specs.declared.event.AirEvent.TheVariants as air_event
@@ -36,7 +36,7 @@ use Rattle.outside_model.specs.Results.{gives}
 use Rattle.proof_device.proofs.Results.{IsSameChip, Gives as ResultsGo, ends_go, gives_go, to_chip_goes}
 use Rattle.world_model.specs.State.{Machine}
 use Rattle.world_model.specs.Events.{Event, happens, May}
-use Rattle.proof_work.specs.proof_walk.Outside.{Knowing, Comes, Outer, IsSimple, IsHearing, CoversOuter, session_begins}
+use Rattle.proof_work.specs.proof_walk.Outside.{Knowing, Comes, Outer, IsSimple, CoversOuter, session_begins}
 use Rattle.proof_work.proofs.proof_walk_Machines.{machine_keeps}
 use Rattle.proof_work.specs.Phases.{AsksNothing}
 use Rattle.proof_calm.specs.Homeward.{IsOfMember, SpeaksHome}
@@ -44,6 +44,7 @@ use Rattle.proof_calm.specs.Known.{IsMember}
 use Rattle.proof_calm.specs.Marks.{IsQuietEvent}
 use Rattle.proof_calm.proofs.Counting.{IsAside, done_aside, outs_aside}
 use Rattle.proof_calm.proofs.Pending.{IsFromOf}
+use Rattle.proof_calm.proofs.Heard.{Keeps, replied_if, steps_keep}
 use Rattle.proof_calm.proofs.Unmarked.{hosts, nothing_asked}
 
 pub all_left : {A : Type 0} (P : A → Type 0) (k : ℕ) (xs : List A) → AllByRecursion P xs → AllByRecursion P (drop k xs)
@@ -68,47 +69,13 @@ module _ (joined : List Bool) where
   unfolding landing
   lands_home air home = (all_left (IsOfMember joined) _ air.frames.frames home.0, home.1)
 
-  answers_home : (air : AirState) (node : ℕ) (way : Option Route) (replies : List (List ℕ)) → IsMember joined node → Home air → Home (answered air node way replies)
-  answers_home air node way [] member home = home
-  answers_home air node way (reply ∷ replies) member home = answers_home (departing air node Homeward way reply) node way replies member (departs_home air node Homeward way reply (λ is. member) home)
-
-  answers_if_home : (b : Bool) (air : AirState) (node : ℕ) (way : Option Route) (replies : List (List ℕ)) → is_joined air node ≡ b → Home air → Home (answered_if b air node way replies)
-  answers_if_home true air node way replies is home = answers_home air node way replies (home.1 node is) home
-  answers_if_home false air node way replies is home = home
-
-  heard_home : (at : Mesh) (place : ℕ) (device : Option State) (node : ℕ) (route : Option Route) (event : DeviceEvent) → Home at.air → Home (heard_at at place device node route event).air
-  heard_home at place None node route event home = home
-  heard_home at place (Some device) node route event home = answers_if_home (is_joined at.air node) at.air node (option_map backwards route) (device_replies device event) refl home
-
-  arrives_home : (at : Mesh) (frame : Flown) (fate : Fate) (drawn : List ℕ) (route : Option Route) → Home at.air → Home (arriving_as at frame fate drawn route).air
-  arrives_home at frame Lost drawn route home = lands_home at.air home
-  arrives_home at frame (Dead from to) drawn route home = lands_home at.air home
-  arrives_home at frame Missed drawn route home = lands_home at.air home
-  arrives_home at frame AtChip drawn route home = lands_home at.air home
-  arrives_home at frame (AtDevice place) drawn route home =
-      heard_home (record at { air = landed (acknowledged at.air) }) place (slice_get at.devices place) frame.node route (Hears frame.payload drawn) (lands_home (acknowledged at.air) home)
-
-  next_home : (at : Mesh) (frame : Option Flown) (drawn : List ℕ) (route : Option Route) → Home at.air → Home (arriving at frame drawn route).air
-  next_home at None drawn route home = home
-  next_home at (Some frame) drawn route home = arrives_home at frame (fate_of at.air.network at.devices frame) drawn route home
-
-  again_home : (at : Mesh) (place : Option ℕ) (node : ℕ) (route : Option Route) (event : DeviceEvent) → Home at.air → Home (heard_again at place node route event).air
-  again_home at None node route event home = home
-  again_home at (Some place) node route event home = heard_home at place (slice_get at.devices place) node route event home
-
-  repeats_home : (heading : Heading) (at : Mesh) (frame : Flown) (drawn : List ℕ) (route : Option Route) → Home at.air → Home (repeating_by heading at frame drawn route).air
-  repeats_home Homeward at frame drawn route home = home
-  repeats_home Outward at frame drawn route home = again_home at (listener_of frame.node at.devices) frame.node route (Hears frame.payload drawn) home
-
-  repeated_home : (at : Mesh) (frame : Option Flown) (drawn : List ℕ) (route : Option Route) → Home at.air → Home (repeating at frame drawn route).air
-  repeated_home at None drawn route home = home
-  repeated_home at (Some frame) drawn route home = repeats_home frame.heading at frame drawn route home
-
-  steps_home : (at : Mesh) (step : AirStep) → IsHearing step → Home at.air → Home (mesh_after at step).air
-  unfolding mesh_after
-  steps_home at (mesh.Arrives drawn route) hearing home = next_home at (next_of at.air.frames) drawn route home
-  steps_home at (mesh.Repeats number drawn route) hearing home = repeated_home at (remembered at.air.frames number) drawn route home
-  steps_home at step hearing home = absurd hearing
+  keeps : Keeps Home (IsMember joined)
+  keeps = record {
+    departs = λ air node way reply member home. departs_home air node Homeward way reply (λ is. member) home;
+    joined = λ air node is home. home.1 node is;
+    lands = lands_home;
+    acknowledges = λ air home. home;
+  }
 
   -- ---- what is outside the host
 
@@ -205,10 +172,10 @@ module _ (joined : List Bool) where
     ticks = λ w. comes w (chip_ticks w.outer) w.devices
         (λ speaks. does_home (record w.outer { chip = record { decoder = after_tick w.outer.chip.decoder; state = w.outer.chip.state } }) Ticked (record { frames = speaks.frames; nodes = speaks.nodes }));
     gives = λ w route may. comes w (gives w.outer w.devices w.outer.due route) w.devices (gives_go Leaves results w.outer w.devices w.outer.due route);
-    steps = λ w step hearing may awaits past told speaks. (tt, with_home w.outer (record w.outer { air = (mesh_after (mesh_of w) step).air }) (steps_home (mesh_of w) step hearing (home_of w.outer speaks)));
+    steps = λ w step hearing may awaits past told speaks. (tt, with_home w.outer (record w.outer { air = (mesh_after (mesh_of w) step).air }) (steps_keep Home (IsMember joined) keeps (mesh_of w) step hearing (home_of w.outer speaks)));
     deals = λ w event events. comes w (deals w.devices w.outer event) w.devices (deals_home w.devices w.outer event);
     acts = λ w place device event route found may. comes w (acts w.outer device event route) (slice_set w.devices place (device_after device event))
-        (λ speaks. with_home w.outer (acts w.outer device event route).outer (answers_if_home (is_joined w.outer.air device.node) w.outer.air device.node (option_map backwards route) (device_replies device event) refl (home_of w.outer speaks)));
+        (λ speaks. with_home w.outer (acts w.outer device event route).outer (replied_if Home (IsMember joined) keeps (is_joined w.outer.air device.node) w.outer.air device.node (option_map backwards route) (device_replies device event) refl (home_of w.outer speaks)));
   }
 
   pub event_speaks : (m : Machine) (event : Event) → CoversOuter IsQuietEvent event → May m event → Speaks m.outside.outer → Speaks (happens m event).outside.outer

@@ -1,4 +1,5 @@
 pub mod Collisions
+pub mod Heard
 pub mod Unmarked
 pub mod Quiet
 pub mod Reading

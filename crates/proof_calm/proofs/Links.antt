@@ -1,19 +1,15 @@
 -- No event of a quiet line or of a tick changes which nodes are joined, or a link of the air.
-use Rattle.std.proofs.Common.{◌≡◌, ℕ, ◌-◌, ◌==◌, nat_le, Bool, true, false, if◌then◌else◌, List, [], ◌∷◌, refl, ap, ◌∙◌}
-use Rattle.std.specs.Prelude.{Option, Some, None, slice_get, slice_set, option_map}
+use Rattle.std.proofs.Common.{◌≡◌, ℕ, ◌-◌, ◌==◌, nat_le, Bool, true, false, if◌then◌else◌, List, [], refl, ap, ◌∙◌}
+use Rattle.std.specs.Prelude.{Option, Some, None, slice_set, option_map}
 use Rattle.serial_frame.specs.Frame.{FrameParts}
 use Rattle.serial_frame.specs.Stream.{after_tick}
-use Rattle.route_table.specs.declared.route.Route.{Route}
 use Rattle.route_table.specs.Network.{Network}
 use Rattle.chip_functions.specs.declared.request.Request.{Request}
 use Rattle.chip_functions.specs.declared.request.Request.TheVariants.{GetInitData, GetCapabilities, SendData, GetVersion, SendDataAbort, MemoryGetId, GetNodeProtocolInfo, AddNode, RequestNodeInfo, IsFailedNode, GetRoutingInfo}
 use Rattle.chip_functions.specs.declared.notice.TransmitStatus.{TransmitStatus}
-use Rattle.air_frames.specs.declared.frame.Heading.{Heading}
-use Rattle.air_frames.specs.declared.frame.Heading.TheVariants.{Outward, Homeward}
-use Rattle.air_frames.specs.Flown.{Flown}
-use Rattle.air_frames.specs.Frames.{peer_of, next_of, remembered}
+use Rattle.air_frames.specs.Frames.{peer_of}
 use Rattle.device_sim.specs.State.{State}
-use Rattle.device_sim.specs.Event.{DeviceEvent, Hears, device_after, device_replies}
+use Rattle.device_sim.specs.Event.{device_after, device_replies}
 use Rattle.chip_sim.specs.State.{ChipState}
 use Rattle.chip_sim.specs.Answers.{takes}
 use Rattle.chip_sim.specs.Requests.{passed, asked, given_if, reply_to, requested, performed, stopped, heard, judged_frame}
@@ -23,13 +19,9 @@ use Rattle.chip_sim.specs.declared.out.ChipOut.{ChipOut}
 use Rattle.chip_sim.specs.declared.out.ChipOut.TheVariants.{Write, OnAir, NoRoute, AskInfo, Full}
 use Rattle.mesh_sim.specs.declared.event.AirEvent.{AirEvent}
 use Rattle.mesh_sim.specs.declared.event.AirEvent.TheVariants as air_event
-use Rattle.mesh_sim.specs.declared.fate.Fate.{Fate}
-use Rattle.mesh_sim.specs.declared.fate.Fate.TheVariants.{Lost, Dead, Missed, AtChip, AtDevice}
-use Rattle.mesh_sim.specs.Air.{AirState, departing, is_joined, beginning}
-use Rattle.mesh_sim.specs.Fates.{Mesh, fate_of, listener_of}
+use Rattle.mesh_sim.specs.Air.{AirState, is_joined, beginning}
 use Rattle.mesh_sim.specs.Routes.{backwards}
-use Rattle.mesh_sim.specs.Steps.{AirStep, answered, answered_if, heard_at, heard_again, arriving_as, arriving, repeating_by, repeating, landed, acknowledged, mesh_after}
-use Rattle.mesh_sim.specs.Steps as mesh
+use Rattle.mesh_sim.specs.Steps.{mesh_after}
 use Rattle.outside_model.specs.State.{OuterState, Outside, Outcome, with_chip}
 use Rattle.outside_model.specs.Chip.{put_out, chip_does, chip_ticks}
 use Rattle.outside_model.specs.Air.{deals}
@@ -39,12 +31,13 @@ use Rattle.outside_model.specs.Events.{OuterEvent, Begins_line, Begins_tick, Hos
 use Rattle.world_model.specs.State.{Machine}
 use Rattle.world_model.specs.Events.{Event, happens, May}
 use Rattle.proof_device.proofs.Results.{IsSameChip, IsGiven, Gives as ResultsGo, ends_go, gives_go, to_chip_goes}
-use Rattle.proof_work.specs.proof_walk.Outside.{Knowing, Comes, Outer, IsSimple, IsDone, IsHearing, CoversOuter, session_begins}
+use Rattle.proof_work.specs.proof_walk.Outside.{Knowing, Comes, Outer, IsSimple, IsDone, CoversOuter, session_begins}
 use Rattle.proof_work.proofs.proof_walk_Machines.{machine_keeps}
 use Rattle.proof_work.proofs.Times.{each_keeps}
 use Rattle.proof_work.specs.Phases.{AsksNothing}
 use Rattle.proof_calm.specs.Marks.{IsQuietEvent}
 use Rattle.proof_calm.specs.Networks.{Members, members, HasMembers}
+use Rattle.proof_calm.proofs.Heard.{Keeps, replied_if, steps_keep}
 use Rattle.proof_calm.proofs.Unmarked.{nothing_asked, hosts}
 
 -- ---- the chip
@@ -158,47 +151,17 @@ deals_members devices o (air_event.Changed node at) = refl
 abbrev links : AirState → List Bool × Network
 links air = (air.joined, air.network)
 
-answered_links : (air : AirState) (node : ℕ) (way : Option Route) (replies : List (List ℕ)) → links (answered air node way replies) ≡ links air
-answered_links air node way [] = refl
-answered_links air node way (reply ∷ replies) = answered_links (departing air node Homeward way reply) node way replies
+-- they are these, and stay so
+abbrev AreLinks : List Bool × Network → AirState → Type 0
+AreLinks these air = links air ≡ these
 
-answered_if_links : (b : Bool) (air : AirState) (node : ℕ) (way : Option Route) (replies : List (List ℕ)) → links (answered_if b air node way replies) ≡ links air
-answered_if_links true air node way replies = answered_links air node way replies
-answered_if_links false air node way replies = refl
-
-heard_links : (at : Mesh) (place : ℕ) (device : Option State) (node : ℕ) (route : Option Route) (event : DeviceEvent) → links (heard_at at place device node route event).air ≡ links at.air
-heard_links at place None node route event = refl
-heard_links at place (Some device) node route event = answered_if_links (is_joined at.air node) at.air node (option_map backwards route) (device_replies device event)
-
-arrives_links : (at : Mesh) (frame : Flown) (fate : Fate) (drawn : List ℕ) (route : Option Route) → links (arriving_as at frame fate drawn route).air ≡ links at.air
-arrives_links at frame Lost drawn route = refl
-arrives_links at frame (Dead from to) drawn route = refl
-arrives_links at frame Missed drawn route = refl
-arrives_links at frame AtChip drawn route = refl
-arrives_links at frame (AtDevice place) drawn route =
-    heard_links (record at { air = landed (acknowledged at.air) }) place (slice_get at.devices place) frame.node route (Hears frame.payload drawn)
-
-next_links : (at : Mesh) (frame : Option Flown) (drawn : List ℕ) (route : Option Route) → links (arriving at frame drawn route).air ≡ links at.air
-next_links at None drawn route = refl
-next_links at (Some frame) drawn route = arrives_links at frame (fate_of at.air.network at.devices frame) drawn route
-
-again_links : (at : Mesh) (place : Option ℕ) (node : ℕ) (route : Option Route) (event : DeviceEvent) → links (heard_again at place node route event).air ≡ links at.air
-again_links at None node route event = refl
-again_links at (Some place) node route event = heard_links at place (slice_get at.devices place) node route event
-
-repeats_links : (heading : Heading) (at : Mesh) (frame : Flown) (drawn : List ℕ) (route : Option Route) → links (repeating_by heading at frame drawn route).air ≡ links at.air
-repeats_links Homeward at frame drawn route = refl
-repeats_links Outward at frame drawn route = again_links at (listener_of frame.node at.devices) frame.node route (Hears frame.payload drawn)
-
-repeated_links : (at : Mesh) (frame : Option Flown) (drawn : List ℕ) (route : Option Route) → links (repeating at frame drawn route).air ≡ links at.air
-repeated_links at None drawn route = refl
-repeated_links at (Some frame) drawn route = repeats_links frame.heading at frame drawn route
-
-steps_links : (at : Mesh) (step : AirStep) → IsHearing step → links (mesh_after at step).air ≡ links at.air
-unfolding mesh_after
-steps_links at (mesh.Arrives drawn route) hearing = next_links at (next_of at.air.frames) drawn route
-steps_links at (mesh.Repeats number drawn route) hearing = repeated_links at (remembered at.air.frames number) drawn route
-steps_links at step hearing = absurd hearing
+keeps : (these : List Bool × Network) → Keeps (AreLinks these) (λ node. Unit {0})
+keeps these = record {
+  departs = λ air node way reply may same. same;
+  joined = λ air node is same. tt;
+  lands = λ air same. same;
+  acknowledges = λ air same. same;
+}
 
 with_links : (o : OuterState) (air : AirState) → links air ≡ links o.air → members (record o { air = air }) ≡ members o
 with_links o air same = ap (λ (l : List Bool × Network). record { of_chip = o.chip.state.joined; listening = o.chip.state.listening; in_air = l.0; network = l.1 }) same
@@ -250,10 +213,11 @@ module _ (these : Members) where
     judged = λ awaits past w same. same;
     ticks = λ w. comes w (chip_ticks w.outer) w.devices (does_members (record w.outer { chip = record { decoder = after_tick w.outer.chip.decoder; state = w.outer.chip.state } }) Ticked tt);
     gives = λ w route may. comes w (gives w.outer w.devices w.outer.due route) w.devices (gives_go Leaves results w.outer w.devices w.outer.due route);
-    steps = λ w step hearing may awaits past told same. (tt, with_links w.outer (mesh_after (mesh_of w) step).air (steps_links (mesh_of w) step hearing) ∙ same);
+    steps = λ w step hearing may awaits past told same. (tt, with_links w.outer (mesh_after (mesh_of w) step).air (steps_keep (AreLinks (links w.outer.air)) (λ node. Unit {0}) (keeps (links w.outer.air)) (mesh_of w) step hearing refl) ∙ same);
     deals = λ w event events. comes w (deals w.devices w.outer event) w.devices (deals_members w.devices w.outer event);
     acts = λ w place device event route found may. comes w (acts w.outer device event route) (slice_set w.devices place (device_after device event))
-        (with_links w.outer (acts w.outer device event route).outer.air (answered_if_links (is_joined w.outer.air device.node) w.outer.air device.node (option_map backwards route) (device_replies device event)));
+        (with_links w.outer (acts w.outer device event route).outer.air (replied_if (AreLinks (links w.outer.air)) (λ node. Unit {0}) (keeps (links w.outer.air)) (is_joined w.outer.air device.node) w.outer.air device.node (option_map backwards route)
+        (device_replies device event) refl refl));
   }
 
   pub event_members : (m : Machine) (event : Event) → CoversOuter IsQuietEvent event → May m event → HasMembers these m → HasMembers these (happens m event)

@@ -1,6 +1,6 @@
 -- Where nothing is marked, no event of a quiet line or of a tick marks anything.
 use Rattle.std.proofs.Common.{◌≡◌, ℕ, zero, suc, ◌+◌, ◌-◌, ◌&&◌, drop, nat_le, Bool, true, false, if◌then◌else◌, List, [], ◌∷◌, ◌++◌, length, refl, sym, ◌∙◌, subst, arith}
-use Rattle.std.specs.Prelude.{Option, Some, None, slice_get, slice_set, option_map, nat_lt}
+use Rattle.std.specs.Prelude.{Option, Some, None, slice_set, option_map, nat_lt}
 use Rattle.std.specs.Option.{unwrap_or}
 use Rattle.route_table.specs.Network.{linked}
 use Rattle.chip_functions.specs.Notice.{status_of}
@@ -16,24 +16,19 @@ use Rattle.serial_pipes.specs.Events.{Writes, passing}
 use Rattle.serial_pipes.specs.Events as way
 use Rattle.route_table.specs.declared.route.Route.{Route}
 use Rattle.air_frames.specs.declared.frame.Heading.{Heading}
-use Rattle.air_frames.specs.declared.frame.Heading.TheVariants.{Outward, Homeward}
-use Rattle.air_frames.specs.Flown.{Flown}
-use Rattle.air_frames.specs.Frames.{peer_of, next_of, remembered}
+use Rattle.air_frames.specs.declared.frame.Heading.TheVariants.{Homeward}
+use Rattle.air_frames.specs.Frames.{peer_of}
 use Rattle.device_sim.specs.State.{State}
-use Rattle.device_sim.specs.Event.{DeviceEvent, Hears, device_after, device_replies}
+use Rattle.device_sim.specs.Event.{DeviceEvent, device_after, device_replies}
 use Rattle.chip_sim.specs.State.{ChipState}
 use Rattle.chip_sim.specs.Events.{ChipEvent, Judged, Ticked, Heard as chip_hears, Done, Informed, Joined, Linked, Forgets, Collides, after, outs}
 use Rattle.chip_sim.specs.declared.out.ChipOut.{ChipOut}
 use Rattle.chip_sim.specs.declared.out.ChipOut.TheVariants.{Write, OnAir, NoRoute, AskInfo, Full}
 use Rattle.mesh_sim.specs.declared.event.AirEvent.{AirEvent}
 use Rattle.mesh_sim.specs.declared.event.AirEvent.TheVariants as air_event
-use Rattle.mesh_sim.specs.declared.fate.Fate.{Fate}
-use Rattle.mesh_sim.specs.declared.fate.Fate.TheVariants.{Lost, Dead, Missed, AtChip, AtDevice}
 use Rattle.mesh_sim.specs.Air.{AirState, departing, is_joined, beginning}
-use Rattle.mesh_sim.specs.Fates.{Mesh, fate_of, listener_of}
 use Rattle.mesh_sim.specs.Routes.{backwards}
-use Rattle.mesh_sim.specs.Steps.{AirStep, answered, answered_if, heard_at, heard_again, arriving_as, arriving, repeating_by, repeating, landed, acknowledged, mesh_after}
-use Rattle.mesh_sim.specs.Steps as mesh
+use Rattle.mesh_sim.specs.Steps.{AirStep, landed, mesh_after}
 use Rattle.zw_text.specs.declared.entry.Entry.{Entry}
 use Rattle.zw_text.specs.declared.entry.Entry.TheVariants as entry
 use Rattle.law_transcript.specs.Lists.{EachAfter}
@@ -49,6 +44,7 @@ use Rattle.world_model.specs.State.{Machine}
 use Rattle.world_model.specs.Events.{Event, happens, May}
 use Rattle.proof_work.specs.proof_walk.Outside.{Knowing, Comes, Outer, IsSimple, IsDone, IsHearing, CoversOuter, session_begins}
 use Rattle.proof_work.proofs.proof_walk_Machines.{machine_keeps}
+use Rattle.proof_calm.proofs.Heard.{Keeps, replied_if, steps_keep}
 use Rattle.proof_calm.proofs.Collisions.{event_left, frame_left}
 use Rattle.law_transcript.proofs.Deciding.{not_true as not_own}
 use Rattle.proof_work.specs.Phases.{AsksNothing}
@@ -84,53 +80,16 @@ less n none = omega (arith, none)
 departs_clear : (air : AirState) (node : ℕ) (heading : Heading) (route : Option Route) (payload : List ℕ) → IsClear air → IsClear (departing air node heading route payload)
 departs_clear air node heading route payload clear = record { frames = less air.losing clear.frames; acknowledgements = clear.acknowledgements }
 
-answers_clear : (air : AirState) (node : ℕ) (way : Option Route) (replies : List (List ℕ)) → IsClear air → IsClear (answered air node way replies)
-answers_clear air node way [] clear = clear
-answers_clear air node way (reply ∷ replies) clear = answers_clear (departing air node Homeward way reply) node way replies (departs_clear air node Homeward way reply clear)
-
-answers_if_clear : (b : Bool) (air : AirState) (node : ℕ) (way : Option Route) (replies : List (List ℕ)) → IsClear air → IsClear (answered_if b air node way replies)
-answers_if_clear true air node way replies clear = answers_clear air node way replies clear
-answers_if_clear false air node way replies clear = clear
-
-heard_clear : (at : Mesh) (place : ℕ) (device : Option State) (node : ℕ) (route : Option Route) (event : DeviceEvent) → IsClear at.air → IsClear (heard_at at place device node route event).air
-heard_clear at place None node route event clear = clear
-heard_clear at place (Some device) node route event clear = answers_if_clear (is_joined at.air node) at.air node (option_map backwards route) (device_replies device event) clear
-
 landed_clear : (air : AirState) → IsClear air → IsClear (landed air)
 landed_clear air clear = record { frames = clear.frames; acknowledgements = clear.acknowledgements }
 
-acknowledged_clear : (air : AirState) → IsClear air → IsClear (landed (acknowledged air))
-acknowledged_clear air clear = record { frames = clear.frames; acknowledgements = less air.ack_losing clear.acknowledgements }
-
-arrives_clear : (at : Mesh) (frame : Flown) (fate : Fate) (drawn : List ℕ) (route : Option Route) → IsClear at.air → IsClear (arriving_as at frame fate drawn route).air
-arrives_clear at frame Lost drawn route clear = landed_clear at.air clear
-arrives_clear at frame (Dead from to) drawn route clear = landed_clear at.air clear
-arrives_clear at frame Missed drawn route clear = landed_clear at.air clear
-arrives_clear at frame AtChip drawn route clear = landed_clear at.air clear
-arrives_clear at frame (AtDevice place) drawn route clear =
-    heard_clear (record at { air = landed (acknowledged at.air) }) place (slice_get at.devices place) frame.node route (Hears frame.payload drawn) (acknowledged_clear at.air clear)
-
-next_clear : (at : Mesh) (frame : Option Flown) (drawn : List ℕ) (route : Option Route) → IsClear at.air → IsClear (arriving at frame drawn route).air
-next_clear at None drawn route clear = clear
-next_clear at (Some frame) drawn route clear = arrives_clear at frame (fate_of at.air.network at.devices frame) drawn route clear
-
-again_clear : (at : Mesh) (place : Option ℕ) (node : ℕ) (route : Option Route) (event : DeviceEvent) → IsClear at.air → IsClear (heard_again at place node route event).air
-again_clear at None node route event clear = clear
-again_clear at (Some place) node route event clear = heard_clear at place (slice_get at.devices place) node route event clear
-
-repeats_clear : (heading : Heading) (at : Mesh) (frame : Flown) (drawn : List ℕ) (route : Option Route) → IsClear at.air → IsClear (repeating_by heading at frame drawn route).air
-repeats_clear Homeward at frame drawn route clear = clear
-repeats_clear Outward at frame drawn route clear = again_clear at (listener_of frame.node at.devices) frame.node route (Hears frame.payload drawn) clear
-
-repeated_clear : (at : Mesh) (frame : Option Flown) (drawn : List ℕ) (route : Option Route) → IsClear at.air → IsClear (repeating at frame drawn route).air
-repeated_clear at None drawn route clear = clear
-repeated_clear at (Some frame) drawn route clear = repeats_clear frame.heading at frame drawn route clear
-
-steps_clear : (at : Mesh) (step : AirStep) → IsHearing step → IsClear at.air → IsClear (mesh_after at step).air
-unfolding mesh_after
-steps_clear at (mesh.Arrives drawn route) hearing clear = next_clear at (next_of at.air.frames) drawn route clear
-steps_clear at (mesh.Repeats number drawn route) hearing clear = repeated_clear at (remembered at.air.frames number) drawn route clear
-steps_clear at step hearing clear = absurd hearing
+keeps : Keeps IsClear (λ node. Unit {0})
+keeps = record {
+  departs = λ air node way reply may clear. departs_clear air node Homeward way reply clear;
+  joined = λ air node is clear. tt;
+  lands = landed_clear;
+  acknowledges = λ air clear. record { frames = clear.frames; acknowledgements = less air.ack_losing clear.acknowledgements };
+}
 
 clear_of : (o : OuterState) → HasNoMarks o → IsClear o.air
 clear_of o none = record { frames = none.frames; acknowledgements = none.acknowledgements }
@@ -228,7 +187,7 @@ deals_none devices o (air_event.Changed node at) none = none
 
 acts_none : (o : OuterState) (device : State) (event : DeviceEvent) (route : Option Route) → HasNoMarks o → HasNoMarks (acts o device event route).outer
 acts_none o device event route none =
-    with_air o _ none (answers_if_clear (is_joined o.air device.node) o.air device.node (option_map backwards route) (device_replies device event) (clear_of o none))
+    with_air o _ none (replied_if IsClear (λ node. Unit {0}) keeps (is_joined o.air device.node) o.air device.node (option_map backwards route) (device_replies device event) refl (clear_of o none))
 
 -- ---- all of it
 
@@ -266,7 +225,7 @@ session_none o node sessions none = by (nat_le (peer_of o.air.frames node).begun
 
 -- what a frame that arrives makes of the air
 pub steps_none : (w : Outside) (step : AirStep) → IsHearing step → HasNoMarks w.outer → HasNoMarks (record w.outer { air = (mesh_after (mesh_of w) step).air })
-steps_none w step hearing none = with_air w.outer (mesh_after (mesh_of w) step).air none (steps_clear (mesh_of w) step hearing (clear_of w.outer none))
+steps_none w step hearing none = with_air w.outer (mesh_after (mesh_of w) step).air none (steps_keep IsClear (λ node. Unit {0}) keeps (mesh_of w) step hearing (clear_of w.outer none))
 
 -- a tick later bytes move still
 later_moves : (clock until : ℕ) → nat_lt clock until ≡ false → nat_lt (clock + 1) until ≡ false
