@@ -65,8 +65,8 @@ use Rattle.proof_calm.specs.Awaited.{Awaits, AwaitsAt}
 use Rattle.proof_calm.specs.Live.{HasLive, IsLive}
 use Rattle.proof_calm.specs.Marks.{IsQuietEvent}
 use Rattle.proof_calm.specs.Networks.{Members, members}
-use Rattle.proof_calm.specs.Resting.{IsEffect, LineAt}
 use Rattle.proof_calm.specs.Tied.{unheard}
+use Rattle.proof_calm.proofs.Peopled.{covers_of}
 use Rattle.proof_calm.proofs.Links.{event_members}
 use Rattle.proof_calm.proofs.Routed.{judged_of}
 use Rattle.proof_calm.proofs.Unmarked.{nothing_asked}
@@ -380,33 +380,6 @@ awaits_of (Submitting passes ticks) m at = at
 awaits_of (Moving passes ticks) m at = at
 awaits_of (Moved b passes ticks) m at = at
 
-covers_effect : (event : Event) → IsEffect event → CoversOuter IsQuietEvent event
-covers_effect (Outside_does (Wakes_device node route)) is = tt
-covers_effect (Outside_does (Shows node)) is = tt
-covers_effect (Outside_does (Cuts size)) is = tt
-covers_effect (Outside_does event) is = absurd is
-covers_effect (Host_does event) is = tt
-covers_effect event is = tt
-
-covers_as : (event is : Event) → event ≡ is → CoversOuter IsQuietEvent is → CoversOuter IsQuietEvent event
-covers_as event is same covers = subst (CoversOuter IsQuietEvent) (sym same) covers
-
-covers_at : (here next : Phase) (m : Machine) (event : Event) → Goes here m event next → LineAt here m → CoversOuter IsQuietEvent event
-covers_at (Said_line line) next m event (is, to) line_at = covers_as event _ is tt
-covers_at (Doing line (first ∷ left)) next m event (is, to) line_at = covers_as event first is (covers_effect first line_at.0.0)
-covers_at (To_tick (suc ticks)) next m event (is, to) line_at = covers_as event _ is tt
-covers_at (Arriving (suc frames) ticks) next m event (drawn, route, is, to) line_at = covers_as event _ is tt
-covers_at (Giving (suc results) ticks) next m event (route, is, to) line_at = covers_as event _ is tt
-covers_at (Ticking_devices place (suc count) ticks) next m event (drawn, route, is, to) line_at = covers_as event _ is tt
-covers_at (Ticking_chip ticks) next m event (is, to) line_at = covers_as event _ is tt
-covers_at (Ticking_decoder ticks) next m event (is, to) line_at = covers_as event _ is tt
-covers_at (Ticking_host (first ∷ events) ticks) next m event (is, to) line_at = covers_as event _ is tt
-covers_at (Sleeping passes ticks) next m event (node, wants, is, to) line_at = covers_as event _ is tt
-covers_at (Submitting passes ticks) next m event (asked, next_is, is, to) line_at = covers_as event _ is tt
-covers_at (Moving passes ticks) next m event (rest, ways, is, to) line_at = covers_as event _ is tt
-covers_at (Moved b passes ticks) next m event (rest, items, done, is, to) line_at = covers_as event _ is tt
-covers_at here next m event goes line_at = absurd goes
-
 module _ (airs : Airs) (go : (m : Machine) (event : Event) → GoOn m.outside.devices (happens m event).outside.devices) (same_nodes : (old new : List State) → GoOn old new → AreSame old new) where
   module _ (these : List Bool) (many : length these ≡ 233) where
     listens_on : (m : Machine) (event : Event) → CoversOuter IsQuietEvent event → May m event → IsSentTo these m event → Awaits m → AllListen these m → AllListen these (happens m event)
@@ -426,7 +399,7 @@ module _ (airs : Airs) (go : (m : Machine) (event : Event) → GoOn m.outside.de
           let tied = at.0.0.tied before.quiet in
           let awaits : Awaits m = awaits_of here m tied.1 in (
             (heard.event here next past m event goes may (heard_then airs m event awaits tied.7.live these at.1) (λ stretched. at.0)).1 is,
-            listens_on m event (covers_at here next m event goes tied.0) may sent awaits at.1,
+            listens_on m event (covers_of here next m event goes tied.0) may sent awaits at.1,
           )
 
       said_on : (past : List Entry) (m : Machine) (words : List ℕ) (line : Line) → line_of (entry.Said words) ≡ line ∷ [] → KnowListening these Between past m → KnowListening these (Said_line line) (past ++ entry.Said words ∷ []) m
@@ -451,7 +424,7 @@ module _ (airs : Airs) (go : (m : Machine) (event : Event) → GoOn m.outside.de
         let tied = at.0.0.tied before.quiet in
         let awaits : Awaits m = awaits_of here m tied.1 in
         let joined : (happens m event).outside.outer.chip.state.joined ≡ m.outside.outer.chip.state.joined =
-        ap (λ (them : Members). them.of_chip) (event_members (members m.outside.outer) m event (covers_at here next m event goes tied.0) may refl) in
+        ap (λ (them : Members). them.of_chip) (event_members (members m.outside.outer) m event (covers_of here next m event goes tied.0) may refl) in
         let all = does_all m.outside.outer.chip.state.joined awaits.follows.joined heard here next past m event goes may (sent_to_joined m event) is known in
         (all.0, subst (λ (l : List Bool). AllListen l (happens m event)) (sym joined) all.1)
 

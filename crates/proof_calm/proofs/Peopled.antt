@@ -61,7 +61,7 @@ covers_effect event is = tt
 covers_as : (event is : Event) → event ≡ is → CoversOuter IsQuietEvent is → CoversOuter IsQuietEvent event
 covers_as event is same covers = subst (CoversOuter IsQuietEvent) (sym same) covers
 
-covers_of : (here next : Phase) (m : Machine) (event : Event) → Goes here m event next → LineAt here m → CoversOuter IsQuietEvent event
+pub covers_of : (here next : Phase) (m : Machine) (event : Event) → Goes here m event next → LineAt here m → CoversOuter IsQuietEvent event
 covers_of (Said_line line) next m event (is, to) line_at = covers_as event _ is tt
 covers_of (Doing line (first ∷ left)) next m event (is, to) line_at = covers_as event first is (covers_effect first line_at.0.0)
 covers_of (To_tick (suc ticks)) next m event (is, to) line_at = covers_as event _ is tt
