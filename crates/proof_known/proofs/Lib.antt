@@ -10,7 +10,7 @@ mod Recording
 mod Answering
 pub mod ForHost
 pub mod KeptKeys
-mod Followers
+pub mod Followers
 pub mod Noting
 pub use Rattle.proof_waking.proofs.Running
 pub use Rattle.proof_transcript.proofs.AttemptStarts

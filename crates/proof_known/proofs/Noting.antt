@@ -78,6 +78,17 @@ Rooms = (past : List Entry) (m : HostMachine) → TieTables past m.state m.recor
 abbrev pub Nothing : Knowledge
 Nothing here past m = Unit {0}
 
+-- notes alone are told as they are
+pub noted_told : (notes told : List Entry) → AreTold (noted notes) told → told ≡ notes
+noted_told [] told is = is
+noted_told (e ∷ notes) told (rest, is, more) = is ∙ ap (λ (l : List Entry). e ∷ l) (noted_told notes rest more)
+
+-- what counts of a node with these classes, by its transcript too
+pub secure_is : (classes : Option (List ℕ)) → is_secure classes ≡ lists (unwrap_or classes []) 0x98
+unfolding lists
+secure_is None = refl
+secure_is (Some classes) = refl
+
 -- with these keys of the host
 module _ (keys : Keys) where
   -- ---- entries of which nothing is asked
@@ -158,10 +169,6 @@ module _ (keys : Keys) where
 
   -- ---- notes
 
-  noted_told : (notes told : List Entry) → AreTold (noted notes) told → told ≡ notes
-  noted_told [] told is = is
-  noted_told (e ∷ notes) told (rest, is, more) = is ∙ ap (λ (l : List Entry). e ∷ l) (noted_told notes rest more)
-
   -- the first of them is asked of, the others are not
   notes_stand : (past : List Entry) (e : Entry) (more told : List Entry) → AreTold (noted (e ∷ more)) told → MayStand past e → AllByRecursion IsUnasked more → Stand past told
   notes_stand past e more told are may all =
@@ -224,12 +231,6 @@ module _ (keys : Keys) where
       by : (b : Bool) → strong one ≡ b → (b || list_any strong l) ≡ true → (list_any strong l ≡ true → list_any weak l ≡ true) → (weak one || list_any weak l) ≡ true
       by true here any more = or_left (weak one) (list_any weak l) (goes one here)
       by false here any more = or_right (weak one) (list_any weak l) (more any)
-
-  -- what counts of a node with these classes, by its transcript too
-  secure_is : (classes : Option (List ℕ)) → is_secure classes ≡ lists (unwrap_or classes []) 0x98
-  unfolding lists
-  secure_is None = refl
-  secure_is (Some classes) = refl
 
   counts_so : (past : List Entry) (n : ℕ) (classes : Option (List ℕ)) (such : Told → Bool) (heard : Heard) → classes ≡ known_classes listing_heard past n
       → counts classes such heard ≡ may_count past n such heard

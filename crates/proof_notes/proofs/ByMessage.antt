@@ -47,6 +47,7 @@ use Rattle.host_model.specs.declared.out.HostOut.TheVariants.{Note}
 use Rattle.proof_host.specs.Facts.{Facts}
 use Rattle.proof_host.specs.Laws.{accepted_for, numbers_for}
 use Rattle.proof_host.specs.Tables.{nodes_by, taken_at, taken_by}
+use Rattle.proof_known.proofs.Noting.{noted_told, secure_is}
 use Rattle.proof_known.specs.proof_transcript.proof_once.ByTable.{IsTable}
 use Rattle.proof_known.specs.proof_transcript.proof_once.Tied.{settings_taken}
 use Rattle.proof_known.specs.proof_transcript.proof_spoken.Said.{KnowsListing}
@@ -68,10 +69,6 @@ pub record Ties (past : List Entry) (h : HostState) : Type 0 where
   pub tables : (n : ℕ) → IsTable listing_heard h.commands n past
 
 -- ---- what is told
-
-pub noted_told : (notes some : List Entry) → AreTold (noted notes) some → some ≡ notes
-noted_told [] some is = is
-noted_told (e ∷ notes) some (rest, is, more) = is ∙ ap (λ (l : List Entry). e ∷ l) (noted_told notes rest more)
 
 pub note_told : (e : Entry) (some : List Entry) → AreTold (Note e ∷ []) some → some ≡ e ∷ []
 note_told e some are = noted_told (e ∷ []) some are
@@ -163,11 +160,6 @@ is_final P (first ∷ more) None attempts id status session is =
 is_final P commands (Some ended) attempts id status session is = absurd (let bad : told.Old ≡ told.Final session = is in cc)
 
 -- ---- a message
-
-secure_is : (classes : Option (List ℕ)) → is_secure classes ≡ lists (unwrap_or classes []) 0x98
-unfolding lists
-secure_is None = refl
-secure_is (Some classes) = refl
 
 abbrev pub IsNoValues : Told → Type 0
 IsNoValues (Values settings) = ⊥

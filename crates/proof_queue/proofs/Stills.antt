@@ -1,8 +1,7 @@
 -- Events of a host that leave the tasks that wait, and drop no message; and what a request that is submitted leaves of them.
-use Rattle.std.proofs.Common.{◌≡◌, ℕ, ◌==◌, ◌||◌, Bool, true, false, if◌then◌else◌, List, [], ◌∷◌, ◌++◌, map, refl, sym, ap, ap₂, ◌∙◌, subst}
+use Rattle.std.proofs.Common.{◌≡◌, ℕ, ◌||◌, Bool, true, false, if◌then◌else◌, List, [], ◌∷◌, ◌++◌, map, refl, sym, ap, ap₂, ◌∙◌, subst}
 use Rattle.std.specs.Prelude.{bytes_eq, drop}
 use Rattle.std.specs.List.{AllByRecursion, flat_map, list_any}
-use Rattle.std.proofs.lemmas.Bool.{and_from, eq-eqb}
 use Rattle.chip_functions.specs.declared.request.Request.{Request}
 use Rattle.serial_link.specs.State.{Side, tick_side}
 use Rattle.law_transcript.specs.Units.{request_in}
@@ -29,6 +28,7 @@ use Rattle.proof_attempts.specs.proof_requests.proof_waking.Judged.{IsOfRequest}
 use Rattle.proof_attempts.specs.proof_requests.Walking.{IsOfChip}
 use Rattle.proof_attempts.proofs.Doing.{attempt_asks, end_if_asks}
 use Rattle.proof_attempts.proofs.Queued.{told_queue}
+use Rattle.proof_known.proofs.Followers.{bytes_same}
 use Rattle.proof_queue.specs.Turn.{is_first_waiting}
 use Rattle.proof_queue.specs.Waiting.{dropped_at, dropped_by, want_of_task}
 use Rattle.proof_queue.proofs.Undropped.{ArePut, line_put, node_put, put_drops, request_put}
@@ -141,10 +141,6 @@ want_same (IsFailed n) id = refl
 want_same Version id = refl
 want_same MemoryId id = refl
 want_same Capabilities id = refl
-
-bytes_same : (l : List ℕ) → bytes_eq l l ≡ true
-bytes_same [] = refl
-bytes_same (x ∷ l) = and_from (x == x) (bytes_eq l l) (eq-eqb x x refl) (bytes_same l)
 
 pub first_waits : (queue : List Task) (id : ℕ) (unit : List ℕ) → (queue ≡ [] → ⊥) → request_in unit ≡ request_of (task_purpose queue) id ∷ []
     → is_first_waiting unit (map want_of_task queue) ≡ true

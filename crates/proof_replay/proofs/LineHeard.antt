@@ -62,7 +62,7 @@ use Rattle.proof_line.proofs.LinkLines.{TellsNone, host_restarts, restarted, say
 use Rattle.proof_line.proofs.LinkTime.{tick_serials, timed_serials}
 use Rattle.proof_line.proofs.LinkTold.{besides_known}
 use Rattle.proof_line.proofs.LinkWalk.{first_link, first_now}
-use Rattle.proof_line.proofs.Serials.{told_grows}
+use Rattle.proof_line.proofs.Serials.{due_grows, told_grows}
 use Rattle.proof_line.proofs.Tellings.{IsBeside, TellsSome}
 use Rattle.proof_replay.specs.Heard.{came_as}
 use Rattle.proof_replay.specs.Linked.{KnowsLine, LineAsked, LineRests, number_at}
@@ -76,11 +76,6 @@ untimed now due [] none = (refl, refl)
 untimed now due (entry.Said words ∷ told) none = absurd none.0
 untimed now due (entry.Time tick ∷ told) none = absurd none.0
 untimed now due (e ∷ told) none = untimed now due told none.1
-
-due_grows : (due : ℕ) (past told : List Entry) → due_from due (past ++ told) ≡ due_from (due_from due past) told
-due_grows due [] told = refl
-due_grows due (entry.Said words ∷ past) told = due_grows (due + ticks_asked (line_of (entry.Said words))) past told
-due_grows due (e ∷ past) told = due_grows due past told
 
 time_stays : (past told : List Entry) → AreUntimed told → tick_told (past ++ told) ≡ tick_told past
 time_stays past told none = told_grows 0 0 past told ∙ (untimed (told_from 0 0 past) (due_from 0 past) told none).0
