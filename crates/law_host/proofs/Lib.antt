@@ -1,3 +1,6 @@
 mod Noting
 mod Opening
 mod FirstLife
+pub use Rattle.law_transcript.proofs.Deciding
+pub use Rattle.law_transcript.proofs.Having
+pub use Rattle.law_time.proofs.Computing

@@ -1,7 +1,7 @@
 -- Whether a run of `sim` is legal (this project's own rule): the laws of lines, devices, air, serial line, chip and host that every run keeps,
 -- as one.
 use Rattle.std.specs.Prelude.{◌≡◌, ℕ, Bool, true, false, List, [], Option, Some, IfSome}
-use Rattle.device_stack.specs.State.{State}
+use Rattle.law_transcript.specs.device_stack.State.{State}
 use Rattle.zw_text.specs.declared.entry.Entry.{Entry}
 use Rattle.law_transcript.specs.Answers.{AnswersLines, CancelsWhenAsked}
 use Rattle.law_transcript.specs.Carrying.{BringsWhatWasHeard, CarriesUnits}

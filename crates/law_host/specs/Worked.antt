@@ -6,7 +6,7 @@ use Rattle.zw_base.specs.declared.order.Word.TheVariants.{On, Off}
 use Rattle.zw_base.specs.declared.order.What.TheVariants.{Value}
 use Rattle.zw_base.specs.declared.property.Name.TheVariants as names
 use Rattle.class_info.specs.declared.report_status.ReportStatus.TheVariants.{Working}
-use Rattle.device_stack.specs.State.{State}
+use Rattle.law_transcript.specs.device_stack.State.{State}
 use Rattle.host_heard.specs.declared.told.Told.{Told}
 use Rattle.host_heard.specs.declared.told.Told.TheVariants as told
 use Rattle.host_keep.specs.declared.final_status.FinalStatus.TheVariants.{Success}

@@ -2,7 +2,7 @@
 
 ghost use Rattle.law_time.specs.Heeds.{heeds_of};
 ghost use Rattle.std.specs.Prelude.{[], ◌∷◌, false, ℕ, Bool, List, map, Option, None, Some, true};
-ghost use Rattle.device_stack.specs.State.{State};
+ghost use Rattle.law_transcript.specs.device_stack.State.{State};
 ghost use Rattle.host_keep.specs.RecordText.{record_text};
 ghost use Rattle.law_host.specs.Heard.{heard_by_host};
 ghost use Rattle.law_host.specs.HostLegal.{IsHostLegal, IsLegalAlone};

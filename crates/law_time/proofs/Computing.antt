@@ -2,8 +2,8 @@ use Rattle.std.specs.Prelude.{⊤}
 use Rattle.class_core.specs.Reading.{nodes_at}
 use Rattle.class_core.specs.MessageReading.{association_at}
 use Rattle.class_info.specs.InfoReading.{nonce_at}
-use Rattle.device_kinds.specs.Judging.{judged_message, judged_members, member_count}
-use Rattle.device_kinds.specs.Kind.{nodes_from}
+use Rattle.law_wire.specs.device_kinds.Judging.{judged_message, judged_members, member_count}
+use Rattle.law_wire.specs.device_kinds.Kind.{nodes_from}
 use Rattle.chip_functions.specs.Mask.{nodes_of}
 use Rattle.chip_functions.specs.Response.{init_data_at, capabilities_at, version_at, memory_id_at, protocol_info_at, response_at, response_of}
 use Rattle.law_wire.proofs.law_transcript_Computing.{computing as shown}

@@ -43,3 +43,4 @@ pub mod WrongAttempts
 pub mod WrongCalm
 pub mod WrongBetween
 pub mod WrongChoice
+pub use Rattle.law_wire.specs.law_transcript as law_transcript

@@ -4,12 +4,12 @@ use Rattle.std.specs.Prelude.{ℕ, ◌+◌, ◌==◌, Bool, true, false, if◌th
 use Rattle.std.specs.List.{list_any}
 use Rattle.zw_base.specs.declared.property.Setting.{Setting}
 use Rattle.encap.specs.Opening.{Message, opened_at}
-use Rattle.device_kinds.specs.declared.verdict.Verdict.{Verdict}
-use Rattle.device_kinds.specs.declared.verdict.Verdict.TheVariants as verdicts
-use Rattle.device_kinds.specs.Effects.{end_of}
-use Rattle.device_kinds.specs.Judging.{judged_message}
+use Rattle.law_wire.specs.device_kinds.declared.verdict.Verdict.{Verdict}
+use Rattle.law_wire.specs.device_kinds.declared.verdict.Verdict.TheVariants as verdicts
+use Rattle.law_wire.specs.device_kinds.Effects.{end_of}
+use Rattle.law_wire.specs.device_kinds.Judging.{judged_message}
 use Rattle.law_wire.specs.device_stack.State.{State, value_of, last_level_of}
-use Rattle.device_kinds.specs.Values.{value_by, level_by}
+use Rattle.law_wire.specs.device_kinds.Values.{value_by, level_by}
 use Rattle.zw_text.specs.declared.entry.Entry.{Entry}
 use Rattle.zw_text.specs.declared.entry.Entry.TheVariants.{Begin}
 use Rattle.zw_text.specs.declared.entry.Outcome.{Outcome}

@@ -1,6 +1,6 @@
 -- Worked transcripts of which request is next where none waits, made by hand in the form in which the program prints them.
 use Rattle.std.specs.Prelude.{List, [], ◌∷◌, ◌++◌, codes, take}
-use Rattle.device_kinds.specs.declared.kind.Kind.TheVariants as kinds
+use Rattle.law_wire.specs.device_kinds.declared.kind.Kind.TheVariants as kinds
 use Rattle.law_wire.specs.device_stack.State.{State, fresh}
 use Rattle.zw_text.specs.declared.entry.Done.TheVariants as done
 use Rattle.zw_text.specs.declared.entry.Entry.{Entry}

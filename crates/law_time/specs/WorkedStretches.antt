@@ -9,7 +9,7 @@ use Rattle.zw_text.specs.declared.entry.Ended.TheVariants as endings
 use Rattle.zw_text.specs.declared.entry.Entry.{Entry}
 use Rattle.zw_text.specs.declared.entry.Entry.TheVariants.{Accepted, Air, Begin, Dev, Heard, Interviewed, Out, Said, Store, Time, Written}
 use Rattle.law_wire.specs.law_transcript.Worked.{bytes}
-use Rattle.device_kinds.specs.declared.kind.Kind.TheVariants as kinds
+use Rattle.law_wire.specs.device_kinds.declared.kind.Kind.TheVariants as kinds
 use Rattle.law_wire.specs.device_stack.State.{State, fresh}
 
 -- `link 1 6`, `join 6`, `interview 6`, `tick 2`

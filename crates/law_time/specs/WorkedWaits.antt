@@ -10,7 +10,7 @@ use Rattle.zw_text.specs.declared.entry.Refusal.TheVariants as refusals
 use Rattle.zw_text.specs.declared.entry.Entry.{Entry}
 use Rattle.zw_text.specs.declared.entry.Entry.TheVariants.{Said, Accepted, Refused, Begin, Written, Dropped, Air, Heard, Lost, Dev, Out, Store, Report, Awake, Asleep, Interviewed, InterviewFailed, Done, Neighbours, Failed, Held, Time}
 use Rattle.law_wire.specs.law_transcript.Worked.{bytes}
-use Rattle.device_kinds.specs.declared.kind.Kind.TheVariants as kinds
+use Rattle.law_wire.specs.device_kinds.declared.kind.Kind.TheVariants as kinds
 use Rattle.law_wire.specs.device_stack.State.{State, fresh}
 
 -- `send 2 on`, `tick 2`, `lose 1`, `get 2`, `tick 1`, `neighbours 2`, `failed 2`: a Set, a Get that is lost, and two questions

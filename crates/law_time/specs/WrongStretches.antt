@@ -2,7 +2,7 @@
 -- `wake` line, and lines that wake too often.
 use Rattle.std.specs.Prelude.{ℕ, zero, suc, List, [], ◌∷◌, codes}
 use Rattle.zw_words.specs.declared.side.Side.TheVariants.{Host, Chip}
-use Rattle.device_kinds.specs.declared.kind.Kind.TheVariants as kinds
+use Rattle.law_wire.specs.device_kinds.declared.kind.Kind.TheVariants as kinds
 use Rattle.law_wire.specs.device_stack.State.{State, fresh}
 use Rattle.zw_text.specs.declared.entry.Entry.{Entry}
 use Rattle.zw_text.specs.declared.entry.Entry.TheVariants.{Said, Accepted, Written, Interviewed}

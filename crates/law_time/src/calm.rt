@@ -2,7 +2,7 @@
 
 ghost use Rattle.std.specs.Prelude.{◌≡◌, true, false, [], ◌∷◌, drop, take, codes};
 ghost use Rattle.law_wire.specs.device_stack.State.{fresh};
-ghost use Rattle.device_kinds.specs.declared.kind.Kind.TheVariants as kinds;
+ghost use Rattle.law_wire.specs.device_kinds.declared.kind.Kind.TheVariants as kinds;
 ghost use Rattle.std.specs.List.{list_all};
 ghost use Rattle.law_time.specs.Calm.{IsCalm, IsStill, air_is_empty, chip_is_idle, is_not_stuck, owes_no_call};
 ghost use Rattle.law_time.specs.Rests.{is_rest};

@@ -8,3 +8,5 @@ mod Ciphering
 pub mod Sealing
 mod Headlines
 pub use Rattle.device_sim.proofs.LawLemmas
+pub use Rattle.host_keep.proofs.RecordLists
+pub use Rattle.host_keep.proofs.RowsBack

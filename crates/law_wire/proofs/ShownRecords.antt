@@ -6,13 +6,13 @@ use Rattle.std.proofs.lemmas.Bool.Decides.{nat_tests}
 use Rattle.zw_base.specs.declared.order.Word.TheVariants.{On, Off}
 use Rattle.zw_base.specs.declared.order.What.{What}
 use Rattle.zw_base.specs.declared.order.What.TheVariants.{Value, Bulk, Interval}
-use Rattle.host_keep.specs.Kept.{Kept, KeptNode, blank_node, node_of, kept_of}
-use Rattle.host_keep.specs.Legal.{Give, AreTextsOf, AreLegal, first_illegal}
-use Rattle.host_keep.specs.RecordText.{record_text, IsTextOf}
-use Rattle.host_keep.specs.Rows.{IsNode, IsWhat, IsRecord, AreBytes}
-use Rattle.host_keep.specs.declared.record.Record.{Record}
-use Rattle.host_keep.specs.declared.record.Record.TheVariants as records
-use Rattle.host_keep.specs.declared.final_status.FinalStatus.TheVariants.{Success}
+use Rattle.law_transcript.specs.host_keep.Kept.{Kept, KeptNode, blank_node, node_of, kept_of}
+use Rattle.law_transcript.specs.host_keep.Legal.{Give, AreTextsOf, AreLegal, first_illegal}
+use Rattle.law_transcript.specs.host_keep.RecordText.{record_text, IsTextOf}
+use Rattle.law_transcript.specs.host_keep.Rows.{IsNode, IsWhat, IsRecord, AreBytes}
+use Rattle.law_transcript.specs.host_keep.declared.record.Record.{Record}
+use Rattle.law_transcript.specs.host_keep.declared.record.Record.TheVariants as records
+use Rattle.law_transcript.specs.host_keep.declared.final_status.FinalStatus.TheVariants.{Success}
 use Rattle.zw_text.specs.declared.line.Line.{Line}
 use Rattle.zw_text.specs.declared.entry.Entry.{Entry}
 use Rattle.zw_text.specs.declared.entry.Entry.TheVariants.{Accepted, Begin, Interviewed, InterviewFailed}

@@ -4,7 +4,7 @@ use Rattle.std.specs.Prelude.{false, List, [], ◌∷◌, ◌++◌, codes, take}
 use Rattle.zw_base.specs.declared.property.Name.TheVariants as names
 use Rattle.zw_base.specs.declared.property.By.TheVariants.{Session, Local}
 use Rattle.zw_words.specs.declared.side.Side.TheVariants.{Host, Chip}
-use Rattle.host_orders.specs.Settings.{setting}
+use Rattle.law_transcript.specs.host_orders.Settings.{setting}
 use Rattle.law_transcript.specs.device_kinds.declared.kind.Kind.TheVariants as kinds
 use Rattle.law_transcript.specs.device_stack.State.{State, fresh}
 use Rattle.zw_text.specs.declared.entry.Ended.TheVariants as endings

@@ -2,7 +2,7 @@
 use Rattle.std.specs.Prelude.{ℕ, List, [], ◌∷◌, ◌++◌, codes}
 use Rattle.zw_base.specs.declared.property.Name.TheVariants as names
 use Rattle.zw_base.specs.declared.property.By.TheVariants.{Local}
-use Rattle.host_orders.specs.Settings.{setting}
+use Rattle.law_transcript.specs.host_orders.Settings.{setting}
 use Rattle.zw_text.specs.declared.entry.Entry.{Entry}
 use Rattle.zw_text.specs.declared.entry.Entry.TheVariants.{Said, Air, Dev, Device, TableEnd}
 use Rattle.law_transcript.specs.Worked.{bytes}

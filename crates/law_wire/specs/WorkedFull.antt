@@ -4,7 +4,7 @@ use Rattle.std.specs.List.{flat_map, range_with_len}
 use Rattle.zw_base.specs.declared.property.Name.TheVariants as names
 use Rattle.zw_base.specs.declared.property.By.TheVariants.{Local}
 use Rattle.zw_words.specs.declared.side.Side.TheVariants.{Chip}
-use Rattle.host_orders.specs.Settings.{setting}
+use Rattle.law_transcript.specs.host_orders.Settings.{setting}
 use Rattle.zw_text.specs.declared.entry.Entry.{Entry}
 use Rattle.zw_text.specs.declared.entry.Entry.TheVariants.{Said, Written, Air, Heard, ChipFull, Dev, Time}
 use Rattle.law_transcript.specs.Worked.{bytes}

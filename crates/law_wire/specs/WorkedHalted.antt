@@ -3,7 +3,7 @@
 use Rattle.std.specs.Prelude.{false, List, [], ◌∷◌, codes, take}
 use Rattle.zw_base.specs.declared.property.Name.TheVariants as names
 use Rattle.zw_base.specs.declared.property.By.TheVariants.{Local}
-use Rattle.host_orders.specs.Settings.{setting}
+use Rattle.law_transcript.specs.host_orders.Settings.{setting}
 use Rattle.law_transcript.specs.device_sim.State.{State}
 use Rattle.law_transcript.specs.device_sim.Event.{DeviceEvent}
 use Rattle.zw_text.specs.declared.entry.Entry.{Entry}

@@ -2,9 +2,9 @@
 use Rattle.std.specs.Prelude.{true, false, List, [], ◌∷◌, ◌++◌, codes, replicate, take, drop}
 use Rattle.zw_base.specs.declared.order.Word.TheVariants.{On, Off}
 use Rattle.zw_base.specs.declared.order.What.TheVariants.{Value, Bulk, Interval}
-use Rattle.host_keep.specs.declared.final_status.FinalStatus.TheVariants.{Success}
-use Rattle.host_keep.specs.declared.record.Record.{Record}
-use Rattle.host_keep.specs.declared.record.Record.TheVariants as records
+use Rattle.law_transcript.specs.host_keep.declared.final_status.FinalStatus.TheVariants.{Success}
+use Rattle.law_transcript.specs.host_keep.declared.record.Record.{Record}
+use Rattle.law_transcript.specs.host_keep.declared.record.Record.TheVariants as records
 use Rattle.zw_text.specs.declared.entry.Ended.TheVariants as endings
 use Rattle.zw_text.specs.declared.entry.Entry.{Entry}
 use Rattle.zw_text.specs.declared.entry.Entry.TheVariants.{Said, Accepted, Out}

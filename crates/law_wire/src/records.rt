@@ -1,7 +1,7 @@
 //! What the law of records says of worked transcripts and records, and of others with one thing wrong.
 
 ghost use Rattle.std.specs.Prelude.{[], ◌∷◌, map};
-ghost use Rattle.host_keep.specs.RecordText.{record_text};
+ghost use Rattle.law_transcript.specs.host_keep.RecordText.{record_text};
 ghost use Rattle.law_transcript.specs.Records.{KeepsRecords};
 ghost use Rattle.law_transcript.specs.Worked.{
   plain_exchange,

@@ -17,10 +17,10 @@ use Rattle.air_frames.specs.Frames.{FramesState, peer_of, kept as kept_of}
 use Rattle.air_frames.specs.History.{Mark, Goes, Begins, begins_in, news_after, last_in, stamped, IsOf}
 use Rattle.air_frames.proofs.Logs.{begins_in-append, begins_in-begins, goes_in-append, goes_in-begins, news_after-append, news_after-begins, last_in-append, last_in-begins, stamped-append, stamped-begins, GoBetweenNodes-append, between-begins}
 use Rattle.air_frames.proofs.Counted.{IsOf-goes, IsOf-begins}
-use Rattle.mesh_sim.specs.declared.event.AirEvent.{AirEvent}
-use Rattle.mesh_sim.specs.declared.event.AirEvent.TheVariants as air_event
-use Rattle.mesh_sim.specs.Air.{AirState, no_route, departing, is_joined, beginning}
-use Rattle.mesh_sim.specs.Steps.{answered, answers, answered_if, answers_if, changed}
+use Rattle.proof_walk.specs.mesh_sim.declared.event.AirEvent.{AirEvent}
+use Rattle.proof_walk.specs.mesh_sim.declared.event.AirEvent.TheVariants as air_event
+use Rattle.proof_walk.specs.mesh_sim.Air.{AirState, no_route, departing, is_joined, beginning}
+use Rattle.proof_walk.specs.mesh_sim.Steps.{answered, answers, answered_if, answers_if, changed}
 use Rattle.zw_text.specs.declared.entry.Entry.{Entry}
 use Rattle.zw_text.specs.declared.entry.Entry.TheVariants as entry
 use Rattle.zw_text.specs.Transcript.{folded}

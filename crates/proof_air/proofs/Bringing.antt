@@ -15,16 +15,16 @@ use Rattle.air_frames.specs.Frames.{next_of, remembered}
 use Rattle.chip_sim.specs.State.{ChipState, ChipParts}
 use Rattle.chip_sim.specs.Events.{ChipEvent, Judged, Ticked, Heard as chip_hears, Joined, after}
 use Rattle.chip_sim.specs.Did.{after_all}
-use Rattle.device_sim.specs.State.{State}
-use Rattle.device_sim.specs.Event.{DeviceEvent, Hears, device_after}
-use Rattle.mesh_sim.specs.declared.event.AirEvent.{AirEvent}
-use Rattle.mesh_sim.specs.declared.event.AirEvent.TheVariants as air_event
-use Rattle.mesh_sim.specs.declared.fate.Fate.{Fate}
-use Rattle.mesh_sim.specs.declared.fate.Fate.TheVariants as fate
-use Rattle.mesh_sim.specs.Air.{AirState, joining}
-use Rattle.mesh_sim.specs.Fates.{Mesh, dead_hop_of, fate_of, listener_of, place_of}
-use Rattle.mesh_sim.specs.Steps.{AirStep, landed, acknowledged, status_of as status_at, done_of, outs_at, arrival_outs_as, arrival_outs, outs_again, repeat_outs_by, repeat_outs, mesh_after, mesh_outs}
-use Rattle.mesh_sim.specs.Steps as mesh
+use Rattle.law_wire.specs.device_sim.State.{State}
+use Rattle.law_wire.specs.device_sim.Event.{DeviceEvent, Hears, device_after}
+use Rattle.proof_walk.specs.mesh_sim.declared.event.AirEvent.{AirEvent}
+use Rattle.proof_walk.specs.mesh_sim.declared.event.AirEvent.TheVariants as air_event
+use Rattle.proof_walk.specs.mesh_sim.declared.fate.Fate.{Fate}
+use Rattle.proof_walk.specs.mesh_sim.declared.fate.Fate.TheVariants as fate
+use Rattle.proof_walk.specs.mesh_sim.Air.{AirState, joining}
+use Rattle.proof_walk.specs.mesh_sim.Fates.{Mesh, dead_hop_of, fate_of, listener_of, place_of}
+use Rattle.proof_walk.specs.mesh_sim.Steps.{AirStep, landed, acknowledged, status_of as status_at, done_of, outs_at, arrival_outs_as, arrival_outs, outs_again, repeat_outs_by, repeat_outs, mesh_after, mesh_outs}
+use Rattle.proof_walk.specs.mesh_sim.Steps as mesh
 use Rattle.zw_text.specs.declared.entry.Entry.{Entry}
 use Rattle.zw_text.specs.declared.entry.Entry.TheVariants as entry
 use Rattle.zw_text.specs.Transcript.{heard, heard_at}

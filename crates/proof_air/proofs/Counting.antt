@@ -20,7 +20,7 @@ use Rattle.law_wire.specs.law_transcript.Nodes.{controller}
 use Rattle.law_wire.specs.law_transcript.Fates.{MayAir}
 use Rattle.law_wire.specs.law_transcript.Sessions.{MayBegin}
 use Rattle.law_wire.specs.law_transcript.Repeats.{frame_of, up_to_frame, nonces_shown, news_after as news_in, new_nonces}
-use Rattle.mesh_sim.specs.Air.{no_route}
+use Rattle.proof_walk.specs.mesh_sim.Air.{no_route}
 use Rattle.proof_air.specs.Logs.{departure_of, mark_step, log_of}
 use Rattle.proof_air.proofs.Logs.{log_grows}
 

@@ -12,17 +12,17 @@ use Rattle.air_frames.specs.declared.ages.Refusal.TheVariants.{NeverSent, Forgot
 use Rattle.air_frames.specs.Ages.{refusal_of}
 use Rattle.air_frames.specs.Flown.{Flown}
 use Rattle.air_frames.specs.Frames.{landing, next_of, remembered}
-use Rattle.device_sim.specs.State.{State}
-use Rattle.device_sim.specs.Event.{DeviceEvent, Hears, device_after, device_replies}
-use Rattle.mesh_sim.specs.declared.event.AirEvent.{AirEvent}
-use Rattle.mesh_sim.specs.declared.event.AirEvent.TheVariants as air_event
-use Rattle.mesh_sim.specs.declared.fate.Fate.{Fate}
-use Rattle.mesh_sim.specs.declared.fate.Fate.TheVariants as fate
-use Rattle.mesh_sim.specs.Air.{AirState, is_joined}
-use Rattle.mesh_sim.specs.Fates.{Mesh, awake_at, dead_hop_of, fate_of, is_awake, listener_of, place_of}
-use Rattle.mesh_sim.specs.Routes.{backwards}
-use Rattle.mesh_sim.specs.Steps.{MayArriveIf, MayHappen, acknowledged, air_hearing, arrival_outs, arrival_outs_as, arriving, arriving_as, done_of, heard_again, heard_at, landed, mesh_after, mesh_outs, outs_again, outs_at, repeat_outs, repeat_outs_by, repeating, repeating_by, status_of}
-use Rattle.mesh_sim.specs.Steps as mesh
+use Rattle.law_wire.specs.device_sim.State.{State}
+use Rattle.law_wire.specs.device_sim.Event.{DeviceEvent, Hears, device_after, device_replies}
+use Rattle.proof_walk.specs.mesh_sim.declared.event.AirEvent.{AirEvent}
+use Rattle.proof_walk.specs.mesh_sim.declared.event.AirEvent.TheVariants as air_event
+use Rattle.proof_walk.specs.mesh_sim.declared.fate.Fate.{Fate}
+use Rattle.proof_walk.specs.mesh_sim.declared.fate.Fate.TheVariants as fate
+use Rattle.proof_walk.specs.mesh_sim.Air.{AirState, is_joined}
+use Rattle.proof_walk.specs.mesh_sim.Fates.{Mesh, awake_at, dead_hop_of, fate_of, is_awake, listener_of, place_of}
+use Rattle.proof_walk.specs.mesh_sim.Routes.{backwards}
+use Rattle.proof_walk.specs.mesh_sim.Steps.{MayArriveIf, MayHappen, acknowledged, air_hearing, arrival_outs, arrival_outs_as, arriving, arriving_as, done_of, heard_again, heard_at, landed, mesh_after, mesh_outs, outs_again, outs_at, repeat_outs, repeat_outs_by, repeating, repeating_by, status_of}
+use Rattle.proof_walk.specs.mesh_sim.Steps as mesh
 use Rattle.zw_text.specs.declared.entry.Entry.{Entry}
 use Rattle.zw_text.specs.declared.entry.Entry.TheVariants as entry
 use Rattle.law_wire.specs.law_transcript.Fates.{first_fate, first_fates}

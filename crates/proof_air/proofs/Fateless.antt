@@ -6,12 +6,12 @@ use Rattle.zw_base.proofs.Each.{all-append, all-weaker}
 use Rattle.route_table.specs.declared.route.Route.{Route}
 use Rattle.air_frames.specs.Frames.{putting}
 use Rattle.device_kinds.specs.declared.change.Change.{Change}
-use Rattle.device_sim.specs.State.{State}
-use Rattle.mesh_sim.specs.declared.event.AirEvent.{AirEvent}
-use Rattle.mesh_sim.specs.declared.event.AirEvent.TheVariants as air_event
-use Rattle.mesh_sim.specs.Air.{AirState}
-use Rattle.mesh_sim.specs.Fates.{place_of}
-use Rattle.mesh_sim.specs.Steps.{answered_if}
+use Rattle.law_wire.specs.device_sim.State.{State}
+use Rattle.proof_walk.specs.mesh_sim.declared.event.AirEvent.{AirEvent}
+use Rattle.proof_walk.specs.mesh_sim.declared.event.AirEvent.TheVariants as air_event
+use Rattle.proof_walk.specs.mesh_sim.Air.{AirState}
+use Rattle.proof_walk.specs.mesh_sim.Fates.{place_of}
+use Rattle.proof_walk.specs.mesh_sim.Steps.{answered_if}
 use Rattle.zw_text.specs.declared.entry.Entry.{Entry}
 use Rattle.zw_text.specs.declared.entry.Entry.TheVariants as entry
 use Rattle.proof_walk.specs.outside_model.State.{OuterState, Outcome, each}

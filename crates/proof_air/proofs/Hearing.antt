@@ -8,8 +8,8 @@ use Rattle.air_frames.specs.declared.ages.Refusal.{Refusal}
 use Rattle.air_frames.specs.declared.ages.Refusal.TheVariants.{NeverSent, Forgotten, Stale}
 use Rattle.air_frames.specs.History.{Mark, refusal_in}
 use Rattle.air_frames.proofs.Aged.{refusal_is}
-use Rattle.mesh_sim.specs.Steps.{AirStep}
-use Rattle.mesh_sim.specs.Steps as mesh
+use Rattle.proof_walk.specs.mesh_sim.Steps.{AirStep}
+use Rattle.proof_walk.specs.mesh_sim.Steps as mesh
 use Rattle.zw_text.specs.declared.line.Line.{Line}
 use Rattle.zw_text.specs.declared.line.Line.TheVariants as lines
 use Rattle.zw_text.specs.declared.entry.Entry.{Entry}

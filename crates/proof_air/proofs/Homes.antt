@@ -18,8 +18,8 @@ use Rattle.air_frames.specs.Frames.{FramesState, kept, next_of, remembered}
 use Rattle.air_frames.specs.History.{Mark, Goes, Begins, departure_at, stamped}
 use Rattle.air_frames.proofs.Logs.{length-stamped}
 use Rattle.chip_sim.specs.Waiting.{PortState}
-use Rattle.mesh_sim.specs.declared.event.AirEvent.{AirEvent}
-use Rattle.mesh_sim.specs.declared.event.AirEvent.TheVariants as air_event
+use Rattle.proof_walk.specs.mesh_sim.declared.event.AirEvent.{AirEvent}
+use Rattle.proof_walk.specs.mesh_sim.declared.event.AirEvent.TheVariants as air_event
 use Rattle.zw_text.specs.declared.entry.Entry.{Entry}
 use Rattle.zw_text.specs.Transcript.{AirFrame, frames, frame_at, heard, heard_at}
 use Rattle.zw_text.proofs.Views.{shown-append}

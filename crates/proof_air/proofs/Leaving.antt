@@ -13,14 +13,14 @@ use Rattle.chip_sim.specs.Events.{ChipEvent, Ticked, after, outs}
 use Rattle.chip_sim.specs.Did.{judged_all}
 use Rattle.chip_sim.specs.declared.out.ChipOut.{ChipOut}
 use Rattle.chip_sim.specs.declared.out.ChipOut.TheVariants.{Write, OnAir, NoRoute, AskInfo, Full}
-use Rattle.device_sim.specs.State.{State}
-use Rattle.device_sim.specs.Event.{DeviceEvent, Ticks, Wakes, Sets, device_replies}
-use Rattle.mesh_sim.specs.declared.event.AirEvent.{AirEvent}
-use Rattle.mesh_sim.specs.declared.event.AirEvent.TheVariants as air_event
-use Rattle.mesh_sim.specs.Air.{AirState, beginning, departing, is_joined, joining, linking}
-use Rattle.mesh_sim.specs.Fates.{place_of}
-use Rattle.mesh_sim.specs.Routes.{backwards}
-use Rattle.mesh_sim.specs.Steps.{answered, answered_if}
+use Rattle.law_wire.specs.device_sim.State.{State}
+use Rattle.law_wire.specs.device_sim.Event.{DeviceEvent, Ticks, Wakes, Sets, device_replies}
+use Rattle.proof_walk.specs.mesh_sim.declared.event.AirEvent.{AirEvent}
+use Rattle.proof_walk.specs.mesh_sim.declared.event.AirEvent.TheVariants as air_event
+use Rattle.proof_walk.specs.mesh_sim.Air.{AirState, beginning, departing, is_joined, joining, linking}
+use Rattle.proof_walk.specs.mesh_sim.Fates.{place_of}
+use Rattle.proof_walk.specs.mesh_sim.Routes.{backwards}
+use Rattle.proof_walk.specs.mesh_sim.Steps.{answered, answered_if}
 use Rattle.zw_text.specs.declared.entry.Entry.{Entry}
 use Rattle.proof_walk.specs.outside_model.State.{OuterState, Outside, Outcome, each, with_chip}
 use Rattle.proof_walk.specs.outside_model.Chip.{put_out, chip_does}

@@ -44,3 +44,15 @@ pub use Rattle.proof_walk.proofs.Hosting
 pub use Rattle.proof_walk.proofs.world_model_EventLists as EventLists
 pub use Rattle.proof_walk.proofs.Pieces
 pub use Rattle.proof_walk.proofs.Along
+pub use Rattle.proof_walk.proofs.DevicePlaces
+pub use Rattle.proof_walk.proofs.ChangesOutside
+pub use Rattle.proof_walk.proofs.Entering
+pub use Rattle.proof_walk.proofs.Entered
+pub use Rattle.proof_walk.proofs.KeptKinds
+pub use Rattle.proof_walk.proofs.ShownChanges
+pub use Rattle.proof_walk.proofs.Results
+pub use Rattle.law_wire.proofs.Having
+pub use Rattle.law_wire.proofs.Deciding
+pub use Rattle.proof_walk.proofs.world_model_Along
+pub use Rattle.proof_walk.proofs.outside_model_EventLists
+pub use Rattle.proof_walk.proofs.HostOuts

@@ -24,17 +24,17 @@ use Rattle.chip_sim.specs.State.{ChipState, ChipParts}
 use Rattle.chip_sim.specs.Events.{ChipEvent, Judged, Ticked, Done, Heard as chip_hears, Informed, Forgets, Joined, after, outs, May as MayOfChip}
 use Rattle.chip_sim.specs.declared.out.ChipOut.{ChipOut}
 use Rattle.chip_sim.specs.declared.out.ChipOut.TheVariants.{Write, OnAir, NoRoute, AskInfo, Full}
-use Rattle.device_sim.specs.State.{State}
-use Rattle.device_sim.specs.Event.{DeviceEvent, Hears, device_after, device_replies}
-use Rattle.mesh_sim.specs.declared.event.AirEvent.{AirEvent}
-use Rattle.mesh_sim.specs.declared.event.AirEvent.TheVariants as air_event
-use Rattle.mesh_sim.specs.Air.{AirState, is_joined, joining}
-use Rattle.mesh_sim.specs.Routes.{backwards}
-use Rattle.mesh_sim.specs.declared.fate.Fate.{Fate}
-use Rattle.mesh_sim.specs.declared.fate.Fate.TheVariants as fate
-use Rattle.mesh_sim.specs.Fates.{Mesh, fate_of, place_of, listener_of}
-use Rattle.mesh_sim.specs.Steps.{AirStep, landed, acknowledged, status_of, done_of, changed, answers_if, air_hearing, outs_hearing, heard_at, outs_at, arriving_as, arriving, arrival_outs_as, arrival_outs, heard_again, outs_again, repeating_by, repeating, repeat_outs_by, repeat_outs, mesh_after, mesh_outs}
-use Rattle.mesh_sim.specs.Steps as mesh
+use Rattle.law_wire.specs.device_sim.State.{State}
+use Rattle.law_wire.specs.device_sim.Event.{DeviceEvent, Hears, device_after, device_replies}
+use Rattle.proof_walk.specs.mesh_sim.declared.event.AirEvent.{AirEvent}
+use Rattle.proof_walk.specs.mesh_sim.declared.event.AirEvent.TheVariants as air_event
+use Rattle.proof_walk.specs.mesh_sim.Air.{AirState, is_joined, joining}
+use Rattle.proof_walk.specs.mesh_sim.Routes.{backwards}
+use Rattle.proof_walk.specs.mesh_sim.declared.fate.Fate.{Fate}
+use Rattle.proof_walk.specs.mesh_sim.declared.fate.Fate.TheVariants as fate
+use Rattle.proof_walk.specs.mesh_sim.Fates.{Mesh, fate_of, place_of, listener_of}
+use Rattle.proof_walk.specs.mesh_sim.Steps.{AirStep, landed, acknowledged, status_of, done_of, changed, answers_if, air_hearing, outs_hearing, heard_at, outs_at, arriving_as, arriving, arrival_outs_as, arrival_outs, heard_again, outs_again, repeating_by, repeating, repeat_outs_by, repeat_outs, mesh_after, mesh_outs}
+use Rattle.proof_walk.specs.mesh_sim.Steps as mesh
 use Rattle.proof_walk.specs.outside_model.State.{OuterState, Outside, outside, Outcome, silent as silently, each, with_chip}
 use Rattle.proof_walk.specs.outside_model.Chip.{put_out, chip_does, chip_ticks, shown_via}
 use Rattle.proof_walk.specs.outside_model.Results.{device_at}

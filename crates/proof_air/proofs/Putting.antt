@@ -13,7 +13,7 @@ use Rattle.chip_sim.specs.State.{ChipParts, ChipState}
 use Rattle.chip_sim.specs.Events.{ChipEvent, Done, Informed, Forgets, after, outs}
 use Rattle.chip_sim.specs.declared.out.ChipOut.{ChipOut}
 use Rattle.chip_sim.specs.declared.out.ChipOut.TheVariants.{Write, OnAir, NoRoute, AskInfo, Full}
-use Rattle.device_sim.specs.State.{State}
+use Rattle.law_wire.specs.device_sim.State.{State}
 use Rattle.zw_words.specs.declared.side.Side.{Side}
 use Rattle.zw_words.specs.declared.side.Side.TheVariants.{Host as by_host, Chip as by_chip}
 use Rattle.zw_text.specs.declared.entry.Entry.{Entry}

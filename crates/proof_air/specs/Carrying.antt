@@ -7,8 +7,8 @@ use Rattle.serial_frame.specs.declared.unit.Unit.TheVariants.{Framed}
 use Rattle.serial_link.specs.declared.turn.Turn.{Turn}
 use Rattle.serial_link.specs.declared.turn.Turn.TheVariants.{Idle, Copied, Paused}
 use Rattle.chip_sim.specs.Waiting.{PortState}
-use Rattle.mesh_sim.specs.declared.event.AirEvent.{AirEvent}
-use Rattle.mesh_sim.specs.declared.event.AirEvent.TheVariants as air_event
+use Rattle.proof_walk.specs.mesh_sim.declared.event.AirEvent.{AirEvent}
+use Rattle.proof_walk.specs.mesh_sim.declared.event.AirEvent.TheVariants as air_event
 use Rattle.zw_text.specs.declared.entry.Entry.{Entry}
 use Rattle.zw_text.specs.Transcript.{heard}
 use Rattle.law_wire.specs.law_transcript.Lists.{Has}

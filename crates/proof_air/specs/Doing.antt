@@ -2,10 +2,10 @@
 -- a device.
 use Rattle.std.specs.Prelude.{◌≡◌, ℕ, is_some, true, List}
 use Rattle.std.specs.List.{AllByRecursion}
-use Rattle.device_sim.specs.State.{State}
-use Rattle.mesh_sim.specs.declared.event.AirEvent.{AirEvent}
-use Rattle.mesh_sim.specs.declared.event.AirEvent.TheVariants.{Sent, Changed}
-use Rattle.mesh_sim.specs.Fates.{place_of}
+use Rattle.law_wire.specs.device_sim.State.{State}
+use Rattle.proof_walk.specs.mesh_sim.declared.event.AirEvent.{AirEvent}
+use Rattle.proof_walk.specs.mesh_sim.declared.event.AirEvent.TheVariants.{Sent, Changed}
+use Rattle.proof_walk.specs.mesh_sim.Fates.{place_of}
 use Rattle.zw_text.specs.declared.entry.Entry.{Entry}
 use Rattle.law_wire.specs.law_transcript.Nodes.{device_of}
 use Rattle.law_wire.specs.Doings.{AreDevices, doers_of}

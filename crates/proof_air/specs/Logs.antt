@@ -4,9 +4,9 @@ use Rattle.std.specs.List.{AllByRecursion}
 use Rattle.air_frames.specs.declared.frame.Departure.{Departure}
 use Rattle.air_frames.specs.declared.frame.Heading.TheVariants.{Outward, Homeward}
 use Rattle.air_frames.specs.History.{Mark, Goes, Begins, begins_in, IsOf}
-use Rattle.mesh_sim.specs.declared.event.AirEvent.{AirEvent}
-use Rattle.mesh_sim.specs.declared.event.AirEvent.TheVariants as air_event
-use Rattle.mesh_sim.specs.Air.{no_route, is_joined}
+use Rattle.proof_walk.specs.mesh_sim.declared.event.AirEvent.{AirEvent}
+use Rattle.proof_walk.specs.mesh_sim.declared.event.AirEvent.TheVariants as air_event
+use Rattle.proof_walk.specs.mesh_sim.Air.{no_route, is_joined}
 use Rattle.zw_text.specs.declared.entry.Entry.{Entry}
 use Rattle.zw_text.specs.declared.entry.Entry.TheVariants.{Air, Begin}
 use Rattle.zw_text.specs.Transcript.{folded}

@@ -2,7 +2,7 @@
 
 ghost use Rattle.std.specs.Prelude.{Option, List, [], ℕ};
 ghost use Rattle.s0_crypto.specs.declared.key_pair.Keys.{Keys};
-ghost use Rattle.device_sim.specs.State.{State};
+ghost use Rattle.law_wire.specs.device_sim.State.{State};
 ghost use Rattle.proof_walk.specs.world_model.State.{first_machine};
 ghost use Rattle.proof_walk.specs.Phases.{Between};
 ghost use Rattle.proof_walk.specs.Walk.{Walk};

@@ -22,5 +22,5 @@ pub use doings::lines_are_done_by_devices;
 pub use history::history_goes_on;
 pub use landing::{landings_go_on, lines_land_in_time};
 pub use proof_walk as walk;
-pub use proof_walk::host;
+pub use proof_walk::{device, host};
 pub use repeats::{lines_refuse_what_is_old, lines_repeat_what_is_fresh};

@@ -16,11 +16,11 @@ use Rattle.law_host.specs.law_transcript.Commands.{is_waiting}
 use Rattle.law_host.specs.law_transcript.Lists.{EachAfter}
 use Rattle.proof_line.specs.proof_host.Laws.{MayStand}
 use Rattle.proof_line.proofs.Lists.{each-anywhere}
-use Rattle.host_model.specs.State.{HostState}
+use Rattle.proof_line.specs.host_model.State.{HostState}
 use Rattle.host_requests.specs.declared.task.Task.{Task}
-use Rattle.host_model.specs.Asking.{carriage_for}
-use Rattle.host_model.specs.Events.{HostEvent, Accepts, Cancels, Joins, Queues, Queues_interview, Queues_probe, Hears}
-use Rattle.host_model.specs.Outs.{answers, outs}
+use Rattle.proof_line.specs.host_model.Asking.{carriage_for}
+use Rattle.proof_line.specs.host_model.Events.{HostEvent, Accepts, Cancels, Joins, Queues, Queues_interview, Queues_probe, Hears}
+use Rattle.proof_line.specs.host_model.Outs.{answers, outs}
 use Rattle.proof_line.specs.proof_walk.Outside.{IsHostNote}
 use Rattle.proof_alone.specs.State.{HostMachine}
 use Rattle.proof_alone.specs.Steps.{IsAskedBy, IsOfOthers, Step, Tells, Comes, Misses, Says, Says_nothing, Asks, Refuses, Shows, Restarts, Begins_tick, Numbers, Judges, Does, entries}

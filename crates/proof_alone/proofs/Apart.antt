@@ -7,8 +7,8 @@ use Rattle.zw_words.specs.declared.side.Side.{Side}
 use Rattle.zw_words.specs.declared.side.Side.TheVariants.{Host, Chip}
 use Rattle.zw_text.specs.declared.entry.Entry.{Entry}
 use Rattle.zw_text.specs.declared.entry.Entry.TheVariants as entry
-use Rattle.host_model.specs.declared.out.HostOut.{HostOut}
-use Rattle.host_model.specs.declared.out.HostOut.TheVariants.{Note, Write}
+use Rattle.proof_line.specs.host_model.declared.out.HostOut.{HostOut}
+use Rattle.proof_line.specs.host_model.declared.out.HostOut.TheVariants.{Note, Write}
 use Rattle.proof_line.proofs.HostOuts.{OutsAre}
 use Rattle.proof_line.specs.proof_walk.Outside.{IsHostNote}
 use Rattle.proof_line.proofs.HostNotes.{NoteOuts}

@@ -26,7 +26,7 @@ use Rattle.zw_words.specs.declared.side.Side.TheVariants.{Chip}
 use Rattle.zw_text.specs.declared.entry.Entry.{Entry}
 use Rattle.zw_text.specs.declared.entry.Entry.TheVariants as entry
 use Rattle.law_host.specs.law_time.Requests.{is_answer}
-use Rattle.host_model.specs.State.{HostState}
+use Rattle.proof_line.specs.host_model.State.{HostState}
 use Rattle.proof_line.specs.outside_model.State.{OuterState}
 use Rattle.proof_line.specs.outside_model.Events.{has_entered, stamp, ticked_entry}
 use Rattle.proof_line.specs.proof_serial.Units.{good_unit, good_units}

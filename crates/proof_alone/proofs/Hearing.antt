@@ -10,11 +10,11 @@ use Rattle.zw_text.specs.declared.entry.Entry.TheVariants as entry
 use Rattle.zw_text.specs.Transcript.{folded, line_after, line_last, line_of}
 use Rattle.law_host.specs.law_transcript.Lists.{EachAfter}
 use Rattle.law_host.specs.Heard.{come_as, heard_as, heard_by_host, heard_from, is_of_others, is_refusal_of_others}
-use Rattle.host_model.specs.State.{HostState}
-use Rattle.host_model.specs.Events.{HostEvent, Accepts, Cancels, Hears}
-use Rattle.host_model.specs.Outs.{answers, outs}
-use Rattle.host_model.specs.declared.out.HostOut.{HostOut}
-use Rattle.host_model.specs.declared.out.HostOut.TheVariants.{Note, Write}
+use Rattle.proof_line.specs.host_model.State.{HostState}
+use Rattle.proof_line.specs.host_model.Events.{HostEvent, Accepts, Cancels, Hears}
+use Rattle.proof_line.specs.host_model.Outs.{answers, outs}
+use Rattle.proof_line.specs.host_model.declared.out.HostOut.{HostOut}
+use Rattle.proof_line.specs.host_model.declared.out.HostOut.TheVariants.{Note, Write}
 use Rattle.proof_line.specs.proof_walk.Outside.{IsHostNote}
 use Rattle.proof_line.proofs.HostNotes.{NoteOuts, all_outs_note}
 use Rattle.proof_line.proofs.Holding.{NoMark}

@@ -7,16 +7,16 @@ use Rattle.serial_frame.specs.declared.item.Item.TheVariants.{Good, Refused}
 use Rattle.serial_frame.specs.declared.unit.Unit.{Unit as LineUnit}
 use Rattle.s0_crypto.specs.declared.key_pair.Keys.{Keys}
 use Rattle.zw_text.specs.declared.entry.Entry.{Entry}
-use Rattle.host_model.specs.State.{HostState}
-use Rattle.host_model.specs.Events.{HostEvent, Hears}
-use Rattle.host_model.specs.After.{after}
-use Rattle.host_model.specs.Did.{MayAll, after_all, outs_all, records_all, texts_of}
-use Rattle.host_model.specs.Outs.{outs}
-use Rattle.host_model.specs.Pumping.{LetsSleep, Pumps, Submits}
-use Rattle.host_model.specs.Taking.{AreJudged, IsFollowed}
-use Rattle.host_model.specs.Ticking.{tick_events}
-use Rattle.host_model.specs.declared.out.HostOut.{HostOut}
-use Rattle.host_model.proofs.EventLists.{after_all-append, outs_all-append, records_all-append, texts-append}
+use Rattle.proof_line.specs.host_model.State.{HostState}
+use Rattle.proof_line.specs.host_model.Events.{HostEvent, Hears}
+use Rattle.proof_line.specs.host_model.After.{after}
+use Rattle.proof_line.specs.host_model.Did.{MayAll, after_all, outs_all, records_all, texts_of}
+use Rattle.proof_line.specs.host_model.Outs.{outs}
+use Rattle.proof_line.specs.host_model.Pumping.{LetsSleep, Pumps, Submits}
+use Rattle.proof_line.specs.host_model.Taking.{AreJudged, IsFollowed}
+use Rattle.proof_line.specs.host_model.Ticking.{tick_events}
+use Rattle.proof_line.specs.host_model.declared.out.HostOut.{HostOut}
+use Rattle.proof_line.proofs.host_model_EventLists.{after_all-append, outs_all-append, records_all-append, texts-append}
 use Rattle.host_keep.specs.declared.record.Record.{Record}
 use Rattle.proof_line.specs.outside_model.State.{OuterState, Outside}
 use Rattle.proof_line.specs.outside_model.Events.{OuterEvent, has_entered, stamp}

@@ -8,17 +8,17 @@ use Rattle.zw_text.specs.declared.line.Line.TheVariants as lines
 use Rattle.host_orders.specs.declared.refused.Refused.{Refused}
 use Rattle.host_orders.specs.declared.refused.Refused.TheVariants.{NotJoined}
 use Rattle.host_orders.specs.Refusals.{classes_of}
-use Rattle.host_model.specs.State.{HostState, node_of}
-use Rattle.host_model.specs.Events.{HostEvent, Accepts, Cancels, Joins, Queues_probe, Hears, Queues, Queues_interview, Requests_do}
-use Rattle.host_model.specs.After.{after}
-use Rattle.host_model.specs.May.{known_of}
-use Rattle.host_model.specs.Asking.{places_refusal}
-use Rattle.host_model.specs.Outs.{answers, outs}
-use Rattle.host_model.specs.Taking.{AreJudged, IsFollowed}
-use Rattle.host_model.specs.Ticking.{tick_events}
-use Rattle.host_model.proofs.Own.{IsOwn, tick_own}
-use Rattle.host_model.proofs.Submitted.{SleepersAre, SubmittedAre, next_is as submitted_is, no_more_is}
-use Rattle.host_model.proofs.Silence.{judged_silent, tick_silent}
+use Rattle.proof_line.specs.host_model.State.{HostState, node_of}
+use Rattle.proof_line.specs.host_model.Events.{HostEvent, Accepts, Cancels, Joins, Queues_probe, Hears, Queues, Queues_interview, Requests_do}
+use Rattle.proof_line.specs.host_model.After.{after}
+use Rattle.proof_line.specs.host_model.May.{known_of}
+use Rattle.proof_line.specs.host_model.Asking.{places_refusal}
+use Rattle.proof_line.specs.host_model.Outs.{answers, outs}
+use Rattle.proof_line.specs.host_model.Taking.{AreJudged, IsFollowed}
+use Rattle.proof_line.specs.host_model.Ticking.{tick_events}
+use Rattle.proof_line.proofs.Own.{IsOwn, tick_own}
+use Rattle.proof_line.proofs.Submitted.{SleepersAre, SubmittedAre, next_is as submitted_is, no_more_is}
+use Rattle.proof_line.proofs.Silence.{judged_silent, tick_silent}
 use Rattle.proof_line.specs.Lines.{AsksNothing}
 use Rattle.proof_line.proofs.Errands.{get_short, send_short}
 use Rattle.proof_line.proofs.Heard.{all_judged_in_order}

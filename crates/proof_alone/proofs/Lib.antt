@@ -24,3 +24,13 @@ pub use Rattle.proof_line.proofs.HostNotes
 pub use Rattle.proof_line.proofs.Parts
 pub use Rattle.proof_line.proofs.Calm
 pub use Rattle.proof_line.proofs.HostLinks
+pub use Rattle.proof_line.proofs.Own
+pub use Rattle.proof_line.proofs.Submitted
+pub use Rattle.proof_line.proofs.host_model_EventLists as EventLists
+pub use Rattle.proof_line.proofs.ChipNotices
+pub use Rattle.proof_line.proofs.Flights
+pub use Rattle.proof_line.proofs.Outside
+pub use Rattle.proof_line.proofs.CourseSteps
+pub use Rattle.proof_line.proofs.ArrivedFrames
+pub use Rattle.proof_line.proofs.Arrivals
+pub use Rattle.proof_line.proofs.Lists

@@ -26,12 +26,12 @@ use Rattle.host_node.specs.Events.{NodeEvent, after as after_node}
 use Rattle.host_node.specs.Events.NodeEvent.{Accepts as node_accepts, Begins as node_begins, Cancels as node_cancels, Holds as node_holds, Joins as node_joins, Puts as node_puts, Reports as node_reports, Takes_nonce as node_takes_nonce}
 use Rattle.host_node.specs.Facts.{is_recorded}
 use Rattle.host_node.specs.TableState.{node_of, unknown_from, unknown_nodes, with_node}
-use Rattle.host_model.specs.State.{HostState, first_classes, first_host, first_nodes}
-use Rattle.host_model.specs.Holding.{listens_said}
-use Rattle.host_model.specs.After.{after, finishing, giving, holding, is_full, is_held, node_for, offering}
-use Rattle.host_model.specs.Events.{HostEvent, Accepts, Cancels, Joins, Interviews, Finishes, Gives, Spends, Spends_unread, Takes_nonce, Begins}
-use Rattle.host_model.specs.Outs.{answers, outs}
-use Rattle.host_model.proofs.Own.{IsOwn}
+use Rattle.proof_line.specs.host_model.State.{HostState, first_classes, first_host, first_nodes}
+use Rattle.proof_line.specs.host_model.Holding.{listens_said}
+use Rattle.proof_line.specs.host_model.After.{after, finishing, giving, holding, is_full, is_held, node_for, offering}
+use Rattle.proof_line.specs.host_model.Events.{HostEvent, Accepts, Cancels, Joins, Interviews, Finishes, Gives, Spends, Spends_unread, Takes_nonce, Begins}
+use Rattle.proof_line.specs.host_model.Outs.{answers, outs}
+use Rattle.proof_line.proofs.Own.{IsOwn}
 use Rattle.proof_line.specs.world_model.State.{with_texts}
 use Rattle.proof_line.specs.Restarts.{AreHeld, IsHeld}
 use Rattle.proof_line.proofs.HostOuts.{OwnIs, SharedAre, outs_are}

@@ -18,10 +18,10 @@ use Rattle.chip_sim.specs.Did.{MayAll as MayAllOfChip, judged_all}
 use Rattle.chip_sim.specs.Events.{ChipEvent, after, outs}
 use Rattle.chip_sim.specs.declared.out.ChipOut.{ChipOut}
 use Rattle.chip_sim.specs.declared.out.ChipOut.TheVariants.{Write, OnAir, NoRoute, AskInfo, Full}
-use Rattle.device_sim.specs.State.{State}
-use Rattle.device_sim.specs.Event.{DeviceEvent}
-use Rattle.mesh_sim.specs.Steps.{AirStep, MayHappen}
-use Rattle.mesh_sim.specs.Steps as mesh
+use Rattle.law_host.specs.device_sim.State.{State}
+use Rattle.law_host.specs.device_sim.Event.{DeviceEvent}
+use Rattle.proof_line.specs.mesh_sim.Steps.{AirStep, MayHappen}
+use Rattle.proof_line.specs.mesh_sim.Steps as mesh
 use Rattle.proof_line.specs.outside_model.State.{OuterState, Outside, outside, each, with_chip}
 use Rattle.proof_line.specs.outside_model.Chip.{chip_does, put_out}
 use Rattle.proof_line.specs.outside_model.Devices.{acts_at}

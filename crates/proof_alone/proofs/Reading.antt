@@ -9,9 +9,9 @@ use Rattle.serial_pipes.specs.State.{WayState}
 use Rattle.zw_words.specs.declared.side.Side.TheVariants.{Chip}
 use Rattle.zw_text.specs.declared.entry.Entry.{Entry}
 use Rattle.chip_sim.specs.State.{ChipParts}
-use Rattle.host_model.specs.Events.{HostEvent}
-use Rattle.host_model.specs.Did.{MayAll, outs_all}
-use Rattle.host_model.specs.Outs.{answers}
+use Rattle.proof_line.specs.host_model.Events.{HostEvent}
+use Rattle.proof_line.specs.host_model.Did.{MayAll, outs_all}
+use Rattle.proof_line.specs.host_model.Outs.{answers}
 use Rattle.proof_line.specs.outside_model.State.{OuterState, Outcome, Outside}
 use Rattle.proof_line.specs.outside_model.Events.{OuterEvent, Begins_tick, devices_after, has_entered, outcome, stamp}
 use Rattle.proof_line.specs.outside_model.Did.{entries_all, happens_all}

@@ -19,23 +19,23 @@ use Rattle.law_host.specs.Heard.{is_of_others}
 use Rattle.air_frames.specs.Ages.{refusal_of}
 use Rattle.air_frames.specs.declared.ages.Refusal.{Refusal as RepeatRefusal}
 use Rattle.air_frames.specs.declared.ages.Refusal.TheVariants.{NeverSent, Forgotten, Stale}
-use Rattle.device_sim.specs.State.{State}
-use Rattle.device_sim.specs.Event.{DeviceEvent, Sets, Wakes}
+use Rattle.law_host.specs.device_sim.State.{State}
+use Rattle.law_host.specs.device_sim.Event.{DeviceEvent, Sets, Wakes}
 use Rattle.device_stack.specs.Showing.{shown_of}
-use Rattle.mesh_sim.specs.Fates.{place_of}
-use Rattle.mesh_sim.specs.Steps as mesh
+use Rattle.proof_line.specs.mesh_sim.Fates.{place_of}
+use Rattle.proof_line.specs.mesh_sim.Steps as mesh
 use Rattle.s0_crypto.specs.declared.key_pair.Keys.{Keys}
 use Rattle.host_orders.specs.declared.refused.Refused.{Refused}
 use Rattle.host_orders.specs.Errands.{get_refusal, get_text, send_refusal, send_text}
 use Rattle.host_orders.specs.Refusals.{classes_of}
 use Rattle.host_requests.specs.declared.task.Task.TheVariants as task
-use Rattle.host_model.specs.State.{HostState, node_of}
-use Rattle.host_model.specs.Events.{HostEvent, Accepts, Cancels, Joins as joins_host, Queues, Queues_interview, Queues_probe}
-use Rattle.host_model.specs.After.{after}
-use Rattle.host_model.specs.Asking.{carriage_for, interview_refusal, places_refusal}
-use Rattle.host_model.specs.Did.{MayAll}
-use Rattle.host_model.specs.May.{known_of}
-use Rattle.host_model.specs.Outs.{answers}
+use Rattle.proof_line.specs.host_model.State.{HostState, node_of}
+use Rattle.proof_line.specs.host_model.Events.{HostEvent, Accepts, Cancels, Joins as joins_host, Queues, Queues_interview, Queues_probe}
+use Rattle.proof_line.specs.host_model.After.{after}
+use Rattle.proof_line.specs.host_model.Asking.{carriage_for, interview_refusal, places_refusal}
+use Rattle.proof_line.specs.host_model.Did.{MayAll}
+use Rattle.proof_line.specs.host_model.May.{known_of}
+use Rattle.proof_line.specs.host_model.Outs.{answers}
 use Rattle.proof_line.specs.outside_model.State.{OuterState, Outside, Outcome, tells}
 use Rattle.proof_line.specs.outside_model.Devices.{acts_at, acts_by_hand, shown_entries}
 use Rattle.proof_line.specs.outside_model.Events.{OuterEvent, Clears_pipe, Collides_next, Cuts, Discovers, Joins, Links, Loses, Loses_acks, Marks_change, Marks_loss, Repeats, Sets_device, Shows, Stalls, Wakes_device, MayRepeat, cleared_entries, devices_after, has_entered, outcome, repeats, stamp}

@@ -17,13 +17,13 @@ use Rattle.zw_text.specs.declared.entry.Entry.TheVariants.{Said}
 use Rattle.zw_text.specs.Transcript.{line_of}
 use Rattle.law_host.specs.law_transcript.Lists.{EachAfter}
 use Rattle.law_host.specs.law_transcript.Restarts.{ticks_of}
-use Rattle.host_model.specs.Pumping.{no_more_event}
-use Rattle.host_model.specs.Ticking.{tick_events}
-use Rattle.host_model.proofs.Silence.{tick_silent}
+use Rattle.proof_line.specs.host_model.Pumping.{no_more_event}
+use Rattle.proof_line.specs.host_model.Ticking.{tick_events}
+use Rattle.proof_line.proofs.Silence.{tick_silent}
 use Rattle.proof_line.specs.outside_model.Events.{OuterEvent, Arrives, Begins_line, Begins_tick, Chip_takes, Chip_ticks, Device_ticks, Gives, devices_after, has_entered, is_own, outcome}
 use Rattle.proof_line.specs.outside_model.Events.{May as MayOutside}
 use Rattle.s0_crypto.specs.declared.key_pair.Keys.{Keys}
-use Rattle.device_sim.specs.State.{State}
+use Rattle.law_host.specs.device_sim.State.{State}
 use Rattle.proof_line.specs.outside_model.State.{OuterState, Outcome, Outside, first_outer, is_stalled, with_chip}
 use Rattle.proof_line.specs.outside_model.Chip.{chip_does, put_out}
 use Rattle.proof_line.specs.world_model.State.{Machine, first_machine}

@@ -10,8 +10,8 @@ use Rattle.serial_pipes.specs.declared.marks.Mark.TheVariants.{Free, Lost, Chang
 use Rattle.zw_words.specs.declared.side.Side.TheVariants.{Host}
 use Rattle.zw_text.specs.declared.entry.Entry.{Entry}
 use Rattle.zw_text.specs.declared.entry.Entry.TheVariants as entry
-use Rattle.host_model.specs.declared.out.HostOut.{HostOut}
-use Rattle.host_model.specs.declared.out.HostOut.TheVariants.{Write, Note}
+use Rattle.proof_line.specs.host_model.declared.out.HostOut.{HostOut}
+use Rattle.proof_line.specs.host_model.declared.out.HostOut.TheVariants.{Write, Note}
 use Rattle.proof_line.specs.outside_model.State.{OuterState, Outside}
 use Rattle.proof_line.specs.outside_model.Events.{OuterEvent, Host_writes, Host_notes, Host_begins, stamp, has_entered, ticked_entry, happens, outcome, devices_after}
 use Rattle.proof_line.specs.outside_model.Did.{happens_all, entries_all}

@@ -9,15 +9,15 @@ use Rattle.zw_words.specs.declared.side.Side.TheVariants.{Host, Chip}
 use Rattle.zw_text.specs.declared.entry.Entry.{Entry}
 use Rattle.zw_text.specs.declared.entry.Entry.TheVariants as entry
 use Rattle.law_host.specs.law_transcript.Lists.{EachAfter}
-use Rattle.host_model.specs.State.{HostState, first_host}
-use Rattle.host_model.specs.Events.{HostEvent, Hears}
-use Rattle.host_model.specs.After.{after}
-use Rattle.host_model.specs.Did.{MayAll, records_all, texts_of}
-use Rattle.host_model.specs.Facts.{HostFacts}
-use Rattle.host_model.specs.May.{May as MayHost}
-use Rattle.host_model.specs.Outs.{answers, outs}
-use Rattle.host_model.specs.declared.out.HostOut.{HostOut}
-use Rattle.host_model.specs.declared.out.HostOut.TheVariants.{Note, Write}
+use Rattle.proof_line.specs.host_model.State.{HostState, first_host}
+use Rattle.proof_line.specs.host_model.Events.{HostEvent, Hears}
+use Rattle.proof_line.specs.host_model.After.{after}
+use Rattle.proof_line.specs.host_model.Did.{MayAll, records_all, texts_of}
+use Rattle.proof_line.specs.host_model.Facts.{HostFacts}
+use Rattle.proof_line.specs.host_model.May.{May as MayHost}
+use Rattle.proof_line.specs.host_model.Outs.{answers, outs}
+use Rattle.proof_line.specs.host_model.declared.out.HostOut.{HostOut}
+use Rattle.proof_line.specs.host_model.declared.out.HostOut.TheVariants.{Note, Write}
 use Rattle.proof_line.specs.world_model.State.{Machine, with_texts}
 use Rattle.proof_line.specs.world_model.Events as world
 use Rattle.proof_line.specs.world_model.Events.{Event, Host_does, OpensFrom}

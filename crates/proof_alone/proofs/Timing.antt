@@ -11,9 +11,9 @@ use Rattle.law_host.specs.law_transcript.Lists.{EachAfter}
 use Rattle.law_host.specs.law_transcript.Restarts.{ticks_asked, ticks_of}
 use Rattle.law_host.specs.law_time.Moments.{Passing, clock, passing_step}
 use Rattle.proof_line.proofs.Lists.{each-anywhere}
-use Rattle.host_model.specs.State.{HostState}
-use Rattle.host_model.specs.Events.{HostEvent, Accepts, Cancels, Hears}
-use Rattle.host_model.specs.Outs.{answers, outs}
+use Rattle.proof_line.specs.host_model.State.{HostState}
+use Rattle.proof_line.specs.host_model.Events.{HostEvent, Accepts, Cancels, Hears}
+use Rattle.proof_line.specs.host_model.Outs.{answers, outs}
 use Rattle.proof_line.specs.proof_walk.Outside.{IsHostNote}
 use Rattle.proof_line.specs.proof_walk.Time.{MayCount}
 use Rattle.proof_line.proofs.Clock.{asked-append, last_of_more}

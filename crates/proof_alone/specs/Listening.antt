@@ -2,7 +2,7 @@
 use Rattle.std.specs.Prelude.{◌≡◌, ◌≤◌, ℕ, List}
 use Rattle.zw_text.specs.declared.entry.Entry.{Entry}
 use Rattle.law_host.specs.law_time.Interviews.{listens}
-use Rattle.host_model.specs.State.{HostState, node_of}
+use Rattle.proof_line.specs.host_model.State.{HostState, node_of}
 use Rattle.proof_alone.specs.Runs.{Knowledge}
 
 -- of each node

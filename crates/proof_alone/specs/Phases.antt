@@ -9,14 +9,14 @@ use Rattle.zw_text.specs.declared.entry.Entry.TheVariants.{Said}
 use Rattle.zw_text.specs.Transcript.{line_of}
 use Rattle.law_host.specs.Heard.{is_of_others}
 use Rattle.host_node.specs.Search.{first_wanting}
-use Rattle.host_model.specs.State.{HostState}
-use Rattle.host_model.specs.Events.{HostEvent, Hears}
-use Rattle.host_model.specs.After.{after}
-use Rattle.host_model.specs.Did.{MayAll}
-use Rattle.host_model.specs.Outs.{answers, outs}
-use Rattle.host_model.specs.Pumping.{no_more_event, IsNext, IsPumped}
-use Rattle.host_model.specs.Taking.{IsFollowed}
-use Rattle.host_model.specs.Ticking.{tick_events}
+use Rattle.proof_line.specs.host_model.State.{HostState}
+use Rattle.proof_line.specs.host_model.Events.{HostEvent, Hears}
+use Rattle.proof_line.specs.host_model.After.{after}
+use Rattle.proof_line.specs.host_model.Did.{MayAll}
+use Rattle.proof_line.specs.host_model.Outs.{answers, outs}
+use Rattle.proof_line.specs.host_model.Pumping.{no_more_event, IsNext, IsPumped}
+use Rattle.proof_line.specs.host_model.Taking.{IsFollowed}
+use Rattle.proof_line.specs.host_model.Ticking.{tick_events}
 use Rattle.proof_line.specs.world_model.Events.{OpensFrom}
 use Rattle.proof_line.specs.world_model.Refusals.{IsRefused}
 use Rattle.proof_alone.specs.State.{HostMachine, with_world}

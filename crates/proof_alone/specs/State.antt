@@ -3,10 +3,10 @@ use Rattle.std.specs.Prelude.{ℕ, Bool, false, List, [], ◌∷◌, Option}
 use Rattle.serial_frame.specs.Stream.{no_rest}
 use Rattle.serial_frame.specs.declared.unit.Unit.{Unit as LineUnit}
 use Rattle.s0_crypto.specs.declared.key_pair.Keys.{Keys}
-use Rattle.host_model.specs.State.{HostState, first_host}
-use Rattle.host_model.specs.Events.{HostEvent}
-use Rattle.host_model.specs.After.{after}
-use Rattle.host_model.specs.Did.{records_all, texts_of}
+use Rattle.proof_line.specs.host_model.State.{HostState, first_host}
+use Rattle.proof_line.specs.host_model.Events.{HostEvent}
+use Rattle.proof_line.specs.host_model.After.{after}
+use Rattle.proof_line.specs.host_model.Did.{records_all, texts_of}
 use Rattle.proof_line.specs.outside_model.State.{first_outer}
 use Rattle.proof_line.specs.world_model.State.{Machine, machine, with_texts}
 

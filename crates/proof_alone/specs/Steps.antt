@@ -17,13 +17,13 @@ use Rattle.law_host.specs.law_time.Requests.{is_answer}
 use Rattle.host_orders.specs.Errands.{send_refusal, send_text, get_refusal, get_text}
 use Rattle.host_orders.specs.Refusals.{classes_of}
 use Rattle.host_requests.specs.declared.task.Task.TheVariants as task
-use Rattle.host_model.specs.State.{HostState, node_of}
-use Rattle.host_model.specs.Events.{HostEvent, Accepts, Cancels, Joins, Queues, Queues_interview, Queues_probe, Hears}
-use Rattle.host_model.specs.May.{known_of}
-use Rattle.host_model.specs.Asking.{carriage_for, places_refusal, interview_refusal}
-use Rattle.host_model.specs.Outs.{answers}
-use Rattle.host_model.specs.declared.out.HostOut.{HostOut}
-use Rattle.host_model.specs.declared.out.HostOut.TheVariants.{Write, Note}
+use Rattle.proof_line.specs.host_model.State.{HostState, node_of}
+use Rattle.proof_line.specs.host_model.Events.{HostEvent, Accepts, Cancels, Joins, Queues, Queues_interview, Queues_probe, Hears}
+use Rattle.proof_line.specs.host_model.May.{known_of}
+use Rattle.proof_line.specs.host_model.Asking.{carriage_for, places_refusal, interview_refusal}
+use Rattle.proof_line.specs.host_model.Outs.{answers}
+use Rattle.proof_line.specs.host_model.declared.out.HostOut.{HostOut}
+use Rattle.proof_line.specs.host_model.declared.out.HostOut.TheVariants.{Write, Note}
 use Rattle.proof_line.specs.world_model.Events.{shown_values}
 use Rattle.proof_alone.specs.State.{HostMachine, done}
 

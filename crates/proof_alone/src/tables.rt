@@ -2,7 +2,7 @@
 
 ghost use Rattle.std.specs.Prelude.{Some, List, [], ℕ};
 ghost use Rattle.s0_crypto.specs.declared.key_pair.Keys.{Keys};
-ghost use Rattle.device_sim.specs.State.{State};
+ghost use Rattle.law_host.specs.device_sim.State.{State};
 ghost use Rattle.zw_text.specs.declared.entry.Entry.{Entry};
 ghost use Rattle.law_host.specs.law_transcript.Answers.{CancelsWhenAsked};
 ghost use Rattle.law_host.specs.law_transcript.Once.{CarriesOnce};

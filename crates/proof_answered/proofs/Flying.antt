@@ -30,8 +30,8 @@ use Rattle.outside_model.specs.State.{OuterState, Outside, Outcome, each, with_c
 use Rattle.outside_model.specs.Chip.{chip_does, put_out}
 use Rattle.outside_model.specs.Devices.{acts_at, acts_by_hand, device_set, set_by_hand}
 use Rattle.outside_model.specs.Events.{Arrives, Device_ticks, Chip_ticks, Chip_takes, Wakes_device, devices_after, mesh_of, outcome, happens as happens_outside}
-use Rattle.proof_traffic.specs.OnAir.{fed_chip}
-use Rattle.proof_traffic.proofs.ChipNotices.{arrived_air, does_said, entered_leaves, ticked_said}
+use Rattle.proof_calm.specs.proof_traffic.OnAir.{fed_chip}
+use Rattle.proof_calm.proofs.ChipNotices.{arrived_air, does_said, entered_leaves, ticked_said}
 use Rattle.proof_answered.specs.Few.{WorkApart, work_at}
 use Rattle.proof_answered.proofs.Apart.{heard_apart, kept_apart, more_apart}
 use Rattle.proof_answered.proofs.Works.{hears_few, wakes_say, wakes_work, work_heard}

@@ -52,13 +52,13 @@ use Rattle.outside_model.specs.Results.{call_back, frame_ends, leading, no_route
 use Rattle.outside_model.specs.Events.{OuterEvent, Begins_line, Begins_tick, Arrives, Device_ticks, Chip_ticks, Chip_takes, Wakes_device, Shows, Cuts, has_entered, mesh_of, outcome, May as MayOutside}
 use Rattle.world_model.specs.State.{Machine}
 use Rattle.world_model.specs.Events.{Event, Outside_does, Host_does, Host_takes, Decoder_ticks, Refuses, Shows_values, happens, entries, May}
-use Rattle.proof_work.specs.Phases.{AsksNothing}
-use Rattle.proof_work.specs.proof_walk.Phases.{Phase, Said_line, Begun, Doing, To_tick, Ticked, Arriving, Giving, Ticking_devices, Ticking_chip, Ticking_decoder, Ticking_host, Sleeping, Submitting, Moving, Moved, Goes}
-use Rattle.proof_work.specs.proof_walk.Walk.{Walk, WalkWhere}
-use Rattle.proof_work.proofs.Times.{does_chip}
-use Rattle.proof_traffic.proofs.Arrivals.{IsTold, told_then}
-use Rattle.proof_traffic.proofs.Calm.{does_calm, takes_calm}
-use Rattle.proof_traffic.proofs.Parts.{Airs}
+use Rattle.proof_calm.specs.proof_work.Phases.{AsksNothing}
+use Rattle.proof_calm.specs.proof_work.proof_walk.Phases.{Phase, Said_line, Begun, Doing, To_tick, Ticked, Arriving, Giving, Ticking_devices, Ticking_chip, Ticking_decoder, Ticking_host, Sleeping, Submitting, Moving, Moved, Goes}
+use Rattle.proof_calm.specs.proof_work.proof_walk.Walk.{Walk, WalkWhere}
+use Rattle.proof_calm.proofs.Times.{does_chip}
+use Rattle.proof_calm.proofs.Arrivals.{IsTold, told_then}
+use Rattle.proof_calm.proofs.Calm.{does_calm, takes_calm}
+use Rattle.proof_calm.proofs.proof_traffic_Parts.{Airs}
 use Rattle.proof_serial.specs.Chip.{HasFrame}
 use Rattle.proof_calm.specs.Awaited.{AwaitsAt}
 use Rattle.proof_calm.specs.Calls.{answer_taken}

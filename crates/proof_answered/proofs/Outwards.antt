@@ -47,20 +47,20 @@ use Rattle.outside_model.specs.Events.{OuterEvent, Begins_line, Begins_tick, Hos
 use Rattle.world_model.specs.Events.{Event, Outside_does, Host_does, Host_takes as Host_takes_all, Decoder_ticks, Refuses as refuses_line, Restarts, Shows_values, happens, entries, May}
 use Rattle.world_model.specs.State.{Machine}
 use Rattle.proof_device.specs.GoingOn.{AreSame, GoOn}
-use Rattle.proof_work.specs.Phases.{AsksNothing}
-use Rattle.proof_work.specs.proof_walk.Outside.{CoversOuter}
-use Rattle.proof_work.specs.proof_walk.Phases.{Phase, Between, Said_line, Begun, Doing, To_tick, Ticked, Arriving, Giving, Ticking_devices, Ticking_chip, Ticking_decoder, Ticking_host, Sleeping, Submitting, Moving, Moved, Goes, Turns}
-use Rattle.proof_work.specs.proof_walk.Walk.{Walk, WalkWhere}
-use Rattle.proof_work.proofs.Times.{does_chip}
-use Rattle.proof_traffic.specs.Flights.{Fly, flown_now}
-use Rattle.proof_traffic.specs.OnAir.{fed_chip, on_air}
-use Rattle.proof_traffic.specs.OutsideTraffic.{one_outward, outward}
-use Rattle.proof_traffic.proofs.ArrivedFrames.{arrives_home}
-use Rattle.proof_traffic.proofs.Arrivals.{Homes, answered_if_homes}
-use Rattle.proof_traffic.proofs.Calm.{Calm, does_calm, takes_calm, enters_calm}
-use Rattle.proof_traffic.proofs.ChipNotices.{AreSaid, IsSaid, entered_leaves, given_first, queued_said, written_said}
-use Rattle.proof_traffic.proofs.Flights.{flights_are}
-use Rattle.proof_traffic.proofs.Parts.{Airs}
+use Rattle.proof_calm.specs.proof_work.Phases.{AsksNothing}
+use Rattle.proof_calm.specs.proof_work.proof_walk.Outside.{CoversOuter}
+use Rattle.proof_calm.specs.proof_work.proof_walk.Phases.{Phase, Between, Said_line, Begun, Doing, To_tick, Ticked, Arriving, Giving, Ticking_devices, Ticking_chip, Ticking_decoder, Ticking_host, Sleeping, Submitting, Moving, Moved, Goes, Turns}
+use Rattle.proof_calm.specs.proof_work.proof_walk.Walk.{Walk, WalkWhere}
+use Rattle.proof_calm.proofs.Times.{does_chip}
+use Rattle.proof_calm.specs.proof_traffic.Flights.{Fly, flown_now}
+use Rattle.proof_calm.specs.proof_traffic.OnAir.{fed_chip, on_air}
+use Rattle.proof_calm.specs.proof_traffic.OutsideTraffic.{one_outward, outward}
+use Rattle.proof_calm.proofs.ArrivedFrames.{arrives_home}
+use Rattle.proof_calm.proofs.Arrivals.{Homes, answered_if_homes}
+use Rattle.proof_calm.proofs.Calm.{Calm, does_calm, takes_calm, enters_calm}
+use Rattle.proof_calm.proofs.ChipNotices.{AreSaid, IsSaid, entered_leaves, given_first, queued_said, written_said}
+use Rattle.proof_calm.proofs.Flights.{flights_are}
+use Rattle.proof_calm.proofs.proof_traffic_Parts.{Airs}
 use Rattle.proof_calm.specs.Awaited.{Awaits, AwaitsAt}
 use Rattle.proof_calm.specs.Live.{HasLive, IsLive}
 use Rattle.proof_calm.specs.Marks.{IsQuietEvent}

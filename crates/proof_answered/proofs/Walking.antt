@@ -35,19 +35,19 @@ use Rattle.outside_model.specs.Events.{OuterEvent, Begins_line, Begins_tick, Arr
 use Rattle.world_model.specs.State.{Machine}
 use Rattle.world_model.specs.Events.{Event, Outside_does, Host_does, Host_takes, Decoder_ticks, Refuses, Shows_values, enters, fed, shown_values, happens, entries, May}
 use Rattle.world_model.specs.Lines.{IsEffect as IsLineEffect}
-use Rattle.proof_work.specs.Phases.{AsksNothing}
-use Rattle.proof_work.specs.proof_walk.Phases.{Phase, Between, Said_line, Begun, Doing, To_tick, Ticked, Arriving, Giving, Ticking_devices, Ticking_chip, Ticking_decoder, Ticking_host, Sleeping, Submitting, Moving, Moved, Turns, Goes, after_pump, passes_after}
-use Rattle.proof_work.specs.proof_walk.Walk.{Walk, WalkWhere}
+use Rattle.proof_calm.specs.proof_work.Phases.{AsksNothing}
+use Rattle.proof_calm.specs.proof_work.proof_walk.Phases.{Phase, Between, Said_line, Begun, Doing, To_tick, Ticked, Arriving, Giving, Ticking_devices, Ticking_chip, Ticking_decoder, Ticking_host, Sleeping, Submitting, Moving, Moved, Turns, Goes, after_pump, passes_after}
+use Rattle.proof_calm.specs.proof_work.proof_walk.Walk.{Walk, WalkWhere}
 use Rattle.world_model.proofs.Hosting.{devices_host-all, routed_still}
-use Rattle.proof_traffic.specs.Facts.{one_if, flying_in}
-use Rattle.proof_traffic.specs.Flights.{Fly}
-use Rattle.proof_traffic.specs.OnAir.{on_air, hosts_on_air}
-use Rattle.proof_traffic.specs.OutsideTraffic.{flags, one_outward, outward}
-use Rattle.proof_traffic.proofs.Arrivals.{outward-append}
-use Rattle.proof_traffic.proofs.ArrivedFrames.{Homes, arrives_home}
-use Rattle.proof_traffic.proofs.Calm.{Calm, does_calm, takes_calm, enters_calm}
-use Rattle.proof_traffic.proofs.Flights.{flights_are}
-use Rattle.proof_traffic.proofs.Parts.{Airs}
+use Rattle.proof_calm.specs.proof_traffic.Facts.{one_if, flying_in}
+use Rattle.proof_calm.specs.proof_traffic.Flights.{Fly}
+use Rattle.proof_calm.specs.proof_traffic.OnAir.{on_air, hosts_on_air}
+use Rattle.proof_calm.specs.proof_traffic.OutsideTraffic.{flags, one_outward, outward}
+use Rattle.proof_calm.proofs.Arrivals.{outward-append}
+use Rattle.proof_calm.proofs.ArrivedFrames.{Homes, arrives_home}
+use Rattle.proof_calm.proofs.Calm.{Calm, does_calm, takes_calm, enters_calm}
+use Rattle.proof_calm.proofs.Flights.{flights_are}
+use Rattle.proof_calm.proofs.proof_traffic_Parts.{Airs}
 use Rattle.proof_calm.specs.Awaited.{Awaits, AwaitsFrames, AwaitsAt}
 use Rattle.proof_calm.specs.Resting.{IsEffect, LineAt}
 use Rattle.proof_calm.specs.Routed.{IsRouted}

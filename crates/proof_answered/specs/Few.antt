@@ -8,8 +8,8 @@ use Rattle.law_time.specs.Stretches.{woken_by}
 use Rattle.outside_model.specs.Events.{Wakes_device}
 use Rattle.world_model.specs.Events.{Event, Outside_does}
 use Rattle.world_model.specs.State.{Machine}
-use Rattle.proof_traffic.specs.OnAir.{hosts_on_air}
-use Rattle.proof_work.specs.proof_walk.Phases.{Phase, Said_line, Begun, Doing, Ticked, Arriving, Giving, Ticking_devices, Ticking_chip, Ticking_decoder, Ticking_host}
+use Rattle.proof_calm.specs.proof_traffic.OnAir.{hosts_on_air}
+use Rattle.proof_calm.specs.proof_work.proof_walk.Phases.{Phase, Said_line, Begun, Doing, Ticked, Arriving, Giving, Ticking_devices, Ticking_chip, Ticking_decoder, Ticking_host}
 use Rattle.proof_calm.specs.Quiet.{AreQuiet}
 use Rattle.proof_calm.specs.Tied.{KnowTied, to_arrive}
 

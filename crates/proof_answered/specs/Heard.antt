@@ -16,7 +16,7 @@ use Rattle.outside_model.specs.Events.{OuterEvent, Arrives}
 use Rattle.outside_model.specs.State.{Outside}
 use Rattle.world_model.specs.Events.{Event, Outside_does}
 use Rattle.world_model.specs.State.{Machine}
-use Rattle.proof_work.specs.proof_walk.Phases.{Phase}
+use Rattle.proof_calm.specs.proof_work.proof_walk.Phases.{Phase}
 use Rattle.proof_calm.specs.Tied.{unheard}
 use Rattle.proof_answered.specs.Few.{IsStretched, Knows}
 

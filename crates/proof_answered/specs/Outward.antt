@@ -14,8 +14,8 @@ use Rattle.chip_sim.specs.declared.out.ChipOut.TheVariants.{OnAir}
 use Rattle.world_model.specs.State.{Machine}
 use Rattle.outside_model.specs.Events.{OuterEvent, Chip_takes}
 use Rattle.world_model.specs.Events.{Event, Outside_does}
-use Rattle.proof_traffic.specs.OnAir.{on_air}
-use Rattle.proof_work.specs.proof_walk.Phases.{Phase}
+use Rattle.proof_calm.specs.proof_traffic.OnAir.{on_air}
+use Rattle.proof_calm.specs.proof_work.proof_walk.Phases.{Phase}
 use Rattle.proof_calm.specs.Tied.{unheard}
 use Rattle.proof_answered.specs.Few.{IsStretched, Knows}
 use Rattle.proof_answered.specs.Heard.{AllSayHeard}

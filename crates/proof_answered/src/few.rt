@@ -7,14 +7,14 @@ ghost use Rattle.world_model.specs.State.{Machine, first_machine};
 ghost use Rattle.world_lines.specs.Spoken.{Spoken, after_all, transcript_of};
 ghost use Rattle.world_lines.specs.Done.{AreDone};
 ghost use Rattle.world_lines.specs.Whole.{AreWhole};
-ghost use Rattle.proof_work.specs.proof_walk.Walk.{Walk};
-ghost use Rattle.proof_work.specs.Phases.{AsksNothing};
+ghost use Rattle.proof_calm.specs.proof_work.proof_walk.Walk.{Walk};
+ghost use Rattle.proof_calm.specs.proof_work.Phases.{AsksNothing};
 ghost use Rattle.proof_calm.specs.Tied.{IsTied};
 ghost use Rattle.proof_answered.specs.Few.{AreFew, AreIdle, IsStretched, KnowFew, woken_in};
 
 use device_sim::when_changes_come;
 use proof_calm::requests_stay_tied;
-use proof_waking::traffic::frames_fly_in_order;
+use proof_calm::waking::traffic::frames_fly_in_order;
 
 /// While at most 16 of the quiet lines wake a device, few frames are on the air: those that calls are to come for, three of devices, and one of each that
 /// was woken. So it is at each phase, from each machine where no device is at work, and few frames are on the air. The request of the host stays tied then.

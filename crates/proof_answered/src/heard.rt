@@ -8,14 +8,14 @@ ghost use Rattle.world_model.specs.State.{Machine};
 ghost use Rattle.world_lines.specs.Spoken.{Spoken, after_all, transcript_of};
 ghost use Rattle.world_lines.specs.Done.{AreDone, events_of};
 ghost use Rattle.world_lines.specs.Whole.{AreWhole};
-ghost use Rattle.proof_work.specs.proof_walk.Walk.{WalkWhere};
-ghost use Rattle.proof_work.specs.Phases.{AsksNothing};
+ghost use Rattle.proof_calm.specs.proof_work.proof_walk.Walk.{WalkWhere};
+ghost use Rattle.proof_calm.specs.proof_work.Phases.{AsksNothing};
 ghost use Rattle.proof_calm.specs.Tied.{Ends, IsCalled, IsTied, unheard};
 ghost use Rattle.proof_answered.specs.Few.{AreFew, IsStretched};
 ghost use Rattle.proof_answered.specs.Heard.{AllSayHeard, IsHeardThen, KnowHeard};
 
 use crate::few_frames_fly;
-use proof_waking::traffic::frames_fly_in_order;
+use proof_calm::waking::traffic::frames_fly_in_order;
 
 /// Where each frame of the host that arrives is heard by a device, the call for each payload says that it was heard. So at each phase of quiet lines and
 /// ticks the call that the host has not judged says so, with which its request ends well.

@@ -6,16 +6,16 @@ ghost use Rattle.world_model.specs.State.{Machine};
 ghost use Rattle.world_lines.specs.Spoken.{Spoken, after_all, transcript_of};
 ghost use Rattle.world_lines.specs.Done.{AreDone, events_of};
 ghost use Rattle.world_lines.specs.Whole.{AreWhole};
-ghost use Rattle.proof_work.specs.proof_walk.Walk.{Walk, WalkWhere};
-ghost use Rattle.proof_work.specs.Phases.{AsksNothing};
+ghost use Rattle.proof_calm.specs.proof_work.proof_walk.Walk.{Walk, WalkWhere};
+ghost use Rattle.proof_calm.specs.proof_work.Phases.{AsksNothing};
 ghost use Rattle.proof_calm.specs.Tied.{IsTied, unheard};
 ghost use Rattle.proof_answered.specs.Few.{AreFew, IsStretched};
 ghost use Rattle.proof_answered.specs.Heard.{AllSayHeard};
 ghost use Rattle.proof_answered.specs.Outward.{AllListen, IsSentTo, KnowListening, KnowNetwork};
 
 use crate::payloads_are_heard;
+use proof_calm::waking::traffic::frames_fly_in_order;
 use proof_device::{devices_go_on, devices_stay_the_same};
-use proof_waking::traffic::frames_fly_in_order;
 
 /// Where what the chip takes is for nodes of these, the device of each of them listens, and each frame of the host on the air is for one of them, that stays so
 /// over a stretch of quiet lines and ticks; and each payload of the host is heard, and its call says so.

@@ -21,9 +21,9 @@ use Rattle.outside_model.specs.Devices.{State}
 use Rattle.outside_model.specs.State.{OuterState, Outcome}
 use Rattle.outside_model.specs.Chip.{chip_does}
 use Rattle.proof_host.proofs.Lists.{each-append, each-anywhere}
-use Rattle.proof_air.specs.proof_walk.Outside.{IsOfAir}
-use Rattle.proof_air.proofs.Times.{does_chip}
-use Rattle.proof_line.proofs.ChipAccounts.{Account, Still, Both, Later, Does, Forgotten, Of_air, In_air, steps_by}
+use Rattle.proof_devices.specs.proof_air.proof_walk.Outside.{IsOfAir}
+use Rattle.proof_devices.proofs.Times.{does_chip}
+use Rattle.proof_chip.proofs.ChipAccounts.{Account, Still, Both, Later, Does, Forgotten, Of_air, In_air, steps_by}
 use Rattle.proof_chip.specs.Serving.{GoesOn, Serves, frame_texts}
 use Rattle.proof_chip.proofs.Covering.{first_are}
 use Rattle.proof_chip.proofs.Growing.{frames_both, serves_aside, serves_event, told as put_by}

@@ -14,7 +14,7 @@ use Rattle.law_wire.specs.Answering.{AreOf, MayAnswer}
 use Rattle.outside_model.specs.Devices.{State}
 use Rattle.outside_model.specs.State.{OuterState, Outcome, each}
 use Rattle.outside_model.specs.Air.{deals}
-use Rattle.proof_line.proofs.ChipAccounts.{all_account, steps_by}
+use Rattle.proof_chip.proofs.ChipAccounts.{all_account, steps_by}
 use Rattle.proof_chip.specs.Serving.{GoesOn, as_given, frame_texts}
 use Rattle.proof_chip.specs.Tally.{Outlook, TallyBefore, TallySo, Timed}
 use Rattle.proof_chip.proofs.Arriving.{fate_aside}

@@ -20,7 +20,7 @@ use Rattle.outside_model.specs.declared.waits.Call.{Call}
 use Rattle.outside_model.specs.declared.waits.Due.{Due}
 use Rattle.outside_model.specs.declared.waits.Due.TheVariants.{Info, NoRoute as no_route_due}
 use Rattle.outside_model.specs.State.{OuterState}
-use Rattle.proof_line.specs.proof_traffic.OutsideTraffic.{flags}
+use Rattle.proof_chip.specs.proof_line.proof_traffic.OutsideTraffic.{flags}
 use Rattle.proof_chip.proofs.Airing.{IsNoAck, answer, asked_here, last_answered, none_asked, taken_before}
 use Rattle.proof_chip.proofs.Answered.{GivesNone}
 use Rattle.proof_chip.proofs.Picking.{shown_both}

@@ -28,11 +28,11 @@ use Rattle.outside_model.specs.Devices.{State}
 use Rattle.outside_model.specs.State.{OuterState, Outcome, and_then, silent, tells, with_chip}
 use Rattle.outside_model.specs.Chip.{chip_does}
 use Rattle.outside_model.specs.Results.{call_back, forgets, frame_ends, leading, no_route, no_routes, owes_call, without_no_route}
-use Rattle.proof_device.proofs.Results.{Gives, IsGiven, ends_go}
-use Rattle.proof_line.proofs.ChipAccounts.{call_account, call_if, calls_account, ends_account, forget_if, forgets_account, no_route_account, no_routes_account}
-use Rattle.proof_line.specs.proof_traffic.Facts.{flying_in, one_if}
-use Rattle.proof_line.specs.proof_traffic.OutsideTraffic.{flags, no_routes_due, of_frame, without_frame}
-use Rattle.proof_air.proofs.Times.{does_chip, does_time}
+use Rattle.proof_devices.proofs.Results.{Gives, IsGiven, ends_go}
+use Rattle.proof_chip.proofs.ChipAccounts.{call_account, call_if, calls_account, ends_account, forget_if, forgets_account, no_route_account, no_routes_account}
+use Rattle.proof_chip.specs.proof_line.proof_traffic.Facts.{flying_in, one_if}
+use Rattle.proof_chip.specs.proof_line.proof_traffic.OutsideTraffic.{flags, no_routes_due, of_frame, without_frame}
+use Rattle.proof_devices.proofs.Times.{does_chip, does_time}
 use Rattle.proof_chip.specs.Tally.{AreNumbered, Outlook}
 use Rattle.proof_chip.proofs.Arriving.{forgot}
 use Rattle.proof_chip.proofs.Finishing.{Sees, last_same, no_length, one_drop, over_same}

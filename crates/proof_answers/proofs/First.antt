@@ -10,7 +10,7 @@ use Rattle.chip_sim.specs.Waiting.{no_port}
 use Rattle.outside_model.specs.Devices.{State}
 use Rattle.outside_model.specs.State.{first_outer}
 use Rattle.world_model.specs.State.{first_machine}
-use Rattle.proof_air.specs.proof_walk.Phases.{Between}
+use Rattle.proof_devices.specs.proof_air.proof_walk.Phases.{Between}
 use Rattle.proof_chip.proofs.Ending.{serves_none}
 use Rattle.proof_answers.specs.Telling.{KnowTells}
 

@@ -29,11 +29,11 @@ use Rattle.outside_model.specs.Devices.{State}
 use Rattle.outside_model.specs.State.{OuterState, Outcome, silent}
 use Rattle.outside_model.specs.Chip.{chip_does}
 use Rattle.outside_model.specs.Results.{gives, no_route, owes_call, profile_for, without_no_route}
-use Rattle.proof_device.proofs.Results.{gives_go}
-use Rattle.proof_line.proofs.ChipAccounts.{due_account, steps_by}
-use Rattle.proof_line.specs.proof_traffic.Facts.{flying_in, one_if}
-use Rattle.proof_line.specs.proof_traffic.OutsideTraffic.{flags, no_routes_due, without_frame}
-use Rattle.proof_air.proofs.Times.{does_chip, does_time}
+use Rattle.proof_devices.proofs.Results.{gives_go}
+use Rattle.proof_chip.proofs.ChipAccounts.{due_account, steps_by}
+use Rattle.proof_chip.specs.proof_line.proof_traffic.Facts.{flying_in, one_if}
+use Rattle.proof_chip.specs.proof_line.proof_traffic.OutsideTraffic.{flags, no_routes_due, without_frame}
+use Rattle.proof_devices.proofs.Times.{does_chip, does_time}
 use Rattle.proof_chip.specs.Serving.{Serves, frame_texts}
 use Rattle.proof_chip.proofs.Giving.{done_rests, informed_rests}
 use Rattle.proof_chip.proofs.Growing.{frames_both}

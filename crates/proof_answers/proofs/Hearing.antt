@@ -26,10 +26,10 @@ use Rattle.outside_model.specs.Devices.{State}
 use Rattle.outside_model.specs.State.{OuterState, Outcome, each, silent}
 use Rattle.outside_model.specs.Chip.{chip_does}
 use Rattle.outside_model.specs.Air.{deals, to_chip}
-use Rattle.proof_device.proofs.Results.{to_chip_goes}
-use Rattle.proof_air.proofs.Times.{does_chip, does_time}
-use Rattle.proof_air.specs.Carrying.{IsHome}
-use Rattle.proof_line.proofs.ChipAccounts.{all_account, heard_account, steps_by}
+use Rattle.proof_devices.proofs.Results.{to_chip_goes}
+use Rattle.proof_devices.proofs.Times.{does_chip, does_time}
+use Rattle.proof_devices.specs.proof_air.Carrying.{IsHome}
+use Rattle.proof_chip.proofs.ChipAccounts.{all_account, heard_account, steps_by}
 use Rattle.proof_chip.specs.Serving.{as_given}
 use Rattle.proof_chip.proofs.Growing.{serves_aside}
 use Rattle.proof_chip.proofs.Hearing.{has_room, heard_rests}

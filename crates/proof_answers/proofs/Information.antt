@@ -28,11 +28,11 @@ use Rattle.law_wire.specs.Given.{CanTell, IsAwakeAt, IsInformation, notice_text}
 use Rattle.law_wire.specs.Networks.{air_network}
 use Rattle.outside_model.specs.State.{Outside}
 use Rattle.outside_model.specs.Results.{device_at, profile_for, profile_of, told_profile}
-use Rattle.proof_device.specs.GoingOn.{AreSame}
-use Rattle.proof_device.proofs.DevicePlaces.{go_same}
+use Rattle.proof_devices.specs.proof_device.GoingOn.{AreSame}
+use Rattle.proof_devices.proofs.DevicePlaces.{go_same}
 use Rattle.proof_devices.specs.Living.{IsNow, Lived, Simply, Tie}
-use Rattle.proof_routes.specs.Networks.{Tie as Networks}
-use Rattle.proof_routes.proofs.Walks.{IsSame, air_same, same_turned}
+use Rattle.proof_devices.specs.proof_routes.Networks.{Tie as Networks}
+use Rattle.proof_devices.proofs.Walks.{IsSame, air_same, same_turned}
 
 -- ---- places
 

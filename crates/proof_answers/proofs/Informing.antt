@@ -15,8 +15,8 @@ use Rattle.law_wire.specs.Arriving.{lived_through}
 use Rattle.law_wire.specs.Networks.{air_links, air_network, links_after, listens_at, network_of}
 use Rattle.law_wire.specs.Given.{CanTell, IsAwakeAt, IsInformation}
 use Rattle.outside_model.specs.Devices.{State}
-use Rattle.proof_routes.proofs.Books.{air_grows, joined_grows}
-use Rattle.proof_routes.specs.Knowing.{joins_in}
+use Rattle.proof_devices.proofs.Books.{air_grows, joined_grows}
+use Rattle.proof_devices.specs.proof_routes.Knowing.{joins_in}
 use Rattle.proof_chip.proofs.Picking.{shown_both}
 use Rattle.proof_answers.specs.Owing.{Ends, Informs, Owed, come}
 use Rattle.proof_answers.specs.Telling.{Alike, IsLike}

@@ -36,9 +36,9 @@ use Rattle.outside_model.specs.Devices.{State}
 use Rattle.outside_model.specs.State.{OuterState, Outcome, Outside, each, with_chip}
 use Rattle.outside_model.specs.Chip.{MayTake, chip_does}
 use Rattle.outside_model.specs.Events.{Chip_takes, entries, happens, has_entered, outcome, stamp, ticked_entry}
-use Rattle.proof_air.proofs.Times.{each_keeps, does_chip, does_time, time_of}
-use Rattle.proof_line.proofs.Parts.{Laws}
-use Rattle.proof_routes.proofs.Books.{same_joined}
+use Rattle.proof_devices.proofs.Times.{each_keeps, does_chip, does_time, time_of}
+use Rattle.proof_chip.proofs.Parts.{Laws}
+use Rattle.proof_devices.proofs.Books.{same_joined}
 use Rattle.proof_chip.specs.Serving.{GoesOn, Serves, as_given}
 use Rattle.proof_chip.specs.Sending.{Agrees, AirSo, AreNow, ItemsSo}
 use Rattle.proof_chip.specs.Tally.{TallyNow, TallySo, outlook}

@@ -37,9 +37,9 @@ use Rattle.outside_model.specs.declared.waits.Due.TheVariants.{Info, NoRoute as 
 use Rattle.outside_model.specs.Devices.{State}
 use Rattle.outside_model.specs.State.{OuterState, with_chip}
 use Rattle.outside_model.specs.Chip.{chip_does, shown_via}
-use Rattle.proof_air.proofs.Times.{does_time}
-use Rattle.proof_line.specs.proof_traffic.OutsideTraffic.{flags, of_frame}
-use Rattle.proof_line.proofs.Parts.{Laws}
+use Rattle.proof_devices.proofs.Times.{does_time}
+use Rattle.proof_chip.specs.proof_line.proof_traffic.OutsideTraffic.{flags, of_frame}
+use Rattle.proof_chip.proofs.Parts.{Laws}
 use Rattle.proof_host.proofs.Lists.{each-append}
 use Rattle.proof_chip.specs.Serving.{GoesOn, HasGiven, as_given, frame_texts}
 use Rattle.proof_chip.specs.Sending.{AreSending, ItemsSo, TieAir}

@@ -37,19 +37,19 @@ use Rattle.outside_model.specs.State.{OuterState, Outside, each}
 use Rattle.outside_model.specs.Air.{change_at, change_entries, deals}
 use Rattle.outside_model.specs.Results.{device_at, frame_ends}
 use Rattle.outside_model.specs.Events.{Arrives, mesh_of, steps, happens as happens_outside}
-use Rattle.proof_device.proofs.Entered.{IsChange, change_entered}
-use Rattle.proof_device.proofs.ChangesOutside.{fate_home, fate_out}
-use Rattle.proof_air.specs.proof_walk.Outside.{nothing}
-use Rattle.proof_air.specs.Logs.{Tie}
-use Rattle.proof_air.proofs.Homes.{next_home, next_stands}
-use Rattle.proof_line.specs.proof_traffic.OnAir.{on_air}
-use Rattle.proof_line.specs.proof_traffic.Flights.{Fly}
-use Rattle.proof_line.specs.proof_traffic.OutsideTraffic.{one_outward, outward}
-use Rattle.proof_line.proofs.ArrivedFrames.{Homes, arrives_home}
-use Rattle.proof_line.proofs.ChipAccounts.{all_account, ends_account, steps_account, steps_by}
-use Rattle.proof_line.proofs.ChipNotices.{arrived_air}
-use Rattle.proof_line.proofs.Flights.{flights_are}
-use Rattle.proof_line.proofs.Parts.{Laws}
+use Rattle.proof_devices.proofs.Entered.{IsChange, change_entered}
+use Rattle.proof_devices.proofs.ChangesOutside.{fate_home, fate_out}
+use Rattle.proof_devices.specs.proof_air.proof_walk.Outside.{nothing}
+use Rattle.proof_devices.specs.proof_air.Logs.{Tie}
+use Rattle.proof_devices.proofs.Homes.{next_home, next_stands}
+use Rattle.proof_chip.specs.proof_line.proof_traffic.OnAir.{on_air}
+use Rattle.proof_chip.specs.proof_line.proof_traffic.Flights.{Fly}
+use Rattle.proof_chip.specs.proof_line.proof_traffic.OutsideTraffic.{one_outward, outward}
+use Rattle.proof_chip.proofs.ArrivedFrames.{Homes, arrives_home}
+use Rattle.proof_chip.proofs.ChipAccounts.{all_account, ends_account, steps_account, steps_by}
+use Rattle.proof_chip.proofs.ChipNotices.{arrived_air}
+use Rattle.proof_chip.proofs.Flights.{flights_are}
+use Rattle.proof_chip.proofs.Parts.{Laws}
 use Rattle.proof_chip.specs.Calling.{Waits}
 use Rattle.proof_chip.specs.Serving.{GoesOn, as_given}
 use Rattle.proof_chip.specs.Tally.{AreNumbered, AreOwn, Outlook, TallyBefore, TallySo, number_of, numbers_from, outlook}

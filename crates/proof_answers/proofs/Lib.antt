@@ -21,3 +21,7 @@ mod Walk
 mod Information
 mod Written
 mod First
+pub use Rattle.proof_chip.proofs.HeldRecords
+pub use Rattle.proof_chip.proofs.FactsKept
+pub use Rattle.proof_chip.proofs.Notes
+pub use Rattle.proof_devices.proofs.LastLine

@@ -13,7 +13,7 @@ use Rattle.law_wire.specs.Answering.{AreOf, MayAnswer}
 use Rattle.outside_model.specs.Devices.{State}
 use Rattle.outside_model.specs.State.{OuterState}
 use Rattle.outside_model.specs.Events.{has_entered, stamp, ticked_entry}
-use Rattle.proof_air.specs.proof_walk.Outside.{awaits_number}
+use Rattle.proof_devices.specs.proof_air.proof_walk.Outside.{awaits_number}
 use Rattle.proof_chip.specs.Serving.{GoesOn, Serves, frame_texts}
 use Rattle.proof_chip.specs.Tally.{TallyBefore, TallyNow, TallySo, Timed, outlook}
 use Rattle.proof_chip.proofs.Growing.{serves_aside}

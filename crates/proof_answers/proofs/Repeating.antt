@@ -26,11 +26,11 @@ use Rattle.outside_model.specs.Devices.{State}
 use Rattle.outside_model.specs.State.{OuterState, Outcome, Outside, each}
 use Rattle.outside_model.specs.Air.{deals}
 use Rattle.outside_model.specs.Events.{Repeats, entries as entries_outside, happens as happens_outside, has_entered, mesh_of, outcome, repeats, stamp, steps}
-use Rattle.proof_air.specs.proof_walk.Outside.{nothing}
-use Rattle.proof_air.specs.Logs.{Tie}
-use Rattle.proof_air.proofs.Homes.{again_home, again_stands}
-use Rattle.proof_air.proofs.Times.{outcome_time}
-use Rattle.proof_line.proofs.ChipAccounts.{all_account, outer_steps, repeat_steps, steps_account, steps_by}
+use Rattle.proof_devices.specs.proof_air.proof_walk.Outside.{nothing}
+use Rattle.proof_devices.specs.proof_air.Logs.{Tie}
+use Rattle.proof_devices.proofs.Homes.{again_home, again_stands}
+use Rattle.proof_devices.proofs.Times.{outcome_time}
+use Rattle.proof_chip.proofs.ChipAccounts.{all_account, outer_steps, repeat_steps, steps_account, steps_by}
 use Rattle.proof_chip.proofs.Arriving.{ArePlain, plain_apart, plain_rests}
 use Rattle.proof_chip.proofs.Asides.{IsUnrelated}
 use Rattle.proof_chip.proofs.Hearing.{has_room}

@@ -18,11 +18,11 @@ use Rattle.outside_model.specs.Results.{device_at}
 use Rattle.outside_model.specs.Nodes.{all_pairs, discovers, is_known, joins, links_of, listens_at}
 use Rattle.outside_model.specs.Devices.{acts_at, acts_by_hand}
 use Rattle.outside_model.specs.Events.{OuterEvent, Begins_line, Begins_tick, Host_writes, Host_takes, Host_notes, Host_begins, Chip_takes, Arrives, Gives, Device_ticks, Chip_ticks, Repeats, Wakes_device, Sets_device, Joins, Discovers, Marks_loss, Marks_change, Clears_pipe, outcome}
-use Rattle.proof_air.specs.proof_walk.Outside.{nothing}
-use Rattle.proof_air.specs.Logs.{Tie}
-use Rattle.proof_air.proofs.Times.{does_chip, outcome_time}
-use Rattle.proof_line.proofs.Arrivals.{NoNexting}
-use Rattle.proof_line.proofs.Parts.{Laws}
+use Rattle.proof_devices.specs.proof_air.proof_walk.Outside.{nothing}
+use Rattle.proof_devices.specs.proof_air.Logs.{Tie}
+use Rattle.proof_devices.proofs.Times.{does_chip, outcome_time}
+use Rattle.proof_chip.proofs.Arrivals.{NoNexting}
+use Rattle.proof_chip.proofs.Parts.{Laws}
 use Rattle.proof_chip.proofs.Asides.{IsHosts, IsSteady}
 use Rattle.proof_chip.proofs.Mild.{outcome_sending}
 use Rattle.proof_chip.proofs.Steady.{hosts_chip, hosts_stay, hosts_within, steady_mild, steady_stays, steady_within}

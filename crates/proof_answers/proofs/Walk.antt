@@ -33,26 +33,26 @@ use Rattle.outside_model.specs.Results.{gives, profile_for}
 use Rattle.outside_model.specs.Events.{OuterEvent, Begins_line, Begins_tick, Chip_takes, Arrives, Gives, Chip_ticks, Repeats, Collides_next, Host_begins, Host_notes, Device_ticks, has_entered, outcome, stamp, steps, ticked_entry, May as MayOutside, entries as entries_outside, happens as happens_outside}
 use Rattle.world_model.specs.State.{Machine}
 use Rattle.world_model.specs.Events.{Event, Outside_does, Host_does, Host_takes, Decoder_ticks, Refuses, Shows_values, Restarts, May, entries, happens}
-use Rattle.proof_air.specs.proof_walk.Outside.{CoversOuter, awaits_number, nothing}
-use Rattle.proof_air.specs.proof_walk.Phases.{Phase, Between, Said_line, Begun, Doing, To_tick, Ticked, Arriving, Giving, Ticking_devices, Ticking_chip, Ticking_decoder, Ticking_host, Sleeping, Submitting, Moving, Moved, Goes, Turns}
-use Rattle.proof_air.specs.Landing.{KnowLanding}
-use Rattle.proof_air.specs.Logs.{Tie}
-use Rattle.proof_air.proofs.Fated.{arrival_fates}
-use Rattle.proof_air.proofs.Machines.{machine_goes}
-use Rattle.proof_air.proofs.Times.{outcome_time, same_number}
-use Rattle.proof_line.proofs.Arrivals.{NoNexting}
+use Rattle.proof_devices.specs.proof_air.proof_walk.Outside.{CoversOuter, awaits_number, nothing}
+use Rattle.proof_devices.specs.proof_air.proof_walk.Phases.{Phase, Between, Said_line, Begun, Doing, To_tick, Ticked, Arriving, Giving, Ticking_devices, Ticking_chip, Ticking_decoder, Ticking_host, Sleeping, Submitting, Moving, Moved, Goes, Turns}
+use Rattle.proof_devices.specs.proof_air.Landing.{KnowLanding}
+use Rattle.proof_devices.specs.proof_air.Logs.{Tie}
+use Rattle.proof_devices.proofs.Fated.{arrival_fates}
+use Rattle.proof_devices.proofs.Machines.{machine_goes}
+use Rattle.proof_devices.proofs.Times.{outcome_time, same_number}
+use Rattle.proof_chip.proofs.Arrivals.{NoNexting}
 use Rattle.proof_devices.specs.Acks.{KnowAcks}
-use Rattle.proof_line.specs.proof_traffic.Facts.{flying_in}
-use Rattle.proof_line.specs.proof_traffic.OnAir.{on_air}
-use Rattle.proof_line.specs.proof_traffic.OutsideTraffic.{flags, outward}
-use Rattle.proof_line.proofs.ChipAccounts.{due_account, event_steps, gives_account, outer_steps, steps_account, steps_by}
-use Rattle.proof_line.proofs.Parts.{Laws}
+use Rattle.proof_chip.specs.proof_line.proof_traffic.Facts.{flying_in}
+use Rattle.proof_chip.specs.proof_line.proof_traffic.OnAir.{on_air}
+use Rattle.proof_chip.specs.proof_line.proof_traffic.OutsideTraffic.{flags, outward}
+use Rattle.proof_chip.proofs.ChipAccounts.{due_account, event_steps, gives_account, outer_steps, steps_account, steps_by}
+use Rattle.proof_chip.proofs.Parts.{Laws}
 use Rattle.proof_chip.specs.Calling.{AreLanding, KnowCalls, Waits}
 use Rattle.proof_chip.specs.Sending.{Agrees, AirSo, AreNow, GroundAir, KnowAir}
 use Rattle.proof_chip.proofs.Calling.{flying}
 use Rattle.proof_chip.proofs.Passing.{shown_all}
-use Rattle.proof_routes.specs.Networks.{Tie as Networks}
-use Rattle.proof_routes.proofs.Books.{SameShown, same_joined}
+use Rattle.proof_devices.specs.proof_routes.Networks.{Tie as Networks}
+use Rattle.proof_devices.proofs.Books.{SameShown, same_joined}
 use Rattle.route_table.specs.Network.{Link}
 use Rattle.law_wire.specs.Networks.{are_linked, listens_at}
 use Rattle.proof_chip.specs.Tally.{IsOfLine, KnowTally, TallyBefore, TallyNow, TallySo, outlook}

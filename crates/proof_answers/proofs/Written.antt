@@ -34,20 +34,20 @@ use Rattle.world_model.specs.State.{Machine}
 use Rattle.world_model.specs.Events.{Event, May, Outside_does, entries, happens}
 use Rattle.proof_host.proofs.Lists.{each-append}
 use Rattle.proof_serial.specs.Line.{host_units}
-use Rattle.proof_air.specs.proof_walk.Phases.{Phase, Between, Said_line, Ticked, Arriving, Giving, To_tick, Goes}
-use Rattle.proof_air.specs.proof_walk.Outside.{awaits_number}
-use Rattle.proof_air.specs.proof_walk.Time.{KnowTime}
-use Rattle.proof_air.specs.proof_walk.Walk.{Walk, WalkWhere}
-use Rattle.proof_air.specs.Landing.{KnowLanding}
-use Rattle.proof_line.specs.Linked.{began, did_at, said, Cuts, Did, IsOrderly}
-use Rattle.proof_line.specs.proof_traffic.Links.{KeepsItsLink, host_link_steps}
-use Rattle.proof_line.proofs.ChipAccounts.{event_steps}
-use Rattle.proof_line.proofs.Arrivals.{NoNexting}
-use Rattle.proof_line.proofs.Parts.{Laws}
-use Rattle.proof_line.proofs.LinkEnds.{cuts_began}
-use Rattle.proof_line.proofs.LinkWalk.{event_knows, said_knows, said_steps, tick_none, turn_knows}
-use Rattle.proof_routes.specs.Networks.{Tie as Networks}
-use Rattle.proof_routes.specs.Knowing.{KnowNetworks}
+use Rattle.proof_devices.specs.proof_air.proof_walk.Phases.{Phase, Between, Said_line, Ticked, Arriving, Giving, To_tick, Goes}
+use Rattle.proof_devices.specs.proof_air.proof_walk.Outside.{awaits_number}
+use Rattle.proof_devices.specs.proof_air.proof_walk.Time.{KnowTime}
+use Rattle.proof_devices.specs.proof_air.proof_walk.Walk.{Walk, WalkWhere}
+use Rattle.proof_devices.specs.proof_air.Landing.{KnowLanding}
+use Rattle.proof_chip.specs.proof_line.Linked.{began, did_at, said, Cuts, Did, IsOrderly}
+use Rattle.proof_chip.specs.proof_line.proof_traffic.Links.{KeepsItsLink, host_link_steps}
+use Rattle.proof_chip.proofs.ChipAccounts.{event_steps}
+use Rattle.proof_chip.proofs.Arrivals.{NoNexting}
+use Rattle.proof_chip.proofs.Parts.{Laws}
+use Rattle.proof_chip.proofs.LinkEnds.{cuts_began}
+use Rattle.proof_chip.proofs.LinkWalk.{event_knows, said_knows, said_steps, tick_none, turn_knows}
+use Rattle.proof_devices.specs.proof_routes.Networks.{Tie as Networks}
+use Rattle.proof_devices.specs.proof_routes.Knowing.{KnowNetworks}
 use Rattle.proof_devices.specs.Acks.{KnowAcks}
 use Rattle.proof_devices.specs.Living.{IsNow, Lived, lived_in}
 use Rattle.proof_chip.specs.Bringing.{BringsInOrder}

@@ -6,9 +6,9 @@ use Rattle.law_wire.specs.Asked.{course_of}
 use Rattle.law_wire.specs.Links.{joined}
 use Rattle.outside_model.specs.Devices.{State}
 use Rattle.world_model.specs.State.{Machine}
-use Rattle.proof_air.specs.proof_walk.Phases.{Phase}
-use Rattle.proof_air.specs.proof_walk.Walk.{both_know}
-use Rattle.proof_line.specs.Linked.{Did, KnowCuts}
+use Rattle.proof_devices.specs.proof_air.proof_walk.Phases.{Phase}
+use Rattle.proof_devices.specs.proof_air.proof_walk.Walk.{both_know}
+use Rattle.proof_chip.specs.proof_line.Linked.{Did, KnowCuts}
 use Rattle.proof_devices.specs.Acks.{KnowAcks}
 use Rattle.proof_devices.specs.Meeting.{Ground}
 use Rattle.proof_chip.specs.Sending.{KnowAir}

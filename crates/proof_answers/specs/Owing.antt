@@ -16,7 +16,7 @@ use Rattle.outside_model.specs.declared.waits.Call.{Call}
 use Rattle.outside_model.specs.declared.waits.Due.{Due}
 use Rattle.outside_model.specs.declared.waits.Due.TheVariants.{Info, NoRoute as no_route_due}
 use Rattle.outside_model.specs.State.{OuterState}
-use Rattle.proof_line.specs.proof_traffic.OutsideTraffic.{flags}
+use Rattle.proof_chip.specs.proof_line.proof_traffic.OutsideTraffic.{flags}
 
 -- the callback of a SendData that has ended, or the information of a node that was asked for in the tick of a clock
 pub data Owed : Type 0 where

@@ -16,7 +16,7 @@ use Rattle.law_wire.specs.Answering.{MayAnswer}
 use Rattle.outside_model.specs.Devices.{State}
 use Rattle.outside_model.specs.State.{OuterState}
 use Rattle.world_model.specs.State.{Machine}
-use Rattle.proof_air.specs.proof_walk.Phases.{Phase, Ticked, Arriving, Giving}
+use Rattle.proof_devices.specs.proof_air.proof_walk.Phases.{Phase, Ticked, Arriving, Giving}
 use Rattle.proof_chip.specs.Serving.{GoesOn, Serves, frame_texts}
 use Rattle.proof_answers.specs.Owing.{asked_in_tick, come, due_before, ends_in, owed_in, owed_now}
 

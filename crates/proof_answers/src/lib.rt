@@ -9,3 +9,5 @@
 mod answered;
 
 pub use answered::chips_answer_in_order;
+pub use proof_chip as chip;
+pub use proof_devices as devices;

@@ -19,6 +19,8 @@ mod sends;
 pub use errands::{ends_say_how_done, hosts_say_how_done, lines_say_how_done};
 pub use numbers::{hosts_ask_one_by_one, lines_ask_one_by_one};
 pub use proof_known as known;
+pub use proof_known::transcript;
 pub use proof_requests as requests;
 pub use proof_sending as sending;
+pub use proof_sending::line;
 pub use sends::hosts_send_what_is_due;

@@ -2,7 +2,7 @@
 use Rattle.std.proofs.Common.{◌≡◌, false, List, [], ◌∷◌, ◌++◌, refl, sym, ap, ◌∙◌, append-nil, append_assoc}
 use Rattle.zw_text.specs.declared.entry.Entry.{Entry}
 use Rattle.zw_text.specs.declared.entry.Entry.TheVariants as entry
-use Rattle.law_transcript.specs.Restarts.{begins_refused}
+use Rattle.proof_work.specs.law_transcript.Restarts.{begins_refused}
 
 same_refused : (e : Entry) (past told : List Entry) → begins_refused (e ∷ (past ++ told)) ≡ begins_refused (e ∷ past)
 same_refused (entry.Refused refusal) past told = refl

@@ -29,13 +29,13 @@ use Rattle.zw_words.specs.declared.side.Side.TheVariants.{Host, Chip}
 use Rattle.zw_text.specs.declared.line.Line.{Line}
 use Rattle.zw_text.specs.declared.entry.Entry.{Entry}
 use Rattle.zw_text.specs.declared.entry.Entry.TheVariants as entry
-use Rattle.law_transcript.specs.Units.{body_in, function_in, is_frame, read_well}
-use Rattle.law_time.specs.Ends.{ending, has_ended, is_abort, is_answered_here, is_before_failing, is_called_back, is_called_back_badly, is_ended_by_frame, is_ended_here, is_ending_here, is_given_up, is_refused_here, is_silent, calls_back, refuses}
-use Rattle.law_time.specs.Interviews.{listens}
-use Rattle.law_time.specs.Judged.{acknowledged, directly_step, is_directly_after, is_following, judged_here, notices_here}
-use Rattle.law_time.specs.Moments.{Allows, clock, now_at}
-use Rattle.law_time.specs.Requests.{Judging, are_none, asked, is_response_to, request_last}
-use Rattle.law_time.specs.Waking.{counts_awake, given_up_at, has_slept, is_awake_sleeper, is_still_awake, is_told, may_sleep, moves_on, nodes_told, owes_no_sleep, owes_sleep, owes_sleep_to_given_up, owes_sleep_to_told}
+use Rattle.proof_work.specs.law_transcript.Units.{body_in, function_in, is_frame, read_well}
+use Rattle.proof_work.specs.law_time.Ends.{ending, has_ended, is_abort, is_answered_here, is_before_failing, is_called_back, is_called_back_badly, is_ended_by_frame, is_ended_here, is_ending_here, is_given_up, is_refused_here, is_silent, calls_back, refuses}
+use Rattle.proof_work.specs.law_time.Interviews.{listens}
+use Rattle.proof_work.specs.law_time.Judged.{acknowledged, directly_step, is_directly_after, is_following, judged_here, notices_here}
+use Rattle.proof_work.specs.law_time.Moments.{Allows, clock, now_at}
+use Rattle.proof_work.specs.law_time.Requests.{Judging, are_none, asked, is_response_to, request_last}
+use Rattle.proof_work.specs.law_time.Waking.{counts_awake, given_up_at, has_slept, is_awake_sleeper, is_still_awake, is_told, may_sleep, moves_on, nodes_told, owes_no_sleep, owes_sleep, owes_sleep_to_given_up, owes_sleep_to_told}
 use Rattle.host_requests.specs.Events.{RequestsEvent, interviewed_by, interviewed_from}
 use Rattle.host_requests.specs.Events.RequestsEvent.{CallsBack, Fails, IsSent, Responds, Ticks as request_ticks, Updates}
 use Rattle.host_requests.specs.Next.{at_callback, at_response, at_sent, at_tick, at_update, end_from, end_of, purpose_ends_at_update, sent_from}
@@ -64,8 +64,8 @@ use Rattle.host_model.specs.Outs.{answer_to, answers, copy_out, dropped_if, ende
 use Rattle.host_model.specs.Taking.{InterviewEvents, told_requests}
 use Rattle.host_model.specs.declared.out.HostOut.{HostOut}
 use Rattle.host_model.proofs.Submitted.{next_is}
-use Rattle.world_model.specs.Events.{shown_values}
-use Rattle.proof_host.specs.Facts.{Facts}
+use Rattle.proof_work.specs.world_model.Events.{shown_values}
+use Rattle.proof_work.specs.proof_host.Facts.{Facts}
 use Rattle.proof_requests.specs.proof_alone.State.{HostMachine}
 use Rattle.proof_requests.specs.proof_alone.Steps.{AreFrames, AreTold, DidNotCome, IsOfOthers, IsOfUnit, Step, Tells, Comes, Misses, Says, Says_nothing, Asks, Refuses, Shows, Restarts, Begins_tick, Numbers, Judges, Does, entries}
 use Rattle.proof_requests.specs.proof_alone.Phases.{Phase, Resting, Asked, Risen, Ticking, Open, Behind, Sleeping, Submitting, IsBetween, IsJudgedNow, IsNumbered, May}

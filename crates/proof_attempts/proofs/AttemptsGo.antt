@@ -2,12 +2,12 @@
 use Rattle.std.proofs.Common.{◌≡◌, ◌⊎◌, ℕ, zero, suc, ◌+◌, ◌-◌, ◌≤◌, ◌==◌, ◌&&◌, ◌||◌, nat_le, nat_lt, not, Bool, true, false, if◌then◌else◌, List, [], ◌∷◌, refl, sym, ap, ◌∙◌, subst, inl, inr, arith}
 use Rattle.std.specs.List.{list_any}
 use Rattle.std.proofs.lemmas.Bool.{both_ways, cases_eq, eq-eqb, false_from_ne_true, le-leb, leb-true, lt-ltb, ne_eqb, or_left, or_right}
-use Rattle.law_transcript.specs.Units.{is_frame, notice_in, sending_in}
-use Rattle.law_time.specs.Attempts.{Attempts as AttemptsTold, anew, attempts_by_request, ends_badly, goes_on, is_bad, is_late}
-use Rattle.law_time.specs.Choice.{first_part, further_parts, parts_by}
-use Rattle.law_time.specs.Ends.{ending, giving_up, has_ended, is_abort_frame, silence}
-use Rattle.law_time.specs.Requests.{Asked, Judging, are_none, sent_at}
-use Rattle.law_time.specs.Sessions.{Session}
+use Rattle.proof_work.specs.law_transcript.Units.{is_frame, notice_in, sending_in}
+use Rattle.proof_work.specs.law_time.Attempts.{Attempts as AttemptsTold, anew, attempts_by_request, ends_badly, goes_on, is_bad, is_late}
+use Rattle.proof_work.specs.law_time.Choice.{first_part, further_parts, parts_by}
+use Rattle.proof_work.specs.law_time.Ends.{ending, giving_up, has_ended, is_abort_frame, silence}
+use Rattle.proof_work.specs.law_time.Requests.{Asked, Judging, are_none, sent_at}
+use Rattle.proof_work.specs.law_time.Sessions.{Session}
 use Rattle.host_node.specs.declared.attempt.Moment.{Moment}
 use Rattle.host_node.specs.declared.attempt.Moment.TheVariants.{BetweenTicks}
 use Rattle.host_node.specs.declared.attempt.Plan.{Plan}

@@ -43,7 +43,7 @@ use Rattle.host_model.specs.After.{after, failing_if, finishing, gives_up, givin
 use Rattle.host_model.specs.Events.{HostEvent, Accepts, Cancels, Joins, Queues, Queues_interview, Queues_probe, Hears, Requests_do, Interviews, Interview_unkept, Unreads, Is_unkept, Reports_old, Works, Finishes, Offers, Gives, Spends, Spends_unread, Takes_nonce, Notifies, Resends, Hears_value, Has_no_room, Line_ticks, Node_ticks, Queues_no_more, Drops_no_more, Submits_abort, Submits_front, Starts, Gives_text, Gives_segment, Begins, Begin_unkept}
 use Rattle.host_model.specs.May.{May}
 use Rattle.host_model.proofs.Submitted.{SleepersAre, SubmittedAre, next_is, no_more_is}
-use Rattle.world_model.specs.Events.{OpensFrom}
+use Rattle.proof_work.specs.world_model.Events.{OpensFrom}
 use Rattle.proof_work.specs.Doing.{IsDone, IsTold}
 use Rattle.proof_requests.specs.proof_alone.Steps.{IsAskedBy}
 use Rattle.proof_requests.specs.proof_alone.Phases.{Phase, Resting, Ticking, Behind, Sleeping, Submitting, GoesBy}

@@ -11,9 +11,9 @@ use Rattle.zw_text.specs.declared.entry.Entry.TheVariants as entry
 use Rattle.zw_text.specs.Transcript.{folded, line_of, waking_at, wakings}
 use Rattle.zw_text.proofs.Views.{folded-append, shown-append}
 use Rattle.s0_crypto.specs.declared.key_pair.Keys.{Keys}
-use Rattle.law_transcript.specs.Lists.{last_or}
-use Rattle.law_transcript.specs.Restarts.{is_restart, since_restart}
-use Rattle.law_time.specs.Waking.{counts_awake}
+use Rattle.proof_work.specs.law_transcript.Lists.{last_or}
+use Rattle.proof_work.specs.law_transcript.Restarts.{is_restart, since_restart}
+use Rattle.proof_work.specs.law_time.Waking.{counts_awake}
 use Rattle.host_node.specs.State.{NodeState, is_idle, is_open, is_up, unknown}
 use Rattle.host_node.specs.Steps.{after_restart, as_recorded, new_series}
 use Rattle.host_node.specs.TableState.{node_of as node_among, unknown_from, unknown_nodes}
@@ -24,8 +24,8 @@ use Rattle.host_model.specs.Opening.{restarting}
 use Rattle.host_model.specs.Outs.{answers, outs}
 use Rattle.host_model.specs.declared.out.HostOut.{HostOut}
 use Rattle.host_model.specs.declared.out.HostOut.TheVariants.{Note, Write}
-use Rattle.world_model.specs.Events.{OpensFrom}
-use Rattle.proof_host.specs.Entries.{notes_of}
+use Rattle.proof_work.specs.world_model.Events.{OpensFrom}
+use Rattle.proof_work.specs.proof_host.Entries.{notes_of}
 use Rattle.proof_requests.specs.proof_alone.Steps.{AreTold, IsAskedBy}
 use Rattle.proof_requests.specs.proof_alone.Tables.{KnowsTables}
 use Rattle.proof_requests.proofs.proof_alone_Apart.{AreOfLine, marks_are, told_are}

@@ -25,9 +25,9 @@ use Rattle.supervision.specs.Host.{told_of}
 use Rattle.supervision.specs.declared.host_node.Told.{Told as TheTold}
 use Rattle.supervision.specs.declared.host_node.Told.TheVariants as told
 use Rattle.value_store.specs.Values.{count_with}
-use Rattle.law_transcript.specs.Lists.{Has}
-use Rattle.law_transcript.specs.Units.{Carried, bringing_in, bringing_of, read_well}
-use Rattle.law_time.specs.Holds.{ends_session, stays_by}
+use Rattle.proof_work.specs.law_transcript.Lists.{Has}
+use Rattle.proof_work.specs.law_transcript.Units.{Carried, bringing_in, bringing_of, read_well}
+use Rattle.proof_work.specs.law_time.Holds.{ends_session, stays_by}
 use Rattle.host_keep.specs.Status.{status_of}
 use Rattle.host_keep.specs.declared.final_status.FinalStatus.{FinalStatus}
 use Rattle.host_heard.specs.Telling.{heard_at}

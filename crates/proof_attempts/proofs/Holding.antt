@@ -11,11 +11,11 @@ use Rattle.zw_text.specs.declared.entry.Entry.{Entry}
 use Rattle.zw_text.specs.declared.entry.Entry.TheVariants as entry
 use Rattle.zw_text.specs.Transcript.{folded, line_of, time_of}
 use Rattle.zw_text.proofs.Views.{folded-append}
-use Rattle.law_transcript.specs.Restarts.{begins_refused, is_restart}
-use Rattle.law_time.specs.Holds.{hold_from, hold_step, held_until}
-use Rattle.law_time.specs.Interviews.{listens}
-use Rattle.law_time.specs.Judged.{last_of}
-use Rattle.law_time.specs.Moments.{Passing, clock, later_of, passing_step}
+use Rattle.proof_work.specs.law_transcript.Restarts.{begins_refused, is_restart}
+use Rattle.proof_work.specs.law_time.Holds.{hold_from, hold_step, held_until}
+use Rattle.proof_work.specs.law_time.Interviews.{listens}
+use Rattle.proof_work.specs.law_time.Judged.{last_of}
+use Rattle.proof_work.specs.law_time.Moments.{Passing, clock, later_of, passing_step}
 use Rattle.host_node.specs.State.{NodeState, needs_tick}
 use Rattle.host_model.specs.State.{HostState, first_host, node_of}
 use Rattle.host_model.specs.Events.{HostEvent, Hears, Line_ticks, Node_ticks, Requests_do}
@@ -24,7 +24,7 @@ use Rattle.host_model.specs.Outs.{answers, outs}
 use Rattle.host_model.specs.Ticking.{ticking_nodes}
 use Rattle.host_model.specs.declared.out.HostOut.{HostOut}
 use Rattle.host_model.proofs.Submitted.{SleepersAre, SubmittedAre, next_is, no_more_is}
-use Rattle.proof_host.specs.Facts.{Facts}
+use Rattle.proof_work.specs.proof_host.Facts.{Facts}
 use Rattle.proof_work.specs.Work.{HostWork, MayBeTold, times_told}
 use Rattle.proof_work.specs.proof_walk.ByLine.{IsAsked}
 use Rattle.proof_work.specs.proof_walk.Outside.{IsHostNote}

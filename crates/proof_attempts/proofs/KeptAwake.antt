@@ -16,12 +16,12 @@ use Rattle.zw_text.specs.declared.entry.Entry.{Entry}
 use Rattle.zw_text.specs.declared.entry.Entry.TheVariants as entry
 use Rattle.zw_text.specs.Transcript.{sessions}
 use Rattle.zw_text.proofs.Views.{folded-append}
-use Rattle.law_transcript.specs.Lists.{EachAfter, Has}
-use Rattle.law_transcript.specs.Units.{Carried, bringing_in, from_node}
-use Rattle.law_time.specs.Holds.{final_step, just_ended, may_hold, may_tell_to_stay, owes_hold, stays_by, stays_here, tells_to_stay}
-use Rattle.law_time.specs.Interviews.{listens}
-use Rattle.law_time.specs.Judged.{after_step, brought_here, is_following, judged, judged_here, last_of, payloads_here}
-use Rattle.law_time.specs.Moments.{Allows}
+use Rattle.proof_work.specs.law_transcript.Lists.{EachAfter, Has}
+use Rattle.proof_work.specs.law_transcript.Units.{Carried, bringing_in, from_node}
+use Rattle.proof_work.specs.law_time.Holds.{final_step, just_ended, may_hold, may_tell_to_stay, owes_hold, stays_by, stays_here, tells_to_stay}
+use Rattle.proof_work.specs.law_time.Interviews.{listens}
+use Rattle.proof_work.specs.law_time.Judged.{after_step, brought_here, is_following, judged, judged_here, last_of, payloads_here}
+use Rattle.proof_work.specs.law_time.Moments.{Allows}
 use Rattle.host_heard.specs.Telling.{heard_at}
 use Rattle.host_heard.specs.declared.payload.Heard.{Heard}
 use Rattle.host_heard.specs.declared.payload.Heard.TheVariants.{Messages, Sealed, Unread}
@@ -38,8 +38,8 @@ use Rattle.host_model.specs.After.{is_held}
 use Rattle.host_model.specs.Outs.{answers, ended_of, held_entries, noted, outs, stored_entries}
 use Rattle.host_model.proofs.Own.{IsOwn}
 use Rattle.host_model.proofs.Submitted.{SleepersAre, SubmittedAre, next_is, no_more_is}
-use Rattle.proof_host.specs.Facts.{Facts}
-use Rattle.proof_host.proofs.Lists.{each-append}
+use Rattle.proof_work.specs.proof_host.Facts.{Facts}
+use Rattle.proof_work.proofs.Lists.{each-append}
 use Rattle.proof_requests.specs.proof_alone.State.{HostMachine}
 use Rattle.proof_requests.specs.proof_alone.Steps.{AreTold, IsOfOthers, Step, Tells as Tells_of_others, Comes, Misses, Says, Says_nothing, Asks, Refuses, Shows, Restarts, Begins_tick, Numbers, Judges, Does, entries}
 use Rattle.proof_requests.specs.proof_alone.Phases.{Phase, Ticking, Behind, Sleeping, Submitting, GoesBy, May}

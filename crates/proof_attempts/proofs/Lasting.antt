@@ -10,11 +10,11 @@ use Rattle.zw_text.specs.declared.line.Line.TheVariants as lines
 use Rattle.zw_text.specs.declared.entry.Refusal.{Refusal}
 use Rattle.zw_text.specs.declared.entry.Entry.{Entry}
 use Rattle.zw_text.specs.declared.entry.Entry.TheVariants as entry
-use Rattle.law_transcript.specs.Lists.{EachAfter}
-use Rattle.law_transcript.specs.Restarts.{is_restart}
+use Rattle.proof_work.specs.law_transcript.Lists.{EachAfter}
+use Rattle.proof_work.specs.law_transcript.Restarts.{is_restart}
 use Rattle.host_model.specs.State.{HostState}
 use Rattle.host_model.specs.Events.{HostEvent}
-use Rattle.world_model.specs.Events.{shown_values}
+use Rattle.proof_work.specs.world_model.Events.{shown_values}
 use Rattle.proof_requests.specs.proof_alone.State.{HostMachine, first_alone}
 use Rattle.proof_requests.specs.proof_alone.Steps.{DidNotCome, IsOfOthers, Step, Tells, Comes, Misses, Says, Says_nothing, Asks, Refuses, Shows, Restarts, Begins_tick, Numbers, Judges, Does, entries, happens}
 use Rattle.proof_requests.specs.proof_alone.Phases.{Phase, Resting, Asked, Risen, Ticking, Open, Behind, Sleeping, Submitting, GoesBy, IsBetween, May, Turns}

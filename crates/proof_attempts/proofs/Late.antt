@@ -9,8 +9,8 @@ use Rattle.serial_frame.specs.declared.unit.Unit.TheVariants.{Framed}
 use Rattle.zw_words.specs.declared.side.Side.TheVariants.{Host}
 use Rattle.zw_text.specs.declared.entry.Entry.{Entry}
 use Rattle.zw_text.specs.declared.entry.Entry.TheVariants as entry
-use Rattle.law_time.specs.Requests.{asked}
-use Rattle.law_time.specs.Ends.{has_ended}
+use Rattle.proof_work.specs.law_time.Requests.{asked}
+use Rattle.proof_work.specs.law_time.Ends.{has_ended}
 use Rattle.host_requests.specs.State.{RequestsState}
 use Rattle.host_requests.specs.declared.under_way.UnderWay.{UnderWay}
 use Rattle.host_node.specs.State.{needs_tick}

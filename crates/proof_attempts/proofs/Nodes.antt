@@ -55,7 +55,7 @@ use Rattle.host_model.specs.Ends.{PartEnd, Good as part_good, Passed_over, Bad, 
 use Rattle.host_model.specs.After.{after, failing_if, finishing, gives_up, giving, holding, is_full, is_held, line_ticked, node_for, offering, requests_do}
 use Rattle.host_model.specs.Outs.{answer_to, copy_out, dropped_if, ended_of, failing_entries, held_entries, noted, outs, request_entries, stored_entries}
 use Rattle.host_model.specs.Events.{HostEvent, Accepts, Cancels, Joins, Hears, Requests_do, Interviews, Interview_unkept, Unreads, Is_unkept, Reports_old, Works, Finishes, Offers, Gives, Spends_unread, Takes_nonce, Notifies, Resends, Hears_value, Has_no_room, Line_ticks, Node_ticks, Queues_no_more, Drops_no_more, Starts, Gives_text, Gives_segment, Begins, Begin_unkept}
-use Rattle.proof_host.specs.Entries.{notes_of}
+use Rattle.proof_work.specs.proof_host.Entries.{notes_of}
 use Rattle.proof_attempts.specs.Waking.{Follows, Waking, is_kept, is_released, one_less, sleeps, waking_before, waking_in, waking_of, waking_step, wakes}
 
 -- ---- entries

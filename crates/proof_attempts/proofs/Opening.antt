@@ -10,19 +10,19 @@ use Rattle.zw_text.specs.declared.entry.Entry.{Entry}
 use Rattle.zw_text.specs.declared.entry.Outcome.{Outcome}
 use Rattle.zw_text.specs.declared.entry.Outcome.TheVariants as outcomes
 use Rattle.zw_text.specs.Transcript.{accepted, outcome}
-use Rattle.law_transcript.specs.Commands.{is_waiting, numbers_of, waiting}
-use Rattle.law_transcript.specs.Sessions.{IsFinal}
-use Rattle.law_time.specs.Interviews.{listens}
-use Rattle.law_time.specs.Judged.{last_of}
-use Rattle.law_time.specs.Requests.{are_none}
-use Rattle.law_time.specs.Waking.{counts_awake}
-use Rattle.law_time.specs.Sessions.{is_final, is_open, last_command}
+use Rattle.proof_work.specs.law_transcript.Commands.{is_waiting, numbers_of, waiting}
+use Rattle.proof_work.specs.law_transcript.Sessions.{IsFinal}
+use Rattle.proof_work.specs.law_time.Interviews.{listens}
+use Rattle.proof_work.specs.law_time.Judged.{last_of}
+use Rattle.proof_work.specs.law_time.Requests.{are_none}
+use Rattle.proof_work.specs.law_time.Waking.{counts_awake}
+use Rattle.proof_work.specs.law_time.Sessions.{is_final, is_open, last_command}
 use Rattle.host_node.specs.State.{NodeState, is_open as has_open}
 use Rattle.host_model.specs.State.{HostState, node_of}
 use Rattle.host_model.specs.Sessions.{open_command}
-use Rattle.proof_host.specs.Facts.{Facts}
-use Rattle.proof_host.specs.Laws.{IsUnderWay, numbers_for}
-use Rattle.proof_host.specs.Tables.{outcome_in, recorded}
+use Rattle.proof_work.specs.proof_host.Facts.{Facts}
+use Rattle.proof_work.specs.proof_host.Laws.{IsUnderWay, numbers_for}
+use Rattle.proof_work.specs.proof_host.Tables.{outcome_in, recorded}
 use Rattle.proof_attempts.specs.Series.{NodeAsTold}
 
 -- ---- the last of some

@@ -8,13 +8,13 @@ use Rattle.zw_text.specs.declared.entry.Ended.TheVariants as ended
 use Rattle.zw_text.specs.declared.entry.Entry.{Entry}
 use Rattle.zw_text.specs.declared.entry.Entry.TheVariants as entry
 use Rattle.zw_text.specs.Transcript.{shown}
-use Rattle.law_transcript.specs.Lists.{EachAfter}
-use Rattle.law_transcript.specs.Stores.{node_at}
-use Rattle.law_time.specs.Ends.{is_ended_by_frame}
-use Rattle.law_time.specs.Judged.{directly_step, is_data, is_directly_after, is_mark}
-use Rattle.law_time.specs.Moments.{Allows, now_at}
-use Rattle.law_time.specs.Requests.{asked, is_copy}
-use Rattle.law_time.specs.Waking.{given_up_at, is_awake_sleeper, is_given_up_on, is_still_awake, may_sleep, moves_on, nodes_told, owes_no_sleep, owes_sleep, owes_sleep_to_given_up, owes_sleep_to_told}
+use Rattle.proof_work.specs.law_transcript.Lists.{EachAfter}
+use Rattle.proof_work.specs.law_transcript.Stores.{node_at}
+use Rattle.proof_work.specs.law_time.Ends.{is_ended_by_frame}
+use Rattle.proof_work.specs.law_time.Judged.{directly_step, is_data, is_directly_after, is_mark}
+use Rattle.proof_work.specs.law_time.Moments.{Allows, now_at}
+use Rattle.proof_work.specs.law_time.Requests.{asked, is_copy}
+use Rattle.proof_work.specs.law_time.Waking.{given_up_at, is_awake_sleeper, is_given_up_on, is_still_awake, may_sleep, moves_on, nodes_told, owes_no_sleep, owes_sleep, owes_sleep_to_given_up, owes_sleep_to_told}
 use Rattle.proof_requests.specs.proof_alone.Steps.{IsOfUnit}
 use Rattle.proof_requests.proofs.Untold.{directly_one}
 use Rattle.proof_attempts.specs.Asleep.{OwesNone}

@@ -8,7 +8,7 @@ use Rattle.std.proofs.lemmas.List.Elements.{recursion_from_All}
 use Rattle.zw_base.proofs.Each.{all-right}
 use Rattle.supervision.specs.Host.{open_session}
 use Rattle.zw_text.specs.Transcript.{folded}
-use Rattle.law_time.specs.Judged.{last_of}
+use Rattle.proof_work.specs.law_time.Judged.{last_of}
 use Rattle.host_requests.specs.declared.task.Purpose.{Purpose}
 use Rattle.host_requests.specs.declared.task.Purpose.TheVariants.{Housekeeping}
 use Rattle.host_requests.specs.declared.task.Task.TheVariants.{NoMore}
@@ -24,7 +24,7 @@ use Rattle.host_model.specs.After.{after}
 use Rattle.host_model.specs.Did.{one_if}
 use Rattle.host_model.specs.Events.{HostEvent}
 use Rattle.host_model.specs.Outs.{outs}
-use Rattle.proof_host.specs.Entries.{notes_of}
+use Rattle.proof_work.specs.proof_host.Entries.{notes_of}
 use Rattle.proof_work.specs.Work.{told_at, told_for}
 use Rattle.proof_attempts.specs.Waking.{Follows, TellsAwake, releases_of, waking_before, waking_in, waking_step}
 use Rattle.proof_attempts.proofs.Nodes.{AtIs, Known, TellsOf, ends_by, goes_on}

@@ -18,8 +18,8 @@ use Rattle.zw_text.specs.declared.entry.Ended.TheVariants as ended
 use Rattle.zw_text.specs.declared.entry.Entry.{Entry}
 use Rattle.zw_text.specs.declared.entry.Entry.TheVariants as entry
 use Rattle.zw_text.specs.Transcript.{folded}
-use Rattle.law_time.specs.Judged.{last_of}
-use Rattle.law_time.specs.Sessions.{Series as SeriesTold, no_series, series_by_end}
+use Rattle.proof_work.specs.law_time.Judged.{last_of}
+use Rattle.proof_work.specs.law_time.Sessions.{Series as SeriesTold, no_series, series_by_end}
 use Rattle.host_requests.specs.declared.end.End.{End}
 use Rattle.host_requests.specs.declared.end.How.{How}
 use Rattle.host_requests.specs.declared.end.How.TheVariants.{AtResponse}
@@ -52,7 +52,7 @@ use Rattle.host_model.specs.Events.{HostEvent, Accepts, Cancels, Joins, Hears, R
 use Rattle.host_model.specs.May.{IsFinal, May}
 use Rattle.host_model.specs.Outs.{dropped_if, ended_of, failing_entries, held_entries, noted, outs, request_entries, stored_entries}
 use Rattle.host_model.specs.Did.{one_if}
-use Rattle.proof_host.specs.Entries.{notes_of}
+use Rattle.proof_work.specs.proof_host.Entries.{notes_of}
 use Rattle.proof_work.specs.Work.{told_for}
 use Rattle.proof_attempts.specs.Series.{IsSeries, again_ticked}
 use Rattle.proof_attempts.proofs.Doings.{did, does_at, end_does, failing_does, held_does, part_does, purpose_does, task_does}

@@ -7,12 +7,12 @@ use Rattle.zw_text.specs.declared.entry.Ended.TheVariants as endings
 use Rattle.zw_text.specs.declared.entry.Entry.{Entry}
 use Rattle.zw_text.specs.declared.entry.Entry.TheVariants as entry
 use Rattle.zw_text.specs.Transcript.{line_of}
-use Rattle.law_transcript.specs.Commands.{waiting}
-use Rattle.law_transcript.specs.Restarts.{begins_refused, is_restart}
-use Rattle.law_time.specs.Moments.{now_at}
-use Rattle.law_time.specs.Requests.{are_none}
-use Rattle.law_time.specs.Sessions.{Series as SeriesTold, is_open, new_series, no_series, series_by_end, series_from, series_step, with_occasion, with_time}
-use Rattle.law_time.specs.Waking.{is_up}
+use Rattle.proof_work.specs.law_transcript.Commands.{waiting}
+use Rattle.proof_work.specs.law_transcript.Restarts.{begins_refused, is_restart}
+use Rattle.proof_work.specs.law_time.Moments.{now_at}
+use Rattle.proof_work.specs.law_time.Requests.{are_none}
+use Rattle.proof_work.specs.law_time.Sessions.{Series as SeriesTold, is_open, new_series, no_series, series_by_end, series_from, series_step, with_occasion, with_time}
+use Rattle.proof_work.specs.law_time.Waking.{is_up}
 use Rattle.host_node.specs.declared.attempt.Moment.TheVariants.{BeforeItsTick, BetweenTicks}
 use Rattle.host_node.specs.declared.series.Series.{Series}
 use Rattle.host_node.specs.declared.series.Series.TheVariants.{Idle, Due, Running}

@@ -11,12 +11,12 @@ use Rattle.zw_text.specs.declared.entry.Refusal.{Refusal}
 use Rattle.zw_text.specs.declared.entry.Entry.{Entry}
 use Rattle.zw_text.specs.declared.entry.Entry.TheVariants as entry
 use Rattle.zw_text.specs.Transcript.{folded, line_of, lines_run}
-use Rattle.law_transcript.specs.Restarts.{is_restart, ticks_asked}
-use Rattle.law_transcript.specs.Sessions.{IsFinal}
-use Rattle.law_time.specs.Judged.{last_of}
-use Rattle.law_time.specs.Moments.{clock, now_at}
-use Rattle.law_time.specs.Sessions.{Series as SeriesTold, is_last_command, is_open, new_series, no_series, series_by_end, series_step, with_occasion, with_time}
-use Rattle.law_time.specs.Waking.{is_up}
+use Rattle.proof_work.specs.law_transcript.Restarts.{is_restart, ticks_asked}
+use Rattle.proof_work.specs.law_transcript.Sessions.{IsFinal}
+use Rattle.proof_work.specs.law_time.Judged.{last_of}
+use Rattle.proof_work.specs.law_time.Moments.{clock, now_at}
+use Rattle.proof_work.specs.law_time.Sessions.{Series as SeriesTold, is_last_command, is_open, new_series, no_series, series_by_end, series_step, with_occasion, with_time}
+use Rattle.proof_work.specs.law_time.Waking.{is_up}
 use Rattle.host_requests.specs.declared.under_way.UnderWay.{UnderWay}
 use Rattle.host_node.specs.declared.attempt.Moment.{Moment}
 use Rattle.host_node.specs.declared.no_more.NoMore.{NoMore}
@@ -34,14 +34,14 @@ use Rattle.host_model.specs.Outs.{answers, outs}
 use Rattle.host_model.specs.Ticking.{ticking_nodes}
 use Rattle.host_model.proofs.Submitted.{SleepersAre, SubmittedAre, next_is, no_more_is}
 use Rattle.proof_work.proofs.HostOuts.{SharedAre, outs_are}
-use Rattle.proof_host.specs.Entries.{notes_of}
-use Rattle.proof_host.specs.Facts.{Facts}
-use Rattle.proof_host.specs.Laws.{IsUnderWay}
-use Rattle.proof_host.specs.Tables.{outcome_in}
+use Rattle.proof_work.specs.proof_host.Entries.{notes_of}
+use Rattle.proof_work.specs.proof_host.Facts.{Facts}
+use Rattle.proof_work.specs.proof_host.Laws.{IsUnderWay}
+use Rattle.proof_work.specs.proof_host.Tables.{outcome_in}
 use Rattle.zw_base.proofs.Each.{all-right}
 use Rattle.supervision.specs.Host.{open_session}
 use Rattle.host_model.specs.Sessions.{open_command}
-use Rattle.world_model.specs.Events.{OpensFrom}
+use Rattle.proof_work.specs.world_model.Events.{OpensFrom}
 use Rattle.proof_requests.proofs.proof_waking_Apart.{IsWordless}
 use Rattle.proof_work.specs.Work.{HostWork, times_due, told_at, told_in}
 use Rattle.proof_work.specs.proof_walk.ByLine.{IsAsked}

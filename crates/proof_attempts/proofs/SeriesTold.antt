@@ -10,12 +10,12 @@ use Rattle.zw_text.specs.declared.entry.Entry.{Entry}
 use Rattle.zw_text.specs.declared.entry.Entry.TheVariants as entry
 use Rattle.zw_text.specs.Transcript.{folded, session_at}
 use Rattle.zw_text.proofs.Views.{folded-append}
-use Rattle.law_time.specs.Judged.{last_of}
-use Rattle.law_time.specs.Moments.{Passing, clock, later_of, now_at, passing_step}
-use Rattle.law_time.specs.Sessions.{Series as SeriesTold, is_last_command, series_by_end, series_step, with_time}
+use Rattle.proof_work.specs.law_time.Judged.{last_of}
+use Rattle.proof_work.specs.law_time.Moments.{Passing, clock, later_of, now_at, passing_step}
+use Rattle.proof_work.specs.law_time.Sessions.{Series as SeriesTold, is_last_command, series_by_end, series_step, with_time}
 use Rattle.host_model.specs.declared.out.HostOut.{HostOut}
 use Rattle.host_model.specs.declared.out.HostOut.TheVariants.{Note, Write}
-use Rattle.proof_host.specs.Entries.{notes_of}
+use Rattle.proof_work.specs.proof_host.Entries.{notes_of}
 use Rattle.proof_work.proofs.Untimed.{AreUntimed, IsUntimed, same_time}
 use Rattle.proof_requests.specs.proof_alone.Steps.{AreTold, IsOfUnit}
 use Rattle.proof_requests.specs.proof_alone.Time.{passing}

@@ -21,13 +21,13 @@ use Rattle.zw_text.specs.declared.entry.Ended.TheVariants as ended
 use Rattle.zw_text.specs.declared.entry.Entry.{Entry}
 use Rattle.zw_text.specs.declared.entry.Entry.TheVariants as entry
 use Rattle.zw_text.specs.Transcript.{sessions, shown}
-use Rattle.law_transcript.specs.Restarts.{since_restart}
-use Rattle.law_transcript.specs.Stores.{node_at}
-use Rattle.law_time.specs.Ends.{calls_back, is_called_back, is_called_back_badly, is_ended_by_frame, is_ended_here, is_ending_here, is_given_up, is_refused_here, is_silent}
-use Rattle.law_time.specs.Interviews.{listens}
-use Rattle.law_time.specs.Judged.{is_directly_after, last_of, notices_here}
-use Rattle.law_time.specs.Requests.{asked, request_last}
-use Rattle.law_time.specs.Waking.{counts_awake, ends_telling, given_up_at, is_awake_sleeper, is_given_up_on, is_told, nodes_told, owes_sleep, owes_sleep_to_given_up}
+use Rattle.proof_work.specs.law_transcript.Restarts.{since_restart}
+use Rattle.proof_work.specs.law_transcript.Stores.{node_at}
+use Rattle.proof_work.specs.law_time.Ends.{calls_back, is_called_back, is_called_back_badly, is_ended_by_frame, is_ended_here, is_ending_here, is_given_up, is_refused_here, is_silent}
+use Rattle.proof_work.specs.law_time.Interviews.{listens}
+use Rattle.proof_work.specs.law_time.Judged.{is_directly_after, last_of, notices_here}
+use Rattle.proof_work.specs.law_time.Requests.{asked, request_last}
+use Rattle.proof_work.specs.law_time.Waking.{counts_awake, ends_telling, given_up_at, is_awake_sleeper, is_given_up_on, is_told, nodes_told, owes_sleep, owes_sleep_to_given_up}
 use Rattle.host_requests.specs.declared.end.How.{How}
 use Rattle.host_requests.specs.declared.end.How.TheVariants.{AtCallback, AtResponse, AtUpdate, Refused, Silent, LinkFailed, AbortSent}
 use Rattle.host_requests.specs.declared.task.Purpose.{Purpose}

@@ -21,13 +21,13 @@ use Rattle.zw_text.specs.declared.entry.Entry.{Entry}
 use Rattle.zw_text.specs.declared.entry.Entry.TheVariants as entry
 use Rattle.zw_text.specs.Transcript.{line_of, waking_at, wakings}
 use Rattle.zw_text.proofs.Views.{shown-append}
-use Rattle.law_transcript.specs.Lists.{last_or}
-use Rattle.law_transcript.specs.Restarts.{begins_refused, is_restart}
-use Rattle.law_transcript.specs.Units.{request_in, sending_of}
-use Rattle.law_time.specs.Interviews.{listening_at, listens}
-use Rattle.law_time.specs.Judged.{acknowledged, is_data}
-use Rattle.law_time.specs.Requests.{Asked as TheAsked, asked, is_new, request_last}
-use Rattle.law_time.specs.Waking.{has_slept, is_told, node_told, nodes_told}
+use Rattle.proof_work.specs.law_transcript.Lists.{last_or}
+use Rattle.proof_work.specs.law_transcript.Restarts.{begins_refused, is_restart}
+use Rattle.proof_work.specs.law_transcript.Units.{request_in, sending_of}
+use Rattle.proof_work.specs.law_time.Interviews.{listening_at, listens}
+use Rattle.proof_work.specs.law_time.Judged.{acknowledged, is_data}
+use Rattle.proof_work.specs.law_time.Requests.{Asked as TheAsked, asked, is_new, request_last}
+use Rattle.proof_work.specs.law_time.Waking.{has_slept, is_told, node_told, nodes_told}
 use Rattle.host_requests.specs.Events.{interviewed_from}
 use Rattle.host_requests.specs.Frames.{request_of}
 use Rattle.host_requests.specs.State.{RequestsState}
@@ -42,7 +42,7 @@ use Rattle.host_model.specs.After.{after}
 use Rattle.host_model.specs.May.{May as may_event}
 use Rattle.host_model.specs.Outs.{answer_to, answers, outs}
 use Rattle.host_model.specs.declared.out.HostOut.TheVariants.{Write}
-use Rattle.world_model.specs.Events.{OpensFrom}
+use Rattle.proof_work.specs.world_model.Events.{OpensFrom}
 use Rattle.host_model.specs.Events.{HostEvent, Accepts, Cancels, Hears, Interviews, Notifies}
 use Rattle.s0_crypto.specs.declared.key_pair.Keys.{Keys}
 use Rattle.proof_work.specs.Work.{HostWork, MayBeTold, times_told, told_at, told_for}

@@ -18,11 +18,11 @@ use Rattle.zw_text.specs.declared.entry.Entry.{Entry}
 use Rattle.zw_text.specs.declared.entry.Entry.TheVariants as entry
 use Rattle.zw_text.specs.Transcript.{session_at, sessions}
 use Rattle.zw_text.proofs.Views.{shown-append}
-use Rattle.law_transcript.specs.Lists.{last_or, shown_after}
-use Rattle.law_transcript.specs.Nodes.{first_node}
-use Rattle.law_time.specs.Interviews.{listening_at, listens}
-use Rattle.law_time.specs.Judged.{last_of}
-use Rattle.law_time.specs.Sessions.{is_last_command}
+use Rattle.proof_work.specs.law_transcript.Lists.{last_or, shown_after}
+use Rattle.proof_work.specs.law_transcript.Nodes.{first_node}
+use Rattle.proof_work.specs.law_time.Interviews.{listening_at, listens}
+use Rattle.proof_work.specs.law_time.Judged.{last_of}
+use Rattle.proof_work.specs.law_time.Sessions.{is_last_command}
 use Rattle.host_requests.specs.declared.end.End.{End}
 use Rattle.host_requests.specs.declared.end.How.{How}
 use Rattle.host_requests.specs.declared.end.How.TheVariants.{AtResponse}

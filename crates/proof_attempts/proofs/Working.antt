@@ -21,7 +21,7 @@ use Rattle.host_model.specs.Pumping.{IsNext, IsPumped, no_more_event}
 use Rattle.host_model.specs.Taking.{AreJudged}
 use Rattle.host_model.specs.Ticking.{tick_events}
 use Rattle.host_model.proofs.Submitted.{SleepersAre, SubmittedAre, next_is, no_more_is}
-use Rattle.world_model.specs.Events.{OpensFrom}
+use Rattle.proof_work.specs.world_model.Events.{OpensFrom}
 use Rattle.proof_requests.specs.proof_alone.State.{HostMachine}
 use Rattle.proof_requests.specs.proof_alone.Steps.{IsAskedBy}
 use Rattle.proof_requests.specs.proof_alone.Phases.{Phase, Resting, Asked, Risen, Ticking, Open, Behind, Sleeping, Submitting, GoesBy, IsJudgedNow, Turns}

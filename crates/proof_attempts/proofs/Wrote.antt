@@ -10,8 +10,8 @@ use Rattle.serial_link.specs.declared.turn.Turn.TheVariants.{Idle, Copied, Pause
 use Rattle.zw_words.specs.declared.side.Side.TheVariants.{Host}
 use Rattle.zw_text.specs.declared.entry.Entry.{Entry}
 use Rattle.zw_text.specs.declared.entry.Entry.TheVariants as entry
-use Rattle.law_time.specs.Judged.{acknowledged}
-use Rattle.law_time.specs.Requests.{asked, is_new}
+use Rattle.proof_work.specs.law_time.Judged.{acknowledged}
+use Rattle.proof_work.specs.law_time.Requests.{asked, is_new}
 use Rattle.host_requests.specs.Events.{RequestsEvent}
 use Rattle.host_requests.specs.Events.RequestsEvent.{CallsBack, Fails, IsSent, Responds, Ticks as request_ticks, Updates}
 use Rattle.host_requests.specs.Frames.{frame_of}

@@ -4,10 +4,10 @@ use Rattle.std.specs.Prelude.{◌≡◌, ℕ, ◌-◌, true, false, List, Some}
 use Rattle.std.specs.List.{AllByRecursion}
 use Rattle.chip_functions.specs.Field.{IsNode}
 use Rattle.zw_text.specs.declared.entry.Entry.{Entry}
-use Rattle.law_time.specs.Judged.{is_directly_after}
-use Rattle.law_time.specs.Requests.{asked}
-use Rattle.law_time.specs.Ends.{has_ended, is_ending_here}
-use Rattle.law_time.specs.Waking.{has_slept, is_told, owes_sleep_to_given_up}
+use Rattle.proof_work.specs.law_time.Judged.{is_directly_after}
+use Rattle.proof_work.specs.law_time.Requests.{asked}
+use Rattle.proof_work.specs.law_time.Ends.{has_ended, is_ending_here}
+use Rattle.proof_work.specs.law_time.Waking.{has_slept, is_told, owes_sleep_to_given_up}
 use Rattle.host_requests.specs.declared.under_way.UnderWay.{UnderWay}
 use Rattle.host_model.specs.Events.{HostEvent, Node_ticks}
 use Rattle.proof_requests.specs.proof_alone.Phases.{Phase, Ticking}

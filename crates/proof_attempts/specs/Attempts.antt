@@ -2,10 +2,10 @@
 -- there, that the last one is not over, and when the node gave its last sign; where one is due after another, that the last one is over. A node is looked at at its own time.
 use Rattle.std.specs.Prelude.{◌≡◌, ℕ, ◌+◌, ◌≤◌, ◌&&◌, ◌||◌, Bool, true, false, List, [], ◌∷◌}
 use Rattle.zw_text.specs.declared.entry.Entry.{Entry}
-use Rattle.law_time.specs.Attempts.{Attempts as AttemptsTold, ends_badly, is_late, is_of_inner}
-use Rattle.law_time.specs.Heeds.{Heeds}
-use Rattle.law_time.specs.Requests.{Asked}
-use Rattle.law_time.specs.Sessions.{last_command}
+use Rattle.proof_work.specs.law_time.Attempts.{Attempts as AttemptsTold, ends_badly, is_late, is_of_inner}
+use Rattle.proof_work.specs.law_time.Heeds.{Heeds}
+use Rattle.proof_work.specs.law_time.Requests.{Asked}
+use Rattle.proof_work.specs.law_time.Sessions.{last_command}
 use Rattle.std.specs.List.{list_any}
 use Rattle.host_node.specs.State.{NodeState}
 use Rattle.host_node.specs.declared.series.Series.{Series}

@@ -2,7 +2,7 @@
 use Rattle.std.specs.Prelude.{◌≡◌, ◌≤◌, ℕ, bytes_eq, false, List, [], ◌∷◌, Option, Some, None}
 use Rattle.std.specs.List.{AllByRecursion}
 use Rattle.chip_functions.specs.Field.{IsNode}
-use Rattle.law_transcript.specs.Payloads.{no_more_information}
+use Rattle.proof_work.specs.law_transcript.Payloads.{no_more_information}
 use Rattle.host_requests.specs.State.{RequestsState}
 use Rattle.host_requests.specs.declared.task.Task.{Task}
 use Rattle.host_requests.specs.declared.task.Task.TheVariants.{Plain, Segment, NoMore}

@@ -5,14 +5,14 @@ use Rattle.std.specs.Prelude.{◌≡◌, ℕ, ◌+◌, ◌≤◌, ◌==◌, not,
 use Rattle.zw_text.specs.declared.entry.Entry.{Entry}
 use Rattle.zw_text.specs.declared.entry.Entry.TheVariants.{Said, Refused}
 use Rattle.zw_text.specs.Transcript.{accepted}
-use Rattle.law_transcript.specs.Commands.{numbers_of, waiting}
-use Rattle.law_time.specs.Requests.{are_none}
-use Rattle.law_time.specs.Sessions.{Series as SeriesTold, is_open, no_series, series_from, with_time}
-use Rattle.law_time.specs.Waking.{is_up}
+use Rattle.proof_work.specs.law_transcript.Commands.{numbers_of, waiting}
+use Rattle.proof_work.specs.law_time.Requests.{are_none}
+use Rattle.proof_work.specs.law_time.Sessions.{Series as SeriesTold, is_open, no_series, series_from, with_time}
+use Rattle.proof_work.specs.law_time.Waking.{is_up}
 use Rattle.host_node.specs.State.{NodeState, has_waiting, is_idle, is_open as has_open, is_up as hears}
 use Rattle.host_node.specs.Steps.{after_again_tick, after_hold_tick}
 use Rattle.host_model.specs.State.{HostState, node_of}
-use Rattle.proof_host.specs.Laws.{numbers_for}
+use Rattle.proof_work.specs.proof_host.Laws.{numbers_for}
 use Rattle.proof_requests.specs.proof_alone.Phases.{Phase, Risen, Ticking}
 use Rattle.proof_requests.specs.proof_alone.Runs.{Knowledge, both_know}
 use Rattle.proof_attempts.specs.Since.{KnowsSince, TieOf, is_to_tick}

@@ -12,7 +12,7 @@ use Rattle.zw_text.specs.declared.entry.Refusal.{Refusal}
 use Rattle.zw_text.specs.declared.entry.Entry.{Entry}
 use Rattle.zw_text.specs.declared.entry.Entry.TheVariants as entry
 use Rattle.zw_text.specs.Transcript.{line_of}
-use Rattle.law_transcript.specs.Restarts.{is_restart}
+use Rattle.proof_work.specs.law_transcript.Restarts.{is_restart}
 use Rattle.host_model.specs.State.{HostState}
 use Rattle.host_requests.specs.Events.RequestsEvent.{Ticks as request_ticks}
 use Rattle.host_node.specs.declared.attempt.Moment.TheVariants.{BeforeItsTick, BetweenTicks}
@@ -21,7 +21,7 @@ use Rattle.host_model.specs.Ticking.{first_ticks, ticking_nodes}
 use Rattle.host_model.specs.Events.{HostEvent, Accepts, Begins, Hears, Line_ticks, Node_ticks, Queues, Requests_do}
 use Rattle.host_model.specs.After.{after}
 use Rattle.host_model.specs.Outs.{answers}
-use Rattle.world_model.specs.Events.{OpensFrom}
+use Rattle.proof_work.specs.world_model.Events.{OpensFrom}
 use Rattle.proof_requests.specs.proof_alone.State.{HostMachine, done, first_alone}
 use Rattle.proof_requests.specs.proof_alone.Steps.{Does, IsAskedBy, Says, Step, entries, happens}
 use Rattle.proof_requests.specs.proof_alone.Phases.{Phase, Resting, Asked, Risen, Ticking, Open, Behind, IsJudgedNow, IsNumbered, May, Turns}

@@ -3,9 +3,9 @@ use Rattle.std.specs.Prelude.{◌≡◌, ◌⊎◌, ◌≤◌, ℕ, true, false,
 use Rattle.std.specs.List.{AllByRecursion}
 use Rattle.chip_functions.specs.Field.{IsNode}
 use Rattle.zw_text.specs.declared.entry.Entry.{Entry}
-use Rattle.law_time.specs.Requests.{asked, request_last}
-use Rattle.law_time.specs.Interviews.{listens}
-use Rattle.law_time.specs.Waking.{has_slept, is_told, nodes_told}
+use Rattle.proof_work.specs.law_time.Requests.{asked, request_last}
+use Rattle.proof_work.specs.law_time.Interviews.{listens}
+use Rattle.proof_work.specs.law_time.Waking.{has_slept, is_told, nodes_told}
 use Rattle.host_requests.specs.Frames.{request_of}
 use Rattle.host_requests.specs.State.{RequestsState}
 use Rattle.host_requests.specs.declared.under_way.UnderWay.{UnderWay}

@@ -6,9 +6,9 @@ use Rattle.zw_text.specs.declared.entry.Entry.{Entry}
 use Rattle.zw_text.specs.declared.entry.Entry.TheVariants as entry
 use Rattle.host_node.specs.State.{NodeState}
 use Rattle.host_node.specs.TableState.{node_of as node_among}
-use Rattle.law_time.specs.Holds.{held_until}
-use Rattle.law_time.specs.Judged.{last_of}
-use Rattle.law_time.specs.Waking.{counts_awake}
+use Rattle.proof_work.specs.law_time.Holds.{held_until}
+use Rattle.proof_work.specs.law_time.Judged.{last_of}
+use Rattle.proof_work.specs.law_time.Waking.{counts_awake}
 use Rattle.host_model.specs.State.{HostState, node_of}
 use Rattle.host_model.specs.Events.{HostEvent, Node_ticks}
 use Rattle.host_model.specs.Facts.{HostFacts}

@@ -3,8 +3,8 @@
 ghost use Rattle.std.specs.Prelude.{◌≡◌, ◌⊎◌, ◌≤◌, ◌+◌, ◌&&◌, nat_lt, false, true, Bool, List, [], ◌∷◌, ℕ};
 ghost use Rattle.std.specs.List.{list_any};
 ghost use Rattle.zw_text.specs.declared.entry.Entry.{Entry};
-ghost use Rattle.law_transcript.specs.Units.{sending_in};
-ghost use Rattle.law_time.specs.Attempts.{
+ghost use Rattle.proof_work.specs.law_transcript.Units.{sending_in};
+ghost use Rattle.proof_work.specs.law_time.Attempts.{
   Attempts as AttemptsTold,
   anew,
   attempt_is_over,
@@ -13,11 +13,11 @@ ghost use Rattle.law_time.specs.Attempts.{
   goes_on,
   is_late,
 };
-ghost use Rattle.law_time.specs.Choice.{first_part, further_parts, parts_by};
-ghost use Rattle.law_time.specs.Ends.{has_ended};
-ghost use Rattle.law_time.specs.Heeds.{Heeds};
-ghost use Rattle.law_time.specs.Requests.{Asked};
-ghost use Rattle.law_time.specs.Sessions.{Session};
+ghost use Rattle.proof_work.specs.law_time.Choice.{first_part, further_parts, parts_by};
+ghost use Rattle.proof_work.specs.law_time.Ends.{has_ended};
+ghost use Rattle.proof_work.specs.law_time.Heeds.{Heeds};
+ghost use Rattle.proof_work.specs.law_time.Requests.{Asked};
+ghost use Rattle.proof_work.specs.law_time.Sessions.{Session};
 ghost use Rattle.host_node.specs.declared.attempt.Moment.{Moment};
 ghost use Rattle.host_node.specs.declared.attempt.Plan.{Plan};
 ghost use Rattle.host_node.specs.declared.series.Series.TheVariants.{Due, Running};

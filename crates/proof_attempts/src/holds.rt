@@ -4,11 +4,11 @@ ghost use Rattle.std.specs.Prelude.{Some, List, []};
 ghost use Rattle.s0_crypto.specs.declared.key_pair.Keys.{Keys};
 ghost use Rattle.device_sim.specs.State.{State};
 ghost use Rattle.zw_text.specs.declared.entry.Entry.{Entry};
-ghost use Rattle.law_time.specs.Holds.{HoldsAsAsked};
+ghost use Rattle.proof_work.specs.law_time.Holds.{HoldsAsAsked};
 ghost use Rattle.proof_requests.specs.law_host.Heard.{heard_by_host};
-ghost use Rattle.world_model.specs.State.{first_machine};
-ghost use Rattle.world_lines.specs.Spoken.{Spoken, transcript_of};
-ghost use Rattle.world_lines.specs.Done.{AreDone};
+ghost use Rattle.proof_work.specs.world_model.State.{first_machine};
+ghost use Rattle.proof_work.specs.world_lines.Spoken.{Spoken, transcript_of};
+ghost use Rattle.proof_work.specs.world_lines.Done.{AreDone};
 ghost use Rattle.proof_requests.specs.proof_alone.State.{first_alone};
 ghost use Rattle.proof_requests.specs.proof_alone.Runs.{Told};
 

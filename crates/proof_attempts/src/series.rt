@@ -5,13 +5,13 @@ ghost use Rattle.zw_text.specs.declared.entry.Ended.TheVariants as endings;
 ghost use Rattle.zw_text.specs.declared.entry.Entry.{Entry};
 ghost use Rattle.zw_text.specs.declared.entry.Entry.TheVariants.{Said};
 ghost use Rattle.zw_text.specs.Transcript.{accepted, line_of};
-ghost use Rattle.law_transcript.specs.Commands.{numbers_of, waiting};
-ghost use Rattle.law_transcript.specs.Restarts.{is_restart};
-ghost use Rattle.law_time.specs.Interviews.{listens};
-ghost use Rattle.law_time.specs.Judged.{last_of};
-ghost use Rattle.law_time.specs.Waking.{counts_awake};
-ghost use Rattle.law_time.specs.Moments.{now_at};
-ghost use Rattle.law_time.specs.Sessions.{
+ghost use Rattle.proof_work.specs.law_transcript.Commands.{numbers_of, waiting};
+ghost use Rattle.proof_work.specs.law_transcript.Restarts.{is_restart};
+ghost use Rattle.proof_work.specs.law_time.Interviews.{listens};
+ghost use Rattle.proof_work.specs.law_time.Judged.{last_of};
+ghost use Rattle.proof_work.specs.law_time.Waking.{counts_awake};
+ghost use Rattle.proof_work.specs.law_time.Moments.{now_at};
+ghost use Rattle.proof_work.specs.law_time.Sessions.{
   Series as SeriesTold,
   is_open,
   last_command,
@@ -43,8 +43,8 @@ ghost use Rattle.proof_requests.specs.proof_alone.State.{HostMachine, first_alon
 ghost use Rattle.proof_requests.specs.proof_alone.Phases.{Phase, Resting, Risen, Turns};
 ghost use Rattle.proof_requests.specs.proof_alone.Runs.{Run};
 ghost use Rattle.proof_attempts.specs.Since.{AlongRuns, IsElse, KnowsSince};
-ghost use Rattle.proof_host.specs.Facts.{Facts};
-ghost use Rattle.proof_host.specs.Laws.{numbers_for};
+ghost use Rattle.proof_work.specs.proof_host.Facts.{Facts};
+ghost use Rattle.proof_work.specs.proof_host.Laws.{numbers_for};
 ghost use Rattle.proof_attempts.specs.Series.{
   IsOfNoLine,
   IsSeries,

@@ -3,10 +3,10 @@
 ghost use Rattle.std.specs.Prelude.{◌≡◌, ◌≤◌, ◌-◌, Some, List, [], ℕ};
 ghost use Rattle.s0_crypto.specs.declared.key_pair.Keys.{Keys};
 ghost use Rattle.zw_text.specs.declared.entry.Entry.{Entry};
-ghost use Rattle.law_time.specs.Holds.{held_until};
-ghost use Rattle.law_time.specs.Waking.{counts_awake};
+ghost use Rattle.proof_work.specs.law_time.Holds.{held_until};
+ghost use Rattle.proof_work.specs.law_time.Waking.{counts_awake};
 ghost use Rattle.host_model.specs.State.{node_of};
-ghost use Rattle.proof_host.specs.Laws.{MayStand};
+ghost use Rattle.proof_work.specs.proof_host.Laws.{MayStand};
 ghost use Rattle.proof_requests.specs.proof_alone.State.{HostMachine, first_alone};
 ghost use Rattle.proof_requests.specs.proof_alone.Phases.{Resting};
 ghost use Rattle.proof_requests.specs.proof_alone.Runs.{Run, Walk, both_know};

@@ -3,7 +3,7 @@
 ghost use Rattle.std.specs.Prelude.{Some, List, [], ℕ};
 ghost use Rattle.s0_crypto.specs.declared.key_pair.Keys.{Keys};
 ghost use Rattle.zw_text.specs.declared.entry.Entry.{Entry};
-ghost use Rattle.proof_host.specs.Laws.{MayStand};
+ghost use Rattle.proof_work.specs.proof_host.Laws.{MayStand};
 ghost use Rattle.proof_requests.specs.proof_alone.State.{HostMachine, first_alone};
 ghost use Rattle.proof_requests.specs.proof_alone.Phases.{Phase, Resting};
 ghost use Rattle.proof_requests.specs.proof_alone.Runs.{Run, Walk, both_know};

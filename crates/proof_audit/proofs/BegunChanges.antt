@@ -17,8 +17,8 @@ use Rattle.law_transcript.specs.Lists.{EachAfter, Has}
 use Rattle.law_transcript.specs.Nodes.{device_of, is_supervised, always}
 use Rattle.law_transcript.specs.Once.{HasBegun, sessions_by}
 use Rattle.law_transcript.proofs.Having.{all_has, has_shown}
-use Rattle.proof_device.specs.Showing.{AreApart}
-use Rattle.proof_device.proofs.Others.{IsOther}
+use Rattle.proof_headline.specs.proof_device.Showing.{AreApart}
+use Rattle.proof_headline.proofs.Others.{IsOther}
 use Rattle.proof_host.specs.Entries.{IsAside}
 use Rattle.proof_host.proofs.Lists.{each-anywhere, each-append}
 use Rattle.proof_transcript.proofs.Aside.{own_aside}

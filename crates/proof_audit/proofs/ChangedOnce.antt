@@ -26,7 +26,7 @@ use Rattle.law_transcript.specs.Lists.{EachAfter, Has, listed}
 use Rattle.law_transcript.specs.Nodes.{device_of, is_supervised, listing_of, always}
 use Rattle.law_transcript.specs.Once.{HasBegun, Once, IsShownApplied, IsUndone, MayEnd, carried_by, commands_applied, sessions_by}
 use Rattle.law_transcript.proofs.Having.{all_has, has_either, has_left, has_right, has_shown, shown_has}
-use Rattle.proof_device.specs.Showing.{AreApart, IsShown, NeverFalls}
+use Rattle.proof_headline.specs.proof_device.Showing.{AreApart, IsShown, NeverFalls}
 use Rattle.proof_transcript.specs.Devices.{GroupsSessions}
 use Rattle.proof_host.specs.Laws.{HostLaws, IsOver}
 use Rattle.proof_host.proofs.Views.{outcome-ended}

@@ -17,9 +17,9 @@ use Rattle.world_model.specs.Events.{Event, Outside_does, entries, happens, May}
 use Rattle.world_model.specs.Did.{entries_all, happens_all, MayAll}
 use Rattle.world_lines.specs.Spoken.{Spoken, after as after_line, after_all, entries_of, transcript_of}
 use Rattle.world_lines.specs.Done.{AreDone, IsDone}
-use Rattle.proof_device.proofs.Entering.{Acts, number_are}
-use Rattle.proof_device.proofs.Others.{IsOther, Others, chip_other, event_other}
-use Rattle.proof_device.proofs.ShownChanges.{Adds, event_tells, new_are}
+use Rattle.proof_headline.proofs.Entering.{Acts, number_are}
+use Rattle.proof_headline.proofs.Others.{IsOther, Others, chip_other, event_other}
+use Rattle.proof_headline.proofs.ShownChanges.{Adds, event_tells, new_are}
 use Rattle.zw_text.specs.Transcript.{made}
 use Rattle.proof_transcript.specs.proof_walk.Outside.{CoversOuter, IsNote}
 use Rattle.proof_transcript.proofs.Alone.{noted_are}

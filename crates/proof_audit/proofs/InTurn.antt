@@ -19,7 +19,7 @@ use Rattle.law_transcript.specs.Nodes.{device_of}
 use Rattle.law_transcript.specs.Once.{sessions_by}
 use Rattle.law_transcript.proofs.Having.{all_has, all_of}
 use Rattle.outside_model.specs.Air.{change_entries}
-use Rattle.proof_device.specs.Showing.{AreApart, NeverFalls}
+use Rattle.proof_headline.specs.proof_device.Showing.{AreApart, NeverFalls}
 use Rattle.audit_books.specs.Groups.{maker_at}
 use Rattle.audit_books.specs.OnceRule.{maker_last}
 use Rattle.proof_audit.specs.Books.{ArePieces, IsChangeOf, IsNoChange, IsPiece, Piece, piece_entries}

@@ -3,7 +3,7 @@ use Rattle.std.proofs.Common.{List, [], ◌∷◌, ap, sym, ◌∙◌}
 use Rattle.std.specs.List.{AllByRecursion}
 use Rattle.device_sim.specs.State.{State}
 use Rattle.audit_books.specs.Asking.{kind_at}
-use Rattle.proof_device.specs.GoingOn.{AreSame}
+use Rattle.proof_headline.specs.proof_device.GoingOn.{AreSame}
 use Rattle.proof_audit.specs.Books.{IsOfItsKind}
 
 pub kinds_stay : (olds news : List State) → AreSame olds news → AllByRecursion IsOfItsKind olds → AllByRecursion IsOfItsKind news

@@ -14,7 +14,7 @@ use Rattle.world_model.specs.Events.{Event, Outside_does, Host_does, Refuses, Sh
 use Rattle.world_model.specs.Did.{MayAll, entries_all}
 use Rattle.world_lines.specs.Spoken.{Spoken, after, transcript_of}
 use Rattle.world_lines.specs.Done.{AreDone}
-use Rattle.proof_device.proofs.Entering.{Enters, IsOfChip, stamp_are}
+use Rattle.proof_headline.proofs.Entering.{Enters, IsOfChip, stamp_are}
 use Rattle.proof_transcript.specs.proof_walk.Outside.{IsHostNote}
 use Rattle.proof_transcript.proofs.Alone.{EntersAs, entries_are}
 use Rattle.proof_audit.specs.Legible.{SaysWords, ShowTexts, ShowsText}

@@ -38,8 +38,8 @@ use Rattle.law_transcript.specs.Headline.{IsAsMade}
 use Rattle.law_transcript.specs.Lists.{Has}
 use Rattle.law_transcript.specs.Nodes.{is_supervised}
 use Rattle.law_transcript.specs.Once.{sessions_by}
-use Rattle.proof_device.specs.GoingOn.{GoOn, GoesOn}
-use Rattle.proof_device.proofs.KeptKinds.{event_same}
+use Rattle.proof_headline.specs.proof_device.GoingOn.{GoOn, GoesOn}
+use Rattle.proof_headline.proofs.KeptKinds.{event_same}
 
 -- a session changes only a device whose kind takes commands in sessions
 abbrev pub SetBySupervised : List State → Type 0

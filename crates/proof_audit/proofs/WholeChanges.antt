@@ -20,9 +20,9 @@ use Rattle.outside_model.specs.State.{OuterState, each, tells}
 use Rattle.outside_model.specs.Air.{change_at, change_entries, deals}
 use Rattle.outside_model.specs.Devices.{acts, acts_at, acts_by_hand, changes_entries, device_set, new_changes, sends, set_by_hand}
 use Rattle.outside_model.specs.Results.{device_at}
-use Rattle.proof_device.proofs.ChangesOutside.{TellsOne, get_set, place_is}
-use Rattle.proof_device.proofs.KeptKinds.{event_same}
-use Rattle.proof_device.proofs.Others.{IsOther, Others, ends_other, sends_other, to_chip_other}
+use Rattle.proof_headline.proofs.ChangesOutside.{TellsOne, get_set, place_is}
+use Rattle.proof_headline.proofs.KeptKinds.{event_same}
+use Rattle.proof_headline.proofs.Others.{IsOther, Others, ends_other, sends_other, to_chip_other}
 use Rattle.proof_audit.specs.Books.{ArePieces, IsChangeOf, IsNoChange, IsPiece, Piece, piece_entries}
 use Rattle.proof_audit.specs.Books.Piece.{Loose, Whole}
 use Rattle.proof_transcript.proofs.CommandsOfSessions.{stands_has as at-has}

@@ -9,7 +9,7 @@ use Rattle.law_transcript.specs.Headline.{Headline}
 use Rattle.law_transcript.specs.Nodes.{listing_of}
 use Rattle.law_wire.specs.Shown.{ShowsDevices}
 use Rattle.law_wire.specs.Times.{TellsTime}
-use Rattle.proof_device.specs.Showing.{AreApart, IsShown}
+use Rattle.proof_headline.specs.proof_device.Showing.{AreApart, IsShown}
 use Rattle.proof_host.specs.Laws.{HostLaws}
 use Rattle.proof_transcript.specs.Devices.{GroupsSessions}
 use Rattle.proof_audit.specs.Books.{AreAsked, ArePieces, ChangesBegun, IsOfItsKind}

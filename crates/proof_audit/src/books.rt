@@ -11,7 +11,7 @@ ghost use Rattle.law_transcript.specs.Nodes.{listing_of};
 ghost use Rattle.world_model.specs.State.{Machine, first_machine};
 ghost use Rattle.world_lines.specs.Spoken.{Spoken, after_all, transcript_of};
 ghost use Rattle.world_lines.specs.Done.{AreDone};
-ghost use Rattle.proof_device.specs.Showing.{AreApart, IsShown};
+ghost use Rattle.proof_headline.specs.proof_device.Showing.{AreApart, IsShown};
 ghost use Rattle.proof_transcript.specs.Devices.{GroupsSessions};
 ghost use Rattle.proof_host.specs.Laws.{HostLaws};
 ghost use Rattle.audit_books.specs.SessionRule.{EachKeeps, breaks_sessions};
@@ -20,7 +20,7 @@ ghost use Rattle.proof_audit.specs.Tables.{IsOfTable};
 ghost use Rattle.proof_audit.specs.Whole.{EachKeepsOnce};
 
 use device_sim::when_changes_come;
-use proof_device::devices_go_on;
+use proof_headline::device::devices_go_on;
 use proof_headline::{
     devices_as_made_begin_courses, nodes_have_the_headline, supervised_nodes_are_plain_or_locks,
 };

@@ -8,7 +8,7 @@ ghost use Rattle.zw_text.specs.declared.entry.Entry.{Entry};
 ghost use Rattle.law_transcript.specs.Nodes.{always, listing_of};
 ghost use Rattle.law_transcript.specs.Table.{table_of};
 ghost use Rattle.law_wire.specs.Shown.{ShowsDevices};
-ghost use Rattle.proof_device.specs.Showing.{IsShown};
+ghost use Rattle.proof_headline.specs.proof_device.Showing.{IsShown};
 ghost use Rattle.proof_host.specs.Laws.{HostLaws};
 ghost use Rattle.audit_books.specs.SessionRule.{EachKeeps};
 ghost use Rattle.audit_table.specs.StoreRule.{breaks_store};

@@ -20,20 +20,20 @@ use Rattle.outside_model.specs.Events.{OuterEvent, Begins_line, Begins_tick, Arr
 use Rattle.world_model.specs.State.{Machine}
 use Rattle.world_model.specs.Events.{Event, Outside_does, Host_does, Host_takes, Decoder_ticks, Refuses, Shows_values, happens, May}
 use Rattle.proof_work.specs.proof_walk.Phases.{Phase, Between, Said_line, Begun, Doing, To_tick, Ticked, Arriving, Giving, Ticking_devices, Ticking_chip, Ticking_decoder, Ticking_host, Sleeping, Submitting, Moving, Moved, Turns, Goes, after_pump, passes_after}
-use Rattle.proof_traffic.specs.Flights.{Fly}
-use Rattle.proof_traffic.specs.Requests.{Word, Traffic, Step, Submits, Copies, Loses, Acknowledges, Gives_up, Answers, Ends, Falls_silent, Takes, Stops, Calls, Restarts, after as after_step, May as MayStep, after_all as after_steps, MayAll as MaySteps}
-use Rattle.proof_traffic.specs.Facts.{one_if, flying_in}
-use Rattle.proof_traffic.specs.OutsideTraffic.{flags, outward, no_routes_due, without_frame, words_all, InTurn, AreNodes, Goes as OuterGoes}
-use Rattle.proof_traffic.specs.OutsideTraffic as outer
-use Rattle.proof_traffic.specs.OnAir.{on_air}
-use Rattle.proof_traffic.proofs.Parts.{Airs}
-use Rattle.proof_traffic.proofs.Calm.{Calm, calm_entered, calm_same, does_calm, takes_calm, enters_calm}
-use Rattle.proof_traffic.proofs.Flights.{flights_are, follows_on_air}
-use Rattle.proof_traffic.proofs.Outside.{follows_calm}
-use Rattle.proof_traffic.proofs.CourseSteps.{nodes_kept}
-use Rattle.proof_traffic.proofs.ArrivedFrames.{Homes, arrives_home}
-use Rattle.proof_traffic.proofs.Arrivals.{outward-append}
-use Rattle.proof_traffic.proofs.ChipNotices.{Given, given_first, device_calls, ticks_calls}
+use Rattle.proof_waking.specs.proof_traffic.Flights.{Fly}
+use Rattle.proof_waking.specs.proof_traffic.Requests.{Word, Traffic, Step, Submits, Copies, Loses, Acknowledges, Gives_up, Answers, Ends, Falls_silent, Takes, Stops, Calls, Restarts, after as after_step, May as MayStep, after_all as after_steps, MayAll as MaySteps}
+use Rattle.proof_waking.specs.proof_traffic.Facts.{one_if, flying_in}
+use Rattle.proof_waking.specs.proof_traffic.OutsideTraffic.{flags, outward, no_routes_due, without_frame, words_all, InTurn, AreNodes, Goes as OuterGoes}
+use Rattle.proof_waking.specs.proof_traffic.OutsideTraffic as outer
+use Rattle.proof_waking.specs.proof_traffic.OnAir.{on_air}
+use Rattle.proof_waking.proofs.proof_traffic_Parts.{Airs}
+use Rattle.proof_waking.proofs.Calm.{Calm, calm_entered, calm_same, does_calm, takes_calm, enters_calm}
+use Rattle.proof_waking.proofs.Flights.{flights_are, follows_on_air}
+use Rattle.proof_waking.proofs.Outside.{follows_calm}
+use Rattle.proof_waking.proofs.CourseSteps.{nodes_kept}
+use Rattle.proof_waking.proofs.ArrivedFrames.{Homes, arrives_home}
+use Rattle.proof_waking.proofs.Arrivals.{outward-append}
+use Rattle.proof_waking.proofs.ChipNotices.{Given, given_first, device_calls, ticks_calls}
 use Rattle.proof_calm.specs.Awaited.{Awaits, AwaitsFrames, AwaitsResults, AwaitsNone, AwaitsAt}
 use Rattle.proof_calm.specs.Resting.{IsEffect, LineAt}
 

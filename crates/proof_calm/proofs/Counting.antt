@@ -46,7 +46,7 @@ use Rattle.world_model.specs.Events.{Outside_does, happens}
 use Rattle.proof_waking.specs.proof_traffic.Facts.{one_if}
 use Rattle.proof_work.proofs.Times.{does_chip}
 use Rattle.proof_work.specs.proof_walk.Phases.{Ticked}
-use Rattle.proof_traffic.proofs.ChipNotices.{does_said, done_said, queued_said}
+use Rattle.proof_waking.proofs.ChipNotices.{does_said, done_said, queued_said}
 use Rattle.proof_calm.specs.Tied.{RoomAt}
 use Rattle.proof_calm.proofs.ChipPart.{entered_state}
 

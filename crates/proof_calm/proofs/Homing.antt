@@ -33,7 +33,7 @@ use Rattle.outside_model.specs.Chip.{put_out, chip_does, chip_ticks}
 use Rattle.outside_model.specs.Devices.{acts}
 use Rattle.outside_model.specs.Events.{OuterEvent, Begins_line, Begins_tick, Host_writes, Host_takes, Host_notes, Host_begins, Chip_takes, Arrives, Gives, Device_ticks, Chip_ticks, Wakes_device, Shows, Cuts, begins, mesh_of, outcome}
 use Rattle.outside_model.specs.Results.{gives}
-use Rattle.proof_device.proofs.Results.{IsSameChip, Gives as ResultsGo, ends_go, gives_go, to_chip_goes}
+use Rattle.proof_work.proofs.Results.{IsSameChip, Gives as ResultsGo, ends_go, gives_go, to_chip_goes}
 use Rattle.world_model.specs.State.{Machine}
 use Rattle.world_model.specs.Events.{Event, happens, May}
 use Rattle.proof_work.specs.proof_walk.Outside.{Knowing, Comes, Outer, IsSimple, CoversOuter, session_begins}

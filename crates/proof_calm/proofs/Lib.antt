@@ -36,3 +36,12 @@ pub mod Living
 pub mod Peopled
 pub mod First
 pub mod Tying
+pub use Rattle.proof_waking.proofs.Arrivals
+pub use Rattle.proof_waking.proofs.ArrivedFrames
+pub use Rattle.proof_waking.proofs.Calm
+pub use Rattle.proof_waking.proofs.Flights
+pub use Rattle.proof_waking.proofs.proof_traffic_Parts
+pub use Rattle.proof_waking.proofs.ChipNotices
+pub use Rattle.proof_work.proofs.Times
+pub use Rattle.proof_work.proofs.Lines
+pub use Rattle.proof_work.proofs.Where

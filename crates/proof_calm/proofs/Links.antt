@@ -30,7 +30,7 @@ use Rattle.outside_model.specs.Results.{gives}
 use Rattle.outside_model.specs.Events.{OuterEvent, Begins_line, Begins_tick, Host_writes, Host_takes, Host_notes, Host_begins, Chip_takes, Arrives, Gives, Device_ticks, Chip_ticks, Wakes_device, Shows, Cuts, outcome, mesh_of, begins}
 use Rattle.world_model.specs.State.{Machine}
 use Rattle.world_model.specs.Events.{Event, happens, May}
-use Rattle.proof_device.proofs.Results.{IsSameChip, IsGiven, Gives as ResultsGo, ends_go, gives_go, to_chip_goes}
+use Rattle.proof_work.proofs.Results.{IsSameChip, IsGiven, Gives as ResultsGo, ends_go, gives_go, to_chip_goes}
 use Rattle.proof_work.specs.proof_walk.Outside.{Knowing, Comes, Outer, IsSimple, IsDone, CoversOuter, session_begins}
 use Rattle.proof_work.proofs.proof_walk_Machines.{machine_keeps}
 use Rattle.proof_work.proofs.Times.{each_keeps}

@@ -50,13 +50,13 @@ use Rattle.outside_model.specs.Chip.{put_out, chip_does, chip_ticks}
 use Rattle.outside_model.specs.Devices.{HasWay, acts}
 use Rattle.outside_model.specs.Events.{OuterEvent, Begins_line, Begins_tick, Host_writes, Host_takes, Host_notes, Host_begins, Chip_takes, Arrives, Gives, Device_ticks, Chip_ticks, Wakes_device, Shows, Cuts, begins, mesh_of, outcome}
 use Rattle.outside_model.specs.Results.{frame_ends, gives}
-use Rattle.proof_device.proofs.Results.{Calls, IsResult, IsSameChip, calls_go, due_goes, payload_goes}
+use Rattle.proof_work.proofs.Results.{Calls, IsResult, IsSameChip, calls_go, due_goes, payload_goes}
 use Rattle.world_model.specs.State.{Machine}
 use Rattle.world_model.specs.Events.{Event, happens, May}
 use Rattle.proof_work.specs.proof_walk.Outside.{Knowing, Comes, Outer, Pending, Judging, Dealing, IsSimple, IsHearing, CoversOuter, session_begins}
 use Rattle.proof_work.proofs.proof_walk_Machines.{machine_keeps}
 use Rattle.proof_work.specs.Phases.{AsksNothing}
-use Rattle.proof_traffic.proofs.ChipNotices.{AreSaid, IsSaid, done_said, queued_said, ticked_said, written_said}
+use Rattle.proof_waking.proofs.ChipNotices.{AreSaid, IsSaid, done_said, queued_said, ticked_said, written_said}
 use Rattle.proof_calm.specs.Live.{HasLive, IsLive, LiveBy}
 use Rattle.proof_calm.specs.Marks.{IsQuietEvent}
 use Rattle.proof_calm.specs.Routed.{Reaches}

@@ -27,7 +27,7 @@ use Rattle.outside_model.specs.State.{OuterState, Outside, Outcome, silent, each
 use Rattle.outside_model.specs.Air.{deals, to_chip}
 use Rattle.outside_model.specs.Events.{mesh_of, steps}
 use Rattle.outside_model.specs.Results.{frame_ends, gives}
-use Rattle.proof_device.proofs.Results.{Calls, IsResult, due_goes, end_goes}
+use Rattle.proof_work.proofs.Results.{Calls, IsResult, due_goes, end_goes}
 use Rattle.std.specs.List.{AllByRecursion}
 use Rattle.std.specs.Prelude.{◌&&◌, nat_le}
 use Rattle.outside_model.specs.Chip.{chip_does}

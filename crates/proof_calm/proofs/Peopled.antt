@@ -24,7 +24,7 @@ use Rattle.world_model.specs.State.{Machine}
 use Rattle.world_model.specs.Events.{Event, Outside_does, Host_does, Host_takes, Decoder_ticks, Refuses, Shows_values, happens, May}
 use Rattle.proof_work.specs.proof_walk.Outside.{CoversOuter}
 use Rattle.proof_work.specs.proof_walk.Phases.{Phase, Said_line, Doing, To_tick, Arriving, Giving, Ticking_devices, Ticking_chip, Ticking_decoder, Ticking_host, Sleeping, Submitting, Moving, Moved, Goes}
-use Rattle.proof_traffic.proofs.Parts.{Airs}
+use Rattle.proof_waking.proofs.proof_traffic_Parts.{Airs}
 use Rattle.proof_serial.specs.Host.{AsksWell, FitsEvent}
 use Rattle.proof_serial.proofs.HostRuns.{FactsKept, OpenedFacts, event_writes}
 use Rattle.proof_calm.specs.Homeward.{SpeaksHome}

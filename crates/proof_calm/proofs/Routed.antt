@@ -48,8 +48,8 @@ use Rattle.outside_model.specs.Events.{OuterEvent, Begins_line, Begins_tick, Arr
 use Rattle.outside_model.specs.Results.{call_back, forgets, frame_ends, gives, leading, no_routes, owes_call}
 use Rattle.world_model.specs.State.{Machine}
 use Rattle.world_model.specs.Events.{May, Outside_does, happens}
-use Rattle.proof_traffic.proofs.Calm.{Calm}
-use Rattle.proof_traffic.proofs.ChipNotices.{AreSaid, IsSaid, Leaves, does_said, done_said, queued_said, said_both, ticked_said, written_said}
+use Rattle.proof_waking.proofs.Calm.{Calm}
+use Rattle.proof_waking.proofs.ChipNotices.{AreSaid, IsSaid, Leaves, does_said, done_said, queued_said, said_both, ticked_said, written_said}
 use Rattle.proof_work.proofs.Times.{does_chip}
 use Rattle.proof_calm.specs.Marks.{HasNoMarks, IsUnmarked}
 use Rattle.proof_calm.specs.Passes.{IsTakenBy, TakesEach, TakesOne, chip_taken}

@@ -52,8 +52,8 @@ use Rattle.proof_work.specs.Phases.{AsksNothing}
 use Rattle.proof_work.specs.proof_walk.Phases.{Phase, Between, Said_line, Begun, Doing, To_tick, Ticked, Arriving, Giving, Ticking_devices, Ticking_chip, Ticking_decoder, Ticking_host, Sleeping, Submitting, Moving, Moved, Turns, Goes, IsStill, after_pump, passes_after}
 use Rattle.proof_work.specs.proof_walk.Walk.{WalkWhere}
 use Rattle.proof_work.proofs.Times.{does_chip}
-use Rattle.proof_traffic.proofs.Calm.{does_calm, takes_calm}
-use Rattle.proof_traffic.proofs.Parts.{Airs}
+use Rattle.proof_waking.proofs.Calm.{does_calm, takes_calm}
+use Rattle.proof_waking.proofs.proof_traffic_Parts.{Airs}
 use Rattle.proof_calm.specs.Awaited.{AwaitsAt, AwaitsNone}
 use Rattle.proof_calm.specs.Passes.{OnLine, TakesEach, chip_taken, frames_in, IsPlain}
 use Rattle.proof_calm.specs.Resting.{CanMove, HasFor, IsEffect, IsGiven, KnowLine, LineAt, LineRests, Stands}
@@ -91,7 +91,7 @@ use Rattle.proof_waking.specs.proof_traffic.Facts.{one_if}
 use Rattle.proof_waking.specs.proof_traffic.OutsideTraffic.{of_frame}
 use Rattle.proof_work.specs.Doing.{IsDone as IsDoneBy}
 use Rattle.proof_work.specs.Line.{HasOnLine, IsNoItem, IsOnLine}
-use Rattle.proof_traffic.proofs.Calm.{enters_calm}
+use Rattle.proof_waking.proofs.Calm.{enters_calm}
 use Rattle.proof_calm.specs.Marks.{IsUnmarked}
 use Rattle.proof_calm.specs.Routed.{IsOfFrame, IsRouted}
 use Rattle.proof_calm.specs.Tied.{HasAnswer, HasRoom}

@@ -13,3 +13,6 @@ pub mod Homeward
 pub mod Live
 pub mod Undisturbed
 pub mod Tied
+pub use Rattle.proof_waking.specs.proof_traffic as proof_traffic
+pub use Rattle.proof_waking.specs as proof_waking
+pub use Rattle.proof_work.specs as proof_work

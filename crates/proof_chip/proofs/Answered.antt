@@ -30,7 +30,7 @@ use Rattle.law_wire.specs.Answering.{AreOf}
 use Rattle.outside_model.specs.Devices.{State}
 use Rattle.outside_model.specs.State.{OuterState, each}
 use Rattle.outside_model.specs.Chip.{put_out}
-use Rattle.proof_device.proofs.Entered.{IsMark, told_by_marks}
+use Rattle.proof_air.proofs.Entered.{IsMark, told_by_marks}
 use Rattle.proof_chip.specs.Serving.{HasGiven, as_given, frame_texts}
 use Rattle.proof_chip.proofs.Airing.{answer}
 use Rattle.proof_chip.proofs.Growing.{frames_both, many_given}

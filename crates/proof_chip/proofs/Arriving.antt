@@ -27,7 +27,7 @@ use Rattle.outside_model.specs.Devices.{State}
 use Rattle.outside_model.specs.State.{OuterState, Outcome, each, silent, tells, with_chip}
 use Rattle.outside_model.specs.Air.{change_at, change_entries, deals}
 use Rattle.outside_model.specs.Results.{device_at, forgets, frame_ends}
-use Rattle.proof_device.proofs.Entered.{IsChange, change_entered}
+use Rattle.proof_air.proofs.Entered.{IsChange, change_entered}
 use Rattle.proof_line.proofs.ChipAccounts.{all_account, calls_account, ends_account, forgets_account, steps_by}
 use Rattle.proof_chip.specs.Tally.{AreNumbered, Outlook, TallyBefore, TallyNow, TallySo, outlook}
 use Rattle.proof_chip.proofs.Finishing.{Finishes, Sees, calls_t}

@@ -31,8 +31,8 @@ use Rattle.outside_model.specs.Chip.{chip_does, chip_ticks}
 use Rattle.outside_model.specs.Results.{device_at, gives}
 use Rattle.outside_model.specs.Air.{deals, change_entries, change_at}
 use Rattle.outside_model.specs.Events.{OuterEvent, Collides_next, outcome}
-use Rattle.proof_device.proofs.Entered.{IsChange, change_entered}
-use Rattle.proof_device.proofs.Results.{Gives, IsGiven, IsResult, ends_go, gives_go, to_chip_goes}
+use Rattle.proof_air.proofs.Entered.{IsChange, change_entered}
+use Rattle.proof_air.proofs.Results.{Gives, IsGiven, IsResult, ends_go, gives_go, to_chip_goes}
 use Rattle.proof_host.proofs.Lists.{each-append}
 use Rattle.proof_air.specs.proof_walk.Outside.{Comes, IsOfAir, IsSimple, Moves}
 use Rattle.proof_air.proofs.Moving.{moves_both}

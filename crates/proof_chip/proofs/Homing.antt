@@ -22,8 +22,8 @@ use Rattle.zw_text.specs.Transcript.{heard}
 use Rattle.law_transcript.proofs.Having.{has_right}
 use Rattle.outside_model.specs.State.{Outside}
 use Rattle.outside_model.specs.Events.{mesh_of}
-use Rattle.proof_device.proofs.ChangesOutside.{fate_home}
-use Rattle.proof_device.proofs.Entering.{outs_again_are, outs_at_are}
+use Rattle.proof_air.proofs.ChangesOutside.{fate_home}
+use Rattle.proof_air.proofs.Entering.{outs_again_are, outs_at_are}
 use Rattle.proof_air.specs.proof_walk.Outside.{IsHearing, nothing}
 use Rattle.proof_air.specs.Carrying.{IsHome}
 use Rattle.proof_air.specs.Logs.{Tie}

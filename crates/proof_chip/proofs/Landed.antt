@@ -38,7 +38,7 @@ use Rattle.outside_model.specs.Devices.{State}
 use Rattle.outside_model.specs.State.{OuterState, Outside, each}
 use Rattle.outside_model.specs.Air.{deals}
 use Rattle.outside_model.specs.Events.{Arrives, mesh_of, repeats, steps, happens as happens_outside}
-use Rattle.proof_device.proofs.ChangesOutside.{fate_home, fate_out}
+use Rattle.proof_air.proofs.ChangesOutside.{fate_home, fate_out}
 use Rattle.proof_air.specs.proof_walk.Outside.{nothing}
 use Rattle.proof_air.specs.Carrying.{IsHome}
 use Rattle.proof_air.specs.Logs.{IsApart, Tie, plain}

@@ -28,7 +28,7 @@ use Rattle.outside_model.specs.declared.waits.Due.{Due}
 use Rattle.outside_model.specs.declared.waits.Due.TheVariants.{Info, NoRoute as no_route_due}
 use Rattle.outside_model.specs.State.{OuterState, Outcome, each}
 use Rattle.outside_model.specs.Chip.{put_out, shown_via}
-use Rattle.proof_device.proofs.Entered.{IsMark, told_by_marks}
+use Rattle.proof_air.proofs.Entered.{IsMark, told_by_marks}
 use Rattle.proof_line.proofs.Mild.{each-append}
 use Rattle.proof_chip.proofs.Airing.{IsMore, answer}
 use Rattle.proof_chip.proofs.Resting.{AreLeaving, LeavesAll, Rests, each_rests, given_leaves}

@@ -68,3 +68,13 @@ mod CallWalk
 pub use Rattle.proof_line.proofs.HeldRecords
 pub use Rattle.proof_line.proofs.FactsKept
 pub use Rattle.proof_line.proofs.Notes
+pub use Rattle.proof_line.proofs.ChipAccounts
+pub use Rattle.proof_line.proofs.Parts
+pub use Rattle.proof_line.proofs.Arrivals
+pub use Rattle.proof_line.proofs.LinkEnds
+pub use Rattle.proof_line.proofs.LinkWalk
+pub use Rattle.proof_line.proofs.ArrivedFrames
+pub use Rattle.proof_line.proofs.ChipNotices
+pub use Rattle.proof_line.proofs.Flights
+pub use Rattle.proof_line.proofs.SpokenLines
+pub use Rattle.proof_line.proofs.LinkSome

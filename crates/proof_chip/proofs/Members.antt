@@ -38,7 +38,7 @@ use Rattle.outside_model.specs.Nodes.{all_pairs, is_known, links_of, listens_at}
 use Rattle.outside_model.specs.Air.{deals}
 use Rattle.outside_model.specs.Events.{OuterEvent, Host_writes, Host_takes, Host_notes, Shows, Joins, Discovers, Links, Loses, Loses_acks, Marks_loss, Marks_change, Clears_pipe, Collides_next, Stalls, Cuts, begins, mesh_of, outcome, ticked_entry}
 use Rattle.world_model.specs.State.{first_machine}
-use Rattle.proof_device.proofs.Results.{Gives, IsGiven, ends_go, gives_go, to_chip_goes}
+use Rattle.proof_air.proofs.Results.{Gives, IsGiven, ends_go, gives_go, to_chip_goes}
 use Rattle.proof_air.specs.proof_walk.Outside.{IsHearing, IsSimple, Outer}
 use Rattle.proof_air.specs.proof_walk.Walk.{Walk}
 use Rattle.proof_air.proofs.Machines.{machine_keeps}

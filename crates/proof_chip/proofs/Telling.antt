@@ -21,7 +21,7 @@ use Rattle.law_wire.specs.Asked.{Course}
 use Rattle.law_wire.specs.Answering.{drop_at, drops, dropped_at}
 use Rattle.outside_model.specs.State.{OuterState, each}
 use Rattle.outside_model.specs.Chip.{put_out}
-use Rattle.proof_device.proofs.Entered.{IsMark, told_by_marks}
+use Rattle.proof_air.proofs.Entered.{IsMark, told_by_marks}
 
 -- ---- entries that tell nothing of the chip's units
 

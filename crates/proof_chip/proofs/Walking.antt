@@ -28,7 +28,7 @@ use Rattle.outside_model.specs.Devices.{shown_entries}
 use Rattle.outside_model.specs.Events.{OuterEvent, Host_writes, Host_takes, Host_notes, Shows, Joins, Discovers, Links, Loses, Loses_acks, Marks_loss, Marks_change, Clears_pipe, Collides_next, Stalls, Cuts, outcome, ticked_entry}
 use Rattle.world_model.specs.State.{Machine}
 use Rattle.world_model.specs.Events.{Event, Outside_does}
-use Rattle.proof_device.proofs.Entered.{IsCleared, IsShown, all_cleared, all_shown, told_by_marks}
+use Rattle.proof_air.proofs.Entered.{IsCleared, IsShown, all_cleared, all_shown, told_by_marks}
 use Rattle.proof_air.specs.proof_walk.Outside.{Comes, CoversOuter, IsNote, IsOfAir, IsSimple, Link, Moves}
 use Rattle.proof_air.specs.proof_walk.Walk.{Walk}
 use Rattle.proof_air.proofs.Linking.{of_link}

@@ -8,3 +8,4 @@ pub mod Tally
 pub mod Staying
 pub mod Served
 pub use Rattle.proof_line.specs.proof_world as proof_world
+pub use Rattle.proof_line.specs as proof_line

@@ -15,5 +15,6 @@ mod worked;
 
 pub use calls::calls_go_on;
 pub use order::{chips_serve_in_order, nodes_go_on, service_goes_on};
+pub use proof_line as line;
 pub use proof_line::world;
 pub use worked::worked_bringing;

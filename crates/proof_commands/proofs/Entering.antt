@@ -15,8 +15,8 @@ use Rattle.host_model.specs.declared.out.HostOut.TheVariants.{Write, Note}
 use Rattle.host_model.proofs.Silence.{Silent}
 use Rattle.proof_host.specs.Entries.{IsAside, notes_of, entries_at}
 use Rattle.proof_host.specs.Facts.{Facts}
-use Rattle.proof_chip.proofs.FactsKept.{after_keeps}
-use Rattle.proof_chip.proofs.Notes.{Puts, puts_at, Trailing, after_nothing}
+use Rattle.proof_answers.proofs.FactsKept.{after_keeps}
+use Rattle.proof_answers.proofs.Notes.{Puts, puts_at, Trailing, after_nothing}
 use Rattle.run_all.specs.run_replay.Machine.{entry_of, entries_of, timed}
 
 -- ---- units and notes

@@ -21,7 +21,7 @@ use Rattle.world_lines.specs.Whole.{AreWhole}
 use Rattle.law_wire.specs.Shown.{ShowsDevices}
 use Rattle.run_lines.specs.declared.status.Status.TheVariants.{Ok as all_well}
 use Rattle.proof_device.specs.Showing.{AreApart, IsShown}
-use Rattle.proof_chip.specs.proof_world.Devices.{GroupsSessions}
+use Rattle.proof_answers.specs.proof_chip.proof_world.Devices.{GroupsSessions}
 use Rattle.proof_device.proofs.ShownChanges.{stays_apart}
 use Rattle.proof_audit.specs.Books.{AreAsked, ArePieces, ChangesBegun, IsOfItsKind}
 use Rattle.proof_audit.specs.Frames.{ShowLines}

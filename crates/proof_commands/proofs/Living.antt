@@ -19,7 +19,7 @@ use Rattle.host_model.specs.Recording.{AllOfJoined}
 use Rattle.proof_host.specs.Facts.{Facts}
 use Rattle.proof_host.specs.Lives.{AreLives, with_records, entries_of_lives, last_of_lives}
 use Rattle.proof_host.proofs.HostsFromRecords.{nothing_kept, nothing_legal}
-use Rattle.proof_chip.proofs.HeldRecords.{texts_of_range, texts_both}
+use Rattle.proof_answers.proofs.HeldRecords.{texts_of_range, texts_both}
 use Rattle.proof_commands.specs.Lives.{records_from, records_of, entries_of, AreLivesOf, HasRecords, GoesOn}
 
 -- ---- lives from records on

@@ -25,7 +25,7 @@ use Rattle.host_model.proofs.Silence.{Silent, judged_silent, pump_silent, silent
 use Rattle.run_all.specs.run_replay.Machine.{Lone, Event, Does_itself, Does_asked, Takes, Ticks, Refuses, Shows_values, happens, entries, May, happens_all, entries_all, MayAll, Then}
 use Rattle.run_all.specs.run_replay.Lines.{by_host, IsEffect, IsPump, IsTaking, IsTick, AreTicks, IsPlain, IsLine}
 use Rattle.run_all.specs.run_replay.Replay.{Point, LineRan, PartRan, said}
-use Rattle.proof_chip.proofs.FactsKept.{after_keeps}
+use Rattle.proof_answers.proofs.FactsKept.{after_keeps}
 use Rattle.proof_commands.specs.Replay.{IsKept, LinesLaw}
 use Rattle.proof_commands.proofs.Entering.{asked_following, silent_keeps, timed_keeps}
 use Rattle.proof_commands.proofs.Reading.{IsReadBy}

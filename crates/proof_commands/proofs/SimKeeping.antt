@@ -13,12 +13,12 @@ use Rattle.world_model.proofs.EventLists.{happens_all-append, entries_all-append
 use Rattle.proof_host.specs.Entries.{IsAside}
 use Rattle.proof_host.specs.Facts.{Facts}
 use Rattle.proof_device.specs.Showing.{IsShown, NeverFalls}
-use Rattle.proof_chip.specs.proof_world.Devices.{GroupsSessions}
-use Rattle.proof_chip.specs.proof_world.Restarts.{AllStartWell}
+use Rattle.proof_answers.specs.proof_chip.proof_world.Devices.{GroupsSessions}
+use Rattle.proof_answers.specs.proof_chip.proof_world.Restarts.{AllStartWell}
 use Rattle.run_all.specs.run_sim.Sim.{said}
 use Rattle.proof_commands.specs.Laws.{Ran, events_of, transcript_from}
 use Rattle.proof_audit.proofs.BegunChanges.{may-front as may_prefix}
-use Rattle.proof_devices.proofs.LastLine.{may_later}
+use Rattle.proof_answers.proofs.LastLine.{may_later}
 
 -- ---- events of two lists
 

@@ -17,7 +17,7 @@ use Rattle.run_all.specs.Around.{Around}
 use Rattle.proof_commands.specs.Laws.{Ran, AreBegun, IsStory, events_of, first, transcript_from}
 use Rattle.proof_audit.proofs.BegunChanges.{may-front as may_prefix}
 use Rattle.proof_commands.proofs.Reading.{AreRead}
-use Rattle.proof_devices.proofs.LastLine.{may_later}
+use Rattle.proof_answers.proofs.LastLine.{may_later}
 
 -- ---- the same story
 

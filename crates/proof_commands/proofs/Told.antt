@@ -12,7 +12,7 @@ use Rattle.world_model.specs.Did.{happens_all, MayAll}
 use Rattle.run_lines.specs.Lines.{TextLine}
 use Rattle.law_transcript.specs.Restarts.{is_restart}
 use Rattle.proof_host.specs.Facts.{Facts}
-use Rattle.proof_chip.specs.proof_world.Restarts.{AllKeepWell, AllStartWell, BeginsEmpty, IsHeld}
+use Rattle.proof_answers.specs.proof_chip.proof_world.Restarts.{AllKeepWell, AllStartWell, BeginsEmpty, IsHeld}
 use Rattle.run_all.specs.Around.{Around}
 use Rattle.proof_commands.specs.Laws.{Ran, AreBegun, AreSchedules, IsStory, KeepsRecords, TellsAtRestarts, events_of, first, has_restart, last, lines_of, transcript, transcript_from}
 use Rattle.proof_audit.proofs.BegunChanges.{may-front as may_prefix}

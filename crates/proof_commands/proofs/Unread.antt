@@ -30,7 +30,7 @@ use Rattle.world_model.proofs.Pieces.{Of, Law, Pieces, of_line_before}
 use Rattle.world_model.proofs.Along.{IsOfPart, pieces_along, anywhere}
 use Rattle.law_transcript.specs.Restarts.{is_restart}
 use Rattle.run_lines.specs.Pieces.{said_text}
-use Rattle.proof_chip.specs.proof_world.Restarts.{AllKeepWell, AllStartWell, KeepsWell, StartsWell}
+use Rattle.proof_answers.specs.proof_chip.proof_world.Restarts.{AllKeepWell, AllStartWell, KeepsWell, StartsWell}
 use Rattle.proof_commands.specs.Laws.{Ran, AreBegun, AreSchedules, events_of, has_restart, transcript_from}
 
 -- the records of a keeper, where it tells them

@@ -55,8 +55,8 @@ use Rattle.proof_replay.specs.proof_notes_Full.{NotesInFull}
 use Rattle.proof_replay.specs.proof_notes_Unkept.{UnkeptWhereAsked}
 use Rattle.proof_replay.specs.proof_sending.Line.{ClearsAtRestarts, ClearsNowhereElse, OverrunsOnlyWhenFull}
 use Rattle.proof_audit.specs.Transcript.{IsNoRepeat, HasRecords}
-use Rattle.proof_chip.specs.proof_world.Devices.{GroupsSessions}
-use Rattle.proof_chip.specs.proof_world.Restarts.{AllKeepWell, BeginsEmpty}
+use Rattle.proof_answers.specs.proof_chip.proof_world.Devices.{GroupsSessions}
+use Rattle.proof_answers.specs.proof_chip.proof_world.Restarts.{AllKeepWell, BeginsEmpty}
 use Rattle.proof_audit.specs.Headline.{SucceedsAfterChangeOf, IsSupervisedNode}
 use Rattle.run_all.specs.Around.{Around}
 

@@ -62,7 +62,17 @@ ghost use Rattle.proof_commands.specs.Laws.{
 };
 
 use crate::lines_are_read_as_said;
+use proof_answers::chip::world::{
+    lines_keep_and_ask_well, restarts_go_on, runs_take_once, the_machine_keeps_facts,
+};
 use proof_answers::chips_answer_in_order;
+use proof_answers::devices::air::{
+    lines_are_done_by_devices, lines_bring_what_was_heard, lines_land_in_time,
+};
+use proof_answers::devices::routes::{
+    dead_hops_are_forgotten, dead_hops_are_forgotten_in_the_end, frames_go_by_route,
+};
+use proof_answers::devices::{devices_did, lines_meet_what_is_due, lines_repeat_what_is_asked};
 use proof_audit::headline::{
     askable_nodes_have_the_headline, devices_as_made_begin_courses, nodes_have_the_headline,
     nodes_report_after_the_change, supervised_nodes_are_plain_or_locks,
@@ -73,16 +83,6 @@ use proof_audit::transcript::{
     records_are_what_is_shown, sessions_begin_with_their_unit, ticks_decide_each_frame,
     values_are_stored_as_asked,
 };
-use proof_chip::world::{
-    lines_keep_and_ask_well, restarts_go_on, runs_take_once, the_machine_keeps_facts,
-};
-use proof_devices::air::{
-    lines_are_done_by_devices, lines_bring_what_was_heard, lines_land_in_time,
-};
-use proof_devices::routes::{
-    dead_hops_are_forgotten, dead_hops_are_forgotten_in_the_end, frames_go_by_route,
-};
-use proof_devices::{devices_did, lines_meet_what_is_due, lines_repeat_what_is_asked};
 use proof_host::{asides_keep_facts, laws_follow};
 use proof_replay::asking::{lines_ask_one_by_one, lines_say_how_done};
 use proof_replay::attempts::{lines_fall_asleep_as_told, lines_hold_as_asked};

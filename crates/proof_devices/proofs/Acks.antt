@@ -36,8 +36,8 @@ use Rattle.outside_model.specs.Air.{deals}
 use Rattle.outside_model.specs.Events.{OuterEvent, Arrives, Repeats, May as MayOutside, mesh_of, outcome, repeats, stamp, steps, ticked_entry}
 use Rattle.world_model.specs.State.{Machine}
 use Rattle.world_model.specs.Events.{Event, Outside_does, entries, happens, May}
-use Rattle.proof_device.proofs.ChangesOutside.{fate_home, fate_out}
-use Rattle.proof_device.proofs.Entering.{HearsNone, hearing, number_are, stamp_are}
+use Rattle.proof_air.proofs.ChangesOutside.{fate_home, fate_out}
+use Rattle.proof_air.proofs.Entering.{HearsNone, hearing, number_are, stamp_are}
 use Rattle.proof_air.specs.proof_walk.Outside.{CoversOuter, HasNoWords}
 use Rattle.proof_air.proofs.Alone.{event_wordless}
 use Rattle.proof_air.proofs.Fated.{Becomes, IsHeard, done_none, hearing_none, repeats_again}

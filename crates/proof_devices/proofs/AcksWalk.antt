@@ -16,7 +16,7 @@ use Rattle.outside_model.specs.Events.{OuterEvent, Begins_line, Arrives, Repeats
 use Rattle.world_model.specs.State.{Machine}
 use Rattle.world_model.specs.Events.{Event, Outside_does, entries, happens, May}
 use Rattle.world_model.specs.Lines.{IsEffect}
-use Rattle.proof_device.proofs.Entering.{HearsNone}
+use Rattle.proof_air.proofs.Entering.{HearsNone}
 use Rattle.proof_air.specs.proof_walk.ByLine.{CoversLine}
 use Rattle.proof_air.specs.proof_walk.Outside.{CoversOuter}
 use Rattle.proof_air.specs.proof_walk.Phases.{Phase, Between, Said_line, Begun, Doing, To_tick, Ticked, Arriving, Giving, Ticking_devices, Ticking_chip, Ticking_decoder, Ticking_host, Sleeping, Submitting, Moving, Moved, Turns, Goes}

@@ -29,7 +29,7 @@ use Rattle.outside_model.specs.Air.{deals}
 use Rattle.outside_model.specs.Events.{Repeats, mesh_of, outcome, repeats}
 use Rattle.world_model.specs.State.{Machine}
 use Rattle.world_model.specs.Events.{Outside_does, entries}
-use Rattle.proof_device.proofs.Entering.{hearing}
+use Rattle.proof_air.proofs.Entering.{hearing}
 use Rattle.proof_air.specs.proof_walk.Outside.{nothing}
 use Rattle.proof_air.specs.Logs.{Tie}
 use Rattle.proof_air.proofs.Fated.{hearing_none}

@@ -18,10 +18,10 @@ use Rattle.world_model.specs.State.{Machine}
 use Rattle.world_model.specs.Events.{Event, entries, May}
 use Rattle.proof_host.proofs.Lists.{each-append}
 use Rattle.proof_air.specs.proof_walk.Outside.{nothing}
-use Rattle.proof_device.specs.GoingOn.{GoOn}
-use Rattle.proof_device.proofs.DevicePlaces.{go_same}
+use Rattle.proof_air.specs.proof_device.GoingOn.{GoOn}
+use Rattle.proof_air.proofs.DevicePlaces.{go_same}
 use Rattle.proof_air.specs.Logs.{Tie as TieAir}
-use Rattle.proof_device.proofs.Entering.{AreOwn}
+use Rattle.proof_air.proofs.Entering.{AreOwn}
 use Rattle.proof_devices.proofs.Quiet.{IsIdle, AreIdle, number_idle}
 use Rattle.proof_devices.proofs.Telling.{IsHearing, TellsOf, event_tells}
 use Rattle.proof_devices.proofs.Hearing.{ToHome, Enters, EntersDevice}

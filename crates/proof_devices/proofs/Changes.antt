@@ -9,11 +9,11 @@ use Rattle.zw_text.specs.Transcript.{line_of}
 use Rattle.law_transcript.specs.Lists.{EachAfter}
 use Rattle.world_model.specs.State.{Machine}
 use Rattle.world_model.specs.Events.{Event, happens, entries, May}
-use Rattle.proof_device.specs.GoingOn.{GoOn, AreSame}
-use Rattle.proof_device.specs.Showing.{AllShow, AreApart, Shows}
-use Rattle.proof_device.proofs.DevicePlaces.{go_none, go_then, go_same, machine_goes}
-use Rattle.proof_device.proofs.ShownChanges.{show_none, show_then}
-use Rattle.proof_device.proofs.ShownChanges.{stays_apart}
+use Rattle.proof_air.specs.proof_device.GoingOn.{GoOn, AreSame}
+use Rattle.proof_air.specs.proof_device.Showing.{AllShow, AreApart, Shows}
+use Rattle.proof_air.proofs.DevicePlaces.{go_none, go_then, go_same, machine_goes}
+use Rattle.proof_air.proofs.ShownChanges.{show_none, show_then}
+use Rattle.proof_air.proofs.ShownChanges.{stays_apart}
 use Rattle.proof_air.specs.proof_walk.Phases.{Phase, Between, Said_line, Goes}
 use Rattle.proof_air.specs.proof_walk.Walk.{Walk}
 use Rattle.proof_devices.specs.Living.{MayAny}

@@ -12,7 +12,7 @@ use Rattle.zw_text.specs.declared.entry.Entry.{Entry}
 use Rattle.zw_text.specs.Transcript.{AirFrame, frames}
 use Rattle.law_transcript.specs.Repeats.{frame_of}
 use Rattle.outside_model.specs.State.{Outside}
-use Rattle.proof_device.proofs.ChangesOutside.{listener_is}
+use Rattle.proof_air.proofs.ChangesOutside.{listener_is}
 use Rattle.proof_air.specs.proof_walk.Outside.{nothing}
 use Rattle.proof_air.specs.Logs.{plain, Tie}
 use Rattle.proof_air.proofs.Counting.{departure, at_its_place}

@@ -34,8 +34,8 @@ use Rattle.outside_model.specs.State.{OuterState, Outside, each}
 use Rattle.outside_model.specs.Air.{deals}
 use Rattle.outside_model.specs.Events.{Arrives, mesh_of, outcome, ticked_entry, entries}
 use Rattle.proof_host.proofs.Lists.{each-append, each-anywhere}
-use Rattle.proof_device.proofs.ChangesOutside.{fate_listens}
-use Rattle.proof_device.proofs.Entering.{hearing}
+use Rattle.proof_air.proofs.ChangesOutside.{fate_listens}
+use Rattle.proof_air.proofs.Entering.{hearing}
 use Rattle.proof_air.proofs.Fated.{done_none, hearing_none}
 use Rattle.proof_air.proofs.Fateless.{IsFateless, AreFateless, TellsNoFate, TellNoFate, all_deals_rest}
 use Rattle.proof_routes.specs.Networks.{HasLinks}

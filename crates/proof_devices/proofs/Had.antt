@@ -10,7 +10,7 @@ use Rattle.zw_text.proofs.Views.{shown-append}
 use Rattle.law_transcript.specs.Devices.{ChangedAsShown, after_events, brought, comings, events_unjoined, replies_joined, sent_from, ticks_lived}
 use Rattle.law_transcript.specs.Nodes.{controller}
 use Rattle.law_wire.specs.Doings.{DidSoFar, HasDone, IsAge, doers_of}
-use Rattle.proof_device.proofs.Entering.{IsOwn}
+use Rattle.proof_air.proofs.Entering.{IsOwn}
 use Rattle.proof_devices.proofs.Quiet.{IsIdle, AreIdle, idle_quiet}
 use Rattle.proof_devices.proofs.Shown.{still_brought}
 use Rattle.proof_devices.proofs.Joined.{are_unsaid, none_unjoined, unjoined_same}

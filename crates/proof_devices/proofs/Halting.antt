@@ -21,8 +21,8 @@ use Rattle.outside_model.specs.Events.{stamp, ticked_entry}
 use Rattle.world_model.specs.State.{Machine}
 use Rattle.world_model.specs.Events.{Event, entries, May}
 use Rattle.world_model.specs.Did.{MayAll, entries_all}
-use Rattle.proof_device.specs.Showing.{AreApart}
-use Rattle.proof_device.proofs.DevicePlaces.{go_same}
+use Rattle.proof_air.specs.proof_device.Showing.{AreApart}
+use Rattle.proof_air.proofs.DevicePlaces.{go_same}
 use Rattle.proof_air.specs.proof_walk.Outside.{HasNoWords, nothing}
 use Rattle.proof_air.specs.proof_walk.Phases.{Phase, Said_line, Begun, Doing, Ticked, Arriving, Giving, Ticking_devices}
 use Rattle.proof_air.specs.Logs.{Tie as TieAir}

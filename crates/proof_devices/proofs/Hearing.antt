@@ -39,12 +39,12 @@ use Rattle.outside_model.specs.State.{OuterState, Outside, each}
 use Rattle.outside_model.specs.Air.{deals, sent_entries}
 use Rattle.outside_model.specs.Events.{Arrives, Repeats, mesh_of, outcome, refusal_entries, repeats, devices_repeated, devices_after, entries, stamp, ticked_entry}
 use Rattle.proof_air.specs.proof_walk.Outside.{nothing}
-use Rattle.proof_device.proofs.ChangesOutside.{fate_home, fate_out, listener_is}
+use Rattle.proof_air.proofs.ChangesOutside.{fate_home, fate_out, listener_is}
 use Rattle.proof_air.specs.Logs.{Tie as TieAir}
 use Rattle.proof_air.specs.Carrying.{IsHome}
 use Rattle.proof_air.proofs.Homes.{next_home, again_home}
 use Rattle.proof_devices.specs.Living.{Keeping, Tie}
-use Rattle.proof_device.proofs.Entering.{AreOwn, hearing_are}
+use Rattle.proof_air.proofs.Entering.{AreOwn, hearing_are}
 use Rattle.proof_devices.proofs.Quiet.{AreQuiet, IsBy, AreBy, AreIdle, IsMute, IsOwnEvent, are_by, are_quiet, idle_quiet, own_are_by, all_deals_idle, all_deals_own, each_both, stamp_idle}
 use Rattle.proof_devices.proofs.Joined.{IsUnsaid, are_unsaid, both_none, heard_unjoined}
 use Rattle.proof_devices.proofs.Sent.{all_deals_sent, answers_if_sent, changed_sent, none_sent, others_sent, replied, sent_both}

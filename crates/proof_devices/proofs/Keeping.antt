@@ -15,7 +15,7 @@ use Rattle.law_transcript.specs.Restarts.{ticks_asked}
 use Rattle.law_transcript.specs.Devices.{CameAsShown, after_events, brought, brought_unjoined_at, comings, sent_from, ticks_lived}
 use Rattle.world_model.specs.State.{Machine}
 use Rattle.world_model.specs.Events.{Event}
-use Rattle.proof_device.specs.GoingOn.{GoOn}
+use Rattle.proof_air.specs.proof_device.GoingOn.{GoOn}
 use Rattle.proof_air.specs.proof_walk.Phases.{Phase, Doing, Arriving, Ticking_devices}
 use Rattle.proof_devices.specs.Living.{ActsWith, Keeping}
 use Rattle.proof_devices.proofs.Quiet.{AreBy, AreIdle, AreQuiet, are_quiet, idle_quiet}

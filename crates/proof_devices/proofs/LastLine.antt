@@ -13,9 +13,9 @@ use Rattle.world_model.proofs.EventLists.{entries_all-append, happens_all-append
 use Rattle.world_lines.specs.Spoken.{Spoken, after, after_all, entries_of, transcript_of}
 use Rattle.world_lines.specs.Done.{AreDone, IsDone}
 use Rattle.world_lines.specs.Whole.{AreWhole}
-use Rattle.proof_device.specs.GoingOn.{AreSame, GoOn}
-use Rattle.proof_device.specs.Showing.{AreApart}
-use Rattle.proof_device.proofs.DevicePlaces.{go_none, go_same, go_then, run_goes}
+use Rattle.proof_air.specs.proof_device.GoingOn.{AreSame, GoOn}
+use Rattle.proof_air.specs.proof_device.Showing.{AreApart}
+use Rattle.proof_air.proofs.DevicePlaces.{go_none, go_same, go_then, run_goes}
 use Rattle.proof_air.specs.proof_walk.Phases.{Phase, Between, Said_line}
 use Rattle.proof_air.specs.proof_walk.Walk.{Walk}
 use Rattle.proof_air.proofs.Alone.{all_wordless}

@@ -34,3 +34,15 @@ mod Meeting
 mod FateGrounds
 mod Acks
 mod AcksWalk
+pub use Rattle.proof_air.proofs.Times
+pub use Rattle.proof_air.proofs.Homes
+pub use Rattle.proof_air.proofs.Fated
+pub use Rattle.proof_air.proofs.Machines
+pub use Rattle.proof_air.proofs.Over
+pub use Rattle.proof_air.proofs.Where
+pub use Rattle.proof_air.proofs.Results
+pub use Rattle.proof_air.proofs.DevicePlaces
+pub use Rattle.proof_air.proofs.Entered
+pub use Rattle.proof_air.proofs.ChangesOutside
+pub use Rattle.proof_routes.proofs.Walks
+pub use Rattle.proof_routes.proofs.Books

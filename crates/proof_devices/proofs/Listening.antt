@@ -17,8 +17,8 @@ use Rattle.proof_air.specs.proof_walk.Time.{KnowTime}
 use Rattle.zw_text.specs.declared.line.Line.TheVariants as lines
 use Rattle.zw_text.specs.Transcript.{lines_run, time_of}
 use Rattle.law_transcript.specs.Restarts.{ticks_asked}
-use Rattle.proof_device.specs.GoingOn.{AreSame}
-use Rattle.proof_device.proofs.DevicePlaces.{go_same}
+use Rattle.proof_air.specs.proof_device.GoingOn.{AreSame}
+use Rattle.proof_air.proofs.DevicePlaces.{go_same}
 use Rattle.proof_devices.specs.Living.{Acts, Lived, Simply, Tie, IsNow, InTick, KnownNumber, lived_in}
 use Rattle.proof_devices.proofs.Quiet.{number_quiet}
 use Rattle.proof_devices.proofs.Shown.{still_brought}

@@ -22,7 +22,7 @@ use Rattle.outside_model.specs.Events.{OuterEvent, Arrives, Repeats, Wakes_devic
 use Rattle.outside_model.specs.Events as outside
 use Rattle.world_model.specs.State.{Machine}
 use Rattle.world_model.specs.Events.{Event, Outside_does, entries, May}
-use Rattle.proof_device.proofs.Entering.{HearsNone, stamp_are}
+use Rattle.proof_air.proofs.Entering.{HearsNone, stamp_are}
 use Rattle.proof_air.specs.proof_walk.Outside.{nothing, CoversOuter, awaits_number}
 use Rattle.proof_air.specs.proof_walk.Phases.{Phase, Said_line, Doing, To_tick, Arriving, Giving, Ticking_devices, Ticking_chip, Ticking_decoder, Ticking_host, Sleeping, Submitting, Moving, Moved, Goes}
 use Rattle.proof_air.specs.proof_walk.Walk.{WalkOver}

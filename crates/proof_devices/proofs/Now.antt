@@ -9,7 +9,7 @@ use Rattle.law_transcript.specs.Devices.{Coming, ComingAt, after_events, ticks_l
 use Rattle.law_transcript.specs.Devices.Coming.{Payload, Woken, SetTo}
 use Rattle.law_transcript.proofs.Comings.{came_after}
 use Rattle.law_wire.specs.Arriving.{event_of, ticked_on, lived_through}
-use Rattle.proof_device.proofs.KeptKinds.{event_same}
+use Rattle.proof_air.proofs.KeptKinds.{event_same}
 use Rattle.proof_devices.specs.Living.{Lived, IsNow}
 use Rattle.proof_devices.proofs.Awake.{lock_stays}
 use Rattle.proof_devices.proofs.Shown.{ticks_one}

@@ -10,9 +10,9 @@ use Rattle.zw_text.specs.declared.entry.Entry.{Entry}
 use Rattle.law_transcript.specs.Devices.{after_events, coming_of, ticks_in, ticks_lived, comings, brought}
 use Rattle.law_transcript.specs.Nodes.{controller}
 use Rattle.outside_model.specs.State.{Outside}
-use Rattle.proof_device.specs.GoingOn.{GoOn, AreSame}
-use Rattle.proof_device.proofs.DevicePlaces.{go_one, go_then, go_same}
-use Rattle.proof_device.proofs.ChangesOutside.{get_set, place_is}
+use Rattle.proof_air.specs.proof_device.GoingOn.{GoOn, AreSame}
+use Rattle.proof_air.proofs.DevicePlaces.{go_one, go_then, go_same}
+use Rattle.proof_air.proofs.ChangesOutside.{get_set, place_is}
 use Rattle.proof_devices.specs.Living.{Keeping, LivedWith, Tie}
 use Rattle.proof_devices.proofs.Shown.{lived_on, lived_as}
 

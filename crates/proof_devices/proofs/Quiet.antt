@@ -24,7 +24,7 @@ use Rattle.proof_air.specs.proof_walk.Outside.{CoversOuter, IsNote}
 use Rattle.proof_air.proofs.Alone.{noted_are}
 use Rattle.proof_air.proofs.Machines.{covers_answer, machine_goes_on}
 use Rattle.proof_air.proofs.Times.{outcome_time, IsWithin}
-use Rattle.proof_device.proofs.Entering.{Acts, AreOwn, Enters, HearsFrame, IsOfChip, IsOfEnd, IsOwn, acts_own, change_own, chip_enters, ends_of_end, number_are, payload_of_chip, stamp_are}
+use Rattle.proof_air.proofs.Entering.{Acts, AreOwn, Enters, HearsFrame, IsOfChip, IsOfEnd, IsOwn, acts_own, change_own, chip_enters, ends_of_end, number_are, payload_of_chip, stamp_are}
 use Rattle.proof_devices.specs.Living.{MovesNone}
 
 abbrev pub IsQuiet : Entry → Type 0

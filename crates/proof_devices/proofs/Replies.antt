@@ -14,10 +14,10 @@ use Rattle.zw_text.specs.Transcript.{join_of, line_of, lines_run}
 use Rattle.law_transcript.specs.Nodes.{controller, is_joined}
 use Rattle.law_transcript.specs.Restarts.{ticks_of, ticks_asked}
 use Rattle.law_transcript.specs.Devices.{CameAsShown, after_events, replies_in, asked_by, brought, comings, events_unjoined, sent_from, ticks_lived}
-use Rattle.proof_device.specs.GoingOn.{GoOn, AreSame}
-use Rattle.proof_device.specs.Showing.{AreApart}
-use Rattle.proof_device.proofs.DevicePlaces.{go_same}
-use Rattle.proof_device.proofs.ShownChanges.{node_at}
+use Rattle.proof_air.specs.proof_device.GoingOn.{GoOn, AreSame}
+use Rattle.proof_air.specs.proof_device.Showing.{AreApart}
+use Rattle.proof_air.proofs.DevicePlaces.{go_same}
+use Rattle.proof_air.proofs.ShownChanges.{node_at}
 use Rattle.proof_devices.specs.Living.{Answers, Simply}
 use Rattle.proof_devices.proofs.Quiet.{AreBy}
 use Rattle.proof_devices.proofs.Shown.{ticks_one}

@@ -25,7 +25,7 @@ use Rattle.outside_model.specs.Air.{deals, sent_entries, to_chip}
 use Rattle.outside_model.specs.Devices.{acts, changes_entries, new_changes, sends}
 use Rattle.outside_model.specs.Results.{frame_ends}
 use Rattle.outside_model.specs.Events.{stamp, ticked_entry}
-use Rattle.proof_device.proofs.Entered.{IsChange, change_entered, changes_entered}
+use Rattle.proof_air.proofs.Entered.{IsChange, change_entered, changes_entered}
 use Rattle.proof_devices.proofs.Quiet.{IsBy, AreBy, IsIdle, AreIdle, number_idle, to_chip_idle, ends_idle}
 
 pub sent_both : (node : ℕ) (xs ys : List Entry) → sent_from node (xs ++ ys) ≡ sent_from node xs ++ sent_from node ys

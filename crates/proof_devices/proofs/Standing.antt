@@ -20,8 +20,8 @@ use Rattle.outside_model.specs.Events.{OuterEvent, Begins_line, Begins_tick, Arr
 use Rattle.world_model.specs.State.{Machine}
 use Rattle.world_model.specs.Events.{Event, Outside_does, happens, entries, May}
 use Rattle.world_model.specs.Lines.{IsEffect}
-use Rattle.proof_device.specs.Showing.{AllShow}
-use Rattle.proof_device.proofs.DevicePlaces.{go_same}
+use Rattle.proof_air.specs.proof_device.Showing.{AllShow}
+use Rattle.proof_air.proofs.DevicePlaces.{go_same}
 use Rattle.proof_air.specs.proof_walk.Outside.{CoversOuter}
 use Rattle.proof_air.specs.proof_walk.Phases.{Phase, Between, Said_line, Begun, Doing, To_tick, Ticked, Arriving, Giving, Ticking_devices, Ticking_chip, Ticking_decoder, Ticking_host, Sleeping, Submitting, Moving, Moved, Turns, Goes}
 use Rattle.proof_air.specs.proof_walk.ByLine.{CoversLine}

@@ -15,7 +15,7 @@ use Rattle.world_model.specs.State.{Machine}
 use Rattle.world_model.specs.Events.{Event, Outside_does, entries, May}
 use Rattle.proof_air.specs.proof_walk.Outside.{nothing}
 use Rattle.proof_air.specs.Logs.{Tie as TieAir}
-use Rattle.proof_device.proofs.Entering.{AreOwn, acts_own}
+use Rattle.proof_air.proofs.Entering.{AreOwn, acts_own}
 use Rattle.proof_devices.proofs.Quiet.{AreIdle, stamp_idle, machine_still}
 use Rattle.proof_devices.proofs.Hearing.{Enters, arrives_enters, again_enters}
 

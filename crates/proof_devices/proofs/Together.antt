@@ -5,7 +5,7 @@ use Rattle.zw_text.specs.declared.entry.Entry.{Entry}
 use Rattle.world_model.specs.State.{Machine}
 use Rattle.world_model.specs.Events.{Event, happens, entries, May}
 use Rattle.law_wire.specs.Routes.{MayGo}
-use Rattle.proof_device.specs.Showing.{AllShow, AreApart}
+use Rattle.proof_air.specs.proof_device.Showing.{AllShow, AreApart}
 use Rattle.proof_air.specs.proof_walk.Phases.{Phase}
 use Rattle.proof_air.specs.proof_walk.Time.{MayCount, KnowTime}
 use Rattle.proof_air.specs.proof_walk.Walk.{Walk, both_know}

@@ -35,8 +35,8 @@ use Rattle.proof_air.specs.proof_walk.Walk.{WalkOver, both_know}
 use Rattle.proof_air.proofs.ByLine.{effect_covered}
 use Rattle.proof_air.proofs.Stepping.{Steps, event_then}
 use Rattle.proof_air.proofs.Times.{outcome_time, same_number}
-use Rattle.proof_device.proofs.ChangesOutside.{place_is}
-use Rattle.proof_device.proofs.DevicePlaces.{go_none, go_same}
+use Rattle.proof_air.proofs.ChangesOutside.{place_is}
+use Rattle.proof_air.proofs.DevicePlaces.{go_none, go_same}
 use Rattle.proof_air.specs.Hearing.{KnowAir}
 use Rattle.proof_air.specs.Logs.{Tie as TieAir}
 use Rattle.proof_air.proofs.Handling.{tie_here}

@@ -11,8 +11,8 @@ use Rattle.law_transcript.specs.Devices.{CameAsShown, RanAsShown, brought, repli
 use Rattle.law_transcript.specs.Nodes.{controller, device_of}
 use Rattle.law_transcript.specs.Restarts.{ticks_asked}
 use Rattle.world_model.specs.State.{Machine}
-use Rattle.proof_device.specs.Showing.{AllShow}
-use Rattle.proof_device.proofs.DevicePlaces.{go_same}
+use Rattle.proof_air.specs.proof_device.Showing.{AllShow}
+use Rattle.proof_air.proofs.DevicePlaces.{go_same}
 use Rattle.proof_devices.specs.Living.{Answers, Keeping, LivedWith, Rested, RestedWith, Simply, AllLivedAsShown}
 use Rattle.proof_devices.proofs.Changes.{show_at}
 use Rattle.proof_devices.proofs.Places.{same_place}

@@ -20,7 +20,7 @@ use Rattle.outside_model.specs.Events.{OuterEvent, Begins_line, Begins_tick, Arr
 use Rattle.world_model.specs.State.{Machine}
 use Rattle.world_model.specs.Events.{Event}
 use Rattle.world_model.specs.Lines.{IsEffect}
-use Rattle.proof_device.specs.GoingOn.{GoOn}
+use Rattle.proof_air.specs.proof_device.GoingOn.{GoOn}
 use Rattle.proof_air.specs.proof_walk.Outside.{Known, CoversOuter}
 use Rattle.proof_air.specs.proof_walk.Phases.{Phase, Said_line, Begun, Doing, Ticked, Arriving, Giving, Ticking_devices}
 

@@ -22,13 +22,13 @@ ghost use Rattle.proof_air.specs.Hearing.{KnowAir};
 ghost use Rattle.world_lines.specs.Spoken.{Spoken, after_all, transcript_of};
 ghost use Rattle.world_lines.specs.Done.{AreDone};
 ghost use Rattle.world_lines.specs.Whole.{AreWhole};
-ghost use Rattle.proof_device.specs.Showing.{AreApart};
+ghost use Rattle.proof_air.specs.proof_device.Showing.{AreApart};
 ghost use Rattle.proof_devices.specs.LastLine.{with_last};
 ghost use Rattle.proof_devices.specs.Living.{MayAny, Acts, Lived, Rested, KnowDevices, AllLivedAsShown, IsNow};
 
+use proof_air::device::changes_are_shown;
 use proof_air::history_goes_on;
 use proof_air::walk::time_goes_on;
-use proof_device::changes_are_shown;
 use proof_routes::networks_go_on;
 
 /// At each phase of a line, where the history of the air and time are known, the first device of each node but the controller's has had just what the

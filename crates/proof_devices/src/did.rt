@@ -11,7 +11,7 @@ ghost use Rattle.world_model.specs.Events.{Event};
 ghost use Rattle.world_lines.specs.Spoken.{Spoken, after_all, transcript_of};
 ghost use Rattle.world_lines.specs.Done.{AreDone};
 ghost use Rattle.world_lines.specs.Whole.{AreWhole};
-ghost use Rattle.proof_device.specs.Showing.{AreApart};
+ghost use Rattle.proof_air.specs.proof_device.Showing.{AreApart};
 ghost use Rattle.proof_devices.specs.LastLine.{with_last};
 
 use crate::{devices_do_at_once, lines_run_as_far, lines_run_as_shown};

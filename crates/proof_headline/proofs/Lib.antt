@@ -11,3 +11,8 @@ pub mod PlainTying
 pub mod LockBeginning
 pub mod LockTying
 pub mod Sorting
+pub use Rattle.proof_spoken.proofs.Entering
+pub use Rattle.proof_spoken.proofs.Others
+pub use Rattle.proof_spoken.proofs.ShownChanges
+pub use Rattle.proof_spoken.proofs.ChangesOutside
+pub use Rattle.proof_spoken.proofs.KeptKinds

@@ -40,7 +40,7 @@ use Rattle.host_node.specs.Facts.{is_recorded, is_final}
 use Rattle.host_node.specs.TableState.{node_of, with_node}
 use Rattle.host_keep.specs.declared.final_status.FinalStatus.{FinalStatus}
 use Rattle.host_keep.specs.Status.{status_byte}
-use Rattle.host_orders.specs.declared.carriage.Carriage.{Carriage}
+use Rattle.law_transcript.specs.host_orders.declared.carriage.Carriage.{Carriage}
 use Rattle.host_model.specs.State.{HostState, Command, with_outcome}
 use Rattle.host_model.specs.Sessions.{command_by, open_command}
 use Rattle.host_model.specs.Ends.{PartEnd, Good, Passed_over, Bad, part_end, after_part, part_entries, after_task, task_entries, after_end, end_entries, after_end_if, end_entries_if, attempt_ended, attempt_entries, asleep_entry, neighbours_entry, failed_entry}
@@ -50,7 +50,7 @@ use Rattle.host_model.specs.Events.{HostEvent, Accepts, Cancels, Joins, Queues, 
 use Rattle.host_model.specs.May.{May, IsAccepted, IsFinal}
 use Rattle.proof_host.specs.Entries.{IsAside, notes_of, entries_at}
 use Rattle.value_store.specs.Values.{Values, stored_of}
-use Rattle.host_orders.specs.Settings.{settings, properties_of}
+use Rattle.law_transcript.specs.host_orders.Settings.{settings, properties_of}
 use Rattle.proof_host.proofs.Values.{reserving_same, hearing_same}
 use Rattle.proof_host.proofs.Effect.{only_commands, SameNodes, OneNode, Effect, Leaving, Unanswering, Accepting, Cancelling, Beginning, Finishing}
 

@@ -15,7 +15,7 @@ use Rattle.zw_text.proofs.Views.{shown-append}
 use Rattle.law_transcript.specs.Lists.{EachAfter}
 use Rattle.law_transcript.specs.Stores.{store_at, FollowsSuccess, MayStore}
 use Rattle.value_store.specs.Values.{Values}
-use Rattle.host_orders.specs.Settings.{settings}
+use Rattle.law_transcript.specs.host_orders.Settings.{settings}
 use Rattle.host_keep.specs.declared.final_status.FinalStatus.{FinalStatus}
 use Rattle.host_keep.specs.declared.final_status.FinalStatus.TheVariants as final
 use Rattle.supervision.specs.Host.{begun_of}

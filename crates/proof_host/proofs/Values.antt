@@ -19,9 +19,9 @@ use Rattle.zw_base.specs.declared.order.Order.{Order}
 use Rattle.value_store.specs.declared.stored.Stored.{Stored}
 use Rattle.value_store.specs.Values.{Key, Values, key_cmp, no_value, reserving, stored_of}
 use Rattle.value_store.proofs.Keys.{key_exact, key_total, same_property_laws}
-use Rattle.host_orders.specs.Settings.{config_settings, settings, settings_by}
-use Rattle.host_orders.specs.declared.actuator.Actuator.{Actuator}
-use Rattle.host_orders.specs.declared.actuator.Actuator.TheVariants.{Binary, Multilevel, Lock}
+use Rattle.law_transcript.specs.host_orders.Settings.{config_settings, settings, settings_by}
+use Rattle.law_transcript.specs.host_orders.declared.actuator.Actuator.{Actuator}
+use Rattle.law_transcript.specs.host_orders.declared.actuator.Actuator.TheVariants.{Binary, Multilevel, Lock}
 use Rattle.host_keep.specs.Kept.{or_else, value_among}
 use Rattle.host_model.specs.After.{confirming, hearing}
 use Rattle.proof_host.proofs.Effect.{SameConfirmed}

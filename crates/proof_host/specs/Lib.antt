@@ -7,3 +7,4 @@ pub mod Wrong
 pub mod Lives
 pub use Rattle.host_model.specs as host_model
 pub use Rattle.law_transcript.specs as law_transcript
+pub use Rattle.law_transcript.specs.device_kinds as device_kinds

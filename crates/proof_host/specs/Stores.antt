@@ -14,7 +14,7 @@ use Rattle.law_transcript.specs.Stores.{store_at, MayStore}
 use Rattle.law_transcript.specs.Table.{compare_properties}
 use Rattle.law_transcript.specs.Values.{is_success, last_given}
 use Rattle.value_store.specs.Values.{Values, stored_of}
-use Rattle.host_orders.specs.Settings.{settings}
+use Rattle.law_transcript.specs.host_orders.Settings.{settings}
 use Rattle.host_keep.specs.Kept.{Taken, value_by}
 use Rattle.host_node.specs.State.{NodeState}
 use Rattle.host_node.specs.TableState.{node_of}

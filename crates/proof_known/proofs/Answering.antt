@@ -14,11 +14,11 @@ use Rattle.zw_text.specs.declared.entry.Refusal.TheVariants as refusals
 use Rattle.zw_text.specs.declared.entry.Entry.{Entry}
 use Rattle.zw_text.specs.declared.entry.Entry.TheVariants as entry
 use Rattle.zw_text.specs.Transcript.{line_last, line_of}
-use Rattle.law_transcript.specs.Answers.{Follows, before_last, refusal_entry, refusals_by_host, refused_unless}
-use Rattle.law_transcript.specs.Lists.{EachAfter, listed}
-use Rattle.law_transcript.specs.Nodes.{is_joined}
-use Rattle.law_time.specs.Moments.{Allows}
-use Rattle.law_time.specs.Waking.{may_wake}
+use Rattle.proof_transcript.specs.law_transcript.Answers.{Follows, before_last, refusal_entry, refusals_by_host, refused_unless}
+use Rattle.proof_transcript.specs.law_transcript.Lists.{EachAfter, listed}
+use Rattle.proof_transcript.specs.law_transcript.Nodes.{is_joined}
+use Rattle.proof_transcript.specs.law_time.Moments.{Allows}
+use Rattle.proof_transcript.specs.law_time.Waking.{may_wake}
 use Rattle.proof_transcript.specs.law_host.Heard.{is_of_others, listing_heard}
 use Rattle.host_orders.specs.Errands.{get_refusal, send_refusal}
 use Rattle.host_orders.specs.Refusals.{Known}
@@ -27,8 +27,8 @@ use Rattle.host_model.specs.Asking.{carriage_for, places_refusal, refusal_for}
 use Rattle.host_model.specs.Events.{HostEvent, Accepts, Cancels, Hears, Joins}
 use Rattle.host_model.specs.May.{May as MayHost, known_of as known_of_host}
 use Rattle.host_model.specs.Outs.{answers, outs}
-use Rattle.world_model.specs.Events.{OpensFrom, shown_values}
-use Rattle.world_model.specs.Refusals.{IsRefused}
+use Rattle.proof_transcript.specs.world_model.Events.{OpensFrom, shown_values}
+use Rattle.proof_transcript.specs.world_model.Refusals.{IsRefused}
 use Rattle.proof_transcript.proofs.ByLine.{last_is}
 use Rattle.proof_transcript.specs.proof_spoken.Said.{AreSaid, KnowsListing}
 use Rattle.proof_transcript.specs.Answering.{AreFree, HostTies, IsAnswered, IsFree, may_be_taken_back}

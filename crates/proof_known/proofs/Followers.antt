@@ -28,9 +28,9 @@ use Rattle.supervision.specs.declared.host_node.Told.{Told as TheTold}
 use Rattle.supervision.specs.declared.host_node.Told.TheVariants as told
 use Rattle.value_store.specs.Values.{count_with}
 use Rattle.value_store.proofs.Keys.{same_property_laws}
-use Rattle.law_transcript.specs.Payloads.{messages_of}
-use Rattle.law_transcript.specs.Units.{Carried, bringing_in, bringing_of, from_node, read_well}
-use Rattle.law_time.specs.Judged.{may_tell}
+use Rattle.proof_transcript.specs.law_transcript.Payloads.{messages_of}
+use Rattle.proof_transcript.specs.law_transcript.Units.{Carried, bringing_in, bringing_of, from_node, read_well}
+use Rattle.proof_transcript.specs.law_time.Judged.{may_tell}
 use Rattle.proof_transcript.specs.law_host.Following.{same_setting}
 use Rattle.host_keep.specs.Status.{status_of}
 use Rattle.host_keep.specs.declared.final_status.FinalStatus.{FinalStatus}

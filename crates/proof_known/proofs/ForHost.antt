@@ -6,8 +6,8 @@ use Rattle.zw_text.specs.declared.entry.Refusal.{Refusal}
 use Rattle.zw_text.specs.declared.entry.Entry.{Entry}
 use Rattle.zw_text.specs.declared.entry.Entry.TheVariants as entry
 use Rattle.zw_text.specs.Transcript.{line_last, line_of}
-use Rattle.law_transcript.specs.Answers.{Follows, before_last, refusals_by_host}
-use Rattle.law_transcript.specs.Lists.{EachAfter}
+use Rattle.proof_transcript.specs.law_transcript.Answers.{Follows, before_last, refusals_by_host}
+use Rattle.proof_transcript.specs.law_transcript.Lists.{EachAfter}
 use Rattle.proof_transcript.specs.law_host.Heard.{come_as, heard_as, heard_by_host, heard_from, is_of_others, is_of_outside, is_refusal_of_others, listing_heard}
 use Rattle.proof_transcript.proofs.Lists.{each-append}
 use Rattle.proof_transcript.proofs.ByLine.{last_is}

@@ -18,8 +18,8 @@ use Rattle.chip_functions.specs.declared.notice.Update.{Update}
 use Rattle.chip_functions.specs.declared.notice.Update.TheVariants.{Received, RequestFailed}
 use Rattle.chip_functions.specs.declared.response.Response.{Response}
 use Rattle.zw_text.specs.declared.entry.Entry.{Entry}
-use Rattle.law_transcript.specs.Units.{notice_in, read_well}
-use Rattle.law_time.specs.Judged.{notices_here}
+use Rattle.proof_transcript.specs.law_transcript.Units.{notice_in, read_well}
+use Rattle.proof_transcript.specs.law_time.Judged.{notices_here}
 use Rattle.proof_transcript.specs.law_host.Heard.{classes_in}
 use Rattle.host_heard.specs.Telling.{heard_at}
 use Rattle.host_requests.specs.Events.{interviewed_by}

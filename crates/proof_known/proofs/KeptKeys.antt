@@ -35,8 +35,8 @@ use Rattle.proof_waking.specs.proof_alone.State.{HostMachine}
 use Rattle.proof_waking.specs.proof_alone.Steps.{Step, Tells, Comes, Misses, Says, Says_nothing, Asks, Refuses, Shows, Restarts, Begins_tick, Numbers, Judges, Does, entries, happens}
 use Rattle.proof_waking.specs.proof_alone.Phases.{Phase, May}
 use Rattle.proof_waking.specs.proof_alone.Runs.{WalkOver}
-use Rattle.law_transcript.specs.Lists.{EachAfter}
-use Rattle.world_model.specs.Events.{OpensFrom}
+use Rattle.proof_transcript.specs.law_transcript.Lists.{EachAfter}
+use Rattle.proof_transcript.specs.world_model.Events.{OpensFrom}
 use Rattle.proof_known.specs.Known.{KnowsKeys, KnowsWhole}
 
 -- ---- events

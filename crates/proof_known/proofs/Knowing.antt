@@ -7,9 +7,9 @@ use Rattle.chip_functions.specs.declared.notice.Update.{Update}
 use Rattle.zw_words.specs.declared.side.Side.TheVariants.{Chip}
 use Rattle.zw_text.specs.declared.entry.Entry.{Entry}
 use Rattle.zw_text.specs.declared.entry.Entry.TheVariants as entry
-use Rattle.law_time.specs.Judged.{notices_here}
-use Rattle.law_time.specs.Moments.{Allows}
-use Rattle.law_time.specs.Waking.{may_wake}
+use Rattle.proof_transcript.specs.law_time.Judged.{notices_here}
+use Rattle.proof_transcript.specs.law_time.Moments.{Allows}
+use Rattle.proof_transcript.specs.law_time.Waking.{may_wake}
 use Rattle.proof_transcript.specs.law_host.Heard.{classes_in, listing_heard}
 use Rattle.host_node.specs.Steps.{after_interview}
 use Rattle.host_node.specs.TableState.{node_of}
@@ -20,9 +20,9 @@ use Rattle.host_model.specs.Facts.{HostFacts}
 use Rattle.host_model.specs.May.{May as MayHost}
 use Rattle.host_model.specs.Outs.{answers, outs}
 use Rattle.host_model.proofs.Own.{IsOwn}
-use Rattle.world_model.specs.State.{Machine}
-use Rattle.world_model.specs.Events as world
-use Rattle.world_model.specs.Events.{Event, OpensFrom}
+use Rattle.proof_transcript.specs.world_model.State.{Machine}
+use Rattle.proof_transcript.specs.world_model.Events as world
+use Rattle.proof_transcript.specs.world_model.Events.{Event, OpensFrom}
 use Rattle.proof_transcript.proofs.proof_device_HostOuts.{OwnIs, SharedAre, outs_are}
 use Rattle.proof_transcript.specs.proof_spoken.Said.{KnowsAgain, KnowsListing}
 use Rattle.proof_transcript.specs.proof_spoken.Restarts.{AreHeld, IsHeld, KeepsWell, StartsWell}

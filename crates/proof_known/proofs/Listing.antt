@@ -8,9 +8,9 @@ use Rattle.zw_text.specs.declared.entry.Entry.{Entry}
 use Rattle.zw_text.specs.declared.entry.Entry.TheVariants.{Interviewed, InterviewFailed}
 use Rattle.zw_text.specs.Transcript.{interview_at, interviews}
 use Rattle.zw_text.proofs.Views.{shown-append}
-use Rattle.law_transcript.specs.Lists.{last_or, shown_after}
-use Rattle.law_transcript.specs.Nodes.{is_interviewed, known_at_first, known_classes}
-use Rattle.law_time.specs.Judged.{notices_here}
+use Rattle.proof_transcript.specs.law_transcript.Lists.{last_or, shown_after}
+use Rattle.proof_transcript.specs.law_transcript.Nodes.{is_interviewed, known_at_first, known_classes}
+use Rattle.proof_transcript.specs.law_time.Judged.{notices_here}
 use Rattle.proof_transcript.specs.law_host.Heard.{classes_at, classes_in, listing_heard}
 use Rattle.proof_transcript.proofs.MarkedFrames.{shown_one}
 

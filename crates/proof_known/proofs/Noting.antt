@@ -7,8 +7,8 @@ use Rattle.std.proofs.lemmas.Bool.{le-leb, lt-leb}
 use Rattle.zw_base.specs.PropertyOrder.{same_property}
 use Rattle.zw_base.specs.declared.property.Property.{Property}
 use Rattle.value_store.specs.Values.{count_with}
-use Rattle.law_transcript.specs.Answers.{properties_kept}
-use Rattle.law_transcript.specs.Nodes.{known_classes}
+use Rattle.proof_transcript.specs.law_transcript.Answers.{properties_kept}
+use Rattle.proof_transcript.specs.law_transcript.Nodes.{known_classes}
 use Rattle.proof_transcript.specs.law_host.Heard.{listing_heard}
 use Rattle.host_heard.specs.declared.payload.Heard.{Heard}
 use Rattle.host_heard.specs.declared.payload.Heard.TheVariants.{Messages, Sealed, Unread}
@@ -33,10 +33,10 @@ use Rattle.s0_crypto.specs.declared.key_pair.Keys.{Keys}
 use Rattle.zw_text.specs.declared.entry.Entry.{Entry}
 use Rattle.zw_text.specs.declared.entry.Entry.TheVariants as entry
 use Rattle.zw_text.specs.Transcript.{sessions}
-use Rattle.law_transcript.specs.Lists.{EachAfter}
-use Rattle.law_transcript.specs.Units.{Carried, bringing_in, from_node}
-use Rattle.law_time.specs.Judged.{brought_here, last_of, may_tell}
-use Rattle.law_time.specs.Sessions.{is_last_command}
+use Rattle.proof_transcript.specs.law_transcript.Lists.{EachAfter}
+use Rattle.proof_transcript.specs.law_transcript.Units.{Carried, bringing_in, from_node}
+use Rattle.proof_transcript.specs.law_time.Judged.{brought_here, last_of, may_tell}
+use Rattle.proof_transcript.specs.law_time.Sessions.{is_last_command}
 use Rattle.host_heard.specs.Telling.{heard_at}
 use Rattle.host_heard.specs.declared.told.Told.{Told}
 use Rattle.proof_waking.specs.proof_alone.Tables.{TieTables}

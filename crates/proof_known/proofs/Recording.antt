@@ -5,9 +5,9 @@ use Rattle.zw_words.specs.declared.side.Side.TheVariants.{Chip}
 use Rattle.zw_text.specs.declared.entry.Entry.{Entry}
 use Rattle.zw_text.specs.declared.entry.Entry.TheVariants as entry
 use Rattle.zw_text.specs.Transcript.{shown}
-use Rattle.law_transcript.specs.Records.{cancelled_at}
-use Rattle.law_time.specs.Moments.{Allows}
-use Rattle.law_time.specs.Waking.{may_wake}
+use Rattle.proof_transcript.specs.law_transcript.Records.{cancelled_at}
+use Rattle.proof_transcript.specs.law_time.Moments.{Allows}
+use Rattle.proof_transcript.specs.law_time.Waking.{may_wake}
 use Rattle.host_keep.specs.declared.record.Record.{Record}
 use Rattle.host_model.specs.State.{HostState}
 use Rattle.host_model.specs.Did.{MayAll}
@@ -15,7 +15,7 @@ use Rattle.host_model.specs.Events.{HostEvent, Hears}
 use Rattle.host_model.specs.Outs.{answers, outs}
 use Rattle.host_model.specs.Records.{records_at}
 use Rattle.host_model.specs.declared.out.HostOut.{HostOut}
-use Rattle.world_model.specs.Events.{shown_values}
+use Rattle.proof_transcript.specs.world_model.Events.{shown_values}
 use Rattle.proof_transcript.specs.proof_host.Entries.{notes_of}
 use Rattle.proof_transcript.specs.Records.{TellsCancelled, cancelled_by}
 use Rattle.proof_transcript.proofs.CancelledRecords.{event_cancels}

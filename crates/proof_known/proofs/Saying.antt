@@ -10,9 +10,9 @@ use Rattle.zw_text.specs.declared.entry.Entry.{Entry}
 use Rattle.zw_text.specs.declared.entry.Entry.TheVariants as entry
 use Rattle.zw_text.specs.declared.entry.Outcome.TheVariants.{Waiting}
 use Rattle.zw_text.specs.Transcript.{line_last}
-use Rattle.law_transcript.specs.Nodes.{host_list}
-use Rattle.law_time.specs.Moments.{Allows}
-use Rattle.law_time.specs.Waking.{may_wake}
+use Rattle.proof_transcript.specs.law_transcript.Nodes.{host_list}
+use Rattle.proof_transcript.specs.law_time.Moments.{Allows}
+use Rattle.proof_transcript.specs.law_time.Waking.{may_wake}
 use Rattle.proof_transcript.specs.law_host.Heard.{listing_heard}
 use Rattle.host_orders.specs.Wrapping.{carriage_of}
 use Rattle.host_orders.specs.declared.carriage.Carriage.{Carriage}
@@ -23,9 +23,9 @@ use Rattle.host_model.specs.Asking.{carriage_for}
 use Rattle.host_model.specs.Facts.{HostFacts}
 use Rattle.host_model.specs.May.{IsAccepted, May as MayHost}
 use Rattle.host_model.specs.Outs.{answers, outs}
-use Rattle.world_model.specs.State.{Machine}
-use Rattle.world_model.specs.Events as world
-use Rattle.world_model.specs.Events.{Event, OpensFrom}
+use Rattle.proof_transcript.specs.world_model.State.{Machine}
+use Rattle.proof_transcript.specs.world_model.Events as world
+use Rattle.proof_transcript.specs.world_model.Events.{Event, OpensFrom}
 use Rattle.proof_transcript.proofs.Lists.{each-anywhere, each-append, each-weaker}
 use Rattle.proof_transcript.specs.proof_once.Tied.{KeepsOrders}
 use Rattle.proof_transcript.specs.proof_spoken.Restarts.{IsHeld, KeepsWell, StartsWell}

@@ -7,16 +7,16 @@ use Rattle.zw_text.specs.declared.entry.Refusal.{Refusal}
 use Rattle.zw_text.specs.declared.entry.Entry.{Entry}
 use Rattle.zw_text.specs.declared.entry.Entry.TheVariants as entry
 use Rattle.zw_text.specs.Transcript.{line_last, line_of}
-use Rattle.law_transcript.specs.Lists.{EachAfter}
-use Rattle.law_time.specs.Moments.{Allows}
-use Rattle.law_time.specs.Waking.{may_wake}
+use Rattle.proof_transcript.specs.law_transcript.Lists.{EachAfter}
+use Rattle.proof_transcript.specs.law_time.Moments.{Allows}
+use Rattle.proof_transcript.specs.law_time.Waking.{may_wake}
 use Rattle.proof_transcript.specs.law_host.Heard.{is_of_others, listing_heard}
 use Rattle.proof_transcript.specs.law_host.HostLegal.{IsShown, ShowsValues}
 use Rattle.host_model.specs.State.{HostState}
 use Rattle.host_model.specs.Events.{HostEvent, Hears}
 use Rattle.host_model.specs.Outs.{outs}
-use Rattle.world_model.specs.Events.{shown_values}
-use Rattle.world_model.specs.Refusals.{IsRefused}
+use Rattle.proof_transcript.specs.world_model.Events.{shown_values}
+use Rattle.proof_transcript.specs.world_model.Refusals.{IsRefused}
 use Rattle.proof_transcript.specs.proof_spoken.Said.{AreSaid}
 use Rattle.proof_transcript.specs.Showing.{AsksForNone}
 use Rattle.proof_transcript.specs.proof_walk.Outside.{IsHostNote}

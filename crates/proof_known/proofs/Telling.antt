@@ -21,11 +21,11 @@ use Rattle.zw_text.specs.declared.entry.Entry.TheVariants as entry
 use Rattle.zw_text.specs.Transcript.{Doing, doing_lines, doing_step, join_of, line_of, lines_done, read_as, reported, reported_at}
 use Rattle.zw_text.proofs.TextLaws.{line_takes}
 use Rattle.zw_text.proofs.Views.{folded-append, shown-append}
-use Rattle.law_transcript.specs.Nodes.{is_joined}
-use Rattle.law_transcript.specs.Restarts.{is_restart, since_restart}
-use Rattle.law_transcript.specs.Stores.{heard_value, last_value}
-use Rattle.law_time.specs.Moments.{Allows}
-use Rattle.law_time.specs.Waking.{may_wake}
+use Rattle.proof_transcript.specs.law_transcript.Nodes.{is_joined}
+use Rattle.proof_transcript.specs.law_transcript.Restarts.{is_restart, since_restart}
+use Rattle.proof_transcript.specs.law_transcript.Stores.{heard_value, last_value}
+use Rattle.proof_transcript.specs.law_time.Moments.{Allows}
+use Rattle.proof_transcript.specs.law_time.Waking.{may_wake}
 use Rattle.host_node.specs.State.{NodeState}
 use Rattle.host_node.specs.Steps.{after_join}
 use Rattle.host_node.specs.TableState.{node_of as node_at, with_node}
@@ -36,9 +36,9 @@ use Rattle.host_model.specs.Facts.{HostFacts}
 use Rattle.host_model.specs.Outs.{answers, outs}
 use Rattle.host_model.specs.declared.out.HostOut.{HostOut}
 use Rattle.host_model.proofs.Own.{IsOwn}
-use Rattle.world_model.specs.State.{Machine}
-use Rattle.world_model.specs.Events as world
-use Rattle.world_model.specs.Events.{Event, OpensFrom, shown_values}
+use Rattle.proof_transcript.specs.world_model.State.{Machine}
+use Rattle.proof_transcript.specs.world_model.Events as world
+use Rattle.proof_transcript.specs.world_model.Events.{Event, OpensFrom, shown_values}
 use Rattle.proof_transcript.specs.proof_host.Entries.{notes_of}
 use Rattle.proof_transcript.specs.proof_spoken.Restarts.{IsHeld, KeepsWell, StartsWell}
 use Rattle.proof_transcript.proofs.FirstMachine.{first_told as first_machine_told}

@@ -8,14 +8,14 @@ use Rattle.zw_text.specs.declared.line.Line.{Line}
 use Rattle.zw_text.specs.declared.entry.Entry.{Entry}
 use Rattle.zw_text.specs.declared.entry.Entry.TheVariants.{Said}
 use Rattle.zw_text.specs.Transcript.{line_last, line_of}
-use Rattle.law_transcript.specs.Answers.{AnswersAfter, MayAnswer, MayCancel, before_last, refusals_by_host}
-use Rattle.law_transcript.specs.Lists.{EachAfter}
-use Rattle.law_transcript.specs.Nodes.{is_joined, known_classes}
-use Rattle.law_transcript.specs.Once.{CarriesOnce}
-use Rattle.law_transcript.specs.Records.{KeepsRecords}
-use Rattle.law_transcript.specs.Sessions.{MayBegin}
-use Rattle.law_transcript.specs.Stores.{StoresConfirmed, heard_value}
-use Rattle.law_wire.specs.Serial.{ended}
+use Rattle.proof_transcript.specs.law_transcript.Answers.{AnswersAfter, MayAnswer, MayCancel, before_last, refusals_by_host}
+use Rattle.proof_transcript.specs.law_transcript.Lists.{EachAfter}
+use Rattle.proof_transcript.specs.law_transcript.Nodes.{is_joined, known_classes}
+use Rattle.proof_transcript.specs.law_transcript.Once.{CarriesOnce}
+use Rattle.proof_transcript.specs.law_transcript.Records.{KeepsRecords}
+use Rattle.proof_transcript.specs.law_transcript.Sessions.{MayBegin}
+use Rattle.proof_transcript.specs.law_transcript.Stores.{StoresConfirmed, heard_value}
+use Rattle.proof_transcript.specs.law_wire.Serial.{ended}
 use Rattle.proof_transcript.specs.law_host.Heard.{is_of_others, is_refusal_of_others, listing_heard}
 use Rattle.proof_transcript.specs.law_host.HostLegal.{ShowsValues}
 use Rattle.value_store.specs.Values.{IsReserved, is_among, stored_of}

@@ -20,16 +20,16 @@ use Rattle.zw_text.specs.declared.entry.Ended.TheVariants as endings
 use Rattle.zw_text.specs.declared.entry.Entry.{Entry}
 use Rattle.zw_text.specs.declared.entry.Entry.TheVariants.{Out, Report, Unstored, Old, Unread}
 use Rattle.zw_text.specs.Transcript.{sessions}
-use Rattle.law_transcript.specs.Lists.{EachAfter}
-use Rattle.law_transcript.specs.Payloads.{messages_of}
-use Rattle.law_transcript.specs.Units.{Carried}
-use Rattle.law_time.specs.Judged.{brought_here, may_be_told, may_tell, payloads_here}
-use Rattle.law_time.specs.Moments.{Keeps}
-use Rattle.law_time.specs.Sessions.{is_last_command}
+use Rattle.proof_transcript.specs.law_transcript.Lists.{EachAfter}
+use Rattle.proof_transcript.specs.law_transcript.Payloads.{messages_of}
+use Rattle.proof_transcript.specs.law_transcript.Units.{Carried}
+use Rattle.proof_transcript.specs.law_time.Judged.{brought_here, may_be_told, may_tell, payloads_here}
+use Rattle.proof_transcript.specs.law_time.Moments.{Keeps}
+use Rattle.proof_transcript.specs.law_time.Sessions.{is_last_command}
 use Rattle.proof_transcript.specs.law_host.Following.{same_setting}
 use Rattle.proof_transcript.specs.law_host.Heard.{listing_heard}
-use Rattle.law_transcript.specs.Answers.{properties_kept}
-use Rattle.law_transcript.specs.Nodes.{controller, host_list}
+use Rattle.proof_transcript.specs.law_transcript.Answers.{properties_kept}
+use Rattle.proof_transcript.specs.law_transcript.Nodes.{controller, host_list}
 use Rattle.host_orders.specs.Classes.{lists}
 use Rattle.std.specs.Set.{distinct_count}
 

@@ -3,7 +3,7 @@ use Rattle.std.specs.Prelude.{codes, List, [], ◌∷◌, ◌++◌, take}
 use Rattle.zw_text.specs.declared.entry.Entry.{Entry}
 use Rattle.zw_text.specs.declared.entry.Entry.TheVariants.{Said, Accepted, Begin, Out, Interviewed}
 use Rattle.zw_text.specs.declared.entry.Ended.TheVariants.{Success}
-use Rattle.law_time.specs.WorkedUnits.{by_chip, host_acknowledges}
+use Rattle.proof_transcript.specs.law_time.WorkedUnits.{by_chip, host_acknowledges}
 use Rattle.proof_transcript.specs.law_host.Worked.{ended_openly, told_openly}
 
 -- a command ends with nothing heard of its node

@@ -3,7 +3,7 @@
 ghost use Rattle.std.specs.Prelude.{◌≡◌, Bool, true, false, Some, List, []};
 ghost use Rattle.s0_crypto.specs.declared.key_pair.Keys.{Keys};
 ghost use Rattle.zw_text.specs.declared.entry.Entry.{Entry};
-ghost use Rattle.law_transcript.specs.Answers.{AnswersAfter, refusals_by_host};
+ghost use Rattle.proof_transcript.specs.law_transcript.Answers.{AnswersAfter, refusals_by_host};
 ghost use Rattle.proof_transcript.specs.law_host.Heard.{heard_by_host, listing_heard};
 ghost use Rattle.proof_waking.specs.proof_alone.State.{HostMachine, first_alone};
 ghost use Rattle.proof_waking.specs.proof_alone.Phases.{Phase, Resting};

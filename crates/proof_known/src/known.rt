@@ -3,9 +3,9 @@
 ghost use Rattle.std.specs.Prelude.{Some, Bool, List, [], ℕ};
 ghost use Rattle.s0_crypto.specs.declared.key_pair.Keys.{Keys};
 ghost use Rattle.zw_text.specs.declared.entry.Entry.{Entry};
-ghost use Rattle.law_transcript.specs.Stores.{StoresConfirmed};
-ghost use Rattle.law_time.specs.Moments.{Allows};
-ghost use Rattle.law_time.specs.Waking.{may_wake};
+ghost use Rattle.proof_transcript.specs.law_transcript.Stores.{StoresConfirmed};
+ghost use Rattle.proof_transcript.specs.law_time.Moments.{Allows};
+ghost use Rattle.proof_transcript.specs.law_time.Waking.{may_wake};
 ghost use Rattle.proof_transcript.specs.law_host.Heard.{listing_heard};
 ghost use Rattle.proof_transcript.specs.proof_once.ByTable.{IsTable};
 ghost use Rattle.proof_waking.specs.proof_alone.State.{HostMachine, first_alone};

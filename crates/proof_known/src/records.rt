@@ -3,7 +3,7 @@
 ghost use Rattle.std.specs.Prelude.{Some, IfSome, List, [], ℕ};
 ghost use Rattle.s0_crypto.specs.declared.key_pair.Keys.{Keys};
 ghost use Rattle.zw_text.specs.declared.entry.Entry.{Entry};
-ghost use Rattle.law_transcript.specs.Records.{KeepsRecords};
+ghost use Rattle.proof_transcript.specs.law_transcript.Records.{KeepsRecords};
 ghost use Rattle.proof_waking.specs.proof_alone.State.{HostMachine, first_alone};
 ghost use Rattle.proof_waking.specs.proof_alone.Phases.{Open, Resting};
 ghost use Rattle.proof_waking.specs.proof_alone.Runs.{Run};

@@ -3,8 +3,8 @@
 ghost use Rattle.std.specs.Prelude.{Some, true, List, [], ℕ};
 ghost use Rattle.s0_crypto.specs.declared.key_pair.Keys.{Keys};
 ghost use Rattle.zw_text.specs.declared.entry.Entry.{Entry};
-ghost use Rattle.law_transcript.specs.Lists.{EachAfter};
-ghost use Rattle.law_wire.specs.Serial.{ended};
+ghost use Rattle.proof_transcript.specs.law_transcript.Lists.{EachAfter};
+ghost use Rattle.proof_transcript.specs.law_wire.Serial.{ended};
 ghost use Rattle.proof_transcript.specs.law_host.Heard.{listing_heard};
 ghost use Rattle.proof_transcript.specs.law_host.HostLegal.{ShowsValues};
 ghost use Rattle.proof_waking.specs.proof_alone.State.{first_alone};

@@ -14,8 +14,8 @@ use Rattle.chip_sim.specs.Did.{judged_all}
 use Rattle.chip_sim.specs.Events.{ChipEvent, Collides, Done, Forgets, Heard as chip_hears, Informed, Ticked, after}
 use Rattle.chip_sim.specs.Link.{link_steps}
 use Rattle.chip_sim.specs.Rules.{over}
-use Rattle.device_sim.specs.State.{State}
-use Rattle.device_sim.specs.Event.{DeviceEvent}
+use Rattle.proof_world.specs.device_sim.State.{State}
+use Rattle.proof_world.specs.device_sim.Event.{DeviceEvent}
 use Rattle.air_frames.specs.Ages.{refusal_of}
 use Rattle.air_frames.specs.declared.ages.Refusal.{Refusal as RepeatRefusal}
 use Rattle.proof_walk.specs.mesh_sim.declared.event.AirEvent.{AirEvent}

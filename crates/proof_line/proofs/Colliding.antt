@@ -22,7 +22,7 @@ use Rattle.chip_sim.specs.Events.{ChipEvent, Judged, Ticked, Heard, Done, Inform
 use Rattle.chip_sim.specs.Did.{after_all}
 use Rattle.chip_sim.specs.declared.out.ChipOut.{ChipOut}
 use Rattle.chip_sim.specs.declared.out.ChipOut.TheVariants.{Write, OnAir, NoRoute, AskInfo, Full}
-use Rattle.device_sim.specs.State.{State}
+use Rattle.proof_world.specs.device_sim.State.{State}
 use Rattle.proof_walk.specs.mesh_sim.Air.{AirState, joining}
 use Rattle.proof_walk.specs.mesh_sim.Fates.{place_of}
 use Rattle.proof_walk.proofs.Lists.{each-anywhere}

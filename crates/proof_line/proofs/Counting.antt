@@ -20,7 +20,7 @@ use Rattle.zw_text.specs.Transcript.{lines_run, line_of, unit_at, written}
 use Rattle.zw_text.proofs.Views.{shown-append}
 use Rattle.law_wire.specs.Asked.{is_ack}
 use Rattle.law_wire.specs.Marks.{collision_of, collisions, is_can, cans, AnswersBy, MayCollide}
-use Rattle.device_sim.specs.State.{State}
+use Rattle.proof_world.specs.device_sim.State.{State}
 use Rattle.proof_walk.specs.outside_model.Devices.{shown_entries}
 use Rattle.proof_walk.specs.outside_model.Events.{cleared_entries}
 use Rattle.proof_walk.specs.Outside.{IsNote, IsOfAir}

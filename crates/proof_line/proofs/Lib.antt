@@ -87,3 +87,9 @@ pub use Rattle.proof_walk.proofs.Bodies
 pub use Rattle.proof_walk.proofs.Views
 pub use Rattle.proof_traffic.proofs.HostLinks
 pub use Rattle.proof_world.proofs.HeldRecords
+pub use Rattle.proof_world.proofs.Own
+pub use Rattle.proof_world.proofs.Submitted
+pub use Rattle.proof_world.proofs.Silence
+pub use Rattle.proof_world.proofs.EventLists as host_model_EventLists
+pub use Rattle.proof_traffic.proofs.Outside
+pub use Rattle.proof_traffic.proofs.CourseSteps

@@ -19,8 +19,8 @@ use Rattle.chip_sim.specs.State.{ChipState}
 use Rattle.chip_sim.specs.Events.{ChipEvent, Heard, Done, Informed, after, outs}
 use Rattle.chip_sim.specs.Rules.{WaitsWell, begun_at}
 use Rattle.chip_sim.proofs.Histories.{well_all}
-use Rattle.device_sim.specs.State.{State}
-use Rattle.device_sim.specs.Event.{DeviceEvent, Ticks, Wakes, Sets}
+use Rattle.proof_world.specs.device_sim.State.{State}
+use Rattle.proof_world.specs.device_sim.Event.{DeviceEvent, Ticks, Wakes, Sets}
 use Rattle.air_frames.specs.Ages.{refusal_of}
 use Rattle.air_frames.specs.declared.ages.Refusal.{Refusal as RepeatRefusal}
 use Rattle.air_frames.specs.declared.ages.Refusal.TheVariants.{NeverSent, Forgotten, Stale}

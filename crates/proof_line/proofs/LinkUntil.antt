@@ -12,8 +12,8 @@ use Rattle.chip_sim.specs.Events.{ChipEvent, Ticked, Heard as chip_hears, Inform
 use Rattle.chip_sim.specs.Did.{judged_all}
 use Rattle.chip_sim.specs.declared.out.ChipOut.{ChipOut}
 use Rattle.chip_sim.specs.declared.out.ChipOut.TheVariants as chip_out
-use Rattle.device_sim.specs.State.{State}
-use Rattle.device_sim.specs.Event.{DeviceEvent, Ticks, Wakes, Sets}
+use Rattle.proof_world.specs.device_sim.State.{State}
+use Rattle.proof_world.specs.device_sim.Event.{DeviceEvent, Ticks, Wakes, Sets}
 use Rattle.air_frames.specs.Ages.{refusal_of}
 use Rattle.air_frames.specs.declared.ages.Refusal.{Refusal as RepeatRefusal}
 use Rattle.proof_walk.specs.mesh_sim.declared.event.AirEvent.{AirEvent}

@@ -6,7 +6,7 @@ use Rattle.serial_frame.specs.declared.item.Item.{Item}
 use Rattle.route_table.specs.declared.route.Route.{Route}
 use Rattle.std.proofs.lemmas.Bool.{ltb-true}
 use Rattle.s0_crypto.specs.declared.key_pair.Keys.{Keys}
-use Rattle.device_sim.specs.State.{State}
+use Rattle.proof_world.specs.device_sim.State.{State}
 use Rattle.serial_link.specs.State.{Side as LinkSide}
 use Rattle.serial_link.specs.Rules.{Step, SideObeys}
 use Rattle.serial_link.specs.declared.turn.Turn.TheVariants.{Idle}

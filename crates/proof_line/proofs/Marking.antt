@@ -21,8 +21,8 @@ use Rattle.proof_walk.proofs.Lists.{each-append}
 use Rattle.chip_sim.specs.Events.{ChipEvent, Judged, Ticked, Forgets, after, outs}
 use Rattle.chip_sim.specs.declared.out.ChipOut.{ChipOut}
 use Rattle.chip_sim.specs.declared.out.ChipOut.TheVariants.{Write, OnAir, NoRoute, AskInfo, Full}
-use Rattle.device_sim.specs.State.{State}
-use Rattle.device_sim.specs.Event.{DeviceEvent, device_after}
+use Rattle.proof_world.specs.device_sim.State.{State}
+use Rattle.proof_world.specs.device_sim.Event.{DeviceEvent, device_after}
 use Rattle.proof_walk.specs.mesh_sim.declared.event.AirEvent.{AirEvent}
 use Rattle.proof_walk.specs.mesh_sim.declared.event.AirEvent.TheVariants as air_event
 use Rattle.proof_walk.specs.mesh_sim.Fates.{place_of}

@@ -4,7 +4,7 @@ use Rattle.std.specs.Prelude.{◌+◌, nat_lt, Some}
 use Rattle.std.specs.List.{AllByRecursion}
 use Rattle.zw_base.proofs.Each.{all-append}
 use Rattle.s0_crypto.specs.declared.key_pair.Keys.{Keys}
-use Rattle.device_sim.specs.State.{State}
+use Rattle.proof_world.specs.device_sim.State.{State}
 use Rattle.zw_words.specs.declared.side.Side.{Side}
 use Rattle.zw_words.specs.declared.side.Side.TheVariants.{Host as by_host, Chip as by_chip}
 use Rattle.zw_text.specs.declared.line.Line.{Line}

@@ -2,7 +2,7 @@
 
 ghost use Rattle.std.specs.Prelude.{Option, Some, List, [], ℕ};
 ghost use Rattle.s0_crypto.specs.declared.key_pair.Keys.{Keys};
-ghost use Rattle.device_sim.specs.State.{State};
+ghost use Rattle.proof_world.specs.device_sim.State.{State};
 ghost use Rattle.law_wire.specs.Marks.{MayCollide};
 ghost use Rattle.law_wire.specs.Times.{MayBeTold};
 ghost use Rattle.proof_walk.specs.world_model.State.{first_machine};

@@ -4,3 +4,5 @@ mod ByEntry
 mod Walking
 mod Lacking
 mod Along
+pub use Rattle.proof_attempts.proofs.Times
+pub use Rattle.proof_attempts.proofs.HostNotes

@@ -1,3 +1,4 @@
 pub mod Full
 pub mod Unkept
 pub use Rattle.proof_known.specs as proof_known
+pub use Rattle.proof_attempts.specs as proof_attempts

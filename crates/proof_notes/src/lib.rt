@@ -14,5 +14,6 @@ mod unkept;
 mod worked;
 
 pub use notes::{hosts_note_in_full, lines_note_in_full};
+pub use proof_attempts as attempts;
 pub use unkept::{hosts_say_what_is_not_kept, lines_say_what_is_not_kept};
 pub use worked::{rejected_notes, worked_notes};

@@ -29,3 +29,11 @@ pub use Rattle.proof_device.proofs.Entered
 pub use Rattle.proof_device.proofs.HostOuts
 pub use Rattle.proof_device.proofs.Results
 pub use Rattle.proof_device.proofs.DevicePlaces
+pub use Rattle.proof_messages.proofs.LockSessions
+pub use Rattle.proof_messages.proofs.SealedByNumber
+pub use Rattle.proof_messages.proofs.SealedTexts
+pub use Rattle.proof_messages.proofs.DeviceReports
+pub use Rattle.proof_device.proofs.Entering
+pub use Rattle.proof_device.proofs.Others
+pub use Rattle.proof_device.proofs.ShownChanges as proof_device_ShownChanges
+pub use Rattle.proof_device.proofs.KeptKinds

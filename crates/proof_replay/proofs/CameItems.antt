@@ -11,7 +11,7 @@ use Rattle.serial_frame.specs.declared.item.Refusal.{Refusal}
 use Rattle.serial_frame.specs.declared.item.Refusal.TheVariants.{Aborted, BadKind, BadLength, BadSum, Stray}
 use Rattle.zw_text.specs.declared.entry.Entry.{Entry}
 use Rattle.law_time.specs.Requests.{is_answer}
-use Rattle.proof_line.specs.Arrivals.{AreTexts}
+use Rattle.proof_asking.specs.proof_line.Arrivals.{AreTexts}
 use Rattle.proof_replay.specs.Heard.{came_as, came_of, item_text}
 use Rattle.proof_replay.proofs.LineHeard.{came_so}
 

@@ -19,8 +19,8 @@ use Rattle.law_wire.specs.Serial.{SerialEvent, arriving_of, beginning_of, done_l
 use Rattle.law_wire.specs.Serial.SerialEvent.{Line_begins, Tick_begins, Writes}
 use Rattle.law_wire.specs.Links.{arrival_of, ends_round, line_in, stall_by, tick_of, unit_by}
 use Rattle.proof_asking.specs.proof_requests.law_host.Heard.{come_as, heard_from, is_of_others, is_of_outside}
-use Rattle.proof_line.proofs.ByLine.{last_is}
-use Rattle.proof_line.proofs.Standing.{last_only}
+use Rattle.proof_asking.proofs.ByLine.{last_is}
+use Rattle.proof_asking.proofs.Standing.{last_only}
 
 -- ---- events
 

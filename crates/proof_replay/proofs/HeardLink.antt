@@ -16,12 +16,12 @@ use Rattle.law_transcript.specs.Restarts.{is_restart}
 use Rattle.law_wire.specs.Serial.{SerialEvent, beginning_of, done_line, ended, serial_events}
 use Rattle.law_wire.specs.Serial.SerialEvent.{Line_begins, Tick_begins, Writes}
 use Rattle.law_wire.specs.Links.{AreFirst, CollidesAsTold, HasTicked, HearsInTime, KeepsLink, LeavesFew, MayDo, Moment, Obeys, Round, TicksInTime, WriteLast, WritesThere, ahead, arrival_of, arrivals_of, between_restarts, clock_in, ends_round, is_stalled, left_ahead, line_in, moments_of, round_of, round_step, since_start, stall_by, steps_in, tick_of, unit_by}
-use Rattle.proof_line.specs.Linked.{HostObeyed}
-use Rattle.proof_line.specs.Links.{IsMute, ObeysThere, stalls_in}
-use Rattle.proof_line.proofs.Lists.{each-append}
-use Rattle.proof_line.proofs.LinkKnown.{no_steps}
-use Rattle.proof_line.proofs.LinkSteps.{clock_one, stalls_one}
-use Rattle.proof_line.proofs.Moments.{all_lives, arrivals_one, life_after, restarts_at, round_one, start_one, steps_one}
+use Rattle.proof_asking.specs.proof_line.Linked.{HostObeyed}
+use Rattle.proof_asking.specs.proof_line.Links.{IsMute, ObeysThere, stalls_in}
+use Rattle.proof_asking.proofs.Lists.{each-append}
+use Rattle.proof_asking.proofs.LinkKnown.{no_steps}
+use Rattle.proof_asking.proofs.LinkSteps.{clock_one, stalls_one}
+use Rattle.proof_asking.proofs.Moments.{all_lives, arrivals_one, life_after, restarts_at, round_one, start_one, steps_one}
 use Rattle.proof_asking.specs.proof_requests.law_host.Heard.{heard_by_host}
 use Rattle.proof_replay.proofs.HeardEvents.{AreHeard, IsAlike, IsEnd, StandWell, events_heard, is_unheard, line_first, ticks_then}
 

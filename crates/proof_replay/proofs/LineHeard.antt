@@ -45,25 +45,25 @@ use Rattle.world_model.specs.State.{Machine}
 use Rattle.world_model.specs.Refusals.{IsRefused}
 use Rattle.proof_asking.specs.proof_requests.proof_alone.Steps.{IsAskedBy}
 use Rattle.proof_asking.proofs.InOrder.{is_asked}
-use Rattle.proof_line.specs.proof_walk.ByLine.{IsAsked}
-use Rattle.proof_attempts.proofs.HostNotes.{NoteOuts, all_outs_note}
-use Rattle.proof_line.proofs.Untimed.{AreUntimed, IsUntimed}
-use Rattle.proof_line.specs.proof_walk.Outside.{IsHostNote}
-use Rattle.proof_line.specs.Arrivals.{AreTexts}
-use Rattle.proof_line.specs.Pipes.{HearsNothing}
-use Rattle.proof_line.specs.Links.{KnowsEvents, KnowsSide, LinkNow, MayEndNow, TakesTexts, TicksNot, begun_line, begun_tick, due_from, gone, tick_told, told_from, with_arriving}
-use Rattle.proof_line.specs.proof_traffic.Links.{KeepsItsLink, host_link_steps, host_link_steps_all}
-use Rattle.proof_line.proofs.Hosting.{next_apart, next_nothing}
-use Rattle.proof_line.proofs.HostTelling.{answers_beside, beside_note, judged_items, judged_ticks}
-use Rattle.proof_line.proofs.LinkBegins.{AreOrdinary, IsOrdinary, ordinary_begins, ordinary_on}
-use Rattle.proof_line.proofs.LinkHost.{all_keep, all_quiet, host_known, host_tick_known}
-use Rattle.proof_line.proofs.LinkKnown.{came_known, keeps_link, tick_known}
-use Rattle.proof_line.proofs.LinkLines.{TellsNone, host_restarts, restarted, says}
-use Rattle.proof_line.proofs.LinkTime.{tick_serials, timed_serials}
-use Rattle.proof_line.proofs.LinkTold.{besides_known}
-use Rattle.proof_line.proofs.LinkWalk.{first_link, first_now}
-use Rattle.proof_line.proofs.Serials.{due_grows, told_grows}
-use Rattle.proof_line.proofs.Tellings.{IsBeside, TellsSome}
+use Rattle.proof_asking.specs.proof_line.proof_walk.ByLine.{IsAsked}
+use Rattle.proof_notes.proofs.HostNotes.{NoteOuts, all_outs_note}
+use Rattle.proof_asking.proofs.Untimed.{AreUntimed, IsUntimed}
+use Rattle.proof_asking.specs.proof_line.proof_walk.Outside.{IsHostNote}
+use Rattle.proof_asking.specs.proof_line.Arrivals.{AreTexts}
+use Rattle.proof_asking.specs.proof_line.Pipes.{HearsNothing}
+use Rattle.proof_asking.specs.proof_line.Links.{KnowsEvents, KnowsSide, LinkNow, MayEndNow, TakesTexts, TicksNot, begun_line, begun_tick, due_from, gone, tick_told, told_from, with_arriving}
+use Rattle.proof_asking.specs.proof_line.proof_traffic.Links.{KeepsItsLink, host_link_steps, host_link_steps_all}
+use Rattle.proof_asking.proofs.proof_line_Hosting.{next_apart, next_nothing}
+use Rattle.proof_asking.proofs.HostTelling.{answers_beside, beside_note, judged_items, judged_ticks}
+use Rattle.proof_asking.proofs.LinkBegins.{AreOrdinary, IsOrdinary, ordinary_begins, ordinary_on}
+use Rattle.proof_asking.proofs.LinkHost.{all_keep, all_quiet, host_known, host_tick_known}
+use Rattle.proof_asking.proofs.LinkKnown.{came_known, keeps_link, tick_known}
+use Rattle.proof_asking.proofs.LinkLines.{TellsNone, host_restarts, restarted, says}
+use Rattle.proof_asking.proofs.LinkTime.{tick_serials, timed_serials}
+use Rattle.proof_asking.proofs.LinkTold.{besides_known}
+use Rattle.proof_asking.proofs.LinkWalk.{first_link, first_now}
+use Rattle.proof_asking.proofs.Serials.{due_grows, told_grows}
+use Rattle.proof_asking.proofs.Tellings.{IsBeside, TellsSome}
 use Rattle.proof_replay.specs.Heard.{came_as}
 use Rattle.proof_replay.specs.Linked.{KnowsLine, LineAsked, LineRests, number_at}
 use Rattle.proof_replay.proofs.Putting.{awaiting, clock_at}

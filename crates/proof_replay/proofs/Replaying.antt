@@ -47,7 +47,7 @@ use Rattle.proof_asking.specs.proof_requests.proof_alone.Runs.{Run}
 use Rattle.proof_asking.specs.proof_requests.proof_alone.Runs.Run.{Stepped, Turned}
 use Rattle.proof_asking.proofs.InOrder.{asked_puts, is_asked}
 use Rattle.proof_asking.proofs.Hosting.{items_run, kept, pump_run, tick_and_pump}
-use Rattle.proof_line.specs.Arrivals.{AreTexts}
+use Rattle.proof_asking.specs.proof_line.Arrivals.{AreTexts}
 use Rattle.proof_replay.specs.Heard.{AreReplayed, IsRun, Replayed, heard_all, heard_at, heard_of, lone_after, plain_of}
 use Rattle.proof_replay.specs.Linked.{KnowsLine, KnowsLineAt}
 use Rattle.proof_replay.proofs.CameItems.{came_texts, refused_answers}

@@ -22,9 +22,9 @@ use Rattle.host_model.specs.declared.out.HostOut.TheVariants.{Note, Write}
 use Rattle.port_run.specs.Lines.{is_served}
 use Rattle.port_run.specs.Steps.{Place, Step, Asks, Takes, Rests, Ticks, Pumps, Ran, asked_by}
 use Rattle.port_run.specs.declared.asking.Answer.TheVariants.{Taken, Command, Refused}
-use Rattle.proof_device.proofs.HostOuts.{OutIs}
-use Rattle.proof_attempts.specs.proof_walk.Outside.{IsHostNote}
-use Rattle.proof_attempts.proofs.HostNotes.{NoteOuts, all_outs_note}
+use Rattle.proof_asking.proofs.HostOuts.{OutIs}
+use Rattle.proof_notes.specs.proof_attempts.proof_walk.Outside.{IsHostNote}
+use Rattle.proof_notes.proofs.HostNotes.{NoteOuts, all_outs_note}
 use Rattle.run_replay.specs.Lines.{IsReplayed}
 use Rattle.run_replay.specs.Machine.{Lone, Event, entries, entries_of, happens, timed}
 use Rattle.run_replay.specs.Machine as replay

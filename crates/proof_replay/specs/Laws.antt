@@ -29,7 +29,7 @@ use Rattle.law_time.specs.Waking.{FallsAsleep, WakesAsTold}
 use Rattle.run_lines.specs.Lines.{TextLine}
 use Rattle.run_replay.specs.Machine.{Lone}
 use Rattle.proof_host.specs.Laws.{HostLaws}
-use Rattle.proof_attempts.specs.proof_walk.Time.{MayCount}
+use Rattle.proof_notes.specs.proof_attempts.proof_walk.Time.{MayCount}
 use Rattle.proof_asking.specs.proof_requests.proof_alone.State.{HostMachine, first_alone}
 use Rattle.proof_asking.specs.proof_requests.proof_alone.Phases.{Resting}
 use Rattle.proof_asking.specs.proof_requests.proof_alone.Runs.{Run}

@@ -8,8 +8,8 @@ use Rattle.zw_text.specs.declared.entry.Entry.TheVariants.{Said, Time}
 use Rattle.zw_text.specs.Transcript.{line_of}
 use Rattle.law_wire.specs.Links.{KeepsLink}
 use Rattle.host_model.specs.State.{HostState}
-use Rattle.proof_line.specs.proof_traffic.Links.{KeepsItsLink}
-use Rattle.proof_line.specs.Links.{KnowsSide, LinkNow, due_from, tick_told}
+use Rattle.proof_asking.specs.proof_line.proof_traffic.Links.{KeepsItsLink}
+use Rattle.proof_asking.specs.proof_line.Links.{KnowsSide, LinkNow, due_from, tick_told}
 use Rattle.proof_asking.specs.proof_requests.proof_alone.Phases.{Phase, Asked, Resting}
 
 -- What it hears comes through no pipe; no bytes are stalled, and in a tick its link ticked once. So many ticks have begun, and lines have asked for so many more.

@@ -12,9 +12,9 @@ ghost use Rattle.proof_replay.specs.Laws.{HostsKeepLaws};
 
 use crate::replay::hosts_keep_laws;
 use proof_asking::known::hosts_answer_lines;
+use proof_asking::line::{lines_clear_the_line, lines_mark_units};
 use proof_asking::requests::alone::{lines_are_a_hosts, what_is_heard_is_a_hosts};
-use proof_line::{lines_clear_the_line, lines_mark_units};
-use proof_transcript::lines_are_answered;
+use proof_asking::transcript::lines_are_answered;
 
 /// Over any lines from the first on, the last of which an allocation failure may have cut short, over a keeper that tells its records and had none at first,
 /// the host of `sim` keeps the laws of hosts over what it heard of them; where all were run whole, of one that came to rest.

@@ -11,9 +11,9 @@ use Rattle.serial_frame.specs.declared.unit.Unit.{Unit as LineUnit}
 use Rattle.serial_frame.specs.declared.unit.Unit.TheVariants.{Ack, Nak, Can, Framed}
 use Rattle.zw_text.specs.declared.entry.Entry.{Entry}
 use Rattle.zw_text.specs.declared.entry.Entry.TheVariants as entry
-use Rattle.law_transcript.specs.Restarts.{begins_refused}
-use Rattle.law_time.specs.Judged.{acknowledged, is_data}
-use Rattle.law_time.specs.Requests.{Asked as TheAsked, asked}
+use Rattle.proof_waking.specs.law_transcript.Restarts.{begins_refused}
+use Rattle.proof_waking.specs.law_time.Judged.{acknowledged, is_data}
+use Rattle.proof_waking.specs.law_time.Requests.{Asked as TheAsked, asked}
 use Rattle.host_requests.specs.Next.{at_update}
 use Rattle.host_requests.specs.declared.next.Next.{Next}
 use Rattle.host_requests.specs.declared.next.Next.TheVariants.{Ends, GoesOn as goes_on}

@@ -3,9 +3,9 @@ use Rattle.std.proofs.Common.{◌≡◌, ◌⊎◌, ◌≤◌, ◌<◌, ℕ, ◌
 use Rattle.std.specs.Prelude.{nat_le, nat_lt}
 use Rattle.std.specs.List.{list_all, list_any}
 use Rattle.std.proofs.lemmas.Bool.{and_left, and_right, eq-eqb, le-leb, le-ltb, lt-leb, lt-ltb, ltb-false, ne_eqb, or_from, or_left, or_right}
-use Rattle.law_time.specs.Requests.{Answer, Failing, Judging, are_none, failing_by, is_response_to}
-use Rattle.law_transcript.specs.Units.{request_in}
-use Rattle.law_time.specs.Ends.{is_abort_frame, is_before_failing, is_sending, wait_by, waits_before_failing}
+use Rattle.proof_waking.specs.law_time.Requests.{Answer, Failing, Judging, are_none, failing_by, is_response_to}
+use Rattle.proof_waking.specs.law_transcript.Units.{request_in}
+use Rattle.proof_waking.specs.law_time.Ends.{is_abort_frame, is_before_failing, is_sending, wait_by, waits_before_failing}
 use Rattle.proof_requests.specs.Standing.{Standing, counted, failing_in, first_ending, responses_in, sent_in, ticks_sent, wait_in, with_answer, with_copy, with_judging}
 use Rattle.proof_requests.specs.Asking.{Leaving, EndedByFrame, EndedByLine, EndedInSilence, HasEnded, WasDenied, WasGivenUp, WasIgnored, WasSent, is_owed}
 use Rattle.proof_requests.specs.Effects.{AnswerDoes, denied_at}

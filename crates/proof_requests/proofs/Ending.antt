@@ -11,11 +11,11 @@ use Rattle.chip_functions.specs.declared.fault.BodyFault.{BodyFault}
 use Rattle.chip_functions.specs.declared.request.Request.{Request}
 use Rattle.chip_functions.specs.declared.request.Request.TheVariants.{GetNodeProtocolInfo}
 use Rattle.chip_functions.specs.Request.{request_of as read_request}
-use Rattle.law_transcript.specs.Units.{body_in, function_in, is_frame, read_well, request_in}
+use Rattle.proof_waking.specs.law_transcript.Units.{body_in, function_in, is_frame, read_well, request_in}
 use Rattle.zw_text.specs.declared.entry.Entry.{Entry}
-use Rattle.law_time.specs.Judged.{acknowledged, is_data}
-use Rattle.law_time.specs.Requests.{Answer, Failing, Judging, are_none, asked, failing_by}
-use Rattle.law_time.specs.Ends.{has_ended, is_abort, is_abort_frame, is_before_failing, is_sending, owes_abort, waits_before_failing}
+use Rattle.proof_waking.specs.law_time.Judged.{acknowledged, is_data}
+use Rattle.proof_waking.specs.law_time.Requests.{Answer, Failing, Judging, are_none, asked, failing_by}
+use Rattle.proof_waking.specs.law_time.Ends.{has_ended, is_abort, is_abort_frame, is_before_failing, is_sending, owes_abort, waits_before_failing}
 use Rattle.host_requests.specs.declared.under_way.Progress.{Progress}
 use Rattle.host_requests.specs.declared.under_way.Progress.TheVariants.{Submitted, Sent, Answered}
 use Rattle.host_requests.specs.declared.under_way.UnderWay.{UnderWay}

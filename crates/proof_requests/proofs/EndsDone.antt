@@ -12,7 +12,7 @@ use Rattle.chip_functions.specs.declared.request.Request.{Request}
 use Rattle.chip_functions.specs.declared.response.Response.{Response}
 use Rattle.chip_functions.specs.declared.response.Response.TheVariants as responses
 use Rattle.zw_text.specs.declared.entry.Entry.{Entry}
-use Rattle.law_time.specs.Ends.{calls_back, ends_here, is_called_back}
+use Rattle.proof_waking.specs.law_time.Ends.{calls_back, ends_here, is_called_back}
 use Rattle.host_requests.specs.Frames.{function_of, request_of, send}
 use Rattle.host_requests.specs.Next.{purpose_ends_at_update}
 use Rattle.host_requests.specs.declared.end.How.{How}

@@ -28,11 +28,11 @@ use Rattle.zw_text.specs.declared.entry.Entry.{Entry}
 use Rattle.zw_text.specs.declared.entry.Entry.TheVariants as entry
 use Rattle.zw_text.specs.Transcript.{folded}
 use Rattle.zw_text.proofs.Views.{folded-append}
-use Rattle.law_transcript.specs.Units.{function_in, notice_in, read_well, request_in}
-use Rattle.law_time.specs.Moments.{clock}
-use Rattle.law_time.specs.Judged.{acknowledged, after_step, is_following, judged, judged_here, last_of, notices_here, response_in, responses_here}
-use Rattle.law_time.specs.Requests.{Asked as TheAsked, Judging, are_none, asked, failing, is_response_to, judged_since}
-use Rattle.law_time.specs.Ends.{ending, ending_among, ends_by, is_abort_frame, is_answered_here, is_before_failing, is_callback, is_ending_here, is_information, refuses, wait_of}
+use Rattle.proof_waking.specs.law_transcript.Units.{function_in, notice_in, read_well, request_in}
+use Rattle.proof_waking.specs.law_time.Moments.{clock}
+use Rattle.proof_waking.specs.law_time.Judged.{acknowledged, after_step, is_following, judged, judged_here, last_of, notices_here, response_in, responses_here}
+use Rattle.proof_waking.specs.law_time.Requests.{Asked as TheAsked, Judging, are_none, asked, failing, is_response_to, judged_since}
+use Rattle.proof_waking.specs.law_time.Ends.{ending, ending_among, ends_by, is_abort_frame, is_answered_here, is_before_failing, is_callback, is_ending_here, is_information, refuses, wait_of}
 use Rattle.host_requests.specs.Frames.{function_of, request_of, send}
 use Rattle.host_requests.specs.Next.{at_callback, at_update, is_answered, judged as judged_by, purpose_ends_at_update}
 use Rattle.host_requests.specs.declared.end.How.{How}

@@ -9,10 +9,10 @@ use Rattle.serial_link.specs.State.{pause_after, turn_refused, turn_ticked}
 use Rattle.serial_link.specs.declared.turn.Turn.{Turn}
 use Rattle.serial_link.specs.declared.turn.Turn.TheVariants.{Idle, Copied, Paused}
 use Rattle.zw_text.specs.declared.entry.Entry.{Entry}
-use Rattle.law_time.specs.Moments.{clock}
-use Rattle.law_time.specs.Judged.{acknowledged, is_acknowledgement}
-use Rattle.law_time.specs.Requests.{asked}
-use Rattle.law_time.specs.Ends.{giving_up, is_silent, silence}
+use Rattle.proof_waking.specs.law_time.Moments.{clock}
+use Rattle.proof_waking.specs.law_time.Judged.{acknowledged, is_acknowledgement}
+use Rattle.proof_waking.specs.law_time.Requests.{asked}
+use Rattle.proof_waking.specs.law_time.Ends.{giving_up, is_silent, silence}
 use Rattle.host_requests.specs.Next.{at_tick, on_with}
 use Rattle.host_requests.specs.declared.end.How.{How}
 use Rattle.host_requests.specs.declared.end.How.TheVariants.{LinkFailed, Silent}

@@ -29,11 +29,11 @@ use Rattle.chip_functions.specs.declared.response.Response.{Response}
 use Rattle.chip_functions.specs.declared.response.Response.TheVariants as responses
 use Rattle.chip_functions.specs.Notice.{notice_of}
 use Rattle.chip_functions.specs.Response.{response_function, response_of}
-use Rattle.law_transcript.specs.Lists.{EachAfter}
-use Rattle.law_transcript.specs.Units.{request_in}
-use Rattle.law_time.specs.Moments.{clock}
-use Rattle.law_time.specs.Judged.{is_data}
-use Rattle.law_time.specs.Requests.{Asked as TheAsked, asked}
+use Rattle.proof_waking.specs.law_transcript.Lists.{EachAfter}
+use Rattle.proof_waking.specs.law_transcript.Units.{request_in}
+use Rattle.proof_waking.specs.law_time.Moments.{clock}
+use Rattle.proof_waking.specs.law_time.Judged.{is_data}
+use Rattle.proof_waking.specs.law_time.Requests.{Asked as TheAsked, asked}
 use Rattle.host_heard.specs.Telling.{heard_at}
 use Rattle.host_requests.specs.Events.{RequestsEvent, interviewed_by, interviewed_from}
 use Rattle.host_requests.specs.Events.RequestsEvent.{CallsBack as request_calls_back, Fails as request_fails, IsSent as request_is_sent, Responds as request_responds, Ticks as request_ticks, Updates as request_updates}

@@ -3,9 +3,9 @@ use Rattle.std.proofs.Common.{List, [], refl}
 use Rattle.std.specs.Prelude.{Some}
 use Rattle.s0_crypto.specs.declared.key_pair.Keys.{Keys}
 use Rattle.zw_text.specs.declared.entry.Entry.{Entry}
-use Rattle.law_time.specs.Moments.{Allows}
-use Rattle.law_time.specs.Waking.{may_wake}
-use Rattle.proof_host.specs.Laws.{MayStand}
+use Rattle.proof_waking.specs.law_time.Moments.{Allows}
+use Rattle.proof_waking.specs.law_time.Waking.{may_wake}
+use Rattle.proof_waking.specs.proof_host.Laws.{MayStand}
 use Rattle.proof_messages.proofs.SealedTexts.{TextsLeft}
 use Rattle.proof_waking.specs.proof_walk.Time.{MayCount}
 use Rattle.proof_waking.specs.proof_alone.State.{first_alone}

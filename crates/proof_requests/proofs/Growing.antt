@@ -11,9 +11,9 @@ use Rattle.zw_text.specs.declared.entry.Entry.{Entry}
 use Rattle.zw_text.specs.declared.entry.Entry.TheVariants as entry
 use Rattle.zw_text.specs.Transcript.{line_of, unit_at, written}
 use Rattle.zw_text.proofs.Views.{shown-append}
-use Rattle.law_transcript.specs.Restarts.{begins_refused, is_restart}
-use Rattle.law_time.specs.Judged.{is_data}
-use Rattle.law_time.specs.Requests.{Asked, Since, asked, asked_after, asked_from, asked_nothing, copies, found_at, is_copy, is_new, last_copy, since_last, up_to_first, with_entry}
+use Rattle.proof_waking.specs.law_transcript.Restarts.{begins_refused, is_restart}
+use Rattle.proof_waking.specs.law_time.Judged.{is_data}
+use Rattle.proof_waking.specs.law_time.Requests.{Asked, Since, asked, asked_after, asked_from, asked_nothing, copies, found_at, is_copy, is_new, last_copy, since_last, up_to_first, with_entry}
 use Rattle.proof_requests.specs.Standing.{GoesOn, with_entries}
 
 -- ---- one transcript behind another

@@ -13,12 +13,12 @@ use Rattle.chip_functions.specs.Request.{request_of as read_request}
 use Rattle.zw_words.specs.declared.side.Side.TheVariants.{Host, Chip}
 use Rattle.zw_text.specs.declared.entry.Entry.{Entry}
 use Rattle.zw_text.specs.declared.entry.Entry.TheVariants as entry
-use Rattle.law_transcript.specs.Units.{body_in, function_in, is_frame, read_well}
-use Rattle.law_time.specs.Moments.{Allows}
-use Rattle.law_time.specs.Judged.{is_directly_after, is_mark, notices_here}
-use Rattle.law_time.specs.Requests.{Judging, are_none, asked, asked_before, request_last}
-use Rattle.law_time.specs.Ends.{ending, is_abort, is_ending_here, is_given_up, is_refused_here, is_silent}
-use Rattle.law_time.specs.Interviews.{asks_information, asks_protocol, ends_unknown, ends_uninformed, fails, informs, is_known, may_end, node_interviewed, owes_end, says_none}
+use Rattle.proof_waking.specs.law_transcript.Units.{body_in, function_in, is_frame, read_well}
+use Rattle.proof_waking.specs.law_time.Moments.{Allows}
+use Rattle.proof_waking.specs.law_time.Judged.{is_directly_after, is_mark, notices_here}
+use Rattle.proof_waking.specs.law_time.Requests.{Judging, are_none, asked, asked_before, request_last}
+use Rattle.proof_waking.specs.law_time.Ends.{ending, is_abort, is_ending_here, is_given_up, is_refused_here, is_silent}
+use Rattle.proof_waking.specs.law_time.Interviews.{asks_information, asks_protocol, ends_unknown, ends_uninformed, fails, informs, is_known, may_end, node_interviewed, owes_end, says_none}
 use Rattle.host_requests.specs.Frames.{request_of}
 use Rattle.host_requests.specs.declared.end.How.{How}
 use Rattle.host_requests.specs.declared.end.How.TheVariants.{AtCallback, AtResponse, AtUpdate, Refused, Silent, LinkFailed, AbortSent}

@@ -2,9 +2,9 @@
 use Rattle.std.proofs.Common.{◌≡◌, ◌⊎◌, ℕ, ◌&&◌, ◌||◌, not, Bool, true, false, if◌then◌else◌, inl, inr, List, [], ◌∷◌, ◌++◌, filter, refl, sym, ap, ◌∙◌}
 use Rattle.std.specs.List.{list_any}
 use Rattle.std.proofs.lemmas.List.Elements.{filter-append}
-use Rattle.law_transcript.specs.Units.{request_in}
-use Rattle.law_time.specs.Requests.{Judging, are_none, is_response_to}
-use Rattle.law_time.specs.Ends.{ends_by, ending_among}
+use Rattle.proof_waking.specs.law_transcript.Units.{request_in}
+use Rattle.proof_waking.specs.law_time.Requests.{Judging, are_none, is_response_to}
+use Rattle.proof_waking.specs.law_time.Ends.{ends_by, ending_among}
 use Rattle.proof_requests.specs.Standing.{Standing, ends_now, first_ending, responses_in, with_judging}
 
 -- whether a frame ends it

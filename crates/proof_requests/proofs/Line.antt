@@ -8,8 +8,8 @@ use Rattle.zw_base.proofs.Each.{all-weaker}
 use Rattle.serial_frame.specs.Frame.{FrameParts}
 use Rattle.serial_frame.specs.declared.unit.Unit.{Unit as LineUnit}
 use Rattle.serial_frame.specs.declared.unit.Unit.TheVariants.{Ack, Nak, Can, Framed}
-use Rattle.law_time.specs.Judged.{is_acknowledgement}
-use Rattle.law_time.specs.Requests.{Answer, Failing, are_none, failing_by}
+use Rattle.proof_waking.specs.law_time.Judged.{is_acknowledgement}
+use Rattle.proof_waking.specs.law_time.Requests.{Answer, Failing, are_none, failing_by}
 use Rattle.proof_waking.specs.proof_alone.Steps.{AreFrames}
 use Rattle.proof_requests.specs.Standing.{Standing, counted, failing_in, sent_in, ticks_sent, with_answer}
 use Rattle.proof_requests.specs.Asking.{IsCopied, IsPaused, NoneAcknowledges, to_come}

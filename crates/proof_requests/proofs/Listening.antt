@@ -9,12 +9,12 @@ use Rattle.chip_functions.specs.declared.notice.Update.{Update}
 use Rattle.chip_functions.specs.declared.notice.Update.TheVariants.{Received, RequestFailed}
 use Rattle.zw_text.specs.declared.entry.Entry.{Entry}
 use Rattle.zw_text.specs.declared.entry.Entry.TheVariants as entry
-use Rattle.law_transcript.specs.Units.{body_in, request_in}
-use Rattle.law_time.specs.Moments.{Allows}
-use Rattle.law_time.specs.Waking.{may_wake}
-use Rattle.law_time.specs.Requests.{Asked as TheAsked, Judging, asked_before, failing, judged_since}
-use Rattle.law_time.specs.Ends.{ending, ending_among, is_before_failing, wait_of}
-use Rattle.law_time.specs.Interviews.{listens, says_listening}
+use Rattle.proof_waking.specs.law_transcript.Units.{body_in, request_in}
+use Rattle.proof_waking.specs.law_time.Moments.{Allows}
+use Rattle.proof_waking.specs.law_time.Waking.{may_wake}
+use Rattle.proof_waking.specs.law_time.Requests.{Asked as TheAsked, Judging, asked_before, failing, judged_since}
+use Rattle.proof_waking.specs.law_time.Ends.{ending, ending_among, is_before_failing, wait_of}
+use Rattle.proof_waking.specs.law_time.Interviews.{listens, says_listening}
 use Rattle.host_requests.specs.Events.{interviewed_from}
 use Rattle.host_requests.specs.Next.{ends_at_update}
 use Rattle.host_requests.specs.declared.under_way.UnderWay.{UnderWay}

@@ -12,10 +12,10 @@ use Rattle.serial_link.specs.declared.turn.Turn.{Turn}
 use Rattle.serial_link.specs.declared.turn.Turn.TheVariants.{Idle, Copied, Paused}
 use Rattle.chip_functions.specs.declared.function.TheConstants.{SEND_DATA}
 use Rattle.chip_functions.specs.declared.request.Request.{Request}
-use Rattle.law_transcript.specs.Units.{request_in}
-use Rattle.law_time.specs.Judged.{is_acknowledgement}
-use Rattle.law_time.specs.Requests.{Answer, Judging}
-use Rattle.law_time.specs.Ends.{is_abort, is_abort_frame, is_sending}
+use Rattle.proof_waking.specs.law_transcript.Units.{request_in}
+use Rattle.proof_waking.specs.law_time.Judged.{is_acknowledgement}
+use Rattle.proof_waking.specs.law_time.Requests.{Answer, Judging}
+use Rattle.proof_waking.specs.law_time.Ends.{is_abort, is_abort_frame, is_sending}
 use Rattle.host_requests.specs.Facts.{first_asked}
 use Rattle.host_requests.specs.Frames.{frame_of, function_of, request_of}
 use Rattle.host_requests.specs.Next.{acknowledged, at_sent, at_tick, capability_at, is_answered, is_sent, on_with, owes_abort}

@@ -9,8 +9,8 @@ use Rattle.serial_frame.specs.declared.unit.Unit.TheVariants.{Ack, Nak, Can, Fra
 use Rattle.serial_link.specs.State.{IsBusy, pause_after, turn_refused, turn_ticked}
 use Rattle.serial_link.specs.declared.turn.Turn.{Turn}
 use Rattle.serial_link.specs.declared.turn.Turn.TheVariants.{Idle, Copied, Paused}
-use Rattle.law_time.specs.Judged.{is_acknowledgement}
-use Rattle.law_time.specs.Requests.{Answer, Judging}
+use Rattle.proof_waking.specs.law_time.Judged.{is_acknowledgement}
+use Rattle.proof_waking.specs.law_time.Requests.{Answer, Judging}
 use Rattle.proof_waking.specs.proof_alone.Steps.{AreFrames}
 use Rattle.proof_requests.specs.Standing.{Prior, Standing, first_standing, sent_in, ticks_sent, with_answer, with_copy, with_judging}
 use Rattle.proof_requests.specs.Asking.{IsCopied, IsPaused, TieLine, WasDenied, WasGivenUp, WasIgnored, WasSent, frames_among, to_come}

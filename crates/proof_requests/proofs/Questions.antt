@@ -13,12 +13,12 @@ use Rattle.chip_functions.specs.Request.{request_of as read_request}
 use Rattle.zw_words.specs.declared.side.Side.TheVariants.{Host, Chip}
 use Rattle.zw_text.specs.declared.entry.Entry.{Entry}
 use Rattle.zw_text.specs.declared.entry.Entry.TheVariants as entry
-use Rattle.law_transcript.specs.Units.{body_in, function_in, is_frame, read_well}
-use Rattle.law_time.specs.Moments.{Allows}
-use Rattle.law_time.specs.Judged.{is_directly_after, is_mark, judged_here}
-use Rattle.law_time.specs.Requests.{asked, is_response_to, request_last}
-use Rattle.law_time.specs.Ends.{is_abort, is_answered_here, is_ending_here}
-use Rattle.law_time.specs.Questions.{gives, is_question, may_answer, owes_answer, same_bool}
+use Rattle.proof_waking.specs.law_transcript.Units.{body_in, function_in, is_frame, read_well}
+use Rattle.proof_waking.specs.law_time.Moments.{Allows}
+use Rattle.proof_waking.specs.law_time.Judged.{is_directly_after, is_mark, judged_here}
+use Rattle.proof_waking.specs.law_time.Requests.{asked, is_response_to, request_last}
+use Rattle.proof_waking.specs.law_time.Ends.{is_abort, is_answered_here, is_ending_here}
+use Rattle.proof_waking.specs.law_time.Questions.{gives, is_question, may_answer, owes_answer, same_bool}
 use Rattle.host_requests.specs.Frames.{request_of}
 use Rattle.host_requests.specs.declared.task.Task.TheVariants.{Neighbours, IsFailed}
 use Rattle.host_requests.specs.declared.task.Purpose.{Purpose}

@@ -27,10 +27,10 @@ use Rattle.chip_functions.specs.declared.request.Request.{Request}
 use Rattle.chip_functions.specs.declared.request.Request.TheVariants.{RequestNodeInfo}
 use Rattle.chip_functions.specs.declared.response.Response.{Response}
 use Rattle.chip_functions.specs.declared.response.Response.TheVariants as response
-use Rattle.law_transcript.specs.Units.{body_in, function_in, notice_in, read_well, request_in}
-use Rattle.law_time.specs.Judged.{response_in}
-use Rattle.law_time.specs.Requests.{Judging, are_none, is_response_to}
-use Rattle.law_time.specs.Ends.{ends_by, is_abort, is_abort_frame, is_callback, is_information, refuses}
+use Rattle.proof_waking.specs.law_transcript.Units.{body_in, function_in, notice_in, read_well, request_in}
+use Rattle.proof_waking.specs.law_time.Judged.{response_in}
+use Rattle.proof_waking.specs.law_time.Requests.{Judging, are_none, is_response_to}
+use Rattle.proof_waking.specs.law_time.Ends.{ends_by, is_abort, is_abort_frame, is_callback, is_information, refuses}
 use Rattle.host_requests.specs.Frames.{function_of, no_more_information, nonce_report, request_of, send}
 use Rattle.host_requests.specs.Next.{at_response, capability_at, is_answered, is_sent, is_silent, is_update_of, judged, purpose_ends_at_update, taken}
 use Rattle.host_requests.specs.declared.end.How.{How}

@@ -23,7 +23,7 @@ use Rattle.chip_functions.specs.Request.{IsRequest, request_body, request_functi
 use Rattle.chip_functions.proofs.FieldLaws.{as_takes, bind_ok, found_ok, ok_is}
 use Rattle.chip_functions.proofs.RequestLaws.{request_only}
 use Rattle.chip_functions.proofs.RowLaws.{no_row, row_cases}
-use Rattle.law_transcript.specs.Units.{read_well, request_in}
+use Rattle.proof_waking.specs.law_transcript.Units.{read_well, request_in}
 use Rattle.host_requests.specs.Frames.{frame_of, request_of}
 use Rattle.host_requests.specs.State.{next_id}
 use Rattle.host_requests.specs.declared.task.Purpose.{Purpose}

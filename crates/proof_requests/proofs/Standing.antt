@@ -9,10 +9,10 @@ use Rattle.serial_frame.specs.declared.unit.TheConstants.{ACK}
 use Rattle.zw_words.specs.declared.side.Side.TheVariants.{Host, Chip}
 use Rattle.zw_text.specs.declared.entry.Entry.{Entry}
 use Rattle.zw_text.specs.declared.entry.Entry.TheVariants as entry
-use Rattle.law_transcript.specs.Lists.{shown_after}
-use Rattle.law_time.specs.Moments.{clock}
-use Rattle.law_time.specs.Judged.{acknowledged, frames_come, is_acknowledgement, is_data, judged, last_of}
-use Rattle.law_time.specs.Requests.{Answer, Asked, Judging, Since, answer_at, answers_from, copies, is_answer, is_missed, judged_since, judging_at, last_copy, up_to_first}
+use Rattle.proof_waking.specs.law_transcript.Lists.{shown_after}
+use Rattle.proof_waking.specs.law_time.Moments.{clock}
+use Rattle.proof_waking.specs.law_time.Judged.{acknowledged, frames_come, is_acknowledgement, is_data, judged, last_of}
+use Rattle.proof_waking.specs.law_time.Requests.{Answer, Asked, Judging, Since, answer_at, answers_from, copies, is_answer, is_missed, judged_since, judging_at, last_copy, up_to_first}
 use Rattle.proof_waking.proofs.Listening.{shown_joined}
 use Rattle.proof_requests.specs.Standing.{IsAside, Standing, answers_since, standing_of, with_answer, with_copy, with_entries, with_judging}
 use Rattle.proof_requests.proofs.Growing.{NoFrame, copies_one, copies_same, last_all, last_copied, last_more}

@@ -17,9 +17,9 @@ use Rattle.zw_text.specs.declared.line.Line.TheVariants as lines
 use Rattle.zw_text.specs.declared.entry.Refusal.{Refusal}
 use Rattle.zw_text.specs.declared.entry.Entry.{Entry}
 use Rattle.zw_text.specs.declared.entry.Entry.TheVariants as entry
-use Rattle.law_transcript.specs.Restarts.{is_restart}
-use Rattle.law_time.specs.Moments.{clock}
-use Rattle.law_time.specs.Requests.{is_answer}
+use Rattle.proof_waking.specs.law_transcript.Restarts.{is_restart}
+use Rattle.proof_waking.specs.law_time.Moments.{clock}
+use Rattle.proof_waking.specs.law_time.Requests.{is_answer}
 use Rattle.host_requests.specs.Events.{task_begun}
 use Rattle.host_requests.specs.Facts.{due_second, first_asked as due_after, first_of}
 use Rattle.host_requests.proofs.Purposes.{due-paired}
@@ -48,7 +48,7 @@ use Rattle.host_model.specs.Ticking.{first_ticks, tick_events, ticking_nodes}
 use Rattle.host_model.specs.declared.out.HostOut.{HostOut}
 use Rattle.host_model.specs.declared.out.HostOut.TheVariants.{Write}
 use Rattle.host_model.proofs.Submitted.{SubmittedAre, next_is}
-use Rattle.world_model.specs.Events.{shown_values}
+use Rattle.proof_waking.specs.world_model.Events.{shown_values}
 use Rattle.proof_waking.specs.proof_alone.State.{HostMachine, done}
 use Rattle.proof_waking.specs.proof_alone.Steps.{AreFrames, AreTold, AsksNothing as AsksNone, IsAskedBy, IsOfUnit, Step, Tells, Comes, Misses, Says, Says_nothing, Asks, Refuses, Shows, Restarts, Begins_tick, Numbers, Judges, Does, entries, happens}
 use Rattle.proof_waking.specs.proof_alone.Phases.{Phase, Resting, Asked, Risen, Ticking, Open, Behind, Sleeping, Submitting, IsBetween, IsJudgedNow, IsNumbered, May, MayCome, Turns}

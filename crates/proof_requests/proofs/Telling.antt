@@ -11,11 +11,11 @@ use Rattle.zw_text.specs.declared.entry.Entry.{Entry}
 use Rattle.zw_text.specs.declared.entry.Entry.TheVariants as entry
 use Rattle.zw_text.specs.Transcript.{folded, line_of, written}
 use Rattle.zw_text.proofs.Views.{folded-append}
-use Rattle.law_transcript.specs.Restarts.{is_restart, since_restart}
-use Rattle.law_time.specs.Moments.{Passing, clock, later_of, passing_step}
-use Rattle.law_time.specs.Judged.{acknowledged, frames_come, is_acknowledgement, is_data, judged, last_of}
-use Rattle.law_transcript.specs.Lists.{shown_after}
-use Rattle.law_time.specs.Requests.{Answer, Asked, answers_from, asked, is_answer, is_missed, is_new, judging_at, up_to_first}
+use Rattle.proof_waking.specs.law_transcript.Restarts.{is_restart, since_restart}
+use Rattle.proof_waking.specs.law_time.Moments.{Passing, clock, later_of, passing_step}
+use Rattle.proof_waking.specs.law_time.Judged.{acknowledged, frames_come, is_acknowledgement, is_data, judged, last_of}
+use Rattle.proof_waking.specs.law_transcript.Lists.{shown_after}
+use Rattle.proof_waking.specs.law_time.Requests.{Answer, Asked, answers_from, asked, is_answer, is_missed, is_new, judging_at, up_to_first}
 use Rattle.proof_waking.proofs.Untimed.{AreUntimed, same_time}
 use Rattle.proof_waking.specs.proof_alone.Steps.{ChangesFrame, DidNotCome, IsOfUnit}
 use Rattle.proof_waking.proofs.Apart.{IsWordless, acknowledged_in, count_more, said_in_vain, said_on, wordless_fresh, wordless_more}

@@ -7,9 +7,9 @@ use Rattle.serial_frame.specs.declared.unit.Unit.{Unit as LineUnit}
 use Rattle.serial_link.specs.State.{IsBusy}
 use Rattle.serial_link.specs.declared.turn.Turn.{Turn}
 use Rattle.serial_link.specs.declared.turn.Turn.TheVariants.{Idle, Copied, Paused}
-use Rattle.law_time.specs.Requests.{Answer, Failing, Judging, failing_by, is_response_to}
-use Rattle.law_transcript.specs.Units.{request_in}
-use Rattle.law_time.specs.Ends.{is_abort_frame, is_before_failing, is_sending, waits_before_failing}
+use Rattle.proof_waking.specs.law_time.Requests.{Answer, Failing, Judging, failing_by, is_response_to}
+use Rattle.proof_waking.specs.law_transcript.Units.{request_in}
+use Rattle.proof_waking.specs.law_time.Ends.{is_abort_frame, is_before_failing, is_sending, waits_before_failing}
 use Rattle.host_requests.specs.declared.under_way.Progress.{Progress}
 use Rattle.host_requests.specs.declared.under_way.Progress.TheVariants.{Submitted, Sent, Answered}
 use Rattle.host_requests.specs.declared.under_way.UnderWay.{UnderWay}

@@ -10,8 +10,8 @@ use Rattle.zw_words.specs.declared.side.Side.TheVariants.{Host, Chip}
 use Rattle.zw_text.specs.declared.entry.Entry.{Entry}
 use Rattle.zw_text.specs.declared.entry.Entry.TheVariants as entry
 use Rattle.zw_text.proofs.Views.{folded-append}
-use Rattle.law_transcript.specs.Lists.{EachAfter}
-use Rattle.law_time.specs.Judged.{directly_step, is_acknowledgement, is_directly_after}
+use Rattle.proof_waking.specs.law_transcript.Lists.{EachAfter}
+use Rattle.proof_waking.specs.law_time.Judged.{directly_step, is_acknowledgement, is_directly_after}
 use Rattle.host_requests.specs.declared.end.How.{How}
 use Rattle.host_requests.specs.declared.task.Task.{Task}
 use Rattle.host_requests.specs.declared.task.Task.TheVariants.{Plain, NoMore, Second, Neighbours, IsFailed}

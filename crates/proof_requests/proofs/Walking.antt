@@ -19,11 +19,11 @@ use Rattle.zw_text.specs.declared.entry.Entry.{Entry}
 use Rattle.zw_text.specs.declared.entry.Entry.TheVariants as entry
 use Rattle.chip_functions.specs.declared.request.Request.{Request}
 use Rattle.chip_functions.specs.declared.request.Request.TheVariants.{GetNodeProtocolInfo}
-use Rattle.law_transcript.specs.Units.{request_in}
-use Rattle.law_time.specs.Moments.{clock}
-use Rattle.law_time.specs.Judged.{acknowledged, frames_come, is_acknowledgement, is_data}
-use Rattle.law_time.specs.Ends.{ending, is_sending}
-use Rattle.law_time.specs.Requests.{Answer, Judging, are_none, asked, copies as copies_of, is_answer, is_copy, is_new, sent_at}
+use Rattle.proof_waking.specs.law_transcript.Units.{request_in}
+use Rattle.proof_waking.specs.law_time.Moments.{clock}
+use Rattle.proof_waking.specs.law_time.Judged.{acknowledged, frames_come, is_acknowledgement, is_data}
+use Rattle.proof_waking.specs.law_time.Ends.{ending, is_sending}
+use Rattle.proof_waking.specs.law_time.Requests.{Answer, Judging, are_none, asked, copies as copies_of, is_answer, is_copy, is_new, sent_at}
 use Rattle.host_requests.specs.Events.RequestsEvent.{Fails as request_fails, IsSent as request_is_sent, Ticks as request_ticks}
 use Rattle.host_requests.specs.Facts.{first_asked, second_of}
 use Rattle.host_requests.specs.Next.{at_sent, at_tick}

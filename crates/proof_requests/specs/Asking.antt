@@ -11,10 +11,10 @@ use Rattle.serial_link.specs.State.{IsBusy}
 use Rattle.serial_link.specs.declared.turn.Turn.{Turn}
 use Rattle.serial_link.specs.declared.turn.Turn.TheVariants.{Idle, Copied, Paused}
 use Rattle.zw_text.specs.declared.entry.Entry.{Entry}
-use Rattle.law_transcript.specs.Units.{request_in}
-use Rattle.law_time.specs.Judged.{acknowledged, is_acknowledgement, is_data}
-use Rattle.law_time.specs.Requests.{Answer, Judging, asked, up_to_first}
-use Rattle.law_time.specs.Ends.{has_ended, owes_abort as law_owes_abort, is_abort_frame, is_before_failing, is_sending, waits_before_failing}
+use Rattle.proof_waking.specs.law_transcript.Units.{request_in}
+use Rattle.proof_waking.specs.law_time.Judged.{acknowledged, is_acknowledgement, is_data}
+use Rattle.proof_waking.specs.law_time.Requests.{Answer, Judging, asked, up_to_first}
+use Rattle.proof_waking.specs.law_time.Ends.{has_ended, owes_abort as law_owes_abort, is_abort_frame, is_before_failing, is_sending, waits_before_failing}
 use Rattle.host_requests.specs.Facts.{due_second}
 use Rattle.host_requests.specs.Frames.{frame_of, request_of}
 use Rattle.host_requests.specs.Next.{capability_at, owes_abort}

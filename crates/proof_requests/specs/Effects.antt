@@ -1,6 +1,6 @@
 -- What an answer of the chip does to a request by the transcript (this project's own rule): nothing, or it acknowledges its frame, or it ends the fourth copy.
 use Rattle.std.specs.Prelude.{◌≡◌, ◌⊎◌, true, [], ◌∷◌}
-use Rattle.law_time.specs.Requests.{Answer, Failing}
+use Rattle.proof_waking.specs.law_time.Requests.{Answer, Failing}
 use Rattle.proof_requests.specs.Standing.{Standing, failing_in, sent_in}
 
 pub record IsSameLine (s later : Standing) : Type 0 where

@@ -11,9 +11,9 @@ use Rattle.chip_functions.specs.declared.response.Response.TheVariants as respon
 use Rattle.zw_words.specs.declared.side.Side.TheVariants.{Host}
 use Rattle.zw_text.specs.declared.entry.Entry.{Entry}
 use Rattle.zw_text.specs.declared.entry.Entry.TheVariants as entry
-use Rattle.law_time.specs.Judged.{is_data, is_directly_after, notices_here, responses_here}
-use Rattle.law_time.specs.Requests.{asked, request_last}
-use Rattle.law_time.specs.Ends.{giving_up, is_abort_frame, is_answered_here, is_ending_here, is_given_up, is_refused_here, is_silent}
+use Rattle.proof_waking.specs.law_time.Judged.{is_data, is_directly_after, notices_here, responses_here}
+use Rattle.proof_waking.specs.law_time.Requests.{asked, request_last}
+use Rattle.proof_waking.specs.law_time.Ends.{giving_up, is_abort_frame, is_answered_here, is_ending_here, is_given_up, is_refused_here, is_silent}
 use Rattle.host_requests.specs.Events.{RequestsEvent, interviewed_by}
 use Rattle.host_requests.specs.Events.RequestsEvent.{IsSent, Fails, Responds, CallsBack, Updates, Ticks}
 use Rattle.host_requests.specs.Frames.{function_of, request_of}

@@ -9,9 +9,9 @@ use Rattle.chip_functions.specs.declared.fault.BodyFault.{BodyFault}
 use Rattle.chip_functions.specs.declared.notice.Notice.{Notice}
 use Rattle.chip_functions.specs.declared.notice.Notice.TheVariants.{ApplicationUpdate, SendData as CalledBack}
 use Rattle.chip_functions.specs.declared.response.Response.{Response}
-use Rattle.law_transcript.specs.Units.{request_in}
-use Rattle.law_time.specs.Requests.{Judging, is_response_to}
-use Rattle.law_time.specs.Ends.{is_abort_frame}
+use Rattle.proof_waking.specs.law_transcript.Units.{request_in}
+use Rattle.proof_waking.specs.law_time.Requests.{Judging, is_response_to}
+use Rattle.proof_waking.specs.law_time.Ends.{is_abort_frame}
 use Rattle.host_requests.specs.Next.{at_callback, at_response, at_update, capability_at, is_answered, is_sent, is_silent}
 use Rattle.host_requests.specs.declared.end.How.{How}
 use Rattle.host_requests.specs.declared.next.Next.{Next}

@@ -8,11 +8,11 @@ use Rattle.zw_text.specs.declared.entry.Entry.{Entry}
 use Rattle.zw_text.specs.declared.entry.Entry.TheVariants as entry
 use Rattle.chip_functions.specs.declared.request.Request.{Request}
 use Rattle.chip_functions.specs.declared.request.Request.TheVariants.{GetNodeProtocolInfo}
-use Rattle.law_transcript.specs.Units.{body_in, request_in}
-use Rattle.law_time.specs.Moments.{clock}
-use Rattle.law_time.specs.Judged.{is_acknowledgement, is_data}
-use Rattle.law_time.specs.Requests.{Answer, Asked, Failing, Judging, answers_from, asked, are_none, copies, failing, failing_by, is_answer, is_response_to, judged_since, last_copy, responses, sent_at}
-use Rattle.law_time.specs.Ends.{ending, ending_among, ends_by, giving_up, has_ended, is_abort_frame, is_before_failing, is_sending, owes_abort, silence, wait_by, waits_before_failing}
+use Rattle.proof_waking.specs.law_transcript.Units.{body_in, request_in}
+use Rattle.proof_waking.specs.law_time.Moments.{clock}
+use Rattle.proof_waking.specs.law_time.Judged.{is_acknowledgement, is_data}
+use Rattle.proof_waking.specs.law_time.Requests.{Answer, Asked, Failing, Judging, answers_from, asked, are_none, copies, failing, failing_by, is_answer, is_response_to, judged_since, last_copy, responses, sent_at}
+use Rattle.proof_waking.specs.law_time.Ends.{ending, ending_among, ends_by, giving_up, has_ended, is_abort_frame, is_before_failing, is_sending, owes_abort, silence, wait_by, waits_before_failing}
 
 -- the request before it: its frame, and the frame of the chip that ended it
 pub record Prior : Type 0 where

@@ -11,8 +11,8 @@ use Rattle.zw_text.specs.declared.line.Line.{Line}
 use Rattle.zw_text.specs.declared.entry.Entry.{Entry}
 use Rattle.zw_text.specs.declared.entry.Entry.TheVariants as entry
 use Rattle.zw_text.specs.Transcript.{line_of}
-use Rattle.law_transcript.specs.Units.{request_in}
-use Rattle.law_time.specs.Requests.{asked}
+use Rattle.proof_waking.specs.law_transcript.Units.{request_in}
+use Rattle.proof_waking.specs.law_time.Requests.{asked}
 use Rattle.host_requests.specs.Events.{RequestsEvent}
 use Rattle.host_requests.specs.Events.RequestsEvent.{IsSent, Fails, Responds, CallsBack, Updates, Ticks}
 use Rattle.host_requests.specs.Facts.{ArePaired, due_second}

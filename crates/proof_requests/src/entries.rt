@@ -7,9 +7,9 @@ ghost use Rattle.serial_frame.specs.declared.unit.TheConstants.{ACK};
 ghost use Rattle.zw_words.specs.declared.side.Side.TheVariants.{Host, Chip};
 ghost use Rattle.zw_text.specs.declared.entry.Entry.{Entry};
 ghost use Rattle.zw_text.specs.declared.entry.Entry.TheVariants.{Written};
-ghost use Rattle.law_time.specs.Moments.{clock};
-ghost use Rattle.law_time.specs.Judged.{acknowledged, frames_come, is_data, judged, last_of};
-ghost use Rattle.law_time.specs.Requests.{Asked, is_answer, up_to_first};
+ghost use Rattle.proof_waking.specs.law_time.Moments.{clock};
+ghost use Rattle.proof_waking.specs.law_time.Judged.{acknowledged, frames_come, is_data, judged, last_of};
+ghost use Rattle.proof_waking.specs.law_time.Requests.{Asked, is_answer, up_to_first};
 ghost use Rattle.proof_requests.specs.Standing.{
   AreWords,
   IsAside,

@@ -28,9 +28,9 @@ use Rattle.mesh_sim.specs.declared.fate.Fate.TheVariants as fate
 use Rattle.zw_text.specs.declared.entry.Entry.{Entry}
 use Rattle.zw_text.specs.declared.entry.Entry.TheVariants as entry
 use Rattle.zw_text.specs.Transcript.{AirFrame, frames}
-use Rattle.law_transcript.specs.Lists.{EachAfter, listed}
-use Rattle.law_transcript.specs.Nodes.{controller}
-use Rattle.law_transcript.specs.Repeats.{frame_of}
+use Rattle.law_wire.specs.law_transcript.Lists.{EachAfter, listed}
+use Rattle.law_wire.specs.law_transcript.Nodes.{controller}
+use Rattle.law_wire.specs.law_transcript.Repeats.{frame_of}
 use Rattle.law_wire.specs.Networks.{are_linked, air_links, chip_links}
 use Rattle.law_wire.specs.Arriving.{Hop, hops, forgotten_of, forgotten_by, forgets, IsForgotten}
 use Rattle.outside_model.specs.State.{OuterState, Outside, Outcome, each, with_chip, silent, tells, and_then}

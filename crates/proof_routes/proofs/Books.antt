@@ -12,8 +12,8 @@ use Rattle.zw_text.specs.declared.entry.Entry.TheVariants as entry
 use Rattle.zw_text.specs.declared.entry.Refusal.{Refusal}
 use Rattle.zw_text.specs.Transcript.{line_of, line_after, lines_run, folded, Doing, doing_lines, doing_step, join_of, joined}
 use Rattle.zw_text.proofs.Views.{folded-append, shown-append}
-use Rattle.law_transcript.specs.Nodes.{controller, is_joined}
-use Rattle.law_transcript.specs.Restarts.{begins_refused}
+use Rattle.law_wire.specs.law_transcript.Nodes.{controller, is_joined}
+use Rattle.law_wire.specs.law_transcript.Restarts.{begins_refused}
 use Rattle.law_wire.specs.Networks.{first_links, with_link, links_after, air_links, learned_of, learned, table_by, table_step, table_after, chip_links}
 use Rattle.proof_walk.proofs.ByLine.{last_is}
 use Rattle.proof_routes.specs.Knowing.{joins_in, NoJoin}

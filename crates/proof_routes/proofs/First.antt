@@ -9,7 +9,7 @@ use Rattle.route_table.proofs.Networks.{repeats-insert}
 use Rattle.chip_sim.specs.Nodes.{is_marked, none_marked}
 use Rattle.device_sim.specs.State.{State}
 use Rattle.mesh_sim.specs.Air.{with_link as net_link, with_repeater as net_repeater}
-use Rattle.law_transcript.specs.Nodes.{is_joined}
+use Rattle.law_wire.specs.law_transcript.Nodes.{is_joined}
 use Rattle.law_wire.specs.Networks.{listens_at, is_listener}
 use Rattle.outside_model.specs.State.{first_outer, outside}
 use Rattle.proof_routes.specs.Networks.{HasLinks, IsApart, is_repeater, is_known, Tie}

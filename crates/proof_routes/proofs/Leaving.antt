@@ -24,7 +24,7 @@ use Rattle.zw_words.specs.declared.side.Side.TheVariants.{Chip as by_chip}
 use Rattle.zw_text.specs.declared.entry.Entry.{Entry}
 use Rattle.zw_text.specs.declared.entry.Entry.TheVariants as entry
 use Rattle.zw_text.specs.Transcript.{joined}
-use Rattle.law_transcript.specs.Nodes.{controller, is_joined}
+use Rattle.law_wire.specs.law_transcript.Nodes.{controller, is_joined}
 use Rattle.law_wire.specs.Networks.{are_linked, chip_links, listens_at}
 use Rattle.outside_model.specs.State.{OuterState, Outside, outside, Outcome, tells, each, with_chip}
 use Rattle.outside_model.specs.Chip.{put_out, chip_does, shown_via}

@@ -8,7 +8,7 @@ use Rattle.device_sim.specs.Kind.{listens}
 use Rattle.device_sim.specs.State.{State}
 use Rattle.mesh_sim.specs.Fates.{place_of}
 use Rattle.zw_text.specs.declared.entry.Entry.{Entry}
-use Rattle.law_transcript.specs.Nodes.{first_node, is_joined, device_of}
+use Rattle.law_wire.specs.law_transcript.Nodes.{first_node, is_joined, device_of}
 use Rattle.law_wire.specs.Networks.{is_listener, listens_at}
 use Rattle.outside_model.specs.Results.{device_at}
 use Rattle.outside_model.specs.Nodes.{listens_at as listens_now}

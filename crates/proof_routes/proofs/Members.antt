@@ -2,8 +2,8 @@
 use Rattle.std.proofs.Common.{◌≡◌, ◌⊎◌, ◌≤◌, ◌<◌, ℕ, zero, suc, ◌+◌, ◌==◌, ◌||◌, Bool, true, false, cond, List, [], ◌∷◌, filter, refl, sym, subst, inl, inr, arith}
 use Rattle.std.proofs.lemmas.Bool.{cases_lt, eqb-true, eq-eqb, or_left, or_right}
 use Rattle.std.specs.List.{list_any, range_with_len}
-use Rattle.law_transcript.specs.Lists.{Has}
-use Rattle.law_transcript.proofs.Deciding.{not_true as no_true}
+use Rattle.law_wire.specs.law_transcript.Lists.{Has}
+use Rattle.law_wire.proofs.Deciding.{not_true as no_true}
 
 -- two tests that agree hold of something in the same lists
 pub any_agree : {A : Type 0} (p q : A → Bool) → ((x : A) → p x ≡ q x) → (xs : List A) → list_any p xs ≡ list_any q xs

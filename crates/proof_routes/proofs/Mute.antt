@@ -24,8 +24,8 @@ use Rattle.outside_model.specs.State.{OuterState, Outside, Outcome, each}
 use Rattle.outside_model.specs.Air.{change_at, deals, to_chip}
 use Rattle.outside_model.specs.Results.{device_at}
 use Rattle.outside_model.specs.Events.{OuterEvent, Arrives, Device_ticks, Repeats, mesh_of, repeats, outcome}
-use Rattle.world_model.specs.State.{Machine}
-use Rattle.world_model.specs.Events.{Event, Outside_does, May, entries as machine_entries}
+use Rattle.proof_walk.specs.world_model.State.{Machine}
+use Rattle.proof_walk.specs.world_model.Events.{Event, Outside_does, May, entries as machine_entries}
 use Rattle.proof_walk.proofs.Entering.{Enters, HearsNone, HearsFrame, IsOfChip, IsOwn, calls_of_chip, change_own, chip_enters, hears_none, outs_again_are, outs_at_are, own_enters, payload_of_chip, stamp_are}
 use Rattle.proof_walk.specs.Outside.{IsNote}
 use Rattle.proof_walk.proofs.Alone.{noted_are}

@@ -24,7 +24,7 @@ use Rattle.air_frames.specs.Frames.{peer_of}
 use Rattle.serial_pipes.specs.Events.{told}
 use Rattle.zw_text.specs.declared.entry.Entry.{Entry}
 use Rattle.zw_text.specs.declared.entry.Entry.TheVariants as entry
-use Rattle.law_transcript.specs.Nodes.{is_joined as joined_in}
+use Rattle.law_wire.specs.law_transcript.Nodes.{is_joined as joined_in}
 use Rattle.law_wire.specs.Routes.{MayGo}
 use Rattle.outside_model.specs.State.{Outside, outside}
 use Rattle.outside_model.specs.Chip.{shown_via, chip_does}

@@ -17,8 +17,8 @@ use Rattle.zw_text.specs.declared.entry.Entry.{Entry}
 use Rattle.zw_text.specs.declared.entry.Entry.TheVariants as entry
 use Rattle.zw_text.specs.Transcript.{AirFrame, frame_at, frames, line_of}
 use Rattle.zw_text.proofs.Views.{shown-append, folded-append}
-use Rattle.law_transcript.specs.Fates.{mark_step, marks_left}
-use Rattle.law_transcript.specs.Lists.{shown_after}
+use Rattle.law_wire.specs.law_transcript.Fates.{mark_step, marks_left}
+use Rattle.law_wire.specs.law_transcript.Lists.{shown_after}
 use Rattle.law_wire.specs.Networks.{links_after, air_links}
 use Rattle.proof_routes.specs.Forgetting.{Passage, passage_at, passage_by, passage_flown, passages, IsApartFrom, HasPassages}
 use Rattle.proof_routes.proofs.Books.{air_grows}

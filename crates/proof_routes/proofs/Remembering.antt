@@ -6,9 +6,9 @@ use Rattle.std.specs.Prelude.{Option, Some, slice_set, slice_index_or}
 use Rattle.s0_crypto.specs.declared.key_pair.Keys.{Keys}
 use Rattle.device_sim.specs.State.{State}
 use Rattle.zw_text.specs.declared.entry.Entry.{Entry}
-use Rattle.law_transcript.specs.Lists.{Has}
-use Rattle.law_transcript.specs.Nodes.{first_node, is_joined}
-use Rattle.law_transcript.proofs.Having.{has_left, has_right}
+use Rattle.law_wire.specs.law_transcript.Lists.{Has}
+use Rattle.law_wire.specs.law_transcript.Nodes.{first_node, is_joined}
+use Rattle.law_wire.proofs.Having.{has_left, has_right}
 use Rattle.host_keep.specs.Kept.{Kept, KeptNode, kept_of, blank_node, first_kept, first_nodes, node_of as kept_at, after as kept_after, after_all as kept_after_all, node_with, command_of}
 use Rattle.host_keep.specs.Legal.{AreTextsOf, AreLegal}
 use Rattle.host_keep.specs.RecordText.{IsTextOf, record_text}
@@ -20,8 +20,8 @@ use Rattle.host_model.specs.Did.{MayAll as MayAllHost, after_all, records_all, t
 use Rattle.host_model.specs.Facts.{HostFacts}
 use Rattle.host_model.specs.Holding.{Holds, HoldsAlone}
 use Rattle.host_model.specs.Opening.{opened}
-use Rattle.world_model.specs.State.{Machine, first_machine, with_texts}
-use Rattle.world_model.specs.Events.{Event, Outside_does, Host_does, Host_takes, Decoder_ticks, Refuses, Shows_values, Restarts, OpensFrom, happens, May}
+use Rattle.proof_walk.specs.world_model.State.{Machine, first_machine, with_texts}
+use Rattle.proof_walk.specs.world_model.Events.{Event, Outside_does, Host_does, Host_takes, Decoder_ticks, Refuses, Shows_values, Restarts, OpensFrom, happens, May}
 use Rattle.proof_routes.specs.Knowing.{HasRecord, Remembers}
 
 -- ---- records

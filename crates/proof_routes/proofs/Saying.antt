@@ -8,15 +8,15 @@ use Rattle.zw_text.specs.declared.line.Line.TheVariants as lines
 use Rattle.zw_text.specs.declared.entry.Entry.{Entry}
 use Rattle.zw_text.specs.declared.entry.Entry.TheVariants as entry
 use Rattle.zw_text.specs.Transcript.{line_of, joined}
-use Rattle.law_transcript.specs.Lists.{EachAfter}
-use Rattle.law_transcript.specs.Nodes.{is_joined}
+use Rattle.law_wire.specs.law_transcript.Lists.{EachAfter}
+use Rattle.law_wire.specs.law_transcript.Nodes.{is_joined}
 use Rattle.law_wire.specs.Networks.{links_after, air_links, chip_links, table_by}
 use Rattle.law_wire.specs.Routes.{MayGo}
 use Rattle.outside_model.specs.State.{OuterState}
 use Rattle.outside_model.specs.Events.{OuterEvent, Begins_line, Joins, Discovers, Links, is_own, outcome, devices_after, ticked_entry}
-use Rattle.world_model.specs.State.{Machine}
-use Rattle.world_model.specs.Events.{Event, Outside_does, happens, entries}
-use Rattle.world_model.specs.Lines.{IsEffect}
+use Rattle.proof_walk.specs.world_model.State.{Machine}
+use Rattle.proof_walk.specs.world_model.Events.{Event, Outside_does, happens, entries}
+use Rattle.proof_walk.specs.world_model.Lines.{IsEffect}
 use Rattle.proof_walk.specs.proof_device.GoingOn.{GoOn}
 use Rattle.proof_walk.specs.ByLine.{IsOfTick, CoversLine}
 use Rattle.proof_walk.proofs.ByLine.{effect_covered, last_is}

@@ -35,9 +35,9 @@ use Rattle.mesh_sim.specs.Steps as mesh
 use Rattle.zw_words.specs.declared.side.Side.TheVariants.{Chip as by_chip}
 use Rattle.zw_text.specs.declared.entry.Entry.{Entry}
 use Rattle.zw_text.specs.declared.entry.Entry.TheVariants as entry
-use Rattle.law_transcript.specs.Fates.{marks_left}
-use Rattle.law_transcript.specs.Lists.{EachAfter, shown_after}
-use Rattle.law_transcript.specs.Nodes.{controller}
+use Rattle.law_wire.specs.law_transcript.Fates.{marks_left}
+use Rattle.law_wire.specs.law_transcript.Lists.{EachAfter, shown_after}
+use Rattle.law_wire.specs.law_transcript.Nodes.{controller}
 use Rattle.law_wire.specs.Networks.{air_links}
 use Rattle.outside_model.specs.State.{OuterState, Outside, outside, Outcome, each, with_chip}
 use Rattle.outside_model.specs.Chip.{put_out, chip_does, chip_ticks, shown_via}

@@ -15,8 +15,8 @@ use Rattle.device_sim.specs.State.{State}
 use Rattle.mesh_sim.specs.Air.{AirState, linking, joining, with_link as net_link, with_repeater as net_repeater}
 use Rattle.zw_text.specs.declared.entry.Entry.{Entry}
 use Rattle.zw_text.specs.Transcript.{joined}
-use Rattle.law_transcript.specs.Lists.{Has}
-use Rattle.law_transcript.specs.Nodes.{controller, is_joined}
+use Rattle.law_wire.specs.law_transcript.Lists.{Has}
+use Rattle.law_wire.specs.law_transcript.Nodes.{controller, is_joined}
 use Rattle.law_wire.specs.Networks.{are_linked, with_link, air_links, chip_links, learned_of, learned, listens_at}
 use Rattle.outside_model.specs.State.{Outside, outside}
 use Rattle.outside_model.specs.Nodes.{joins, discovers, links_of, all_pairs, is_known as known_in}

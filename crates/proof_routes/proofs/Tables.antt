@@ -9,7 +9,7 @@ use Rattle.chip_sim.specs.Events.{ChipEvent, Linked, after, with_link as table_l
 use Rattle.chip_sim.specs.Did.{after_all}
 use Rattle.chip_sim.proofs.EventLists.{after_all-append}
 use Rattle.mesh_sim.specs.Air.{with_repeater as net_repeater}
-use Rattle.law_transcript.specs.Lists.{Has}
+use Rattle.law_wire.specs.law_transcript.Lists.{Has}
 use Rattle.proof_routes.specs.Networks.{IsApart}
 use Rattle.proof_routes.proofs.Members.{any_has, has_any, has_filter, filter_has, range_has}
 use Rattle.proof_routes.proofs.Links.{same_pair, pair_is, pair_of, pair_linked, net_set, table_as, apart_set, any_pair, any_pairs, any_each, Learning, learn_of, learn_each, of_good, of_shows, each_good, each_shows}

@@ -6,8 +6,8 @@ use Rattle.chip_sim.specs.Nodes.{is_marked}
 use Rattle.device_sim.specs.State.{State}
 use Rattle.zw_text.specs.declared.entry.Entry.{Entry}
 use Rattle.zw_text.specs.declared.entry.Entry.TheVariants as entry
-use Rattle.law_transcript.specs.Lists.{EachAfter}
-use Rattle.law_transcript.specs.Nodes.{controller}
+use Rattle.law_wire.specs.law_transcript.Lists.{EachAfter}
+use Rattle.law_wire.specs.law_transcript.Nodes.{controller}
 use Rattle.law_wire.specs.Networks.{are_linked, air_links, chip_links, listens_at}
 use Rattle.law_wire.specs.Routes.{MayGo}
 use Rattle.proof_walk.proofs.Lists.{each-append}

@@ -12,7 +12,7 @@ use Rattle.route_table.proofs.Networks.{linked-both_ways}
 use Rattle.mesh_sim.specs.Air.{no_route}
 use Rattle.mesh_sim.specs.Fates.{dead_hop}
 use Rattle.mesh_sim.specs.Routes.{IsRoute, backwards}
-use Rattle.law_transcript.specs.Nodes.{controller}
+use Rattle.law_wire.specs.law_transcript.Nodes.{controller}
 use Rattle.law_wire.specs.Arriving.{Hop, hops}
 use Rattle.law_wire.specs.Networks.{are_linked}
 use Rattle.outside_model.specs.Chip.{is_node, shown_via}

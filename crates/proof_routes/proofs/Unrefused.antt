@@ -3,8 +3,8 @@ use Rattle.std.proofs.Common.{List}
 use Rattle.std.specs.List.{AllByRecursion}
 use Rattle.zw_text.specs.declared.entry.Entry.{Entry}
 use Rattle.zw_text.specs.declared.entry.Entry.TheVariants as entry
-use Rattle.world_model.specs.State.{Machine}
-use Rattle.world_model.specs.Events.{Event, entries, May}
+use Rattle.proof_walk.specs.world_model.State.{Machine}
+use Rattle.proof_walk.specs.world_model.Events.{Event, entries, May}
 use Rattle.proof_walk.proofs.Entered.{IsMark}
 use Rattle.proof_walk.specs.Outside.{IsOfAir, IsHostNote}
 use Rattle.proof_walk.specs.ByLine.{IsCommon}

@@ -16,9 +16,9 @@ use Rattle.zw_words.specs.declared.fault.LineFault.{LineFault}
 use Rattle.zw_text.proofs.TextLaws.{line_takes}
 use Rattle.zw_text.specs.Transcript.{read_as, line_of, line_after, line_last, joined}
 use Rattle.zw_text.proofs.Views.{folded-append}
-use Rattle.law_transcript.specs.Lists.{EachAfter}
-use Rattle.law_transcript.specs.Nodes.{controller, first_node, is_joined}
-use Rattle.law_transcript.specs.Restarts.{begins_refused}
+use Rattle.law_wire.specs.law_transcript.Lists.{EachAfter}
+use Rattle.law_wire.specs.law_transcript.Nodes.{controller, first_node, is_joined}
+use Rattle.law_wire.specs.law_transcript.Restarts.{begins_refused}
 use Rattle.law_wire.specs.Networks.{with_link, links_after, air_links, chip_links, known_nodes, learned_of, learned, table_by}
 use Rattle.law_wire.specs.Routes.{MayGo}
 use Rattle.host_orders.specs.declared.refused.Refused.{Refused}
@@ -31,9 +31,9 @@ use Rattle.host_model.specs.State.{node_of}
 use Rattle.outside_model.specs.Results.{device_at}
 use Rattle.outside_model.specs.Nodes.{listens_at as listens_now}
 use Rattle.outside_model.specs.Events.{Joins, Discovers, Links, outcome, devices_after}
-use Rattle.world_model.specs.State.{Machine}
-use Rattle.world_model.specs.Events.{Event, Outside_does, Host_does, Refuses, happens, entries, May}
-use Rattle.world_model.specs.Lines.{Asks as asks_line, IsEffect}
+use Rattle.proof_walk.specs.world_model.State.{Machine}
+use Rattle.proof_walk.specs.world_model.Events.{Event, Outside_does, Host_does, Refuses, happens, entries, May}
+use Rattle.proof_walk.specs.world_model.Lines.{Asks as asks_line, IsEffect}
 use Rattle.proof_walk.specs.proof_device.GoingOn.{GoOn, AreSame}
 use Rattle.proof_walk.proofs.DevicePlaces.{go_then}
 use Rattle.proof_walk.specs.Outside.{CoversOuter}

@@ -21,7 +21,7 @@ use Rattle.mesh_sim.specs.Routes.{IsRoute, backwards}
 use Rattle.zw_text.specs.declared.entry.Entry.{Entry}
 use Rattle.zw_text.specs.declared.entry.Entry.TheVariants as entry
 use Rattle.zw_text.specs.Transcript.{joined}
-use Rattle.law_transcript.specs.Nodes.{controller, is_joined}
+use Rattle.law_wire.specs.law_transcript.Nodes.{controller, is_joined}
 use Rattle.law_wire.specs.Networks.{same_link, are_linked, air_links, chip_links, listens_at, network_of, air_network, chip_network}
 use Rattle.law_wire.specs.Routes.{IsRouteTo, GoesHome, GoesOver, MayGo}
 use Rattle.outside_model.specs.Chip.{is_node, shown_via}

@@ -13,14 +13,14 @@ use Rattle.zw_text.specs.declared.line.Line.{Line}
 use Rattle.zw_text.specs.declared.line.Line.TheVariants.{Lose}
 use Rattle.zw_text.specs.declared.entry.Entry.{Entry}
 use Rattle.zw_text.specs.declared.entry.Entry.TheVariants.{Air}
-use Rattle.law_transcript.specs.Fates.{marks_asked, marks_left}
-use Rattle.law_transcript.specs.Lists.{shown_after}
-use Rattle.law_transcript.specs.Nodes.{controller}
+use Rattle.law_wire.specs.law_transcript.Fates.{marks_asked, marks_left}
+use Rattle.law_wire.specs.law_transcript.Lists.{shown_after}
+use Rattle.law_wire.specs.law_transcript.Nodes.{controller}
 use Rattle.law_wire.specs.Arriving.{hops, forgets, IsForgotten}
 use Rattle.law_wire.specs.Networks.{are_linked, air_links}
 use Rattle.outside_model.specs.Events.{OuterEvent, Loses}
-use Rattle.world_model.specs.State.{Machine}
-use Rattle.world_model.specs.Lines.{IsEffect}
+use Rattle.proof_walk.specs.world_model.State.{Machine}
+use Rattle.proof_walk.specs.world_model.Lines.{IsEffect}
 use Rattle.proof_walk.specs.Outside.{CoversOuter}
 use Rattle.proof_walk.specs.Phases.{Phase, Said_line, Begun, Doing}
 

@@ -12,8 +12,8 @@ use Rattle.zw_text.specs.declared.line.Line.TheVariants as lines
 use Rattle.zw_text.specs.declared.entry.Entry.{Entry}
 use Rattle.zw_text.specs.declared.entry.Entry.TheVariants.{Said, Asleep}
 use Rattle.zw_text.specs.Transcript.{line_of, line_last, join_of}
-use Rattle.law_transcript.specs.Lists.{Has}
-use Rattle.law_transcript.specs.Nodes.{controller, first_node, is_joined}
+use Rattle.law_wire.specs.law_transcript.Lists.{Has}
+use Rattle.law_wire.specs.law_transcript.Nodes.{controller, first_node, is_joined}
 use Rattle.law_wire.specs.Routes.{GoesHome, MayGo}
 use Rattle.host_keep.specs.Kept.{Kept, node_of as kept_at}
 use Rattle.host_keep.specs.RecordText.{IsTextOf}
@@ -24,9 +24,9 @@ use Rattle.host_model.specs.Holding.{Holds}
 use Rattle.outside_model.specs.Chip.{shown_via}
 use Rattle.outside_model.specs.State.{Outside}
 use Rattle.outside_model.specs.Events.{OuterEvent, Joins, Discovers, Links}
-use Rattle.world_model.specs.State.{Machine}
-use Rattle.world_model.specs.Events.{Event, Outside_does}
-use Rattle.world_model.specs.Lines.{IsEffect}
+use Rattle.proof_walk.specs.world_model.State.{Machine}
+use Rattle.proof_walk.specs.world_model.Events.{Event, Outside_does}
+use Rattle.proof_walk.specs.world_model.Lines.{IsEffect}
 use Rattle.proof_walk.specs.proof_device.GoingOn.{GoOn}
 use Rattle.proof_walk.specs.Phases.{Phase}
 use Rattle.proof_walk.specs.ByLine.{KnownOf, by_line}

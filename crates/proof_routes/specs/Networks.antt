@@ -5,7 +5,7 @@ use Rattle.route_table.specs.Network.{Network, Link, linked, repeats}
 use Rattle.chip_sim.specs.Nodes.{is_marked}
 use Rattle.device_sim.specs.State.{State}
 use Rattle.zw_text.specs.declared.entry.Entry.{Entry}
-use Rattle.law_transcript.specs.Nodes.{controller, is_joined}
+use Rattle.law_wire.specs.law_transcript.Nodes.{controller, is_joined}
 use Rattle.law_wire.specs.Networks.{are_linked, air_links, chip_links, listens_at}
 use Rattle.outside_model.specs.State.{Outside}
 

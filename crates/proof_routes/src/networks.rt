@@ -5,7 +5,7 @@ ghost use Rattle.s0_crypto.specs.declared.key_pair.Keys.{Keys};
 ghost use Rattle.device_sim.specs.State.{State};
 ghost use Rattle.zw_text.specs.declared.entry.Entry.{Entry};
 ghost use Rattle.law_wire.specs.Routes.{MayGo};
-ghost use Rattle.world_model.specs.State.{Machine, first_machine};
+ghost use Rattle.proof_walk.specs.world_model.State.{Machine, first_machine};
 ghost use Rattle.proof_walk.specs.Phases.{Between};
 ghost use Rattle.proof_walk.specs.Walk.{Walk};
 ghost use Rattle.proof_routes.specs.Networks.{Tie};

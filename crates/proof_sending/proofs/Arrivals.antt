@@ -15,10 +15,10 @@ use Rattle.zw_text.specs.declared.entry.Entry.TheVariants as entry
 use Rattle.zw_text.specs.Transcript.{Unit_on, Way, folded, last_with, unit_step, units}
 use Rattle.zw_text.specs.Transcript.Way.{Whole, Missed, Changed as other_than}
 use Rattle.zw_text.proofs.Views.{folded-append}
-use Rattle.law_transcript.specs.Lists.{Has}
-use Rattle.law_transcript.specs.Units.{arrived, arrived_of, bringing_in, bringings, from_node}
-use Rattle.law_transcript.proofs.Having.{has_left, has_shown, shown_has}
-use Rattle.law_wire.specs.Serial.{arriving_of}
+use Rattle.proof_air.specs.law_transcript.Lists.{Has}
+use Rattle.proof_air.specs.law_transcript.Units.{arrived, arrived_of, bringing_in, bringings, from_node}
+use Rattle.proof_air.proofs.Having.{has_left, has_shown, shown_has}
+use Rattle.proof_air.specs.law_wire.Serial.{arriving_of}
 use Rattle.proof_spoken.proofs.Entered.{IsMark, told_by_marks}
 use Rattle.proof_sending.specs.Arriving.{ArrivesMore, ArrivesSo, BringsMore, all_arriving}
 

@@ -8,12 +8,12 @@ use Rattle.zw_text.specs.declared.line.Line.TheVariants as lines
 use Rattle.zw_text.specs.declared.entry.Entry.{Entry}
 use Rattle.zw_text.specs.declared.entry.Entry.TheVariants.{Refused, Said}
 use Rattle.zw_text.specs.Transcript.{line_of}
-use Rattle.law_transcript.specs.Lists.{Has}
-use Rattle.law_transcript.specs.Nodes.{host_list}
-use Rattle.law_transcript.specs.Payloads.{IsAskedFor, asked_by, asked_from}
-use Rattle.law_transcript.specs.Restarts.{begins_refused}
-use Rattle.law_transcript.specs.Units.{Carried}
-use Rattle.law_transcript.proofs.Having.{has_either, has_left, has_right}
+use Rattle.proof_air.specs.law_transcript.Lists.{Has}
+use Rattle.proof_air.specs.law_transcript.Nodes.{host_list}
+use Rattle.proof_air.specs.law_transcript.Payloads.{IsAskedFor, asked_by, asked_from}
+use Rattle.proof_air.specs.law_transcript.Restarts.{begins_refused}
+use Rattle.proof_air.specs.law_transcript.Units.{Carried}
+use Rattle.proof_air.proofs.Having.{has_either, has_left, has_right}
 use Rattle.host_orders.specs.Errands.{get_text, send_text}
 use Rattle.host_orders.specs.Refusals.{classes_of}
 use Rattle.host_model.specs.State.{HostState, node_of}

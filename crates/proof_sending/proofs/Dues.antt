@@ -12,10 +12,10 @@ use Rattle.s0_crypto.specs.Sealing.{keys_of}
 use Rattle.zw_base.specs.declared.order.Order.{Order}
 use Rattle.zw_text.specs.declared.entry.Entry.{Entry}
 use Rattle.zw_text.specs.Transcript.{accepted, sessions}
-use Rattle.law_transcript.specs.Lists.{listed}
-use Rattle.law_transcript.specs.Commands.{classes_for, message_by, message_for, order_of}
-use Rattle.law_transcript.specs.Payloads.{form_by, IsCarriedAs, IsDue, IsOfCommand, IsOfSession}
-use Rattle.law_transcript.specs.Units.{Carried, sending_in}
+use Rattle.proof_air.specs.law_transcript.Lists.{listed}
+use Rattle.proof_air.specs.law_transcript.Commands.{classes_for, message_by, message_for, order_of}
+use Rattle.proof_air.specs.law_transcript.Payloads.{form_by, IsCarriedAs, IsDue, IsOfCommand, IsOfSession}
+use Rattle.proof_air.specs.law_transcript.Units.{Carried, sending_in}
 use Rattle.host_keep.specs.Kept.{Taken}
 use Rattle.host_orders.specs.Wrapping.{carriage_of, form_of, message_of}
 use Rattle.host_orders.specs.declared.carriage.Carriage.{Carriage}

@@ -1,5 +1,5 @@
 -- What the effect of a line leaves to be done, and that each event of it keeps what the host has to send due.
-use Rattle.law_transcript.specs.Nodes.{always}
+use Rattle.proof_air.specs.law_transcript.Nodes.{always}
 use Rattle.std.proofs.Common.{◌≡◌, ℕ, false, true, inl, inr, List, [], ◌∷◌, ◌++◌, refl, sym, ap, subst, ◌∙◌, append-nil, append_assoc}
 use Rattle.std.specs.Prelude.{Option, Some, None, IsSome, length}
 use Rattle.std.specs.List.{AllByRecursion}
@@ -11,8 +11,8 @@ use Rattle.zw_text.specs.declared.line.Line.{Line}
 use Rattle.zw_text.specs.declared.line.Line.TheVariants as lines
 use Rattle.zw_text.specs.declared.entry.Entry.{Entry}
 use Rattle.zw_text.specs.declared.entry.Entry.TheVariants as entry
-use Rattle.law_transcript.specs.Lists.{EachAfter}
-use Rattle.law_transcript.specs.Payloads.{IsAskedFor, MayRequest}
+use Rattle.proof_air.specs.law_transcript.Lists.{EachAfter}
+use Rattle.proof_air.specs.law_transcript.Payloads.{IsAskedFor, MayRequest}
 use Rattle.host_orders.specs.Errands.{get_refusal, get_text, send_refusal, send_text}
 use Rattle.host_orders.specs.Refusals.{classes_of}
 use Rattle.host_orders.specs.declared.carriage.Carriage.{Carriage}
@@ -25,11 +25,11 @@ use Rattle.host_model.specs.May.{known_of}
 use Rattle.host_model.specs.Events.{HostEvent, Accepts, Cancels, Joins, Queues, Queues_interview, Queues_probe}
 use Rattle.host_model.specs.Outs.{outs}
 use Rattle.outside_model.specs.Events.{Begins_line, entries as entries_outside, May as MayOutside}
-use Rattle.world_model.specs.State.{Machine}
-use Rattle.world_model.specs.Events.{Event, Outside_does, Host_does, Host_takes, Decoder_ticks, Refuses, Shows_values, Restarts, OpensFrom, entered, happens, entries, shown_values, May}
-use Rattle.world_model.specs.Did.{happens_all, entries_all}
-use Rattle.world_model.specs.Lines.{IsEffect, Asks}
-use Rattle.world_model.proofs.Along.{IsAskedBy, IsOfEffect, anywhere, effect_along}
+use Rattle.proof_air.specs.world_model.State.{Machine}
+use Rattle.proof_air.specs.world_model.Events.{Event, Outside_does, Host_does, Host_takes, Decoder_ticks, Refuses, Shows_values, Restarts, OpensFrom, entered, happens, entries, shown_values, May}
+use Rattle.proof_air.specs.world_model.Did.{happens_all, entries_all}
+use Rattle.proof_air.specs.world_model.Lines.{IsEffect, Asks}
+use Rattle.proof_air.proofs.world_model_Along.{IsAskedBy, IsOfEffect, anywhere, effect_along}
 use Rattle.proof_line.specs.proof_host.Facts.{Facts}
 use Rattle.proof_spoken.specs.Said.{AreSaid}
 use Rattle.proof_spoken.proofs.Orders.{IsNoOrder}

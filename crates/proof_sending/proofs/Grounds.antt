@@ -7,18 +7,18 @@ use Rattle.zw_text.specs.declared.entry.Entry.{Entry}
 use Rattle.zw_text.specs.declared.entry.Entry.TheVariants.{Said, Time}
 use Rattle.zw_text.specs.Transcript.{accepted, interview_at, interviews, sessions}
 use Rattle.zw_text.proofs.Views.{shown-append}
-use Rattle.law_transcript.specs.Commands.{classes_for, order_of}
-use Rattle.law_transcript.specs.Lists.{Has}
-use Rattle.law_transcript.specs.Nodes.{known_at_first, always}
+use Rattle.proof_air.specs.law_transcript.Commands.{classes_for, order_of}
+use Rattle.proof_air.specs.law_transcript.Lists.{Has}
+use Rattle.proof_air.specs.law_transcript.Nodes.{known_at_first, always}
 use Rattle.host_keep.specs.Kept.{Taken}
 use Rattle.host_orders.specs.Wrapping.{carriage_of}
 use Rattle.host_requests.specs.State.{next_id}
 use Rattle.host_model.specs.State.{Command, HostState}
 use Rattle.outside_model.specs.State.{OuterState}
 use Rattle.outside_model.specs.Events.{ticked_entry}
-use Rattle.world_model.specs.State.{Machine}
-use Rattle.world_model.specs.Events.{Event, happens, entries, May}
-use Rattle.world_model.specs.Did.{entries_all}
+use Rattle.proof_air.specs.world_model.State.{Machine}
+use Rattle.proof_air.specs.world_model.Events.{Event, happens, entries, May}
+use Rattle.proof_air.specs.world_model.Did.{entries_all}
 use Rattle.proof_line.specs.proof_host.Entries.{IsAside}
 use Rattle.proof_line.specs.proof_host.Facts.{Facts}
 use Rattle.proof_line.specs.proof_host.Laws.{HostLaws, numbers_for}

@@ -8,14 +8,14 @@ use Rattle.chip_sim.specs.Events.{ChipEvent, after, outs}
 use Rattle.chip_sim.specs.declared.out.ChipOut.{ChipOut}
 use Rattle.chip_sim.specs.declared.out.ChipOut.TheVariants.{Write, OnAir, NoRoute, AskInfo, Full}
 use Rattle.mesh_sim.specs.Fates.{place_of}
-use Rattle.law_transcript.specs.Lists.{EachAfter, Has}
-use Rattle.law_transcript.specs.Units.{arrived}
+use Rattle.proof_air.specs.law_transcript.Lists.{EachAfter, Has}
+use Rattle.proof_air.specs.law_transcript.Units.{arrived}
 use Rattle.outside_model.specs.State.{OuterState, Outside, outside, each, with_chip}
 use Rattle.outside_model.specs.Chip.{put_out, chip_does}
 use Rattle.outside_model.specs.Results.{device_at}
 use Rattle.outside_model.specs.Events.{OuterEvent, Host_writes, Host_takes, Host_notes, Shows, Joins, Discovers, Links, Loses, Loses_acks, Marks_loss, Marks_change, Clears_pipe, Collides_next, Stalls, Cuts, way_of, outcome, ticked_entry}
-use Rattle.world_model.specs.State.{Machine}
-use Rattle.world_model.specs.Events.{Event, Outside_does, entries, May}
+use Rattle.proof_air.specs.world_model.State.{Machine}
+use Rattle.proof_air.specs.world_model.Events.{Event, Outside_does, entries, May}
 use Rattle.proof_spoken.proofs.Entered.{IsCleared, IsShown, all_cleared, all_shown}
 use Rattle.proof_air.specs.proof_walk.Outside.{CoversOuter, IsNote, IsOfAir, IsSimple, Knowing, Link, Moves}
 use Rattle.proof_air.proofs.Linking.{of_link}

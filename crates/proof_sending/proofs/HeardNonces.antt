@@ -18,7 +18,7 @@ use Rattle.host_heard.specs.Telling.{end_of, heard_at, heard_by, told_all, told_
 use Rattle.host_heard.specs.declared.payload.Heard.TheVariants.{Messages, Sealed, Unread}
 use Rattle.host_heard.specs.declared.told.Told.{Told}
 use Rattle.host_heard.specs.declared.told.Told.TheVariants.{NonceReport}
-use Rattle.proof_messages.proofs.DeviceReports.{same_messages}
+use Rattle.proof_spoken.proofs.DeviceReports.{same_messages}
 
 -- ---- messages
 

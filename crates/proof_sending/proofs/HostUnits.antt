@@ -16,9 +16,9 @@ use Rattle.serial_pipes.specs.State.{mark_for}
 use Rattle.zw_words.specs.declared.side.Side.TheVariants.{Host as by_host, Chip as by_chip}
 use Rattle.zw_text.specs.declared.entry.Entry.{Entry}
 use Rattle.zw_text.specs.declared.entry.Entry.TheVariants as entry
-use Rattle.law_transcript.specs.Lists.{EachAfter}
-use Rattle.law_transcript.specs.Payloads.{IsDue, MayRequest}
-use Rattle.law_transcript.specs.Units.{sending_in}
+use Rattle.proof_air.specs.law_transcript.Lists.{EachAfter}
+use Rattle.proof_air.specs.law_transcript.Payloads.{IsDue, MayRequest}
+use Rattle.proof_air.specs.law_transcript.Units.{sending_in}
 use Rattle.proof_line.proofs.Lists.{each-anywhere, each-append}
 use Rattle.host_model.specs.State.{HostState, command_at, node_of}
 use Rattle.host_model.specs.Sessions.{open_command, settings_with}
@@ -35,8 +35,8 @@ use Rattle.outside_model.specs.State.{Outside, OuterState}
 use Rattle.outside_model.specs.Events.{OuterEvent, Host_writes, Host_notes, Host_begins, outcome, ticked_entry, stamp, happens as happens_outside, entries as entries_outside}
 use Rattle.outside_model.specs.Did.{happens_all as happens_all_outside, entries_all as entries_all_outside}
 use Rattle.outside_model.proofs.EventLists.{entries_all-append}
-use Rattle.world_model.specs.State.{begun_in, noted_by, routed}
-use Rattle.world_model.specs.Events.{notes}
+use Rattle.proof_air.specs.world_model.State.{begun_in, noted_by, routed}
+use Rattle.proof_air.specs.world_model.Events.{notes}
 use Rattle.proof_air.specs.proof_walk.Outside.{IsNote}
 use Rattle.proof_air.proofs.HostNotes.{NoteOuts, is_note, all_outs_note}
 use Rattle.proof_air.proofs.Machines.{UnitsAre, answers_keep, outs_keep}

@@ -45,7 +45,7 @@ use Rattle.host_model.specs.Events.{HostEvent, Hears, Requests_do, Unreads, Is_u
 use Rattle.host_node.specs.declared.attempt.Moment.TheVariants.{BetweenTicks}
 use Rattle.host_model.specs.Taking.{IsKeptOr, is_secure, named_by, FinalEvents, ReportEvents, NonceGetEvents, NonceReportEvents, resent, value_event, value_events, told_if, ends_from, IsTaken, AreTaken, IsOpened, SealedEvents, PayloadEvents, InterviewEvents, ResponseEvents, NoticeEvents, FrameEvents, IsFollowed, AreJudged}
 use Rattle.proof_line.specs.proof_host.Entries.{entries_at}
-use Rattle.proof_messages.proofs.LockSessions.{some_same}
+use Rattle.proof_spoken.proofs.LockSessions.{some_same}
 use Rattle.proof_line.proofs.Always.{one, none, either}
 use Rattle.proof_sending.specs.Reasons.{Reason, HasEight, HasReason, IsEight}
 use Rattle.proof_sending.specs.Heard.{AreHeardOf, GiveReasons, HaveReasons, IsGrounded, IsHeardOf, ItemTells, PayloadTells, WritesNoFrame}
@@ -55,7 +55,7 @@ use Rattle.proof_sending.proofs.Waiting.{live_eight}
 use Rattle.s0_session.specs.Nonces.{live_of, unused}
 use Rattle.proof_spoken.proofs.HostFits.{all_at}
 use Rattle.proof_sending.proofs.Reasoned.{Laws, event_is}
-use Rattle.proof_messages.proofs.SealedByNumber.{sealed_length}
+use Rattle.proof_spoken.proofs.SealedByNumber.{sealed_length}
 
 -- ---- the nonce under which a text is sealed
 

@@ -23,7 +23,7 @@ use Rattle.proof_air.specs.proof_walk.Outside.{Knowing, Moves, Link, IsSimple, I
 use Rattle.proof_air.proofs.Alone.{each_alone}
 use Rattle.proof_air.proofs.Linking.{of_link}
 use Rattle.proof_air.proofs.Stamping.{Fits, outer_keeps}
-use Rattle.law_transcript.proofs.Deciding.{not_true as not_own}
+use Rattle.proof_air.proofs.Deciding.{not_true as not_own}
 
 -- no unit of the host
 abbrev pub IsNotWritten : Entry → Type 0

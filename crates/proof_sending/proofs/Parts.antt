@@ -27,7 +27,7 @@ use Rattle.host_model.specs.May.{IsStart}
 use Rattle.proof_air.specs.Carrying.{TurnHas}
 use Rattle.proof_line.specs.proof_host.Tables.{taken_by}
 use Rattle.proof_spoken.specs.proof_once.Tied.{KeepsOrders}
-use Rattle.proof_messages.specs.Hosts.{HasTexts}
+use Rattle.proof_spoken.specs.proof_messages.Hosts.{HasTexts}
 use Rattle.proof_sending.specs.Reasons.{Reason, IsLast, IsCarriedBy, IsPart, IsToSeal, IsDueTask, IsDuePurpose, IsDueFrame, HasWaiting}
 use Rattle.proof_sending.proofs.Books.{SameBooks}
 

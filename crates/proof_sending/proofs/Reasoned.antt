@@ -45,8 +45,8 @@ use Rattle.host_model.specs.Opening.{opened, restored_all}
 use Rattle.host_model.specs.Outs.{answer_to, copy_out, dropped_if, failing_entries, held_entries, noted, outs, request_entries, stored_entries}
 use Rattle.host_model.specs.Events.{HostEvent, Queues, Queues_interview, Queues_probe, Hears, Requests_do, Finishes, Offers, Gives, Takes_nonce, Resends, Line_ticks, Node_ticks, Queues_no_more, Submits_abort, Submits_front, Starts, Gives_text, Gives_segment, Begins}
 use Rattle.host_model.specs.declared.out.HostOut.{HostOut}
-use Rattle.proof_messages.specs.Hosts.{HasTexts}
-use Rattle.proof_messages.proofs.SealedTexts.{BringsText, TextsLeft, bare_texts, closed_bare, first_bare, has_place, restarting_bare, texts_go}
+use Rattle.proof_spoken.specs.proof_messages.Hosts.{HasTexts}
+use Rattle.proof_spoken.proofs.SealedTexts.{BringsText, TextsLeft, bare_texts, closed_bare, first_bare, has_place, restarting_bare, texts_go}
 use Rattle.proof_air.specs.Carrying.{TurnHas}
 use Rattle.proof_line.specs.proof_host.Facts.{Facts}
 use Rattle.proof_spoken.specs.proof_once.Tied.{KeepsOrders}

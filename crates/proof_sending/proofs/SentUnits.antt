@@ -21,7 +21,7 @@ use Rattle.host_requests.specs.State.{next_id}
 use Rattle.host_requests.specs.declared.task.Task.TheVariants.{Plain, Offer, Segment, NoMore, First, Second, Members, Neighbours, IsFailed, Version, MemoryId, Capabilities}
 use Rattle.host_requests.specs.declared.task.Purpose.{Purpose}
 use Rattle.host_requests.specs.declared.task.Purpose.TheVariants.{Housekeeping, Attempt, Abort}
-use Rattle.law_transcript.specs.Units.{Carried, read_well, sending_in, sending_of}
+use Rattle.proof_air.specs.law_transcript.Units.{Carried, read_well, sending_in, sending_of}
 use Rattle.proof_air.proofs.Bodies.{body_is}
 use Rattle.proof_air.proofs.Judging.{both_true}
 use Rattle.proof_sending.specs.Due.{sends}

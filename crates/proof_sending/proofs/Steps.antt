@@ -1,5 +1,5 @@
 -- Each event of the machine keeps what the host has to send due, and what it writes is.
-use Rattle.law_transcript.specs.Nodes.{always}
+use Rattle.proof_air.specs.law_transcript.Nodes.{always}
 use Rattle.std.proofs.Common.{◌≡◌, ℕ, ◌&&◌, not, Bool, true, false, if◌then◌else◌, inl, inr, List, [], ◌∷◌, ◌++◌, refl, sym, subst, ◌∙◌}
 use Rattle.std.specs.List.{AllByRecursion}
 use Rattle.serial_frame.specs.declared.item.Item.{Item}
@@ -9,11 +9,11 @@ use Rattle.serial_frame.specs.declared.unit.Unit.TheVariants.{Ack, Nak, Can, Fra
 use Rattle.s0_crypto.specs.Sealing.{keys_of}
 use Rattle.zw_text.specs.declared.entry.Entry.{Entry}
 use Rattle.zw_text.specs.declared.entry.Entry.TheVariants as entry
-use Rattle.law_transcript.specs.Lists.{EachAfter}
-use Rattle.law_transcript.specs.Payloads.{messages_of, IsToldBy, MayRequest}
-use Rattle.law_transcript.specs.Restarts.{begins_refused}
-use Rattle.law_transcript.specs.Units.{payloads_from}
-use Rattle.law_transcript.proofs.Having.{has_shown, shown_has}
+use Rattle.proof_air.specs.law_transcript.Lists.{EachAfter}
+use Rattle.proof_air.specs.law_transcript.Payloads.{messages_of, IsToldBy, MayRequest}
+use Rattle.proof_air.specs.law_transcript.Restarts.{begins_refused}
+use Rattle.proof_air.specs.law_transcript.Units.{payloads_from}
+use Rattle.proof_air.proofs.Having.{has_shown, shown_has}
 use Rattle.host_heard.specs.Telling.{heard_at}
 use Rattle.host_heard.specs.declared.told.Told.{Told}
 use Rattle.host_heard.specs.declared.told.Told.TheVariants.{NonceGet, NonceReport}
@@ -34,8 +34,8 @@ use Rattle.host_model.proofs.Silence.{Silent}
 use Rattle.outside_model.specs.State.{OuterState}
 use Rattle.outside_model.specs.Events.{ticked_entry, entries as entries_outside}
 use Rattle.outside_model.specs.Did.{entries_all as entries_all_outside}
-use Rattle.world_model.specs.State.{Machine, host_does, host_entries}
-use Rattle.world_model.specs.Events.{Event, Outside_does, Host_does, Host_takes, Decoder_ticks, Refuses, Shows_values, Restarts, fed, happens, entries, notes, May}
+use Rattle.proof_air.specs.world_model.State.{Machine, host_does, host_entries}
+use Rattle.proof_air.specs.world_model.Events.{Event, Outside_does, Host_does, Host_takes, Decoder_ticks, Refuses, Shows_values, Restarts, fed, happens, entries, notes, May}
 use Rattle.proof_spoken.proofs.Entered.{IsMark}
 use Rattle.proof_line.proofs.Lists.{each-append}
 use Rattle.proof_spoken.proofs.Plain.{IsPlain, own_plain}

@@ -34,14 +34,14 @@ use Rattle.zw_words.specs.declared.side.Side.TheVariants.{Host as by_host, Chip 
 use Rattle.zw_text.specs.declared.entry.Entry.{Entry}
 use Rattle.zw_text.specs.declared.entry.Entry.TheVariants as entry
 use Rattle.zw_text.specs.Transcript.{line_of}
-use Rattle.law_transcript.specs.Lists.{Has}
-use Rattle.law_transcript.specs.Payloads.{messages_of, IsToldBy}
-use Rattle.law_transcript.specs.Restarts.{is_restart, begins_refused}
-use Rattle.law_transcript.specs.Units.{Carried, arrived, bringing_in, bringing_of, bringings, from_node, payloads_from, read_well}
-use Rattle.law_transcript.proofs.Having.{all_of, has_either, has_left, has_right, has_shown}
-use Rattle.law_wire.specs.Serial.{arriving_of}
-use Rattle.world_model.specs.State.{Machine}
-use Rattle.world_model.specs.Events.{Host_takes, May}
+use Rattle.proof_air.specs.law_transcript.Lists.{Has}
+use Rattle.proof_air.specs.law_transcript.Payloads.{messages_of, IsToldBy}
+use Rattle.proof_air.specs.law_transcript.Restarts.{is_restart, begins_refused}
+use Rattle.proof_air.specs.law_transcript.Units.{Carried, arrived, bringing_in, bringing_of, bringings, from_node, payloads_from, read_well}
+use Rattle.proof_air.proofs.Having.{all_of, has_either, has_left, has_right, has_shown}
+use Rattle.proof_air.specs.law_wire.Serial.{arriving_of}
+use Rattle.proof_air.specs.world_model.State.{Machine}
+use Rattle.proof_air.specs.world_model.Events.{Host_takes, May}
 use Rattle.proof_spoken.proofs.Ways.{carries_left}
 use Rattle.proof_air.proofs.Bodies.{body_is}
 use Rattle.proof_line.specs.Arrivals.{AreTexts, arrived_from}
@@ -50,7 +50,7 @@ use Rattle.proof_line.specs.Rooms.{Shown}
 use Rattle.proof_sending.specs.Arriving.{ArrivesSo, all_arriving}
 use Rattle.proof_sending.specs.Heard.{IsHeardOf, ItemTells, PayloadTells}
 use Rattle.proof_sending.specs.Reasons.{Reason}
-use Rattle.proof_messages.proofs.SealedByNumber.{sealed_length}
+use Rattle.proof_spoken.proofs.SealedByNumber.{sealed_length}
 use Rattle.proof_sending.specs.Due.{IsShown}
 
 -- ---- since the last restart

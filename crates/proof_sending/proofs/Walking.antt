@@ -1,19 +1,19 @@
 -- So the walk goes along all lines: at each phase, what the host has to send is due, and what it writes is.
-use Rattle.law_transcript.specs.Nodes.{always}
+use Rattle.proof_air.specs.law_transcript.Nodes.{always}
 use Rattle.std.proofs.Common.{◌≡◌, ℕ, zero, suc, ◌+◌, true, false, List, [], ◌∷◌, ◌++◌, length, refl, inl, inr, sym, subst, append-nil}
 use Rattle.zw_text.specs.declared.line.Line.{Line}
 use Rattle.zw_text.specs.declared.entry.Entry.{Entry}
 use Rattle.zw_text.specs.declared.entry.Entry.TheVariants.{Said}
 use Rattle.zw_text.specs.Transcript.{line_of}
-use Rattle.law_transcript.specs.Lists.{EachAfter}
-use Rattle.law_transcript.specs.Payloads.{MayRequest}
+use Rattle.proof_air.specs.law_transcript.Lists.{EachAfter}
+use Rattle.proof_air.specs.law_transcript.Payloads.{MayRequest}
 use Rattle.host_model.specs.Ticking.{tick_events}
 use Rattle.host_model.proofs.Own.{IsOwn, sleepers_own, submitted_own, tick_own}
 use Rattle.host_model.proofs.Submitted.{next_is as submitted_is, no_more_is}
 use Rattle.outside_model.specs.Events.{Begins_line}
-use Rattle.world_model.specs.State.{Machine}
-use Rattle.world_model.specs.Events.{Event, Outside_does, Host_takes, entries, happens, May}
-use Rattle.world_model.specs.Did.{AllAlong}
+use Rattle.proof_air.specs.world_model.State.{Machine}
+use Rattle.proof_air.specs.world_model.Events.{Event, Outside_does, Host_takes, entries, happens, May}
+use Rattle.proof_air.specs.world_model.Did.{AllAlong}
 use Rattle.proof_spoken.specs.Said.{AllTell}
 use Rattle.proof_air.specs.proof_walk.ByLine.{begun}
 use Rattle.proof_air.specs.proof_walk.Phases.{Phase, Between, Said_line, Begun, Doing, To_tick, Ticked, Arriving, Giving, Ticking_devices, Ticking_chip, Ticking_decoder, Ticking_host, Sleeping, Submitting, Moving, Moved, Turns, Goes, passes_after}

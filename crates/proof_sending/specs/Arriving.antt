@@ -5,9 +5,9 @@ use Rattle.zw_words.specs.declared.side.Side.TheVariants.{Chip}
 use Rattle.zw_text.specs.declared.entry.Entry.{Entry}
 use Rattle.zw_text.specs.declared.entry.Entry.TheVariants.{Written}
 use Rattle.zw_text.specs.Transcript.{same_side}
-use Rattle.law_transcript.specs.Lists.{Has}
-use Rattle.law_transcript.specs.Units.{arrived, payloads_from}
-use Rattle.law_wire.specs.Serial.{arriving_of}
+use Rattle.proof_air.specs.law_transcript.Lists.{Has}
+use Rattle.proof_air.specs.law_transcript.Units.{arrived, payloads_from}
+use Rattle.proof_air.specs.law_wire.Serial.{arriving_of}
 
 abbrev pub all_arriving : List Entry → List (List ℕ)
 all_arriving [] = []

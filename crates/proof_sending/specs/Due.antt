@@ -15,10 +15,10 @@ use Rattle.host_model.specs.declared.out.HostOut.TheVariants.{Write, Note}
 use Rattle.host_orders.specs.Wrapping.{carriage_of}
 use Rattle.zw_text.specs.declared.entry.Entry.{Entry}
 use Rattle.zw_text.specs.Transcript.{accepted, sessions}
-use Rattle.law_transcript.specs.Lists.{listed}
-use Rattle.law_transcript.specs.Commands.{classes_for, message_for, order_of}
-use Rattle.law_transcript.specs.Payloads.{form_by, nonce_get, nonce_report, no_more_information, IsAskedFor, IsDue, IsToldBy}
-use Rattle.law_transcript.specs.Units.{Carried, sending_in}
+use Rattle.proof_air.specs.law_transcript.Lists.{listed}
+use Rattle.proof_air.specs.law_transcript.Commands.{classes_for, message_for, order_of}
+use Rattle.proof_air.specs.law_transcript.Payloads.{form_by, nonce_get, nonce_report, no_more_information, IsAskedFor, IsDue, IsToldBy}
+use Rattle.proof_air.specs.law_transcript.Units.{Carried, sending_in}
 use Rattle.proof_line.specs.proof_host.Tables.{taken_at}
 use Rattle.proof_sending.specs.Reasons.{Reason, Asked_for, Wants_nonce, Gave_nonce, IsCarriedBy}
 

@@ -1,6 +1,6 @@
 -- What is known, at each phase of a line, of what the host has to send (this project's own rule): it is due by what the transcript shows so far, but between the words of a line and
 -- the end of its effect by what stood before the words.
-use Rattle.law_transcript.specs.Nodes.{always}
+use Rattle.proof_air.specs.law_transcript.Nodes.{always}
 use Rattle.std.specs.Prelude.{◌≡◌, ◌⊎◌, ℕ, List, [], ◌∷◌, ◌++◌}
 use Rattle.std.specs.List.{AllByRecursion}
 use Rattle.s0_crypto.specs.Sealing.{keys_of}
@@ -10,14 +10,14 @@ use Rattle.zw_text.specs.declared.line.Line.TheVariants as lines
 use Rattle.zw_text.specs.declared.entry.Entry.{Entry}
 use Rattle.zw_text.specs.declared.entry.Entry.TheVariants.{Said}
 use Rattle.zw_text.specs.Transcript.{line_of}
-use Rattle.law_transcript.specs.Payloads.{IsAskedFor}
+use Rattle.proof_air.specs.law_transcript.Payloads.{IsAskedFor}
 use Rattle.host_orders.specs.declared.carriage.Carriage.{Carriage}
 use Rattle.host_requests.specs.declared.task.Task.{Task}
 use Rattle.host_requests.specs.declared.task.Task.TheVariants.{Plain, Offer, Segment}
 use Rattle.host_model.specs.Events.{HostEvent, Accepts, Cancels, Joins, Queues, Queues_interview, Queues_probe}
 use Rattle.host_model.proofs.Own.{IsOwn}
-use Rattle.world_model.specs.State.{Machine}
-use Rattle.world_model.specs.Events.{Event, Outside_does, Host_does, Host_takes, Decoder_ticks}
+use Rattle.proof_air.specs.world_model.State.{Machine}
+use Rattle.proof_air.specs.world_model.Events.{Event, Outside_does, Host_does, Host_takes, Decoder_ticks}
 use Rattle.proof_line.specs.proof_host.Facts.{Facts}
 use Rattle.proof_spoken.specs.Said.{AreSaid, KnowsListing, Tells}
 use Rattle.proof_air.specs.proof_walk.ByLine.{IsOfTick, begun}

@@ -29,8 +29,8 @@ use Rattle.host_model.specs.Sessions.{nonce_get}
 use Rattle.host_model.specs.declared.out.HostOut.{HostOut}
 use Rattle.host_model.specs.declared.out.HostOut.TheVariants.{Write, Note}
 use Rattle.host_model.specs.Events.{HostEvent, Queues, Requests_do, Offers, Gives, Takes_nonce}
-use Rattle.law_transcript.specs.Payloads.{IsSegmentOf}
-use Rattle.proof_messages.specs.Hosts.{HasTexts}
+use Rattle.proof_air.specs.law_transcript.Payloads.{IsSegmentOf}
+use Rattle.proof_spoken.specs.proof_messages.Hosts.{HasTexts}
 use Rattle.proof_air.specs.Carrying.{TurnHas}
 use Rattle.proof_line.specs.proof_host.Tables.{taken_at}
 

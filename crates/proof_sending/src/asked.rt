@@ -10,9 +10,9 @@ ghost use Rattle.host_orders.specs.Errands.{get_text, send_text};
 ghost use Rattle.host_orders.specs.Refusals.{classes_of};
 ghost use Rattle.host_model.specs.State.{HostState, node_of};
 ghost use Rattle.host_model.specs.May.{known_of};
-ghost use Rattle.law_transcript.specs.Payloads.{IsAskedFor};
-ghost use Rattle.law_transcript.specs.Restarts.{begins_refused};
-ghost use Rattle.law_transcript.specs.Units.{Carried};
+ghost use Rattle.proof_air.specs.law_transcript.Payloads.{IsAskedFor};
+ghost use Rattle.proof_air.specs.law_transcript.Restarts.{begins_refused};
+ghost use Rattle.proof_air.specs.law_transcript.Units.{Carried};
 ghost use Rattle.proof_spoken.specs.Said.{KnowsListing};
 
 /// What lines have asked for stays asked for, whatever stands next, but for a refusal of the last of them; and directly after the words of a line that

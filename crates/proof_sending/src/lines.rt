@@ -3,17 +3,17 @@
 ghost use Rattle.std.specs.Prelude.{Some, ℕ, List, []};
 ghost use Rattle.device_sim.specs.State.{State};
 ghost use Rattle.s0_crypto.specs.Sealing.{keys_of};
-ghost use Rattle.law_transcript.specs.Nodes.{always, listing_of};
-ghost use Rattle.world_model.specs.State.{first_machine};
-ghost use Rattle.world_lines.specs.Spoken.{Spoken, transcript_of};
-ghost use Rattle.world_lines.specs.Done.{AreDone};
-ghost use Rattle.law_transcript.specs.Payloads.{SendsWhatIsDue};
+ghost use Rattle.proof_air.specs.law_transcript.Nodes.{always, listing_of};
+ghost use Rattle.proof_air.specs.world_model.State.{first_machine};
+ghost use Rattle.proof_air.specs.world_lines.Spoken.{Spoken, transcript_of};
+ghost use Rattle.proof_air.specs.world_lines.Done.{AreDone};
+ghost use Rattle.proof_air.specs.law_transcript.Payloads.{SendsWhatIsDue};
 
 use host_requests::callback_ids;
 use proof_line::host::{asides_keep_facts, events_keep_facts, laws_follow};
 use proof_line::rooms_go_on;
 use proof_line::world::{lines_keep_and_ask_well, restarts_go_on, the_machine_keeps_facts};
-use proof_messages::hosts_leave_nonces;
+use proof_spoken::messages::hosts_leave_nonces;
 use proof_spoken::serial::hosts_write_well;
 use proof_spoken::{
     interviews_give_what_is_known, interviews_tell_what_nodes_list, orders_are_carried_as_said,

@@ -21,8 +21,8 @@ ghost use Rattle.host_model.specs.Taking.{AreJudged};
 ghost use Rattle.serial_frame.specs.declared.item.Item.{Item};
 ghost use Rattle.host_model.specs.Outs.{outs};
 ghost use Rattle.s0_crypto.specs.Sealing.{keys_of};
-ghost use Rattle.law_transcript.specs.Lists.{Has};
-ghost use Rattle.law_transcript.specs.Units.{Carried, sending_in};
+ghost use Rattle.proof_air.specs.law_transcript.Lists.{Has};
+ghost use Rattle.proof_air.specs.law_transcript.Units.{Carried, sending_in};
 ghost use Rattle.proof_line.specs.proof_host.Facts.{AreBegun, Facts};
 ghost use Rattle.zw_text.specs.declared.entry.Entry.{Entry};
 ghost use Rattle.proof_sending.specs.Due.{sends, AreCarried, IsShown, WritesWhatIsDue};
@@ -31,7 +31,7 @@ ghost use Rattle.proof_sending.specs.Reasons.{Reason, HasReason, IsReasoned, Wri
 
 use host_requests::callback_ids;
 use proof_line::host::events_keep_facts;
-use proof_messages::hosts_leave_nonces;
+use proof_spoken::messages::hosts_leave_nonces;
 use proof_spoken::tables_keep_orders;
 
 /// Of a host that has heard of these reasons, all that it has to send is due: its frame on the line, which may be written again, the tasks that wait, and

@@ -6,9 +6,9 @@ use Rattle.host_node.specs.State.{NodeState, unknown}
 use Rattle.host_node.specs.Events.{after as after_node}
 use Rattle.host_node.specs.Events.NodeEvent.{Accepts as node_accepts, Joins as node_joins, Puts as node_puts}
 use Rattle.host_node.specs.TableState.{node_of, with_node}
-use Rattle.host_model.specs.State.{HostState}
-use Rattle.host_model.specs.After.{accepting, after, node_does}
-use Rattle.host_model.specs.Events.{HostEvent, Accepts, Joins, Interviews, Hears_value}
+use Rattle.proof_world.specs.host_model.State.{HostState}
+use Rattle.proof_world.specs.host_model.After.{accepting, after, node_does}
+use Rattle.proof_world.specs.host_model.Events.{HostEvent, Accepts, Joins, Interviews, Hears_value}
 use Rattle.proof_spoken.proofs.Keeping.{Keeping, each_kept, node_same, part_here, part_set, part_there}
 pub use Rattle.proof_spoken.proofs.Keeping.{LeavesRecords}
 

@@ -15,7 +15,7 @@ use Rattle.serial_frame.specs.declared.item.Item.TheVariants.{Good, Refused}
 use Rattle.serial_frame.specs.declared.item.Refusal.{Refusal}
 use Rattle.serial_frame.specs.declared.item.Refusal.TheVariants.{BadSum}
 use Rattle.s0_crypto.specs.declared.key_pair.Keys.{Keys}
-use Rattle.device_sim.specs.State.{State}
+use Rattle.proof_once.specs.device_sim.State.{State}
 use Rattle.serial_link.specs.declared.turn.Turn.{Turn}
 use Rattle.zw_words.specs.declared.side.Side.{Side}
 use Rattle.zw_words.specs.declared.side.Side.TheVariants.{Host, Chip}
@@ -40,17 +40,17 @@ use Rattle.chip_sim.specs.Link.{chip_units}
 use Rattle.host_requests.specs.Events.{interviewed_by}
 use Rattle.host_requests.specs.Events.RequestsEvent.{Fails as request_fails, IsSent as request_is_sent}
 use Rattle.host_heard.specs.Telling.{heard_at}
-use Rattle.host_model.specs.State.{HostState}
-use Rattle.host_model.specs.After.{after, is_busy, gives_up}
-use Rattle.host_model.specs.May.{says_listens}
-use Rattle.host_model.specs.Did.{after_all as host_after_all, outs_all as host_outs_all}
-use Rattle.host_model.specs.Events.{HostEvent, Hears, Interviews, Interview_unkept}
-use Rattle.host_model.specs.Taking.{InterviewEvents, ResponseEvents, NoticeEvents, FrameEvents, told_if, IsFollowed, AreJudged}
-use Rattle.host_model.specs.Outs.{answers}
-use Rattle.device_sim.specs.Event.{Ticks, Wakes, Sets}
+use Rattle.proof_world.specs.host_model.State.{HostState}
+use Rattle.proof_world.specs.host_model.After.{after, is_busy, gives_up}
+use Rattle.proof_world.specs.host_model.May.{says_listens}
+use Rattle.proof_world.specs.host_model.Did.{after_all as host_after_all, outs_all as host_outs_all}
+use Rattle.proof_world.specs.host_model.Events.{HostEvent, Hears, Interviews, Interview_unkept}
+use Rattle.proof_world.specs.host_model.Taking.{InterviewEvents, ResponseEvents, NoticeEvents, FrameEvents, told_if, IsFollowed, AreJudged}
+use Rattle.proof_world.specs.host_model.Outs.{answers}
+use Rattle.proof_once.specs.device_sim.Event.{Ticks, Wakes, Sets}
 use Rattle.air_frames.specs.Ages.{refusal_of}
-use Rattle.mesh_sim.specs.Fates.{place_of}
-use Rattle.mesh_sim.specs.Steps as mesh
+use Rattle.proof_once.specs.mesh_sim.Fates.{place_of}
+use Rattle.proof_once.specs.mesh_sim.Steps as mesh
 use Rattle.proof_once.specs.outside_model.Results.{device_at}
 use Rattle.proof_once.specs.outside_model.Nodes.{listens_at}
 use Rattle.proof_once.specs.outside_model.State.{OuterState, Outside, first_outer}

@@ -31,11 +31,11 @@ use Rattle.host_node.specs.Facts.{is_recorded}
 use Rattle.host_node.specs.TableState.{node_of as node_among, with_node as with_node_among}
 use Rattle.host_keep.specs.Status.{status_byte}
 use Rattle.host_keep.specs.declared.final_status.FinalStatus.{FinalStatus}
-use Rattle.host_model.specs.State.{HostState, command_at, node_of, with_outcome}
-use Rattle.host_model.specs.Sessions.{open_command, settings_with}
-use Rattle.host_model.specs.Ends.{PartEnd, Good, Passed_over, Bad, part_end, after_part, after_task, after_end, after_end_if, attempt_ended}
-use Rattle.host_model.specs.After.{after, requests_do, is_full, is_held, holding, finishing, confirming, giving, offering, gives_up, line_ticked, failing_if, node_does, node_for, outcome_of, queues_if_room}
-use Rattle.host_model.specs.Events.{HostEvent, Accepts, Cancels, Joins, Requests_do, Interviews, Works, Finishes, Offers, Gives, Takes_nonce, Notifies, Resends, Hears_value, Line_ticks, Node_ticks, Queues_no_more, Drops_no_more, Starts, Gives_text, Gives_segment, Begins, Begin_unkept}
+use Rattle.proof_world.specs.host_model.State.{HostState, command_at, node_of, with_outcome}
+use Rattle.proof_world.specs.host_model.Sessions.{open_command, settings_with}
+use Rattle.proof_world.specs.host_model.Ends.{PartEnd, Good, Passed_over, Bad, part_end, after_part, after_task, after_end, after_end_if, attempt_ended}
+use Rattle.proof_world.specs.host_model.After.{after, requests_do, is_full, is_held, holding, finishing, confirming, giving, offering, gives_up, line_ticked, failing_if, node_does, node_for, outcome_of, queues_if_room}
+use Rattle.proof_world.specs.host_model.Events.{HostEvent, Accepts, Cancels, Joins, Requests_do, Interviews, Works, Finishes, Offers, Gives, Takes_nonce, Notifies, Resends, Hears_value, Line_ticks, Node_ticks, Queues_no_more, Drops_no_more, Starts, Gives_text, Gives_segment, Begins, Begin_unkept}
 
 -- ---- a part of each node
 

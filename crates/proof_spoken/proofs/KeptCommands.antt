@@ -1,9 +1,9 @@
 -- A command that was taken stays in the table as it was taken.
 use Rattle.std.proofs.Common.{List, [], ◌∷◌, ◌∙◌}
-use Rattle.host_model.specs.State.{Command, HostState}
-use Rattle.host_model.specs.Events.{HostEvent, Accepts}
-use Rattle.host_model.specs.After.{after}
-use Rattle.host_model.specs.Did.{after_all}
+use Rattle.proof_world.specs.host_model.State.{Command, HostState}
+use Rattle.proof_world.specs.host_model.Events.{HostEvent, Accepts}
+use Rattle.proof_world.specs.host_model.After.{after}
+use Rattle.proof_world.specs.host_model.Did.{after_all}
 use Rattle.proof_once.specs.world_model.State.{Machine}
 use Rattle.proof_once.specs.world_model.Events.{Event, Outside_does, Host_does, Host_takes, Decoder_ticks, Refuses, Shows_values, Restarts, happens}
 use Rattle.proof_world.specs.Restarts.{StartsWell}

@@ -12,8 +12,8 @@ use Rattle.zw_text.proofs.Views.{shown-append}
 use Rattle.proof_once.specs.law_transcript.Nodes.{known_at_first, known_classes, always}
 use Rattle.host_node.specs.Steps.{after_interview, after_join}
 use Rattle.host_node.specs.TableState.{node_of, unknown_from, unknown_nodes, with_node}
-use Rattle.host_model.specs.State.{HostState, command_at, first_classes, first_host, first_nodes}
-use Rattle.host_model.specs.Sessions.{settings_with}
+use Rattle.proof_world.specs.host_model.State.{HostState, command_at, first_classes, first_host, first_nodes}
+use Rattle.proof_world.specs.host_model.Sessions.{settings_with}
 use Rattle.host_keep.specs.Kept.{Kept, classes_said, kept_of, node_of as kept_of_node}
 use Rattle.host_keep.specs.Legal.{Give}
 use Rattle.proof_world.specs.Restarts.{AreHeld}
@@ -22,12 +22,12 @@ use Rattle.chip_functions.specs.declared.notice.Update.{Update}
 use Rattle.s0_crypto.specs.declared.key_pair.Keys.{Keys}
 use Rattle.device_kinds.specs.Kind.{classes_of as kind_classes}
 use Rattle.device_kinds.specs.declared.kind.Kind.TheVariants.{Switch}
-use Rattle.host_model.specs.Events.{HostEvent, Accepts, Cancels, Finishes, Interviews}
-use Rattle.host_model.specs.After.{after as host_after, is_held}
-use Rattle.host_model.specs.Did.{after_all as host_after_all}
-use Rattle.host_model.specs.Outs.{outs, answers}
-use Rattle.host_model.specs.declared.out.HostOut.{HostOut}
-use Rattle.host_model.specs.declared.out.HostOut.TheVariants.{Write, Note}
+use Rattle.proof_world.specs.host_model.Events.{HostEvent, Accepts, Cancels, Finishes, Interviews}
+use Rattle.proof_world.specs.host_model.After.{after as host_after, is_held}
+use Rattle.proof_world.specs.host_model.Did.{after_all as host_after_all}
+use Rattle.proof_world.specs.host_model.Outs.{outs, answers}
+use Rattle.proof_world.specs.host_model.declared.out.HostOut.{HostOut}
+use Rattle.proof_world.specs.host_model.declared.out.HostOut.TheVariants.{Write, Note}
 use Rattle.proof_once.specs.proof_host.Entries.{entries_at, notes_of}
 use Rattle.proof_once.specs.outside_model.State.{Outside}
 use Rattle.proof_once.specs.outside_model.Events.{Host_writes, Host_notes, Host_begins, entries as entries_outside, outcome, ticked_entry, happens as happens_outside}

@@ -3,12 +3,12 @@ use Rattle.std.proofs.Common.{◌≡◌, ℕ, false, true, List, [], ◌∷◌, 
 use Rattle.std.specs.Prelude.{IsSome}
 use Rattle.std.specs.List.{AllByRecursion}
 use Rattle.zw_text.specs.declared.entry.Entry.{Entry}
-use Rattle.host_model.specs.State.{HostState}
-use Rattle.host_model.specs.Events.{HostEvent, Interviews}
-use Rattle.host_model.specs.After.{after}
-use Rattle.host_model.specs.Facts.{HostFacts}
+use Rattle.proof_world.specs.host_model.State.{HostState}
+use Rattle.proof_world.specs.host_model.Events.{HostEvent, Interviews}
+use Rattle.proof_world.specs.host_model.After.{after}
+use Rattle.proof_world.specs.host_model.Facts.{HostFacts}
 use Rattle.proof_once.specs.proof_host.Facts.{Facts}
-use Rattle.host_model.specs.Recording.{IsOfJoined, AllOfJoined}
+use Rattle.proof_world.specs.host_model.Recording.{IsOfJoined, AllOfJoined}
 use Rattle.proof_once.specs.world_model.State.{Machine}
 use Rattle.proof_once.specs.world_model.Events.{Event, Outside_does, Host_does, Host_takes, Decoder_ticks, Refuses, Shows_values, Restarts, happens, entries, May}
 use Rattle.proof_once.specs.world_model.Did.{MayAll}

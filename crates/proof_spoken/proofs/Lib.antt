@@ -39,3 +39,11 @@ pub use Rattle.proof_once.proofs.BegunCommands
 pub use Rattle.proof_world.proofs.First
 pub use Rattle.proof_world.proofs.ChangedUnits
 pub use Rattle.proof_once.proofs.CommandsOfSessions
+pub use Rattle.proof_once.proofs.LockSessions
+pub use Rattle.proof_once.proofs.SealedByNumber
+pub use Rattle.proof_once.proofs.SealedTexts
+pub use Rattle.proof_once.proofs.DeviceReports
+pub use Rattle.proof_once.proofs.Entering
+pub use Rattle.proof_once.proofs.Others
+pub use Rattle.proof_once.proofs.proof_device_ShownChanges as ShownChanges
+pub use Rattle.proof_once.proofs.KeptKinds

@@ -3,9 +3,9 @@ use Rattle.std.proofs.Common.{◌≡◌, ℕ, ◌&&◌, Bool, true, false, List,
 use Rattle.std.specs.Prelude.{Option, Some, None, if◌then◌else◌}
 use Rattle.std.specs.Option.{is_some}
 use Rattle.chip_sim.specs.Events.{ChipEvent, Informed}
-use Rattle.device_sim.specs.State.{State}
-use Rattle.mesh_sim.specs.Air.{is_joined}
-use Rattle.mesh_sim.specs.Fates.{place_of}
+use Rattle.proof_once.specs.device_sim.State.{State}
+use Rattle.proof_once.specs.mesh_sim.Air.{is_joined}
+use Rattle.proof_once.specs.mesh_sim.Fates.{place_of}
 use Rattle.proof_once.specs.outside_model.State.{OuterState}
 use Rattle.proof_once.specs.outside_model.Results.{told_profile, profile_of, device_at}
 use Rattle.proof_world.proofs.ChipMoves.{IsFree, Moves, Rule}

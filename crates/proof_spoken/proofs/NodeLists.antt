@@ -2,8 +2,8 @@
 use Rattle.std.proofs.Common.{◌≡◌, ℕ, Bool, true, false, List, [], ◌∷◌, ap, sym, ◌∙◌, subst}
 use Rattle.std.specs.Prelude.{Option, Some, None, ◌==◌, if◌then◌else◌, option_map, suc}
 use Rattle.device_kinds.specs.Kind.{classes_of}
-use Rattle.device_sim.specs.State.{State}
-use Rattle.mesh_sim.specs.Fates.{place_of}
+use Rattle.proof_once.specs.device_sim.State.{State}
+use Rattle.proof_once.specs.mesh_sim.Fates.{place_of}
 use Rattle.proof_once.specs.outside_model.Results.{device_at}
 use Rattle.proof_once.specs.law_transcript.Nodes.{device_of, listed_by, listing_of}
 use Rattle.proof_once.specs.world_model.State.{Machine}

@@ -3,10 +3,10 @@ use Rattle.std.proofs.Common.{◌≡◌, ℕ, zero, suc, ◌+◌, List, [], ◌�
 use Rattle.std.specs.Prelude.{slice_get}
 use Rattle.zw_text.specs.declared.entry.Outcome.{Outcome}
 use Rattle.host_keep.specs.Kept.{Taken}
-use Rattle.host_model.specs.State.{HostState, Command, set_at, with_outcome}
-use Rattle.host_model.specs.After.{after}
-use Rattle.host_model.specs.Events.{HostEvent, Accepts, Joins, Interviews, Hears_value}
-use Rattle.host_model.proofs.Numbered.{last_of}
+use Rattle.proof_world.specs.host_model.State.{HostState, Command, set_at, with_outcome}
+use Rattle.proof_world.specs.host_model.After.{after}
+use Rattle.proof_world.specs.host_model.Events.{HostEvent, Accepts, Joins, Interviews, Hears_value}
+use Rattle.proof_world.proofs.Numbered.{last_of}
 use Rattle.proof_once.specs.proof_host.Facts.{StartsAs}
 use Rattle.proof_once.specs.proof_host.Tables.{taken_at, taken_by}
 use Rattle.proof_once.proofs.Commands.{set_taken, length_set_at}

@@ -6,11 +6,11 @@ use Rattle.zw_base.proofs.Each.{all-append}
 use Rattle.zw_text.specs.declared.line.Line.{Line}
 use Rattle.zw_text.specs.declared.line.Line.TheVariants as line
 use Rattle.zw_base.specs.declared.order.Order.{Order}
-use Rattle.host_model.specs.Asking.{carriage_for}
+use Rattle.proof_world.specs.host_model.Asking.{carriage_for}
 use Rattle.host_orders.specs.declared.carriage.Carriage.{Carriage}
-use Rattle.host_model.specs.State.{HostState}
-use Rattle.host_model.specs.Events.{HostEvent, Accepts}
-use Rattle.host_model.specs.Outs.{answers}
+use Rattle.proof_world.specs.host_model.State.{HostState}
+use Rattle.proof_world.specs.host_model.Events.{HostEvent, Accepts}
+use Rattle.proof_world.specs.host_model.Outs.{answers}
 use Rattle.proof_once.specs.outside_model.Events.{Begins_line}
 use Rattle.proof_once.specs.world_model.State.{Machine}
 use Rattle.proof_once.specs.world_model.Events.{Event, Outside_does, Host_does}
@@ -19,8 +19,8 @@ use Rattle.proof_once.specs.world_model.Settling.{Settles}
 use Rattle.proof_once.specs.world_model.Lines.{IsEffect, IsLineBegin}
 use Rattle.proof_once.specs.world_model.Prefixes.{SettlesPrefix, LinePart}
 use Rattle.proof_once.proofs.Pieces.{Law, Pieces, of_settling, of_settling_prefix, of_line_part}
-use Rattle.host_model.proofs.Own.{IsOwn}
-use Rattle.host_model.proofs.Silence.{Silent}
+use Rattle.proof_world.proofs.Own.{IsOwn}
+use Rattle.proof_world.proofs.Silence.{Silent}
 use Rattle.proof_once.proofs.Along.{IsAskedBy, IsOfPart, IsOfEffect, along, pieces_along, effect_along, anywhere}
 use Rattle.proof_world.specs.world_lines.Spoken.{Spoken}
 use Rattle.proof_spoken.specs.Spoken.{IsSpoken}

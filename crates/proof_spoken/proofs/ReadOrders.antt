@@ -18,7 +18,7 @@ use Rattle.host_keep.specs.Kept.{Taken}
 use Rattle.host_orders.specs.Settings.{settings}
 use Rattle.host_orders.specs.Wrapping.{carriage_of}
 use Rattle.host_orders.specs.declared.carriage.Carriage.{Carriage}
-use Rattle.host_model.specs.State.{Command, HostState, command_at}
+use Rattle.proof_world.specs.host_model.State.{Command, HostState, command_at}
 use Rattle.proof_once.specs.proof_host.Facts.{Facts}
 use Rattle.proof_once.specs.proof_host.Laws.{accepted_for, number_for, numbers_for}
 use Rattle.proof_once.specs.proof_host.Tables.{nodes_by, taken_at}

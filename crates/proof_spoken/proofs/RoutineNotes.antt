@@ -7,11 +7,11 @@ use Rattle.zw_text.specs.declared.entry.Ended.TheVariants as ended
 use Rattle.zw_text.specs.declared.entry.Entry.{Entry}
 use Rattle.zw_text.specs.declared.entry.Entry.TheVariants.{Interviewed, Out}
 use Rattle.host_keep.specs.declared.final_status.FinalStatus.TheVariants as final
-use Rattle.host_model.specs.State.{HostState}
-use Rattle.host_model.specs.Outs.{held_entries, noted, outs, stored_entries, answers}
-use Rattle.host_model.specs.Events.{HostEvent, Accepts, Cancels, Interviews, Finishes}
-use Rattle.host_model.specs.declared.out.HostOut.{HostOut}
-use Rattle.host_model.specs.declared.out.HostOut.TheVariants.{Write, Note}
+use Rattle.proof_world.specs.host_model.State.{HostState}
+use Rattle.proof_world.specs.host_model.Outs.{held_entries, noted, outs, stored_entries, answers}
+use Rattle.proof_world.specs.host_model.Events.{HostEvent, Accepts, Cancels, Interviews, Finishes}
+use Rattle.proof_world.specs.host_model.declared.out.HostOut.{HostOut}
+use Rattle.proof_world.specs.host_model.declared.out.HostOut.TheVariants.{Write, Note}
 use Rattle.proof_once.specs.proof_host.Entries.{entries_at, notes_of}
 use Rattle.proof_world.proofs.HostOuts.{OutsAre, OwnIs, SharedAre, outs_are, session_are}
 

@@ -14,11 +14,11 @@ use Rattle.proof_once.specs.law_transcript.Nodes.{host_list, known_at_first, kno
 use Rattle.host_keep.specs.Kept.{Taken}
 use Rattle.host_orders.specs.Wrapping.{carriage_of}
 use Rattle.host_orders.specs.declared.carriage.Carriage.{Carriage}
-use Rattle.host_model.specs.State.{Command, HostState}
-use Rattle.host_model.specs.Events.{HostEvent, Accepts}
-use Rattle.host_model.specs.May.{IsAccepted}
-use Rattle.host_model.specs.After.{after as host_after}
-use Rattle.host_model.specs.Did.{after_all as host_after_all}
+use Rattle.proof_world.specs.host_model.State.{Command, HostState}
+use Rattle.proof_world.specs.host_model.Events.{HostEvent, Accepts}
+use Rattle.proof_world.specs.host_model.May.{IsAccepted}
+use Rattle.proof_world.specs.host_model.After.{after as host_after}
+use Rattle.proof_world.specs.host_model.Did.{after_all as host_after_all}
 use Rattle.proof_once.specs.proof_host.Entries.{IsAside}
 use Rattle.proof_once.specs.proof_host.Facts.{Facts}
 use Rattle.proof_once.specs.proof_host.Tables.{taken_at}
@@ -28,7 +28,7 @@ use Rattle.proof_once.specs.world_model.State.{Machine}
 use Rattle.proof_once.specs.world_model.Events.{Event, Outside_does, Host_does, Host_takes, Decoder_ticks, Refuses, Shows_values, Restarts, happens, entries, May}
 use Rattle.proof_once.specs.world_model.Did.{happens_all, entries_all, MayAll}
 use Rattle.proof_once.specs.world_model.Prefixes.{LinePart}
-use Rattle.host_model.proofs.Silence.{judged_silent}
+use Rattle.proof_world.proofs.Silence.{judged_silent}
 use Rattle.proof_once.proofs.world_model_EventLists.{entries_all-append}
 use Rattle.proof_world.specs.Restarts.{StartsWell, AllStartWell}
 use Rattle.proof_world.specs.world_lines.Spoken.{Spoken, after, after_all, entries_of, transcript_of}

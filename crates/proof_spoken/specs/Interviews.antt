@@ -1,7 +1,7 @@
 -- What interviews hear (this project's own).
 use Rattle.std.specs.Prelude.{◌≡◌, ℕ, List}
 use Rattle.std.specs.List.{AllByRecursion}
-use Rattle.host_model.specs.Events.{HostEvent, Interviews}
+use Rattle.proof_world.specs.host_model.Events.{HostEvent, Interviews}
 use Rattle.proof_once.specs.world_model.Events.{Event, Host_takes}
 
 -- an interview that ends well hears the list of its node

@@ -10,9 +10,9 @@ use Rattle.proof_once.specs.law_transcript.Nodes.{host_list, known_classes, alwa
 use Rattle.host_orders.specs.Wrapping.{carriage_of}
 use Rattle.host_orders.specs.declared.carriage.Carriage.{Carriage}
 use Rattle.host_node.specs.TableState.{node_of}
-use Rattle.host_model.specs.State.{Command, HostState}
-use Rattle.host_model.specs.Events.{HostEvent, Interviews}
-use Rattle.host_model.specs.After.{after as host_after}
+use Rattle.proof_world.specs.host_model.State.{Command, HostState}
+use Rattle.proof_world.specs.host_model.Events.{HostEvent, Interviews}
+use Rattle.proof_world.specs.host_model.After.{after as host_after}
 use Rattle.proof_once.specs.proof_host.Tables.{taken_at}
 use Rattle.proof_once.specs.world_model.State.{Machine}
 use Rattle.proof_once.specs.world_model.Events.{Event, Host_does, Host_takes, Restarts, happens}

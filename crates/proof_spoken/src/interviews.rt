@@ -3,7 +3,7 @@
 ghost use Rattle.std.specs.Prelude.{Some, List, []};
 ghost use Rattle.std.specs.List.{AllByRecursion};
 ghost use Rattle.s0_crypto.specs.declared.key_pair.Keys.{Keys};
-ghost use Rattle.device_sim.specs.State.{State};
+ghost use Rattle.proof_once.specs.device_sim.State.{State};
 ghost use Rattle.zw_text.specs.declared.line.Line.{Line};
 ghost use Rattle.proof_once.specs.law_transcript.Nodes.{listing_of};
 ghost use Rattle.proof_once.specs.world_model.State.{first_machine};

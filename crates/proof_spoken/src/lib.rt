@@ -18,7 +18,7 @@ mod said;
 
 pub use interviews::{interviews_tell_what_nodes_list, lines_tell_what_nodes_list};
 pub use proof_once as once;
-pub use proof_once::device;
+pub use proof_once::{device, messages};
 pub use proof_world as world;
 pub use proof_world::serial;
 pub use said::{

@@ -18,12 +18,12 @@ use Rattle.zw_text.specs.declared.entry.Entry.TheVariants.{Accepted}
 use Rattle.zw_text.specs.declared.entry.Outcome.{Outcome}
 use Rattle.zw_text.specs.declared.entry.Outcome.TheVariants as outcomes
 use Rattle.zw_text.specs.Transcript.{accepted_number, accepted_numbers, outcome}
-use Rattle.law_transcript.specs.Answers.{known_of, properties_kept, properties_with, refused_without}
-use Rattle.law_transcript.specs.Commands.{is_waiting, waiting}
-use Rattle.law_transcript.specs.Lists.{Has}
-use Rattle.law_transcript.specs.Stores.{heard_value, node_at}
-use Rattle.law_transcript.specs.Nodes.{device_of, host_list, is_joined, known_classes, listing_of, always}
-use Rattle.law_transcript.proofs.Having.{all_of, has_shown, shown_has}
+use Rattle.law_host.specs.law_transcript.Answers.{known_of, properties_kept, properties_with, refused_without}
+use Rattle.law_host.specs.law_transcript.Commands.{is_waiting, waiting}
+use Rattle.law_host.specs.law_transcript.Lists.{Has}
+use Rattle.law_host.specs.law_transcript.Stores.{heard_value, node_at}
+use Rattle.law_host.specs.law_transcript.Nodes.{device_of, host_list, is_joined, known_classes, listing_of, always}
+use Rattle.law_host.proofs.Having.{all_of, has_shown, shown_has}
 use Rattle.host_model.specs.State.{HostState, Command, command_at, node_of}
 use Rattle.host_model.specs.After.{node_for, node_with}
 use Rattle.host_model.specs.Asking.{Waits, carriage_for, refusal_for}

@@ -33,10 +33,10 @@ use Rattle.zw_text.specs.declared.entry.Refusal.TheVariants as refusals
 use Rattle.zw_text.specs.declared.entry.Entry.{Entry}
 use Rattle.zw_text.specs.declared.entry.Entry.TheVariants as entry
 use Rattle.zw_text.specs.Transcript.{line_of, line_last}
-use Rattle.law_transcript.specs.Lists.{EachAfter, listed}
-use Rattle.law_transcript.specs.Answers.{AsksNothing, Follows, IsAnswer, IsNoAnswer, IsNoBadRecord, IsRefusal, LetsIn, MayAnswer, MayStandAfter, ReadsItsRecords, answer_to, answered_by, before_last, refusal_entry, refusals_to, refused_without}
-use Rattle.law_transcript.specs.Nodes.{device_of, is_joined, listing_of, always}
-use Rattle.law_transcript.specs.Repeats.{repeat_entry}
+use Rattle.law_host.specs.law_transcript.Lists.{EachAfter, listed}
+use Rattle.law_host.specs.law_transcript.Answers.{AsksNothing, Follows, IsAnswer, IsNoAnswer, IsNoBadRecord, IsRefusal, LetsIn, MayAnswer, MayStandAfter, ReadsItsRecords, answer_to, answered_by, before_last, refusal_entry, refusals_to, refused_without}
+use Rattle.law_host.specs.law_transcript.Nodes.{device_of, is_joined, listing_of, always}
+use Rattle.law_host.specs.law_transcript.Repeats.{repeat_entry}
 use Rattle.proof_air.proofs.Lists.{each-weaker}
 use Rattle.host_model.specs.State.{HostState, node_of}
 use Rattle.host_model.specs.After.{node_for}
@@ -45,10 +45,10 @@ use Rattle.host_model.specs.May.{known_of as known_of_host}
 use Rattle.host_model.specs.Asking.{carriage_for, join_refusal, places_refusal, refusal_for}
 use Rattle.host_requests.specs.declared.task.Task.{Task}
 use Rattle.host_requests.specs.declared.task.Task.TheVariants as task
-use Rattle.outside_model.specs.State.{Outcome}
-use Rattle.outside_model.specs.Devices.{MayAct, MayActByHand, acts, acts_at, acts_by_hand, shown_entries}
-use Rattle.outside_model.specs.Results.{device_at}
-use Rattle.outside_model.specs.Events.{OuterEvent, Repeats, Wakes_device, Sets_device, Shows, Joins, Discovers, Links, Loses, Loses_acks, Marks_loss, Marks_change, Clears_pipe, Collides_next, Stalls, Cuts, MayRepeat, cleared_entries, refusal_entries, repeats, stamp, way_of, outcome, devices_after, May as MayOutside}
+use Rattle.proof_air.specs.outside_model.State.{Outcome}
+use Rattle.proof_air.specs.outside_model.Devices.{MayAct, MayActByHand, acts, acts_at, acts_by_hand, shown_entries}
+use Rattle.proof_air.specs.outside_model.Results.{device_at}
+use Rattle.proof_air.specs.outside_model.Events.{OuterEvent, Repeats, Wakes_device, Sets_device, Shows, Joins, Discovers, Links, Loses, Loses_acks, Marks_loss, Marks_change, Clears_pipe, Collides_next, Stalls, Cuts, MayRepeat, cleared_entries, refusal_entries, repeats, stamp, way_of, outcome, devices_after, May as MayOutside}
 use Rattle.proof_spoken.proofs.Entered.{IsMark, IsCleared, all_cleared}
 use Rattle.proof_air.specs.world_model.State.{Machine}
 use Rattle.proof_air.specs.world_model.Events.{Event, Outside_does, Host_does, Refuses, Shows_values, Restarts, shown_values, happens, entries, May}

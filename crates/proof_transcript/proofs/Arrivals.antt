@@ -23,10 +23,10 @@ use Rattle.mesh_sim.specs.Fates.{is_awake, awake_at, place_of, listener_of, dead
 use Rattle.mesh_sim.specs.Routes.{backwards}
 use Rattle.mesh_sim.specs.Steps.{done_of, status_of, landed, acknowledged, changed, sent_event, answered, answers, answered_if, answers_if, air_hearing, heard_at, outs_at, arriving_as, arrival_outs_as, arriving, arrival_outs, heard_again, outs_again, repeating_by, repeating, repeat_outs_by, repeat_outs, mesh_after, mesh_outs, MayHappen, MayArriveIf}
 use Rattle.mesh_sim.specs.Steps as mesh
-use Rattle.outside_model.specs.State.{OuterState, Outside, Outcome, each}
-use Rattle.outside_model.specs.Air.{change_entries, change_at, sent_entries, deals}
-use Rattle.outside_model.specs.Results.{device_at}
-use Rattle.outside_model.specs.Events.{mesh_of, steps, repeats}
+use Rattle.proof_air.specs.outside_model.State.{OuterState, Outside, Outcome, each}
+use Rattle.proof_air.specs.outside_model.Air.{change_entries, change_at, sent_entries, deals}
+use Rattle.proof_air.specs.outside_model.Results.{device_at}
+use Rattle.proof_air.specs.outside_model.Events.{mesh_of, steps, repeats}
 use Rattle.proof_spoken.proofs.ChangesOutside.{fate_listens}
 use Rattle.proof_transcript.proofs.Plain.{change_plain}
 use Rattle.proof_transcript.proofs.KeptOverLists.{Keeps, Airs, Goes, IsSameTime, same_then, keeps_none, keeps_both, keeps_plain}

@@ -27,12 +27,12 @@ use Rattle.zw_text.specs.declared.entry.Entry.TheVariants as entry
 use Rattle.zw_text.specs.Transcript.{Unit_on, Way, folded, last_with, unit_step, units}
 use Rattle.zw_text.specs.Transcript.Way.{Whole, Missed, Changed}
 use Rattle.zw_text.proofs.Views.{folded-append}
-use Rattle.law_transcript.specs.Lists.{EachAfter}
-use Rattle.law_transcript.specs.Units.{Carried, arrived_of, function_in, read_well, sending_in, sending_of}
-use Rattle.law_transcript.specs.Carrying.{ArePicked, MaySend, asked, asked_by, asked_in, body_of, frame_text, is_request, sent_out}
+use Rattle.law_host.specs.law_transcript.Lists.{EachAfter}
+use Rattle.law_host.specs.law_transcript.Units.{Carried, arrived_of, function_in, read_well, sending_in, sending_of}
+use Rattle.law_host.specs.law_transcript.Carrying.{ArePicked, MaySend, asked, asked_by, asked_in, body_of, frame_text, is_request, sent_out}
 use Rattle.proof_spoken.proofs.Entered.{IsMark, told_by_marks}
 use Rattle.proof_air.proofs.Lists.{each-anywhere}
-use Rattle.outside_model.specs.State.{OuterState}
+use Rattle.proof_air.specs.outside_model.State.{OuterState}
 use Rattle.proof_spoken.specs.proof_serial.Way.{changed_item, items_of, unit_item}
 use Rattle.proof_spoken.proofs.ChangedUnits.{changed_text}
 use Rattle.proof_spoken.proofs.Ways.{carries_more, same_room}

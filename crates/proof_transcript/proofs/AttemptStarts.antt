@@ -6,9 +6,9 @@ use Rattle.zw_base.proofs.Each.{all-weaker}
 use Rattle.zw_words.specs.declared.side.Side.TheVariants.{Host as by_host}
 use Rattle.zw_text.specs.declared.entry.Entry.{Entry}
 use Rattle.zw_text.specs.declared.entry.Entry.TheVariants.{Begin, Said, Time, Written}
-use Rattle.law_transcript.specs.Lists.{EachAfter}
-use Rattle.law_transcript.specs.Payloads.{FollowsBegin, GoesTo}
-use Rattle.law_transcript.specs.Units.{sending_in}
+use Rattle.law_host.specs.law_transcript.Lists.{EachAfter}
+use Rattle.law_host.specs.law_transcript.Payloads.{FollowsBegin, GoesTo}
+use Rattle.law_host.specs.law_transcript.Units.{sending_in}
 use Rattle.serial_frame.specs.Items.{unit_text}
 use Rattle.serial_frame.specs.declared.unit.Unit.{Unit as LineUnit}
 use Rattle.serial_frame.specs.declared.unit.Unit.TheVariants.{Framed}
@@ -30,8 +30,8 @@ use Rattle.host_model.specs.Events.{HostEvent, Begins, Cancels, Starts}
 use Rattle.proof_air.specs.proof_host.Entries.{IsAside, entries_at}
 use Rattle.proof_air.specs.proof_host.Facts.{Facts}
 use Rattle.proof_air.proofs.Lists.{each-append}
-use Rattle.outside_model.specs.State.{OuterState}
-use Rattle.outside_model.specs.Events.{devices_after, outcome, ticked_entry}
+use Rattle.proof_air.specs.outside_model.State.{OuterState}
+use Rattle.proof_air.specs.outside_model.Events.{devices_after, outcome, ticked_entry}
 use Rattle.proof_air.specs.world_model.State.{Machine}
 use Rattle.proof_air.specs.world_model.Events.{Event, Host_does, Host_takes, entries, happens, May}
 use Rattle.proof_air.specs.world_model.Did.{happens_all, entries_all, MayAll}

@@ -15,8 +15,8 @@ use Rattle.chip_functions.specs.Request.{request_body, request_of}
 use Rattle.chip_functions.proofs.RequestLaws.{request_only}
 use Rattle.host_requests.specs.declared.task.Purpose.TheVariants.{Attempt}
 use Rattle.host_requests.specs.Frames.{frame_of}
-use Rattle.law_transcript.specs.Payloads.{GoesTo}
-use Rattle.law_transcript.specs.Units.{body_in, read_well, sending_in, sending_of}
+use Rattle.law_host.specs.law_transcript.Payloads.{GoesTo}
+use Rattle.law_host.specs.law_transcript.Units.{body_in, read_well, sending_in, sending_of}
 use Rattle.proof_air.proofs.Bodies.{body_is}
 
 goes : (n : ℕ) (payload : List ℕ) (id : ℕ) (r : Result Request BodyFault) → r ≡ Ok (SendData n payload TRANSMIT_OPTIONS id) → GoesTo n (flat_map sending_of (read_well r))

@@ -7,9 +7,9 @@ use Rattle.zw_text.specs.declared.line.Line.TheVariants.{Command, Tick, Cut, Sta
 use Rattle.host_orders.specs.declared.refused.Refused.{Refused}
 use Rattle.host_model.specs.Events.{HostEvent}
 use Rattle.host_model.specs.Ticking.{tick_events}
-use Rattle.outside_model.specs.State.{is_stalled}
-use Rattle.outside_model.specs.Events.{OuterEvent, Begins_tick, Arrives}
-use Rattle.outside_model.specs.Schedules.{TakesBy as ChipTakesBy, Arrivals, Givings, DeviceTicks}
+use Rattle.proof_air.specs.outside_model.State.{is_stalled}
+use Rattle.proof_air.specs.outside_model.Events.{OuterEvent, Begins_tick, Arrives}
+use Rattle.proof_air.specs.outside_model.Schedules.{TakesBy as ChipTakesBy, Arrivals, Givings, DeviceTicks}
 use Rattle.proof_air.specs.world_model.State.{Machine}
 use Rattle.proof_air.specs.world_model.Events.{Event, Outside_does, Host_does}
 use Rattle.proof_air.specs.world_model.Did.{happens_all, Schedule, Then, Nothing, PrefixOf, ThenPrefix}

@@ -11,7 +11,7 @@ use Rattle.host_keep.specs.declared.record.Record.{Record}
 use Rattle.host_keep.specs.declared.record.Record.TheVariants as record_of
 use Rattle.host_keep.specs.declared.final_status.FinalStatus.{FinalStatus}
 use Rattle.host_keep.specs.declared.final_status.FinalStatus.TheVariants as final
-use Rattle.law_transcript.specs.Records.{cancelled_at}
+use Rattle.law_host.specs.law_transcript.Records.{cancelled_at}
 use Rattle.host_model.specs.State.{HostState, node_of}
 use Rattle.host_model.specs.Events.{HostEvent, Accepts, Cancels, Interviews, Interview_unkept, Unreads, Is_unkept, Reports_old, Finishes, Spends_unread, Takes_nonce, Notifies, Hears_value, Has_no_room, Begins, Begin_unkept}
 use Rattle.host_model.specs.Records.{records_at}
@@ -25,8 +25,8 @@ use Rattle.proof_air.specs.proof_host.Entries.{IsAside, notes_of, entries_at}
 use Rattle.proof_spoken.proofs.HostOuts.{OutsAre, OwnIs, SharedAre, outs_are}
 use Rattle.proof_air.specs.world_model.State.{Machine, host_does, host_entries, routed}
 use Rattle.proof_air.proofs.Hosting.{entries_cons}
-use Rattle.outside_model.specs.Events.{Host_notes}
-use Rattle.outside_model.specs.Did.{entries_all as entries_all_outside}
+use Rattle.proof_air.specs.outside_model.Events.{Host_notes}
+use Rattle.proof_air.specs.outside_model.Did.{entries_all as entries_all_outside}
 use Rattle.proof_spoken.proofs.Aside.{Asides}
 use Rattle.proof_spoken.proofs.Notes.{Trailing, event_following}
 use Rattle.proof_transcript.specs.Records.{cancelled_by}

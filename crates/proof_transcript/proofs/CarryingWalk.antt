@@ -18,10 +18,10 @@ use Rattle.mesh_sim.specs.Air.{is_joined}
 use Rattle.zw_words.specs.declared.side.Side.TheVariants.{Host as by_host, Chip as by_chip}
 use Rattle.zw_text.specs.declared.entry.Entry.{Entry}
 use Rattle.zw_text.specs.declared.entry.Entry.TheVariants as entry
-use Rattle.law_transcript.specs.Lists.{EachAfter}
-use Rattle.law_transcript.specs.Nodes.{controller}
-use Rattle.law_transcript.specs.Units.{Carried}
-use Rattle.law_transcript.specs.Carrying.{ArePicked, MaySend, asked, sent_out}
+use Rattle.law_host.specs.law_transcript.Lists.{EachAfter}
+use Rattle.law_host.specs.law_transcript.Nodes.{controller}
+use Rattle.law_host.specs.law_transcript.Units.{Carried}
+use Rattle.law_host.specs.law_transcript.Carrying.{ArePicked, MaySend, asked, sent_out}
 use Rattle.proof_air.proofs.Lists.{each-append}
 use Rattle.host_model.specs.State.{HostState}
 use Rattle.host_model.specs.Events.{HostEvent}
@@ -29,9 +29,9 @@ use Rattle.host_model.specs.Did.{outs_all}
 use Rattle.host_model.specs.Outs.{answers}
 use Rattle.host_model.specs.declared.out.HostOut.{HostOut}
 use Rattle.host_model.specs.declared.out.HostOut.TheVariants.{Write, Note}
-use Rattle.outside_model.specs.State.{OuterState, Outside}
-use Rattle.outside_model.specs.Events.{OuterEvent, Host_writes, Host_takes as host_takes, Host_notes, Host_begins, Chip_takes, Clears_pipe, is_own, outcome, stamp, ticked_entry, happens as happens_outside, entries as entries_outside}
-use Rattle.outside_model.specs.Did.{happens_all as happens_all_outside, entries_all as entries_all_outside}
+use Rattle.proof_air.specs.outside_model.State.{OuterState, Outside}
+use Rattle.proof_air.specs.outside_model.Events.{OuterEvent, Host_writes, Host_takes as host_takes, Host_notes, Host_begins, Chip_takes, Clears_pipe, is_own, outcome, stamp, ticked_entry, happens as happens_outside, entries as entries_outside}
+use Rattle.proof_air.specs.outside_model.Did.{happens_all as happens_all_outside, entries_all as entries_all_outside}
 use Rattle.proof_air.specs.world_model.State.{Machine, first_machine, host_does, routed}
 use Rattle.proof_air.specs.world_model.Events.{Event, Outside_does, Host_does, Host_takes, Decoder_ticks, Refuses, Shows_values, Restarts, notes, shown_values, happens, entries, May}
 use Rattle.proof_air.specs.world_model.Did.{AllAlong}

@@ -6,8 +6,8 @@ use Rattle.zw_text.specs.declared.line.Line.TheVariants as line
 use Rattle.host_model.specs.Events.{HostEvent, Node_ticks}
 use Rattle.host_model.specs.Ticking.{first_ticks, tick_events, ticking_nodes}
 use Rattle.host_model.specs.Did.{after_all}
-use Rattle.outside_model.specs.Events.{OuterEvent}
-use Rattle.outside_model.specs.State.{is_stalled}
+use Rattle.proof_air.specs.outside_model.Events.{OuterEvent}
+use Rattle.proof_air.specs.outside_model.State.{is_stalled}
 use Rattle.proof_air.specs.world_model.State.{Machine}
 use Rattle.proof_air.specs.world_model.Events.{Event, Outside_does, Host_does, Decoder_ticks, happens}
 use Rattle.proof_air.specs.world_model.Did.{happens_all, AllAlong, PrefixOf, Nothing, Schedule, Then, ThenPrefix}

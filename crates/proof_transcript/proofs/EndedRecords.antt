@@ -8,7 +8,7 @@ use Rattle.zw_text.specs.declared.entry.Entry.{Entry}
 use Rattle.zw_text.specs.declared.entry.Outcome.{Outcome}
 use Rattle.zw_text.specs.declared.entry.Outcome.TheVariants as outcomes
 use Rattle.zw_text.specs.Transcript.{outcome}
-use Rattle.law_transcript.specs.Records.{final_of}
+use Rattle.law_host.specs.law_transcript.Records.{final_of}
 use Rattle.host_keep.specs.Kept.{Kept, KeptNode, Session, is_among, node_of as kept_of_node}
 use Rattle.host_keep.specs.declared.final_status.FinalStatus.{FinalStatus}
 use Rattle.host_keep.specs.declared.final_status.FinalStatus.TheVariants as final

@@ -21,14 +21,14 @@ use Rattle.host_model.specs.Did.{outs_all}
 use Rattle.host_model.specs.declared.out.HostOut.{HostOut}
 use Rattle.host_model.specs.declared.out.HostOut.TheVariants.{Write, Note}
 use Rattle.host_model.specs.Outs.{answers}
-use Rattle.outside_model.specs.State.{OuterState, Outside, Outcome}
-use Rattle.outside_model.specs.Chip.{chip_does}
-use Rattle.outside_model.specs.Results.{device_at}
-use Rattle.outside_model.specs.Events.{OuterEvent, Begins_line, Begins_tick, Host_writes, Host_takes as host_takes, Host_notes, Host_begins, Chip_takes, Arrives, Gives, Device_ticks, Chip_ticks, Repeats, Wakes_device, Sets_device, Shows, Joins, Discovers, Links, Loses, Loses_acks, Marks_loss, Marks_change, Clears_pipe, Collides_next, Stalls, Cuts, begins, outcome, ticked_entry, stamp, has_entered, happens as happens_outside, entries as entries_outside}
-use Rattle.outside_model.specs.Did.{happens_all as happens_all_outside, entries_all as entries_all_outside}
+use Rattle.proof_air.specs.outside_model.State.{OuterState, Outside, Outcome}
+use Rattle.proof_air.specs.outside_model.Chip.{chip_does}
+use Rattle.proof_air.specs.outside_model.Results.{device_at}
+use Rattle.proof_air.specs.outside_model.Events.{OuterEvent, Begins_line, Begins_tick, Host_writes, Host_takes as host_takes, Host_notes, Host_begins, Chip_takes, Arrives, Gives, Device_ticks, Chip_ticks, Repeats, Wakes_device, Sets_device, Shows, Joins, Discovers, Links, Loses, Loses_acks, Marks_loss, Marks_change, Clears_pipe, Collides_next, Stalls, Cuts, begins, outcome, ticked_entry, stamp, has_entered, happens as happens_outside, entries as entries_outside}
+use Rattle.proof_air.specs.outside_model.Did.{happens_all as happens_all_outside, entries_all as entries_all_outside}
 use Rattle.proof_air.specs.world_model.State.{Machine, begun_in, noted_by, routed, host_does}
 use Rattle.proof_air.specs.world_model.Events.{Event, Outside_does, Host_does, Host_takes, Decoder_ticks, Refuses, Shows_values, Restarts, notes, shown_values, happens, entries}
-use Rattle.law_transcript.specs.Lists.{EachAfter}
+use Rattle.law_host.specs.law_transcript.Lists.{EachAfter}
 use Rattle.proof_air.proofs.Lists.{each-append}
 use Rattle.proof_transcript.proofs.Plain.{IsPlain, Plains, told_plain, shown_plain, cleared_plain}
 use Rattle.proof_transcript.proofs.HostOuts.{PlainOuts, all_outs_plain, answers_plain}

@@ -7,8 +7,8 @@ use Rattle.std.proofs.lemmas.List.{length-append}
 use Rattle.zw_text.specs.declared.entry.Entry.{Entry}
 use Rattle.zw_text.specs.declared.entry.Entry.TheVariants as entry
 use Rattle.zw_text.specs.Transcript.{AirFrame, frame_at, frames}
-use Rattle.law_transcript.specs.Fates.{MayAir}
-use Rattle.law_transcript.specs.Nodes.{controller}
+use Rattle.law_host.specs.law_transcript.Fates.{MayAir}
+use Rattle.law_host.specs.law_transcript.Nodes.{controller}
 use Rattle.air_frames.specs.declared.frame.Heading.TheVariants.{Outward, Homeward}
 use Rattle.air_frames.specs.Ages.{refusal_of}
 use Rattle.air_frames.specs.Flown.{Flown}
@@ -16,9 +16,9 @@ use Rattle.air_frames.specs.Frames.{putting, landing}
 use Rattle.mesh_sim.specs.Air.{AirState, no_route, departing}
 use Rattle.mesh_sim.specs.Steps.{landed}
 use Rattle.mesh_sim.specs.Steps as mesh
-use Rattle.outside_model.specs.State.{OuterState, Outside, Outcome}
-use Rattle.outside_model.specs.Chip.{shown_via}
-use Rattle.outside_model.specs.Events.{OuterEvent, Begins_line, Begins_tick, Host_notes, Arrives, Repeats, Loses, is_own, outcome, stamp, has_entered, steps, repeats, happens as happens_outside, entries as entries_outside, May as MayOutside}
+use Rattle.proof_air.specs.outside_model.State.{OuterState, Outside, Outcome}
+use Rattle.proof_air.specs.outside_model.Chip.{shown_via}
+use Rattle.proof_air.specs.outside_model.Events.{OuterEvent, Begins_line, Begins_tick, Host_notes, Arrives, Repeats, Loses, is_own, outcome, stamp, has_entered, steps, repeats, happens as happens_outside, entries as entries_outside, May as MayOutside}
 use Rattle.proof_air.specs.world_model.State.{Machine}
 use Rattle.proof_air.specs.world_model.Events.{Event, Outside_does, happens, entries, May}
 use Rattle.proof_air.specs.world_model.Did.{happens_all, entries_all, MayAll}

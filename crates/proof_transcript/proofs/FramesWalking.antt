@@ -8,10 +8,10 @@ use Rattle.zw_text.specs.declared.line.Line.TheVariants.{Tick, Lose, Repeat, Res
 use Rattle.zw_text.specs.declared.entry.Entry.{Entry}
 use Rattle.zw_text.specs.declared.entry.Entry.TheVariants.{Said}
 use Rattle.zw_text.specs.Transcript.{line_of}
-use Rattle.law_transcript.specs.Lists.{EachAfter}
+use Rattle.law_host.specs.law_transcript.Lists.{EachAfter}
 use Rattle.proof_air.proofs.Lists.{each-append}
-use Rattle.outside_model.specs.State.{OuterState}
-use Rattle.outside_model.specs.Events.{OuterEvent, Begins_line, Loses, Repeats, outcome}
+use Rattle.proof_air.specs.outside_model.State.{OuterState}
+use Rattle.proof_air.specs.outside_model.Events.{OuterEvent, Begins_line, Loses, Repeats, outcome}
 use Rattle.proof_air.specs.world_model.State.{Machine}
 use Rattle.proof_air.specs.world_model.Events.{Event, Outside_does, happens, entries, May}
 use Rattle.proof_air.specs.world_model.Did.{happens_all, entries_all, MayAll, Schedule, Then, ThenPrefix}

@@ -5,12 +5,12 @@ use Rattle.std.specs.Prelude.{Option, Some}
 use Rattle.air_frames.specs.declared.frame.Heading.TheVariants.{Outward, Homeward}
 use Rattle.mesh_sim.specs.Air.{AirState, departing}
 use Rattle.mesh_sim.specs.Steps.{sent_event}
-use Rattle.outside_model.specs.State.{OuterState, Outcome}
-use Rattle.outside_model.specs.Chip.{shown_via}
-use Rattle.outside_model.specs.Air.{sent_entries}
+use Rattle.proof_air.specs.outside_model.State.{OuterState, Outcome}
+use Rattle.proof_air.specs.outside_model.Chip.{shown_via}
+use Rattle.proof_air.specs.outside_model.Air.{sent_entries}
 use Rattle.zw_text.specs.declared.entry.Entry.{Entry}
 use Rattle.zw_text.specs.declared.entry.Entry.TheVariants.{Air}
-use Rattle.law_transcript.specs.Lists.{EachAfter}
+use Rattle.law_host.specs.law_transcript.Lists.{EachAfter}
 use Rattle.proof_air.proofs.Lists.{each-append}
 use Rattle.proof_transcript.proofs.Plain.{IsPlain, Plains}
 

@@ -12,11 +12,11 @@ use Rattle.zw_base.specs.declared.property.Property.{Property}
 use Rattle.zw_base.specs.declared.property.Setting.{Setting}
 use Rattle.zw_text.specs.declared.entry.Entry.{Entry}
 use Rattle.zw_text.specs.Transcript.{accepted, reported}
-use Rattle.law_transcript.specs.Answers.{properties_kept}
-use Rattle.law_transcript.specs.Commands.{numbers_of, settings_for}
-use Rattle.law_transcript.specs.Lists.{Has}
-use Rattle.law_transcript.specs.Restarts.{since_restart}
-use Rattle.law_transcript.specs.Stores.{heard_value, last_value}
+use Rattle.law_host.specs.law_transcript.Answers.{properties_kept}
+use Rattle.law_host.specs.law_transcript.Commands.{numbers_of, settings_for}
+use Rattle.law_host.specs.law_transcript.Lists.{Has}
+use Rattle.law_host.specs.law_transcript.Restarts.{since_restart}
+use Rattle.law_host.specs.law_transcript.Stores.{heard_value, last_value}
 use Rattle.value_store.specs.declared.stored.Stored.{Stored}
 use Rattle.value_store.specs.Values.{Values, IsReserved, count_with, is_among, no_value, properties_of as stored_properties, stored_of}
 use Rattle.value_store.proofs.Keys.{same_property_laws}

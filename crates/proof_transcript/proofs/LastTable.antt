@@ -7,13 +7,13 @@ use Rattle.zw_base.specs.declared.property.Setting.{Setting}
 use Rattle.zw_text.specs.declared.entry.Entry.{Entry}
 use Rattle.zw_text.specs.declared.entry.Entry.TheVariants.{Json, TableEnd, TableNode}
 use Rattle.zw_text.specs.Transcript.{joined, lines_run, outcome, sessions}
-use Rattle.law_transcript.specs.Commands.{settings_for}
-use Rattle.law_transcript.specs.Lists.{Has}
-use Rattle.law_transcript.specs.Restarts.{ticks_asked}
-use Rattle.law_transcript.specs.Stores.{heard_value}
-use Rattle.law_transcript.specs.Table.{in_order, node_lines, table_of, value_lines}
-use Rattle.law_transcript.specs.Values.{confirmed, confirmed_by, is_success}
-use Rattle.law_transcript.proofs.Having.{all_has, all_of}
+use Rattle.law_host.specs.law_transcript.Commands.{settings_for}
+use Rattle.law_host.specs.law_transcript.Lists.{Has}
+use Rattle.law_host.specs.law_transcript.Restarts.{ticks_asked}
+use Rattle.law_host.specs.law_transcript.Stores.{heard_value}
+use Rattle.law_host.specs.law_transcript.Table.{in_order, node_lines, table_of, value_lines}
+use Rattle.law_host.specs.law_transcript.Values.{confirmed, confirmed_by, is_success}
+use Rattle.law_host.proofs.Having.{all_has, all_of}
 use Rattle.law_host.specs.HostLegal.{held_in, values_now}
 use Rattle.value_store.specs.ValueText.{values_text}
 use Rattle.value_store.specs.Values.{held_of, stored_of}

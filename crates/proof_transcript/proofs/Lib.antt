@@ -73,3 +73,5 @@ pub use Rattle.proof_air.proofs.HostNotes
 pub use Rattle.proof_spoken.proofs.CommandsOfSessions
 pub use Rattle.proof_air.proofs.Alone
 pub use Rattle.proof_air.proofs.Shown as proof_walk_Shown
+pub use Rattle.law_host.proofs.Computing
+pub use Rattle.law_host.proofs.Deciding

@@ -8,11 +8,11 @@ use Rattle.zw_text.specs.declared.line.Line.TheVariants.{Lose, Repeat}
 use Rattle.zw_text.specs.declared.entry.Entry.{Entry}
 use Rattle.zw_text.specs.declared.entry.Entry.TheVariants as entry
 use Rattle.zw_text.specs.Transcript.{line_last, line_of}
-use Rattle.law_transcript.specs.Fates.{marks_asked, MayBeMarked}
-use Rattle.law_transcript.specs.Lists.{EachAfter, Has}
-use Rattle.law_transcript.specs.Restarts.{is_repeat, repeats as answers_repeat}
+use Rattle.law_host.specs.law_transcript.Fates.{marks_asked, MayBeMarked}
+use Rattle.law_host.specs.law_transcript.Lists.{EachAfter, Has}
+use Rattle.law_host.specs.law_transcript.Restarts.{is_repeat, repeats as answers_repeat}
 use Rattle.mesh_sim.specs.Steps as mesh
-use Rattle.outside_model.specs.Events.{Begins_tick, Arrives, Loses, Repeats, outcome, steps, May as MayOutside}
+use Rattle.proof_air.specs.outside_model.Events.{Begins_tick, Arrives, Loses, Repeats, outcome, steps, May as MayOutside}
 use Rattle.proof_air.specs.world_model.State.{Machine}
 use Rattle.proof_air.specs.world_model.Events.{Event, Outside_does, happens, entries, May}
 use Rattle.proof_air.specs.world_model.Did.{happens_all, entries_all, MayAll}

@@ -7,9 +7,9 @@ use Rattle.zw_text.specs.declared.entry.Entry.{Entry}
 use Rattle.zw_text.specs.declared.entry.Entry.TheVariants as entry
 use Rattle.zw_text.specs.Transcript.{line_of}
 use Rattle.zw_text.proofs.Views.{folded-append}
-use Rattle.law_transcript.specs.Lists.{EachAfter, Has, shown_after}
-use Rattle.law_transcript.specs.Fates.{marks_asked, mark_step, marks_left, marked, frames_marked, MayBeMarked}
-use Rattle.law_transcript.proofs.Having.{has_either}
+use Rattle.law_host.specs.law_transcript.Lists.{EachAfter, Has, shown_after}
+use Rattle.law_host.specs.law_transcript.Fates.{marks_asked, mark_step, marks_left, marked, frames_marked, MayBeMarked}
+use Rattle.law_host.proofs.Having.{has_either}
 use Rattle.air_frames.specs.declared.frame.Departure.{Departure}
 use Rattle.air_frames.specs.declared.frame.Heading.{Heading}
 use Rattle.air_frames.specs.declared.frame.Heading.TheVariants.{Outward, Homeward}
@@ -17,8 +17,8 @@ use Rattle.air_frames.specs.Flown.{Flown}
 use Rattle.air_frames.specs.Frames.{FramesState, no_frames, next_of, putting, landing}
 use Rattle.mesh_sim.specs.Air.{AirState, no_route, departing}
 use Rattle.mesh_sim.specs.Steps.{landed}
-use Rattle.outside_model.specs.State.{OuterState, first_outer}
-use Rattle.outside_model.specs.Chip.{shown_via}
+use Rattle.proof_air.specs.outside_model.State.{OuterState, first_outer}
+use Rattle.proof_air.specs.outside_model.Chip.{shown_via}
 use Rattle.proof_transcript.proofs.Plain.{IsNoAir, IsPlain, plain_no_air}
 use Rattle.proof_transcript.proofs.KeptOverLists.{Keeps, Airs, IsAsAired, keeps_none}
 use Rattle.proof_transcript.proofs.Arrivals.{IsFate}

@@ -14,9 +14,9 @@ use Rattle.host_model.specs.Events.{HostEvent, Joins, Queues, Queues_interview, 
 use Rattle.host_model.specs.May.{known_of}
 use Rattle.host_model.specs.Asking.{places_refusal, interview_refusal}
 use Rattle.host_model.specs.Ticking.{tick_events}
-use Rattle.outside_model.specs.State.{is_stalled}
-use Rattle.outside_model.specs.Events.{OuterEvent, Begins_tick}
-use Rattle.outside_model.specs.Schedules.{TakesBy as ChipTakesBy, Arrivals, Givings, DeviceTicks, IsRepeat, IsWake, IsSet}
+use Rattle.proof_air.specs.outside_model.State.{is_stalled}
+use Rattle.proof_air.specs.outside_model.Events.{OuterEvent, Begins_tick}
+use Rattle.proof_air.specs.outside_model.Schedules.{TakesBy as ChipTakesBy, Arrivals, Givings, DeviceTicks, IsRepeat, IsWake, IsSet}
 use Rattle.proof_air.specs.world_model.State.{Machine}
 use Rattle.proof_air.specs.world_model.Events.{Event, Outside_does, Host_does, happens}
 use Rattle.proof_air.specs.world_model.Did.{happens_all, MayAll, Schedule, Then}

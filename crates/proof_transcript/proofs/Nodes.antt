@@ -12,13 +12,13 @@ use Rattle.mesh_sim.specs.Fates.{place_of}
 use Rattle.zw_text.specs.Line.{IsNode}
 use Rattle.zw_text.specs.declared.entry.Entry.{Entry}
 use Rattle.zw_text.specs.Transcript.{joined}
-use Rattle.law_transcript.specs.Lists.{Has}
-use Rattle.law_transcript.specs.Nodes.{device_of, is_joined}
-use Rattle.law_transcript.specs.Table.{device_lines, in_order}
-use Rattle.law_transcript.proofs.Having.{all_has}
+use Rattle.law_host.specs.law_transcript.Lists.{Has}
+use Rattle.law_host.specs.law_transcript.Nodes.{device_of, is_joined}
+use Rattle.law_host.specs.law_transcript.Table.{device_lines, in_order}
+use Rattle.law_host.proofs.Having.{all_has}
 use Rattle.host_model.specs.State.{HostState, node_of}
-use Rattle.outside_model.specs.Devices.{device_entries}
-use Rattle.outside_model.specs.Results.{device_at}
+use Rattle.proof_air.specs.outside_model.Devices.{device_entries}
+use Rattle.proof_air.specs.outside_model.Results.{device_at}
 use Rattle.proof_air.specs.world_model.Table.{joined_nodes}
 use Rattle.proof_transcript.proofs.Ordered.{Agree, Sorted, has_in_order, in_order_has, in_order_sorted, same_shown}
 use Rattle.proof_air.proofs.Values.{less_number}

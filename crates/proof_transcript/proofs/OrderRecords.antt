@@ -8,8 +8,8 @@ use Rattle.zw_text.specs.declared.entry.Entry.TheVariants as entry
 use Rattle.zw_text.specs.Transcript.{accepted_number, accepted_numbers, line_last}
 use Rattle.zw_text.proofs.Views.{shown-append}
 use Rattle.zw_text.specs.declared.line.Line.{Line}
-use Rattle.law_transcript.specs.Lists.{EachAfter, shown_after}
-use Rattle.law_transcript.specs.Records.{accepted_order, order_at, orders_accepted}
+use Rattle.law_host.specs.law_transcript.Lists.{EachAfter, shown_after}
+use Rattle.law_host.specs.law_transcript.Records.{accepted_order, order_at, orders_accepted}
 use Rattle.host_keep.specs.Kept.{Taken}
 use Rattle.host_model.specs.State.{Command}
 use Rattle.host_model.specs.Holding.{taken_as}

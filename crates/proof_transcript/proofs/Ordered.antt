@@ -5,9 +5,9 @@ use Rattle.std.specs.declared.cmp.Ordering.{Ordering}
 use Rattle.std.specs.declared.cmp.Ordering.TheVariants.{Less, Equal, Greater}
 use Rattle.std.specs.Cmp.{IsTotalOrder}
 use Rattle.std.specs.Ordering.{ordering_reverse}
-use Rattle.law_transcript.specs.Lists.{Has}
-use Rattle.law_transcript.specs.Table.{in_order, put_in_order}
-use Rattle.law_transcript.proofs.Having.{all_has}
+use Rattle.law_host.specs.law_transcript.Lists.{Has}
+use Rattle.law_host.specs.law_transcript.Table.{in_order, put_in_order}
+use Rattle.law_host.proofs.Having.{all_has}
 
 module _ {K : Type 0} {R : K → K → Ordering} (o : IsTotalOrder R) (exact : (x y : K) → R x y ≡ Equal → x ≡ y) where
   less_greater : Less ≡ Greater → ⊥

@@ -18,12 +18,12 @@ use Rattle.air_frames.specs.declared.frame.Heading.TheVariants.{Homeward}
 use Rattle.mesh_sim.specs.Air.{AirState, departing, is_joined}
 use Rattle.mesh_sim.specs.Routes.{backwards}
 use Rattle.mesh_sim.specs.Steps.{sent_event, answered, answers, answered_if, answers_if}
-use Rattle.outside_model.specs.declared.waits.Due.{Due}
-use Rattle.outside_model.specs.State.{OuterState, Outcome, tells, and_then, each, with_chip}
-use Rattle.outside_model.specs.Chip.{put_out, chip_does}
-use Rattle.outside_model.specs.Results.{frame_ends, gives}
-use Rattle.outside_model.specs.Air.{to_chip, sent_entries}
-use Rattle.outside_model.specs.Devices.{changes_entries, new_changes, sends, acts, acts_at, acts_by_hand}
+use Rattle.proof_air.specs.outside_model.declared.waits.Due.{Due}
+use Rattle.proof_air.specs.outside_model.State.{OuterState, Outcome, tells, and_then, each, with_chip}
+use Rattle.proof_air.specs.outside_model.Chip.{put_out, chip_does}
+use Rattle.proof_air.specs.outside_model.Results.{frame_ends, gives}
+use Rattle.proof_air.specs.outside_model.Air.{to_chip, sent_entries}
+use Rattle.proof_air.specs.outside_model.Devices.{changes_entries, new_changes, sends, acts, acts_at, acts_by_hand}
 use Rattle.proof_spoken.proofs.Results.{Gives, IsSameChip, ends_go, gives_go, to_chip_goes}
 use Rattle.proof_transcript.proofs.Plain.{Plains, told_plain, changes_plain}
 use Rattle.proof_transcript.proofs.KeptOverLists.{Keeps, Airs, Goes, IsSameTime, same_then, keeps_none, keeps_both, keeps_plain}

@@ -26,11 +26,11 @@ use Rattle.mesh_sim.specs.Steps.{AirStep, answers_if, mesh_after, mesh_outs}
 use Rattle.mesh_sim.specs.Routes.{backwards}
 use Rattle.mesh_sim.specs.declared.event.AirEvent.{AirEvent}
 use Rattle.mesh_sim.specs.declared.event.AirEvent.TheVariants as air_event
-use Rattle.outside_model.specs.State.{OuterState, Outside, Outcome, each, with_chip}
-use Rattle.outside_model.specs.Chip.{put_out, chip_does}
-use Rattle.outside_model.specs.Air.{change_entries, sent_entries, deals}
-use Rattle.outside_model.specs.Devices.{changes_entries, new_changes, sends, acts_at, acts_by_hand, shown_entries}
-use Rattle.outside_model.specs.Events.{OuterEvent, Begins_line, Begins_tick, Host_writes, Host_takes, Host_notes, Host_begins, Chip_takes, Arrives, Gives as gives_due, Device_ticks, Chip_ticks, Repeats, Wakes_device, Sets_device, Shows, Clears_pipe, is_own, cleared_entries, mesh_of, steps, repeats, outcome, stamp, has_entered, ticked_entry, happens, entries}
+use Rattle.proof_air.specs.outside_model.State.{OuterState, Outside, Outcome, each, with_chip}
+use Rattle.proof_air.specs.outside_model.Chip.{put_out, chip_does}
+use Rattle.proof_air.specs.outside_model.Air.{change_entries, sent_entries, deals}
+use Rattle.proof_air.specs.outside_model.Devices.{changes_entries, new_changes, sends, acts_at, acts_by_hand, shown_entries}
+use Rattle.proof_air.specs.outside_model.Events.{OuterEvent, Begins_line, Begins_tick, Host_writes, Host_takes, Host_notes, Host_begins, Chip_takes, Arrives, Gives as gives_due, Device_ticks, Chip_ticks, Repeats, Wakes_device, Sets_device, Shows, Clears_pipe, is_own, cleared_entries, mesh_of, steps, repeats, outcome, stamp, has_entered, ticked_entry, happens, entries}
 use Rattle.proof_spoken.proofs.Entered.{IsMark, told_by_marks, IsCleared, all_cleared, IsShown, all_shown, IsChange, change_entered, changes_entered}
 use Rattle.proof_spoken.proofs.Results.{Gives, ends_go, gives_go, to_chip_goes}
 use Rattle.proof_air.proofs.Times.{outcome_time}

@@ -9,10 +9,10 @@ use Rattle.zw_text.specs.declared.entry.Entry.{Entry}
 use Rattle.zw_text.specs.declared.entry.Entry.TheVariants as entry
 use Rattle.zw_text.specs.Transcript.{AirFrame, Unit_on, folded, frame_at, frames, unit_step, units}
 use Rattle.zw_text.proofs.Views.{folded-append, shown-append}
-use Rattle.law_transcript.specs.Lists.{EachAfter}
-use Rattle.law_transcript.specs.Nodes.{controller}
-use Rattle.law_transcript.specs.Units.{Carried, arrived_of}
-use Rattle.law_transcript.specs.Carrying.{ArePicked, MaySend, asked, asked_by, asked_in, outward, sent_out}
+use Rattle.law_host.specs.law_transcript.Lists.{EachAfter}
+use Rattle.law_host.specs.law_transcript.Nodes.{controller}
+use Rattle.law_host.specs.law_transcript.Units.{Carried, arrived_of}
+use Rattle.law_host.specs.law_transcript.Carrying.{ArePicked, MaySend, asked, asked_by, asked_in, outward, sent_out}
 use Rattle.proof_air.proofs.Picked.{picked_of, picked_both, picked_prefix, picked_same}
 
 -- ---- items of a list, in order

@@ -14,9 +14,9 @@ use Rattle.serial_pipes.specs.declared.marks.Mark.{Mark}
 use Rattle.serial_pipes.specs.declared.marks.Mark.TheVariants.{Free, Lost, Changed}
 use Rattle.device_kinds.specs.declared.change.Change.{Change}
 use Rattle.device_sim.specs.State.{State}
-use Rattle.outside_model.specs.Air.{change_entries}
-use Rattle.outside_model.specs.Devices.{changes_entries, shown_entries}
-use Rattle.outside_model.specs.Events.{cleared_entries}
+use Rattle.proof_air.specs.outside_model.Air.{change_entries}
+use Rattle.proof_air.specs.outside_model.Devices.{changes_entries, shown_entries}
+use Rattle.proof_air.specs.outside_model.Events.{cleared_entries}
 
 -- an entry that speaks of none of these
 abbrev pub IsPlain : Entry → Type 0

@@ -3,9 +3,9 @@ use Rattle.std.proofs.Common.{◌≡◌, ℕ, ◌==◌, ◌||◌, Bool, true, fa
 use Rattle.std.specs.Prelude.{is_some, filter}
 use Rattle.zw_text.specs.declared.entry.Entry.{Entry}
 use Rattle.zw_text.specs.Transcript.{outcome, shown}
-use Rattle.law_transcript.specs.Commands.{is_waiting}
-use Rattle.law_transcript.specs.Nodes.{first_node, is_interviewed, is_joined}
-use Rattle.law_transcript.specs.Records.{Shows, ShowsNode, cancelled_at, final_of}
+use Rattle.law_host.specs.law_transcript.Commands.{is_waiting}
+use Rattle.law_host.specs.law_transcript.Nodes.{first_node, is_interviewed, is_joined}
+use Rattle.law_host.specs.law_transcript.Records.{Shows, ShowsNode, cancelled_at, final_of}
 use Rattle.host_keep.specs.Kept.{Interview, Kept, Taken, classes_said, node_of as kept_of_node}
 use Rattle.host_model.specs.State.{HostState, node_of}
 use Rattle.host_model.specs.Holding.{Holds}

@@ -7,8 +7,8 @@ use Rattle.zw_text.specs.declared.entry.Entry.{Entry}
 use Rattle.zw_text.specs.declared.entry.Entry.TheVariants.{Said, Refused}
 use Rattle.zw_text.specs.Transcript.{shown}
 use Rattle.zw_text.proofs.Views.{shown-append}
-use Rattle.law_transcript.specs.Lists.{EachAfter}
-use Rattle.law_transcript.specs.Records.{cancelled_at}
+use Rattle.law_host.specs.law_transcript.Lists.{EachAfter}
+use Rattle.law_host.specs.law_transcript.Records.{cancelled_at}
 use Rattle.host_keep.specs.Legal.{AreTextsOf}
 use Rattle.host_keep.specs.declared.record.Record.{Record}
 use Rattle.host_model.specs.State.{HostState}
@@ -18,9 +18,9 @@ use Rattle.host_model.specs.Records.{records_at}
 use Rattle.host_model.specs.declared.out.HostOut.{HostOut}
 use Rattle.host_model.specs.Did.{MayAll as MayAllHost, records_all, texts_of}
 use Rattle.host_model.proofs.EventLists.{all_in_range}
-use Rattle.outside_model.specs.State.{Outside}
-use Rattle.outside_model.specs.Events.{Host_notes, entries as entries_outside, outcome}
-use Rattle.outside_model.specs.Did.{entries_all as entries_all_outside}
+use Rattle.proof_air.specs.outside_model.State.{Outside}
+use Rattle.proof_air.specs.outside_model.Events.{Host_notes, entries as entries_outside, outcome}
+use Rattle.proof_air.specs.outside_model.Did.{entries_all as entries_all_outside}
 use Rattle.proof_air.specs.world_model.State.{Machine, host_does, host_entries, routed, with_texts}
 use Rattle.proof_air.specs.world_model.Events.{Event, Outside_does, Host_does, Host_takes, Decoder_ticks, Refuses, Shows_values, Restarts, fed, shown_values, happens, entries, May}
 use Rattle.host_model.proofs.Silence.{judged_silent}

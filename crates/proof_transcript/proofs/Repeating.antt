@@ -7,12 +7,12 @@ use Rattle.zw_text.specs.declared.entry.Entry.{Entry}
 use Rattle.zw_text.specs.declared.entry.Entry.TheVariants as entry
 use Rattle.zw_text.specs.Transcript.{line_after, line_last, line_of}
 use Rattle.zw_text.proofs.Views.{folded-append}
-use Rattle.law_transcript.specs.Lists.{EachAfter}
+use Rattle.law_host.specs.law_transcript.Lists.{EachAfter}
 use Rattle.mesh_sim.specs.Air.{AirState}
 use Rattle.mesh_sim.specs.Steps as mesh
 use Rattle.air_frames.specs.Ages.{refusal_of}
-use Rattle.outside_model.specs.State.{OuterState, Outside, Outcome}
-use Rattle.outside_model.specs.Events.{Repeats, stamp, has_entered, outcome, repeats}
+use Rattle.proof_air.specs.outside_model.State.{OuterState, Outside, Outcome}
+use Rattle.proof_air.specs.outside_model.Events.{Repeats, stamp, has_entered, outcome, repeats}
 use Rattle.proof_air.specs.world_model.State.{Machine}
 use Rattle.proof_air.specs.world_model.Events.{Outside_does, happens, entries}
 use Rattle.proof_transcript.proofs.KeptOverLists.{Keeps, Airs, Goes, keeps_both}

@@ -11,10 +11,10 @@ use Rattle.serial_frame.specs.declared.unit.Unit.{Unit as LineUnit}
 use Rattle.host_model.specs.declared.out.HostOut.{HostOut}
 use Rattle.host_model.specs.declared.out.HostOut.TheVariants.{Write, Note}
 use Rattle.proof_air.specs.proof_host.Entries.{notes_of}
-use Rattle.outside_model.specs.State.{Outside, OuterState}
-use Rattle.outside_model.specs.Events.{Host_writes, Host_notes, Host_begins, entries as entries_outside, happens as happens_outside, outcome, stamp, ticked_entry}
-use Rattle.outside_model.specs.Did.{entries_all as entries_all_outside, happens_all as happens_all_outside}
-use Rattle.outside_model.proofs.EventLists.{entries_all-append, happens_all-append}
+use Rattle.proof_air.specs.outside_model.State.{Outside, OuterState}
+use Rattle.proof_air.specs.outside_model.Events.{Host_writes, Host_notes, Host_begins, entries as entries_outside, happens as happens_outside, outcome, stamp, ticked_entry}
+use Rattle.proof_air.specs.outside_model.Did.{entries_all as entries_all_outside, happens_all as happens_all_outside}
+use Rattle.proof_air.proofs.outside_model_EventLists.{entries_all-append, happens_all-append}
 use Rattle.proof_air.specs.world_model.State.{begun_in, noted_by, routed}
 use Rattle.proof_transcript.proofs.Outer.{IsPlain, ArePlain, entered_clock, stamp_plain, ticked_plain, told_plain}
 

@@ -51,16 +51,16 @@ use Rattle.mesh_sim.specs.Steps as mesh
 use Rattle.zw_words.specs.declared.side.Side.TheVariants.{Host as by_host, Chip as by_chip}
 use Rattle.zw_text.specs.declared.entry.Entry.{Entry}
 use Rattle.zw_text.specs.declared.entry.Entry.TheVariants as entry
-use Rattle.law_transcript.specs.Lists.{listed}
-use Rattle.law_transcript.specs.Nodes.{controller}
-use Rattle.law_transcript.specs.Units.{Carried, read_well, sending_in, sending_of}
-use Rattle.law_transcript.specs.Carrying.{ArePicked, sent_out}
-use Rattle.outside_model.specs.State.{OuterState, Outcome, Outside, each, with_chip}
-use Rattle.outside_model.specs.Chip.{chip_does, put_out}
-use Rattle.outside_model.specs.Results.{device_at}
-use Rattle.outside_model.specs.Air.{change_at, deals, sent_entries}
-use Rattle.outside_model.specs.Devices.{acts, acts_at, acts_by_hand, changes_entries, new_changes}
-use Rattle.outside_model.specs.Events.{OuterEvent, Host_writes, Host_takes, Host_notes, Host_begins, Chip_takes, Arrives, Gives, Device_ticks, Chip_ticks, Repeats, Wakes_device, Sets_device, Shows, Marks_loss, Marks_change, Clears_pipe, is_own, mesh_of, outcome, repeats, steps}
+use Rattle.law_host.specs.law_transcript.Lists.{listed}
+use Rattle.law_host.specs.law_transcript.Nodes.{controller}
+use Rattle.law_host.specs.law_transcript.Units.{Carried, read_well, sending_in, sending_of}
+use Rattle.law_host.specs.law_transcript.Carrying.{ArePicked, sent_out}
+use Rattle.proof_air.specs.outside_model.State.{OuterState, Outcome, Outside, each, with_chip}
+use Rattle.proof_air.specs.outside_model.Chip.{chip_does, put_out}
+use Rattle.proof_air.specs.outside_model.Results.{device_at}
+use Rattle.proof_air.specs.outside_model.Air.{change_at, deals, sent_entries}
+use Rattle.proof_air.specs.outside_model.Devices.{acts, acts_at, acts_by_hand, changes_entries, new_changes}
+use Rattle.proof_air.specs.outside_model.Events.{OuterEvent, Host_writes, Host_takes, Host_notes, Host_begins, Chip_takes, Arrives, Gives, Device_ticks, Chip_ticks, Repeats, Wakes_device, Sets_device, Shows, Marks_loss, Marks_change, Clears_pipe, is_own, mesh_of, outcome, repeats, steps}
 use Rattle.proof_spoken.proofs.Entered.{IsChange, IsCleared, IsShown, all_cleared, all_shown, change_entered, changes_entered}
 use Rattle.proof_spoken.proofs.Results.{Gives as GivesOn, IsGiven, ends_go, gives_go, to_chip_goes}
 use Rattle.proof_air.proofs.Bodies.{body_is}
@@ -68,7 +68,7 @@ use Rattle.proof_air.proofs.Judging.{JudgesNone, NoFrame, StartsSo, none_flies}
 use Rattle.proof_transcript.specs.Carrying.{sends_in, sends_of}
 use Rattle.proof_transcript.proofs.Picked.{AreQuiet, IsNoFrame, IsNoUnit, IsQuiet, none_sent, quiet_no_frame, quiet_no_unit, sent-append}
 use Rattle.proof_air.proofs.Picked.{picked_both}
-use Rattle.law_transcript.proofs.Deciding.{not_true as not_own}
+use Rattle.law_host.proofs.Deciding.{not_true as not_own}
 
 -- an event at which the chip takes no bytes
 abbrev pub TakesNone : OuterEvent → Type 0

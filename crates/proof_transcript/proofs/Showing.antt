@@ -10,13 +10,13 @@ use Rattle.zw_text.specs.declared.line.Line.TheVariants as lines
 use Rattle.zw_text.specs.declared.entry.Entry.{Entry}
 use Rattle.zw_text.specs.declared.entry.Entry.TheVariants as entry
 use Rattle.zw_text.specs.Transcript.{line_of, line_last}
-use Rattle.law_transcript.specs.Lists.{EachAfter}
-use Rattle.law_transcript.specs.Nodes.{listing_of, always}
+use Rattle.law_host.specs.law_transcript.Lists.{EachAfter}
+use Rattle.law_host.specs.law_transcript.Nodes.{listing_of, always}
 use Rattle.law_host.specs.law_wire.Shown.{IsToShow, asked_to_show, to_show, to_show_from, to_show_step}
 use Rattle.law_host.specs.HostLegal.{IsShown, ShowsValues, values_now}
-use Rattle.outside_model.specs.Devices.{device_entries, kept_entries, shown_entries}
-use Rattle.outside_model.specs.Results.{device_at}
-use Rattle.outside_model.specs.Events.{Shows, stamp, outcome, devices_after}
+use Rattle.proof_air.specs.outside_model.Devices.{device_entries, kept_entries, shown_entries}
+use Rattle.proof_air.specs.outside_model.Results.{device_at}
+use Rattle.proof_air.specs.outside_model.Events.{Shows, stamp, outcome, devices_after}
 use Rattle.proof_air.specs.world_model.State.{Machine}
 use Rattle.proof_air.specs.world_model.Events.{Event, Outside_does, Shows_values, shown_values, happens, entries, May}
 use Rattle.proof_air.specs.world_model.Lines.{IsEffect}

@@ -9,8 +9,8 @@ use Rattle.zw_text.specs.declared.entry.Entry.{Entry}
 use Rattle.zw_text.specs.declared.entry.Entry.TheVariants.{Said, Refused}
 use Rattle.zw_text.specs.Transcript.{Doing, doing_lines, doing_step, folded, join_of, joined, line_of, lines_done, lines_run, reported, reported_at}
 use Rattle.zw_text.proofs.Views.{folded-append, shown-append}
-use Rattle.law_transcript.specs.Restarts.{begins_refused, is_restart, since_restart, since_restart_from}
-use Rattle.law_transcript.specs.Stores.{heard_value, last_value}
+use Rattle.law_host.specs.law_transcript.Restarts.{begins_refused, is_restart, since_restart, since_restart_from}
+use Rattle.law_host.specs.law_transcript.Stores.{heard_value, last_value}
 use Rattle.proof_transcript.proofs.Outer.{IsPlain, ArePlain}
 use Rattle.proof_transcript.proofs.TicksBegun.{last_append}
 

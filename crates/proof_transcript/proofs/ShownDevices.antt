@@ -17,9 +17,9 @@ use Rattle.zw_text.specs.declared.entry.Entry.{Entry}
 use Rattle.zw_text.specs.declared.entry.Entry.TheVariants.{Device}
 use Rattle.zw_text.specs.Transcript.{Made, made, made_at}
 use Rattle.zw_text.proofs.Views.{shown-append}
-use Rattle.law_transcript.specs.Devices.{made_by}
-use Rattle.law_transcript.specs.Nodes.{device_of}
-use Rattle.law_transcript.specs.Table.{device_lines}
+use Rattle.law_host.specs.law_transcript.Devices.{made_by}
+use Rattle.law_host.specs.law_transcript.Nodes.{device_of}
+use Rattle.law_host.specs.law_transcript.Table.{device_lines}
 use Rattle.law_host.specs.law_wire.Shown.{as_entered, change_of}
 use Rattle.proof_air.specs.world_model.State.{Machine}
 use Rattle.proof_air.specs.world_model.Did.{entries_all}

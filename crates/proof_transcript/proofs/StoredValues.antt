@@ -7,10 +7,10 @@ use Rattle.zw_text.specs.declared.entry.Ended.TheVariants as ended
 use Rattle.zw_text.specs.declared.entry.Entry.{Entry}
 use Rattle.zw_text.specs.declared.entry.Entry.TheVariants.{Accepted, Out}
 use Rattle.zw_text.specs.Transcript.{shown}
-use Rattle.law_transcript.specs.Commands.{settings_for}
-use Rattle.law_transcript.specs.Lists.{Has}
-use Rattle.law_transcript.specs.Stores.{StoresConfirmed, node_at, store_at, stores_asked, stores_asked_at, stores_of}
-use Rattle.law_transcript.proofs.Having.{all_has, has_shown, shown_has}
+use Rattle.law_host.specs.law_transcript.Commands.{settings_for}
+use Rattle.law_host.specs.law_transcript.Lists.{Has}
+use Rattle.law_host.specs.law_transcript.Stores.{StoresConfirmed, node_at, store_at, stores_asked, stores_asked_at, stores_of}
+use Rattle.law_host.proofs.Having.{all_has, has_shown, shown_has}
 use Rattle.host_model.specs.State.{Command, HostState, command_at}
 use Rattle.host_model.specs.Outs.{stored_entries}
 use Rattle.proof_air.specs.proof_host.Facts.{AreShown}

@@ -9,16 +9,16 @@ use Rattle.zw_text.specs.declared.entry.Ended.TheVariants as ended
 use Rattle.zw_text.specs.declared.entry.Entry.{Entry}
 use Rattle.zw_text.specs.declared.entry.Entry.TheVariants.{Out, Said}
 use Rattle.zw_text.specs.Transcript.{line_last}
-use Rattle.law_transcript.specs.Answers.{MayCancel}
-use Rattle.law_transcript.specs.Commands.{is_waiting}
-use Rattle.law_transcript.specs.Lists.{EachAfter}
+use Rattle.law_host.specs.law_transcript.Answers.{MayCancel}
+use Rattle.law_host.specs.law_transcript.Commands.{is_waiting}
+use Rattle.law_host.specs.law_transcript.Lists.{EachAfter}
 use Rattle.host_model.specs.State.{HostState}
 use Rattle.host_model.specs.Events.{HostEvent, Begins, Cancels}
 use Rattle.host_model.specs.Outs.{answers}
 use Rattle.proof_air.specs.proof_host.Entries.{IsAside, entries_at}
 use Rattle.proof_air.specs.proof_host.Laws.{MayEnd}
 use Rattle.proof_air.proofs.Lists.{each-append, each-anywhere}
-use Rattle.outside_model.specs.Events.{Begins_line, devices_after, outcome}
+use Rattle.proof_air.specs.outside_model.Events.{Begins_line, devices_after, outcome}
 use Rattle.proof_air.specs.world_model.State.{Machine}
 use Rattle.proof_air.specs.world_model.Events.{Event, Outside_does, Host_does, Host_takes, entries, happens, May}
 use Rattle.proof_air.specs.world_model.Did.{happens_all, entries_all, AllAlong, PrefixOf, MayAll}

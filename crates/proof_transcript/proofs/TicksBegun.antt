@@ -11,7 +11,7 @@ use Rattle.zw_text.specs.declared.entry.Entry.{Entry}
 use Rattle.zw_text.specs.declared.entry.Entry.TheVariants.{Refused, Report}
 use Rattle.zw_text.specs.Transcript.{reported, reported_at}
 use Rattle.zw_text.proofs.Views.{shown-append}
-use Rattle.law_transcript.specs.Stores.{last_value}
+use Rattle.law_host.specs.law_transcript.Stores.{last_value}
 use Rattle.value_store.specs.Values.{stored_of}
 use Rattle.value_store.specs.declared.stored.Stored.{Stored}
 use Rattle.value_store.proofs.Keys.{same_property_laws}
@@ -25,9 +25,9 @@ use Rattle.host_model.specs.Outs.{outs, answers}
 use Rattle.host_model.specs.Did.{after_all, outs_all}
 use Rattle.host_model.specs.declared.out.HostOut.{HostOut}
 use Rattle.proof_air.specs.proof_host.Entries.{note_of, notes_of}
-use Rattle.outside_model.specs.State.{Outside}
-use Rattle.outside_model.specs.Events.{OuterEvent, Begins_tick, Repeats, Wakes_device, Sets_device, Shows, outcome}
-use Rattle.outside_model.specs.Did.{entries_all as entries_all_outside}
+use Rattle.proof_air.specs.outside_model.State.{Outside}
+use Rattle.proof_air.specs.outside_model.Events.{OuterEvent, Begins_tick, Repeats, Wakes_device, Sets_device, Shows, outcome}
+use Rattle.proof_air.specs.outside_model.Did.{entries_all as entries_all_outside}
 use Rattle.proof_air.specs.world_model.State.{Machine, host_does, host_entries, routed}
 use Rattle.proof_air.specs.world_model.Events.{Event, Outside_does, Host_does, Host_takes, Decoder_ticks, Refuses, Shows_values, Restarts, entries, fed, happens, notes, shown_values, May}
 use Rattle.proof_air.specs.world_model.Did.{happens_all, entries_all, MayAll}

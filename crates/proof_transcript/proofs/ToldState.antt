@@ -14,16 +14,16 @@ use Rattle.zw_text.specs.declared.entry.Entry.TheVariants.{Said}
 use Rattle.zw_text.specs.declared.entry.Refusal.{Refusal}
 use Rattle.zw_text.specs.Transcript.{join_of, joined, line_of, lines_run, reported}
 use Rattle.zw_text.proofs.TextLaws.{line_takes}
-use Rattle.law_transcript.specs.Nodes.{is_joined}
-use Rattle.law_transcript.specs.Restarts.{begins_refused, is_restart, ticks_asked, ticks_of}
-use Rattle.law_transcript.specs.Stores.{last_value}
+use Rattle.law_host.specs.law_transcript.Nodes.{is_joined}
+use Rattle.law_host.specs.law_transcript.Restarts.{begins_refused, is_restart, ticks_asked, ticks_of}
+use Rattle.law_host.specs.law_transcript.Stores.{last_value}
 use Rattle.host_node.specs.TableState.{node_of, with_node}
 use Rattle.host_model.specs.State.{HostState}
 use Rattle.host_model.specs.Events.{Joins as joins_host}
 use Rattle.host_node.specs.Steps.{after_join}
 use Rattle.value_store.specs.Values.{Values}
 use Rattle.host_node.specs.State.{NodeState}
-use Rattle.outside_model.specs.Events.{Begins_line, Clears_pipe, Joins as joins_outside, devices_after, outcome}
+use Rattle.proof_air.specs.outside_model.Events.{Begins_line, Clears_pipe, Joins as joins_outside, devices_after, outcome}
 use Rattle.proof_air.specs.world_model.State.{Machine}
 use Rattle.proof_air.specs.world_model.Events.{Event, Outside_does, Host_does, Refuses, Restarts, happens, entries}
 use Rattle.proof_air.specs.world_model.Did.{happens_all, entries_all, AllAlong, MayAll, Then}

@@ -11,9 +11,9 @@ use Rattle.zw_text.specs.declared.entry.Entry.{Entry}
 use Rattle.zw_text.specs.declared.entry.Entry.TheVariants as entry
 use Rattle.zw_text.specs.Transcript.{line_last, line_of}
 use Rattle.zw_text.proofs.Views.{folded-append}
-use Rattle.law_transcript.specs.Lists.{EachAfter}
-use Rattle.law_transcript.specs.Restarts.{is_repeat, repeats as answers_repeat}
-use Rattle.law_transcript.specs.Fates.{Flying, first_fate, first_fates, flying, flying_step, IsHeardSo, AllLanded, MayFare}
+use Rattle.law_host.specs.law_transcript.Lists.{EachAfter}
+use Rattle.law_host.specs.law_transcript.Restarts.{is_repeat, repeats as answers_repeat}
+use Rattle.law_host.specs.law_transcript.Fates.{Flying, first_fate, first_fates, flying, flying_step, IsHeardSo, AllLanded, MayFare}
 use Rattle.proof_air.specs.Hearing.{MayRepeat}
 use Rattle.proof_air.proofs.Lists.{each-append, each-weaker}
 use Rattle.air_frames.specs.declared.frame.Heading.TheVariants.{Outward, Homeward}
@@ -22,10 +22,10 @@ use Rattle.air_frames.specs.Frames.{no_frames, putting, landing}
 use Rattle.mesh_sim.specs.Air.{AirState, no_route, departing}
 use Rattle.mesh_sim.specs.Steps.{landed}
 use Rattle.mesh_sim.specs.Steps as mesh
-use Rattle.outside_model.specs.State.{OuterState, Outcome, first_outer}
-use Rattle.outside_model.specs.Chip.{shown_via}
-use Rattle.outside_model.specs.Events.{OuterEvent, Begins_tick, Arrives, Loses, Repeats, stamp, has_entered, outcome, steps, May as MayOutside}
-use Rattle.outside_model.specs.Schedules.{Arrivals, Delivers}
+use Rattle.proof_air.specs.outside_model.State.{OuterState, Outcome, first_outer}
+use Rattle.proof_air.specs.outside_model.Chip.{shown_via}
+use Rattle.proof_air.specs.outside_model.Events.{OuterEvent, Begins_tick, Arrives, Loses, Repeats, stamp, has_entered, outcome, steps, May as MayOutside}
+use Rattle.proof_air.specs.outside_model.Schedules.{Arrivals, Delivers}
 use Rattle.proof_air.specs.world_model.State.{Machine}
 use Rattle.proof_air.specs.world_model.Events.{Event, Outside_does, happens, entries, May}
 use Rattle.proof_air.specs.world_model.Did.{happens_all, entries_all, MayAll}

@@ -16,13 +16,13 @@ use Rattle.zw_base.specs.declared.property.Setting.{Setting}
 use Rattle.zw_text.specs.declared.entry.Entry.{Entry}
 use Rattle.zw_text.specs.declared.entry.Entry.TheVariants.{TableValue}
 use Rattle.zw_text.specs.Transcript.{outcome, reported, sessions}
-use Rattle.law_transcript.specs.Commands.{settings_for}
-use Rattle.law_transcript.specs.Lists.{Has}
-use Rattle.law_transcript.specs.Restarts.{since_restart}
-use Rattle.law_transcript.specs.Stores.{heard_value, last_value}
-use Rattle.law_transcript.specs.Table.{compare_properties, properties_known, value_line, value_lines}
-use Rattle.law_transcript.specs.Values.{confirmed, confirmed_by, is_success, last_given}
-use Rattle.law_transcript.proofs.Having.{has_left, has_right, has_shown}
+use Rattle.law_host.specs.law_transcript.Commands.{settings_for}
+use Rattle.law_host.specs.law_transcript.Lists.{Has}
+use Rattle.law_host.specs.law_transcript.Restarts.{since_restart}
+use Rattle.law_host.specs.law_transcript.Stores.{heard_value, last_value}
+use Rattle.law_host.specs.law_transcript.Table.{compare_properties, properties_known, value_line, value_lines}
+use Rattle.law_host.specs.law_transcript.Values.{confirmed, confirmed_by, is_success, last_given}
+use Rattle.law_host.proofs.Having.{has_left, has_right, has_shown}
 use Rattle.value_store.specs.Values.{Key, Values, has_value, held_at, held_of, key_cmp, no_value, stored_of}
 use Rattle.value_store.specs.declared.stored.Held.{Held}
 use Rattle.value_store.specs.declared.stored.Stored.{Stored}

@@ -11,18 +11,18 @@ use Rattle.zw_text.specs.declared.line.Line.TheVariants as lines
 use Rattle.zw_text.specs.declared.entry.Entry.{Entry}
 use Rattle.zw_text.specs.declared.entry.Entry.TheVariants.{Said, Accepted, Refused}
 use Rattle.zw_text.specs.Transcript.{accepted_numbers, line_last, outcome}
-use Rattle.law_transcript.specs.Answers.{IsNoBadRecord, MayAnswer, before_last, known_of, properties_with, refused_without, refusals_to}
-use Rattle.law_transcript.specs.Commands.{is_waiting}
-use Rattle.law_transcript.specs.Nodes.{device_of, listing_of, always}
-use Rattle.law_transcript.specs.Repeats.{frame_of, refused_repeat}
+use Rattle.law_host.specs.law_transcript.Answers.{IsNoBadRecord, MayAnswer, before_last, known_of, properties_with, refused_without, refusals_to}
+use Rattle.law_host.specs.law_transcript.Commands.{is_waiting}
+use Rattle.law_host.specs.law_transcript.Nodes.{device_of, listing_of, always}
+use Rattle.law_host.specs.law_transcript.Repeats.{frame_of, refused_repeat}
 use Rattle.host_model.specs.State.{HostState, node_of}
 use Rattle.host_model.specs.After.{node_for}
 use Rattle.host_requests.specs.declared.task.Task.TheVariants as task
 use Rattle.host_model.specs.Events.{Queues}
 use Rattle.host_model.specs.May.{known_of as known_of_host}
 use Rattle.host_model.specs.Asking.{places_refusal, refusal_for, Waits}
-use Rattle.outside_model.specs.Events.{Discovers}
-use Rattle.outside_model.specs.Results.{device_at}
+use Rattle.proof_air.specs.outside_model.Events.{Discovers}
+use Rattle.proof_air.specs.outside_model.Results.{device_at}
 use Rattle.proof_air.specs.world_model.State.{Machine}
 use Rattle.proof_air.specs.world_model.Events.{Event, Outside_does, happens, entries}
 use Rattle.proof_air.specs.world_model.Refusals.{HasBad}

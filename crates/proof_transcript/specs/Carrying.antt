@@ -6,9 +6,9 @@ use Rattle.serial_frame.specs.Items.{unit_text}
 use Rattle.serial_frame.specs.declared.item.Item.{Item}
 use Rattle.serial_frame.specs.declared.item.Item.TheVariants.{Good, Refused}
 use Rattle.zw_text.specs.declared.entry.Entry.{Entry}
-use Rattle.law_transcript.specs.Units.{Carried, sending_in}
-use Rattle.law_transcript.specs.Carrying.{ArePicked, asked, sent_out}
-use Rattle.outside_model.specs.State.{OuterState}
+use Rattle.law_host.specs.law_transcript.Units.{Carried, sending_in}
+use Rattle.law_host.specs.law_transcript.Carrying.{ArePicked, asked, sent_out}
+use Rattle.proof_air.specs.outside_model.State.{OuterState}
 use Rattle.proof_air.specs.world_model.State.{Machine}
 use Rattle.proof_air.specs.world_model.Events.{Event}
 use Rattle.proof_spoken.specs.proof_serial.Way.{Carries}

@@ -2,8 +2,8 @@
 use Rattle.std.specs.Prelude.{ℕ, Bool, true, false, List, ⊤}
 use Rattle.zw_text.specs.declared.entry.Entry.{Entry}
 use Rattle.zw_text.specs.declared.entry.Entry.TheVariants.{Said, Heard, Lost, Unheard, Time}
-use Rattle.law_transcript.specs.Restarts.{repeats}
-use Rattle.law_transcript.specs.Fates.{IsNextFate, AllLanded}
+use Rattle.law_host.specs.law_transcript.Restarts.{repeats}
+use Rattle.law_host.specs.law_transcript.Fates.{IsNextFate, AllLanded}
 
 -- a hearing in a tick, or after a line that repeats
 abbrev pub IsHeardBy : (List Entry → ℕ → Type 0) → Bool → List Entry → ℕ → Type 0

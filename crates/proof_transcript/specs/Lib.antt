@@ -15,3 +15,7 @@ pub use Rattle.proof_air.specs.proof_host as proof_host
 pub use Rattle.proof_spoken.specs.proof_once as proof_once
 pub use Rattle.proof_spoken.specs as proof_spoken
 pub use Rattle.proof_air.specs.proof_walk as proof_walk
+pub use Rattle.law_host.specs.law_time as law_time
+pub use Rattle.law_host.specs.law_transcript as law_transcript
+pub use Rattle.proof_air.specs.law_wire as law_wire
+pub use Rattle.proof_air.specs.world_model as world_model

@@ -7,12 +7,12 @@ use Rattle.zw_text.specs.declared.line.Line.TheVariants as lines
 use Rattle.zw_text.specs.declared.entry.Entry.{Entry}
 use Rattle.zw_text.specs.declared.entry.Entry.TheVariants.{Said, Device, Json, TableEnd, TableNode, TableValue, BadLine}
 use Rattle.zw_text.specs.Transcript.{line_of, line_last}
-use Rattle.law_transcript.specs.Nodes.{device_of, listing_of, always}
-use Rattle.law_transcript.specs.Table.{device_lines}
+use Rattle.law_host.specs.law_transcript.Nodes.{device_of, listing_of, always}
+use Rattle.law_host.specs.law_transcript.Table.{device_lines}
 use Rattle.law_host.specs.law_wire.Shown.{IsToShow, as_entered, to_show}
 use Rattle.law_host.specs.HostLegal.{ShowsValues, values_now}
-use Rattle.outside_model.specs.Devices.{kept_entries}
-use Rattle.outside_model.specs.Events.{Shows}
+use Rattle.proof_air.specs.outside_model.Devices.{kept_entries}
+use Rattle.proof_air.specs.outside_model.Events.{Shows}
 use Rattle.proof_air.specs.world_model.State.{Machine}
 use Rattle.proof_air.specs.world_model.Events.{Event, Outside_does, Shows_values, shown_values}
 use Rattle.proof_spoken.specs.proof_device.Showing.{AreApart}

@@ -5,9 +5,9 @@ use Rattle.zw_base.specs.declared.property.Property.{Property}
 use Rattle.zw_text.specs.Line.{IsNode}
 use Rattle.zw_text.specs.declared.entry.Entry.{Entry}
 use Rattle.zw_text.specs.Transcript.{joined, lines_run}
-use Rattle.law_transcript.specs.Nodes.{is_joined}
-use Rattle.law_transcript.specs.Restarts.{ticks_asked}
-use Rattle.law_transcript.specs.Stores.{heard_value}
+use Rattle.law_host.specs.law_transcript.Nodes.{is_joined}
+use Rattle.law_host.specs.law_transcript.Restarts.{ticks_asked}
+use Rattle.law_host.specs.law_transcript.Stores.{heard_value}
 use Rattle.value_store.specs.Values.{stored_of}
 use Rattle.host_model.specs.State.{node_of}
 use Rattle.proof_air.specs.world_model.State.{Machine}

@@ -3,7 +3,7 @@
 ghost use Rattle.std.specs.Prelude.{false, true, Some, List, []};
 ghost use Rattle.s0_crypto.specs.declared.key_pair.Keys.{Keys};
 ghost use Rattle.device_sim.specs.State.{State};
-ghost use Rattle.law_transcript.specs.Answers.{AnswersLines, ReadsItsRecords};
+ghost use Rattle.law_host.specs.law_transcript.Answers.{AnswersLines, ReadsItsRecords};
 ghost use Rattle.proof_air.specs.world_model.State.{first_machine};
 ghost use Rattle.proof_air.specs.world_lines.Spoken.{Spoken, transcript_of};
 ghost use Rattle.proof_air.specs.world_lines.Done.{AreDone};

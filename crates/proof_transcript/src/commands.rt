@@ -3,10 +3,10 @@
 ghost use Rattle.std.specs.Prelude.{ℕ, true, Option, Some, List, []};
 ghost use Rattle.s0_crypto.specs.declared.key_pair.Keys.{Keys};
 ghost use Rattle.device_sim.specs.State.{State};
-ghost use Rattle.law_transcript.specs.Answers.{CancelsWhenAsked};
-ghost use Rattle.law_transcript.specs.Nodes.{always, listing_of};
-ghost use Rattle.law_transcript.specs.Payloads.{BeginsWithUnit};
-ghost use Rattle.law_transcript.specs.Stores.{StoresConfirmed};
+ghost use Rattle.law_host.specs.law_transcript.Answers.{CancelsWhenAsked};
+ghost use Rattle.law_host.specs.law_transcript.Nodes.{always, listing_of};
+ghost use Rattle.law_host.specs.law_transcript.Payloads.{BeginsWithUnit};
+ghost use Rattle.law_host.specs.law_transcript.Stores.{StoresConfirmed};
 ghost use Rattle.proof_air.specs.proof_host.Laws.{HostLaws};
 ghost use Rattle.proof_air.specs.world_model.State.{Machine, first_machine};
 ghost use Rattle.proof_air.specs.world_lines.Spoken.{Spoken, transcript_of};

@@ -3,8 +3,8 @@
 ghost use Rattle.std.specs.Prelude.{◌≡◌, Bool, true, Some, List, []};
 ghost use Rattle.s0_crypto.specs.declared.key_pair.Keys.{Keys};
 ghost use Rattle.device_sim.specs.State.{State};
-ghost use Rattle.law_transcript.specs.Lists.{EachAfter};
-ghost use Rattle.law_transcript.specs.Nodes.{always, listing_of};
+ghost use Rattle.law_host.specs.law_transcript.Lists.{EachAfter};
+ghost use Rattle.law_host.specs.law_transcript.Nodes.{always, listing_of};
 ghost use Rattle.law_host.specs.law_wire.Serial.{ended};
 ghost use Rattle.law_host.specs.law_wire.Shown.{ShowsDevices};
 ghost use Rattle.law_host.specs.HostLegal.{ShowsValues};

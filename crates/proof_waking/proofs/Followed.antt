@@ -35,12 +35,12 @@ use Rattle.host_heard.specs.declared.payload.Heard.TheVariants.{Messages, Sealed
 use Rattle.host_heard.specs.declared.told.Told.{Told}
 use Rattle.host_heard.specs.declared.told.Told.TheVariants.{Report, NonceGet, NonceReport, Notification, SegmentRequest, Values}
 use Rattle.host_requests.specs.Events.{interviewed_by}
-use Rattle.host_model.specs.State.{HostState, node_of}
-use Rattle.host_model.specs.After.{after}
-use Rattle.host_model.specs.Did.{after_all}
-use Rattle.host_model.specs.Events.{HostEvent, Requests_do, Interviews, Interview_unkept, Unreads, Is_unkept, Reports_old, Works, Finishes, Offers, Gives, Spends, Spends_unread, Takes_nonce, Notifies, Resends, Hears_value, Has_no_room}
-use Rattle.host_model.specs.May.{says_listens}
-use Rattle.host_model.specs.Taking.{AreTaken, FinalEvents, FrameEvents, InterviewEvents, IsOpened, IsTaken, NonceGetEvents, NonceReportEvents, NoticeEvents, PayloadEvents, ReportEvents, ResponseEvents, SealedEvents, is_secure, resent, value_event, value_events}
+use Rattle.proof_alone.specs.host_model.State.{HostState, node_of}
+use Rattle.proof_alone.specs.host_model.After.{after}
+use Rattle.proof_alone.specs.host_model.Did.{after_all}
+use Rattle.proof_alone.specs.host_model.Events.{HostEvent, Requests_do, Interviews, Interview_unkept, Unreads, Is_unkept, Reports_old, Works, Finishes, Offers, Gives, Spends, Spends_unread, Takes_nonce, Notifies, Resends, Hears_value, Has_no_room}
+use Rattle.proof_alone.specs.host_model.May.{says_listens}
+use Rattle.proof_alone.specs.host_model.Taking.{AreTaken, FinalEvents, FrameEvents, InterviewEvents, IsOpened, IsTaken, NonceGetEvents, NonceReportEvents, NoticeEvents, PayloadEvents, ReportEvents, ResponseEvents, SealedEvents, is_secure, resent, value_event, value_events}
 use Rattle.proof_alone.proofs.Always.{either, none, one}
 use Rattle.proof_alone.proofs.Bodies.{body_is}
 

@@ -25,14 +25,14 @@ use Rattle.proof_alone.specs.law_time.Moments.{Allows}
 use Rattle.proof_alone.specs.law_time.Waking.{may_wake}
 use Rattle.host_requests.specs.Events.{RequestsEvent}
 use Rattle.host_requests.specs.Events.RequestsEvent.{Fails as request_fails, IsSent as request_is_sent}
-use Rattle.host_model.specs.State.{HostState}
-use Rattle.host_model.specs.Events.{HostEvent, Accepts, Cancels, Hears}
-use Rattle.host_model.specs.After.{after, gives_up, is_busy}
-use Rattle.host_model.specs.Outs.{answer_to, answers, outs}
-use Rattle.host_model.specs.Taking.{IsFollowed, told_if}
-use Rattle.host_model.specs.Ticking.{tick_events}
-use Rattle.host_model.proofs.Own.{IsOwn, sleepers_own, submitted_own, tick_own}
-use Rattle.host_model.proofs.Submitted.{next_is as submitted_is, no_more_is}
+use Rattle.proof_alone.specs.host_model.State.{HostState}
+use Rattle.proof_alone.specs.host_model.Events.{HostEvent, Accepts, Cancels, Hears}
+use Rattle.proof_alone.specs.host_model.After.{after, gives_up, is_busy}
+use Rattle.proof_alone.specs.host_model.Outs.{answer_to, answers, outs}
+use Rattle.proof_alone.specs.host_model.Taking.{IsFollowed, told_if}
+use Rattle.proof_alone.specs.host_model.Ticking.{tick_events}
+use Rattle.proof_alone.proofs.Own.{IsOwn, sleepers_own, submitted_own, tick_own}
+use Rattle.proof_alone.proofs.Submitted.{next_is as submitted_is, no_more_is}
 use Rattle.proof_alone.specs.world_model.Events.{shown_values}
 use Rattle.proof_alone.specs.State.{HostMachine, done}
 use Rattle.proof_alone.specs.Steps.{AreTold, AsksNothing, DidNotCome, IsAskedBy, IsOfOthers, IsOfUnit, Step, Tells, Comes, Misses, Says, Says_nothing, Asks, Refuses, Shows, Restarts, Begins_tick, Numbers, Judges, Does, entries, happens}

@@ -21,3 +21,10 @@ pub use Rattle.proof_alone.proofs.HostLinks
 pub use Rattle.proof_alone.proofs.Coming
 pub use Rattle.proof_alone.proofs.Hosting
 pub use Rattle.proof_alone.proofs.Stamps
+pub use Rattle.proof_alone.proofs.ChipNotices
+pub use Rattle.proof_alone.proofs.Flights
+pub use Rattle.proof_alone.proofs.Outside
+pub use Rattle.proof_alone.proofs.CourseSteps
+pub use Rattle.proof_alone.proofs.ArrivedFrames
+pub use Rattle.proof_alone.proofs.Arrivals
+pub use Rattle.proof_alone.proofs.Lists

@@ -10,15 +10,15 @@ use Rattle.zw_words.specs.declared.side.Side.TheVariants.{Host}
 use Rattle.zw_text.specs.declared.entry.Entry.{Entry}
 use Rattle.zw_text.specs.declared.entry.Entry.TheVariants as entry
 use Rattle.host_node.specs.Steps.{tick_end}
-use Rattle.host_model.specs.State.{HostState, command_at, node_of}
-use Rattle.host_model.specs.Sessions.{open_command, settings_with}
-use Rattle.host_model.specs.Ends.{attempt_entries}
-use Rattle.host_model.specs.After.{gives_up, is_full, is_held, line_ticked}
-use Rattle.host_model.specs.Events.{HostEvent, Requests_do, Interviews, Interview_unkept, Unreads, Is_unkept, Reports_old, Works, Finishes, Offers, Gives, Spends, Spends_unread, Takes_nonce, Notifies, Resends, Hears_value, Has_no_room, Line_ticks, Node_ticks, Queues_no_more, Drops_no_more, Submits_abort, Submits_front, Starts, Gives_text, Gives_segment, Begins, Begin_unkept}
-use Rattle.host_model.specs.Outs.{copy_out, dropped_if, failing_entries, held_entries, noted, outs, request_entries, stored_entries}
-use Rattle.host_model.specs.declared.out.HostOut.{HostOut}
-use Rattle.host_model.specs.declared.out.HostOut.TheVariants.{Note, Write}
-use Rattle.host_model.proofs.Own.{IsOwn}
+use Rattle.proof_alone.specs.host_model.State.{HostState, command_at, node_of}
+use Rattle.proof_alone.specs.host_model.Sessions.{open_command, settings_with}
+use Rattle.proof_alone.specs.host_model.Ends.{attempt_entries}
+use Rattle.proof_alone.specs.host_model.After.{gives_up, is_full, is_held, line_ticked}
+use Rattle.proof_alone.specs.host_model.Events.{HostEvent, Requests_do, Interviews, Interview_unkept, Unreads, Is_unkept, Reports_old, Works, Finishes, Offers, Gives, Spends, Spends_unread, Takes_nonce, Notifies, Resends, Hears_value, Has_no_room, Line_ticks, Node_ticks, Queues_no_more, Drops_no_more, Submits_abort, Submits_front, Starts, Gives_text, Gives_segment, Begins, Begin_unkept}
+use Rattle.proof_alone.specs.host_model.Outs.{copy_out, dropped_if, failing_entries, held_entries, noted, outs, request_entries, stored_entries}
+use Rattle.proof_alone.specs.host_model.declared.out.HostOut.{HostOut}
+use Rattle.proof_alone.specs.host_model.declared.out.HostOut.TheVariants.{Note, Write}
+use Rattle.proof_alone.proofs.Own.{IsOwn}
 use Rattle.proof_alone.proofs.HostOuts.{OutsAre, SharedAre, outs_are}
 use Rattle.proof_alone.specs.Steps.{AreTold, IsOfUnit}
 use Rattle.proof_waking.specs.Judged.{IsOfRequest}

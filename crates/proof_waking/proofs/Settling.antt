@@ -16,15 +16,15 @@ use Rattle.proof_alone.specs.law_time.Judged.{after_step, brought_here, directly
 use Rattle.proof_alone.specs.law_time.Moments.{Allows}
 use Rattle.proof_alone.specs.law_time.Waking.{is_notification, may_wake, owes_waking, tells_waking}
 use Rattle.host_heard.specs.Telling.{heard_at}
-use Rattle.host_model.specs.State.{HostState}
-use Rattle.host_model.specs.Events.{HostEvent, Accepts, Notifies}
-use Rattle.host_model.specs.After.{after}
-use Rattle.host_model.specs.Did.{after_all, outs_all}
-use Rattle.host_model.specs.Outs.{outs}
-use Rattle.host_model.specs.Taking.{FrameEvents}
-use Rattle.host_model.specs.declared.out.HostOut.{HostOut}
-use Rattle.host_model.specs.declared.out.HostOut.TheVariants.{Note, Write}
-use Rattle.host_model.proofs.EventLists.{after_all-append, outs_all-append}
+use Rattle.proof_alone.specs.host_model.State.{HostState}
+use Rattle.proof_alone.specs.host_model.Events.{HostEvent, Accepts, Notifies}
+use Rattle.proof_alone.specs.host_model.After.{after}
+use Rattle.proof_alone.specs.host_model.Did.{after_all, outs_all}
+use Rattle.proof_alone.specs.host_model.Outs.{outs}
+use Rattle.proof_alone.specs.host_model.Taking.{FrameEvents}
+use Rattle.proof_alone.specs.host_model.declared.out.HostOut.{HostOut}
+use Rattle.proof_alone.specs.host_model.declared.out.HostOut.TheVariants.{Note, Write}
+use Rattle.proof_alone.proofs.EventLists.{after_all-append, outs_all-append}
 use Rattle.proof_alone.proofs.HostOuts.{OutsAre, OwnIs, SharedAre, outs_are}
 use Rattle.proof_alone.specs.State.{HostMachine, done}
 use Rattle.proof_alone.specs.Steps.{AreTold}

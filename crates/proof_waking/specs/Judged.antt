@@ -12,11 +12,11 @@ use Rattle.zw_text.specs.declared.entry.Entry.TheVariants.{Said}
 use Rattle.zw_text.specs.Transcript.{line_of}
 use Rattle.zw_text.specs.Transcript.Way.{Whole}
 use Rattle.proof_alone.specs.law_time.Judged.{acknowledged, frame_whole, frames_come, is_directly_after, is_following, judged, last_of}
-use Rattle.host_model.specs.State.{HostState}
-use Rattle.host_model.specs.Events.{HostEvent, Requests_do}
-use Rattle.host_model.specs.Did.{after_all, outs_all}
-use Rattle.host_model.specs.Taking.{FrameEvents}
-use Rattle.host_model.proofs.Own.{IsOwn}
+use Rattle.proof_alone.specs.host_model.State.{HostState}
+use Rattle.proof_alone.specs.host_model.Events.{HostEvent, Requests_do}
+use Rattle.proof_alone.specs.host_model.Did.{after_all, outs_all}
+use Rattle.proof_alone.specs.host_model.Taking.{FrameEvents}
+use Rattle.proof_alone.proofs.Own.{IsOwn}
 use Rattle.proof_alone.specs.State.{HostMachine}
 use Rattle.proof_alone.specs.Phases.{Asked, Behind, Ticking}
 use Rattle.proof_alone.specs.Runs.{Knowledge}

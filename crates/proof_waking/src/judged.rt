@@ -9,7 +9,7 @@ ghost use Rattle.proof_alone.specs.law_transcript.Units.{bringing_in};
 ghost use Rattle.proof_alone.specs.law_time.Judged.{brought_here, judged_here};
 ghost use Rattle.proof_alone.specs.law_time.Moments.{Allows};
 ghost use Rattle.proof_alone.specs.law_time.Waking.{may_wake};
-ghost use Rattle.host_model.specs.Events.{HostEvent};
+ghost use Rattle.proof_alone.specs.host_model.Events.{HostEvent};
 ghost use Rattle.proof_alone.specs.State.{HostMachine, first_alone};
 ghost use Rattle.proof_alone.specs.Phases.{Phase, Resting};
 ghost use Rattle.proof_alone.specs.Runs.{Run, Walk};

@@ -2,7 +2,7 @@
 
 ghost use Rattle.std.specs.Prelude.{Some, List, [], Option, ℕ};
 ghost use Rattle.s0_crypto.specs.declared.key_pair.Keys.{Keys};
-ghost use Rattle.device_sim.specs.State.{State};
+ghost use Rattle.proof_alone.specs.device_sim.State.{State};
 ghost use Rattle.zw_text.specs.declared.entry.Entry.{Entry};
 ghost use Rattle.proof_alone.specs.law_host.Heard.{heard_by_host};
 ghost use Rattle.proof_alone.specs.law_time.Waking.{WakesAsTold};

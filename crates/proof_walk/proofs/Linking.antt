@@ -5,8 +5,8 @@ use Rattle.std.specs.Prelude.{Option, slice_set}
 use Rattle.zw_base.proofs.Each.{all-weaker}
 use Rattle.serial_frame.specs.Stream.{after_tick}
 use Rattle.route_table.specs.declared.route.Route.{Route}
-use Rattle.device_kinds.specs.declared.change.Change.{Change}
-use Rattle.chip_sim.specs.Events.{ChipEvent, Judged, Ticked, Done, Heard as chip_hears, Informed, Forgets, Joined, Linked, Collides, after}
+use Rattle.proof_host.specs.device_kinds.declared.change.Change.{Change}
+use Rattle.proof_device.specs.chip_sim.Events.{ChipEvent, Judged, Ticked, Done, Heard as chip_hears, Informed, Forgets, Joined, Linked, Collides, after}
 use Rattle.proof_device.specs.device_sim.State.{State}
 use Rattle.proof_device.specs.device_sim.Event.{DeviceEvent, device_after}
 use Rattle.proof_device.specs.mesh_sim.declared.event.AirEvent.{AirEvent}

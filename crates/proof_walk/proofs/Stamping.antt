@@ -3,9 +3,9 @@ use Rattle.std.proofs.Common.{◌≡◌, ℕ, ◌&&◌, ◌||◌, not, Bool, tru
 use Rattle.std.specs.Prelude.{Option, Some, None, slice_get}
 use Rattle.serial_frame.specs.declared.item.Item.{Item}
 use Rattle.route_table.specs.declared.route.Route.{Route}
-use Rattle.chip_sim.specs.State.{ChipState}
-use Rattle.chip_sim.specs.Events.{Judged}
-use Rattle.chip_sim.specs.Did.{MayAll as MayAllOfChip, judged_all}
+use Rattle.proof_device.specs.chip_sim.State.{ChipState}
+use Rattle.proof_device.specs.chip_sim.Events.{Judged}
+use Rattle.proof_device.specs.chip_sim.Did.{MayAll as MayAllOfChip, judged_all}
 use Rattle.proof_device.specs.device_sim.State.{State}
 use Rattle.proof_device.specs.device_sim.Event.{DeviceEvent, Ticks, Wakes, Sets}
 use Rattle.air_frames.specs.Ages.{refusal_of}

@@ -4,11 +4,11 @@ use Rattle.std.specs.Prelude.{Option, Some, None, slice_get}
 use Rattle.route_table.specs.declared.route.Route.{Route}
 use Rattle.air_frames.specs.Ages.{refusal_of}
 use Rattle.air_frames.specs.declared.ages.Refusal.{Refusal}
-use Rattle.chip_sim.specs.State.{ChipParts}
-use Rattle.chip_sim.specs.Events.{ChipEvent, Ticked, after, outs}
-use Rattle.chip_sim.specs.Did.{judged_all}
-use Rattle.chip_sim.specs.declared.out.ChipOut.{ChipOut}
-use Rattle.chip_sim.specs.declared.out.ChipOut.TheVariants as chip_out
+use Rattle.proof_device.specs.chip_sim.State.{ChipParts}
+use Rattle.proof_device.specs.chip_sim.Events.{ChipEvent, Ticked, after, outs}
+use Rattle.proof_device.specs.chip_sim.Did.{judged_all}
+use Rattle.proof_device.specs.chip_sim.declared.out.ChipOut.{ChipOut}
+use Rattle.proof_device.specs.chip_sim.declared.out.ChipOut.TheVariants as chip_out
 use Rattle.proof_device.specs.device_sim.State.{State}
 use Rattle.proof_device.specs.device_sim.Event.{DeviceEvent, Ticks, Wakes, Sets}
 use Rattle.proof_device.specs.mesh_sim.declared.event.AirEvent.{AirEvent}

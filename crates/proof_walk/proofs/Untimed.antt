@@ -8,7 +8,7 @@ use Rattle.zw_text.specs.declared.entry.Entry.{Entry}
 use Rattle.zw_text.specs.declared.entry.Entry.TheVariants as entry
 use Rattle.zw_text.specs.Transcript.{line_of, lines_run, tick_at, ticks, last_number, time_of}
 use Rattle.zw_text.proofs.Views.{shown-append}
-use Rattle.chip_sim.specs.Events.{ChipEvent}
+use Rattle.proof_device.specs.chip_sim.Events.{ChipEvent}
 use Rattle.proof_device.specs.outside_model.State.{Outside, outside}
 use Rattle.proof_device.specs.outside_model.Chip.{chip_does}
 use Rattle.proof_device.specs.outside_model.Events.{OuterEvent, Begins_line, Begins_tick, Host_notes, outcome, is_own}

@@ -8,7 +8,7 @@ use Rattle.serial_frame.specs.declared.unit.Unit.{Unit as LineUnit}
 use Rattle.route_table.specs.declared.route.Route.{Route}
 use Rattle.proof_device.specs.device_sim.State.{State}
 use Rattle.proof_device.specs.device_sim.Event.{DeviceEvent, device_after}
-use Rattle.chip_sim.specs.Events.{ChipEvent, Judged, Joined, Linked, Collides, May as MayOfChip}
+use Rattle.proof_device.specs.chip_sim.Events.{ChipEvent, Judged, Joined, Linked, Collides, May as MayOfChip}
 use Rattle.proof_device.specs.mesh_sim.declared.event.AirEvent.{AirEvent}
 use Rattle.proof_device.specs.mesh_sim.Steps.{AirStep, mesh_after, mesh_outs, MayHappen}
 use Rattle.proof_device.specs.mesh_sim.Steps as mesh

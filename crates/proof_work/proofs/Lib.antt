@@ -24,3 +24,5 @@ pub use Rattle.proof_walk.proofs.Machines as proof_walk_Machines
 pub use Rattle.proof_walk.proofs.Where
 pub use Rattle.proof_walk.proofs.Times
 pub use Rattle.proof_walk.proofs.Lines
+pub use Rattle.proof_walk.proofs.Results
+pub use Rattle.proof_walk.proofs.Lists

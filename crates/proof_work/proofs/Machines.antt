@@ -9,13 +9,13 @@ use Rattle.host_keep.specs.declared.record.Record.{Record}
 use Rattle.host_model.specs.State.{HostState}
 use Rattle.host_model.specs.Events.{HostEvent}
 use Rattle.host_model.specs.Opening.{opened}
-use Rattle.world_model.specs.State.{Machine}
-use Rattle.world_model.specs.Events.{Event, Outside_does, Host_does, Host_takes, Decoder_ticks, Refuses, Shows_values, Restarts, OpensFrom, happens, May}
-use Rattle.world_model.specs.Did.{MayAll, happens_all}
-use Rattle.world_model.specs.Lines.{IsEffect}
-use Rattle.world_model.specs.Prefixes.{LinePart, IsLineBefore}
-use Rattle.world_model.proofs.Along.{IsAskedBy, IsOfPart, IsOfEffect, along, pieces_along, effect_along}
-use Rattle.world_model.proofs.Pieces.{Of, Law, Pieces, of_none, of_then, of_line_part, of_line_before}
+use Rattle.proof_walk.specs.world_model.State.{Machine}
+use Rattle.proof_walk.specs.world_model.Events.{Event, Outside_does, Host_does, Host_takes, Decoder_ticks, Refuses, Shows_values, Restarts, OpensFrom, happens, May}
+use Rattle.proof_walk.specs.world_model.Did.{MayAll, happens_all}
+use Rattle.proof_walk.specs.world_model.Lines.{IsEffect}
+use Rattle.proof_walk.specs.world_model.Prefixes.{LinePart, IsLineBefore}
+use Rattle.proof_walk.proofs.world_model_Along.{IsAskedBy, IsOfPart, IsOfEffect, along, pieces_along, effect_along}
+use Rattle.proof_walk.proofs.world_model_Pieces.{Of, Law, Pieces, of_none, of_then, of_line_part, of_line_before}
 use Rattle.proof_world.specs.proof_serial.Line.{AreLines}
 use Rattle.proof_world.specs.Restarts.{KeepsWell, AllKeepWell}
 use Rattle.proof_work.specs.Doing.{IsDone}

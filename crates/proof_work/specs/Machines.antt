@@ -1,8 +1,8 @@
 -- The same of the machine (this project's own): what its host does is done by hosts.
 use Rattle.std.specs.Prelude.{List}
-use Rattle.world_model.specs.State.{Machine}
-use Rattle.world_model.specs.Events.{Event, Host_does}
-use Rattle.world_model.specs.Did.{AllAlong}
+use Rattle.proof_walk.specs.world_model.State.{Machine}
+use Rattle.proof_walk.specs.world_model.Events.{Event, Host_does}
+use Rattle.proof_walk.specs.world_model.Did.{AllAlong}
 use Rattle.proof_work.specs.Doing.{IsDone}
 
 -- at an event of the machine; what items of the chip make the host do is by those items

@@ -3,10 +3,10 @@
 ghost use Rattle.std.specs.Prelude.{List, [], ℕ, Some};
 ghost use Rattle.s0_crypto.specs.declared.key_pair.Keys.{Keys};
 ghost use Rattle.device_sim.specs.State.{State};
-ghost use Rattle.world_model.specs.State.{first_machine};
-ghost use Rattle.world_lines.specs.Spoken.{Spoken, after_all};
-ghost use Rattle.world_lines.specs.Done.{AreDone};
-ghost use Rattle.world_lines.specs.Whole.{AreWhole};
+ghost use Rattle.proof_walk.specs.world_model.State.{first_machine};
+ghost use Rattle.proof_walk.specs.world_lines.Spoken.{Spoken, after_all};
+ghost use Rattle.proof_walk.specs.world_lines.Done.{AreDone};
+ghost use Rattle.proof_walk.specs.world_lines.Whole.{AreWhole};
 ghost use Rattle.proof_walk.specs.Phases.{Between};
 ghost use Rattle.proof_walk.specs.Walk.{Walk};
 ghost use Rattle.proof_work.specs.Phases.{AsksNothing, KnowsWork};

@@ -24,7 +24,7 @@ use Rattle.chip_sim.specs.Events.{ChipEvent, Done, Heard as chip_hears, Forgets,
 use Rattle.chip_sim.specs.Did.{judged_all}
 use Rattle.chip_sim.specs.declared.out.ChipOut.{ChipOut}
 use Rattle.chip_sim.specs.declared.out.ChipOut.TheVariants as chip_out
-use Rattle.device_kinds.specs.declared.change.Change.{Change}
+use Rattle.proof_serial.specs.device_kinds.declared.change.Change.{Change}
 use Rattle.device_sim.specs.State.{State}
 use Rattle.device_sim.specs.Event.{DeviceEvent, device_replies}
 use Rattle.air_frames.specs.declared.ages.Refusal.{Refusal as RepeatRefusal}

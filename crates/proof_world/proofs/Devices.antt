@@ -2,7 +2,7 @@
 use Rattle.std.proofs.Common.{ℕ, List, [], ◌∷◌, ap, sym, subst}
 use Rattle.std.specs.List.{AllByRecursion}
 use Rattle.zw_text.specs.declared.entry.Entry.{Entry}
-use Rattle.device_kinds.specs.declared.kind.Kind.{Kind}
+use Rattle.proof_serial.specs.device_kinds.declared.kind.Kind.{Kind}
 use Rattle.device_sim.specs.State.{State, fresh}
 use Rattle.device_sim.specs.Laws.{IsInOrder}
 use Rattle.proof_host.specs.law_transcript.Headline.{IsAsMade}

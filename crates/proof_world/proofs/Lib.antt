@@ -29,3 +29,6 @@ pub use Rattle.proof_serial.proofs.Events
 pub use Rattle.proof_serial.proofs.ChangedUnits
 pub use Rattle.proof_serial.proofs.First
 pub use Rattle.proof_serial.proofs.HostRuns
+pub use Rattle.host_model.proofs.Own
+pub use Rattle.host_model.proofs.Silence
+pub use Rattle.host_model.proofs.Numbered

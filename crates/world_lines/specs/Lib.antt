@@ -1,3 +1,5 @@
 pub mod Spoken
 pub mod Done
 pub mod Whole
+pub use Rattle.world_model.specs.outside_model as outside_model
+pub use Rattle.world_model.specs as world_model

@@ -4,15 +4,15 @@ use Rattle.zw_base.specs.declared.order.Word.{Word}
 use Rattle.zw_base.specs.declared.order.Word.TheVariants.{On}
 use Rattle.zw_base.specs.declared.order.What.{What}
 use Rattle.zw_base.specs.declared.order.What.TheVariants.{Value}
-use Rattle.host_keep.specs.Kept.{Kept, Session, Taken, node_of, first_kept}
-use Rattle.host_keep.specs.Legal.{AreLegal, AreTextsOf, first_illegal}
-use Rattle.host_keep.specs.RecordText.{row_text, record_text, IsTextOf}
-use Rattle.host_keep.specs.declared.record.Record.{Record}
-use Rattle.host_keep.specs.declared.record.Record.TheVariants as records
-use Rattle.host_keep.specs.declared.final_status.FinalStatus.{FinalStatus}
-use Rattle.host_keep.specs.declared.final_status.FinalStatus.TheVariants.{Success}
-use Rattle.host_keep.proofs.RecordLists.{give_one}
-use Rattle.host_keep.proofs.RowsBack.{one_record}
+use Rattle.law_transcript.specs.host_keep.Kept.{Kept, Session, Taken, node_of, first_kept}
+use Rattle.law_transcript.specs.host_keep.Legal.{AreLegal, AreTextsOf, first_illegal}
+use Rattle.law_transcript.specs.host_keep.RecordText.{row_text, record_text, IsTextOf}
+use Rattle.law_transcript.specs.host_keep.declared.record.Record.{Record}
+use Rattle.law_transcript.specs.host_keep.declared.record.Record.TheVariants as records
+use Rattle.law_transcript.specs.host_keep.declared.final_status.FinalStatus.{FinalStatus}
+use Rattle.law_transcript.specs.host_keep.declared.final_status.FinalStatus.TheVariants.{Success}
+use Rattle.law_transcript.proofs.RecordLists.{give_one}
+use Rattle.law_transcript.proofs.RowsBack.{one_record}
 use Rattle.law_transcript.specs.WorkedDevices.{plain_records}
 use Rattle.law_wire.specs.WorkedRecords.{spent_ungiven}
 use Rattle.law_wire.proofs.Computing.{reckoning}

@@ -1,5 +1,5 @@
 use Rattle.std.proofs.Common.{ℕ, refl}
-use Rattle.host_keep.specs.Kept.{node_of, kept_of}
+use Rattle.law_transcript.specs.host_keep.Kept.{node_of, kept_of}
 use Rattle.law_transcript.specs.Records.{ShowsNode}
 use Rattle.law_transcript.specs.Worked.{plain_exchange, repeated_exchange, lossy_exchange, cancelled_order, restarted_host, sleeping_node, sealed_exchange, long_message}
 use Rattle.law_transcript.specs.WorkedDevices.{plain_records}

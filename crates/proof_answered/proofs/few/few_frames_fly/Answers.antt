@@ -3,9 +3,9 @@ use Rattle.std.proofs.Common.{◌≡◌, ℕ, zero, suc, inr, List, [], ◌∷�
 use Rattle.device_sim.specs.State.{State}
 use Rattle.air_frames.specs.Frames.{no_frames}
 use Rattle.outside_model.specs.State.{first_outer}
-use Rattle.proof_work.proofs.Lines.{lines_lead}
-use Rattle.proof_work.specs.Phases.{AsksNothing}
-use Rattle.proof_traffic.proofs.Parts.{Airs}
+use Rattle.proof_calm.proofs.Lines.{lines_lead}
+use Rattle.proof_calm.specs.proof_work.Phases.{AsksNothing}
+use Rattle.proof_calm.proofs.proof_traffic_Parts.{Airs}
 use Rattle.proof_answered.specs.Few.{AreIdle, KnowFew, work_at}
 use Rattle.proof_answered.proofs.Walking.{begins_known, few_walk}
 use Rattle.proof_answered.proofs.few.few_frames_fly.Goals as goal

@@ -1,8 +1,8 @@
 -- One walk over quiet lines, beside the one that few frames are on the air.
 use Rattle.std.proofs.Common.{[], subst}
-use Rattle.proof_work.proofs.Where.{where_whole}
-use Rattle.proof_work.specs.Phases.{AsksNothing}
-use Rattle.proof_traffic.proofs.Parts.{Airs}
+use Rattle.proof_calm.proofs.Where.{where_whole}
+use Rattle.proof_calm.specs.proof_work.Phases.{AsksNothing}
+use Rattle.proof_calm.proofs.proof_traffic_Parts.{Airs}
 use Rattle.proof_answered.specs.Heard.{AllSayHeard, IsHeardThen, KnowHeard}
 use Rattle.proof_answered.proofs.HeardCalls.{called_ok, heard_walk, rests_heard}
 use Rattle.proof_answered.proofs.Walking.{begins_known}

@@ -1,8 +1,8 @@
 -- One walk over quiet lines, where each frame of the host is for a joined node, and these listen.
 use Rattle.std.proofs.Common.{[]}
-use Rattle.proof_work.proofs.Lines.{lines_lead}
-use Rattle.proof_work.specs.Phases.{AsksNothing}
-use Rattle.proof_traffic.proofs.Parts.{Airs}
+use Rattle.proof_calm.proofs.Lines.{lines_lead}
+use Rattle.proof_calm.specs.proof_work.Phases.{AsksNothing}
+use Rattle.proof_calm.proofs.proof_traffic_Parts.{Airs}
 use Rattle.proof_answered.specs.Outward.{KnowNetwork}
 use Rattle.proof_answered.proofs.HeardCalls.{rests_heard}
 use Rattle.proof_answered.proofs.Outwards.{network_walk}

@@ -1,8 +1,8 @@
 -- One walk over quiet lines, where each frame of the host is for a node that listens.
 use Rattle.std.proofs.Common.{[]}
-use Rattle.proof_work.proofs.Where.{where_whole}
-use Rattle.proof_work.specs.Phases.{AsksNothing}
-use Rattle.proof_traffic.proofs.Parts.{Airs}
+use Rattle.proof_calm.proofs.Where.{where_whole}
+use Rattle.proof_calm.specs.proof_work.Phases.{AsksNothing}
+use Rattle.proof_calm.proofs.proof_traffic_Parts.{Airs}
 use Rattle.proof_answered.specs.Outward.{IsSentTo, KnowListening}
 use Rattle.proof_answered.proofs.HeardCalls.{rests_heard}
 use Rattle.proof_answered.proofs.Outwards.{listening_walk}

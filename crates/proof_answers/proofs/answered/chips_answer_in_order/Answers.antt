@@ -8,19 +8,19 @@ use Rattle.outside_model.specs.Devices.{State}
 use Rattle.world_model.specs.State.{Machine, first_machine}
 use Rattle.world_lines.specs.Spoken.{after_all, transcript_of}
 use Rattle.world_lines.specs.Done.{events_of}
-use Rattle.proof_line.proofs.SpokenLines.{all_lines, all_may, lines_of}
-use Rattle.proof_air.specs.proof_walk.Phases.{Phase, Between}
-use Rattle.proof_air.specs.proof_walk.Time.{KnowTime, MayCount}
-use Rattle.proof_air.specs.proof_walk.Walk.{Walk, WalkOver, both_know}
-use Rattle.proof_air.proofs.Over.{beside, over}
-use Rattle.proof_air.proofs.Where.{where_lead, where_whole}
-use Rattle.proof_air.specs.Hearing.{KnowAir as KnowHistory, MayHear}
-use Rattle.proof_air.specs.Landing.{KnowLanding}
-use Rattle.proof_routes.specs.Knowing.{KnowNetworks}
-use Rattle.proof_line.specs.Linked.{IsOrderly}
-use Rattle.proof_line.proofs.LinkSome.{lines_orderly}
-use Rattle.proof_line.proofs.LinkWalk.{ended_known, links_first, nothing_did}
-use Rattle.proof_line.proofs.Parts.{Laws}
+use Rattle.proof_chip.proofs.SpokenLines.{all_lines, all_may, lines_of}
+use Rattle.proof_devices.specs.proof_air.proof_walk.Phases.{Phase, Between}
+use Rattle.proof_devices.specs.proof_air.proof_walk.Time.{KnowTime, MayCount}
+use Rattle.proof_devices.specs.proof_air.proof_walk.Walk.{Walk, WalkOver, both_know}
+use Rattle.proof_devices.proofs.Over.{beside, over}
+use Rattle.proof_devices.proofs.Where.{where_lead, where_whole}
+use Rattle.proof_devices.specs.proof_air.Hearing.{KnowAir as KnowHistory, MayHear}
+use Rattle.proof_devices.specs.proof_air.Landing.{KnowLanding}
+use Rattle.proof_devices.specs.proof_routes.Knowing.{KnowNetworks}
+use Rattle.proof_chip.specs.proof_line.Linked.{IsOrderly}
+use Rattle.proof_chip.proofs.LinkSome.{lines_orderly}
+use Rattle.proof_chip.proofs.LinkWalk.{ended_known, links_first, nothing_did}
+use Rattle.proof_chip.proofs.Parts.{Laws}
 use Rattle.proof_chip.specs.Calling.{KnowCalls}
 use Rattle.proof_chip.specs.Knowing.{AnyEntry}
 use Rattle.proof_chip.specs.Served.{KnowBeside, KnowMembers}
@@ -32,7 +32,7 @@ use Rattle.proof_devices.specs.Acks.{KnowAcks}
 use Rattle.proof_devices.specs.Answering as lives
 use Rattle.proof_devices.specs.Living.{MayAny, KnowDevices}
 use Rattle.proof_devices.specs.Meeting.{Ground}
-use Rattle.proof_routes.specs.Forgetting.{KnowPassages, MayForget}
+use Rattle.proof_devices.specs.proof_routes.Forgetting.{KnowPassages, MayForget}
 use Rattle.proof_answers.specs.Answered.{KnowAnswering, KnowGround}
 use Rattle.proof_answers.proofs.Written.{answered_walk, answers_cut, answers_whole, given_of, law_of}
 use Rattle.proof_answers.proofs.First.{tells_first}

@@ -1,10 +1,10 @@
 -- The law over the tables, what was judged and which nodes listen.
 use Rattle.std.proofs.Common.{[], refl}
 use Rattle.std.specs.Prelude.{Some}
-use Rattle.law_time.specs.Holds.{may_hold}
-use Rattle.law_time.specs.Moments.{Allows}
-use Rattle.law_time.specs.Waking.{may_wake}
-use Rattle.proof_host.specs.Laws.{MayStand}
+use Rattle.proof_work.specs.law_time.Holds.{may_hold}
+use Rattle.proof_work.specs.law_time.Moments.{Allows}
+use Rattle.proof_work.specs.law_time.Waking.{may_wake}
+use Rattle.proof_work.specs.proof_host.Laws.{MayStand}
 use Rattle.proof_requests.specs.proof_alone.State.{first_alone}
 use Rattle.proof_requests.specs.proof_alone.Tables.{KnowsTables}
 use Rattle.proof_requests.proofs.Running.{run_keeps}

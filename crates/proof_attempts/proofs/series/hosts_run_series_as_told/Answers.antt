@@ -3,8 +3,8 @@ use Rattle.std.proofs.Common.{[], refl}
 use Rattle.std.specs.Prelude.{Some}
 use Rattle.s0_crypto.specs.declared.key_pair.Keys.{Keys}
 use Rattle.zw_text.specs.Transcript.{not_accepting}
-use Rattle.proof_host.specs.Laws.{MayStand}
-use Rattle.proof_host.proofs.Lists.{each-weaker}
+use Rattle.proof_work.specs.proof_host.Laws.{MayStand}
+use Rattle.proof_work.proofs.Lists.{each-weaker}
 use Rattle.proof_requests.specs.proof_alone.Answering.{AsOrdered, MayAnswer}
 use Rattle.proof_requests.specs.proof_alone.Phases.{Resting}
 use Rattle.proof_requests.specs.proof_alone.Runs.{Walk, both_know}

@@ -3,9 +3,9 @@ use Rattle.std.proofs.Common.{◌≡◌, [], List, false, true}
 use Rattle.std.specs.Prelude.{Some}
 use Rattle.s0_crypto.specs.declared.key_pair.Keys.{Keys}
 use Rattle.zw_text.specs.declared.entry.Entry.{Entry}
-use Rattle.law_transcript.specs.Lists.{EachAfter}
-use Rattle.law_time.specs.Moments.{Allows}
-use Rattle.law_time.specs.Waking.{may_sleep}
+use Rattle.proof_work.specs.law_transcript.Lists.{EachAfter}
+use Rattle.proof_work.specs.law_time.Moments.{Allows}
+use Rattle.proof_work.specs.law_time.Waking.{may_sleep}
 use Rattle.proof_requests.specs.proof_alone.Phases.{Phase, Resting}
 use Rattle.proof_requests.specs.proof_alone.Runs.{Run}
 use Rattle.proof_requests.specs.proof_alone.State.{HostMachine, first_alone}

@@ -1,7 +1,7 @@
 -- Each tie lasts over those before it, and is so at first.
 use Rattle.std.proofs.Common.{◌≡◌, [], false, true}
 use Rattle.s0_crypto.specs.declared.key_pair.Keys.{Keys}
-use Rattle.proof_host.specs.Laws.{MayStand}
+use Rattle.proof_work.specs.proof_host.Laws.{MayStand}
 use Rattle.proof_requests.specs.proof_alone.Runs.{both_know}
 use Rattle.proof_requests.specs.proof_alone.Tables.{KnowsTables}
 use Rattle.proof_requests.proofs.Running.{run_keeps}

@@ -1,6 +1,6 @@
 -- The tie lasts over the tables, and is so at first.
 use Rattle.std.proofs.Common.{[]}
-use Rattle.proof_host.specs.Laws.{MayStand}
+use Rattle.proof_work.specs.proof_host.Laws.{MayStand}
 use Rattle.proof_requests.specs.proof_alone.Runs.{both_know}
 use Rattle.proof_requests.specs.proof_alone.Tables.{KnowsTables}
 use Rattle.proof_requests.proofs.Running.{run_keeps}

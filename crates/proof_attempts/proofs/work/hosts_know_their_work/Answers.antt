@@ -2,7 +2,7 @@
 use Rattle.std.proofs.Common.{◌≡◌, true, false, inl, [], refl, arith}
 use Rattle.std.specs.Prelude.{Some}
 use Rattle.s0_crypto.specs.declared.key_pair.Keys.{Keys}
-use Rattle.proof_host.specs.Laws.{MayStand}
+use Rattle.proof_work.specs.proof_host.Laws.{MayStand}
 use Rattle.proof_work.specs.proof_walk.Time.{MayCount}
 use Rattle.proof_requests.specs.proof_alone.Runs.{Walk, both_know}
 use Rattle.proof_requests.specs.proof_alone.State.{first_alone}

@@ -1,5 +1,5 @@
 use Rattle.std.proofs.Common.{[]}
-use Rattle.proof_device.proofs.ShownChanges.{adds_by}
+use Rattle.proof_headline.proofs.ShownChanges.{adds_by}
 use Rattle.proof_audit.proofs.ChangesWalk.{lines-so}
 use Rattle.proof_audit.proofs.WholeChanges.{no-pieces}
 use Rattle.proof_audit.proofs.books.changes_are_entered_whole.Goals as goal

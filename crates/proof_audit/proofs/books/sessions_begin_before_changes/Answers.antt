@@ -3,8 +3,8 @@ use Rattle.s0_crypto.specs.declared.key_pair.Keys.{Keys}
 use Rattle.device_kinds.specs.Kind.{lists}
 use Rattle.s0_crypto.specs.Sealing.{keys_of}
 use Rattle.device_kinds.specs.declared.kind.Kind.{Kind}
-use Rattle.proof_device.specs.GoingOn.{AreSame, GoOn}
-use Rattle.proof_device.proofs.ShownChanges.{adds_by, stays_apart}
+use Rattle.proof_headline.specs.proof_device.GoingOn.{AreSame, GoOn}
+use Rattle.proof_headline.proofs.ShownChanges.{adds_by, stays_apart}
 use Rattle.law_transcript.specs.Nodes.{listing_of}
 use Rattle.world_model.specs.State.{Machine, first_machine}
 use Rattle.world_lines.specs.Spoken.{Spoken, after_all}

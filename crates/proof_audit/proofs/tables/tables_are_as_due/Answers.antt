@@ -8,7 +8,7 @@ use Rattle.zw_text.specs.declared.entry.Entry.TheVariants.{TableNode}
 use Rattle.zw_text.specs.Transcript.{made, sessions}
 use Rattle.law_transcript.specs.Devices.{made_by}
 use Rattle.law_transcript.specs.Nodes.{device_of, listing_of}
-use Rattle.proof_device.specs.Showing.{IsShown}
+use Rattle.proof_headline.specs.proof_device.Showing.{IsShown}
 use Rattle.proof_audit.proofs.ChangedOnce.{found-so}
 use Rattle.proof_audit.proofs.ConfirmedValues.{values-alike}
 use Rattle.proof_audit.proofs.ShownValues.{IsLastShown, all-last-shown}

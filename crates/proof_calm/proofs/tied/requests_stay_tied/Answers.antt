@@ -3,9 +3,9 @@ use Rattle.std.proofs.Common.{[], refl}
 use Rattle.outside_model.specs.State.{first_outer}
 use Rattle.proof_work.proofs.Where.{where_whole}
 use Rattle.proof_work.specs.Phases.{AsksNothing}
-use Rattle.proof_traffic.specs.Requests.{no_traffic}
-use Rattle.proof_traffic.proofs.Flights.{follows_on_air}
-use Rattle.proof_traffic.proofs.Parts.{Airs}
+use Rattle.proof_waking.specs.proof_traffic.Requests.{no_traffic}
+use Rattle.proof_waking.proofs.Flights.{follows_on_air}
+use Rattle.proof_waking.proofs.proof_traffic_Parts.{Airs}
 use Rattle.proof_calm.specs.Tied.{IsOrderly, KnowTied, Nowhere}
 use Rattle.proof_calm.proofs.Awaiting.{Outsides}
 use Rattle.host_model.specs.State.{first_host}

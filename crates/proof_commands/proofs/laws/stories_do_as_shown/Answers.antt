@@ -16,7 +16,7 @@ use Rattle.world_lines.specs.Spoken.{Spoken, after_all, transcript_of}
 use Rattle.world_lines.specs.Done.{AreDone}
 use Rattle.world_lines.specs.Whole.{AreWhole}
 use Rattle.proof_device.specs.Showing.{AreApart}
-use Rattle.proof_devices.specs.LastLine.{with_last as said_further}
+use Rattle.proof_answers.specs.proof_devices.LastLine.{with_last as said_further}
 use Rattle.run_all.specs.Around.{Around}
 use Rattle.proof_commands.specs.Laws.{IsFairWorld, IsStory, IsWhole, Ran, TellsAtRestarts, first, transcript, with_last}
 use Rattle.proof_commands.proofs.Further.{devices_are, further, further_read, further_told, reads_as, told, whole_devices}

@@ -8,7 +8,7 @@ use Rattle.world_model.specs.Events.{Event}
 use Rattle.world_model.specs.Did.{MayAll, entries_all, happens_all}
 use Rattle.proof_host.specs.Entries.{IsAside}
 use Rattle.proof_host.specs.Facts.{Facts}
-use Rattle.proof_chip.specs.proof_world.Restarts.{AllStartWell}
+use Rattle.proof_answers.specs.proof_chip.proof_world.Restarts.{AllStartWell}
 use Rattle.run_all.specs.Around.{Around}
 use Rattle.proof_commands.specs.Laws.{IsStory, KeepsRecords, Ran, events_of, first, last, transcript}
 use Rattle.proof_commands.proofs.SimKeeping.{story_keeps}

@@ -1,7 +1,7 @@
 -- The lines of a story, as they go over a keeper that tells its records.
 use Rattle.std.proofs.Common.{List, ℕ, Option, refl, sym, subst}
 use Rattle.run_all.specs.host_core.Network.{keys_of}
-use Rattle.proof_chip.specs.proof_world.Restarts.{BeginsEmpty}
+use Rattle.proof_answers.specs.proof_chip.proof_world.Restarts.{BeginsEmpty}
 use Rattle.proof_commands.specs.Laws.{events_of}
 use Rattle.proof_commands.specs.Generate.{plain_lines}
 use Rattle.proof_commands.proofs.Reading.{story_lines}

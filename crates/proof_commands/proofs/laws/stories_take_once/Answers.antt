@@ -5,7 +5,7 @@ use Rattle.device_sim.specs.State.{State}
 use Rattle.proof_device.specs.GoingOn.{AreSame, TakeOnce}
 use Rattle.proof_device.specs.Showing.{IsShown}
 use Rattle.run_all.specs.host_core.Network.{keys_of}
-use Rattle.proof_chip.specs.proof_world.Devices.{GroupsSessions}
+use Rattle.proof_answers.specs.proof_chip.proof_world.Devices.{GroupsSessions}
 use Rattle.world_model.specs.Did.{entries_all}
 use Rattle.proof_commands.specs.Laws.{events_of, first, last, end, transcript}
 use Rattle.proof_commands.proofs.SimKeeping.{all_shown, all_group}

@@ -8,7 +8,7 @@ use Rattle.law_transcript.specs.Stores.{StoresConfirmed}
 use Rattle.run_all.specs.host_core.Network.{keys_of}
 use Rattle.world_model.specs.Events.{Event}
 use Rattle.proof_host.specs.Laws.{HostLaws}
-use Rattle.proof_chip.specs.proof_world.Restarts.{AllStartWell}
+use Rattle.proof_answers.specs.proof_chip.proof_world.Restarts.{AllStartWell}
 use Rattle.proof_commands.specs.Laws.{first}
 use Rattle.proof_commands.proofs.Speaking.{all_done, all_said, same_events, same_transcript, story_done}
 use Rattle.proof_commands.proofs.Told.{Restarting, fresh, starts_well, story_told}

@@ -10,7 +10,7 @@ use Rattle.world_lines.specs.Spoken.{Spoken, after_all, transcript_of}
 use Rattle.world_lines.specs.Done.{AreDone}
 use Rattle.world_model.specs.State.{Machine, first_machine}
 use Rattle.world_model.specs.Events.{Event}
-use Rattle.proof_device.specs.Showing.{AreApart}
+use Rattle.proof_air.specs.proof_device.Showing.{AreApart}
 use Rattle.proof_air.proofs.Lines.{lines_lead}
 use Rattle.proof_devices.specs.LastLine.{with_last}
 use Rattle.proof_devices.specs.Living.{Answers, MayAny}

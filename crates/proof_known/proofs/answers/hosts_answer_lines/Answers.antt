@@ -6,10 +6,10 @@ use Rattle.zw_text.specs.declared.line.Line.{Line}
 use Rattle.zw_text.specs.declared.line.Line.TheVariants as lines
 use Rattle.zw_text.specs.declared.entry.Entry.{Entry}
 use Rattle.zw_text.specs.Transcript.{line_last}
-use Rattle.law_transcript.specs.Answers.{AsksNothing, MayAnswer, before_last, refusals_by_host}
-use Rattle.law_transcript.specs.Lists.{EachAfter}
-use Rattle.law_time.specs.Moments.{Allows}
-use Rattle.law_time.specs.Waking.{may_wake}
+use Rattle.proof_transcript.specs.law_transcript.Answers.{AsksNothing, MayAnswer, before_last, refusals_by_host}
+use Rattle.proof_transcript.specs.law_transcript.Lists.{EachAfter}
+use Rattle.proof_transcript.specs.law_time.Moments.{Allows}
+use Rattle.proof_transcript.specs.law_time.Waking.{may_wake}
 use Rattle.proof_transcript.specs.law_host.Heard.{listing_heard}
 use Rattle.proof_transcript.specs.Answering.{IsAnswered}
 use Rattle.proof_transcript.proofs.AnswerFacts.{host_ties}

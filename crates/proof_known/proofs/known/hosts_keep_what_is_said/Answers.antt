@@ -1,7 +1,7 @@
 -- The table is what was said, and stores follow from it.
 use Rattle.std.proofs.Common.{[], refl}
-use Rattle.law_time.specs.Moments.{Allows}
-use Rattle.law_time.specs.Waking.{may_wake}
+use Rattle.proof_transcript.specs.law_time.Moments.{Allows}
+use Rattle.proof_transcript.specs.law_time.Waking.{may_wake}
 use Rattle.proof_transcript.specs.law_host.Heard.{listing_heard}
 use Rattle.proof_waking.proofs.Running.{over, run_keeps}
 use Rattle.proof_transcript.proofs.StoredValues.{stores_confirmed}

@@ -1,8 +1,8 @@
 -- What is known goes on along each run.
 use Rattle.std.proofs.Common.{[], refl}
 use Rattle.std.specs.Prelude.{Some}
-use Rattle.law_time.specs.Moments.{Allows}
-use Rattle.law_time.specs.Waking.{may_wake}
+use Rattle.proof_transcript.specs.law_time.Moments.{Allows}
+use Rattle.proof_transcript.specs.law_time.Waking.{may_wake}
 use Rattle.proof_transcript.specs.law_host.Heard.{listing_heard}
 use Rattle.proof_transcript.specs.proof_host.Laws.{MayStand}
 use Rattle.proof_waking.specs.proof_alone.State.{first_alone}

@@ -1,6 +1,6 @@
 -- One walk over another.
-use Rattle.law_time.specs.Moments.{Allows}
-use Rattle.law_time.specs.Waking.{may_wake}
+use Rattle.proof_transcript.specs.law_time.Moments.{Allows}
+use Rattle.proof_transcript.specs.law_time.Waking.{may_wake}
 use Rattle.host_keep.specs.Kept.{first_kept}
 use Rattle.host_model.specs.State.{first_host}
 use Rattle.proof_transcript.proofs.PlacesKept.{HostsKeep}

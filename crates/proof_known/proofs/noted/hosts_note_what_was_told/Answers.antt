@@ -3,9 +3,9 @@ use Rattle.std.proofs.Common.{List, [], ◌∷◌, refl}
 use Rattle.std.specs.Prelude.{Some}
 use Rattle.s0_crypto.specs.declared.key_pair.Keys.{Keys}
 use Rattle.zw_text.specs.declared.entry.Entry.{Entry}
-use Rattle.law_transcript.specs.Lists.{EachAfter}
-use Rattle.law_time.specs.Moments.{Allows}
-use Rattle.law_time.specs.Waking.{may_wake}
+use Rattle.proof_transcript.specs.law_transcript.Lists.{EachAfter}
+use Rattle.proof_transcript.specs.law_time.Moments.{Allows}
+use Rattle.proof_transcript.specs.law_time.Waking.{may_wake}
 use Rattle.proof_transcript.specs.law_host.Heard.{listing_heard}
 use Rattle.proof_transcript.proofs.AnswerFacts.{count_is}
 use Rattle.proof_transcript.proofs.Lists.{each-weaker}

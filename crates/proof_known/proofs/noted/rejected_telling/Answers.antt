@@ -1,7 +1,7 @@
 -- Each entry is computed to be so, but for one.
 use Rattle.std.proofs.Common.{◌++◌, refl}
-use Rattle.law_transcript.proofs.Deciding.{broken}
-use Rattle.law_time.proofs.Computing.{computing}
+use Rattle.proof_transcript.proofs.Deciding.{broken}
+use Rattle.proof_transcript.proofs.Computing.{computing}
 use Rattle.proof_transcript.specs.law_host.Worked.{begun, ended_by_other, ended_by_work, ended_of_another, ended_otherwise, value_again}
 use Rattle.proof_known.specs.Noted.{may_note}
 use Rattle.proof_known.specs.WorkedNotes.{ended_unreported, lock_believed}

@@ -1,13 +1,13 @@
 -- Nothing is sealed in the first; and two bytes are no seal.
 use Rattle.std.proofs.Common.{◌≡◌, ℕ, Bool, List, [], ◌∷◌, ◌++◌, refl}
 use Rattle.std.specs.Prelude.{slice_index}
-use Rattle.law_transcript.proofs.Deciding.{kept}
-use Rattle.law_time.proofs.Computing.{computing}
+use Rattle.proof_transcript.proofs.Deciding.{kept}
+use Rattle.proof_transcript.proofs.Computing.{computing}
 use Rattle.s0_crypto.specs.declared.key_pair.Keys.{Keys}
 use Rattle.s0_crypto.specs.Opening.{nonce_in}
 use Rattle.s0_crypto.specs.Seal.{code_of}
 use Rattle.host_heard.specs.declared.told.Told.{Told}
-use Rattle.law_transcript.specs.Nodes.{controller}
+use Rattle.proof_transcript.specs.law_transcript.Nodes.{controller}
 use Rattle.proof_transcript.specs.law_host.Worked.{begun}
 use Rattle.proof_known.specs.Noted.{IsOpenedTo, may_note}
 use Rattle.proof_known.specs.WorkedNotes.{ended_by_nothing}

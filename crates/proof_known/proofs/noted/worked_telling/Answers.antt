@@ -1,7 +1,7 @@
 -- Each entry is computed to be allowed.
 use Rattle.std.proofs.Common.{◌++◌, refl}
-use Rattle.law_transcript.proofs.Deciding.{kept}
-use Rattle.law_time.proofs.Computing.{computing}
+use Rattle.proof_transcript.proofs.Deciding.{kept}
+use Rattle.proof_transcript.proofs.Computing.{computing}
 use Rattle.proof_transcript.specs.law_host.Worked.{begun, failure_told, other_told, unread_payload, unsupported_told, value_heard}
 use Rattle.proof_known.specs.Noted.{may_note}
 use Rattle.proof_known.specs.WorkedNotes.{lock_unread}

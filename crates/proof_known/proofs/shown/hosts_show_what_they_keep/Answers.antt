@@ -5,12 +5,12 @@ use Rattle.s0_crypto.specs.declared.key_pair.Keys.{Keys}
 use Rattle.zw_text.specs.declared.line.Line.{Line}
 use Rattle.zw_text.specs.declared.entry.Entry.{Entry}
 use Rattle.zw_text.specs.declared.entry.Entry.TheVariants.{Said}
-use Rattle.law_transcript.specs.Lists.{EachAfter}
-use Rattle.law_time.specs.Moments.{Allows}
-use Rattle.law_time.specs.Waking.{may_wake}
+use Rattle.proof_transcript.specs.law_transcript.Lists.{EachAfter}
+use Rattle.proof_transcript.specs.law_time.Moments.{Allows}
+use Rattle.proof_transcript.specs.law_time.Waking.{may_wake}
 use Rattle.proof_transcript.specs.law_host.Heard.{listing_heard}
 use Rattle.proof_transcript.specs.law_host.HostLegal.{IsShown, ShowsValues}
-use Rattle.world_model.specs.Events.{shown_values}
+use Rattle.proof_transcript.specs.world_model.Events.{shown_values}
 use Rattle.proof_transcript.proofs.Lists.{each-append}
 use Rattle.proof_transcript.proofs.LastTable.{shown_kept}
 use Rattle.proof_waking.specs.proof_alone.State.{HostMachine, first_alone}

@@ -2,7 +2,7 @@
 use Rattle.std.proofs.Common.{◌≡◌, Bool, true, false, List, [], ◌∷◌, ◌++◌, refl}
 use Rattle.std.specs.Prelude.{Some}
 use Rattle.s0_crypto.specs.declared.key_pair.Keys.{Keys}
-use Rattle.device_sim.specs.State.{State}
+use Rattle.proof_world.specs.device_sim.State.{State}
 use Rattle.zw_text.specs.declared.entry.Entry.TheVariants.{Said}
 use Rattle.law_wire.specs.Serial.{ended}
 use Rattle.proof_walk.specs.world_lines.Spoken.{Spoken, after_all, transcript_of}

@@ -1,8 +1,8 @@
 -- The walk over its ground, where it begins, and what its tie tells.
 use Rattle.std.proofs.Common.{[], refl}
 use Rattle.std.specs.Prelude.{Some}
-use Rattle.law_time.specs.Moments.{Allows}
-use Rattle.law_time.specs.Waking.{may_wake}
+use Rattle.proof_waking.specs.law_time.Moments.{Allows}
+use Rattle.proof_waking.specs.law_time.Waking.{may_wake}
 use Rattle.proof_waking.specs.proof_alone.State.{first_alone}
 use Rattle.proof_waking.specs.proof_alone.Runs.{both_know}
 use Rattle.proof_waking.proofs.Running.{run_keeps}

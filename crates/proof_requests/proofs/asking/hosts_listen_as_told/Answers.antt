@@ -1,7 +1,7 @@
 -- The walk over what was asked and brought, and where it begins.
 use Rattle.std.proofs.Common.{[]}
-use Rattle.law_time.specs.Moments.{Allows}
-use Rattle.law_time.specs.Waking.{may_wake}
+use Rattle.proof_waking.specs.law_time.Moments.{Allows}
+use Rattle.proof_waking.specs.law_time.Waking.{may_wake}
 use Rattle.proof_waking.specs.proof_alone.Runs.{both_know}
 use Rattle.proof_waking.proofs.Listening.{first_listening}
 use Rattle.proof_waking.proofs.Running.{over, run_keeps}

@@ -1,8 +1,8 @@
 -- Each entry that tells of an end answers as it may.
 use Rattle.std.specs.Prelude.{[]}
-use Rattle.law_time.specs.Moments.{Allows}
-use Rattle.law_time.specs.Questions.{may_answer}
-use Rattle.proof_host.proofs.Lists.{each-weaker}
+use Rattle.proof_waking.specs.law_time.Moments.{Allows}
+use Rattle.proof_waking.specs.law_time.Questions.{may_answer}
+use Rattle.proof_waking.proofs.Lists.{each-weaker}
 use Rattle.proof_requests.specs.Ends.{TellsEnd}
 use Rattle.proof_requests.proofs.Questions.{answers_may}
 use Rattle.proof_requests.proofs.ends.hosts_answer_questions.Goals as goal

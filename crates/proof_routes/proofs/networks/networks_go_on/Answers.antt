@@ -1,6 +1,6 @@
 -- At first node 2 is joined, counts as listening and is linked to node 1, for the air as for the chip.
 use Rattle.std.proofs.Common.{Some}
-use Rattle.world_model.specs.State.{first_machine}
+use Rattle.proof_walk.specs.world_model.State.{first_machine}
 use Rattle.proof_routes.proofs.First.{first_tie}
 use Rattle.proof_routes.proofs.Remembering.{first_remembers, Keeping}
 use Rattle.proof_routes.proofs.Saying.{nothing_said, tie_of}

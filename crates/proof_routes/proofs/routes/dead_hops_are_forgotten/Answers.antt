@@ -1,6 +1,6 @@
 -- What is known of the frames on the air, on the walk of networks, over the lines of a run.
 use Rattle.std.proofs.Common.{[], Some}
-use Rattle.world_model.specs.State.{first_machine}
+use Rattle.proof_walk.specs.world_model.State.{first_machine}
 use Rattle.proof_walk.specs.Walk.{both_know}
 use Rattle.proof_walk.proofs.Over.{over}
 use Rattle.proof_walk.proofs.Lines.{lines_stand}

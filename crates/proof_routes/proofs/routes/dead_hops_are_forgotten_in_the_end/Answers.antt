@@ -4,8 +4,8 @@ use Rattle.zw_text.specs.declared.entry.Entry.TheVariants as entry
 use Rattle.law_wire.specs.Arriving.{Hop, IsForgotten}
 use Rattle.law_wire.specs.Routes.{MayGo}
 use Rattle.proof_walk.proofs.Lists.{each-append}
-use Rattle.world_model.specs.State.{first_machine}
-use Rattle.world_lines.specs.Spoken.{transcript_of}
+use Rattle.proof_walk.specs.world_model.State.{first_machine}
+use Rattle.proof_walk.specs.world_lines.Spoken.{transcript_of}
 use Rattle.proof_walk.specs.Walk.{both_know}
 use Rattle.proof_walk.proofs.Over.{over}
 use Rattle.proof_walk.proofs.Lines.{lines_lead}

@@ -1,6 +1,6 @@
 -- The walk of networks over the lines of a run.
 use Rattle.std.proofs.Common.{[], Some}
-use Rattle.world_model.specs.State.{first_machine}
+use Rattle.proof_walk.specs.world_model.State.{first_machine}
 use Rattle.law_wire.specs.Routes.{MayGo}
 use Rattle.proof_walk.proofs.Lines.{lines_stand}
 use Rattle.proof_routes.specs.Knowing.{KnowNetworks}

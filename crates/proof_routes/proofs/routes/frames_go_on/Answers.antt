@@ -1,6 +1,6 @@
 -- At first nothing was sent, and no frame is marked.
 use Rattle.std.proofs.Common.{Some, refl}
-use Rattle.world_model.specs.State.{first_machine}
+use Rattle.proof_walk.specs.world_model.State.{first_machine}
 use Rattle.proof_routes.proofs.Forgetting.{forgetting_walk, first_passages}
 use Rattle.proof_routes.proofs.routes.frames_go_on.Goals as goal
 

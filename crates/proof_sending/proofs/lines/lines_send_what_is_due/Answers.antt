@@ -1,12 +1,12 @@
 -- The walk goes along all lines, from a host that has nothing to send.
 use Rattle.std.proofs.Common.{[], Some, refl}
 use Rattle.s0_crypto.specs.Sealing.{keys_of}
-use Rattle.law_transcript.specs.Nodes.{listing_of, always}
-use Rattle.world_model.specs.State.{first_machine}
-use Rattle.world_lines.specs.Done.{events_of}
+use Rattle.proof_air.specs.law_transcript.Nodes.{listing_of, always}
+use Rattle.proof_air.specs.world_model.State.{first_machine}
+use Rattle.proof_air.specs.world_lines.Done.{events_of}
 use Rattle.proof_line.proofs.SpokenLines.{all_lines, all_may, lines_of}
 use Rattle.proof_air.proofs.Where.{where_stand}
-use Rattle.law_transcript.specs.Payloads.{MayRequest}
+use Rattle.proof_air.specs.law_transcript.Payloads.{MayRequest}
 use Rattle.proof_sending.specs.Due.{IsShown}
 use Rattle.proof_sending.proofs.Reasoned.{first_is}
 use Rattle.proof_sending.proofs.Walking.{KnowBoth, WritesToo, all_well, sending_walk}

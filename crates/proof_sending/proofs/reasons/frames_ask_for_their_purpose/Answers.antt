@@ -1,7 +1,7 @@
 -- What holds of all that a purpose is for holds of all that its frame asks.
-use Rattle.law_transcript.specs.Lists.{Has}
-use Rattle.law_transcript.specs.Units.{Carried}
-use Rattle.law_transcript.proofs.Having.{all_has, all_of}
+use Rattle.proof_air.specs.law_transcript.Lists.{Has}
+use Rattle.proof_air.specs.law_transcript.Units.{Carried}
+use Rattle.proof_air.proofs.Having.{all_has, all_of}
 use Rattle.proof_sending.specs.Due.{sends}
 use Rattle.proof_sending.proofs.SentUnits.{purpose_sends}
 use Rattle.proof_sending.proofs.reasons.frames_ask_for_their_purpose.Goals as goal

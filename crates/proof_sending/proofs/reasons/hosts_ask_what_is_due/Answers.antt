@@ -1,7 +1,7 @@
 -- What it writes has its reason by the tables, and the tables are what the transcript shows.
 use Rattle.s0_crypto.specs.Sealing.{keys_of}
 use Rattle.host_model.specs.Outs.{outs}
-use Rattle.law_transcript.specs.Lists.{Has}
+use Rattle.proof_air.specs.law_transcript.Lists.{Has}
 use Rattle.proof_sending.proofs.Dues.{puts_due}
 use Rattle.proof_sending.proofs.reasons.hosts_ask_what_is_due.Goals as goal
 

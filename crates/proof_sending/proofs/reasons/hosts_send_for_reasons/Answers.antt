@@ -1,5 +1,5 @@
 -- For any reasons, and so for these.
-use Rattle.law_transcript.specs.Lists.{Has}
+use Rattle.proof_air.specs.law_transcript.Lists.{Has}
 use Rattle.proof_sending.proofs.Reasoned.{event_is, first_is, more_is, opened_is, units_due, Laws}
 use Rattle.proof_sending.proofs.reasons.hosts_send_for_reasons.Goals as goal
 

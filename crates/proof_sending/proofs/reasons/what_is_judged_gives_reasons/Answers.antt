@@ -1,5 +1,5 @@
 -- Event by event, each of which leaves what the next one needs.
-use Rattle.law_transcript.specs.Lists.{Has}
+use Rattle.proof_air.specs.law_transcript.Lists.{Has}
 use Rattle.proof_sending.proofs.Judged.{judged_goes, reasons_of, stands_all}
 use Rattle.proof_sending.proofs.Reasoned.{Laws}
 use Rattle.proof_sending.proofs.reasons.what_is_judged_gives_reasons.Goals as goal

@@ -4,8 +4,8 @@ use Rattle.s0_crypto.specs.declared.key_pair.Keys.{Keys}
 use Rattle.device_sim.specs.State.{State}
 use Rattle.host_model.specs.State.{first_host}
 use Rattle.host_keep.specs.Kept.{first_kept, kept_of}
-use Rattle.law_transcript.specs.Lists.{EachAfter}
-use Rattle.law_transcript.specs.Nodes.{listing_of, always}
+use Rattle.law_host.specs.law_transcript.Lists.{EachAfter}
+use Rattle.law_host.specs.law_transcript.Nodes.{listing_of, always}
 use Rattle.proof_spoken.proofs.DevicePlaces.{go_same, run_goes}
 use Rattle.proof_spoken.specs.proof_device.GoingOn.{AreSame}
 use Rattle.proof_air.specs.world_model.State.{Machine, first_machine}

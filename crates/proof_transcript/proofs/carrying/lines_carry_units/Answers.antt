@@ -4,7 +4,7 @@ use Rattle.proof_air.specs.world_model.State.{first_machine}
 use Rattle.proof_air.specs.world_lines.Done.{events_of}
 use Rattle.proof_spoken.proofs.SpokenLines.{all_lines, all_may, lines_of}
 use Rattle.proof_air.proofs.Where.{where_stand}
-use Rattle.law_transcript.specs.Carrying.{MaySend}
+use Rattle.law_host.specs.law_transcript.Carrying.{MaySend}
 use Rattle.proof_transcript.specs.Carrying.{IsWell}
 use Rattle.proof_transcript.proofs.CarryingWalk.{KnowBoth, all_well, carrying_walk, first_underway}
 use Rattle.proof_transcript.proofs.carrying.lines_carry_units.Goals as goal

@@ -2,7 +2,7 @@
 use Rattle.std.proofs.Common.{true, List, [], ◌∷◌}
 use Rattle.zw_text.specs.declared.entry.Entry.{Entry}
 use Rattle.zw_text.specs.declared.entry.Entry.TheVariants as entry
-use Rattle.law_transcript.specs.Fates.{AllLanded, FaresInTurn, MayFare}
+use Rattle.law_host.specs.law_transcript.Fates.{AllLanded, FaresInTurn, MayFare}
 use Rattle.law_host.specs.law_wire.Serial.{ended}
 use Rattle.proof_air.proofs.Lists.{each-append}
 use Rattle.proof_air.specs.world_model.State.{first_machine}

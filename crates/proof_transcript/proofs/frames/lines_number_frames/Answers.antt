@@ -1,7 +1,7 @@
 -- Nothing was sent at first, and so frames are numbered over all lines.
 use Rattle.std.proofs.Common.{[], refl}
 use Rattle.air_frames.specs.Frames.{no_frames}
-use Rattle.outside_model.specs.State.{first_outer}
+use Rattle.proof_air.specs.outside_model.State.{first_outer}
 use Rattle.proof_air.specs.world_model.State.{first_machine}
 use Rattle.proof_transcript.proofs.FrameNumbers.{lines_number}
 use Rattle.proof_transcript.proofs.frames.lines_number_frames.Goals as goal

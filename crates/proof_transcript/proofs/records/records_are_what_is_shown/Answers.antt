@@ -1,6 +1,6 @@
 use Rattle.std.proofs.Common.{◌≡◌, ℕ, List, [], Some, Option, refl, sym, ap, subst, ◌∙◌}
 use Rattle.std.specs.List.{flat_map}
-use Rattle.law_transcript.specs.Nodes.{listing_of, always}
+use Rattle.law_host.specs.law_transcript.Nodes.{listing_of, always}
 use Rattle.host_keep.specs.Kept.{first_kept, kept_of}
 use Rattle.host_keep.specs.declared.record.Record.{Record}
 use Rattle.proof_air.specs.world_model.State.{Machine, first_machine}

@@ -5,8 +5,8 @@ use Rattle.device_sim.specs.State.{State}
 use Rattle.zw_text.specs.declared.line.Line.TheVariants as lines
 use Rattle.zw_text.specs.declared.entry.Entry.{Entry}
 use Rattle.zw_text.specs.declared.entry.Entry.TheVariants.{Said}
-use Rattle.law_transcript.specs.Lists.{EachAfter}
-use Rattle.law_transcript.specs.Nodes.{always, listing_of}
+use Rattle.law_host.specs.law_transcript.Lists.{EachAfter}
+use Rattle.law_host.specs.law_transcript.Nodes.{always, listing_of}
 use Rattle.law_host.specs.law_wire.Serial.{ended}
 use Rattle.law_host.specs.HostLegal.{values_now}
 use Rattle.proof_air.specs.world_model.State.{Machine, first_machine}

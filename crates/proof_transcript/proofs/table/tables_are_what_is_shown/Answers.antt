@@ -1,5 +1,5 @@
 use Rattle.std.proofs.Common.{[], Some}
-use Rattle.law_transcript.specs.Nodes.{always, listing_of}
+use Rattle.law_host.specs.law_transcript.Nodes.{always, listing_of}
 use Rattle.proof_air.specs.world_model.State.{first_machine}
 use Rattle.proof_air.specs.world_lines.Spoken.{after_all, transcript_of}
 use Rattle.proof_transcript.proofs.LastTable.{table_is}

@@ -1,6 +1,6 @@
 -- The induction over the events of a run.
 use Rattle.std.proofs.Common.{[], Some}
-use Rattle.world_model.specs.State.{first_machine}
+use Rattle.proof_walk.specs.world_model.State.{first_machine}
 use Rattle.proof_work.proofs.Machines.{line_done, lines_done, machine_kept, machines_kept, tells_if}
 use Rattle.proof_work.proofs.machine.machines_keep_their_work.Goals as goal
 

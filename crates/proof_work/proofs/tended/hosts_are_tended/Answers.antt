@@ -1,6 +1,6 @@
 -- One walk over lines, from the first machine on.
 use Rattle.std.proofs.Common.{[], Some, refl}
-use Rattle.world_model.specs.State.{first_machine}
+use Rattle.proof_walk.specs.world_model.State.{first_machine}
 use Rattle.proof_walk.proofs.Lines.{lines_lead}
 use Rattle.proof_work.specs.Phases.{AsksNothing, KnowsWork}
 use Rattle.proof_work.proofs.Phases.{work_walk}
