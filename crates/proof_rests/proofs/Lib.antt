@@ -1,0 +1,3 @@
+mod Freeing
+mod Counting
+mod Walking
