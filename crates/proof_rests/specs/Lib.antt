@@ -1,2 +1,2 @@
-pub mod Errands
+pub mod Undone
 pub mod Known

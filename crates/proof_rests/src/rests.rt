@@ -1,4 +1,4 @@
-//! What lines asked for has ended where a host rests.
+//! What a host leaves undone where it rests: nothing that lines asked for, and no abort.
 
 ghost use Rattle.std.specs.Prelude.{◌≡◌, Some, List, [], false, true};
 ghost use Rattle.s0_crypto.specs.declared.key_pair.Keys.{Keys};
@@ -12,38 +12,40 @@ ghost use Rattle.proof_attempts.specs.proof_requests.law_host.Heard.{heard_by_ho
 ghost use Rattle.proof_attempts.specs.proof_requests.proof_alone.State.{HostMachine, first_alone};
 ghost use Rattle.proof_attempts.specs.proof_requests.proof_alone.Phases.{Resting};
 ghost use Rattle.proof_attempts.specs.proof_requests.proof_alone.Runs.{Run, Told};
-ghost use Rattle.proof_rests.specs.Errands.{EndsErrands};
+ghost use Rattle.proof_rests.specs.Undone.{LeavesNothing};
 
 use proof_attempts::hosts_know_their_work;
 use proof_attempts::requests::alone::{lines_are_a_hosts, what_is_heard_is_a_hosts};
-use proof_attempts::requests::hosts_ask_as_told;
+use proof_attempts::requests::{hosts_ask_as_told, hosts_tell_of_ends};
 use proof_work::{ends_of_tasks_are_told, tasks_end_in_order};
 
 /// In any run of a host alone, over a keeper that tells its records and has none at first: at each line and each tick before which the last request was over,
-/// each Set and Get that lines asked for since the host started has ended. Where the run ends at rest, with no tick of its line to come, so it is in the end.
-pub fn hosts_end_errands()
-    ensures told { (keys : Keys) (told : List Entry) → Told (first_alone keys (Some [])) told → EndsErrands false told }
+/// no abort is owed, and each Set, Get and interview that lines asked for since the host started has ended; of a node for which the keeper has failed since
+/// then an interview may be left without an end. Where the run ends at rest, with no tick of its line to come, so it is in the end.
+pub fn hosts_leave_nothing()
+    ensures told { (keys : Keys) (told : List Entry) → Told (first_alone keys (Some [])) told → LeavesNothing false told }
     ensures whole { (keys : Keys) (told : List Entry) (m : HostMachine) → Run (first_alone keys (Some [])) Resting told m → m.left ≡ 0 →
-        EndsErrands true told }
+        LeavesNothing true told }
 {
     hosts_know_their_work();
     hosts_ask_as_told();
+    hosts_tell_of_ends();
     tasks_end_in_order();
     ends_of_tasks_are_told();
 }
 
 /// So it is over any lines from the first on, the last of which an allocation failure may have cut short, over a keeper that tells its records and has none at
 /// first, also in the end where all were run whole; and of what a host heard of them.
-pub fn lines_end_errands()
+pub fn lines_leave_nothing()
     ensures lines { (keys : Keys) (devices : List State) (lines : List Spoken) → AreDone (first_machine keys (Some []) devices) lines →
-        EndsErrands false (transcript_of (first_machine keys (Some []) devices) lines)
-        × EndsErrands false (heard_by_host (transcript_of (first_machine keys (Some []) devices) lines)) }
+        LeavesNothing false (transcript_of (first_machine keys (Some []) devices) lines)
+        × LeavesNothing false (heard_by_host (transcript_of (first_machine keys (Some []) devices) lines)) }
     ensures whole { (keys : Keys) (devices : List State) (lines : List Spoken) → AreDone (first_machine keys (Some []) devices) lines →
         AreWhole (first_machine keys (Some []) devices) lines →
-        EndsErrands true (transcript_of (first_machine keys (Some []) devices) lines)
-        × EndsErrands true (heard_by_host (transcript_of (first_machine keys (Some []) devices) lines)) }
+        LeavesNothing true (transcript_of (first_machine keys (Some []) devices) lines)
+        × LeavesNothing true (heard_by_host (transcript_of (first_machine keys (Some []) devices) lines)) }
 {
     lines_are_a_hosts();
     what_is_heard_is_a_hosts();
-    hosts_end_errands();
+    hosts_leave_nothing();
 }
