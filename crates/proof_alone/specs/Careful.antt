@@ -5,7 +5,7 @@ use Rattle.serial_frame.specs.declared.unit.Unit.{Unit as LineUnit}
 use Rattle.zw_text.specs.declared.entry.Entry.{Entry}
 use Rattle.proof_alone.specs.State.{HostMachine}
 use Rattle.proof_alone.specs.Steps.{Step, Comes, Misses, Says, Says_nothing, Begins_tick, Judges}
-use Rattle.proof_alone.specs.Phases.{Phase, Resting, Open}
+use Rattle.proof_alone.specs.Phases.{Phase, Open}
 use Rattle.proof_alone.specs.Runs.{Knowledge, Run}
 use Rattle.proof_alone.specs.Runs.Run.{Begins, Turned, Stepped}
 
@@ -81,17 +81,14 @@ Careful Begins = Unit {0}
 Careful (Turned {here = here} {m = m} turns run) = Careful run × TurnsWell (stage_of run) here m
 Careful (Stepped step may all_is later_is run) = Careful run × StepsWell (stage_of run) step
 
--- some careful run has these entries; one that ends at rest has
-abbrev pub ToldCarefully : HostMachine → List Entry → Type 0
-ToldCarefully start told = (here : Phase) × (m : HostMachine) × (run : Run start here told m) × Careful run
-
-abbrev pub ToldCarefullyWhole : HostMachine → List Entry → Type 0
-ToldCarefullyWhole start told = (m : HostMachine) × (run : Run start Resting told m) × Careful run
-
--- a run to here that is careful; and one that has led to this stage
+-- a run to here that is careful; some such run has these entries
 abbrev pub RunCarefully : HostMachine → Knowledge
 RunCarefully start here told m = (run : Run start here told m) × Careful run
 
+abbrev pub ToldCarefully : HostMachine → List Entry → Type 0
+ToldCarefully start told = (here : Phase) × (m : HostMachine) × (run : Run start here told m) × Careful run
+
+-- a careful run that has led to this stage
 pub record CarefulRun (start : HostMachine) (stage : Stage) (here : Phase) (told : List Entry) (m : HostMachine) : Type 0 where
   pub run : Run start here told m
   pub careful : Careful run
