@@ -33,6 +33,7 @@ use Rattle.proof_notes.specs.proof_attempts.proof_walk.Time.{MayCount}
 use Rattle.proof_asking.specs.proof_requests.proof_alone.State.{HostMachine, first_alone}
 use Rattle.proof_asking.specs.proof_requests.proof_alone.Phases.{Resting}
 use Rattle.proof_asking.specs.proof_requests.proof_alone.Runs.{Run}
+use Rattle.proof_asking.specs.proof_requests.proof_alone.Careful.{Careful}
 use Rattle.proof_asking.specs.proof_known.Known.{AreForHost, KeepsWhatIsSaid}
 use Rattle.proof_asking.specs.proof_known.Noted.{NotesWhatOpens, NotesWhatWasTold}
 use Rattle.proof_notes.specs.Full.{NotesInFull}
@@ -95,12 +96,13 @@ pub record KeepsFrom (keys : Keys) (before : List Entry) (whole : Bool) (heard :
   pub sends : (key : List ℕ) → keys ≡ keys_of key → EachAfter (MayRequest listing_heard key) before heard
   pub records_kept : whole ≡ true → IfSome records (KeepsRecords (before ++ heard))
 
--- A run of a host alone that began without records tells this, and ends at rest with no tick to come; none of its lines is for others; and the keeper holds what it held and the records
+-- A careful run of a host alone that began without records tells this, and ends at rest with no tick to come; none of its lines is for others; and the keeper holds what it held and the records
 -- of that run, where it tells them. The host's link kept the rules of the line.
 pub record IsHeardAlone (keys : Keys) (before after : Option (List (List ℕ))) (heard : List Entry) : Type 0 where
   pub last : HostMachine
   pub added : List (List ℕ)
   pub run : Run (first_alone keys (Some [])) Resting heard last
+  pub careful : Careful run
   pub over : last.left ≡ 0
   pub for_host : AreForHost heard
   pub tells : last.records ≡ Some added
