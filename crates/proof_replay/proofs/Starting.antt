@@ -115,6 +115,7 @@ kept_as_told keys whole heard told held agrees laws = record {
   one_by_one = laws.one_by_one;
   numbered = laws.numbered;
   begins = laws.begins;
+  rests = laws.rests;
   queues = laws.queues;
   ticks = laws.ticks;
   sends = laws.sends;
