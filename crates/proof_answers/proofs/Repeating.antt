@@ -34,7 +34,8 @@ use Rattle.proof_chip.proofs.ChipAccounts.{all_account, outer_steps, repeat_step
 use Rattle.proof_chip.proofs.Arriving.{ArePlain, plain_apart, plain_rests}
 use Rattle.proof_chip.proofs.Asides.{IsUnrelated}
 use Rattle.proof_chip.proofs.Hearing.{has_room}
-use Rattle.proof_chip.proofs.Landed.{done_by, done_plain, none_at, refusal_apart}
+use Rattle.proof_chip.proofs.Incoming.{done_by, done_plain, none_at}
+use Rattle.proof_chip.proofs.Landed.{refusal_apart}
 use Rattle.proof_chip.proofs.Settling.{AreIdle, IsIdle}
 use Rattle.proof_chip.proofs.Telling.{IsAside}
 use Rattle.proof_answers.specs.Telling.{TellSo, TellsNow}
