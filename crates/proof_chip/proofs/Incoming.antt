@@ -19,7 +19,7 @@ use Rattle.mesh_sim.specs.declared.fate.Fate.TheVariants as fate
 use Rattle.mesh_sim.specs.Air.{AirState, departing, is_joined}
 use Rattle.mesh_sim.specs.Fates.{Mesh, awake_at, dead_hop_of, fate_of, is_awake, listener_of, place_of}
 use Rattle.mesh_sim.specs.Routes.{backwards}
-use Rattle.mesh_sim.specs.Steps.{acknowledged, answers, answers_if, arrival_outs, arrival_outs_as, arriving, arriving_as, changed, done_of, heard_at, landed, outs_at, status_of}
+use Rattle.mesh_sim.specs.Steps.{acknowledged, answers, answers_if, arrival_outs, arrival_outs_as, arriving, arriving_as, changed, done_of, heard_at, landed, mesh_after, outs_at, status_of}
 use Rattle.zw_text.specs.declared.entry.Entry.{Entry}
 use Rattle.zw_text.specs.declared.entry.Entry.TheVariants as entry
 use Rattle.zw_text.specs.Transcript.{AirFrame, frames}
@@ -306,6 +306,7 @@ module _ (w : Outside) (flight : Flown) (flights : List Flown) (Ends : Mesh → 
   pub it_falls : (laws : Laws) (past : List Entry) (tie : Tie nothing past w) → on_air w.outer.air.frames ≡ flight ∷ flights → (drawn : List ℕ) (route : Option Route)
       → (happens_outside w (Arrives drawn route)).outer.air.frames.landed ≡ w.outer.air.frames.landed + 1
       → Ends (arriving (mesh_of w) (next_of w.outer.air.frames) drawn route) (arrival_outs (mesh_of w) (next_of w.outer.air.frames) drawn route)
+  unfolding mesh_after
   it_falls laws past tie on drawn route lands =
       let fly = it_flies laws past w tie flight flights on in
       let air_is : (happens_outside w (Arrives drawn route)).outer.air ≡ (arriving (mesh_of w) (next_of w.outer.air.frames) drawn route).air = arrived_air w drawn route in
