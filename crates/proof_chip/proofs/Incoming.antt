@@ -1,4 +1,4 @@
--- The next frame on the air: whose it is by the transcript, and what may become of it, case by case.
+-- The next frame on the air: whose it is by the transcript, and what may become of it, case by case; and so of one that is heard again.
 use Rattle.std.proofs.Common.{◌≡◌, ◌≢◌, ◌<◌, ◌≤◌, ℕ, zero, suc, ◌+◌, ◌-◌, ◌==◌, ◌&&◌, ◌||◌, nat_le, nat_lt, Bool, true, false, if◌then◌else◌, List, [], ◌∷◌, ◌++◌, length, refl, sym, ap, ◌∙◌, subst, ne_eqb, arith}
 use Rattle.std.specs.Prelude.{Option, Some, None, option_map, slice_get}
 use Rattle.std.specs.List.{AllByRecursion, flat_map}
@@ -10,7 +10,7 @@ use Rattle.air_frames.specs.declared.frame.Departure.{Departure}
 use Rattle.air_frames.specs.declared.frame.Heading.{Heading}
 use Rattle.air_frames.specs.declared.frame.Heading.TheVariants.{Outward, Homeward}
 use Rattle.air_frames.specs.Flown.{Flown}
-use Rattle.air_frames.specs.Frames.{FramesState, landing, next_of}
+use Rattle.air_frames.specs.Frames.{FramesState, landing, next_of, remembered}
 use Rattle.air_frames.specs.History.{Mark, Goes, Begins, departure_at, stamped}
 use Rattle.mesh_sim.specs.declared.event.AirEvent.{AirEvent}
 use Rattle.mesh_sim.specs.declared.event.AirEvent.TheVariants as tells
@@ -19,7 +19,7 @@ use Rattle.mesh_sim.specs.declared.fate.Fate.TheVariants as fate
 use Rattle.mesh_sim.specs.Air.{AirState, departing, is_joined}
 use Rattle.mesh_sim.specs.Fates.{Mesh, awake_at, dead_hop_of, fate_of, is_awake, listener_of, place_of}
 use Rattle.mesh_sim.specs.Routes.{backwards}
-use Rattle.mesh_sim.specs.Steps.{acknowledged, answers, answers_if, arrival_outs, arrival_outs_as, arriving, arriving_as, changed, done_of, heard_at, landed, mesh_after, outs_at, status_of}
+use Rattle.mesh_sim.specs.Steps.{acknowledged, answers, answers_if, arrival_outs, arrival_outs_as, arriving, arriving_as, changed, done_of, heard_at, landed, mesh_after, outs_at, status_of, heard_again, outs_again, repeat_outs, repeat_outs_by, repeating, repeating_by}
 use Rattle.zw_text.specs.declared.entry.Entry.{Entry}
 use Rattle.zw_text.specs.declared.entry.Entry.TheVariants as entry
 use Rattle.zw_text.specs.Transcript.{AirFrame, frames}
@@ -38,7 +38,7 @@ use Rattle.proof_air.specs.proof_walk.Outside.{nothing}
 use Rattle.proof_air.specs.Carrying.{IsHome}
 use Rattle.proof_air.specs.Logs.{IsApart, Tie, plain}
 use Rattle.proof_air.proofs.Counting.{at_its_place, departure}
-use Rattle.proof_air.proofs.Homes.{next_home, next_stands, shown_so, went_so}
+use Rattle.proof_air.proofs.Homes.{next_home, next_stands, shown_so, went_so, again_home, again_stands}
 use Rattle.proof_line.specs.proof_traffic.Flights.{Fly}
 use Rattle.proof_line.specs.proof_traffic.OnAir.{on_air}
 use Rattle.proof_line.specs.proof_traffic.OutsideTraffic.{one_outward, outward}
@@ -135,7 +135,7 @@ apart_at (Goes first ∷ log) zero one apart is = let same : first ≡ one = cc 
 apart_at (Goes first ∷ log) (suc at) one apart is = apart_at log at one apart.1 is
 
 module _ (past : List Entry) (w : Outside) (tie : Tie nothing past w) where
-  pub none_at : (at : ℕ) (frame : Flown) → slice_get (stamped [] tie.log) at ≡ Some frame → frame.heading ≡ Outward → handlers_at past (entry.Heard (suc at)) ≡ []
+  none_at : (at : ℕ) (frame : Flown) → slice_get (stamped [] tie.log) at ≡ Some frame → frame.heading ≡ Outward → handlers_at past (entry.Heard (suc at)) ≡ []
   none_at at frame is heads =
       let went = went_so past w tie at frame is in
       ap (λ (found : Option AirFrame). flat_map handler_of (listed found)) (at_its_place past at)
@@ -316,3 +316,42 @@ module _ (w : Outside) (flight : Flown) (flights : List Flown) (Ends : Mesh → 
       ap (λ (fs : List Flown). numbers_from (its_number + 1) fs) (sym (flights_are (tie.log ++ home.more) (flights ++ home.home) frames_now home.fly)) ∙ homes_numbers (its_number + 1) flights home.home home.none_outward in
       arrives_by (next_of w.outer.air.frames) drawn route (laws.air.next tie.log flight flights w.outer.air.frames fly)
       (sym (ap (λ (a : AirState). a.frames.landed) air_is) ∙ lands, ap (λ (a : AirState). numbers_from (its_number + 1) (on_air a.frames)) (sym air_is) ∙ are)
+
+-- ---- a frame that is heard again
+
+-- something of what is told of it: by no one, by a device, or by the chip
+pub record EachAgain (past : List Entry) (w : Outside) (Ends : Mesh → List AirEvent → Type 0) : Type 0 where
+  pub by_none : Ends (mesh_of w) []
+  pub by_device : (number place node : ℕ) (payload : List ℕ) (device : State) (drawn : List ℕ) (route : Option Route) → handlers_at past (entry.Heard number) ≡ []
+      → Ends (heard_at (mesh_of w) place (Some device) node route (Hears payload drawn)) (outs_at (mesh_of w) (Some device) number node route (Hears payload drawn))
+  pub by_chip : (number node : ℕ) (payload : List ℕ) → IsHome past number node payload → Ends (mesh_of w) (tells.Heard number ∷ tells.ToChip number node payload ∷ [])
+
+module _ (past : List Entry) (w : Outside) (tie : Tie nothing past w) (Ends : Mesh → List AirEvent → Type 0) (cases : EachAgain past w Ends) where
+  device_again : (number place node : ℕ) (payload : List ℕ) (found : Option State) (drawn : List ℕ) (route : Option Route) → handlers_at past (entry.Heard number) ≡ []
+      → Ends (heard_at (mesh_of w) place found node route (Hears payload drawn)) (outs_at (mesh_of w) found number node route (Hears payload drawn))
+  device_again number place node payload None drawn route unhandled = cases.by_none
+  device_again number place node payload (Some device) drawn route unhandled = cases.by_device number place node payload device drawn route unhandled
+
+  listener_again : (place : Option ℕ) (number node : ℕ) (payload : List ℕ) (drawn : List ℕ) (route : Option Route) → handlers_at past (entry.Heard number) ≡ []
+      → Ends (heard_again (mesh_of w) place node route (Hears payload drawn)) (outs_again (mesh_of w) place number node route (Hears payload drawn))
+  listener_again None number node payload drawn route unhandled = cases.by_none
+  listener_again (Some place) number node payload drawn route unhandled = device_again number place node payload (slice_get w.devices place) drawn route unhandled
+
+  unhandled_at : (number : ℕ) (frame : Flown) → remembered w.outer.air.frames number ≡ Some frame → frame.heading ≡ Outward → handlers_at past (entry.Heard number) ≡ []
+  unhandled_at zero frame is heads = absurd cc
+  unhandled_at (suc at) frame is heads = none_at past w tie at frame (again_stands past w tie at frame is) heads
+
+  again_by : (heading : Heading) (number : ℕ) (frame : Flown) (drawn : List ℕ) (route : Option Route) → remembered w.outer.air.frames number ≡ Some frame → frame.heading ≡ heading
+      → Ends (repeating_by heading (mesh_of w) frame drawn route) (repeat_outs_by heading (mesh_of w) number frame drawn route)
+  again_by Homeward number frame drawn route found heads = cases.by_chip number frame.node frame.payload (again_home past w tie number frame found heads)
+  again_by Outward number frame drawn route found heads = listener_again (listener_of frame.node w.devices) number frame.node frame.payload drawn route (unhandled_at number frame found heads)
+
+  again_if : (number : ℕ) (found : Option Flown) (drawn : List ℕ) (route : Option Route) → remembered w.outer.air.frames number ≡ found
+      → Ends (repeating (mesh_of w) found drawn route) (repeat_outs (mesh_of w) number found drawn route)
+  again_if number None drawn route is = cases.by_none
+  again_if number (Some frame) drawn route is = again_by frame.heading number frame drawn route is refl
+
+  -- all of it
+  pub it_repeats : (number : ℕ) (drawn : List ℕ) (route : Option Route)
+      → Ends (repeating (mesh_of w) (remembered w.outer.air.frames number) drawn route) (repeat_outs (mesh_of w) number (remembered w.outer.air.frames number) drawn route)
+  it_repeats number drawn route = again_if number (remembered w.outer.air.frames number) drawn route refl

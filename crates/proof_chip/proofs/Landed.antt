@@ -1,6 +1,6 @@
 -- The count of the frames for the host goes on where the next frame on the air arrives, and where a frame is heard again.
-use Rattle.std.proofs.Common.{◌≡◌, ℕ, zero, suc, ◌+◌, ◌-◌, Bool, true, false, if◌then◌else◌, List, [], ◌∷◌, ◌++◌, refl, sym, ap, ◌∙◌, subst, append-nil}
-use Rattle.std.specs.Prelude.{Option, Some, None, option_map, slice_get}
+use Rattle.std.proofs.Common.{◌≡◌, ℕ, suc, ◌+◌, ◌-◌, Bool, true, false, if◌then◌else◌, List, [], ◌∷◌, ◌++◌, refl, sym, ap, ◌∙◌, subst, append-nil}
+use Rattle.std.specs.Prelude.{Option, Some, None, option_map}
 use Rattle.serial_link.specs.Rules.{Step}
 use Rattle.route_table.specs.declared.route.Route.{Route}
 use Rattle.device_sim.specs.Event.{DeviceEvent, Hears, device_replies}
@@ -9,13 +9,13 @@ use Rattle.air_frames.specs.declared.ages.Refusal.TheVariants.{NeverSent, Forgot
 use Rattle.air_frames.specs.declared.frame.Heading.{Heading}
 use Rattle.air_frames.specs.declared.frame.Heading.TheVariants.{Outward, Homeward}
 use Rattle.air_frames.specs.Flown.{Flown}
-use Rattle.air_frames.specs.Frames.{FramesState, landing, remembered}
+use Rattle.air_frames.specs.Frames.{FramesState, landing}
 use Rattle.mesh_sim.specs.declared.event.AirEvent.{AirEvent}
 use Rattle.mesh_sim.specs.declared.event.AirEvent.TheVariants as tells
 use Rattle.mesh_sim.specs.Air.{AirState}
-use Rattle.mesh_sim.specs.Fates.{Mesh, listener_of}
+use Rattle.mesh_sim.specs.Fates.{Mesh}
 use Rattle.mesh_sim.specs.Routes.{backwards}
-use Rattle.mesh_sim.specs.Steps.{acknowledged, heard_again, heard_at, landed, mesh_after, mesh_outs, outs_again, outs_at, repeat_outs, repeat_outs_by, repeating, repeating_by, status_of}
+use Rattle.mesh_sim.specs.Steps.{acknowledged, heard_at, landed, mesh_after, mesh_outs, outs_at, status_of}
 use Rattle.mesh_sim.specs.Steps as mesh
 use Rattle.zw_text.specs.declared.entry.Entry.{Entry}
 use Rattle.zw_text.specs.declared.entry.Entry.TheVariants as entry
@@ -27,7 +27,6 @@ use Rattle.outside_model.specs.Air.{deals}
 use Rattle.outside_model.specs.Events.{Arrives, mesh_of, repeats, steps, happens as happens_outside}
 use Rattle.proof_air.specs.proof_walk.Outside.{nothing}
 use Rattle.proof_air.specs.Logs.{Tie}
-use Rattle.proof_air.proofs.Homes.{again_home, again_stands}
 use Rattle.proof_line.specs.proof_traffic.Flights.{Fly}
 use Rattle.proof_line.specs.proof_traffic.OnAir.{on_air}
 use Rattle.proof_line.proofs.Arrivals.{NoNexting}
@@ -42,7 +41,7 @@ use Rattle.proof_chip.proofs.Resting.{stays_looks}
 use Rattle.proof_chip.proofs.Steady.{answers_stay}
 use Rattle.proof_chip.proofs.Asides.{AreUnrelated}
 use Rattle.proof_chip.proofs.Tallied.{apart_t, none_so, now_stays}
-use Rattle.proof_chip.proofs.Incoming.{EachCase, HasLanded, IsNext, SameFrames, done_by, done_plain, it_falls, it_flies, it_is_next, landed_mesh, none_at}
+use Rattle.proof_chip.proofs.Incoming.{EachAgain, EachCase, HasLanded, IsNext, SameFrames, done_by, done_plain, it_falls, it_flies, it_is_next, it_repeats, landed_mesh}
 
 -- ---- the next frame arrives
 
@@ -155,13 +154,9 @@ module _ (devices : List State) (laws : Laws) (none : NoNexting) (past : List En
       TallySo (TallyNow devices (outlook (each (deals m.devices) (so_with m.air) events).outer) false 0) (did ++ steps_by (all_account m.devices events (so_with m.air)))
       (past ++ (each (deals m.devices) (so_with m.air) events).entries) (each (deals m.devices) (so_with m.air) events).outer.chip.state.port
 
-  nothing_told : Goes_on (mesh_of w) []
-  nothing_told = none_so devices (TallyNow devices look false 0) did past w.outer.chip.state.port so
-
-  device_again : (number place node : ℕ) (payload : List ℕ) (found : Option State) (drawn : List ℕ) (route : Option Route) → handlers_at past (entry.Heard number) ≡ []
-      → Goes_on (heard_at (mesh_of w) place found node route (Hears payload drawn)) (outs_at (mesh_of w) found number node route (Hears payload drawn))
-  device_again number place node payload None drawn route unhandled = nothing_told
-  device_again number place node payload (Some device) drawn route unhandled =
+  by_device : (number place node : ℕ) (payload : List ℕ) (device : State) (drawn : List ℕ) (route : Option Route) → handlers_at past (entry.Heard number) ≡ []
+      → Goes_on (heard_at (mesh_of w) place (Some device) node route (Hears payload drawn)) (outs_at (mesh_of w) (Some device) number node route (Hears payload drawn))
+  by_device number place node payload device drawn route unhandled =
       let event : DeviceEvent = Hears payload drawn in
       let m : Mesh = heard_at (mesh_of w) place (Some device) node route event in
       let plain_told : List AirEvent = done_by w.outer.air node route device event in
@@ -174,31 +169,18 @@ module _ (devices : List State) (laws : Laws) (none : NoNexting) (past : List En
       (past ++ (each (deals m.devices) (so_with m.air) (tells.Heard number ∷ plain_told)).entries) (each (deals m.devices) (so_with m.air) (tells.Heard number ∷ plain_told)).outer.chip.state.port) (sym looks)
       (again_device_t devices look did past m.devices (so_with m.air) number plain_told are again unhandled so)
 
-  listener_again : (place : Option ℕ) (number node : ℕ) (payload : List ℕ) (drawn : List ℕ) (route : Option Route) → handlers_at past (entry.Heard number) ≡ []
-      → Goes_on (heard_again (mesh_of w) place node route (Hears payload drawn)) (outs_again (mesh_of w) place number node route (Hears payload drawn))
-  listener_again None number node payload drawn route unhandled = nothing_told
-  listener_again (Some place) number node payload drawn route unhandled = device_again number place node payload (slice_get w.devices place) drawn route unhandled
-
-  unhandled_at : (number : ℕ) (frame : Flown) → remembered w.outer.air.frames number ≡ Some frame → frame.heading ≡ Outward → handlers_at past (entry.Heard number) ≡ []
-  unhandled_at zero frame is heads = absurd cc
-  unhandled_at (suc at) frame is heads = none_at past w tie at frame (again_stands past w tie at frame is) heads
-
-  again_by : (heading : Heading) (number : ℕ) (frame : Flown) (drawn : List ℕ) (route : Option Route) → remembered w.outer.air.frames number ≡ Some frame → frame.heading ≡ heading
-      → Goes_on (repeating_by heading (mesh_of w) frame drawn route) (repeat_outs_by heading (mesh_of w) number frame drawn route)
-  again_by Homeward number frame drawn route found heads =
-      hears_again_t devices w.devices (so_with w.outer.air) did past number frame.node frame.payload again (again_home past w tie number frame found heads) so
-  again_by Outward number frame drawn route found heads = listener_again (listener_of frame.node w.devices) number frame.node frame.payload drawn route (unhandled_at number frame found heads)
-
-  again_if : (number : ℕ) (found : Option Flown) (drawn : List ℕ) (route : Option Route) → remembered w.outer.air.frames number ≡ found
-      → Goes_on (repeating (mesh_of w) found drawn route) (repeat_outs (mesh_of w) number found drawn route)
-  again_if number None drawn route is = nothing_told
-  again_if number (Some frame) drawn route is = again_by frame.heading number frame drawn route is refl
+  each_again : EachAgain past w Goes_on
+  each_again = record {
+    by_none = none_so devices (TallyNow devices look false 0) did past w.outer.chip.state.port so;
+    by_device = by_device;
+    by_chip = λ number node payload home. hears_again_t devices w.devices (so_with w.outer.air) did past number node payload again home so;
+  }
 
   steps_again : (number : ℕ) (drawn : List ℕ) (route : Option Route)
       → TallySo (TallyNow devices (outlook (steps w (mesh.Repeats number drawn route)).outer) false 0) (did ++ steps_by (steps_account w (mesh.Repeats number drawn route)))
       (past ++ (steps w (mesh.Repeats number drawn route)).entries) (steps w (mesh.Repeats number drawn route)).outer.chip.state.port
   unfolding mesh_after mesh_outs steps_account
-  steps_again number drawn route = again_if number (remembered w.outer.air.frames number) drawn route refl
+  steps_again number drawn route = it_repeats past w tie Goes_on each_again number drawn route
 
   pub repeats_tally : (refused : Option RepeatRefusal) (number : ℕ) (drawn : List ℕ) (route : Option Route)
       → TallySo (TallyNow devices (outlook (repeats w refused (mesh.Repeats number drawn route)).outer) false 0) (did ++ repeat_steps w refused (mesh.Repeats number drawn route))
