@@ -1,4 +1,4 @@
--- What is known of the chip's link and of the nodes that it knows at each phase of a line, and what is so of a whole run then (this project's own rule).
+-- What is known of the nodes that the chip knows, at each phase of a line (this project's own rule).
 use Rattle.std.specs.Prelude.{◌≡◌, List, ⊤}
 use Rattle.zw_text.specs.declared.entry.Entry.{Entry}
 use Rattle.outside_model.specs.State.{OuterState}

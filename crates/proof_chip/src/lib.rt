@@ -3,7 +3,7 @@
 //! Two ties are the contracts of functions with an empty body, over lines that are said one after another (`world_lines`) and the events of the machine that
 //! each line is, and are proved on the walk of `proof_walk`: `nodes_go_on` and `calls_go_on`. What else goes along that walk, with the walk of both links
 //! (`proof_line`), `proof_answers` brings to an end.
-//! The definitions are in `specs/`: `Serving` (what the chip's link did and was given, beside the transcript), `Knowing` (what is known of it at each phase
+//! The definitions are in `specs/`: `Serving` (what the chip's link did and was given, beside the transcript), `Knowing` (which nodes it knows at each phase
 //! of a line), `Sending` (which SendData it has under way, and what that needs to be known of chip and transcript), `Calling` (the results that it waits
 //! for), `Tally` (how many frames it has for the host, by the transcript and by what it was given), `Staying` (that none waits where a line or tick
 //! begins), `Served` (what of all that is so in a whole run) and `Bringing` (that what was heard is brought in order, with worked transcripts).
