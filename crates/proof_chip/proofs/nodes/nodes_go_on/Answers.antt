@@ -1,6 +1,6 @@
 -- At first node 2 has joined, by chip and air.
 use Rattle.proof_chip.proofs.Members.{members_first, members_walk}
-use Rattle.proof_chip.proofs.order.nodes_go_on.Goals as goal
+use Rattle.proof_chip.proofs.nodes.nodes_go_on.Goals as goal
 
 pub returns-clause-walk : goal.returns-clause-walk
 returns-clause-walk c = members_walk
