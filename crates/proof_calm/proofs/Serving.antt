@@ -27,8 +27,8 @@ use Rattle.host_model.proofs.Pumps.{next_works}
 use Rattle.host_model.proofs.Submitted.{SubmittedAre, next_is}
 use Rattle.proof_serial.specs.Host.{FitsIn, FitsTask, HasShortText, HostFits}
 use Rattle.proof_serial.proofs.HostFits.{all_at}
-use Rattle.proof_calm.specs.Known.{IsBlank, IsMember, IsTaskFor, KnowsMembers}
-use Rattle.proof_calm.specs.Tied.{AsksAt, AsksToSend}
+use Rattle.proof_calm.specs.Known.{AsksToSend, IsBlank, IsMember, IsTaskFor, KnowsMembers}
+use Rattle.proof_calm.specs.Tied.{AsksAt}
 use Rattle.proof_calm.proofs.Knowing.{IsNamed}
 use Rattle.proof_calm.proofs.Rested.{all_four, range_by}
 

@@ -3,6 +3,7 @@ use Rattle.std.specs.Prelude.{◌≡◌, ℕ, ◌≤◌, Bool, false, true, List
 use Rattle.std.specs.List.{AllByRecursion}
 use Rattle.chip_functions.specs.Field.{IsNode}
 use Rattle.chip_sim.specs.Nodes.{is_marked}
+use Rattle.host_requests.specs.Frames.{request_of, send}
 use Rattle.host_requests.specs.declared.task.Purpose.{Purpose}
 use Rattle.host_requests.specs.declared.task.Purpose.TheVariants.{Attempt, Housekeeping}
 use Rattle.host_requests.specs.declared.task.Task.{Task}
@@ -17,6 +18,16 @@ use Rattle.proof_serial.specs.Host.{FitsIn}
 pub record IsMember (joined : List Bool) (n : ℕ) : Type 0 where
   pub is_node : IsNode n
   pub is_joined : is_marked joined n ≡ true
+
+-- a request asks to send a payload of 1 to 46 bytes to a joined node
+pub record AsksToSend (joined : List Bool) (purpose : Purpose) (id : ℕ) : Type 0 where
+  pub node : ℕ
+  pub payload : List ℕ
+  pub is : request_of purpose id ≡ send node payload id
+  pub is_node : IsNode node
+  pub some : 1 ≤ length payload
+  pub few : length payload ≤ 46
+  pub is_joined : is_marked joined node ≡ true
 
 -- nothing was asked of a node, or heard from it
 pub record IsBlank (n : NodeState) : Type 0 where
