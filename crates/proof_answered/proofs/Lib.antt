@@ -5,3 +5,5 @@ pub mod Walking
 pub mod Listeners
 pub mod HeardCalls
 pub mod Outwards
+pub mod AttemptEnds
+pub mod FirstWalk

@@ -2,3 +2,4 @@ pub mod Few
 pub mod Listening
 pub mod Heard
 pub mod Outward
+pub mod FirstAttempts
