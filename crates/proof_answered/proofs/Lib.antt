@@ -7,3 +7,4 @@ pub mod HeardCalls
 pub mod Outwards
 pub mod AttemptEnds
 pub mod FirstWalk
+pub mod TurnOrder

@@ -3,3 +3,4 @@ pub mod Listening
 pub mod Heard
 pub mod Outward
 pub mod FirstAttempts
+pub mod Turns
