@@ -9,7 +9,7 @@ use Rattle.host_requests.specs.declared.task.Purpose.TheVariants.{Attempt, House
 use Rattle.host_requests.specs.declared.task.Task.{Task}
 use Rattle.host_requests.specs.declared.task.Task.TheVariants.{NoMore, Offer, Segment}
 use Rattle.host_requests.specs.declared.under_way.UnderWay.{UnderWay}
-use Rattle.host_node.specs.State.{NodeState, needs_tick}
+use Rattle.host_node.specs.State.{NodeState}
 use Rattle.host_node.specs.declared.series.Series.TheVariants.{Idle}
 use Rattle.host_model.specs.State.{HostState, node_of}
 use Rattle.proof_serial.specs.Host.{FitsIn}
@@ -35,7 +35,6 @@ pub record IsBlank (n : NodeState) : Type 0 where
   pub idle : n.series ≡ Idle
   pub none_waits : n.waiting ≡ []
   pub asleep : n.awake ≡ false
-  pub none_ticks : needs_tick n ≡ false
 
 -- a task that sends a payload to such a node
 abbrev pub IsTaskFor : List Bool → Task → Type 0
@@ -53,11 +52,15 @@ abbrev pub IsRequestFor : List Bool → Option UnderWay → Type 0
 IsRequestFor joined None = Unit {0}
 IsRequestFor joined (Some request) = IsPurposeFor joined request.purpose
 
--- each node that is not joined is blank, and each task and the request under way are for nodes that are
-pub record KnowsMembers (joined : List Bool) (h : HostState) : Type 0 where
-  pub others : (n : ℕ) → is_marked joined n ≡ false → IsBlank (node_of h n)
-  pub tasks : AllByRecursion (IsTaskFor joined) h.requests.queue
-  pub request : IsRequestFor joined h.requests.under_way
+-- each node that is none of these is so, and each task and the request under way are for these
+pub record KnowsThese (Rests : NodeState → Type 0) (these : List Bool) (h : HostState) : Type 0 where
+  pub others : (n : ℕ) → is_marked these n ≡ false → Rests (node_of h n)
+  pub tasks : AllByRecursion (IsTaskFor these) h.requests.queue
+  pub request : IsRequestFor these h.requests.under_way
+
+-- each node that is not joined is blank
+abbrev pub KnowsMembers : List Bool → HostState → Type 0
+KnowsMembers joined h = KnowsThese IsBlank joined h
 
 -- what a node is still to have sealed has at most 26 bytes
 abbrev pub HasShortPlain : NodeState → Type 0
