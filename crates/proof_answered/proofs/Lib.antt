@@ -8,3 +8,4 @@ pub mod Outwards
 pub mod AttemptEnds
 pub mod FirstWalk
 pub mod TurnOrder
+pub mod Staffing

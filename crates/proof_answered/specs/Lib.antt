@@ -4,3 +4,4 @@ pub mod Heard
 pub mod Outward
 pub mod FirstAttempts
 pub mod Turns
+pub mod Workers

@@ -17,6 +17,7 @@ mod heard;
 mod hearing;
 mod listening;
 mod serving;
+mod working;
 
 pub use attempts::attempts_stay_first;
 pub use few::few_frames_fly;
@@ -24,3 +25,4 @@ pub use heard::payloads_are_heard;
 pub use hearing::{networks_hear, nodes_hear};
 pub use listening::listeners_hear;
 pub use serving::nodes_are_served_in_turn;
+pub use working::workers_hear;
