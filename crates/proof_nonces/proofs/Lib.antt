@@ -1,0 +1,5 @@
+mod Payloads
+mod Queued
+mod Since
+mod Taking
+mod Walking
