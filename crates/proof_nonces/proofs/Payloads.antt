@@ -1,5 +1,5 @@
 -- No message of a session or of a line, no segment, no Nonce Get and no Nonce Report is a sealed message.
-use Rattle.std.proofs.Common.{◌≡◌, ℕ, ◌==◌, ◌*◌, ◌%◌, ◌&&◌, nat_lt, Bool, true, false, if◌then◌else◌, List, [], ◌∷◌, Option, Some, None, length, refl, sym, subst}
+use Rattle.std.proofs.Common.{◌≡◌, ◌⊎◌, inl, inr, ℕ, ◌==◌, ◌*◌, ◌%◌, ◌&&◌, nat_lt, Bool, true, false, if◌then◌else◌, List, [], ◌∷◌, Option, Some, None, length, refl, sym, subst}
 use Rattle.std.specs.Prelude.{nat_le, slice_index}
 use Rattle.zw_base.specs.declared.order.Order.{Order}
 use Rattle.zw_base.specs.declared.order.Word.{Word}
@@ -25,26 +25,22 @@ use Rattle.host_requests.specs.Frames.{nonce_report}
 use Rattle.supervision.specs.Host.{command_at as command_of_session}
 use Rattle.host_model.specs.State.{Command, HostState}
 use Rattle.host_model.specs.Sessions.{command_if, message_for, open_segment, segment_at, segment_by, segment_count, segment_of, start_by}
-use Rattle.proof_nonces.specs.Known.{IsUnsealed}
+use Rattle.proof_nonces.specs.Known.{IsOther, IsUnsealed}
 
 -- ---- by its first two bytes
 
-first_differs : (long first second : Bool) → first ≡ false → (long && first && second) ≡ false
+pub first_differs : (long first second : Bool) → first ≡ false → (long && first && second) ≡ false
 first_differs true false second is = refl
 first_differs false false second is = refl
 first_differs long true second is = absurd (let bad : true ≡ false = is in cc)
 
-second_differs : (long first second : Bool) → second ≡ false → (long && first && second) ≡ false
+pub second_differs : (long first second : Bool) → second ≡ false → (long && first && second) ≡ false
 second_differs true true false is = refl
 second_differs true false false is = refl
 second_differs false first false is = refl
 second_differs long first true is = absurd (let bad : true ≡ false = is in cc)
 
--- it is of another class
-abbrev IsOther : List ℕ → Type 0
-IsOther payload = (slice_index payload 0 == 0x98) ≡ false
-
-other_unsealed : (payload : List ℕ) → IsOther payload → IsUnsealed payload
+pub other_unsealed : (payload : List ℕ) → IsOther payload → IsUnsealed payload
 other_unsealed payload other = first_differs (nat_le 2 (length payload)) (slice_index payload 0 == 0x98) (slice_index payload 1 == 0x81) other
 
 pub get_unsealed : IsUnsealed (152 ∷ 64 ∷ [])
@@ -91,22 +87,27 @@ command_other : (command : Option Command) (session k : ℕ) (payload : List ℕ
 command_other None session k payload is = absurd (let bad = is in cc)
 command_other (Some command) session k payload is = found_other (form_of command.carriage.outer) session (message_for command session) k payload is
 
-pub open_unsealed : (h : HostState) (node : NodeState) (session : Option ℕ) (k : ℕ) (payload : List ℕ) → open_segment h node session k ≡ Some payload → IsUnsealed payload
-open_unsealed h node None k payload is = absurd (let bad = is in cc)
-open_unsealed h node (Some session) k payload is =
-    other_unsealed payload (command_other (command_if h.commands (command_of_session node.book.commands session)) session k payload is)
+pub open_other : (h : HostState) (node : NodeState) (session : Option ℕ) (k : ℕ) (payload : List ℕ) → open_segment h node session k ≡ Some payload → IsOther payload
+open_other h node None k payload is = absurd (let bad = is in cc)
+open_other h node (Some session) k payload is = command_other (command_if h.commands (command_of_session node.book.commands session)) session k payload is
 
 -- ---- attempts
 
-start_by_unsealed : (f : Form) (session : ℕ) (message : List ℕ) → IsOther message → IsUnsealed (start_by f session message).payload
-start_by_unsealed Plain session message other = other_unsealed message other
-start_by_unsealed Cut session message other = other_unsealed (segment_at session message 0) (segment_other (session % 16) (length message) (39 * 0) (slice_at message 0))
-start_by_unsealed Sealed session message other = get_unsealed
+-- an attempt begins with such a message, or with a Nonce Get
+start_by_is : (f : Form) (session : ℕ) (message : List ℕ) → IsOther message → IsOther (start_by f session message).payload ⊎ ((start_by f session message).payload ≡ 152 ∷ 64 ∷ [])
+start_by_is Plain session message other = inl other
+start_by_is Cut session message other = inl (segment_other (session % 16) (length message) (39 * 0) (slice_at message 0))
+start_by_is Sealed session message other = inr refl
 
-pub start_unsealed : (h : HostState) (n : ℕ) (payload : List ℕ) (command : Command) (session : ℕ) → payload ≡ (start_by (form_of command.carriage.outer) session (message_for command session)).payload
-    → IsUnsealed payload
-start_unsealed h n payload command session is =
-    subst IsUnsealed (sym is) (start_by_unsealed (form_of command.carriage.outer) session (message_for command session) (message_other command.carriage command.order session))
+pub start_is : (payload : List ℕ) (command : Command) (session : ℕ) → payload ≡ (start_by (form_of command.carriage.outer) session (message_for command session)).payload
+    → IsOther payload ⊎ (payload ≡ 152 ∷ 64 ∷ [])
+start_is payload command session is =
+    subst (λ (p : List ℕ). IsOther p ⊎ (p ≡ 152 ∷ 64 ∷ [])) (sym is)
+    (start_by_is (form_of command.carriage.outer) session (message_for command session) (message_other command.carriage command.order session))
+
+pub either_unsealed : (payload : List ℕ) → IsOther payload ⊎ (payload ≡ 152 ∷ 64 ∷ []) → IsUnsealed payload
+either_unsealed payload (inl other) = other_unsealed payload other
+either_unsealed payload (inr is) = subst IsUnsealed (sym is) get_unsealed
 
 -- ---- messages that lines ask for
 
@@ -125,9 +126,8 @@ get_other gettables.Lock = refl
 get_other gettables.Thermostat = refl
 get_other gettables.Sensor = refl
 
-pub send_unsealed : (classes : List ℕ) (word : Word) → IsUnsealed (send_text classes word)
-send_unsealed classes word =
-    other_unsealed (send_text classes word) (plain_other classes 0 (form (value_message (sendable_of classes) word)) (value_other (sendable_of classes) word))
+pub sends_other : (classes : List ℕ) (word : Word) → IsOther (send_text classes word)
+sends_other classes word = plain_other classes 0 (form (value_message (sendable_of classes) word)) (value_other (sendable_of classes) word)
 
-pub gets_unsealed : (classes : List ℕ) (end : ℕ) → IsUnsealed (get_text classes end)
-gets_unsealed classes end = other_unsealed (get_text classes end) (plain_other classes end (get_command (gettable_of classes)) (get_other (gettable_of classes)))
+pub gets_other : (classes : List ℕ) (end : ℕ) → IsOther (get_text classes end)
+gets_other classes end = plain_other classes end (get_command (gettable_of classes)) (get_other (gettable_of classes))

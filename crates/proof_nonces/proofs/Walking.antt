@@ -71,9 +71,9 @@ use Rattle.proof_known.proofs.Events.{event_at}
 use Rattle.proof_known.proofs.KeptKeys.{all_keys}
 use Rattle.proof_known.proofs.Settling.{behind_brought}
 use Rattle.proof_nonces.specs.Sealing.{HasAsked, IsSealedSo, MaySeal, SealsNothing, is_sealed}
-use Rattle.proof_nonces.specs.Known.{AreUnsealed, AsksUnsealed, Ground, IsUnsealed, KnowsSealing, PlainSo, TextSo, TieSealing}
-use Rattle.proof_nonces.proofs.Payloads.{open_unsealed, report_unsealed, start_unsealed}
-use Rattle.proof_nonces.proofs.Queued.{asked_adds, does_add, event_unsealed, opened_unsealed}
+use Rattle.proof_nonces.specs.Known.{AreOther, AsksOther, Ground, IsUnsealed, KnowsSealing, PlainSo, TextSo, TieSealing}
+use Rattle.proof_nonces.proofs.Payloads.{either_unsealed, open_other, other_unsealed, report_unsealed, start_is}
+use Rattle.proof_nonces.proofs.Queued.{asked_adds, does_add, event_other, opened_other}
 use Rattle.proof_nonces.proofs.Since.{IsWritten, NoRequest, all_may, all_nothing, answers_none, asked_on, item_none, missed_none, others_none, quiets_none, sealed_on, unit_may, unit_nothing, written_so}
 use Rattle.proof_nonces.proofs.Taking.{TakenTold, TakesTold, along-right, frame_takes}
 
@@ -128,10 +128,10 @@ sends_so h purpose read = ap (λ (l : List Request). flat_map sending_of l) read
 abbrev AllUnsealed : List Carried → Type 0
 AllUnsealed carried = AllByRecursion (λ one. IsUnsealed one.payload) carried
 
-task_carries : (task : Task) (id : ℕ) → AsksUnsealed task → AllUnsealed (carried_by (Housekeeping task) id)
-task_carries (Plain n payload) id is = (is, tt)
+task_carries : (task : Task) (id : ℕ) → AsksOther task → AllUnsealed (carried_by (Housekeeping task) id)
+task_carries (Plain n payload) id is = (other_unsealed payload is, tt)
 task_carries (Offer n nonce) id is = (report_unsealed nonce, tt)
-task_carries (Segment n payload) id is = (is, tt)
+task_carries (Segment n payload) id is = (other_unsealed payload is, tt)
 task_carries (NoMore n) id is = (refl, tt)
 task_carries (First n) id is = tt
 task_carries (Second n) id is = tt
@@ -142,7 +142,7 @@ task_carries Version id is = tt
 task_carries MemoryId id is = tt
 task_carries Capabilities id is = tt
 
-front_carries : (queue : List Task) (id : ℕ) → AreUnsealed queue → AllUnsealed (carried_by (task_purpose queue) id)
+front_carries : (queue : List Task) (id : ℕ) → AreOther queue → AllUnsealed (carried_by (task_purpose queue) id)
 front_carries [] id are = tt
 front_carries (task ∷ rest) id are = task_carries task id are.0
 
@@ -184,7 +184,7 @@ own_long n keys own other nonce another text x y eight =
 
 module _ (keys : Keys) (brings : PayloadsBring) (left : TextsLeft) where
   abbrev Stands : List Entry → List Entry → HostState → Type 0
-  Stands past told h = EachAfter (MaySeal keys) past told × AreUnsealed h.requests.queue × TieSealing keys (past ++ told) h
+  Stands past told h = EachAfter (MaySeal keys) past told × AreOther h.requests.queue × TieSealing keys (past ++ told) h
 
   -- ---- entries, and events
 
@@ -202,7 +202,7 @@ module _ (keys : Keys) (brings : PayloadsBring) (left : TextsLeft) where
   none_tie : (past : List Entry) (h : HostState) (event : HostEvent) → HostFacts h → BringsNone event → TieSealing keys past h → TieSealing keys past (after h event)
   none_tie past h event facts none tie = event_tie past h event facts (λ node is. none_brought (TextSo keys node past) (PlainSo node past) node event none) tie
 
-  quiet_stands : (past told : List Entry) (h : HostState) → AllByRecursion NoRequest told → AreUnsealed h.requests.queue × TieSealing keys past h → Stands past told h
+  quiet_stands : (past told : List Entry) (h : HostState) → AllByRecursion NoRequest told → AreOther h.requests.queue × TieSealing keys past h → Stands past told h
   quiet_stands past told h all known = (all_may keys past told all, known.0, tie_on past told h (λ node. all_nothing node past told all) known.1)
 
   -- ---- a nonce that is taken
@@ -249,7 +249,7 @@ module _ (keys : Keys) (brings : PayloadsBring) (left : TextsLeft) where
 
   -- ---- what is submitted
 
-  unsealed_stands : (past told : List Entry) (h : HostState) (event : HostEvent) (purpose : Purpose) → HostFacts h → BringsNone event → AreUnsealed (after h event).requests.queue
+  unsealed_stands : (past told : List Entry) (h : HostState) (event : HostEvent) (purpose : Purpose) → HostFacts h → BringsNone event → AreOther (after h event).requests.queue
       → AreTold (Write (Framed (frame_of purpose (next_id h.requests.last_id))) ∷ []) told → ReadsAs h purpose → AllUnsealed (carried_by purpose (next_id h.requests.last_id)) → TieSealing keys past h
       → Stands past told (after h event)
   unsealed_stands past told h event purpose facts none queue are read all tie =
@@ -270,7 +270,7 @@ module _ (keys : Keys) (brings : PayloadsBring) (left : TextsLeft) where
   -- an attempt that begins: with a Nonce Get, where its text is to be sealed
   start_stands : (past told : List Entry) (m : HostMachine) (n : ℕ) (plan : Plan) (more : Bool) (payload : List ℕ) → HostFacts m.state → May m.state (Starts n plan more payload)
       → AreTold (Write (Framed (frame_of (Attempt n more payload) (next_id m.state.requests.last_id))) ∷ []) told → ReadsAs m.state (Attempt n more payload)
-      → is_new (asked past) (unit_of m.state (Attempt n more payload)) ≡ true → AreUnsealed m.state.requests.queue × TieSealing keys past m.state → Stands past told (after m.state (Starts n plan more payload))
+      → is_new (asked past) (unit_of m.state (Attempt n more payload)) ≡ true → AreOther m.state.requests.queue × TieSealing keys past m.state → Stands past told (after m.state (Starts n plan more payload))
   start_stands past told m n plan more payload facts may are read new known =
       let h : HostState = m.state in
       let purpose : Purpose = Attempt n more payload in
@@ -278,7 +278,7 @@ module _ (keys : Keys) (brings : PayloadsBring) (left : TextsLeft) where
       let written = written_so (frame_of purpose (next_id h.requests.last_id)) told are in
       let start = may.1 in
       let carried : sending_in unit ≡ record { node = n; payload = payload } ∷ [] = sends_so h purpose read in
-      let unsealed : IsUnsealed payload = start_unsealed h n payload start.command start.session start.payload_is in (
+      let unsealed : IsUnsealed payload = either_unsealed payload (start_is payload start.command start.session start.payload_is) in (
         unit_may keys past told unit written (λ new. subst (AllByRecursion (λ one. is_sealed one.payload ≡ true → IsSealedSo keys past one)) (sym carried) ((λ is. absurd (both_ways (is_sealed payload) unsealed is)), tt)),
         known.0,
         event_tie (past ++ told) h (Starts n plan more payload) facts (λ node is. brought node plan start.plan_is start.payload_is written carried)
@@ -318,7 +318,7 @@ module _ (keys : Keys) (brings : PayloadsBring) (left : TextsLeft) where
   -- the sealed text is given, and no more is to be sealed
   text_stands : (past told : List Entry) (m : HostMachine) (n : ℕ) (payload : List ℕ) → HostFacts m.state → May m.state (Gives_text n payload)
       → AreTold (Write (Framed (frame_of (Attempt n false payload) (next_id m.state.requests.last_id))) ∷ []) told → ReadsAs m.state (Attempt n false payload)
-      → AreUnsealed m.state.requests.queue × TieSealing keys past m.state → Stands past told (after m.state (Gives_text n payload))
+      → AreOther m.state.requests.queue × TieSealing keys past m.state → Stands past told (after m.state (Gives_text n payload))
   text_stands past told m n payload facts may are read known =
       let h : HostState = m.state in
       let purpose : Purpose = Attempt n false payload in
@@ -349,7 +349,7 @@ module _ (keys : Keys) (brings : PayloadsBring) (left : TextsLeft) where
             pending = λ plain at. asked_on node past told none ((known.1 node of).pending plain at);
           }
 
-  module _ (past told : List Entry) (m : HostMachine) (ground : Ground keys Submitting past m) (known : AreUnsealed m.state.requests.queue × TieSealing keys past m.state) where
+  module _ (past told : List Entry) (m : HostMachine) (ground : Ground keys Submitting past m) (known : AreOther m.state.requests.queue × TieSealing keys past m.state) where
     facts : HostFacts m.state
     facts = ground.0.0.0.0.0.0.0.facts.host
 
@@ -361,10 +361,10 @@ module _ (keys : Keys) (brings : PayloadsBring) (left : TextsLeft) where
 
     submits : (event : HostEvent) → IsSubmission event → IsNext m.state event → MayAll m.state (event ∷ []) → AreTold (outs m.state event) told → Submits_so event
     submits Submits_abort sub next may are =
-        unsealed_stands past told m.state Submits_abort Abort facts tt (event_unsealed m.state Submits_abort may.0 tt known.0) are
+        unsealed_stands past told m.state Submits_abort Abort facts tt (event_other m.state Submits_abort may.0 tt known.0) are
         (event_is_read brings m.state Submits_abort facts may.0 ground.0.0.1.0) tt known.1
     submits Submits_front sub next may are =
-        unsealed_stands past told m.state Submits_front (task_purpose m.state.requests.queue) facts tt (event_unsealed m.state Submits_front may.0 tt known.0) are
+        unsealed_stands past told m.state Submits_front (task_purpose m.state.requests.queue) facts tt (event_other m.state Submits_front may.0 tt known.0) are
         (event_is_read brings m.state Submits_front facts may.0 ground.0.0.1.0) (front_carries m.state.requests.queue (next_id m.state.requests.last_id) known.0) known.1
     submits (Starts n plan more payload) sub next may are =
         start_stands past told m n plan more payload facts may.0 are (event_is_read brings m.state (Starts n plan more payload) facts may.0 ground.0.0.1.0)
@@ -374,7 +374,7 @@ module _ (keys : Keys) (brings : PayloadsBring) (left : TextsLeft) where
     submits (Gives_segment n more payload) sub next may are =
         unsealed_stands past told m.state (Gives_segment n more payload) (Attempt n more payload) facts tt known.0 are
         (event_is_read brings m.state (Gives_segment n more payload) facts may.0 ground.0.0.1.0)
-        (open_unsealed m.state (node_of m.state n) (open_session (node_of m.state n).book) (node_of m.state n).next_segment payload may.0.2, tt) known.1
+        (other_unsealed payload (open_other m.state (node_of m.state n) (open_session (node_of m.state n).book) (node_of m.state n).next_segment payload may.0.2), tt) known.1
     submits (Begins n session command) sub next may (rest, is, none) =
         let all : AllByRecursion NoRequest told = subst (AllByRecursion NoRequest) (sym is) (tt, subst (AllByRecursion NoRequest) (sym none) tt) in
         quiet_stands past told (after m.state (Begins n session command)) all (known.0, none_tie past m.state (Begins n session command) facts tt known.1)
@@ -392,19 +392,19 @@ module _ (keys : Keys) (brings : PayloadsBring) (left : TextsLeft) where
   led next past m one stands = (stands.0, (stands.1, stands.2))
 
   quiet_leads : (next : Phase) (past : List Entry) (m : HostMachine) (one : Step) → (happens m one).state ≡ m.state → AllByRecursion NoRequest (entries m one)
-      → AreUnsealed m.state.requests.queue × TieSealing keys past m.state → Leads next past m one
+      → AreOther m.state.requests.queue × TieSealing keys past m.state → Leads next past m one
   quiet_leads next past m one same all known =
       led next past m one (subst (λ (h : HostState). Stands past (entries m one) h) (sym same) (quiet_stands past (entries m one) m.state all known))
 
   does : (here next : Phase) (past : List Entry) (m : HostMachine) (event : HostEvent) (told : List Entry) → MayStep here m (Does event told) next → Ground keys here past m
-      → AreUnsealed m.state.requests.queue × TieSealing keys past m.state → Stands past told (after m.state event)
+      → AreOther m.state.requests.queue × TieSealing keys past m.state → Stands past told (after m.state event)
   does here next past m event told may ground known = by (writes here next past told m event may ground.0.0 ground.0.1)
     where
       facts : HostFacts m.state
       facts = ground.0.0.0.0.0.0.0.facts.host
 
-      queue : AreUnsealed (after m.state event).requests.queue
-      queue = event_unsealed m.state event may.1.0 (does_add here next past m event told may ground.0.0) known.0
+      queue : AreOther (after m.state event).requests.queue
+      queue = event_other m.state event may.1.0 (does_add here next past m event told may ground.0.0) known.0
 
       tie : Unsubmitted event → TieSealing keys past (after m.state event)
       tie un =
@@ -440,7 +440,7 @@ module _ (keys : Keys) (brings : PayloadsBring) (left : TextsLeft) where
   step_goes here next past m (Asks event) (line, here_is, is, may, numbered, to_is) ground known =
       led next past m (Asks event)
       (quiet_stands past (answers m.state event) (after m.state event) (answers_none m.state event) (
-        event_unsealed m.state event may.0 (asked_adds line m.state event is) known.0,
+        event_other m.state event may.0 (asked_adds line m.state event is) known.0,
         none_tie past m.state event ground.0.0.0.0.0.0.0.facts.host (asked_none line m.state event is) known.1,
       ))
   step_goes here next past m (Refuses refusal) may ground known = quiet_leads next past m (Refuses refusal) refl (tt, tt) known
@@ -448,7 +448,7 @@ module _ (keys : Keys) (brings : PayloadsBring) (left : TextsLeft) where
   step_goes here next past m (Restarts state) may ground known =
       led next past m (Restarts state)
       (quiet_stands past [] state tt
-      (opened_unsealed m.keys m.records state ground.0.0.0.0.0.0.0.told may.1, starts_tie past m.records m.keys state ground.0.0.0.0.0.0.0.told may.1))
+      (opened_other m.keys m.records state ground.0.0.0.0.0.0.0.told may.1, starts_tie past m.records m.keys state ground.0.0.0.0.0.0.0.told may.1))
   step_goes here next past m (Begins_tick ticks) may ground known = quiet_leads next past m (Begins_tick ticks) refl tt known
   step_goes here next past m Numbers may ground known = quiet_leads next past m Numbers refl (tt, tt) known
   step_goes here next past m (Judges item rest behind told) may ground known =

@@ -1,6 +1,6 @@
--- What is known of the messages that a host alone has to seal, at each phase (this project's own rule): of what waits to be asked none is sealed; and the sealed text that a node is to be
+-- What is known of the messages that a host alone has to seal, at each phase (this project's own rule): no message that waits to be asked is of Security 0; and the sealed text that a node is to be
 -- given, and the one that waits for a nonce, answer a question.
-use Rattle.std.specs.Prelude.{◌≡◌, ℕ, false, List}
+use Rattle.std.specs.Prelude.{◌≡◌, ℕ, ◌==◌, false, List, slice_index}
 use Rattle.std.specs.List.{AllByRecursion}
 use Rattle.chip_functions.specs.Field.{IsNode}
 use Rattle.s0_crypto.specs.declared.key_pair.Keys.{Keys}
@@ -17,14 +17,17 @@ use Rattle.proof_nonces.specs.Sealing.{HasAsked, IsSealedSo, is_sealed}
 abbrev pub IsUnsealed : List ℕ → Type 0
 IsUnsealed payload = is_sealed payload ≡ false
 
--- a message that waits
-abbrev pub AsksUnsealed : Task → Type 0
-AsksUnsealed (Plain n payload) = IsUnsealed payload
-AsksUnsealed (Segment n payload) = IsUnsealed payload
-AsksUnsealed task = Unit {0}
+-- of another class than Security 0, and so a message that waits
+abbrev pub IsOther : List ℕ → Type 0
+IsOther payload = (slice_index payload 0 == 0x98) ≡ false
 
-abbrev pub AreUnsealed : List Task → Type 0
-AreUnsealed queue = AllByRecursion AsksUnsealed queue
+abbrev pub AsksOther : Task → Type 0
+AsksOther (Plain n payload) = IsOther payload
+AsksOther (Segment n payload) = IsOther payload
+AsksOther task = Unit {0}
+
+abbrev pub AreOther : List Task → Type 0
+AreOther queue = AllByRecursion AsksOther queue
 
 -- a sealed text of a node, and a text that is to be sealed
 abbrev pub TextSo : Keys → ℕ → List Entry → List ℕ → Type 0
@@ -37,7 +40,7 @@ abbrev pub TieSealing : Keys → List Entry → HostState → Type 0
 TieSealing keys past h = (node : ℕ) → IsNode node → HasTexts (TextSo keys node past) (PlainSo node past) (node_of h node)
 
 abbrev pub KnowsSealing : Keys → Knowledge
-KnowsSealing keys here past m = AreUnsealed m.state.requests.queue × TieSealing keys past m.state
+KnowsSealing keys here past m = AreOther m.state.requests.queue × TieSealing keys past m.state
 
 -- the ground: the requests of the host are as its transcript tells, and it has its keys
 abbrev pub Ground : Keys → Knowledge
