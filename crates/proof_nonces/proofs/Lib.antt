@@ -3,3 +3,9 @@ mod Queued
 mod Since
 mod Taking
 mod Walking
+mod Grounds
+mod Ordered
+mod Accounts
+mod Reports
+mod Opening
+mod Counting

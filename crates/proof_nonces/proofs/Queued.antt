@@ -1,5 +1,5 @@
 -- No message that waits to be asked by a host alone is of Security 0, whatever it does.
-use Rattle.std.proofs.Common.{◌≡◌, Bool, true, false, if◌then◌else◌, inl, inr, List, [], ◌∷◌, ◌++◌, Option, Some, None, ℕ, sym, ap, subst}
+use Rattle.std.proofs.Common.{refl, ◌≡◌, Bool, true, false, if◌then◌else◌, inl, inr, List, [], ◌∷◌, ◌++◌, Option, Some, None, ℕ, sym, ap, subst}
 use Rattle.std.specs.Prelude.{IsSome}
 use Rattle.zw_base.proofs.Each.{all-append, all-right}
 use Rattle.serial_frame.specs.Items.{unit_text}
@@ -38,7 +38,7 @@ use Rattle.proof_known.specs.proof_alone.Steps.{Does, IsAskedBy}
 use Rattle.proof_known.specs.proof_alone.Phases.{Phase, Resting, Asked, Risen, Ticking, Open, Behind, Sleeping, Submitting, May as MayStep}
 use Rattle.proof_known.specs.proof_waking.Judged.{IsOfRequest, KnowsJudged}
 use Rattle.proof_known.proofs.Followed.{MayFollow, frame_all}
-use Rattle.proof_nonces.specs.Known.{AreOther, AsksOther}
+use Rattle.proof_nonces.specs.Known.{AreOther, AsksOther, offered_by}
 use Rattle.proof_nonces.proofs.Payloads.{gets_other, open_other, sends_other}
 
 -- ---- the queue
@@ -74,8 +74,8 @@ front_other s [] these are = are
 front_other s (task ∷ rest) these are = these.1
 
 -- what an event adds, where a line or the requests bring it
-abbrev AddsOther : HostEvent → Type 0
-AddsOther (Queues task) = AsksOther task
+abbrev pub AddsOther : HostEvent → Type 0
+AddsOther (Queues task) = AsksOther task × (offered_by task ≡ [])
 AddsOther (Requests_do event moment) = IsOfChip event
 AddsOther event = Unit {0}
 
@@ -83,7 +83,7 @@ pub event_other : (h : HostState) (event : HostEvent) → May h event → AddsOt
 event_other h (Accepts order carriage) may adds are = are
 event_other h (Cancels command) may adds are = are
 event_other h (Joins n) may adds are = are
-event_other h (Queues task) may adds are = more_other h.requests.queue (task ∷ []) (adds, tt) are
+event_other h (Queues task) may adds are = more_other h.requests.queue (task ∷ []) (adds.0, tt) are
 event_other h (Queues_interview n) may adds are = more_other h.requests.queue (First n ∷ Second n ∷ []) (tt, (tt, tt)) are
 event_other h Queues_probe may adds are = more_other h.requests.queue _ (tt, (tt, (tt, tt))) are
 event_other h (Hears item) may adds are = are
@@ -129,14 +129,14 @@ as_adds event these is adds = subst AddsOther (sym is) adds
 
 pub asked_adds : (line : Line) (h : HostState) (event : HostEvent) → IsAskedBy line h event → AddsOther event
 asked_adds (lines.Command order) h event is = as_adds event _ is tt
-asked_adds (lines.Send node word) h event is = as_adds event _ is.1 (sends_other (classes_of (known_of (node_of h node))) word)
-asked_adds (lines.Get node end) h event is = as_adds event _ is.1 (gets_other (classes_of (known_of (node_of h node))) end)
+asked_adds (lines.Send node word) h event is = as_adds event _ is.1 (sends_other (classes_of (known_of (node_of h node))) word, refl)
+asked_adds (lines.Get node end) h event is = as_adds event _ is.1 (gets_other (classes_of (known_of (node_of h node))) end, refl)
 asked_adds (lines.Join node) h event is = as_adds event _ is tt
 asked_adds (lines.Interview node) h event is = as_adds event _ is.1 tt
 asked_adds (lines.Cancel command) h event is = as_adds event _ is tt
-asked_adds lines.Discover h event is = as_adds event _ is.1 tt
-asked_adds (lines.Neighbours node) h event is = as_adds event _ is.1 tt
-asked_adds (lines.Failed node) h event is = as_adds event _ is.1 tt
+asked_adds lines.Discover h event is = as_adds event _ is.1 (tt, refl)
+asked_adds (lines.Neighbours node) h event is = as_adds event _ is.1 (tt, refl)
+asked_adds (lines.Failed node) h event is = as_adds event _ is.1 (tt, refl)
 asked_adds lines.Probe h event is = as_adds event _ is.1 tt
 asked_adds line h event is = absurd is
 

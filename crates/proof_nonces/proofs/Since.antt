@@ -72,7 +72,7 @@ abbrev pub NoRequest : Entry → Type 0
 NoRequest (entry.Written Host unit) = is_data unit ≡ false
 NoRequest e = Unit {0}
 
-not_new : (past : List Entry) (unit : List ℕ) → is_data unit ≡ false → is_new (asked past) unit ≡ false
+pub not_new : (past : List Entry) (unit : List ℕ) → is_data unit ≡ false → is_new (asked past) unit ≡ false
 not_new past unit none = ap (λ (b : Bool). b && not (is_copy (asked past) unit)) none
 
 quiet_nothing : (node : ℕ) (past : List Entry) (e : Entry) → NoRequest e → SealsNothing node past e

@@ -116,13 +116,13 @@ request_none event is = absurd is
 
 -- ---- what a request carries
 
-abbrev carried_by : Purpose → ℕ → List Carried
+abbrev pub carried_by : Purpose → ℕ → List Carried
 carried_by purpose id = flat_map sending_of (request_of purpose id ∷ [])
 
-abbrev unit_of : HostState → Purpose → List ℕ
+abbrev pub unit_of : HostState → Purpose → List ℕ
 unit_of h purpose = unit_text (Framed (frame_of purpose (next_id h.requests.last_id)))
 
-sends_so : (h : HostState) (purpose : Purpose) → ReadsAs h purpose → sending_in (unit_of h purpose) ≡ carried_by purpose (next_id h.requests.last_id)
+pub sends_so : (h : HostState) (purpose : Purpose) → ReadsAs h purpose → sending_in (unit_of h purpose) ≡ carried_by purpose (next_id h.requests.last_id)
 sends_so h purpose read = ap (λ (l : List Request). flat_map sending_of l) read
 
 abbrev AllUnsealed : List Carried → Type 0

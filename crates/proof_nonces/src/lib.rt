@@ -7,6 +7,8 @@
 //! what waits to be asked, `Since` what stays with further entries, `Taking` where a nonce is taken, and `Walking` the walk.
 #![tactic(auto)]
 
+mod giving;
 mod sealing;
 
+pub use giving::{hosts_count_nonces, lines_count_nonces};
 pub use sealing::{hosts_seal_once, lines_seal_once};

@@ -8,8 +8,10 @@ ghost use Rattle.world_model.specs.State.{first_machine};
 ghost use Rattle.world_lines.specs.Spoken.{Spoken, transcript_of};
 ghost use Rattle.world_lines.specs.Done.{AreDone};
 ghost use Rattle.proof_known.specs.law_host.Heard.{heard_by_host};
-ghost use Rattle.proof_known.specs.proof_alone.State.{first_alone};
-ghost use Rattle.proof_known.specs.proof_alone.Runs.{Told};
+ghost use Rattle.proof_known.specs.proof_alone.State.{HostMachine, first_alone};
+ghost use Rattle.proof_known.specs.proof_alone.Phases.{Phase};
+ghost use Rattle.proof_known.specs.proof_alone.Runs.{Run, Told};
+ghost use Rattle.proof_nonces.specs.Known.{KnowsSealing};
 ghost use Rattle.proof_nonces.specs.Sealing.{SealsOnce};
 
 use host_model::attempts_have_what_they_give;
@@ -22,7 +24,8 @@ use proof_messages::hosts_leave_nonces;
 /// send sealed is sealed, under eight bytes of the host's own, for a nonce that its node told in a payload that was judged after the host had last asked it for
 /// one, openly or sealed with the host's keys; and since then nothing else was sealed for the node. So no nonce serves twice, unless its node tells it again.
 pub fn hosts_seal_once()
-    ensures { (keys : Keys) (told : List Entry) → Told (first_alone keys (Some [])) told → SealsOnce keys told }
+    ensures told { (keys : Keys) (told : List Entry) → Told (first_alone keys (Some [])) told → SealsOnce keys told }
+    ensures known { (keys : Keys) (here : Phase) (told : List Entry) (m : HostMachine) → Run (first_alone keys (Some [])) here told m → KnowsSealing keys here told m }
 {
     attempts_have_what_they_give();
     hosts_leave_nonces();

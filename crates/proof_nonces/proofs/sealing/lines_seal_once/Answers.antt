@@ -11,4 +11,4 @@ returns c = λ keys devices lines are.
     let start = first_alone keys (Some []) in
     let past = transcript_of (first_machine keys (Some []) devices) lines in
     let told = c.lines_are_a_hosts.ensures.told keys devices lines are in
-    (c.hosts_seal_once.ensures keys past told, c.hosts_seal_once.ensures keys (heard_by_host past) (c.what_is_heard_is_a_hosts.ensures.told start past told))
+    (c.hosts_seal_once.ensures.told keys past told, c.hosts_seal_once.ensures.told keys (heard_by_host past) (c.what_is_heard_is_a_hosts.ensures.told start past told))
