@@ -15,6 +15,7 @@ ghost use Rattle.proof_commands.specs.Laws.{
   CollidesAsAsked,
   ConfirmsValues,
   DoesAsShown,
+  DoesWhatIsAsked,
   DoneByNodes,
   EndsEachInterview,
   FaresFrames,
@@ -90,6 +91,7 @@ use proof_replay::known::waking::lines_wake_as_told;
 use proof_replay::lines_that_ran_are_heard;
 use proof_replay::notes::{lines_note_in_full, lines_say_what_is_not_kept};
 use proof_replay::requests::{lines_answer_questions, lines_end_interviews};
+use proof_replay::rests::lines_leave_nothing;
 use proof_replay::sending::line::{
     lines_clear_at_restarts, lines_clear_nowhere_else, lines_clear_the_line,
     lines_collide_when_asked, lines_keep_links, lines_mark_units, lines_overrun_only_when_full,
@@ -303,13 +305,15 @@ fn stories_answer_questions()
     lines_say_how_done();
 }
 
-/// Requests stand one after another, and messages are numbered, in lines that were said.
+/// Requests stand one after another, messages are numbered, and where the host rests what lines asked for has ended, in lines that were said.
 fn stories_ask_one_by_one()
     ensures one { (key : List ℕ) (old new : Around) → AsksOneByOne key old new }
     ensures numbered { (key : List ℕ) (old new : Around) → NumbersMessages key old new }
+    ensures rests { (key : List ℕ) (old new : Around) → DoesWhatIsAsked key old new }
 {
     lines_are_read_as_said();
     lines_ask_one_by_one();
+    lines_leave_nothing();
 }
 
 /// After each payload stands all that its messages have noted, and that a record was not kept where one was asked for, in lines that were said.

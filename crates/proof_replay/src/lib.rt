@@ -18,5 +18,6 @@ pub use proof_asking as asking;
 pub use proof_asking::{known, requests, sending};
 pub use proof_notes as notes;
 pub use proof_notes::attempts;
+pub use proof_rests as rests;
 pub use replay::{hosts_keep_laws, replays_are_a_hosts, texts_that_ran_are_heard};
 pub use sim::lines_that_ran_are_heard;

@@ -29,6 +29,7 @@ use proof_asking::{hosts_ask_one_by_one, hosts_say_how_done, hosts_send_what_is_
 use proof_notes::attempts::{hosts_fall_asleep_as_told, hosts_hold_as_asked};
 use proof_notes::{hosts_note_in_full, hosts_say_what_is_not_kept};
 use proof_queue::hosts_fit_their_queue;
+use proof_rests::hosts_leave_nothing;
 
 /// Of any lines that are run whole, over any bytes and any keeper, what the host of `replay` heard is told by a run of a host alone that began without
 /// records and ends at rest. No line reads the records, so those of that run are added to what the keeper had.
@@ -61,6 +62,7 @@ pub fn hosts_keep_laws()
     hosts_end_interviews();
     hosts_say_how_done();
     hosts_ask_one_by_one();
+    hosts_leave_nothing();
     hosts_fit_their_queue();
 }
 

@@ -27,6 +27,7 @@ returns c = λ key old new. record {
     says_done = c.stories_answer_questions.ensures.done key old new;
     one_by_one = c.stories_ask_one_by_one.ensures.one key old new;
     numbered = c.stories_ask_one_by_one.ensures.numbered key old new;
+    rests = c.stories_ask_one_by_one.ensures.rests key old new;
     noted = c.stories_note_in_full.ensures.noted key old new;
     unkept = c.stories_note_in_full.ensures.unkept key old new;
     heard = c.stories_are_heard.ensures key old new;
