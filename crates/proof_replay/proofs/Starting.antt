@@ -119,6 +119,8 @@ kept_as_told keys whole heard told held agrees laws = record {
   queues = laws.queues;
   ticks = laws.ticks;
   sends = laws.sends;
+  seals_once = laws.seals_once;
+  nonces = laws.nonces;
   link = laws.link;
 }
 

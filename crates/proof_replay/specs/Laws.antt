@@ -37,6 +37,8 @@ use Rattle.proof_asking.specs.proof_requests.proof_alone.Careful.{Careful}
 use Rattle.proof_asking.specs.proof_known.Known.{AreForHost, KeepsWhatIsSaid}
 use Rattle.proof_asking.specs.proof_known.Noted.{NotesWhatOpens, NotesWhatWasTold}
 use Rattle.proof_notes.specs.Full.{NotesInFull}
+use Rattle.proof_nonces.specs.Giving.{CountsNonces}
+use Rattle.proof_nonces.specs.Sealing.{SealsOnce}
 use Rattle.proof_rests.specs.Undone.{LeavesNothing}
 use Rattle.proof_notes.specs.Unkept.{UnkeptWhereAsked}
 use Rattle.proof_queue.specs.Turn.{GoesByQueue}
@@ -63,6 +65,7 @@ QueuesByMessages heard = (taken : List Entry → Carried → List Told) × FitsQ
 -- The number of a tick is above those before it, and lines have asked for so many ticks.
 -- Each payload that it asks its chip to send is a message of the last session of its node, by what the node listed, a nonce or a question for one, lets the node sleep, or was
 -- asked for by a line; where its keys are those of a network key, by what nodes told openly or sealed with that key.
+-- Each message that it seals is for a nonce that its node told since it was asked, and none serves twice; and each nonce that it gives opens one payload at most, in order.
 -- Its link kept the rules of the serial line, a new one from each start on.
 pub record HostsKeepLaws (keys : Keys) (whole : Bool) (heard : List Entry) (records : Option (List (List ℕ))) : Type 0 where
   pub orders : HostLaws heard
@@ -84,6 +87,8 @@ pub record HostsKeepLaws (keys : Keys) (whole : Bool) (heard : List Entry) (reco
   pub queues : NoneWoken heard → QueuesByMessages heard
   pub ticks : EachAfter MayCount [] heard
   pub sends : (key : List ℕ) → keys ≡ keys_of key → SendsWhatIsDue listing_heard key heard
+  pub seals_once : SealsOnce keys heard
+  pub nonces : CountsNonces keys heard
   pub link : KeepsLink Host (ended whole heard)
 
 -- Of a host that starts with records, after what stood before: the fields of `IsHostLegal` that are proved of it. It goes by what nodes listed in their interviews, and by

@@ -53,5 +53,7 @@ returns c = λ keys whole here heard m run rests fine link. record {
   queues = λ none. c.hosts_fit_their_queue.ensures.told keys heard (here, m, run) none fine;
   ticks = c.hosts_tell_time.ensures.counts keys (Some []) heard (here, m, run);
   sends = λ key same. c.hosts_send_what_is_due.ensures.told key heard (subst (λ (k : Keys). Told (first_alone k (Some [])) heard) same (here, m, run));
+  seals_once = c.hosts_seal_once.ensures.told keys heard (here, m, run);
+  nonces = c.hosts_count_nonces.ensures.told keys heard (here, m, run);
   link = link;
 }
