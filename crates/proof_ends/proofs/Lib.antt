@@ -1,0 +1,3 @@
+mod Standing
+mod Noting
+mod Walking

@@ -1,0 +1,311 @@
+-- What a host notes where its request ends, and where a node has had its third attempt, is what the transcript has for that end.
+use Rattle.std.proofs.Common.{◌≡◌, ◌⊎◌, ℕ, ◌≤◌, ◌==◌, ◌&&◌, ◌||◌, not, Bool, true, false, if◌then◌else◌, inl, inr, List, [], ◌∷◌, ◌++◌, Option, Some, None, refl, sym, ap, ap₂, ◌∙◌, subst, append-nil}
+use Rattle.std.specs.Prelude.{IsSome, is_none}
+use Rattle.std.specs.List.{AllByRecursion, flat_map}
+use Rattle.std.proofs.lemmas.Bool.{or_left, or_right}
+use Rattle.supervision.specs.Host.{open_session}
+use Rattle.chip_functions.specs.Field.{IsNode}
+use Rattle.chip_functions.specs.declared.notice.Update.TheVariants.{Received}
+use Rattle.chip_functions.specs.declared.request.Request.{Request}
+use Rattle.chip_functions.specs.declared.response.Response.{Response}
+use Rattle.chip_functions.specs.declared.response.Response.TheVariants as responses
+use Rattle.zw_text.specs.declared.entry.Ended.TheVariants as ended
+use Rattle.zw_text.specs.declared.entry.Entry.{Entry}
+use Rattle.zw_text.specs.declared.entry.Entry.TheVariants as entry
+use Rattle.zw_text.specs.Transcript.{sessions}
+use Rattle.law_transcript.specs.Lists.{EachAfter}
+use Rattle.law_transcript.specs.Units.{Carried, sending_in, sending_of}
+use Rattle.law_time.specs.Ends.{is_answered_here, is_ending_here, is_given_up, is_refused_here, is_silent, refuses}
+use Rattle.law_time.specs.Interviews.{node_interviewed}
+use Rattle.law_time.specs.Judged.{judged_here, last_of, responses_here}
+use Rattle.law_time.specs.Requests.{asked, is_response_to, request_last}
+use Rattle.law_time.specs.Sessions.{is_open, last_command}
+use Rattle.law_time.specs.Waking.{is_awake_sleeper, nodes_told}
+use Rattle.host_requests.specs.Frames.{request_of}
+use Rattle.host_requests.specs.declared.end.How.{How}
+use Rattle.host_requests.specs.declared.end.How.TheVariants.{AtCallback, AtResponse, AtUpdate, Refused, Silent, LinkFailed, AbortSent}
+use Rattle.host_requests.specs.declared.task.Task.TheVariants.{Plain, Offer, Segment, NoMore, Second, Neighbours, IsFailed}
+use Rattle.host_requests.specs.declared.task.Purpose.{Purpose}
+use Rattle.host_requests.specs.declared.task.Purpose.TheVariants.{Housekeeping, Attempt, Abort}
+use Rattle.host_node.specs.Facts.{NodeFacts}
+use Rattle.host_node.specs.State.{NodeState, is_open as has_open, is_running}
+use Rattle.host_node.specs.Steps.{attempt_end, falls_asleep, tick_end}
+use Rattle.host_node.specs.declared.attempt.AttemptEnd.{AttemptEnd}
+use Rattle.host_node.specs.declared.attempt.AttemptEnd.TheVariants.{NoneRan, Again, Unanswered}
+use Rattle.host_model.specs.State.{HostState, node_of}
+use Rattle.host_model.specs.Sessions.{open_command}
+use Rattle.host_model.specs.Ends.{PartEnd, Good, Passed_over, Bad, asleep_entry, attempt_entries, done_of, end_entries, failed_entry, neighbours_entry, out_entry, part_end, part_entries}
+use Rattle.proof_requests.specs.law_host.Ends.{answer_to, given_up_notes, sleep_note, sleep_notes}
+use Rattle.proof_requests.specs.Carrying.{CarriesSo, is_errand}
+use Rattle.proof_requests.specs.Ends.{EndsHere, TellsEnd}
+use Rattle.proof_requests.proofs.EndsDone.{ends_as_done}
+use Rattle.proof_requests.proofs.Interviews.{interviews_may}
+use Rattle.proof_attempts.specs.Carried.{CarriesWell, nodes_of}
+use Rattle.proof_attempts.proofs.Opening.{OpenLast, open_last}
+use Rattle.proof_attempts.proofs.Releasing.{opens}
+use Rattle.proof_attempts.proofs.Sleeping.{EndSo, attempt_so, tick_so}
+use Rattle.proof_ends.specs.Ends.{AnswerNotes, DoneNotes, EndNotes, GivesUp, OutcomeNotes, Reads, has_ended_here, node_asked, nodes_asked}
+use Rattle.proof_ends.specs.Ends.Reads.{Ends, Gives_up, Passes}
+use Rattle.proof_ends.proofs.Standing.{nothing_read}
+
+-- ---- what a request is, by its purpose
+
+-- the nodes to which it carries a Set or Get by itself, and whose information it asks for
+abbrev errands_of : Purpose → List ℕ
+errands_of (Housekeeping (Plain n payload)) = n ∷ []
+errands_of purpose = []
+
+abbrev seconds_of : Purpose → List ℕ
+seconds_of (Housekeeping (Second n)) = n ∷ []
+seconds_of purpose = []
+
+asked_by : List Request → List ℕ
+asked_by requests = flat_map node_asked (flat_map sending_of requests)
+
+purpose_asks : (p : Purpose) (id : ℕ) → CarriesSo p → asked_by (request_of p id ∷ []) ≡ errands_of p
+purpose_asks (Housekeeping (Plain n payload)) id carries = ap (λ (b : Bool). (if b then n ∷ [] else []) ++ []) carries
+purpose_asks (Housekeeping (Segment n payload)) id carries = ap (λ (b : Bool). (if b then n ∷ [] else []) ++ []) carries
+purpose_asks (Attempt n more payload) id carries = ap (λ (b : Bool). (if b then n ∷ [] else []) ++ []) carries
+purpose_asks (Housekeeping (Offer n nonce)) id carries = refl
+purpose_asks (Housekeeping (NoMore n)) id carries = refl
+purpose_asks (Housekeeping task) id carries = refl
+purpose_asks Abort id carries = refl
+
+purpose_interviews : (p : Purpose) (id : ℕ) → node_interviewed (request_of p id ∷ []) ≡ seconds_of p
+purpose_interviews (Housekeeping (Second n)) id = refl
+purpose_interviews (Housekeeping task) id = refl
+purpose_interviews (Attempt n more payload) id = refl
+purpose_interviews Abort id = refl
+
+-- ---- it ends here
+
+second_of : (a b : Bool) → (a && b) ≡ true → b ≡ true
+second_of true b is = is
+second_of false b is = absurd (let bad : false ≡ true = is in cc)
+
+answered_ends : (past : List Entry) → is_answered_here past ≡ true → is_ending_here past ≡ true
+answered_ends past is = second_of _ (is_ending_here past) is
+
+by_frame : (past : List Entry) → is_ending_here past ≡ true → has_ended_here past ≡ true
+by_frame past is = or_left (is_ending_here past || is_silent past) (is_given_up past) (or_left (is_ending_here past) (is_silent past) is)
+
+pub ended_so : (past : List Entry) (id : ℕ) (p : Purpose) (how : How) → (p ≡ Abort → ⊥) → EndsHere past id p how → has_ended_here past ≡ true
+ended_so past id p (AtCallback status) other e = by_frame past e.so.2
+ended_so past id p (AtResponse response) other e = by_frame past (answered_ends past e.so.3)
+ended_so past id p (AtUpdate update first) other e = by_frame past e.so.2
+ended_so past id p Refused other e = by_frame past (answered_ends past (second_of _ (is_answered_here past) e.so.1))
+ended_so past id p Silent other e = or_left (is_ending_here past || is_silent past) (is_given_up past) (or_right (is_ending_here past) (is_silent past) e.so)
+ended_so past id p LinkFailed other e = or_right (is_ending_here past || is_silent past) (is_given_up past) e.so
+ended_so past id p AbortSent other e = absurd (other e.so)
+
+-- ---- the nodes of a host and its transcript
+
+pub record NodesSo (past : List Entry) (g : HostState) : Type 0 where
+  pub begun : (n : ℕ) → sessions n past ≡ (node_of g n).book.commands
+  pub facts : (n : ℕ) → NodeFacts (node_of g n)
+  pub sleeper : (n : ℕ) → IsNode n → is_awake_sleeper n past ≡ falls_asleep (node_of g n)
+  pub opened : (n : ℕ) → is_open n past ≡ has_open (node_of g n)
+
+asleep_is : (b : Bool) (n : ℕ) → asleep_entry b n ≡ (if b then entry.Asleep n ∷ [] else [])
+asleep_is true n = refl
+asleep_is false n = refl
+
+module _ (past : List Entry) (g : HostState) (nodes : NodesSo past g) where
+  sleep_is : (n : ℕ) → IsNode n → sleep_note past n ≡ asleep_entry (falls_asleep (node_of g n)) n
+  sleep_is n is = ap (λ (b : Bool). if b then entry.Asleep n ∷ [] else []) (nodes.sleeper n is) ∙ sym (asleep_is (falls_asleep (node_of g n)) n)
+
+  -- ---- a command is given up
+
+  opened_up : (told : List Entry) (n : ℕ) (fell : Bool) → IsNode n → fell ≡ falls_asleep (node_of g n) → IsSome (open_session (node_of g n).book)
+      → ((open_session (node_of g n).book ≡ None) × (open_command (node_of g n) ≡ None)) ⊎ OpenLast (node_of g n) → told ≡ out_entry (open_command (node_of g n)) ++ asleep_entry fell n → GivesUp past n told
+  opened_up told n fell is so opened (inl none) are = absurd (let bad : false ≡ true = subst IsSome none.0 opened in cc)
+  opened_up told n fell is so opened (inr at) are = (
+    nodes.opened n ∙ opened,
+    at.command,
+    ap (λ (l : List ℕ). last_of l) (nodes.begun n) ∙ at.last,
+    are ∙ ap (λ (o : Option ℕ). out_entry o ++ asleep_entry fell n) at.opened
+        ∙ ap (λ (l : List Entry). entry.Out at.command ended.Unanswered ∷ l) (ap (λ (b : Bool). asleep_entry b n) so ∙ sym (sleep_is n is)),
+  )
+
+  gives_up_so : (told : List Entry) (n : ℕ) (fell : Bool) → IsNode n → EndSo (node_of g n) (Unanswered fell) → told ≡ attempt_entries n (Unanswered fell) (open_command (node_of g n)) → GivesUp past n told
+  gives_up_so told n fell is so are = opened_up told n fell is so.0 (opens (node_of g n).series (node_of g n) (nodes.facts n).series so.1) (open_last (node_of g n)) are
+
+  -- in its tick
+  ticked_by : (over : Bool) (told : List Entry) (n : ℕ) (end : AttemptEnd) → IsNode n → EndSo (node_of g n) end → told ≡ attempt_entries n end (open_command (node_of g n)) → Reads over past
+      → Reads over (past ++ told)
+  ticked_by over told n NoneRan is so are reads = nothing_read over past told are reads
+  ticked_by over told n Again is so are reads = nothing_read over past told are reads
+  ticked_by over told n (Unanswered fell) is so are reads = Gives_up n told refl (gives_up_so told n fell is so are) reads
+
+  pub node_reads : (over : Bool) (told : List Entry) (n : ℕ) → IsNode n → told ≡ attempt_entries n (tick_end (node_of g n)) (open_command (node_of g n)) → Reads over past → Reads over (past ++ told)
+  node_reads over told n is are reads = ticked_by over told n (tick_end (node_of g n)) is (tick_so (node_of g n)) are reads
+
+  -- ---- the request ends
+
+  module _ (told : List Entry) (id : ℕ) (tells : EachAfter TellsEnd past told) where
+    -- what is known of it: it was asked, carries what it is for, and ends here where something is noted
+    pub record EndOf (p : Purpose) (how : How) : Type 0 where
+      pub request : request_last past ≡ request_of p id ∷ []
+      pub carries : CarriesSo p
+      pub well : CarriesWell p
+      pub tells_so : nodes_told (asked past).frame ≡ nodes_of p
+      pub ends : (e : Entry) (more : List Entry) → told ≡ e ∷ more → EndsHere past id p how
+
+    module _ (p : Purpose) (how : How) (end : EndOf p how) where
+      asks_so : nodes_asked past ≡ errands_of p
+      asks_so = ap asked_by end.request ∙ purpose_asks p id end.carries
+
+      interviews_so : node_interviewed (request_last past) ≡ seconds_of p
+      interviews_so = ap node_interviewed end.request ∙ purpose_interviews p id
+
+      -- of which nothing is noted
+      quiet_end : errands_of p ≡ [] → seconds_of p ≡ [] → told ≡ [] → Reads false past → Reads true (past ++ told)
+      quiet_end errands seconds none reads = nothing_read true past told none (Passes (asks_so ∙ errands, interviews_so ∙ seconds) reads)
+
+      no_sleep : nodes_of p ≡ [] → sleep_notes past ≡ []
+      no_sleep none = ap (λ (l : List ℕ). flat_map (sleep_note past) l) (end.tells_so ∙ none)
+
+      none_asked : errands_of p ≡ [] → DoneNotes past []
+      none_asked errands = inl (asks_so ∙ errands, refl)
+
+      -- no question, and no interview
+      no_answer : seconds_of p ≡ [] → answer_to (request_of p id ∷ []) (responses_here past) ≡ [] → AnswerNotes past []
+      no_answer seconds none = inl (interviews_so ∙ seconds, sym (ap (λ (q : List Request). answer_to q (responses_here past)) end.request ∙ none))
+
+      ended_here : (e : Entry) (more : List Entry) → told ≡ e ∷ more → (p ≡ Abort → ⊥) → has_ended_here past ≡ true
+      ended_here e more are other = ended_so past id p how other (end.ends e more are)
+
+      -- of which one entry answers
+      answered_end : (e : Entry) → told ≡ e ∷ [] → errands_of p ≡ [] → nodes_of p ≡ [] → (p ≡ Abort → ⊥) → AnswerNotes past (e ∷ []) → Reads false past → Reads true (past ++ told)
+      answered_end e are errands untold other answer reads =
+          Ends told refl (record {
+            done = [];
+            answer = e ∷ [];
+            outcome = [];
+            are = are ∙ ap (λ (l : List Entry). l ++ e ∷ []) (sym (no_sleep untold));
+            ended = ended_here e [] are other;
+            done_so = none_asked errands;
+            answer_so = answer;
+            outcome_so = inl refl;
+          }) reads
+
+    -- a Set or Get by itself
+    plain_end : (n : ℕ) (payload : List ℕ) (how : How) → EndOf (Housekeeping (Plain n payload)) how → told ≡ entry.Done n (done_of how) ∷ [] → Reads false past → Reads true (past ++ told)
+    plain_end n payload how end are reads =
+        let p : Purpose = Housekeeping (Plain n payload) in
+        let e = end.ends (entry.Done n (done_of how)) [] are in
+        Ends told refl (record {
+          done = entry.Done n (done_of how) ∷ [];
+          answer = [];
+          outcome = [];
+          are = are ∙ ap (λ (l : List Entry). entry.Done n (done_of how) ∷ (l ++ [])) (sym (no_sleep p how end refl));
+          ended = ended_so past id p how (λ (is : p ≡ Abort). let bad = is in cc) e;
+          done_so = inr (n, done_of how, asks_so p how end, ends_as_done past id p how refl e, refl);
+          answer_so = no_answer p how end refl refl;
+          outcome_so = inl refl;
+        }) reads
+
+    -- a node is told that there is no more for it
+    told_by : (n : ℕ) (how : How) (fell : Bool) → EndOf (Housekeeping (NoMore n)) how → falls_asleep (node_of g n) ≡ fell → told ≡ asleep_entry fell n → Reads false past → Reads true (past ++ told)
+    told_by n how false end is are reads = quiet_end (Housekeeping (NoMore n)) how end refl refl are reads
+    told_by n how true end is are reads =
+        let p : Purpose = Housekeeping (NoMore n) in
+        let sleeps : sleep_notes past ≡ entry.Asleep n ∷ [] =
+        ap (λ (l : List ℕ). flat_map (sleep_note past) l) end.tells_so ∙ ap (λ (l : List Entry). l ++ []) (sleep_is n end.well ∙ ap (λ (b : Bool). asleep_entry b n) is) in
+        Ends told refl (record {
+          done = [];
+          answer = [];
+          outcome = [];
+          are = are ∙ ap (λ (l : List Entry). l ++ []) (sym sleeps);
+          ended = ended_here p how end (entry.Asleep n) [] are (λ (is : p ≡ Abort). let bad = is in cc);
+          done_so = none_asked p how end refl;
+          answer_so = no_answer p how end refl refl;
+          outcome_so = inl refl;
+        }) reads
+
+    -- an interview fails
+    second_end : (n : ℕ) (how : How) → EndOf (Housekeeping (Second n)) how → told ≡ entry.InterviewFailed n ∷ [] → Reads false past → Reads true (past ++ told)
+    second_end n how end are reads =
+        let p : Purpose = Housekeeping (Second n) in
+        let one : TellsEnd past (entry.InterviewFailed n) = (subst (EachAfter TellsEnd past) are tells).0 in
+        answered_end p how end (entry.InterviewFailed n) are refl refl (λ (is : p ≡ Abort). let bad = is in cc)
+        (inr (n, interviews_so p how end, inr (interviews_may past (entry.InterviewFailed n) one, refl))) reads
+
+    -- a question
+    neighbours_end : (n : ℕ) (how : How) → EndOf (Housekeeping (Neighbours n)) how → told ≡ neighbours_entry n how → Reads false past → Reads true (past ++ told)
+    neighbours_end n (AtResponse (responses.GetRoutingInfo list)) end are reads =
+        let p : Purpose = Housekeeping (Neighbours n) in
+        let how : How = AtResponse (responses.GetRoutingInfo list) in
+        let e = end.ends (entry.Neighbours n list) [] are in
+        answered_end p how end (entry.Neighbours n list) are refl refl (λ (is : p ≡ Abort). let bad = is in cc)
+        (inl (interviews_so p how end, sym (ap₂ (λ (q : List Request) (l : List Response). answer_to q l) end.request e.so.2))) reads
+    neighbours_end n (AtResponse (responses.SendData answer)) end are reads = quiet_end (Housekeeping (Neighbours n)) _ end refl refl are reads
+    neighbours_end n how end are reads = quiet_end (Housekeeping (Neighbours n)) how end refl refl are reads
+
+    failed_end : (n : ℕ) (how : How) → EndOf (Housekeeping (IsFailed n)) how → told ≡ failed_entry n how → Reads false past → Reads true (past ++ told)
+    failed_end n (AtResponse (responses.IsFailedNode has_failed)) end are reads =
+        let p : Purpose = Housekeeping (IsFailed n) in
+        let how : How = AtResponse (responses.IsFailedNode has_failed) in
+        let e = end.ends (entry.Failed n has_failed) [] are in
+        answered_end p how end (entry.Failed n has_failed) are refl refl (λ (is : p ≡ Abort). let bad = is in cc)
+        (inl (interviews_so p how end, sym (ap₂ (λ (q : List Request) (l : List Response). answer_to q l) end.request e.so.2))) reads
+    failed_end n how end are reads = quiet_end (Housekeeping (IsFailed n)) how end refl refl are reads
+
+    -- a part of an attempt
+    attempt_by : (n : ℕ) (more : Bool) (payload : List ℕ) (how : How) (over : AttemptEnd) → EndOf (Attempt n more payload) how → EndSo (node_of g n) over
+        → told ≡ attempt_entries n over (open_command (node_of g n)) → Reads false past → Reads true (past ++ told)
+    attempt_by n more payload how NoneRan end so are reads = quiet_end (Attempt n more payload) how end refl refl are reads
+    attempt_by n more payload how Again end so are reads = quiet_end (Attempt n more payload) how end refl refl are reads
+    attempt_by n more payload how (Unanswered fell) end so are reads =
+        let p : Purpose = Attempt n more payload in
+        let gives : GivesUp past n told = gives_up_so told n fell end.well.0 so are in
+        let carried : Carried = record { node = n; payload = payload } in
+        Ends told refl (record {
+          done = [];
+          answer = [];
+          outcome = told;
+          are = ap (λ (l : List Entry). l ++ told) (sym (no_sleep p how end refl));
+          ended = ended_here p how end (entry.Out gives.1 ended.Unanswered) (sleep_note past n) gives.3 (λ (is : p ≡ Abort). let bad = is in cc);
+          done_so = none_asked p how end refl;
+          answer_so = no_answer p how end refl refl;
+          outcome_so = inr (carried, ap (λ (q : List Request). flat_map sending_of q) end.request, gives);
+        }) reads
+
+    part_by : (n : ℕ) (more : Bool) (payload : List ℕ) (how : How) (part : PartEnd) → EndOf (Attempt n more payload) how → told ≡ part_entries g n part → Reads false past → Reads true (past ++ told)
+    part_by n more payload how Good end are reads = quiet_end (Attempt n more payload) how end refl refl are reads
+    part_by n more payload how Passed_over end are reads = quiet_end (Attempt n more payload) how end refl refl are reads
+    part_by n more payload how Bad end are reads = attempt_by n more payload how (attempt_end (node_of g n)) end (attempt_so (node_of g n)) are reads
+
+    pub end_reads : (p : Purpose) (how : How) → EndOf p how → told ≡ end_entries g (record { purpose = p; how = how }) → Reads false past → Reads true (past ++ told)
+    end_reads (Attempt n more payload) how end are reads = part_by n more payload how (part_end more how) end are reads
+    end_reads (Housekeeping (Plain n payload)) how end are reads = plain_end n payload how end are reads
+    end_reads (Housekeeping (NoMore n)) how end are reads = told_by n how (falls_asleep (node_of g n)) end refl are reads
+    end_reads (Housekeeping (Second n)) how end are reads = second_end n how end are reads
+    end_reads (Housekeeping (Neighbours n)) how end are reads = neighbours_end n how end are reads
+    end_reads (Housekeeping (IsFailed n)) how end are reads = failed_end n how end are reads
+    end_reads (Housekeeping task) how end are reads = quiet_end (Housekeeping task) how end refl refl are reads
+    end_reads Abort how end are reads = quiet_end Abort how end refl refl are reads
+
+    -- an interview whose information came, whether that is kept or not
+    pub interview_reads : (n basic generic specific : ℕ) (classes : List ℕ) (capability : ℕ) → EndOf (Housekeeping (Second n)) (AtUpdate (Received n basic generic specific classes) (Some capability))
+        → (told ≡ entry.Interviewed n ∷ []) ⊎ (told ≡ entry.Unkept n ∷ []) → Reads false past → Reads true (past ++ told)
+    interview_reads n basic generic specific classes capability end are reads = by are
+      where
+        how : How
+        how = AtUpdate (Received n basic generic specific classes) (Some capability)
+
+        p : Purpose
+        p = Housekeeping (Second n)
+
+        well : (e : Entry) → told ≡ e ∷ [] → Reads false past → (AnswerNotes past (e ∷ [])) → Reads true (past ++ told)
+        well e is reads answer = answered_end p how end e is refl refl (λ (same : p ≡ Abort). let bad = same in cc) answer reads
+
+        by : (told ≡ entry.Interviewed n ∷ []) ⊎ (told ≡ entry.Unkept n ∷ []) → Reads true (past ++ told)
+        by (inl is) =
+            let e = end.ends (entry.Interviewed n) [] is in
+            well (entry.Interviewed n) is reads
+            (inr (n, interviews_so p how end, inl (interviews_may past (entry.Interviewed n) ((basic, generic, specific), classes, capability, (id, e)), inl refl)))
+        by (inr is) =
+            let e = end.ends (entry.Unkept n) [] is in
+            well (entry.Unkept n) is reads
+            (inr (n, interviews_so p how end, inl (interviews_may past (entry.Interviewed n) ((basic, generic, specific), classes, capability, (id, e)), inr refl)))
