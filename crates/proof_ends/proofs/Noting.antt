@@ -1,7 +1,7 @@
 -- What a host notes where its request ends, and where a node has had its third attempt, is what the transcript has for that end.
-use Rattle.std.proofs.Common.{◌≡◌, ◌⊎◌, ℕ, ◌≤◌, ◌==◌, ◌&&◌, ◌||◌, not, Bool, true, false, if◌then◌else◌, inl, inr, List, [], ◌∷◌, ◌++◌, Option, Some, None, refl, sym, ap, ap₂, ◌∙◌, subst, append-nil}
-use Rattle.std.specs.Prelude.{IsSome, is_none}
-use Rattle.std.specs.List.{AllByRecursion, flat_map}
+use Rattle.std.proofs.Common.{◌≡◌, ◌⊎◌, ℕ, ◌&&◌, ◌||◌, Bool, true, false, if◌then◌else◌, inl, inr, List, [], ◌∷◌, ◌++◌, Option, Some, None, refl, sym, ap, ap₂, ◌∙◌, subst}
+use Rattle.std.specs.Prelude.{IsSome}
+use Rattle.std.specs.List.{flat_map}
 use Rattle.std.proofs.lemmas.Bool.{or_left, or_right}
 use Rattle.supervision.specs.Host.{open_session}
 use Rattle.chip_functions.specs.Field.{IsNode}
@@ -14,12 +14,12 @@ use Rattle.zw_text.specs.declared.entry.Entry.{Entry}
 use Rattle.zw_text.specs.declared.entry.Entry.TheVariants as entry
 use Rattle.zw_text.specs.Transcript.{sessions}
 use Rattle.law_transcript.specs.Lists.{EachAfter}
-use Rattle.law_transcript.specs.Units.{Carried, sending_in, sending_of}
-use Rattle.law_time.specs.Ends.{is_answered_here, is_ending_here, is_given_up, is_refused_here, is_silent, refuses}
+use Rattle.law_transcript.specs.Units.{Carried, sending_of}
+use Rattle.law_time.specs.Ends.{is_answered_here, is_ending_here, is_given_up, is_silent}
 use Rattle.law_time.specs.Interviews.{node_interviewed}
-use Rattle.law_time.specs.Judged.{judged_here, last_of, responses_here}
-use Rattle.law_time.specs.Requests.{asked, is_response_to, request_last}
-use Rattle.law_time.specs.Sessions.{is_open, last_command}
+use Rattle.law_time.specs.Judged.{last_of, responses_here}
+use Rattle.law_time.specs.Requests.{asked, request_last}
+use Rattle.law_time.specs.Sessions.{is_open}
 use Rattle.law_time.specs.Waking.{is_awake_sleeper, nodes_told}
 use Rattle.host_requests.specs.Frames.{request_of}
 use Rattle.host_requests.specs.declared.end.How.{How}
@@ -28,15 +28,15 @@ use Rattle.host_requests.specs.declared.task.Task.TheVariants.{Plain, Offer, Seg
 use Rattle.host_requests.specs.declared.task.Purpose.{Purpose}
 use Rattle.host_requests.specs.declared.task.Purpose.TheVariants.{Housekeeping, Attempt, Abort}
 use Rattle.host_node.specs.Facts.{NodeFacts}
-use Rattle.host_node.specs.State.{NodeState, is_open as has_open, is_running}
+use Rattle.host_node.specs.State.{is_open as has_open}
 use Rattle.host_node.specs.Steps.{attempt_end, falls_asleep, tick_end}
 use Rattle.host_node.specs.declared.attempt.AttemptEnd.{AttemptEnd}
 use Rattle.host_node.specs.declared.attempt.AttemptEnd.TheVariants.{NoneRan, Again, Unanswered}
 use Rattle.host_model.specs.State.{HostState, node_of}
 use Rattle.host_model.specs.Sessions.{open_command}
 use Rattle.host_model.specs.Ends.{PartEnd, Good, Passed_over, Bad, asleep_entry, attempt_entries, done_of, end_entries, failed_entry, neighbours_entry, out_entry, part_end, part_entries}
-use Rattle.proof_requests.specs.law_host.Ends.{answer_to, given_up_notes, sleep_note, sleep_notes}
-use Rattle.proof_requests.specs.Carrying.{CarriesSo, is_errand}
+use Rattle.proof_requests.specs.law_host.Ends.{answer_to, sleep_note, sleep_notes}
+use Rattle.proof_requests.specs.Carrying.{CarriesSo}
 use Rattle.proof_requests.specs.Ends.{EndsHere, TellsEnd}
 use Rattle.proof_requests.proofs.EndsDone.{ends_as_done}
 use Rattle.proof_requests.proofs.Interviews.{interviews_may}
@@ -44,7 +44,7 @@ use Rattle.proof_attempts.specs.Carried.{CarriesWell, nodes_of}
 use Rattle.proof_attempts.proofs.Opening.{OpenLast, open_last}
 use Rattle.proof_attempts.proofs.Releasing.{opens}
 use Rattle.proof_attempts.proofs.Sleeping.{EndSo, attempt_so, tick_so}
-use Rattle.proof_ends.specs.Ends.{AnswerNotes, DoneNotes, EndNotes, GivesUp, OutcomeNotes, Reads, has_ended_here, node_asked, nodes_asked}
+use Rattle.proof_ends.specs.Ends.{AnswerNotes, DoneNotes, GivesUp, Reads, has_ended_here, node_asked, nodes_asked}
 use Rattle.proof_ends.specs.Ends.Reads.{Ends, Gives_up, Passes}
 use Rattle.proof_ends.proofs.Standing.{nothing_read}
 
@@ -59,7 +59,7 @@ abbrev seconds_of : Purpose → List ℕ
 seconds_of (Housekeeping (Second n)) = n ∷ []
 seconds_of purpose = []
 
-asked_by : List Request → List ℕ
+abbrev asked_by : List Request → List ℕ
 asked_by requests = flat_map node_asked (flat_map sending_of requests)
 
 purpose_asks : (p : Purpose) (id : ℕ) → CarriesSo p → asked_by (request_of p id ∷ []) ≡ errands_of p
@@ -110,6 +110,14 @@ asleep_is : (b : Bool) (n : ℕ) → asleep_entry b n ≡ (if b then entry.Aslee
 asleep_is true n = refl
 asleep_is false n = refl
 
+-- what is known of a request that ends: it was asked, carries what it is for, and ends here where something is noted
+pub record EndOf (past told : List Entry) (id : ℕ) (p : Purpose) (how : How) : Type 0 where
+  pub request : request_last past ≡ request_of p id ∷ []
+  pub carries : CarriesSo p
+  pub well : CarriesWell p
+  pub tells_so : nodes_told (asked past).frame ≡ nodes_of p
+  pub ends : (e : Entry) (more : List Entry) → told ≡ e ∷ more → EndsHere past id p how
+
 module _ (past : List Entry) (g : HostState) (nodes : NodesSo past g) where
   sleep_is : (n : ℕ) → IsNode n → sleep_note past n ≡ asleep_entry (falls_asleep (node_of g n)) n
   sleep_is n is = ap (λ (b : Bool). if b then entry.Asleep n ∷ [] else []) (nodes.sleeper n is) ∙ sym (asleep_is (falls_asleep (node_of g n)) n)
@@ -143,15 +151,7 @@ module _ (past : List Entry) (g : HostState) (nodes : NodesSo past g) where
   -- ---- the request ends
 
   module _ (told : List Entry) (id : ℕ) (tells : EachAfter TellsEnd past told) where
-    -- what is known of it: it was asked, carries what it is for, and ends here where something is noted
-    pub record EndOf (p : Purpose) (how : How) : Type 0 where
-      pub request : request_last past ≡ request_of p id ∷ []
-      pub carries : CarriesSo p
-      pub well : CarriesWell p
-      pub tells_so : nodes_told (asked past).frame ≡ nodes_of p
-      pub ends : (e : Entry) (more : List Entry) → told ≡ e ∷ more → EndsHere past id p how
-
-    module _ (p : Purpose) (how : How) (end : EndOf p how) where
+    module _ (p : Purpose) (how : How) (end : EndOf past told id p how) where
       asks_so : nodes_asked past ≡ errands_of p
       asks_so = ap asked_by end.request ∙ purpose_asks p id end.carries
 
@@ -190,7 +190,7 @@ module _ (past : List Entry) (g : HostState) (nodes : NodesSo past g) where
           }) reads
 
     -- a Set or Get by itself
-    plain_end : (n : ℕ) (payload : List ℕ) (how : How) → EndOf (Housekeeping (Plain n payload)) how → told ≡ entry.Done n (done_of how) ∷ [] → Reads false past → Reads true (past ++ told)
+    plain_end : (n : ℕ) (payload : List ℕ) (how : How) → EndOf past told id (Housekeeping (Plain n payload)) how → told ≡ entry.Done n (done_of how) ∷ [] → Reads false past → Reads true (past ++ told)
     plain_end n payload how end are reads =
         let p : Purpose = Housekeeping (Plain n payload) in
         let e = end.ends (entry.Done n (done_of how)) [] are in
@@ -206,7 +206,7 @@ module _ (past : List Entry) (g : HostState) (nodes : NodesSo past g) where
         }) reads
 
     -- a node is told that there is no more for it
-    told_by : (n : ℕ) (how : How) (fell : Bool) → EndOf (Housekeeping (NoMore n)) how → falls_asleep (node_of g n) ≡ fell → told ≡ asleep_entry fell n → Reads false past → Reads true (past ++ told)
+    told_by : (n : ℕ) (how : How) (fell : Bool) → EndOf past told id (Housekeeping (NoMore n)) how → falls_asleep (node_of g n) ≡ fell → told ≡ asleep_entry fell n → Reads false past → Reads true (past ++ told)
     told_by n how false end is are reads = quiet_end (Housekeeping (NoMore n)) how end refl refl are reads
     told_by n how true end is are reads =
         let p : Purpose = Housekeeping (NoMore n) in
@@ -224,7 +224,7 @@ module _ (past : List Entry) (g : HostState) (nodes : NodesSo past g) where
         }) reads
 
     -- an interview fails
-    second_end : (n : ℕ) (how : How) → EndOf (Housekeeping (Second n)) how → told ≡ entry.InterviewFailed n ∷ [] → Reads false past → Reads true (past ++ told)
+    second_end : (n : ℕ) (how : How) → EndOf past told id (Housekeeping (Second n)) how → told ≡ entry.InterviewFailed n ∷ [] → Reads false past → Reads true (past ++ told)
     second_end n how end are reads =
         let p : Purpose = Housekeeping (Second n) in
         let one : TellsEnd past (entry.InterviewFailed n) = (subst (EachAfter TellsEnd past) are tells).0 in
@@ -232,7 +232,7 @@ module _ (past : List Entry) (g : HostState) (nodes : NodesSo past g) where
         (inr (n, interviews_so p how end, inr (interviews_may past (entry.InterviewFailed n) one, refl))) reads
 
     -- a question
-    neighbours_end : (n : ℕ) (how : How) → EndOf (Housekeeping (Neighbours n)) how → told ≡ neighbours_entry n how → Reads false past → Reads true (past ++ told)
+    neighbours_end : (n : ℕ) (how : How) → EndOf past told id (Housekeeping (Neighbours n)) how → told ≡ neighbours_entry n how → Reads false past → Reads true (past ++ told)
     neighbours_end n (AtResponse (responses.GetRoutingInfo list)) end are reads =
         let p : Purpose = Housekeeping (Neighbours n) in
         let how : How = AtResponse (responses.GetRoutingInfo list) in
@@ -242,7 +242,7 @@ module _ (past : List Entry) (g : HostState) (nodes : NodesSo past g) where
     neighbours_end n (AtResponse (responses.SendData answer)) end are reads = quiet_end (Housekeeping (Neighbours n)) _ end refl refl are reads
     neighbours_end n how end are reads = quiet_end (Housekeeping (Neighbours n)) how end refl refl are reads
 
-    failed_end : (n : ℕ) (how : How) → EndOf (Housekeeping (IsFailed n)) how → told ≡ failed_entry n how → Reads false past → Reads true (past ++ told)
+    failed_end : (n : ℕ) (how : How) → EndOf past told id (Housekeeping (IsFailed n)) how → told ≡ failed_entry n how → Reads false past → Reads true (past ++ told)
     failed_end n (AtResponse (responses.IsFailedNode has_failed)) end are reads =
         let p : Purpose = Housekeeping (IsFailed n) in
         let how : How = AtResponse (responses.IsFailedNode has_failed) in
@@ -252,7 +252,7 @@ module _ (past : List Entry) (g : HostState) (nodes : NodesSo past g) where
     failed_end n how end are reads = quiet_end (Housekeeping (IsFailed n)) how end refl refl are reads
 
     -- a part of an attempt
-    attempt_by : (n : ℕ) (more : Bool) (payload : List ℕ) (how : How) (over : AttemptEnd) → EndOf (Attempt n more payload) how → EndSo (node_of g n) over
+    attempt_by : (n : ℕ) (more : Bool) (payload : List ℕ) (how : How) (over : AttemptEnd) → EndOf past told id (Attempt n more payload) how → EndSo (node_of g n) over
         → told ≡ attempt_entries n over (open_command (node_of g n)) → Reads false past → Reads true (past ++ told)
     attempt_by n more payload how NoneRan end so are reads = quiet_end (Attempt n more payload) how end refl refl are reads
     attempt_by n more payload how Again end so are reads = quiet_end (Attempt n more payload) how end refl refl are reads
@@ -271,12 +271,12 @@ module _ (past : List Entry) (g : HostState) (nodes : NodesSo past g) where
           outcome_so = inr (carried, ap (λ (q : List Request). flat_map sending_of q) end.request, gives);
         }) reads
 
-    part_by : (n : ℕ) (more : Bool) (payload : List ℕ) (how : How) (part : PartEnd) → EndOf (Attempt n more payload) how → told ≡ part_entries g n part → Reads false past → Reads true (past ++ told)
+    part_by : (n : ℕ) (more : Bool) (payload : List ℕ) (how : How) (part : PartEnd) → EndOf past told id (Attempt n more payload) how → told ≡ part_entries g n part → Reads false past → Reads true (past ++ told)
     part_by n more payload how Good end are reads = quiet_end (Attempt n more payload) how end refl refl are reads
     part_by n more payload how Passed_over end are reads = quiet_end (Attempt n more payload) how end refl refl are reads
     part_by n more payload how Bad end are reads = attempt_by n more payload how (attempt_end (node_of g n)) end (attempt_so (node_of g n)) are reads
 
-    pub end_reads : (p : Purpose) (how : How) → EndOf p how → told ≡ end_entries g (record { purpose = p; how = how }) → Reads false past → Reads true (past ++ told)
+    pub end_reads : (p : Purpose) (how : How) → EndOf past told id p how → told ≡ end_entries g (record { purpose = p; how = how }) → Reads false past → Reads true (past ++ told)
     end_reads (Attempt n more payload) how end are reads = part_by n more payload how (part_end more how) end are reads
     end_reads (Housekeeping (Plain n payload)) how end are reads = plain_end n payload how end are reads
     end_reads (Housekeeping (NoMore n)) how end are reads = told_by n how (falls_asleep (node_of g n)) end refl are reads
@@ -287,7 +287,7 @@ module _ (past : List Entry) (g : HostState) (nodes : NodesSo past g) where
     end_reads Abort how end are reads = quiet_end Abort how end refl refl are reads
 
     -- an interview whose information came, whether that is kept or not
-    pub interview_reads : (n basic generic specific : ℕ) (classes : List ℕ) (capability : ℕ) → EndOf (Housekeeping (Second n)) (AtUpdate (Received n basic generic specific classes) (Some capability))
+    pub interview_reads : (n basic generic specific : ℕ) (classes : List ℕ) (capability : ℕ) → EndOf past told id (Housekeeping (Second n)) (AtUpdate (Received n basic generic specific classes) (Some capability))
         → (told ≡ entry.Interviewed n ∷ []) ⊎ (told ≡ entry.Unkept n ∷ []) → Reads false past → Reads true (past ++ told)
     interview_reads n basic generic specific classes capability end are reads = by are
       where

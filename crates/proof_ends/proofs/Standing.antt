@@ -4,13 +4,11 @@ use Rattle.std.specs.List.{AllByRecursion}
 use Rattle.std.proofs.lemmas.Bool.{and_from, and_left, or_right}
 use Rattle.zw_base.proofs.Each.{all-append, all-weaker}
 use Rattle.zw_base.specs.declared.property.Setting.{Setting}
-use Rattle.serial_frame.specs.declared.item.Item.{Item}
-use Rattle.serial_frame.specs.declared.unit.TheConstants.{ACK, NAK}
 use Rattle.zw_words.specs.declared.side.Side.TheVariants.{Host, Chip}
 use Rattle.zw_text.specs.declared.entry.Entry.{Entry}
 use Rattle.zw_text.specs.declared.entry.Entry.TheVariants as entry
 use Rattle.law_time.specs.Judged.{is_data}
-use Rattle.law_time.specs.Requests.{asked, is_copy, is_new}
+use Rattle.law_time.specs.Requests.{asked, is_copy}
 use Rattle.host_keep.specs.declared.final_status.FinalStatus.{FinalStatus}
 use Rattle.host_keep.specs.declared.final_status.FinalStatus.TheVariants as final
 use Rattle.host_model.specs.State.{HostState, command_at}
