@@ -44,9 +44,7 @@ use Rattle.proof_attempts.specs.Carried.{CarriesWell, nodes_of}
 use Rattle.proof_attempts.proofs.Opening.{OpenLast, open_last}
 use Rattle.proof_attempts.proofs.Releasing.{opens}
 use Rattle.proof_attempts.proofs.Sleeping.{EndSo, attempt_so, tick_so}
-use Rattle.proof_ends.specs.Ends.{AnswerNotes, DoneNotes, GivesUp, Reads, has_ended_here, node_asked, nodes_asked}
-use Rattle.proof_ends.specs.Ends.Reads.{Ends, Gives_up, Passes}
-use Rattle.proof_ends.proofs.Standing.{nothing_read}
+use Rattle.proof_ends.specs.Ends.{AnswerNotes, DoneNotes, EndNotes, GivesUp, IsUntold, node_asked, nodes_asked}
 
 -- ---- what a request is, by its purpose
 
@@ -86,17 +84,35 @@ second_of false b is = absurd (let bad : false ≡ true = is in cc)
 answered_ends : (past : List Entry) → is_answered_here past ≡ true → is_ending_here past ≡ true
 answered_ends past is = second_of _ (is_ending_here past) is
 
-by_frame : (past : List Entry) → is_ending_here past ≡ true → has_ended_here past ≡ true
-by_frame past is = or_left (is_ending_here past || is_silent past) (is_given_up past) (or_left (is_ending_here past) (is_silent past) is)
+-- in which ways it ends outside of a tick, and in one
+abbrev pub IsLoud : How → Type 0
+IsLoud Silent = ⊥
+IsLoud how = Unit {0}
 
-pub ended_so : (past : List Entry) (id : ℕ) (p : Purpose) (how : How) → (p ≡ Abort → ⊥) → EndsHere past id p how → has_ended_here past ≡ true
-ended_so past id p (AtCallback status) other e = by_frame past e.so.2
-ended_so past id p (AtResponse response) other e = by_frame past (answered_ends past e.so.3)
-ended_so past id p (AtUpdate update first) other e = by_frame past e.so.2
-ended_so past id p Refused other e = by_frame past (answered_ends past (second_of _ (is_answered_here past) e.so.1))
-ended_so past id p Silent other e = or_left (is_ending_here past || is_silent past) (is_given_up past) (or_right (is_ending_here past) (is_silent past) e.so)
-ended_so past id p LinkFailed other e = or_right (is_ending_here past || is_silent past) (is_given_up past) e.so
-ended_so past id p AbortSent other e = absurd (other e.so)
+abbrev pub IsLate : How → Type 0
+IsLate Silent = Unit {0}
+IsLate LinkFailed = Unit {0}
+IsLate how = ⊥
+
+abbrev ends_now : List Entry → Bool
+ends_now past = is_ending_here past || is_given_up past
+
+by_frame : (past : List Entry) → is_ending_here past ≡ true → ends_now past ≡ true
+by_frame past is = or_left (is_ending_here past) (is_given_up past) is
+
+pub loud_so : (past : List Entry) (id : ℕ) (p : Purpose) (how : How) → (p ≡ Abort → ⊥) → IsLoud how → EndsHere past id p how → (is_ending_here past || is_given_up past) ≡ true
+loud_so past id p (AtCallback status) other loud e = by_frame past e.so.2
+loud_so past id p (AtResponse response) other loud e = by_frame past (answered_ends past e.so.3)
+loud_so past id p (AtUpdate update first) other loud e = by_frame past e.so.2
+loud_so past id p Refused other loud e = by_frame past (answered_ends past (second_of _ (is_answered_here past) e.so.1))
+loud_so past id p Silent other loud e = absurd loud
+loud_so past id p LinkFailed other loud e = or_right (is_ending_here past) (is_given_up past) e.so
+loud_so past id p AbortSent other loud e = absurd (other e.so)
+
+pub late_so : (past : List Entry) (id : ℕ) (p : Purpose) (how : How) → IsLate how → EndsHere past id p how → (is_silent past || is_given_up past) ≡ true
+late_so past id p Silent late e = or_left (is_silent past) (is_given_up past) e.so
+late_so past id p LinkFailed late e = or_right (is_silent past) (is_given_up past) e.so
+late_so past id p how late e = absurd late
 
 -- ---- the nodes of a host and its transcript
 
@@ -109,6 +125,13 @@ pub record NodesSo (past : List Entry) (g : HostState) : Type 0 where
 asleep_is : (b : Bool) (n : ℕ) → asleep_entry b n ≡ (if b then entry.Asleep n ∷ [] else [])
 asleep_is true n = refl
 asleep_is false n = refl
+
+-- all notes of the end of a request, which is no abort then; or it has none
+abbrev pub Noted : List Entry → List Entry → ℕ → Purpose → How → Type 0
+Noted past told id p how = (EndNotes past told × (told ≡ [] → ⊥) × (p ≡ Abort → ⊥) × EndsHere past id p how) ⊎ ((told ≡ []) × IsUntold past)
+
+not_none : (told more : List Entry) (e : Entry) → told ≡ e ∷ more → told ≡ [] → ⊥
+not_none told more e are none = let bad : e ∷ more ≡ [] = sym are ∙ none in cc
 
 -- what is known of a request that ends: it was asked, carries what it is for, and ends here where something is noted
 pub record EndOf (past told : List Entry) (id : ℕ) (p : Purpose) (how : How) : Type 0 where
@@ -139,14 +162,13 @@ module _ (past : List Entry) (g : HostState) (nodes : NodesSo past g) where
   gives_up_so told n fell is so are = opened_up told n fell is so.0 (opens (node_of g n).series (node_of g n) (nodes.facts n).series so.1) (open_last (node_of g n)) are
 
   -- in its tick
-  ticked_by : (over : Bool) (told : List Entry) (n : ℕ) (end : AttemptEnd) → IsNode n → EndSo (node_of g n) end → told ≡ attempt_entries n end (open_command (node_of g n)) → Reads over past
-      → Reads over (past ++ told)
-  ticked_by over told n NoneRan is so are reads = nothing_read over past told are reads
-  ticked_by over told n Again is so are reads = nothing_read over past told are reads
-  ticked_by over told n (Unanswered fell) is so are reads = Gives_up n told refl (gives_up_so told n fell is so are) reads
+  ticked_by : (told : List Entry) (n : ℕ) (end : AttemptEnd) → IsNode n → EndSo (node_of g n) end → told ≡ attempt_entries n end (open_command (node_of g n)) → (told ≡ []) ⊎ GivesUp past n told
+  ticked_by told n NoneRan is so are = inl are
+  ticked_by told n Again is so are = inl are
+  ticked_by told n (Unanswered fell) is so are = inr (gives_up_so told n fell is so are)
 
-  pub node_reads : (over : Bool) (told : List Entry) (n : ℕ) → IsNode n → told ≡ attempt_entries n (tick_end (node_of g n)) (open_command (node_of g n)) → Reads over past → Reads over (past ++ told)
-  node_reads over told n is are reads = ticked_by over told n (tick_end (node_of g n)) is (tick_so (node_of g n)) are reads
+  pub node_noted : (told : List Entry) (n : ℕ) → IsNode n → told ≡ attempt_entries n (tick_end (node_of g n)) (open_command (node_of g n)) → (told ≡ []) ⊎ GivesUp past n told
+  node_noted told n is are = ticked_by told n (tick_end (node_of g n)) is (tick_so (node_of g n)) are
 
   -- ---- the request ends
 
@@ -159,8 +181,8 @@ module _ (past : List Entry) (g : HostState) (nodes : NodesSo past g) where
       interviews_so = ap node_interviewed end.request ∙ purpose_interviews p id
 
       -- of which nothing is noted
-      quiet_end : errands_of p ≡ [] → seconds_of p ≡ [] → told ≡ [] → Reads false past → Reads true (past ++ told)
-      quiet_end errands seconds none reads = nothing_read true past told none (Passes (asks_so ∙ errands, interviews_so ∙ seconds) reads)
+      quiet_end : errands_of p ≡ [] → seconds_of p ≡ [] → told ≡ [] → Noted past told id p how
+      quiet_end errands seconds none = inr (none, (asks_so ∙ errands, interviews_so ∙ seconds))
 
       no_sleep : nodes_of p ≡ [] → sleep_notes past ≡ []
       no_sleep none = ap (λ (l : List ℕ). flat_map (sleep_note past) l) (end.tells_so ∙ none)
@@ -172,124 +194,118 @@ module _ (past : List Entry) (g : HostState) (nodes : NodesSo past g) where
       no_answer : seconds_of p ≡ [] → answer_to (request_of p id ∷ []) (responses_here past) ≡ [] → AnswerNotes past []
       no_answer seconds none = inl (interviews_so ∙ seconds, sym (ap (λ (q : List Request). answer_to q (responses_here past)) end.request ∙ none))
 
-      ended_here : (e : Entry) (more : List Entry) → told ≡ e ∷ more → (p ≡ Abort → ⊥) → has_ended_here past ≡ true
-      ended_here e more are other = ended_so past id p how other (end.ends e more are)
-
       -- of which one entry answers
-      answered_end : (e : Entry) → told ≡ e ∷ [] → errands_of p ≡ [] → nodes_of p ≡ [] → (p ≡ Abort → ⊥) → AnswerNotes past (e ∷ []) → Reads false past → Reads true (past ++ told)
-      answered_end e are errands untold other answer reads =
-          Ends told refl (record {
+      answered_end : (e : Entry) → told ≡ e ∷ [] → errands_of p ≡ [] → nodes_of p ≡ [] → (p ≡ Abort → ⊥) → AnswerNotes past (e ∷ []) → Noted past told id p how
+      answered_end e are errands untold other answer =
+          inl (record {
             done = [];
             answer = e ∷ [];
             outcome = [];
             are = are ∙ ap (λ (l : List Entry). l ++ e ∷ []) (sym (no_sleep untold));
-            ended = ended_here e [] are other;
             done_so = none_asked errands;
             answer_so = answer;
             outcome_so = inl refl;
-          }) reads
+          }, not_none told [] e are, other, end.ends e [] are)
 
     -- a Set or Get by itself
-    plain_end : (n : ℕ) (payload : List ℕ) (how : How) → EndOf past told id (Housekeeping (Plain n payload)) how → told ≡ entry.Done n (done_of how) ∷ [] → Reads false past → Reads true (past ++ told)
-    plain_end n payload how end are reads =
+    plain_end : (n : ℕ) (payload : List ℕ) (how : How) → EndOf past told id (Housekeeping (Plain n payload)) how → told ≡ entry.Done n (done_of how) ∷ [] → Noted past told id (Housekeeping (Plain n payload)) how
+    plain_end n payload how end are =
         let p : Purpose = Housekeeping (Plain n payload) in
         let e = end.ends (entry.Done n (done_of how)) [] are in
-        Ends told refl (record {
+        inl (record {
           done = entry.Done n (done_of how) ∷ [];
           answer = [];
           outcome = [];
           are = are ∙ ap (λ (l : List Entry). entry.Done n (done_of how) ∷ (l ++ [])) (sym (no_sleep p how end refl));
-          ended = ended_so past id p how (λ (is : p ≡ Abort). let bad = is in cc) e;
           done_so = inr (n, done_of how, asks_so p how end, ends_as_done past id p how refl e, refl);
           answer_so = no_answer p how end refl refl;
           outcome_so = inl refl;
-        }) reads
+        }, not_none told [] (entry.Done n (done_of how)) are, (λ (is : p ≡ Abort). let bad = is in cc), e)
 
     -- a node is told that there is no more for it
-    told_by : (n : ℕ) (how : How) (fell : Bool) → EndOf past told id (Housekeeping (NoMore n)) how → falls_asleep (node_of g n) ≡ fell → told ≡ asleep_entry fell n → Reads false past → Reads true (past ++ told)
-    told_by n how false end is are reads = quiet_end (Housekeeping (NoMore n)) how end refl refl are reads
-    told_by n how true end is are reads =
+    told_by : (n : ℕ) (how : How) (fell : Bool) → EndOf past told id (Housekeeping (NoMore n)) how → falls_asleep (node_of g n) ≡ fell → told ≡ asleep_entry fell n → Noted past told id (Housekeeping (NoMore n)) how
+    told_by n how false end is are = quiet_end (Housekeeping (NoMore n)) how end refl refl are
+    told_by n how true end is are =
         let p : Purpose = Housekeeping (NoMore n) in
         let sleeps : sleep_notes past ≡ entry.Asleep n ∷ [] =
         ap (λ (l : List ℕ). flat_map (sleep_note past) l) end.tells_so ∙ ap (λ (l : List Entry). l ++ []) (sleep_is n end.well ∙ ap (λ (b : Bool). asleep_entry b n) is) in
-        Ends told refl (record {
+        inl (record {
           done = [];
           answer = [];
           outcome = [];
           are = are ∙ ap (λ (l : List Entry). l ++ []) (sym sleeps);
-          ended = ended_here p how end (entry.Asleep n) [] are (λ (is : p ≡ Abort). let bad = is in cc);
           done_so = none_asked p how end refl;
           answer_so = no_answer p how end refl refl;
           outcome_so = inl refl;
-        }) reads
+        }, not_none told [] (entry.Asleep n) are, (λ (is : p ≡ Abort). let bad = is in cc), end.ends (entry.Asleep n) [] are)
 
     -- an interview fails
-    second_end : (n : ℕ) (how : How) → EndOf past told id (Housekeeping (Second n)) how → told ≡ entry.InterviewFailed n ∷ [] → Reads false past → Reads true (past ++ told)
-    second_end n how end are reads =
+    second_end : (n : ℕ) (how : How) → EndOf past told id (Housekeeping (Second n)) how → told ≡ entry.InterviewFailed n ∷ [] → Noted past told id (Housekeeping (Second n)) how
+    second_end n how end are =
         let p : Purpose = Housekeeping (Second n) in
         let one : TellsEnd past (entry.InterviewFailed n) = (subst (EachAfter TellsEnd past) are tells).0 in
         answered_end p how end (entry.InterviewFailed n) are refl refl (λ (is : p ≡ Abort). let bad = is in cc)
-        (inr (n, interviews_so p how end, inr (interviews_may past (entry.InterviewFailed n) one, refl))) reads
+        (inr (n, interviews_so p how end, inr (interviews_may past (entry.InterviewFailed n) one, refl)))
 
     -- a question
-    neighbours_end : (n : ℕ) (how : How) → EndOf past told id (Housekeeping (Neighbours n)) how → told ≡ neighbours_entry n how → Reads false past → Reads true (past ++ told)
-    neighbours_end n (AtResponse (responses.GetRoutingInfo list)) end are reads =
+    neighbours_end : (n : ℕ) (how : How) → EndOf past told id (Housekeeping (Neighbours n)) how → told ≡ neighbours_entry n how → Noted past told id (Housekeeping (Neighbours n)) how
+    neighbours_end n (AtResponse (responses.GetRoutingInfo list)) end are =
         let p : Purpose = Housekeeping (Neighbours n) in
         let how : How = AtResponse (responses.GetRoutingInfo list) in
         let e = end.ends (entry.Neighbours n list) [] are in
         answered_end p how end (entry.Neighbours n list) are refl refl (λ (is : p ≡ Abort). let bad = is in cc)
-        (inl (interviews_so p how end, sym (ap₂ (λ (q : List Request) (l : List Response). answer_to q l) end.request e.so.2))) reads
-    neighbours_end n (AtResponse (responses.SendData answer)) end are reads = quiet_end (Housekeeping (Neighbours n)) _ end refl refl are reads
-    neighbours_end n how end are reads = quiet_end (Housekeeping (Neighbours n)) how end refl refl are reads
+        (inl (interviews_so p how end, sym (ap₂ (λ (q : List Request) (l : List Response). answer_to q l) end.request e.so.2)))
+    neighbours_end n (AtResponse (responses.SendData answer)) end are = quiet_end (Housekeeping (Neighbours n)) _ end refl refl are
+    neighbours_end n how end are = quiet_end (Housekeeping (Neighbours n)) how end refl refl are
 
-    failed_end : (n : ℕ) (how : How) → EndOf past told id (Housekeeping (IsFailed n)) how → told ≡ failed_entry n how → Reads false past → Reads true (past ++ told)
-    failed_end n (AtResponse (responses.IsFailedNode has_failed)) end are reads =
+    failed_end : (n : ℕ) (how : How) → EndOf past told id (Housekeeping (IsFailed n)) how → told ≡ failed_entry n how → Noted past told id (Housekeeping (IsFailed n)) how
+    failed_end n (AtResponse (responses.IsFailedNode has_failed)) end are =
         let p : Purpose = Housekeeping (IsFailed n) in
         let how : How = AtResponse (responses.IsFailedNode has_failed) in
         let e = end.ends (entry.Failed n has_failed) [] are in
         answered_end p how end (entry.Failed n has_failed) are refl refl (λ (is : p ≡ Abort). let bad = is in cc)
-        (inl (interviews_so p how end, sym (ap₂ (λ (q : List Request) (l : List Response). answer_to q l) end.request e.so.2))) reads
-    failed_end n how end are reads = quiet_end (Housekeeping (IsFailed n)) how end refl refl are reads
+        (inl (interviews_so p how end, sym (ap₂ (λ (q : List Request) (l : List Response). answer_to q l) end.request e.so.2)))
+    failed_end n how end are = quiet_end (Housekeeping (IsFailed n)) how end refl refl are
 
     -- a part of an attempt
     attempt_by : (n : ℕ) (more : Bool) (payload : List ℕ) (how : How) (over : AttemptEnd) → EndOf past told id (Attempt n more payload) how → EndSo (node_of g n) over
-        → told ≡ attempt_entries n over (open_command (node_of g n)) → Reads false past → Reads true (past ++ told)
-    attempt_by n more payload how NoneRan end so are reads = quiet_end (Attempt n more payload) how end refl refl are reads
-    attempt_by n more payload how Again end so are reads = quiet_end (Attempt n more payload) how end refl refl are reads
-    attempt_by n more payload how (Unanswered fell) end so are reads =
+        → told ≡ attempt_entries n over (open_command (node_of g n)) → Noted past told id (Attempt n more payload) how
+    attempt_by n more payload how NoneRan end so are = quiet_end (Attempt n more payload) how end refl refl are
+    attempt_by n more payload how Again end so are = quiet_end (Attempt n more payload) how end refl refl are
+    attempt_by n more payload how (Unanswered fell) end so are =
         let p : Purpose = Attempt n more payload in
         let gives : GivesUp past n told = gives_up_so told n fell end.well.0 so are in
         let carried : Carried = record { node = n; payload = payload } in
-        Ends told refl (record {
+        inl (record {
           done = [];
           answer = [];
           outcome = told;
           are = ap (λ (l : List Entry). l ++ told) (sym (no_sleep p how end refl));
-          ended = ended_here p how end (entry.Out gives.1 ended.Unanswered) (sleep_note past n) gives.3 (λ (is : p ≡ Abort). let bad = is in cc);
           done_so = none_asked p how end refl;
           answer_so = no_answer p how end refl refl;
           outcome_so = inr (carried, ap (λ (q : List Request). flat_map sending_of q) end.request, gives);
-        }) reads
+        }, not_none told (sleep_note past n) (entry.Out gives.1 ended.Unanswered) gives.3, (λ (is : p ≡ Abort). let bad = is in cc),
+        end.ends (entry.Out gives.1 ended.Unanswered) (sleep_note past n) gives.3)
 
-    part_by : (n : ℕ) (more : Bool) (payload : List ℕ) (how : How) (part : PartEnd) → EndOf past told id (Attempt n more payload) how → told ≡ part_entries g n part → Reads false past → Reads true (past ++ told)
-    part_by n more payload how Good end are reads = quiet_end (Attempt n more payload) how end refl refl are reads
-    part_by n more payload how Passed_over end are reads = quiet_end (Attempt n more payload) how end refl refl are reads
-    part_by n more payload how Bad end are reads = attempt_by n more payload how (attempt_end (node_of g n)) end (attempt_so (node_of g n)) are reads
+    part_by : (n : ℕ) (more : Bool) (payload : List ℕ) (how : How) (part : PartEnd) → EndOf past told id (Attempt n more payload) how → told ≡ part_entries g n part → Noted past told id (Attempt n more payload) how
+    part_by n more payload how Good end are = quiet_end (Attempt n more payload) how end refl refl are
+    part_by n more payload how Passed_over end are = quiet_end (Attempt n more payload) how end refl refl are
+    part_by n more payload how Bad end are = attempt_by n more payload how (attempt_end (node_of g n)) end (attempt_so (node_of g n)) are
 
-    pub end_reads : (p : Purpose) (how : How) → EndOf past told id p how → told ≡ end_entries g (record { purpose = p; how = how }) → Reads false past → Reads true (past ++ told)
-    end_reads (Attempt n more payload) how end are reads = part_by n more payload how (part_end more how) end are reads
-    end_reads (Housekeeping (Plain n payload)) how end are reads = plain_end n payload how end are reads
-    end_reads (Housekeeping (NoMore n)) how end are reads = told_by n how (falls_asleep (node_of g n)) end refl are reads
-    end_reads (Housekeeping (Second n)) how end are reads = second_end n how end are reads
-    end_reads (Housekeeping (Neighbours n)) how end are reads = neighbours_end n how end are reads
-    end_reads (Housekeeping (IsFailed n)) how end are reads = failed_end n how end are reads
-    end_reads (Housekeeping task) how end are reads = quiet_end (Housekeeping task) how end refl refl are reads
-    end_reads Abort how end are reads = quiet_end Abort how end refl refl are reads
+    pub end_noted : (p : Purpose) (how : How) → EndOf past told id p how → told ≡ end_entries g (record { purpose = p; how = how }) → Noted past told id p how
+    end_noted (Attempt n more payload) how end are = part_by n more payload how (part_end more how) end are
+    end_noted (Housekeeping (Plain n payload)) how end are = plain_end n payload how end are
+    end_noted (Housekeeping (NoMore n)) how end are = told_by n how (falls_asleep (node_of g n)) end refl are
+    end_noted (Housekeeping (Second n)) how end are = second_end n how end are
+    end_noted (Housekeeping (Neighbours n)) how end are = neighbours_end n how end are
+    end_noted (Housekeeping (IsFailed n)) how end are = failed_end n how end are
+    end_noted (Housekeeping task) how end are = quiet_end (Housekeeping task) how end refl refl are
+    end_noted Abort how end are = quiet_end Abort how end refl refl are
 
     -- an interview whose information came, whether that is kept or not
-    pub interview_reads : (n basic generic specific : ℕ) (classes : List ℕ) (capability : ℕ) → EndOf past told id (Housekeeping (Second n)) (AtUpdate (Received n basic generic specific classes) (Some capability))
-        → (told ≡ entry.Interviewed n ∷ []) ⊎ (told ≡ entry.Unkept n ∷ []) → Reads false past → Reads true (past ++ told)
-    interview_reads n basic generic specific classes capability end are reads = by are
+    pub interview_noted : (n basic generic specific : ℕ) (classes : List ℕ) (capability : ℕ) → EndOf past told id (Housekeeping (Second n)) (AtUpdate (Received n basic generic specific classes) (Some capability))
+        → (told ≡ entry.Interviewed n ∷ []) ⊎ (told ≡ entry.Unkept n ∷ []) → Noted past told id (Housekeeping (Second n)) (AtUpdate (Received n basic generic specific classes) (Some capability))
+    interview_noted n basic generic specific classes capability end are = by are
       where
         how : How
         how = AtUpdate (Received n basic generic specific classes) (Some capability)
@@ -297,15 +313,15 @@ module _ (past : List Entry) (g : HostState) (nodes : NodesSo past g) where
         p : Purpose
         p = Housekeeping (Second n)
 
-        well : (e : Entry) → told ≡ e ∷ [] → Reads false past → (AnswerNotes past (e ∷ [])) → Reads true (past ++ told)
-        well e is reads answer = answered_end p how end e is refl refl (λ (same : p ≡ Abort). let bad = same in cc) answer reads
+        well : (e : Entry) → told ≡ e ∷ [] → AnswerNotes past (e ∷ []) → Noted past told id p how
+        well e is answer = answered_end p how end e is refl refl (λ (same : p ≡ Abort). let bad = same in cc) answer
 
-        by : (told ≡ entry.Interviewed n ∷ []) ⊎ (told ≡ entry.Unkept n ∷ []) → Reads true (past ++ told)
+        by : (told ≡ entry.Interviewed n ∷ []) ⊎ (told ≡ entry.Unkept n ∷ []) → Noted past told id p how
         by (inl is) =
             let e = end.ends (entry.Interviewed n) [] is in
-            well (entry.Interviewed n) is reads
+            well (entry.Interviewed n) is
             (inr (n, interviews_so p how end, inl (interviews_may past (entry.Interviewed n) ((basic, generic, specific), classes, capability, (id, e)), inl refl)))
         by (inr is) =
             let e = end.ends (entry.Unkept n) [] is in
-            well (entry.Unkept n) is reads
+            well (entry.Unkept n) is
             (inr (n, interviews_so p how end, inl (interviews_may past (entry.Interviewed n) ((basic, generic, specific), classes, capability, (id, e)), inr refl)))

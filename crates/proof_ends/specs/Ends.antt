@@ -1,6 +1,6 @@
 -- What a host notes of the ends of its requests, in full and in order (Serial API: a request, its response and its callback; Wake Up Command Class; which notes come of which end is this project's own
 -- rule): the notes of an end stand together, once, in the order errand, sleep, answer or interview, outcome; so does what is noted of a command that is given up; and no such note stands elsewhere.
-use Rattle.std.specs.Prelude.{◌≡◌, ◌⊎◌, ℕ, ◌&&◌, ◌||◌, not, Bool, true, false, if◌then◌else◌, List, [], ◌∷◌, ◌++◌}
+use Rattle.std.specs.Prelude.{◌≡◌, ◌⊎◌, ◌<◌, ℕ, ◌&&◌, ◌||◌, not, Bool, true, false, if◌then◌else◌, List, [], ◌∷◌, ◌++◌}
 use Rattle.std.specs.List.{flat_map}
 use Rattle.zw_words.specs.declared.side.Side.TheVariants.{Host}
 use Rattle.zw_text.specs.declared.entry.Done.{Done as HowDone}
@@ -8,16 +8,17 @@ use Rattle.zw_text.specs.declared.entry.Ended.TheVariants.{Unanswered}
 use Rattle.zw_text.specs.declared.entry.Refusal.{Refusal}
 use Rattle.zw_text.specs.declared.entry.Entry.{Entry}
 use Rattle.zw_text.specs.declared.entry.Entry.TheVariants.{Said, Refused, Written, Out, Asleep, Interviewed, InterviewFailed, Done, Neighbours, Failed, Unkept, Time}
-use Rattle.zw_text.specs.Transcript.{line_last, line_of}
+use Rattle.zw_text.specs.Transcript.{folded, line_last, line_of}
 use Rattle.law_transcript.specs.Restarts.{is_restart}
 use Rattle.law_transcript.specs.Units.{Carried, sending_in}
 use Rattle.law_time.specs.Moments.{now_at}
-use Rattle.law_time.specs.Judged.{responses_here}
+use Rattle.law_time.specs.Judged.{is_data, is_mark, responses_here}
 use Rattle.law_time.specs.Requests.{asked, is_new, request_last}
 use Rattle.law_time.specs.Ends.{ends_here, has_ended, is_ending_here, is_given_up, is_silent}
 use Rattle.law_time.specs.Interviews.{fails, node_interviewed, succeeds}
 use Rattle.law_time.specs.Sessions.{is_open, last_command}
 use Rattle.proof_requests.specs.law_host.Ends.{answer_to, given_up_notes, sleep_notes}
+use Rattle.proof_requests.specs.law_host.Heard.{is_of_outside}
 use Rattle.proof_requests.specs.Carrying.{is_errand}
 
 -- ---- what an end has noted
@@ -55,17 +56,12 @@ GivesUp past node some = (is_open node past ≡ true) × (command : ℕ) × (las
 abbrev pub OutcomeNotes : List Entry → List Entry → Type 0
 OutcomeNotes past some = (some ≡ []) ⊎ ((carried : Carried) × (sending_in (asked past).frame ≡ carried ∷ []) × GivesUp past carried.node some)
 
--- the last request ends here: by a frame, in silence, or since the line gives it up
-abbrev pub has_ended_here : List Entry → Bool
-has_ended_here past = is_ending_here past || is_silent past || is_given_up past
-
 -- all that this has noted, in order
 pub record EndNotes (past notes : List Entry) : Type 0 where
   pub done : List Entry
   pub answer : List Entry
   pub outcome : List Entry
   pub are : notes ≡ done ++ (sleep_notes past ++ (answer ++ outcome))
-  pub ended : has_ended_here past ≡ true
   pub done_so : DoneNotes past done
   pub answer_so : AnswerNotes past answer
   pub outcome_so : OutcomeNotes past outcome
@@ -104,17 +100,36 @@ is_late past entry = false
 abbrev pub may_stand : Bool → List Entry → Entry → Bool
 may_stand over past entry = not (is_of_end entry) && not (is_turn past entry) && (over || not (is_late past entry))
 
+-- ---- in a tick
+
+-- since the number of the tick the host has written copies at most: else there are entries of others and of the chip
+abbrev pub ticking_step : Bool → Entry → Bool
+ticking_step ticking (Time tick) = true
+ticking_step ticking (Written Host unit) = ticking && is_data unit
+ticking_step ticking entry = ticking && (is_of_outside entry || is_mark entry)
+
+abbrev pub is_ticking : List Entry → Bool
+is_ticking past = folded ticking_step false past
+
+-- the commands of nodes are given up one after another, in the order of the numbers of the nodes, up to this one
+pub data GiveUps (past : List Entry) : (last : ℕ) (notes : List Entry) → Type 0 where
+  None_yet : GiveUps past 0 []
+  One_more : {last : ℕ} {notes all : List Entry} → (node : ℕ) → (some : List Entry) → all ≡ notes ++ some → last < node → GivesUp (past ++ notes) node some → GiveUps past last notes →
+      GiveUps past node all
+
 -- ---- the reading of a transcript
 
--- Whether the last request is over, and what was read so far: other entries; a new request, where the last one is over; all notes of its end, or that its end has none; a command that is given up; the
--- words that start the host again, and those that are refused.
+-- Whether the last request is over, and what was read so far: other entries; a new request, where the last one is over; all notes of its end by a frame or by the line, or that its end has none; of the
+-- host's own part of a tick the commands that are given up, and those after the notes of an end; the words that start the host again, and those that are refused.
 pub data Reads : (over : Bool) (told : List Entry) → Type 0 where
   Starts : Reads true []
   Stands : {over : Bool} {past all : List Entry} → (entry : Entry) → all ≡ past ++ entry ∷ [] → may_stand over past entry ≡ true → Reads over past → Reads over all
   Asks : {past all : List Entry} → (unit : List ℕ) → all ≡ past ++ Written Host unit ∷ [] → is_new (asked past) unit ≡ true → Reads true past → Reads false all
-  Ends : {past all : List Entry} → (notes : List Entry) → all ≡ past ++ notes → EndNotes past notes → Reads false past → Reads true all
+  Ends : {past all : List Entry} → (notes : List Entry) → all ≡ past ++ notes → EndNotes past notes → (is_ending_here past || is_given_up past) ≡ true → Reads false past → Reads true all
   Passes : {told : List Entry} → IsUntold told → Reads false told → Reads true told
-  Gives_up : {over : Bool} {past all : List Entry} → (node : ℕ) → (notes : List Entry) → all ≡ past ++ notes → GivesUp past node notes → Reads over past → Reads over all
+  Ticks : {over : Bool} {past all : List Entry} → (last : ℕ) → (notes : List Entry) → all ≡ past ++ notes → is_ticking past ≡ true → GiveUps past last notes → Reads over past → Reads over all
+  Ticks_late : {past all : List Entry} → (last : ℕ) → (ending notes : List Entry) → all ≡ (past ++ ending) ++ notes → is_ticking past ≡ true → EndNotes past ending →
+      (is_silent past || is_given_up past) ≡ true → GiveUps (past ++ ending) last notes → Reads false past → Reads true all
   Restarts : {over : Bool} {past all : List Entry} → (words : List ℕ) → all ≡ past ++ Said words ∷ [] → is_restart (line_of (Said words)) ≡ true →
       (over || not (is_late past (Said words))) ≡ true → Reads over past → Reads true all
   Refuses : {over : Bool} {past all : List Entry} → (words : List ℕ) → (refusal : Refusal) → all ≡ past ++ Said words ∷ (Refused refusal ∷ []) → is_restart (line_of (Said words)) ≡ true →
