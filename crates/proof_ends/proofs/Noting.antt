@@ -1,12 +1,15 @@
 -- What a host notes where its request ends, and where a node has had its third attempt, is what the transcript has for that end.
-use Rattle.std.proofs.Common.{◌≡◌, ◌⊎◌, ℕ, ◌&&◌, ◌||◌, Bool, true, false, if◌then◌else◌, inl, inr, List, [], ◌∷◌, ◌++◌, Option, Some, None, refl, sym, ap, ap₂, ◌∙◌, subst}
-use Rattle.std.specs.Prelude.{IsSome}
-use Rattle.std.specs.List.{flat_map}
-use Rattle.std.proofs.lemmas.Bool.{or_left, or_right}
+use Rattle.std.proofs.Common.{◌≡◌, ◌⊎◌, ℕ, ◌&&◌, ◌||◌, not, Bool, true, false, if◌then◌else◌, inl, inr, List, [], ◌∷◌, ◌++◌, Option, Some, None, refl, sym, ap, ap₂, ◌∙◌, subst}
+use Rattle.std.specs.Prelude.{IsSome, Result, Ok, Err}
+use Rattle.std.specs.List.{flat_map, list_any}
+use Rattle.std.proofs.lemmas.Bool.{and_left, and_right, or_left, or_right}
 use Rattle.supervision.specs.Host.{open_session}
 use Rattle.chip_functions.specs.Field.{IsNode}
 use Rattle.chip_functions.specs.declared.notice.Update.TheVariants.{Received}
+use Rattle.chip_functions.specs.declared.fault.BodyFault.{BodyFault}
 use Rattle.chip_functions.specs.declared.request.Request.{Request}
+use Rattle.chip_functions.specs.declared.request.Request.TheVariants as requests
+use Rattle.chip_functions.specs.Request.{request_of as read_request}
 use Rattle.chip_functions.specs.declared.response.Response.{Response}
 use Rattle.chip_functions.specs.declared.response.Response.TheVariants as responses
 use Rattle.zw_text.specs.declared.entry.Ended.TheVariants as ended
@@ -14,11 +17,12 @@ use Rattle.zw_text.specs.declared.entry.Entry.{Entry}
 use Rattle.zw_text.specs.declared.entry.Entry.TheVariants as entry
 use Rattle.zw_text.specs.Transcript.{sessions}
 use Rattle.law_transcript.specs.Lists.{EachAfter}
-use Rattle.law_transcript.specs.Units.{Carried, sending_of}
-use Rattle.law_time.specs.Ends.{is_answered_here, is_ending_here, is_given_up, is_silent}
+use Rattle.law_transcript.specs.Units.{Carried, body_in, function_in, is_frame, read_well, sending_of}
+use Rattle.law_time.specs.Ends.{is_abort, is_answered_here, is_ending_here, is_given_up, is_silent}
 use Rattle.law_time.specs.Interviews.{node_interviewed}
-use Rattle.law_time.specs.Judged.{last_of, responses_here}
-use Rattle.law_time.specs.Requests.{asked, request_last}
+use Rattle.law_time.specs.Judged.{is_directly_after, last_of, responses_here}
+use Rattle.law_time.specs.Questions.{is_question}
+use Rattle.law_time.specs.Requests.{are_none, asked, request_last}
 use Rattle.law_time.specs.Sessions.{is_open}
 use Rattle.law_time.specs.Waking.{is_awake_sleeper, nodes_told}
 use Rattle.host_requests.specs.Frames.{request_of}
@@ -37,14 +41,15 @@ use Rattle.host_model.specs.Sessions.{open_command}
 use Rattle.host_model.specs.Ends.{PartEnd, Good, Passed_over, Bad, asleep_entry, attempt_entries, done_of, end_entries, failed_entry, neighbours_entry, out_entry, part_end, part_entries}
 use Rattle.proof_requests.specs.law_host.Ends.{answer_to, sleep_note, sleep_notes}
 use Rattle.proof_requests.specs.Carrying.{CarriesSo}
-use Rattle.proof_requests.specs.Ends.{EndsHere, TellsEnd}
+use Rattle.proof_requests.specs.Ends.{EndsHere, IsUntold as Untold_purpose, OwesNoEnd, TellsEnd}
+use Rattle.proof_requests.specs.Ends.OwesNoEnd.{Aborted, Apart, Unended, Untold}
 use Rattle.proof_requests.proofs.EndsDone.{ends_as_done}
 use Rattle.proof_requests.proofs.Interviews.{interviews_may}
 use Rattle.proof_attempts.specs.Carried.{CarriesWell, nodes_of}
 use Rattle.proof_attempts.proofs.Opening.{OpenLast, open_last}
 use Rattle.proof_attempts.proofs.Releasing.{opens}
 use Rattle.proof_attempts.proofs.Sleeping.{EndSo, attempt_so, tick_so}
-use Rattle.proof_ends.specs.Ends.{AnswerNotes, DoneNotes, EndNotes, GivesUp, IsUntold, node_asked, nodes_asked}
+use Rattle.proof_ends.specs.Ends.{AnswerNotes, DoneNotes, EndNotes, GivesUp, NotesNothing, node_asked, nodes_asked, owes_end, tells_end}
 
 -- ---- what a request is, by its purpose
 
@@ -74,6 +79,47 @@ purpose_interviews (Housekeeping (Second n)) id = refl
 purpose_interviews (Housekeeping task) id = refl
 purpose_interviews (Attempt n more payload) id = refl
 purpose_interviews Abort id = refl
+
+-- ---- nothing is to be noted
+
+untold_asks : (p : Purpose) (id : ℕ) → Untold_purpose p → asked_by (request_of p id ∷ []) ≡ []
+untold_asks (Housekeeping (Segment n payload)) id untold = ap (λ (b : Bool). (if b then n ∷ [] else []) ++ []) untold
+untold_asks (Attempt n more payload) id untold = ap (λ (b : Bool). (if b then n ∷ [] else []) ++ []) untold
+untold_asks (Housekeeping (Plain n payload)) id untold = absurd untold
+untold_asks (Housekeeping (Offer n nonce)) id untold = refl
+untold_asks (Housekeeping (NoMore n)) id untold = refl
+untold_asks (Housekeeping task) id untold = refl
+untold_asks Abort id untold = refl
+
+untold_none : (p : Purpose) (id : ℕ) → Untold_purpose p → (is_question (request_of p id ∷ []) ≡ false) × (node_interviewed (request_of p id ∷ []) ≡ [])
+untold_none (Housekeeping (Plain n payload)) id untold = absurd untold
+untold_none (Housekeeping (Second n)) id untold = absurd untold
+untold_none (Housekeeping (Neighbours n)) id untold = absurd untold
+untold_none (Housekeeping (IsFailed n)) id untold = absurd untold
+untold_none (Housekeeping task) id untold = (refl, refl)
+untold_none (Attempt n more payload) id untold = (refl, refl)
+untold_none Abort id untold = (refl, refl)
+
+untold_tells : (p : Purpose) (id : ℕ) → Untold_purpose p → tells_end (request_of p id ∷ []) ≡ false
+untold_tells p id untold =
+    let none = untold_none p id untold in
+    ap₂ (λ (a b : Bool). a || b)
+    (ap₂ (λ (a b : Bool). a || b) (ap (λ (l : List ℕ). not (are_none l)) (untold_asks p id untold)) none.0) (ap (λ (l : List ℕ). not (are_none l)) none.1)
+
+abort_tells_none : (b : Bool) (read : Result Request BodyFault) → list_any is_abort (if b then read_well read else []) ≡ true → tells_end (if b then read_well read else []) ≡ false
+abort_tells_none true (Ok requests.SendDataAbort) is = refl
+abort_tells_none true (Ok request) is = absurd (let bad : false ≡ true = is in cc)
+abort_tells_none true (Err fault) is = refl
+abort_tells_none false read is = refl
+
+pub owes_by : (past : List Entry) → OwesNoEnd past → owes_end past ≡ false
+owes_by past (Apart none) = and_left (is_directly_after past && is_ending_here past) (tells_end (request_last past)) (and_left (is_directly_after past) (is_ending_here past) none)
+owes_by past (Unended none) = and_left (is_directly_after past && is_ending_here past) (tells_end (request_last past)) (and_right (is_directly_after past) (is_ending_here past) none)
+owes_by past (Aborted aborts) =
+    and_right (is_directly_after past && is_ending_here past) (tells_end (request_last past))
+    (abort_tells_none (is_frame (asked past).frame 0) (read_request (function_in (asked past).frame) (body_in (asked past).frame)) aborts)
+owes_by past (Untold purpose id request untold) =
+    and_right (is_directly_after past && is_ending_here past) (tells_end (request_last past)) (ap tells_end request ∙ untold_tells purpose id untold)
 
 -- ---- it ends here
 
@@ -128,7 +174,7 @@ asleep_is false n = refl
 
 -- all notes of the end of a request, which is no abort then; or it has none
 abbrev pub Noted : List Entry → List Entry → ℕ → Purpose → How → Type 0
-Noted past told id p how = (EndNotes past told × (told ≡ [] → ⊥) × (p ≡ Abort → ⊥) × EndsHere past id p how) ⊎ ((told ≡ []) × IsUntold past)
+Noted past told id p how = (EndNotes past told × (told ≡ [] → ⊥) × (p ≡ Abort → ⊥) × EndsHere past id p how) ⊎ ((told ≡ []) × NotesNothing past)
 
 not_none : (told more : List Entry) (e : Entry) → told ≡ e ∷ more → told ≡ [] → ⊥
 not_none told more e are none = let bad : e ∷ more ≡ [] = sym are ∙ none in cc

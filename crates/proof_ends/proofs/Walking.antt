@@ -2,7 +2,7 @@
 use Rattle.std.proofs.Common.{◌≡◌, ◌⊎◌, ◌<◌, ◌≤◌, ℕ, zero, suc, map, filter, ◌+◌, ◌-◌, ◌==◌, ◌&&◌, ◌||◌, not, Bool, true, false, if◌then◌else◌, inl, inr, List, [], ◌∷◌, ◌++◌, Option, Some, None, refl, sym, ap, ap₂, ◌∙◌, subst, append-nil, append_assoc, arith}
 use Rattle.std.specs.Prelude.{is_none}
 use Rattle.std.specs.List.{AllByRecursion, list_any, range_with_len}
-use Rattle.std.proofs.lemmas.Bool.{eq-eqb, eqb-true, or_right}
+use Rattle.std.proofs.lemmas.Bool.{both_ways, eq-eqb, eqb-true, or_right}
 use Rattle.zw_base.proofs.Each.{all-weaker}
 use Rattle.serial_frame.specs.Frame.{FrameParts}
 use Rattle.serial_frame.specs.Items.{unit_text}
@@ -72,7 +72,7 @@ use Rattle.world_model.specs.Events.{shown_values}
 use Rattle.proof_host.specs.Facts.{Facts}
 use Rattle.proof_requests.specs.Asking.{Doing, TieAsked, TieUnderWay, doing_after, doing_from, doing_next, doing_of}
 use Rattle.proof_requests.specs.Carrying.{CarriesSo}
-use Rattle.proof_requests.specs.Ends.{AreToldOf, EndsBy, EndsFrom, EndsHere, GivenUp, KnowsEnds, LineEnds, TellsEnd, TellsNoEnd, next_at}
+use Rattle.proof_requests.specs.Ends.{AreToldOf, EndsBy, EndsFrom, EndsHere, GivenUp, KnowsEnds, LineEnds, OwesNoEnd, TellsEnd, TellsNoEnd, next_at}
 use Rattle.proof_requests.specs.Standing.{standing_of}
 use Rattle.proof_requests.specs.Walking.{BeforeTick, HalfTick, Ground as RequestsGround, IsNodeTick, KnowsAsked, KnowsTick}
 use Rattle.proof_requests.specs.proof_alone.State.{HostMachine, done}
@@ -101,11 +101,11 @@ use Rattle.proof_attempts.proofs.Requested.{Unsubmitted}
 use Rattle.proof_attempts.proofs.Slept.{frame_tells}
 use Rattle.proof_attempts.proofs.Wrote.{Wrote, first_same, paused_old, writes}
 use Rattle.proof_attempts.proofs.Wrote.Wrote.{Quietly, Again, Anew}
-use Rattle.proof_ends.specs.Ends.{EndNotes, GiveUps, GivesUp, Reads, is_late, is_ticking, ticking_step}
+use Rattle.proof_ends.specs.Ends.{EndNotes, GiveUps, GivesUp, Reads, is_late, is_ticking, owes_end, owes_none, ticking_step}
 use Rattle.proof_ends.specs.Ends.GiveUps.{None_yet, One_more}
 use Rattle.proof_ends.specs.Ends.Reads.{Stands, Asks, Ends, Passes, Restarts, Refuses, Ticks, Ticks_late}
-use Rattle.proof_ends.proofs.Noting.{EndOf, IsLate, IsLoud, NodesSo, Noted, end_noted, interview_noted, late_so, loud_so, node_noted}
-use Rattle.proof_ends.proofs.Standing.{IsAside, NotesNoEnd, answer_aside, answers_aside, aside_read, behind_leaves, event_aside, marks_aside, may_by, missed_aside, nothing_read, others_aside}
+use Rattle.proof_ends.proofs.Noting.{EndOf, IsLate, IsLoud, NodesSo, Noted, end_noted, interview_noted, late_so, loud_so, node_noted, owes_by}
+use Rattle.proof_ends.proofs.Standing.{IsAside, NotesNoEnd, answers_aside, aside_read, behind_leaves, broken, event_aside, marks_read, may_by, missed_aside, none_owed, nothing_read, others_aside, unit_read}
 
 -- ---- what is known
 
@@ -239,20 +239,20 @@ missed_keep text marks did = absurd did
 
 -- entries of others, where no part of the host runs
 loose_goes : (here : Phase) (past told : List Entry) (m later : HostMachine) → IsBetween here → later.state.requests.under_way ≡ m.state.requests.under_way → later.awaits ≡ m.awaits
-    → AllByRecursion IsAside told → AllByRecursion KeepsTick told → KnowsReads here past m → KnowsReads here (past ++ told) later
-loose_goes Resting past told m later between same numbered aside keeps known =
-    subst (λ (o : Option UnderWay). Reads (is_none o) (past ++ told)) (sym same) (aside_read (is_none m.state.requests.under_way) past told aside known)
-loose_goes Open past told m later between same numbered aside keeps known =
-    subst (λ (o : Option UnderWay). Reads (is_none o) (past ++ told)) (sym same) (aside_read (is_none m.state.requests.under_way) past told aside known)
-loose_goes Risen past told m later between same numbered aside keeps known = (
-  subst (λ (o : Option UnderWay). Reads (is_none o) (past ++ told)) (sym same) (aside_read (is_none m.state.requests.under_way) past told aside known.0),
+    → AllByRecursion IsAside told → AllByRecursion KeepsTick told → owes_end past ≡ false → KnowsReads here past m → KnowsReads here (past ++ told) later
+loose_goes Resting past told m later between same numbered aside keeps owes known =
+    subst (λ (o : Option UnderWay). Reads (is_none o) (past ++ told)) (sym same) (aside_read (is_none m.state.requests.under_way) past told aside owes known)
+loose_goes Open past told m later between same numbered aside keeps owes known =
+    subst (λ (o : Option UnderWay). Reads (is_none o) (past ++ told)) (sym same) (aside_read (is_none m.state.requests.under_way) past told aside owes known)
+loose_goes Risen past told m later between same numbered aside keeps owes known = (
+  subst (λ (o : Option UnderWay). Reads (is_none o) (past ++ told)) (sym same) (aside_read (is_none m.state.requests.under_way) past told aside owes known.0),
   λ is. keeps_tick past told keeps (known.1 (sym numbered ∙ is)),
 )
-loose_goes (Asked line) past told m later between same numbered aside keeps known = absurd between
-loose_goes (Ticking left) past told m later between same numbered aside keeps known = absurd between
-loose_goes (Behind left) past told m later between same numbered aside keeps known = absurd between
-loose_goes Sleeping past told m later between same numbered aside keeps known = absurd between
-loose_goes Submitting past told m later between same numbered aside keeps known = absurd between
+loose_goes (Asked line) past told m later between same numbered aside keeps owes known = absurd between
+loose_goes (Ticking left) past told m later between same numbered aside keeps owes known = absurd between
+loose_goes (Behind left) past told m later between same numbered aside keeps owes known = absurd between
+loose_goes Sleeping past told m later between same numbered aside keeps owes known = absurd between
+loose_goes Submitting past told m later between same numbered aside keeps owes known = absurd between
 
 -- ---- which nodes tick
 
@@ -303,7 +303,7 @@ none_restarts = refl
 last_said : (past : List Entry) (words : List ℕ) → line_last (past ++ entry.Said words ∷ []) ≡ line_of (entry.Said words)
 last_said past words = folded-append line_after [] past (entry.Said words ∷ [])
 
-module _ (past : List Entry) (words : List ℕ) (over : Bool) (reads : Reads over past) (waits : (over || not (is_late past (entry.Said words))) ≡ true) where
+module _ (past : List Entry) (words : List ℕ) (over : Bool) (reads : Reads over past) (waits : owes_none over past (entry.Said words) ≡ true) where
   said_on : is_restart (line_of (entry.Said words)) ≡ false → Reads over (past ++ entry.Said words ∷ [])
   said_on goes = Stands (entry.Said words) refl (may_by over past (entry.Said words) refl goes waits) reads
 
@@ -315,7 +315,9 @@ module _ (past : List Entry) (words : List ℕ) (over : Bool) (reads : Reads ove
       subst (Reads over) (sym (append_assoc past (entry.Said words ∷ []) (entry.Refused refusal ∷ []))) (Refuses words refusal refl is waits reads)
   said_in_vain false is refusal =
       let later : List Entry = past ++ entry.Said words ∷ [] in
-      Stands (entry.Refused refusal) refl (may_by over later (entry.Refused refusal) refl (ap is_restart (last_said past words) ∙ is) (or_right over true refl)) (said_on is)
+      Stands (entry.Refused refusal) refl
+      (may_by over later (entry.Refused refusal) refl (ap is_restart (last_said past words) ∙ is)
+      (none_owed over later (entry.Refused refusal) (or_right over true refl) (broken past (entry.Said words) (λ b. refl)))) (said_on is)
 
 -- ---- a request may end
 
@@ -594,13 +596,10 @@ module _ (shows : ShowsOpen) (first : HostEvent) (left : List HostEvent) (past t
             → LineLeaves (failing_if (gives_up (Paused f copies ticks) (if b then Copied f (copies + 1) 0 else Paused f copies (ticks + 1))) (line_ticked m.state)).requests.under_way
         by true (marks, rest, is, all, nothing) =
             let unit : List ℕ = unit_text (Framed f) in
-            let over : Bool = is_none m.state.requests.under_way in
             let are : told ≡ entry.Written Host unit ∷ marks = is ∙ ap (λ (l : List Entry). entry.Written Host unit ∷ (marks ++ l)) nothing
             ∙ ap (λ (l : List Entry). entry.Written Host unit ∷ l) (append-nil marks) in
             let old = paused_old (Ticking (first ∷ left)) past told m before frames tie f copies ticks turn_is in
-            let one : Reads over (past ++ entry.Written Host unit ∷ []) = Stands (entry.Written Host unit) refl (may_by over past (entry.Written Host unit) refl old (or_right over true refl)) reads in
-            inr (subst (λ (l : List Entry). Reads over (past ++ l)) (sym are)
-            (subst (Reads over) (append_assoc past (entry.Written Host unit ∷ []) marks) (aside_read over (past ++ entry.Written Host unit ∷ []) marks (marks_aside marks all) one)),
+            inr (unit_read (is_none m.state.requests.under_way) past told marks _ unit old is all nothing (owes_by past ground.0.1) reads,
             subst (AllByRecursion KeepsTick) (sym are) (refl, all-weaker IsOfUnit KeepsTick mark_keeps marks all))
         by false is = inl (inl (reads, is))
 
@@ -769,11 +768,11 @@ module _ (shows : ShowsOpen) (first : HostEvent) (left : List HostEvent) (past t
   told_at event is = subst (λ (e : HostEvent). AreTold (outs m.state e) told) is are
 
   -- nothing of a request
-  apart_reads : TellsNoEnd first → Unsubmitted first → Then
-  apart_reads none un =
+  apart_reads : TellsNoEnd first → Unsubmitted first → OwesNoEnd past → Then
+  apart_reads none un owes =
       let it = behind_leaves first none (items_of (first ∷ left) past m (work_of (Behind (first ∷ left)) past m ground)).0 un in
       as_over (past ++ told) (after m.state first).requests.under_way m.state.requests.under_way (ap (λ (d : Doing). d.under_way) (beside_same m.state first it.0))
-      (aside_read (is_none m.state.requests.under_way) past told (event_aside m.state first told it.1 are) reads)
+      (aside_read (is_none m.state.requests.under_way) past told (event_aside m.state first told it.1 are) (owes_by past owes) reads)
 
   -- the request hears of it, and may end
   abbrev ByEvent : (UnderWay → Next) → Type 0
@@ -877,7 +876,7 @@ module _ (shows : ShowsOpen) (first : HostEvent) (left : List HostEvent) (past t
   lined_reads event these ends = absurd ends
 
   behind_reads : Unsubmitted first → KnowsEnds (Behind (first ∷ left)) past m → Then
-  behind_reads un (inl (all, owes)) = apart_reads all.0 un
+  behind_reads un (inl (all, owes)) = apart_reads all.0 un owes
   behind_reads un (inr (inl by_frame)) = framed_reads by_frame.event by_frame.told by_frame.ends
   behind_reads un (inr (inr by_line)) = lined_reads by_line.event by_line.told by_line.ends
 
@@ -889,10 +888,10 @@ sleepers_none = record { queues = λ n. tt; drops = λ n. tt }
 sleepers_leave : SleepersAre LeavesRequest
 sleepers_leave = record { queues = λ n. tt; drops = λ n. tt }
 
-aside_event : (past told : List Entry) (m : HostMachine) (event : HostEvent) → LeavesRequest event → NotesNoEnd event → AreTold (outs m.state event) told → ReadsAt past m → ReadsAt (past ++ told) (done m event)
-aside_event past told m event leaves none are reads =
+aside_event : (past told : List Entry) (m : HostMachine) (event : HostEvent) → LeavesRequest event → NotesNoEnd event → AreTold (outs m.state event) told → owes_end past ≡ false → ReadsAt past m → ReadsAt (past ++ told) (done m event)
+aside_event past told m event leaves none are owes reads =
     as_over (past ++ told) (after m.state event).requests.under_way m.state.requests.under_way (ap (λ (d : Doing). d.under_way) (beside_same m.state event leaves))
-    (aside_read (is_none m.state.requests.under_way) past told (event_aside m.state event told none are) reads)
+    (aside_read (is_none m.state.requests.under_way) past told (event_aside m.state event told none are) owes reads)
 
 begins_leaves : (event : HostEvent) → IsSubmission event → Unsubmitted event → LeavesRequest event × NotesNoEnd event
 begins_leaves (Begins n session command) sub un = (tt, tt)
@@ -904,30 +903,30 @@ begins_leaves (happening.Gives_text n payload) sub un = absurd un
 begins_leaves (happening.Gives_segment n more payload) sub un = absurd un
 begins_leaves event sub un = absurd sub
 
-submit_reads : (past told : List Entry) (m : HostMachine) (event : HostEvent) → IsSubmission event → AreTold (outs m.state event) told → Wrote Submitting past told m.state event → ReadsAt past m
+submit_reads : (past told : List Entry) (m : HostMachine) (event : HostEvent) → IsSubmission event → AreTold (outs m.state event) told → Wrote Submitting past told m.state event → owes_end past ≡ false → ReadsAt past m
     → ReadsAt (past ++ told) (done m event)
-submit_reads past told m event sub are (Quietly un quiet) reads = let it = begins_leaves event sub un in aside_event past told m event it.0 it.1 are reads
-submit_reads past told m event sub are (Again f rest un is old quiet) reads = let it = begins_leaves event sub un in aside_event past told m event it.0 it.1 are reads
-submit_reads past told m event sub are (Anew purpose f marks here_is free is new all now) reads =
+submit_reads past told m event sub are (Quietly un quiet) owes reads = let it = begins_leaves event sub un in aside_event past told m event it.0 it.1 are owes reads
+submit_reads past told m event sub are (Again f rest un is old quiet) owes reads = let it = begins_leaves event sub un in aside_event past told m event it.0 it.1 are owes reads
+submit_reads past told m event sub are (Anew purpose f marks here_is free is new all now) owes reads =
     let unit : List ℕ = unit_text (Framed f) in
     let before : Reads true past = subst (λ (o : Option UnderWay). Reads (is_none o) past) free.none_under_way reads in
-    let one : Reads false (past ++ entry.Written Host unit ∷ []) = Asks unit refl new before in
+    let one : Reads false (past ++ entry.Written Host unit ∷ []) = Asks unit refl new owes before in
     as_over (past ++ told) (after m.state event).requests.under_way (Some (record { purpose = purpose; progress = Submitted })) now
     (subst (λ (l : List Entry). Reads false (past ++ l)) (sym is)
-    (subst (Reads false) (append_assoc past (entry.Written Host unit ∷ []) marks) (aside_read false (past ++ entry.Written Host unit ∷ []) marks (marks_aside marks all) one)))
+    (subst (Reads false) (append_assoc past (entry.Written Host unit ∷ []) marks) (marks_read false (past ++ entry.Written Host unit ∷ []) marks all one)))
 
 -- ---- an item
 
-judged_reads : (over : Bool) (past told : List Entry) (item : Item) → AreTold (answer_to item) told → Reads over past → Reads over (past ++ told)
-judged_reads over past told (Good (Framed f)) (marks, rest, is, all, none) reads = aside_read over past told (answer_aside past told marks rest (ACK ∷ []) refl is all none) reads
-judged_reads over past told (Good Ack) are reads = nothing_read over past told are reads
-judged_reads over past told (Good Nak) are reads = nothing_read over past told are reads
-judged_reads over past told (Good Can) are reads = nothing_read over past told are reads
-judged_reads over past told (refused_item (BadSum want got)) (marks, rest, is, all, none) reads = aside_read over past told (answer_aside past told marks rest (NAK ∷ []) refl is all none) reads
-judged_reads over past told (refused_item (BadKind x)) (marks, rest, is, all, none) reads = aside_read over past told (answer_aside past told marks rest (NAK ∷ []) refl is all none) reads
-judged_reads over past told (refused_item (Stray x)) are reads = nothing_read over past told are reads
-judged_reads over past told (refused_item (BadLength n)) are reads = nothing_read over past told are reads
-judged_reads over past told (refused_item Aborted) are reads = nothing_read over past told are reads
+judged_reads : (over : Bool) (past told : List Entry) (item : Item) → AreTold (answer_to item) told → owes_end past ≡ false → Reads over past → Reads over (past ++ told)
+judged_reads over past told (Good (Framed f)) (marks, rest, is, all, none) owes reads = unit_read over past told marks rest (ACK ∷ []) refl is all none owes reads
+judged_reads over past told (Good Ack) are owes reads = nothing_read over past told are reads
+judged_reads over past told (Good Nak) are owes reads = nothing_read over past told are reads
+judged_reads over past told (Good Can) are owes reads = nothing_read over past told are reads
+judged_reads over past told (refused_item (BadSum want got)) (marks, rest, is, all, none) owes reads = unit_read over past told marks rest (NAK ∷ []) refl is all none owes reads
+judged_reads over past told (refused_item (BadKind x)) (marks, rest, is, all, none) owes reads = unit_read over past told marks rest (NAK ∷ []) refl is all none owes reads
+judged_reads over past told (refused_item (Stray x)) are owes reads = nothing_read over past told are reads
+judged_reads over past told (refused_item (BadLength n)) are owes reads = nothing_read over past told are reads
+judged_reads over past told (refused_item Aborted) are owes reads = nothing_read over past told are reads
 
 -- ---- each step
 
@@ -958,21 +957,22 @@ module _ (shows : ShowsOpen) (walk : TellsWalk) where
   does_reads Sleeping next past told m event may ground reads =
       let (node, wants, is, to_is) = may.0 in
       leads next Sleeping (past ++ told) (done m event) to_is
-      (aside_event past told m event (subst LeavesRequest (sym is) (no_more_is LeavesRequest sleepers_leave m.state node)) (subst NotesNoEnd (sym is) (no_more_is NotesNoEnd sleepers_none m.state node)) may.2 reads)
+      (aside_event past told m event (subst LeavesRequest (sym is) (no_more_is LeavesRequest sleepers_leave m.state node)) (subst NotesNoEnd (sym is) (no_more_is NotesNoEnd sleepers_none m.state node)) may.2 (owes_by past ground.0.1) reads)
   does_reads Submitting next past told m event may ground reads =
       leads next Submitting (past ++ told) (done m event) may.0.1
       (submit_reads past told m event (next_is IsSubmission submissions m.state event may.0.0) may.2
-      (writes Submitting next past told m event may (requested Submitting past m ground) (asks_of Submitting past m ground)) reads)
+      (writes Submitting next past told m event may (requested Submitting past m ground) (asks_of Submitting past m ground)) (owes_by past ground.0.1) reads)
   does_reads here next past told m event may ground reads = absurd may.0
 
   -- the time of a line
-  rested : (past : List Entry) (words : List ℕ) (m : HostMachine) → m.left ≡ 0 → KnowsSleep Resting past m → (is_none m.state.requests.under_way || not (is_late past (entry.Said words))) ≡ true
+  rested : (past : List Entry) (words : List ℕ) (m : HostMachine) → m.left ≡ 0 → KnowsSleep Resting past m → owes_none (is_none m.state.requests.under_way) past (entry.Said words) ≡ true
   rested past words m left ground =
       let time = (work_of Resting past m ground).0.0.1 in
       let now : now_at past (entry.Said words) ≡ m.clock = let all = time.asked in omega (arith, all, left) in
-      waits_by m.state.requests.under_way (is_late past (entry.Said words))
+      none_owed (is_none m.state.requests.under_way) past (entry.Said words)
+      (waits_by m.state.requests.under_way (is_late past (entry.Said words))
       (λ u is. ap (λ (n : ℕ). has_ended (asked past) n) now
-      ∙ unended_at past m.clock m.came m.state (requested Resting past m ground).0.1 (asks_of Resting past m ground) u is)
+      ∙ unended_at past m.clock m.came m.state (requested Resting past m ground).0.1 (asks_of Resting past m ground) u is)) (owes_by past ground.0.1)
 
   said_reads : (past : List Entry) (words : List ℕ) (line : Line) (m : HostMachine) → m.left ≡ 0 → line_of (entry.Said words) ≡ line ∷ [] → KnowsSleep Resting past m → ReadsAt past m
       → ReadsSaid line (past ++ entry.Said words ∷ []) m
@@ -991,11 +991,12 @@ module _ (shows : ShowsOpen) (walk : TellsWalk) where
     timed_ticks : is_ticking timed ≡ true
     timed_ticks = folded-append ticking_step false past (entry.Time m.clock ∷ [])
 
-    time_reads : (here : Phase) → KnowsSleep here past m → ReadsAt past m → ReadsAt timed m
-    time_reads here ground reads =
+    time_reads : (here : Phase) → KnowsSleep here past m → (OwesNoEnd past) → ReadsAt past m → ReadsAt timed m
+    time_reads here ground owes reads =
         let unended : (u : UnderWay) → m.state.requests.under_way ≡ Some u → has_ended (asked past) (m.clock - 1) ≡ false = ground.1.0 awaits in
         Stands (entry.Time m.clock) refl
-        (may_by (is_none m.state.requests.under_way) past (entry.Time m.clock) refl refl (waits_by m.state.requests.under_way (is_late past (entry.Time m.clock)) unended)) reads
+        (may_by (is_none m.state.requests.under_way) past (entry.Time m.clock) refl refl
+        (none_owed (is_none m.state.requests.under_way) past (entry.Time m.clock) (waits_by m.state.requests.under_way (is_late past (entry.Time m.clock)) unended) (owes_by past owes))) reads
 
     -- in a tick nothing was noted before
     ticking_timed : (left : List HostEvent) → KnowsSleep (Ticking left) past m → ReadsTick left past m → ReadsTick left timed (happens m Numbers)
@@ -1005,7 +1006,7 @@ module _ (shows : ShowsOpen) (walk : TellsWalk) where
       chain = [];
       last = 0;
       are = sym (append-nil (timed ++ []) ∙ append-nil timed);
-      reads = inl (time_reads (Ticking left) ground (ticked_up left past m known), refl);
+      reads = inl (time_reads (Ticking left) ground ground.0.1 (ticked_up left past m known), refl);
       gives = None_yet;
       ticks = λ is. timed_ticks;
       unnumbered = λ is. (refl, refl);
@@ -1013,26 +1014,45 @@ module _ (shows : ShowsOpen) (walk : TellsWalk) where
       fresh = fresh_none left;
     }
 
+    -- behind a frame the number stands
+    behind_timed : (left : List HostEvent) → KnowsSleep (Behind left) past m → ReadsAt past m → KnowsEnds (Behind left) past m → ReadsAt timed m
+    behind_timed left ground reads (inl (all, owes)) = time_reads (Behind left) ground owes reads
+    behind_timed left ground reads (inr (inl by_frame)) = absurd (both_ways m.awaits by_frame.unnumbered awaits)
+    behind_timed left ground reads (inr (inr by_line)) = time_reads (Behind left) ground by_line.none reads
+
     number_goes : (here : Phase) → IsElse here → KnowsSleep here past m → KnowsReads here past m → KnowsReads here timed (happens m Numbers)
     number_goes (Asked line) other ground known = absurd other
-    number_goes Risen other ground known = (time_reads Risen ground known.0, λ is. timed_ticks)
+    number_goes Risen other ground known = (time_reads Risen ground ground.0.1 known.0, λ is. timed_ticks)
     number_goes (Ticking left) other ground known = ticking_timed left ground known
-    number_goes Resting other ground known = time_reads Resting ground known
-    number_goes Open other ground known = time_reads Open ground known
-    number_goes (Behind left) other ground known = time_reads (Behind left) ground known
-    number_goes Sleeping other ground known = time_reads Sleeping ground known
-    number_goes Submitting other ground known = time_reads Submitting ground known
+    number_goes Resting other ground known = time_reads Resting ground ground.0.1 known
+    number_goes Open other ground known = time_reads Open ground ground.0.1 known
+    number_goes (Behind left) other ground known = behind_timed left ground known ground.0.1
+    number_goes Sleeping other ground known = time_reads Sleeping ground ground.0.1 known
+    number_goes Submitting other ground known = time_reads Submitting ground ground.0.1 known
+
+  between_owes : (here : Phase) (past : List Entry) (m : HostMachine) → IsBetween here → KnowsEnds here past m → owes_end past ≡ false
+  between_owes Resting past m between owes = owes_by past owes
+  between_owes Risen past m between owes = owes_by past owes
+  between_owes Open past m between owes = owes_by past owes
+  between_owes (Asked line) past m between owes = absurd between
+  between_owes (Ticking left) past m between owes = absurd between
+  between_owes (Behind left) past m between owes = absurd between
+  between_owes Sleeping past m between owes = absurd between
+  between_owes Submitting past m between owes = absurd between
+
+  asked_owes : (here : Phase) (line : Line) (past : List Entry) (m : HostMachine) → here ≡ Asked line → KnowsSleep here past m → owes_end past ≡ false
+  asked_owes here line past m is ground = owes_by past (subst (λ (p : Phase). KnowsEnds p past m) is ground.0.1)
 
   step_reads : (here next : Phase) (past : List Entry) (m : HostMachine) (one : Step) → May here m one next → KnowsSleep here past m → KnowsReads here past m
       → KnowsReads next (past ++ entries m one) (happens m one)
   step_reads here next past m (Tells e) may ground known =
-      leads next here (past ++ e ∷ []) m may.3 (loose_goes here past (e ∷ []) m m may.0 refl refl (others_aside e may.1, tt) (others_keep e may.1, tt) known)
+      leads next here (past ++ e ∷ []) m may.3 (loose_goes here past (e ∷ []) m m may.0 refl refl (others_aside e may.1, tt) (others_keep e may.1, tt) (between_owes here past m may.0 ground.0.1) known)
   step_reads here next past m (Comes unit) may ground known =
       leads next here (past ++ entries m (Comes unit)) (happens m (Comes unit)) may.2
-      (loose_goes here past (entries m (Comes unit)) m (happens m (Comes unit)) may.0 refl refl ((refl, λ p. refl, λ p. refl), tt) (refl, tt) known)
+      (loose_goes here past (entries m (Comes unit)) m (happens m (Comes unit)) may.0 refl refl ((refl, λ p. refl, λ p. refl, λ b. refl), tt) (refl, tt) (between_owes here past m may.0 ground.0.1) known)
   step_reads here next past m (Misses text marks) may ground known =
       leads next here (past ++ entry.Written Chip text ∷ marks) m may.3
-      (loose_goes here past (entry.Written Chip text ∷ marks) m m may.0 refl refl (missed_aside text marks may.1) (missed_keep text marks may.1) known)
+      (loose_goes here past (entry.Written Chip text ∷ marks) m m may.0 refl refl (missed_aside text marks may.1) (missed_keep text marks may.1) (between_owes here past m may.0 ground.0.1) known)
   step_reads here next past m (Says words line) may ground known =
       let said = said_reads past words line m may.1 may.2 (subst (λ (p : Phase). KnowsSleep p past m) may.0 ground) (as_known here Resting past m may.0 known) in
       leads next (Asked line) (past ++ entry.Said words ∷ []) (happens m (Says words line)) may.3 (record { goes_on = said.goes_on; anew = said.anew; in_vain = said.in_vain })
@@ -1045,13 +1065,13 @@ module _ (shows : ShowsOpen) (walk : TellsWalk) where
       leads next Open (past ++ answers m.state event) (happens m (asks_line event)) to_is
       (as_over (past ++ answers m.state event) (after m.state event).requests.under_way m.state.requests.under_way
       (ap (λ (d : Doing). d.under_way) (beside_same m.state event (asked_beside line m.state event is)))
-      (aside_read (is_none m.state.requests.under_way) past (answers m.state event) (answers_aside m.state event) reads))
+      (aside_read (is_none m.state.requests.under_way) past (answers m.state event) (answers_aside m.state event) (asked_owes here line past m here_is ground) reads))
   step_reads here next past m (refuses_line refusal) (line, here_is, why, numbered, to_is) ground known =
       leads next Open (past ++ entry.Refused refusal ∷ []) m to_is ((as_known here (Asked line) past m here_is known).in_vain refusal)
   step_reads here next past m (Shows node) may ground known =
       let reads : ReadsAt past m = (as_known here (Asked (lines.Store node)) past m may.0 known).goes_on refl in
       leads next Open (past ++ shown_values m.state node ∷ []) m may.2
-      (aside_read (is_none m.state.requests.under_way) past (shown_values m.state node ∷ []) ((refl, λ p. refl, λ p. refl), tt) reads)
+      (aside_read (is_none m.state.requests.under_way) past (shown_values m.state node ∷ []) ((refl, λ p. refl, λ p. refl, λ b. refl), tt) (asked_owes here (lines.Store node) past m may.0 ground) reads)
   step_reads here next past m (starts_again state) may ground known =
       let asked_so : RequestsGround (Asked lines.Restart) past m = subst (λ (p : Phase). RequestsGround p past m) may.0 (requested here past m ground) in
       let reads : Reads true past = (as_known here (Asked lines.Restart) past m may.0 known).anew refl in
@@ -1066,7 +1086,7 @@ module _ (shows : ShowsOpen) (walk : TellsWalk) where
       leads next here (past ++ entry.Time m.clock ∷ []) (happens m Numbers) may.1 (number_goes past m may.0 here other ground known)
   step_reads here next past m (Judges item rest behind told) may ground known =
       leads next (Behind behind) (past ++ told) (happens m (Judges item rest behind told)) may.2
-      (judged_reads (is_none m.state.requests.under_way) past told item may.1.told_so (as_known here Open past m may.0 known))
+      (judged_reads (is_none m.state.requests.under_way) past told item may.1.told_so (owes_by past (subst (λ (p : Phase). KnowsEnds p past m) may.0 ground.0.1)) (as_known here Open past m may.0 known))
   step_reads here next past m (Does event told) may ground known = does_reads here next past told m event may ground known
 
   -- a tick begins with nothing noted
@@ -1105,5 +1125,5 @@ module _ (shows : ShowsOpen) (walk : TellsWalk) where
   }
 
   -- where a run rests, with no tick of its line to come
-  pub rests_waits : (past : List Entry) (m : HostMachine) → m.left ≡ 0 → KnowsSleep Resting past m → (is_none m.state.requests.under_way || not (is_late past (entry.Said []))) ≡ true
+  pub rests_waits : (past : List Entry) (m : HostMachine) → m.left ≡ 0 → KnowsSleep Resting past m → owes_none (is_none m.state.requests.under_way) past (entry.Said []) ≡ true
   rests_waits past m left ground = rested past [] m left ground

@@ -2,6 +2,7 @@
 -- rule): the notes of an end stand together, once, in the order errand, sleep, answer or interview, outcome; so does what is noted of a command that is given up; and no such note stands elsewhere.
 use Rattle.std.specs.Prelude.{◌≡◌, ◌⊎◌, ◌<◌, ℕ, ◌&&◌, ◌||◌, not, Bool, true, false, if◌then◌else◌, List, [], ◌∷◌, ◌++◌}
 use Rattle.std.specs.List.{flat_map}
+use Rattle.chip_functions.specs.declared.request.Request.{Request}
 use Rattle.zw_words.specs.declared.side.Side.TheVariants.{Host}
 use Rattle.zw_text.specs.declared.entry.Done.{Done as HowDone}
 use Rattle.zw_text.specs.declared.entry.Ended.TheVariants.{Unanswered}
@@ -10,12 +11,13 @@ use Rattle.zw_text.specs.declared.entry.Entry.{Entry}
 use Rattle.zw_text.specs.declared.entry.Entry.TheVariants.{Said, Refused, Written, Out, Asleep, Interviewed, InterviewFailed, Done, Neighbours, Failed, Unkept, Time}
 use Rattle.zw_text.specs.Transcript.{folded, line_last, line_of}
 use Rattle.law_transcript.specs.Restarts.{is_restart}
-use Rattle.law_transcript.specs.Units.{Carried, sending_in}
+use Rattle.law_transcript.specs.Units.{Carried, sending_in, sending_of}
 use Rattle.law_time.specs.Moments.{now_at}
-use Rattle.law_time.specs.Judged.{is_data, is_mark, responses_here}
-use Rattle.law_time.specs.Requests.{asked, is_new, request_last}
+use Rattle.law_time.specs.Judged.{is_data, is_directly_after, is_mark, responses_here}
+use Rattle.law_time.specs.Requests.{are_none, asked, is_new, request_last}
 use Rattle.law_time.specs.Ends.{ends_here, has_ended, is_ending_here, is_given_up, is_silent}
 use Rattle.law_time.specs.Interviews.{fails, node_interviewed, succeeds}
+use Rattle.law_time.specs.Questions.{is_question}
 use Rattle.law_time.specs.Sessions.{is_open, last_command}
 use Rattle.proof_requests.specs.law_host.Ends.{answer_to, given_up_notes, sleep_notes}
 use Rattle.proof_requests.specs.law_host.Heard.{is_of_outside}
@@ -67,8 +69,8 @@ pub record EndNotes (past notes : List Entry) : Type 0 where
   pub outcome_so : OutcomeNotes past outcome
 
 -- a request whose end in silence, or by the line, has nothing noted but of attempts and sleep
-abbrev pub IsUntold : List Entry → Type 0
-IsUntold past = (nodes_asked past ≡ []) × (node_interviewed (request_last past) ≡ [])
+abbrev pub NotesNothing : List Entry → Type 0
+NotesNothing past = (nodes_asked past ≡ []) × (node_interviewed (request_last past) ≡ [])
 
 -- ---- what stands beside
 
@@ -96,9 +98,21 @@ is_late past (Said words) = has_ended (asked past) (now_at past (Said words))
 is_late past (Time tick) = has_ended (asked past) (now_at past (Time tick))
 is_late past entry = false
 
--- another entry may stand, where the last request is over or not
+-- the frame that was judged just before ends the last request, and of its end there is something to note
+abbrev pub tells_end : List Request → Bool
+tells_end requests =
+    not (are_none (flat_map node_asked (flat_map sending_of requests))) || is_question requests || not (are_none (node_interviewed requests))
+
+abbrev pub owes_end : List Entry → Bool
+owes_end past = is_directly_after past && is_ending_here past && tells_end (request_last past)
+
+-- no end is to be noted before an entry, where the last request is over or not
+abbrev pub owes_none : Bool → List Entry → Entry → Bool
+owes_none over past entry = (over || not (is_late past entry)) && (is_mark entry || not (owes_end past))
+
+-- then another entry may stand
 abbrev pub may_stand : Bool → List Entry → Entry → Bool
-may_stand over past entry = not (is_of_end entry) && not (is_turn past entry) && (over || not (is_late past entry))
+may_stand over past entry = not (is_of_end entry) && not (is_turn past entry) && owes_none over past entry
 
 -- ---- in a tick
 
@@ -124,19 +138,19 @@ pub data GiveUps (past : List Entry) : (last : ℕ) (notes : List Entry) → Typ
 pub data Reads : (over : Bool) (told : List Entry) → Type 0 where
   Starts : Reads true []
   Stands : {over : Bool} {past all : List Entry} → (entry : Entry) → all ≡ past ++ entry ∷ [] → may_stand over past entry ≡ true → Reads over past → Reads over all
-  Asks : {past all : List Entry} → (unit : List ℕ) → all ≡ past ++ Written Host unit ∷ [] → is_new (asked past) unit ≡ true → Reads true past → Reads false all
+  Asks : {past all : List Entry} → (unit : List ℕ) → all ≡ past ++ Written Host unit ∷ [] → is_new (asked past) unit ≡ true → owes_end past ≡ false → Reads true past → Reads false all
   Ends : {past all : List Entry} → (notes : List Entry) → all ≡ past ++ notes → EndNotes past notes → (is_ending_here past || is_given_up past) ≡ true → Reads false past → Reads true all
-  Passes : {told : List Entry} → IsUntold told → Reads false told → Reads true told
+  Passes : {told : List Entry} → NotesNothing told → Reads false told → Reads true told
   Ticks : {over : Bool} {past all : List Entry} → (last : ℕ) → (notes : List Entry) → all ≡ past ++ notes → is_ticking past ≡ true → GiveUps past last notes → Reads over past → Reads over all
   Ticks_late : {past all : List Entry} → (last : ℕ) → (ending notes : List Entry) → all ≡ (past ++ ending) ++ notes → is_ticking past ≡ true → EndNotes past ending →
       (is_silent past || is_given_up past) ≡ true → GiveUps (past ++ ending) last notes → Reads false past → Reads true all
   Restarts : {over : Bool} {past all : List Entry} → (words : List ℕ) → all ≡ past ++ Said words ∷ [] → is_restart (line_of (Said words)) ≡ true →
-      (over || not (is_late past (Said words))) ≡ true → Reads over past → Reads true all
+      owes_none over past (Said words) ≡ true → Reads over past → Reads true all
   Refuses : {over : Bool} {past all : List Entry} → (words : List ℕ) → (refusal : Refusal) → all ≡ past ++ Said words ∷ (Refused refusal ∷ []) → is_restart (line_of (Said words)) ≡ true →
-      (over || not (is_late past (Said words))) ≡ true → Reads over past → Reads over all
+      owes_none over past (Said words) ≡ true → Reads over past → Reads over all
 
 -- a transcript is read so; and where it is whole the last request has not ended with its notes to come
 pub record NotesOfEnds (whole : Bool) (transcript : List Entry) : Type 0 where
   pub over : Bool
   pub reads : Reads over transcript
-  pub in_the_end : whole ≡ true → (over || not (is_late transcript (Said []))) ≡ true
+  pub in_the_end : whole ≡ true → owes_none over transcript (Said []) ≡ true
