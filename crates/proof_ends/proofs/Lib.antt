@@ -1,3 +1,4 @@
 mod Standing
 mod Noting
 mod Walking
+mod Readings

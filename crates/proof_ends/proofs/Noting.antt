@@ -123,7 +123,7 @@ owes_by past (Untold purpose id request untold) =
 
 -- ---- it ends here
 
-second_of : (a b : Bool) → (a && b) ≡ true → b ≡ true
+pub second_of : (a b : Bool) → (a && b) ≡ true → b ≡ true
 second_of true b is = is
 second_of false b is = absurd (let bad : false ≡ true = is in cc)
 
@@ -243,30 +243,40 @@ module _ (past : List Entry) (g : HostState) (nodes : NodesSo past g) where
       -- of which one entry answers
       answered_end : (e : Entry) → told ≡ e ∷ [] → errands_of p ≡ [] → nodes_of p ≡ [] → (p ≡ Abort → ⊥) → AnswerNotes past (e ∷ []) → Noted past told id p how
       answered_end e are errands untold other answer =
-          inl (record {
-            done = [];
-            answer = e ∷ [];
-            outcome = [];
-            are = are ∙ ap (λ (l : List Entry). l ++ e ∷ []) (sym (no_sleep untold));
-            done_so = none_asked errands;
-            answer_so = answer;
-            outcome_so = inl refl;
-          }, not_none told [] e are, other, end.ends e [] are)
+          inl (
+            record {
+              done = [];
+              answer = e ∷ [];
+              outcome = [];
+              are = are ∙ ap (λ (l : List Entry). l ++ e ∷ []) (sym (no_sleep untold));
+              done_so = none_asked errands;
+              answer_so = answer;
+              outcome_so = inl refl;
+            },
+            not_none told [] e are,
+            other,
+            end.ends e [] are,
+          )
 
     -- a Set or Get by itself
     plain_end : (n : ℕ) (payload : List ℕ) (how : How) → EndOf past told id (Housekeeping (Plain n payload)) how → told ≡ entry.Done n (done_of how) ∷ [] → Noted past told id (Housekeeping (Plain n payload)) how
     plain_end n payload how end are =
         let p : Purpose = Housekeeping (Plain n payload) in
         let e = end.ends (entry.Done n (done_of how)) [] are in
-        inl (record {
-          done = entry.Done n (done_of how) ∷ [];
-          answer = [];
-          outcome = [];
-          are = are ∙ ap (λ (l : List Entry). entry.Done n (done_of how) ∷ (l ++ [])) (sym (no_sleep p how end refl));
-          done_so = inr (n, done_of how, asks_so p how end, ends_as_done past id p how refl e, refl);
-          answer_so = no_answer p how end refl refl;
-          outcome_so = inl refl;
-        }, not_none told [] (entry.Done n (done_of how)) are, (λ (is : p ≡ Abort). let bad = is in cc), e)
+        inl (
+          record {
+            done = entry.Done n (done_of how) ∷ [];
+            answer = [];
+            outcome = [];
+            are = are ∙ ap (λ (l : List Entry). entry.Done n (done_of how) ∷ (l ++ [])) (sym (no_sleep p how end refl));
+            done_so = inr (n, done_of how, asks_so p how end, ends_as_done past id p how refl e, refl);
+            answer_so = no_answer p how end refl refl;
+            outcome_so = inl refl;
+          },
+          not_none told [] (entry.Done n (done_of how)) are,
+          (λ (is : p ≡ Abort). let bad = is in cc),
+          e,
+        )
 
     -- a node is told that there is no more for it
     told_by : (n : ℕ) (how : How) (fell : Bool) → EndOf past told id (Housekeeping (NoMore n)) how → falls_asleep (node_of g n) ≡ fell → told ≡ asleep_entry fell n → Noted past told id (Housekeeping (NoMore n)) how
@@ -275,15 +285,20 @@ module _ (past : List Entry) (g : HostState) (nodes : NodesSo past g) where
         let p : Purpose = Housekeeping (NoMore n) in
         let sleeps : sleep_notes past ≡ entry.Asleep n ∷ [] =
         ap (λ (l : List ℕ). flat_map (sleep_note past) l) end.tells_so ∙ ap (λ (l : List Entry). l ++ []) (sleep_is n end.well ∙ ap (λ (b : Bool). asleep_entry b n) is) in
-        inl (record {
-          done = [];
-          answer = [];
-          outcome = [];
-          are = are ∙ ap (λ (l : List Entry). l ++ []) (sym sleeps);
-          done_so = none_asked p how end refl;
-          answer_so = no_answer p how end refl refl;
-          outcome_so = inl refl;
-        }, not_none told [] (entry.Asleep n) are, (λ (is : p ≡ Abort). let bad = is in cc), end.ends (entry.Asleep n) [] are)
+        inl (
+          record {
+            done = [];
+            answer = [];
+            outcome = [];
+            are = are ∙ ap (λ (l : List Entry). l ++ []) (sym sleeps);
+            done_so = none_asked p how end refl;
+            answer_so = no_answer p how end refl refl;
+            outcome_so = inl refl;
+          },
+          not_none told [] (entry.Asleep n) are,
+          (λ (is : p ≡ Abort). let bad = is in cc),
+          end.ends (entry.Asleep n) [] are,
+        )
 
     -- an interview fails
     second_end : (n : ℕ) (how : How) → EndOf past told id (Housekeeping (Second n)) how → told ≡ entry.InterviewFailed n ∷ [] → Noted past told id (Housekeeping (Second n)) how
@@ -322,16 +337,20 @@ module _ (past : List Entry) (g : HostState) (nodes : NodesSo past g) where
         let p : Purpose = Attempt n more payload in
         let gives : GivesUp past n told = gives_up_so told n fell end.well.0 so are in
         let carried : Carried = record { node = n; payload = payload } in
-        inl (record {
-          done = [];
-          answer = [];
-          outcome = told;
-          are = ap (λ (l : List Entry). l ++ told) (sym (no_sleep p how end refl));
-          done_so = none_asked p how end refl;
-          answer_so = no_answer p how end refl refl;
-          outcome_so = inr (carried, ap (λ (q : List Request). flat_map sending_of q) end.request, gives);
-        }, not_none told (sleep_note past n) (entry.Out gives.1 ended.Unanswered) gives.3, (λ (is : p ≡ Abort). let bad = is in cc),
-        end.ends (entry.Out gives.1 ended.Unanswered) (sleep_note past n) gives.3)
+        inl (
+          record {
+            done = [];
+            answer = [];
+            outcome = told;
+            are = ap (λ (l : List Entry). l ++ told) (sym (no_sleep p how end refl));
+            done_so = none_asked p how end refl;
+            answer_so = no_answer p how end refl refl;
+            outcome_so = inr (carried, ap (λ (q : List Request). flat_map sending_of q) end.request, gives);
+          },
+          not_none told (sleep_note past n) (entry.Out gives.1 ended.Unanswered) gives.3,
+          (λ (is : p ≡ Abort). let bad = is in cc),
+          end.ends (entry.Out gives.1 ended.Unanswered) (sleep_note past n) gives.3,
+        )
 
     part_by : (n : ℕ) (more : Bool) (payload : List ℕ) (how : How) (part : PartEnd) → EndOf past told id (Attempt n more payload) how → told ≡ part_entries g n part → Noted past told id (Attempt n more payload) how
     part_by n more payload how Good end are = quiet_end (Attempt n more payload) how end refl refl are

@@ -599,8 +599,10 @@ module _ (shows : ShowsOpen) (first : HostEvent) (left : List HostEvent) (past t
             let are : told ≡ entry.Written Host unit ∷ marks = is ∙ ap (λ (l : List Entry). entry.Written Host unit ∷ (marks ++ l)) nothing
             ∙ ap (λ (l : List Entry). entry.Written Host unit ∷ l) (append-nil marks) in
             let old = paused_old (Ticking (first ∷ left)) past told m before frames tie f copies ticks turn_is in
-            inr (unit_read (is_none m.state.requests.under_way) past told marks _ unit old is all nothing (owes_by past ground.0.1) reads,
-            subst (AllByRecursion KeepsTick) (sym are) (refl, all-weaker IsOfUnit KeepsTick mark_keeps marks all))
+            inr (
+              unit_read (is_none m.state.requests.under_way) past told marks _ unit old is all nothing (owes_by past ground.0.1) reads,
+              subst (AllByRecursion KeepsTick) (sym are) (refl, all-weaker IsOfUnit KeepsTick mark_keeps marks all),
+            )
         by false is = inl (inl (reads, is))
 
     line_reads : (more : List HostEvent) → first ∷ left ≡ Line_ticks ∷ more → (before : ℕ) → AreFrames m.came → TieAsked past before before m.came (doing_of m.state) → (turn : Turn)
