@@ -53,6 +53,7 @@ use Rattle.proof_answers.specs.Answered.{AnswersByLink}
 use Rattle.proof_replay.specs.Laws.{HostsKeepLaws}
 use Rattle.proof_replay.specs.proof_notes_Full.{NotesInFull}
 use Rattle.proof_replay.specs.proof_notes_Unkept.{UnkeptWhereAsked}
+use Rattle.proof_replay.specs.proof_ends_Ends.{NotesOfEnds}
 use Rattle.proof_replay.specs.proof_nonces_Giving.{CountsNonces}
 use Rattle.proof_replay.specs.proof_nonces_Sealing.{SealsOnce}
 use Rattle.proof_replay.specs.proof_rests_Undone.{LeavesNothing}
@@ -396,6 +397,11 @@ abbrev pub DoesWhatIsAsked : List ℕ → Around → Around → Type 0
 DoesWhatIsAsked key old new = AlwaysOf key old new
     (λ story. TellsAtRestarts old story → (whole : Bool) → (whole ≡ true → AreSchedules (first key old) story) → LeavesNothing whole (transcript key old story))
 
+-- what the end of a request, or a command that is given up, has noted stands together, once and in order
+abbrev pub NotesEnds : List ℕ → Around → Around → Type 0
+NotesEnds key old new = AlwaysOf key old new
+    (λ story. TellsAtRestarts old story → (whole : Bool) → (whole ≡ true → AreSchedules (first key old) story) → NotesOfEnds whole (transcript key old story))
+
 -- each message that the host seals is for a nonce that its node told since it was asked, and none serves twice; each nonce that it gives opens one payload at most
 abbrev pub SealsEachOnce : List ℕ → Around → Around → Type 0
 SealsEachOnce key old new = AlwaysOf key old new (λ story. TellsAtRestarts old story → SealsOnce (keys_of key) (transcript key old story))
@@ -501,6 +507,7 @@ pub record KeepsHostLaws (key : List ℕ) (old new : Around) : Type 0 where
   pub says_done : TellsHowDone key old new
   pub one_by_one : AsksOneByOne key old new
   pub numbered : NumbersMessages key old new
+  pub ends : NotesEnds key old new
   pub rests : DoesWhatIsAsked key old new
   pub seals_once : SealsEachOnce key old new
   pub nonces : GivesNonces key old new

@@ -37,6 +37,7 @@ ghost use Rattle.proof_commands.specs.Laws.{
   LosesFrames,
   MarksAsAsked,
   MeetsFates,
+  NotesEnds,
   NotesPayloads,
   NumbersAir,
   NumbersMessages,
@@ -89,6 +90,7 @@ use proof_audit::transcript::{
 use proof_host::{asides_keep_facts, laws_follow};
 use proof_replay::asking::{lines_ask_one_by_one, lines_say_how_done};
 use proof_replay::attempts::{lines_fall_asleep_as_told, lines_hold_as_asked};
+use proof_replay::ends::lines_note_ends;
 use proof_replay::known::waking::lines_wake_as_told;
 use proof_replay::lines_that_ran_are_heard;
 use proof_replay::nonces::{lines_count_nonces, lines_seal_once};
@@ -317,10 +319,12 @@ fn stories_ask_one_by_one()
     ensures one { (key : List ℕ) (old new : Around) → AsksOneByOne key old new }
     ensures numbered { (key : List ℕ) (old new : Around) → NumbersMessages key old new }
     ensures rests { (key : List ℕ) (old new : Around) → DoesWhatIsAsked key old new }
+    ensures ends { (key : List ℕ) (old new : Around) → NotesEnds key old new }
 {
     lines_are_read_as_said();
     lines_ask_one_by_one();
     lines_leave_nothing();
+    lines_note_ends();
 }
 
 /// After each payload stands all that its messages have noted, and that a record was not kept where one was asked for, in lines that were said.

@@ -37,6 +37,7 @@ use Rattle.proof_asking.specs.proof_requests.proof_alone.Careful.{Careful}
 use Rattle.proof_asking.specs.proof_known.Known.{AreForHost, KeepsWhatIsSaid}
 use Rattle.proof_asking.specs.proof_known.Noted.{NotesWhatOpens, NotesWhatWasTold}
 use Rattle.proof_notes.specs.Full.{NotesInFull}
+use Rattle.proof_ends.specs.Ends.{NotesOfEnds}
 use Rattle.proof_nonces.specs.Giving.{CountsNonces}
 use Rattle.proof_nonces.specs.Sealing.{SealsOnce}
 use Rattle.proof_rests.specs.Undone.{LeavesNothing}
@@ -58,6 +59,7 @@ QueuesByMessages heard = (taken : List Entry → Carried → List Told) × FitsQ
 -- It is held awake where the report that ends its session may ask so, and wherever it does.
 -- The answers to questions stand where the first response to the last request was judged, and wherever it was.
 -- An interview is said to have succeeded or failed where its request ended so, and wherever a frame ended it; and so it is said how a Set or Get that a line asked for ended.
+-- What the end of a request, or a command that is given up, has noted stands together, once and in order, and nowhere else.
 -- A request that is new is sent, and a session begins, only where the last request is over; and each message has the callback id after that of the last one.
 -- Directly after a session that begins stands the unit that asks to send to its node.
 -- Before each line and tick before which its last request is over no abort is owed, and what lines asked for since it started has ended.
@@ -80,6 +82,7 @@ pub record HostsKeepLaws (keys : Keys) (whole : Bool) (heard : List Entry) (reco
   pub questions : AnswersQuestions heard
   pub interviews : EndsInterviews heard
   pub says_done : (key : List ℕ) → keys ≡ keys_of key → SaysHowDone listing_heard heard
+  pub ends : NotesOfEnds whole heard
   pub one_by_one : SendsOneByOne heard
   pub numbered : NumbersCallbacks heard
   pub begins : BeginsWithUnit (ended whole heard)

@@ -28,6 +28,7 @@ returns c = λ key old new. record {
     one_by_one = c.stories_ask_one_by_one.ensures.one key old new;
     numbered = c.stories_ask_one_by_one.ensures.numbered key old new;
     rests = c.stories_ask_one_by_one.ensures.rests key old new;
+    ends = c.stories_ask_one_by_one.ensures.ends key old new;
     seals_once = c.stories_send_what_is_due.ensures.seals key old new;
     nonces = c.stories_send_what_is_due.ensures.nonces key old new;
     noted = c.stories_note_in_full.ensures.noted key old new;
