@@ -1,7 +1,7 @@
 //! The keeper of the program: over memory, or over a file.
 
 ghost use Rattle.std.specs.Prelude.{◌≡◌};
-ghost use Rattle.zwave_console.specs.Records.{faults_of};
+ghost use Rattle.run_records.specs.Records.{faults_of};
 
 use file_keeper::{DiskFile, FileKeeper};
 use host_keep::{KeepFault, Keeper, PlainKeeper};
@@ -10,7 +10,7 @@ use zw_base::Bytes;
 
 /// Where the records of a run are kept. One type for both, since all that is generic over a keeper is compiled for each.
 #[derive(Drop)]
-pub(crate) enum Records {
+pub enum Records {
     /// In memory: they end with the program.
     Memory(PlainKeeper),
     /// In a file.
@@ -19,7 +19,7 @@ pub(crate) enum Records {
 
 impl Records {
     /// How often a record could not be kept or read, up to the greatest u64.
-    pub(crate) fn faults(&self) -> u64
+    pub fn faults(&self) -> u64
         ensures { result ≡ faults_of self.now }
     {
         match self {
@@ -30,7 +30,7 @@ impl Records {
 }
 
 impl Keeper for Records {
-    ghost use Rattle.zwave_console.specs.Records.{number_of, shelf_of, reads_of, told_are_all};
+    ghost use Rattle.run_records.specs.Records.{number_of, shelf_of, reads_of, told_are_all};
 
     ghost number = { number_of };
 

@@ -1,8 +1,8 @@
 -- What the keeper of the program tells: what the one tells that it is (this project's own rule).
 use Rattle.std.specs.Prelude.{◌≡◌, ℕ, List, Some, length}
 use Rattle.host_keep.specs.Keeping.{Shelf, length-told}
-use Rattle.zwave_console.specs.declared.records.Records.{Records}
-use Rattle.zwave_console.specs.declared.records.Records.TheVariants.{Memory, File}
+use Rattle.run_records.specs.declared.records.Records.{Records}
+use Rattle.run_records.specs.declared.records.Records.TheVariants.{Memory, File}
 
 -- the records
 abbrev pub texts_of : Records → List (List ℕ)
