@@ -64,7 +64,7 @@ use Rattle.host_model.specs.After.{after, failing_if, gives_up, line_ticked, req
 use Rattle.host_model.specs.Did.{after_all}
 use Rattle.host_model.specs.Ticking.{first_ticks, tick_events, ticking_nodes}
 use Rattle.host_model.specs.Events as happening
-use Rattle.host_model.specs.Events.{HostEvent, Hears, Requests_do, Interviews, Interview_unkept, Line_ticks, Node_ticks, Queues_no_more, Drops_no_more, Begins, Begin_unkept}
+use Rattle.host_model.specs.Events.{HostEvent, Requests_do, Interviews, Interview_unkept, Line_ticks, Node_ticks, Begins, Begin_unkept}
 use Rattle.host_model.specs.Outs.{answer_to, answers, copy_out, failing_entries, noted, outs, request_entries}
 use Rattle.host_model.specs.Taking.{InterviewEvents, told_requests}
 use Rattle.host_model.proofs.Submitted.{SleepersAre, next_is, no_more_is}
